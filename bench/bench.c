@@ -1,0 +1,149 @@
+// Times the proved library beside plain C, and prints a table of ratios. Each row does the same work on
+// the same octets as often for each of the four, in turns, and keeps the best of the rounds. Each gives a
+// sum of what it made, and the four sums must be one number.
+#include "plain.h"
+
+#include <stdio.h>
+#include <stdlib.h>
+#include <string.h>
+#include <time.h>
+
+// The proved library: exports of crates/dnp_bench. A slice is a pointer and a length.
+uint16_t dnp_bench_check_word(const uint8_t *octets, size_t count);
+uint64_t dnp_bench_read_frame(const uint8_t *unit, size_t size, size_t pick);
+uint64_t dnp_bench_write_frames(const uint8_t *user, size_t size, uint64_t count);
+
+enum { WAYS = 4, UNITS = 64, MOST_OCTETS = 4096 };
+
+// The data of a row: UNITS runs of octets, each as long.
+static struct {
+    size_t size;
+    uint8_t octets[UNITS][MOST_OCTETS];
+} data;
+
+static uint64_t frame_number(const struct frame *frame, size_t pick) {
+    uint64_t picked = pick < frame->count ? frame->user[pick] : 0;
+    return frame->control | (uint64_t)frame->dest << 8 | (uint64_t)frame->source << 24 | (uint64_t)frame->count << 40 | picked << 48;
+}
+
+#define WAY_OF(WAY)                                                                      \
+    static uint64_t read_##WAY(const uint8_t *unit, size_t size, size_t pick) {          \
+        struct frame frame;                                                              \
+        return read_by_##WAY(unit, size, &frame) ? UINT64_MAX : frame_number(&frame, pick); \
+    }                                                                                    \
+    static uint64_t write_##WAY(const uint8_t *user, size_t size, uint64_t count) {      \
+        struct frame frame = {.dest = 10, .source = 1, .count = size};                   \
+        uint8_t unit[MOST_UNIT];                                                         \
+        uint64_t sum = 0;                                                                \
+        memcpy(frame.user, user, size);                                                  \
+        for (size_t turn = 0, pick = 0; turn < count; turn++) {                          \
+            frame.control = turn & 0xFF;                                                 \
+            size_t made = write_by_##WAY(&frame, unit);                                  \
+            sum += pick < made ? unit[pick] : 0;                                         \
+            pick = pick < made ? pick + 1 : 0;                                           \
+        }                                                                                \
+        return sum;                                                                      \
+    }
+IN_EACH_WAY(WAY_OF)
+
+static check_word *const words[WAYS] = {dnp_bench_check_word, word_by_bits, word_by_table, word_by_tables};
+static uint64_t (*const readers[WAYS])(const uint8_t *, size_t, size_t) = {dnp_bench_read_frame, read_bits, read_table, read_tables};
+static uint64_t (*const writers[WAYS])(const uint8_t *, size_t, uint64_t) = {dnp_bench_write_frames, write_bits, write_table, write_tables};
+
+static uint64_t words_of(int way, uint64_t count) {
+    uint64_t sum = 0;
+    for (uint64_t i = 0; i < count; i++)
+        sum += words[way](data.octets[i % UNITS], data.size);
+    return sum;
+}
+
+static uint64_t frames_read(int way, uint64_t count) {
+    uint64_t sum = 0;
+    for (uint64_t i = 0; i < count; i++)
+        sum += readers[way](data.octets[i % UNITS], data.size, i % MOST_USER);
+    return sum;
+}
+
+static uint64_t frames_written(int way, uint64_t count) {
+    uint64_t sum = 0;
+    for (uint64_t i = 0; i < UNITS; i++)
+        sum += writers[way](data.octets[i], data.size, count / UNITS);
+    return sum;
+}
+
+static double seconds(void) {
+    struct timespec now;
+    clock_gettime(CLOCK_MONOTONIC, &now);
+    return now.tv_sec + now.tv_nsec / 1e9;
+}
+
+static int rounds = 7;
+static uint64_t scale = 1;
+static uint64_t all_sums;
+static int failed;
+
+// `per_time` is how many of the unit named one repetition counts for.
+static void row(const char *what, const char *unit, double per_time, uint64_t (*work)(int, uint64_t), uint64_t count) {
+    count = count / scale / UNITS * UNITS;
+    double best[WAYS] = {0};
+    uint64_t sums[WAYS];
+    for (int round = 0; round < rounds; round++)
+        for (int way = 0; way < WAYS; way++) {
+            double start = seconds();
+            sums[way] = work(way, count);
+            double took = seconds() - start;
+            if (!round || took < best[way]) best[way] = took;
+        }
+    printf("%-34s %9.1f M%s/s", what, per_time * count / best[0] / 1e6, unit);
+    for (int way = 1; way < WAYS; way++) {
+        printf(" %10.2f", best[way] / best[0]);
+        if (sums[way] != sums[0]) failed = 1;
+    }
+    printf("%s\n", sums[1] == sums[0] && sums[2] == sums[0] && sums[3] == sums[0] ? "" : "  THE SUMS DIFFER");
+    all_sums = all_sums * 31 + sums[0];
+}
+
+static void fill(size_t size) {
+    static uint64_t state = 0x9E3779B97F4A7C15;
+    data.size = size;
+    for (int unit = 0; unit < UNITS; unit++)
+        for (size_t i = 0; i < size; i++) {
+            state ^= state << 13, state ^= state >> 7, state ^= state << 17;
+            data.octets[unit][i] = state >> 32;
+        }
+}
+
+static void fill_frames(size_t user) {
+    fill(user);
+    for (int unit = 0; unit < UNITS; unit++) {
+        struct frame frame = {.control = 0xC4, .dest = 10, .source = 1, .count = user};
+        memcpy(frame.user, data.octets[unit], user);
+        data.size = write_by_bits(&frame, data.octets[unit]);
+    }
+}
+
+int main(int argc, char **argv) {
+    if (argc > 1 && !strcmp(argv[1], "--quick")) rounds = 2, scale = 10;
+    plain_start();
+    printf("%-34s %12s   proved beside plain C (above 1: faster than it)\n", "", "proved");
+    printf("%-34s %12s   %10s %10s %10s\n", "", "", "bit by bit", "table", "16 tables");
+    static const size_t runs[] = {8, 16, 4096}, users[] = {0, 15, 250};
+    char what[64];
+    for (int i = 0; i < 3; i++) {
+        fill(runs[i]);
+        snprintf(what, sizeof what, "check_word, %zu octets", runs[i]);
+        row(what, "octet", runs[i], words_of, 1280 + 6400000 / runs[i]);
+    }
+    for (int i = 0; i < 3; i++) {
+        fill_frames(users[i]);
+        snprintf(what, sizeof what, "read_frame, %zu user octets", users[i]);
+        row(what, "frame", 1, frames_read, 12800000 / (users[i] + 10));
+    }
+    for (int i = 0; i < 3; i++) {
+        fill(users[i]);
+        snprintf(what, sizeof what, "write_frame, %zu user octets", users[i]);
+        row(what, "frame", 1, frames_written, 12800000 / (users[i] + 10));
+    }
+    printf("sum of all that was made: %016llx, %s\n", (unsigned long long)all_sums, failed ? "AND NOT ONE FOR ALL FOUR" : "the same for all four");
+    return failed;
+}

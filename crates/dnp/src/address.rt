@@ -1,0 +1,22 @@
+//! The address of a station, as the command line writes it.
+
+ghost use Rattle.std.specs.Prelude.{◌≡◌, ◌↔◌, ℕ, Some};
+ghost use Rattle.dnp.specs.Address.{IsAddressText};
+
+/// The last address that one station alone may have: those above it are reserved or mean all stations.
+pub const LAST: u16 = 65_519;
+
+/// Reads a station's address, a decimal number from 0 to 65,519. Zeros may stand first; a sign, a
+/// space or any other character makes it no address.
+pub fn read_address(text: &str) -> Option<u16>
+    ensures exact { (n : ℕ) → (result ≡ Some n) ↔ IsAddressText text.now n }
+{
+    // The library's `parse` takes one plus sign before the digits.
+    if matches!(text.as_bytes(), [b'+', ..]) {
+        return None;
+    }
+    match text.parse::<u16>() {
+        Ok(address) if address <= LAST => Some(address),
+        _ => None,
+    }
+}

@@ -1,0 +1,93 @@
+//! `dnp answer`: the outstation's answer to one link frame.
+
+use crate::address::read_address;
+use crate::exit;
+use crate::input::read_text;
+use clap::{Arg, ArgMatches, Command};
+use dnp_daemons::answer_line;
+use std::alloc::{AllocError, Global};
+use std::io;
+use std::process::ExitCode;
+
+pub const NAME: &str = "answer";
+
+const ABOUT: &str = "Answer one link frame as an outstation does, and print the answer";
+
+const AFTER: &str = "\
+INPUT
+  One line on standard input, and then the end of the input (Ctrl-D at a terminal): the octets
+  of one data link frame as it stands on the wire, header, data and check words. Each octet is
+  two hexadecimal digits, upper or lower case, with one space between octets. At most 2,000
+  characters, and then a line feed or none.
+
+EXAMPLE
+  Master 1 asks outstation 10 for its events and its static data:
+
+    echo '05 64 14 C4 0A 00 01 00 8F ED C0 C0 01 3C 02 06 3C 03 06 3C 04 06 3C 01 06 8A 51' |
+      dnp answer
+
+  05 64 0A 44 01 00 0A 00 6E 25 C0 C0 81 80 00 B3 F3
+
+OUTPUT
+  One line on standard output:
+    the octets of the frame that is sent in answer, written as above;
+    'no answer', where the outstation stays silent, as for a frame to another address;
+    'refused N REASON', where the input is no frame: 0 Text (not written as above), 1 Short,
+    2 Start, 3 HeaderCheck, 4 Length, 5 Size, 6 BlockCheck B (B is the number of the first
+    data block with a wrong check word, from 0).
+
+EXIT STATUS
+  0  the frame was read: there is an answer, or there is none to give
+  1  the input was refused
+  2  the command line is wrong
+  3  the program failed: no memory, or the input or the output was lost";
+
+const NO_ADDRESS: &str = "\
+not a decimal number from 0 to 65519
+
+For more information, try 'dnp answer --help'.";
+
+pub fn command<'a>(alloc: Global) -> Result<Command<'a>, AllocError> {
+    let own = Arg::new(alloc, "own")
+        .long("own")
+        .value_name("ADDRESS")
+        .default_value("10")
+        .help("The outstation's own link address, 0 to 65519");
+    let peer = Arg::new(alloc, "peer")
+        .long("peer")
+        .value_name("ADDRESS")
+        .default_value("1")
+        .help("The link address of its master, 0 to 65519");
+    Command::new(alloc, NAME)
+        .about(ABOUT)
+        .after_help(AFTER)
+        .arg(own)?
+        .arg(peer)
+}
+
+pub fn run<R: AllocGlobal + Input + Print + Eprint>(
+    rt: &R,
+    given: &ArgMatches<'_>,
+) -> anyhow::Result<ExitCode> {
+    let Some(own) = address_given(rt, given, "own") else {
+        return Ok(ExitCode::from(exit::USAGE));
+    };
+    let Some(peer) = address_given(rt, given, "peer") else {
+        return Ok(ExitCode::from(exit::USAGE));
+    };
+    let text = read_text(rt.alloc(), rt.reader())?;
+    let is_read = answer_line(text.as_slice(), own, peer, &mut io::writer(rt))?;
+    Ok(ExitCode::from(if is_read { exit::DONE } else { exit::REFUSED }))
+}
+
+/// The address that an option gives. Where it gives none, what is wrong with it is printed.
+fn address_given<R: Eprint>(rt: &R, given: &ArgMatches<'_>, option: &str) -> Option<u16> {
+    let text = given.get_str(option).unwrap_or("");
+    let address = read_address(text);
+    if address.is_none() {
+        let _ = eprintln!(rt;
+            "error: invalid value {text:?} for '--{option} <ADDRESS>': {NO_ADDRESS}"
+        );
+    }
+    address
+}

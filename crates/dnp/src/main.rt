@@ -1,0 +1,85 @@
+//! `dnp`, the command line of the DNP3 stack: a module for each subcommand. `main` reads the words of
+//! the command line, lets `clap` judge them, and ends with the exit status that the subcommand gives.
+//! Where standard error is lost, the exit status alone tells what was wrong.
+#![tactic(auto)]
+
+mod address;
+mod answer;
+mod exit;
+mod input;
+
+use clap::error::ErrorKind;
+use clap::{ArgMatches, Command};
+use std::alloc::{AllocError, Global};
+use std::process::ExitCode;
+use std::rt::Env;
+use std::{env, io};
+
+const ABOUT: &str = "DNP3 (IEEE Std 1815-2012) from the command line.";
+
+const AFTER: &str = "\
+Each subcommand has a help text of its own, such as 'dnp answer --help'.
+
+Exit status: 2 where the command line is wrong, and 3 where the program itself failed,
+as for want of memory. The others are each subcommand's own.";
+
+fn main(rt: HostRuntime) -> ExitCode {
+    match run(&rt) {
+        Ok(status) => status,
+        Err(fault) => {
+            let _ = eprintln!(rt; "dnp: {fault}");
+            ExitCode::from(exit::FAULT)
+        }
+    }
+}
+
+fn run<R: Env + AllocGlobal + Input + Print + Eprint>(rt: &R) -> anyhow::Result<ExitCode> {
+    let words = match env::args(rt) {
+        Ok(words) => words,
+        Err(fault) if fault.kind() == io::ErrorKind::InvalidData => {
+            let _ = eprintln!(rt; "error: a word of the command line is not UTF-8 text");
+            return Ok(ExitCode::from(exit::USAGE));
+        }
+        Err(fault) => return Err(fault.into()),
+    };
+    let words: Vec<String> = words.collect(rt.alloc())?;
+    let dnp = command(rt.alloc())?;
+    match dnp.try_get_matches_from(words.as_slice()) {
+        Ok(matches) => dispatch(rt, &matches),
+        Err(error) => refuse(rt, &error),
+    }
+}
+
+fn command<'a>(alloc: Global) -> Result<Command<'a>, AllocError> {
+    Command::new(alloc, "dnp")
+        .about(ABOUT)
+        .after_help(AFTER)
+        .subcommand_required(true)
+        .arg_required_else_help(true)
+        .subcommand(answer::command(alloc)?)
+}
+
+fn dispatch<R: AllocGlobal + Input + Print + Eprint>(
+    rt: &R,
+    matches: &ArgMatches<'_>,
+) -> anyhow::Result<ExitCode> {
+    match matches.subcommand() {
+        Some((answer::NAME, given)) => answer::run(rt, given),
+        // `clap` refuses a missing or an unknown subcommand before this.
+        _ => Ok(ExitCode::from(exit::USAGE)),
+    }
+}
+
+/// Prints what `clap` has to say in place of matches: a help text on standard output, or what is wrong
+/// with the command line on standard error.
+fn refuse<R: Print + Eprint>(rt: &R, error: &clap::Error) -> anyhow::Result<ExitCode> {
+    let printed = error.print(rt);
+    if !error.use_stderr() {
+        printed?;
+    }
+    Ok(ExitCode::from(match error.kind() {
+        ErrorKind::DisplayHelp | ErrorKind::DisplayVersion => exit::DONE,
+        ErrorKind::OutOfMemory => exit::FAULT,
+        _ => exit::USAGE,
+    }))
+}

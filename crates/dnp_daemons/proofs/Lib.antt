@@ -1,0 +1,6 @@
+mod ClassHeaders
+mod OctetText
+mod OneAnswer
+mod Spaced
+mod SpacedPieces
+mod SpacedWriting

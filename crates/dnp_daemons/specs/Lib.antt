@@ -1,0 +1,3 @@
+pub mod OctetLines
+pub mod Station
+pub mod AnswerLine

@@ -1,0 +1,11 @@
+mod Algebra
+mod Division
+mod Unique
+mod EightBits
+mod EightOctets
+mod Octets
+mod Words
+mod Blocks
+mod LastTwo
+mod ReadBlocks
+mod Units

@@ -1,0 +1,3 @@
+pub mod Polynomials
+pub mod CheckWord
+pub mod Frames

@@ -1,0 +1,41 @@
+use arrayvec::ArrayVec;
+use thiserror::Error;
+
+/// The most octets of user data that a link frame carries.
+pub const MAX_USER: usize = 250;
+
+/// The most octets of a link frame.
+pub const MAX_FRAME: usize = 292;
+
+/// A link frame (IEEE Std 1815-2012, data link layer), without its start, its LENGTH and its check
+/// words, which follow from the rest.
+#[derive(Debug, PartialEq, Eq, Drop)]
+pub struct Frame {
+    /// The CONTROL octet: bit 7 DIR, bit 6 PRM, bit 5 FCB, bit 4 FCV or DFC, bits 3 to 0 function.
+    pub control: u8,
+    /// The address of the station that the frame is for.
+    pub dest: u16,
+    /// The address of the station that sent it.
+    pub source: u16,
+    /// 0 to 250 octets of user data.
+    pub user: ArrayVec<u8, MAX_USER>,
+}
+
+/// Why a unit of octets is no link frame. The variants stand in the order in which they are looked
+/// for, and the first that fits is answered.
+#[derive(Clone, Copy, Debug, PartialEq, Eq, Error)]
+pub enum FrameFault {
+    #[error("fewer than 10 octets")]
+    Short,
+    #[error("the first two octets are not 05 64")]
+    Start,
+    #[error("the check word of the header is wrong")]
+    HeaderCheck,
+    #[error("LENGTH is under 5")]
+    Length,
+    #[error("another number of octets than LENGTH says")]
+    Size,
+    /// The first block of user data, counted from 0, whose check word is wrong.
+    #[error("the check word of block {0} is wrong")]
+    BlockCheck(usize),
+}

@@ -1,0 +1,19 @@
+//! Link frames of DNP3 (IEEE Std 1815-2012, data link layer): their check word, their spelling in
+//! octets, and reading them back with the first fault of a fixed order.
+#![tactic(auto)]
+
+#[cfg(test)]
+mod by_bits;
+mod check;
+mod frame;
+pub mod laws;
+mod reading;
+mod table;
+#[cfg(test)]
+mod tests;
+mod writing;
+
+pub use check::check_word;
+pub use frame::{Frame, FrameFault, MAX_FRAME, MAX_USER};
+pub use reading::read_frame;
+pub use writing::write_frame;

@@ -1,0 +1,80 @@
+ghost use Rattle.std.specs.Prelude.{◌≡◌, ℕ, ◌+◌, ◌*◌, ◌≤◌, ◌<◌, List, [], ◌++◌, length, IfOk, IfErr, IsTrue, ◌↔◌, Ok, Err};
+ghost use Rattle.dnp_linkframe.specs.Frames.{Spells, AreChecked, IsChecked, IsFirstFault, IsFirstUnchecked, blocks, block_count};
+ghost use Rattle.dnp_linkframe.specs.declared.frame.Frame.{Frame as FrameValue};
+ghost use Rattle.dnp_linkframe.specs.declared.frame.FrameFault.{FrameFault as FaultValue};
+
+use crate::check::check_word;
+use crate::frame::{Frame, FrameFault, MAX_USER};
+use arrayvec::ArrayVec;
+
+/// Whether the last two octets are the check word of those before.
+fn is_checked(octets: &[u8]) -> bool
+    ensures { IsTrue result ↔ IsChecked octets.now }
+{
+    match octets {
+        [part @ .., low, high] => u16::from_le_bytes([*low, *high]) == check_word(part),
+        _ => false,
+    }
+}
+
+/// The user data of the blocks, each with its check word behind it, that take `size` octets without
+/// them; or the number of the first block whose check word is wrong.
+fn read_blocks(octets: &[u8], size: usize) -> Result<ArrayVec<u8, MAX_USER>, usize>
+    requires fits { size ≤ 250 }
+    requires sized { length octets.now ≡ size + 2 * block_count size }
+    ensures found { IfOk result (λ user. (length user.items ≡ size) × AreChecked (blocks user.items) octets.now) }
+    ensures fault { IfErr result (IsFirstUnchecked octets.now) }
+{
+    let mut user = ArrayVec::new();
+    for (number, block) in octets.chunks(18).enumerate() {
+        if !is_checked(block) {
+            return Err(number);
+        }
+        user.try_extend_from_slice(&block[..block.len() - 2])
+            .unwrap();
+    }
+    Ok(user)
+}
+
+/// The frame that the unit spells, or the first fault of the order.
+fn read(unit: &[u8]) -> Result<Frame, FrameFault>
+    ensures found { IfOk result (Spells unit.now) }
+    ensures fault { IfErr result (IsFirstFault unit.now) }
+{
+    if unit.len() < 10 {
+        return Err(FrameFault::Short);
+    }
+    if unit[0] != 0x05 || unit[1] != 0x64 {
+        return Err(FrameFault::Start);
+    }
+    if !is_checked(&unit[..10]) {
+        return Err(FrameFault::HeaderCheck);
+    }
+    if unit[2] < 5 {
+        return Err(FrameFault::Length);
+    }
+    let size = usize::from(unit[2] - 5);
+    if unit.len() != 10 + size + 2 * size.div_ceil(16) {
+        return Err(FrameFault::Size);
+    }
+    match read_blocks(&unit[10..], size) {
+        Ok(user) => Ok(Frame {
+            control: unit[3],
+            dest: u16::from_le_bytes([unit[4], unit[5]]),
+            source: u16::from_le_bytes([unit[6], unit[7]]),
+            user,
+        }),
+        Err(number) => Err(FrameFault::BlockCheck(number)),
+    }
+}
+
+/// The frame that the unit of octets spells, and a fault where it spells none: the first that fits
+/// in the order of [`FrameFault`].
+pub fn read_frame(unit: &[u8]) -> Result<Frame, FrameFault>
+    ensures found { IfOk result (Spells unit.now) }
+    ensures only { (frame : FrameValue) → Spells unit.now frame → result ≡ Ok frame }
+    ensures fault { IfErr result (IsFirstFault unit.now) }
+    ensures only_fault { (fault : FaultValue) → IsFirstFault unit.now fault → result ≡ Err fault }
+{
+    read(unit)
+}

@@ -1,0 +1,239 @@
+-- A fragment's segments, pushed in order, complete it.
+use Rattle.std.proofs.Common.{◌≡◌, ℕ, zero, suc, ◌+◌, ◌-◌, ◌*◌, ◌%◌, ◌<◌, ◌≤◌, min, Bool, true, false, cond, not, nat_lt, ◌==◌, List, [], ◌∷◌, ◌++◌, length, take, drop, map, reverse, refl, sym, ap, ◌∙◌, subst, arith, length-take, length-drop, add-one}
+use Rattle.std.proofs.lemmas.Bool.{or_from, and_right, false_from_ne_true, le-ltb, eq-eqb, ne_eqb, cond-true, cond-false}
+use Rattle.std.proofs.lemmas.List.{reverse-append, drop-take, take-append-drop, take-take, take_all}
+use Rattle.std.proofs.lemmas.List.FromFn.{take-map-range_with_len, map-range_with_len_more}
+use Rattle.std.proofs.lemmas.Slice.Eq.{bytes_eq-Decides}
+use Rattle.std.specs.Int.{bit_at}
+use Rattle.std.specs.List.{range_with_len}
+use Rattle.std.specs.Str.{bytes_eq}
+use Rattle.dnp_transport.specs.Segments.{is_first, is_last, number, has_no_size}
+use Rattle.dnp_transport.specs.Cuts.{cut_count, cut_header, cut, cuts}
+use Rattle.dnp_transport.specs.Series.{repeats, is_left_out, kept, IsSeries, joined, IsOpen, IsWhole, IsNothing}
+use Rattle.dnp_transport.specs.Laws.{pushed_after, IsCarried}
+use Rattle.dnp_transport.proofs.Histories.{kept_stays, open_not_whole, dropped_not_open}
+
+-- the bits and the number of a header
+
+fir_set : (b : Bool) (n : ℕ) → n < 64 → bit_at (64 + cond b 128 0 + n) 6 ≡ 1
+fir_set true n h = omega arith
+fir_set false n h = omega arith
+
+fir_clear : (b : Bool) (n : ℕ) → n < 64 → bit_at (0 + cond b 128 0 + n) 6 ≡ 0
+fir_clear true n h = omega arith
+fir_clear false n h = omega arith
+
+fin_set : (a : Bool) (n : ℕ) → n < 64 → bit_at (cond a 64 0 + 128 + n) 7 ≡ 1
+fin_set true n h = omega arith
+fin_set false n h = omega arith
+
+fin_clear : (a : Bool) (n : ℕ) → n < 64 → bit_at (cond a 64 0 + 0 + n) 7 ≡ 0
+fin_clear true n h = omega arith
+fin_clear false n h = omega arith
+
+low_bits : (a b : Bool) (n : ℕ) → n < 64 → (cond a 64 0 + cond b 128 0 + n) % 64 ≡ n
+low_bits true true n h = omega arith
+low_bits true false n h = omega arith
+low_bits false true n h = omega arith
+low_bits false false n h = omega arith
+
+clear_bit : (b : ℕ) → b ≡ 0 → (b == 1) ≡ false
+clear_bit b e = ne_eqb b 1 (λ h. omega arith)
+
+number_fits : (n : ℕ) → n % 64 < 64
+number_fits n = omega arith
+
+cut_is_first : (f : List ℕ) (first k : ℕ) → k ≡ 0 → is_first (cut f first k) ≡ true
+cut_is_first f first k e =
+    let n : ℕ = (first + k) % 64 in
+    let last : Bool = k + 1 == cut_count (length f) in
+    let a : cond (k == 0) 64 0 ≡ 64 = cond-true (k == 0) 64 0 (eq-eqb k 0 e) in
+    eq-eqb (bit_at (cut_header (cut_count (length f)) first k) 6) 1
+    (subst (λ (x : ℕ). bit_at (x + cond last 128 0 + n) 6 ≡ 1) (sym a) (fir_set last n (number_fits (first + k))))
+
+cut_is_not_first : (f : List ℕ) (first k : ℕ) → 0 < k → is_first (cut f first k) ≡ false
+cut_is_not_first f first k h =
+    let n : ℕ = (first + k) % 64 in
+    let last : Bool = k + 1 == cut_count (length f) in
+    let later : k ≡ 0 → ⊥ = λ e. omega arith in
+    let a : cond (k == 0) 64 0 ≡ 0 = cond-false (k == 0) 64 0 (ne_eqb k 0 later) in
+    let clear : bit_at (cut_header (cut_count (length f)) first k) 6 ≡ 0 =
+    subst (λ (x : ℕ). bit_at (x + cond last 128 0 + n) 6 ≡ 0) (sym a) (fir_clear last n (number_fits (first + k))) in
+    clear_bit (bit_at (cut_header (cut_count (length f)) first k) 6) clear
+
+cut_is_last : (f : List ℕ) (first k : ℕ) → k + 1 ≡ cut_count (length f) → is_last (cut f first k) ≡ true
+cut_is_last f first k e =
+    let n : ℕ = (first + k) % 64 in
+    let a : cond (k + 1 == cut_count (length f)) 128 0 ≡ 128 =
+    cond-true (k + 1 == cut_count (length f)) 128 0 (eq-eqb (k + 1) (cut_count (length f)) e) in
+    eq-eqb (bit_at (cut_header (cut_count (length f)) first k) 7) 1
+    (subst (λ (x : ℕ). bit_at (cond (k == 0) 64 0 + x + n) 7 ≡ 1) (sym a) (fin_set (k == 0) n (number_fits (first + k))))
+
+cut_is_not_last : (f : List ℕ) (first k : ℕ) → k + 1 < cut_count (length f) → is_last (cut f first k) ≡ false
+cut_is_not_last f first k h =
+    let n : ℕ = (first + k) % 64 in
+    let a : cond (k + 1 == cut_count (length f)) 128 0 ≡ 0 =
+    cond-false (k + 1 == cut_count (length f)) 128 0 (ne_eqb (k + 1) (cut_count (length f)) (λ e. omega (arith, h, e))) in
+    let clear : bit_at (cut_header (cut_count (length f)) first k) 7 ≡ 0 =
+    subst (λ (x : ℕ). bit_at (cond (k == 0) 64 0 + x + n) 7 ≡ 0) (sym a) (fin_clear (k == 0) n (number_fits (first + k))) in
+    clear_bit (bit_at (cut_header (cut_count (length f)) first k) 7) clear
+
+number_of_cut : (f : List ℕ) (first k : ℕ) → number (cut f first k) ≡ (first + k) % 64
+number_of_cut f first k =
+    low_bits (k == 0) (k + 1 == cut_count (length f)) ((first + k) % 64) (number_fits (first + k))
+
+next_number : (a k : ℕ) → (a + suc k) % 64 ≡ ((a + k) % 64 + 1) % 64
+next_number a k = omega arith
+
+other_number : (a k : ℕ) → (a + suc k) % 64 ≡ (a + k) % 64 → ⊥
+other_number a k e = omega arith
+
+-- each cut is of a segment's size
+cut_sized : (f : List ℕ) (first k : ℕ) → k < cut_count (length f) → has_no_size (cut f first k) ≡ false
+cut_sized f first k h =
+    let n : length (take 249 (drop (249 * k) f)) ≡ min 249 (length f - 249 * k) =
+    length-take 249 (drop (249 * k) f) ∙ ap (λ (m : ℕ). min 249 m) (length-drop (249 * k) f) in
+    or_from (nat_lt (length (cut f first k)) 2) (nat_lt 250 (length (cut f first k)))
+    (le-ltb (length (cut f first k)) 2 (omega (arith, n, h)))
+    (le-ltb 250 (length (cut f first k)) (omega (arith, n, h)))
+
+-- the first k cuts, newest first
+abbrev sent : List ℕ → ℕ → ℕ → List (List ℕ)
+sent f first zero = []
+sent f first (suc k) = cut f first k ∷ sent f first k
+
+-- what the first k + 1 cuts make
+record IsSent (f : List ℕ) (first k : ℕ) : Type 0 where
+  earlier_kept : kept (sent f first k) ≡ sent f first k
+  stays : is_left_out (sent f first k) (cut f first k) ≡ false
+  in_series : IsSeries (sent f first (suc k))
+  joined_are : joined (sent f first (suc k)) ≡ take (249 * (k + 1)) f
+
+all_kept : (f : List ℕ) (first k : ℕ) → IsSent f first k → kept (sent f first (suc k)) ≡ sent f first (suc k)
+all_kept f first k i =
+    kept_stays (cut f first k) (sent f first k)
+    (subst (λ (l : List (List ℕ)). is_left_out l (cut f first k) ≡ false) (sym i.earlier_kept) i.stays)
+    ∙ ap (λ (l : List (List ℕ)). cut f first k ∷ l) i.earlier_kept
+
+take_two : (m n : ℕ) (l : List ℕ) → take m l ++ take n (drop m l) ≡ take (m + n) l
+take_two m n l =
+    let p : take m (take (m + n) l) ++ drop m (take (m + n) l) ≡ take (m + n) l = take-append-drop m (take (m + n) l) in
+    let q : take m (take (m + n) l) ≡ take m l = take-take m (m + n) l (omega arith) in
+    let r : drop m (take (m + n) l) ≡ take n (drop m l) = drop-take m n l in
+    cc
+
+is_sent : (f : List ℕ) (first k : ℕ) → k < cut_count (length f) → IsSent f first k
+is_sent f first zero h =
+    record {
+      earlier_kept = refl;
+      stays = or_from (has_no_size (cut f first 0)) false (cut_sized f first 0 h) refl;
+      in_series = cut_is_first f first 0 refl;
+      joined_are = refl;
+    }
+is_sent f first (suc k) h =
+    let i : IsSent f first k = is_sent f first k (omega (arith, h)) in
+    let no_first : is_first (cut f first (suc k)) ≡ false = cut_is_not_first f first (suc k) (omega arith) in
+    let turn : number (cut f first (suc k)) ≡ (number (cut f first k) + 1) % 64 =
+    number_of_cut f first (suc k) ∙ next_number first k ∙ ap (λ (n : ℕ). (n + 1) % 64) (sym (number_of_cut f first k)) in
+    let fresh : cut f first (suc k) ≡ cut f first k → ⊥ =
+    λ e. other_number first k
+    (sym (number_of_cut f first (suc k)) ∙ ap (λ (l : List ℕ). number l) e ∙ number_of_cut f first k) in
+    let size : 249 * (k + 1) ≡ 249 * suc k = omega arith in
+    let more : 249 * suc k + 249 ≡ 249 * (suc k + 1) = omega arith in
+    record {
+      earlier_kept = all_kept f first k i;
+      stays =
+          or_from (has_no_size (cut f first (suc k))) (repeats (sent f first (suc k)) (cut f first (suc k)))
+          (cut_sized f first (suc k) h)
+          (and_right (not (is_first (cut f first (suc k)))) (bytes_eq (cut f first (suc k)) (cut f first k))
+          (false_from_ne_true (bytes_eq (cut f first (suc k)) (cut f first k))
+          (λ t. fresh ((bytes_eq-Decides (cut f first (suc k)) (cut f first k)).0 t))));
+      in_series =
+          (record { unended = cut_is_not_last f first k (omega (arith, h)); no_first = no_first; in_turn = turn }, i.in_series);
+      joined_are =
+          ap (λ (l : List ℕ). l ++ take 249 (drop (249 * suc k) f)) i.joined_are
+          ∙ ap (λ (m : ℕ). take m f ++ take 249 (drop (249 * suc k) f)) size
+          ∙ take_two (249 * suc k) 249 f
+          ∙ ap (λ (m : ℕ). take m f) more;
+    }
+
+-- a series waits until the last cut
+sent_open : (f : List ℕ) (first k : ℕ) (before : List (List ℕ)) → length f ≤ 2048 → k + 1 < cut_count (length f) → IsOpen (sent f first (suc k) ++ before) (sent f first (suc k))
+sent_open f first k before most h =
+    let i : IsSent f first k = is_sent f first k (omega (arith, h)) in
+    record {
+      recent = sent f first (suc k);
+      older = before;
+      split = refl;
+      kept_are = all_kept f first k i;
+      in_series = i.in_series;
+      unended = cut_is_not_last f first k h;
+      fits = omega (arith, ap length i.joined_are, length-take (249 * (k + 1)) f, most);
+    }
+
+-- the last cut completes the fragment
+sent_whole : (f : List ℕ) (first k : ℕ) (before : List (List ℕ)) → length f ≤ 2048 → k + 1 ≡ cut_count (length f) → IsWhole (sent f first (suc k) ++ before) f
+sent_whole f first k before most h =
+    let i : IsSent f first k = is_sent f first k (omega (arith, h)) in
+    let back : sent f first k ≡ kept (sent f first k) = sym i.earlier_kept in
+    record {
+      segment = cut f first k;
+      recent = sent f first k;
+      older = before;
+      split = refl;
+      stays = subst (λ (l : List (List ℕ)). is_left_out l (cut f first k) ≡ false) back i.stays;
+      in_series = subst (λ (l : List (List ℕ)). IsSeries (cut f first k ∷ l)) back i.in_series;
+      ended = cut_is_last f first k h;
+      joined_is =
+          ap (λ (l : List (List ℕ)). joined (cut f first k ∷ l)) i.earlier_kept
+          ∙ i.joined_are
+          ∙ take_all (249 * (k + 1)) f (omega (arith, h));
+      fits = most;
+    }
+
+-- the cuts as a list in order
+
+sent_reversed : (f : List ℕ) (first k : ℕ) → reverse (map (cut f first) (range_with_len 0 k)) ≡ sent f first k
+sent_reversed f first zero = refl
+sent_reversed f first (suc k) =
+    let more : map (cut f first) (range_with_len 0 (suc k)) ≡ map (cut f first) (range_with_len 0 k) ++ cut f first k ∷ [] =
+    ap (λ (n : ℕ). map (cut f first) (range_with_len 0 n)) (sym (add-one k))
+    ∙ map-range_with_len_more (cut f first) 0 k k (omega arith) in
+    ap (λ (l : List (List ℕ)). reverse l) more
+    ∙ reverse-append (map (cut f first) (range_with_len 0 k)) (cut f first k ∷ [])
+    ∙ ap (λ (l : List (List ℕ)). cut f first k ∷ l) (sent_reversed f first k)
+
+-- the pushes after the first k cuts
+pub after_cuts : (f : List ℕ) (first k : ℕ) (before : List (List ℕ)) → k ≤ cut_count (length f) → pushed_after before (take k (cuts f first)) ≡ sent f first k ++ before
+after_cuts f first k before h =
+    ap (λ (l : List (List ℕ)). reverse l ++ before) (take-map-range_with_len (cut f first) 0 (cut_count (length f)) k h)
+    ∙ ap (λ (l : List (List ℕ)). l ++ before) (sent_reversed f first k)
+
+earlier_nothing : (before : List (List ℕ)) (f : List ℕ) (first k : ℕ) → length f ≤ 2048 → 0 < k → k < cut_count (length f) → IsNothing (pushed_after before (take k (cuts f first)))
+earlier_nothing before f first zero most some h = absurd (omega (arith, some))
+earlier_nothing before f first (suc k) most some h =
+    let o : IsOpen (sent f first (suc k) ++ before) (sent f first (suc k)) = sent_open f first k before most (omega (arith, h)) in
+    let n : IsNothing (sent f first (suc k) ++ before) =
+    record {
+      no_whole = λ g w. open_not_whole (sent f first (suc k) ++ before) (sent f first (suc k)) g o w;
+      no_drop = λ d. dropped_not_open (sent f first (suc k) ++ before) (sent f first (suc k)) d o;
+    } in
+    subst (λ (l : List (List ℕ)). IsNothing l) (sym (after_cuts f first (suc k) before (omega (arith, h)))) n
+
+last_whole : (before : List (List ℕ)) (f : List ℕ) (first count : ℕ) → length f ≤ 2048 → 0 < count → count ≡ cut_count (length f) → IsWhole (pushed_after before (cuts f first)) f
+last_whole before f first zero most some e = absurd (omega (arith, some))
+last_whole before f first (suc k) most some e =
+    let w : IsWhole (sent f first (suc k) ++ before) f = sent_whole f first k before most (omega (arith, e)) in
+    let all : pushed_after before (cuts f first) ≡ sent f first (suc k) ++ before =
+    ap (λ (l : List (List ℕ)). reverse l ++ before)
+    (ap (λ (n : ℕ). map (cut f first) (range_with_len 0 n)) (sym e))
+    ∙ ap (λ (l : List (List ℕ)). l ++ before) (sent_reversed f first (suc k)) in
+    subst (λ (l : List (List ℕ)). IsWhole l f) (sym all) w
+
+-- the law
+pub carries : (before : List (List ℕ)) (f : List ℕ) (first : ℕ) → 0 < length f → length f ≤ 2048 → IsCarried before f first
+carries before f first some most =
+    record {
+      earlier = λ k h l. earlier_nothing before f first k most h l;
+      last = last_whole before f first (cut_count (length f)) most (omega (arith, some)) refl;
+    }

@@ -1,0 +1,5 @@
+pub mod Calls
+pub mod Carried
+pub mod Exits
+pub mod Histories
+pub mod InOrder

@@ -1,0 +1,6 @@
+pub mod Segments
+pub mod Cuts
+pub mod Series
+pub mod Assembly
+pub mod Laws
+pub mod Stages

@@ -1,0 +1,174 @@
+//! Joins segments to fragments.
+ghost use Rattle.std.specs.Prelude.{◌≡◌, ◌≤◌, ◌↔◌, IsTrue, ℕ, List, [], ◌∷◌, length};
+ghost use Rattle.dnp_transport.specs.Assembly.{Idle, Stands, Answers, Shows};
+
+use crate::header::{NUMBERS, has_no_size, is_first, is_last, number};
+use arrayvec::ArrayVec;
+use std::marker::Model;
+
+/// What a pushed string of octets did.
+#[derive(Clone, Copy, Debug, PartialEq, Eq)]
+pub enum Pushed {
+    /// No fragment is whole, and no series was dropped.
+    Nothing,
+
+    /// The segment completed a fragment, which `Assembler::fragment` gives.
+    Whole,
+
+    /// The segment did not continue the series in progress, or made it too long: the series is gone.
+    Dropped,
+}
+
+#[derive(Clone, Copy, Debug)]
+enum Stage {
+    // There is no series.
+    Idle,
+
+    // A series waits for its next segment.
+    Joining,
+
+    // The last push completed a fragment.
+    Complete,
+}
+
+impl Stage {
+    fn is_joining(self) -> bool
+        ensures { IsTrue result ↔ (self ≡ Stage.Joining) }
+    {
+        matches!(self, Stage::Joining)
+    }
+}
+
+/// Joins segments to fragments of 1 to 2,048 octets (IEEE Std 1815-2012, transport function).
+///
+/// A segment with FIR begins a series, whatever its number, and ends one in progress. The segments after it have
+/// numbers that follow modulo 64, and the one with FIN completes the fragment. A segment without FIR that equals the
+/// last accepted one is a repeat, and is ignored.
+#[derive(Debug, Drop)]
+pub struct Assembler {
+    stage: Stage,
+
+    // The last accepted segment.
+    last: ArrayVec<u8, 250>,
+
+    // The data of the series in progress, or the fragment.
+    octets: ArrayVec<u8, 2048>,
+}
+
+impl Model for Assembler {
+    ghost use Rattle.dnp_transport.specs.Assembly.{Assembly};
+
+    ghost Value = { Assembly };
+
+    ghost use Rattle.dnp_transport.specs.Stages.{assembly};
+
+    ghost view = { λ a. assembly a.stage a.last.items a.octets.items };
+}
+
+impl Assembler {
+    /// An assembler with no series.
+    pub fn new() -> Self
+        ensures empty { result ≡ Idle }
+        ensures stands { Stands [] result }
+    {
+        Assembler {
+            stage: Stage::Idle,
+            last: ArrayVec::new(),
+            octets: ArrayVec::new(),
+        }
+    }
+
+    /// Takes in a string of octets that the link layer gave.
+    ///
+    /// What is no segment, of under 2 or over 250 octets, is ignored, as is a segment without FIR where no series is in
+    /// progress. `Dropped` says that a series in progress is gone: its next number did not come, or it would have
+    /// passed 2,048 octets.
+    pub fn push(&mut self, segment: &[u8]) -> Pushed
+        ensures stands { (before : List (List ℕ)) → Stands before self.old → Stands (segment.now ∷ before) self.new }
+        ensures answers { (before : List (List ℕ)) → Stands before self.old → Answers (segment.now ∷ before) result }
+    {
+        let joining = self.stage.is_joining();
+
+        // A fragment is given until the next push, whatever that is.
+        if has_no_size(segment) {
+            if !joining {
+                self.stage = Stage::Idle;
+            }
+            return Pushed::Nothing;
+        }
+
+        // A first segment begins a series, also within another. Any other one goes on with a series or is nothing.
+        if is_first(segment) {
+            self.octets.clear();
+        } else if !joining {
+            self.stage = Stage::Idle;
+            return Pushed::Nothing;
+        } else if segment == self.last.as_slice() {
+            return Pushed::Nothing;
+        } else if number(segment) != (number(&self.last) + 1) % NUMBERS {
+            self.stage = Stage::Idle;
+            return Pushed::Dropped;
+        }
+
+        // No room: the series would pass the longest fragment.
+        if self.octets.try_extend_from_slice(&segment[1..]).is_err() {
+            self.stage = Stage::Idle;
+            return Pushed::Dropped;
+        }
+        if is_last(segment) {
+            self.stage = Stage::Complete;
+            return Pushed::Whole;
+        }
+        self.stage = Stage::Joining;
+        self.last = copied(segment);
+        Pushed::Nothing
+    }
+
+    /// The fragment that the last push completed, until the next push, and else no octets.
+    pub fn fragment(&self) -> &[u8]
+        ensures shown { (pushed : List (List ℕ)) → Stands pushed self.now → Shows pushed result.now }
+        ensures fits { length result.now ≤ 2048 }
+    {
+        match self.stage {
+            Stage::Complete => self.octets.as_slice(),
+            Stage::Idle | Stage::Joining => &[],
+        }
+    }
+
+    /// An assembler in the same state.
+    pub fn copy(&self) -> Self
+        ensures { result ≡ self.now }
+    {
+        Assembler {
+            stage: self.stage,
+            last: copied(self.last.as_slice()),
+            octets: copied(self.octets.as_slice()),
+        }
+    }
+
+    /// Forgets all that was pushed.
+    pub fn reset(&mut self)
+        ensures empty { self.new ≡ Idle }
+        ensures stands { Stands [] self.new }
+    {
+        *self = Self::new();
+    }
+}
+
+impl Default for Assembler {
+    ghost is_default = { λ a. a ≡ Idle };
+
+    fn default() -> Self {
+        Self::new()
+    }
+}
+
+// A vector of these octets, for which it has room.
+fn copied<const N: usize>(octets: &[u8]) -> ArrayVec<u8, N>
+    requires { length octets.now ≤ N }
+    ensures { result.items ≡ octets.now }
+{
+    let mut items = ArrayVec::new();
+    items.try_extend_from_slice(octets).unwrap();
+    items
+}

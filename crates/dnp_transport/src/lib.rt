@@ -1,0 +1,12 @@
+//! The transport function of DNP3 (IEEE Std 1815-2012): cuts a fragment into segments, and joins segments to fragments.
+#![tactic(auto)]
+
+mod assembler;
+mod cutting;
+mod header;
+pub mod laws;
+#[cfg(test)]
+mod tests;
+
+pub use assembler::{Assembler, Pushed};
+pub use cutting::{segment, segment_count};

@@ -1,0 +1,32 @@
+# What the files of tests/shell share. Each case prints one line, 'ok NAME' or 'FAILED NAME', and where it
+# failed, what was expected and what came. The program runs in a folder of its own, outside the repository.
+set -u
+top=$(cd "$(dirname "${BASH_SOURCE[0]}")/.." && pwd)
+dnp=$top/dnp
+room=$(mktemp -d)
+trap 'rm -rf "$room"' EXIT
+cd "$room" || exit 1
+# (built once here, and not by each case in turn)
+"$dnp" --help </dev/null >/dev/null || { echo "FAILED to-build-dnp" && exit 1; }
+
+# judge NAME STATUS STDOUT GOT: holds the exit status GOT and the file `out` against what was expected. A
+# STDOUT that is not empty stands without its last line feed.
+judge() {
+    printf '%s' "${3:+$3$'\n'}" >want
+    if [ "$4" = "$2" ] && cmp -s want out; then
+        echo "ok $1"
+        return
+    fi
+    echo "FAILED $1"
+    printf '    expected  status %s, standard output %q\n' "$2" "$(cat want)"
+    printf '    came      status %s, standard output %q\n' "$4" "$(cat out)"
+    printf '    standard error: %s\n' "$(head -c 500 err)"
+}
+
+# expect NAME STATUS STDOUT INPUT ARGS..: runs `dnp ARGS..` on INPUT.
+expect() {
+    local name=$1 status=$2 stdout=$3 input=$4 got=0
+    shift 4
+    printf '%s' "$input" | "$dnp" "$@" >out 2>err || got=$?
+    judge "$name" "$status" "$stdout" "$got"
+}

@@ -1,0 +1,87 @@
+#!/bin/bash
+# `dnp answer` from the shell.
+. "$(dirname "${BASH_SOURCE[0]}")/../expect.bash"
+
+lf=$'\n'
+# Master 1 asks outstation 10 for class 1, 2, 3 and 0 data; outstation 10 answers that it has restarted.
+asked='05 64 14 C4 0A 00 01 00 8F ED C0 C0 01 3C 02 06 3C 03 06 3C 04 06 3C 01 06 8A 51'
+answered='05 64 0A 44 01 00 0A 00 6E 25 C0 C0 81 80 00 B3 F3'
+text='refused 0 Text'
+
+# What is read
+expect answers 0 "$answered" "$asked$lf" answer
+expect answers-with-no-line-feed 0 "$answered" "$asked" answer
+expect answers-lower-case-digits 0 "$answered" "${asked,,}$lf" answer
+expect answers-at-its-own-address 0 "$answered" "$asked$lf" answer --own 0010 --peer=1
+expect is-silent-to-another-address 0 'no answer' "$asked$lf" answer --own 11
+
+# What is refused as a frame
+expect refuses-no-octets 1 'refused 1 Short' '' answer
+expect refuses-an-empty-line 1 'refused 1 Short' "$lf" answer
+expect refuses-9-octets 1 'refused 1 Short' "${asked:0:26}$lf" answer
+expect refuses-another-start 1 'refused 2 Start' "04${asked:2}$lf" answer
+expect refuses-a-wrong-header-check 1 'refused 3 HeaderCheck' "${asked/8F ED/8E ED}$lf" answer
+expect refuses-a-length-of-4 1 'refused 4 Length' "05 64 04 C4 0A 00 01 00 4E 95$lf" answer
+expect refuses-20-octets 1 'refused 5 Size' "${asked:0:59}$lf" answer
+expect refuses-a-wrong-block-check 1 'refused 6 BlockCheck 0' "${asked%51}52$lf" answer
+
+# What is refused as text
+expect refuses-two-spaces 1 "$text" "${asked/05 64/05  64}$lf" answer
+expect refuses-a-tab 1 "$text" "${asked/05 64/05$'\t'64}$lf" answer
+expect refuses-no-space 1 "$text" "${asked/05 64/0564}$lf" answer
+expect refuses-an-odd-digit 1 "$text" "${asked%1}$lf" answer
+expect refuses-another-letter 1 "$text" "${asked%1}G$lf" answer
+expect refuses-a-carriage-return 1 "$text" "$asked"$'\r'"$lf" answer
+expect refuses-a-space-at-the-end 1 "$text" "$asked $lf" answer
+expect refuses-a-space-at-the-start 1 "$text" " $asked$lf" answer
+expect refuses-two-line-feeds 1 "$text" "$asked$lf$lf" answer
+expect refuses-two-lines 1 "$text" "$asked$lf$asked$lf" answer
+expect refuses-what-is-no-text 1 "$text" $'\xff\xfe\n' answer
+# 667 octets are 2,000 characters, and 668 are 2,003.
+long=$asked$(printf ' 00%.0s' {1..640})
+expect reads-2000-characters 1 'refused 5 Size' "$long$lf" answer
+expect refuses-2001-characters 1 "$text" "${long}0$lf" answer
+expect refuses-2003-characters 1 "$text" "$long 00$lf" answer
+expect refuses-a-long-input 1 "$text" "$(printf '00 %.0s' {1..100000})" answer
+
+# The command line
+for words in '' 'reply' 'answer --own' 'answer --own 65520' 'answer --own 99999999999999999999' 'answer --own +1' \
+    'answer --own=-1' 'answer --own x' 'answer --own=' 'answer --own 0x1' 'answer --peer 65520' 'answer 10' 'answer --far 1'; do
+    # (each word is an argument of its own)
+    expect "takes-no-words:dnp ${words:-(none)}" 2 '' "$asked$lf" $words
+done
+expect takes-no-space-in-an-address 2 '' "$asked$lf" answer --own ' 1'
+expect takes-no-argument-that-is-no-text 2 '' "$asked$lf" answer --own $'\xff'
+expect takes-the-last-address 0 'no answer' "$asked$lf" answer --own 65519 --peer 65519
+
+# Help
+for words in '--help' 'answer --help' 'help' 'help answer'; do
+    got=0
+    "$dnp" $words >all 2>err </dev/null || got=$?
+    grep -o 'Usage: dnp' all >out
+    judge "helps:dnp $words" 0 'Usage: dnp' "$got"
+done
+
+# A lost output
+: >out
+got=0
+"$dnp" answer <<<"$asked" >/dev/full 2>err || got=$?
+judge fails-where-the-output-is-full 3 '' "$got"
+got=0
+"$dnp" answer <<<"$asked" >&- 2>err || got=$?
+judge fails-where-the-output-is-closed 3 '' "$got"
+got=0
+"$dnp" answer <&- >out 2>err || got=$?
+judge fails-where-the-input-is-closed 3 '' "$got"
+got=0
+"$dnp" answer --help >/dev/full 2>err || got=$?
+judge fails-where-help-is-lost 3 '' "$got"
+
+# Other folders
+ln -s "$dnp" linked
+got=0
+./linked answer <<<"$asked" >out 2>err || got=$?
+judge answers-through-a-link 0 "$answered" "$got"
+got=0
+(cd "$top" && ./dnp answer <<<"$asked") >out 2>err || got=$?
+judge answers-at-the-top 0 "$answered" "$got"
