@@ -47,7 +47,8 @@ not a decimal number from 0 to 65519
 
 For more information, try 'dnp answer --help'.";
 
-pub fn command<'a>(alloc: Global) -> Result<Command<'a>, AllocError> {
+/// What `clap` has to know of `dnp answer`.
+pub(crate) fn command<'a>(alloc: Global) -> Result<Command<'a>, AllocError> {
     let own = Arg::new(alloc, "own")
         .long("own")
         .value_name("ADDRESS")
@@ -65,7 +66,8 @@ pub fn command<'a>(alloc: Global) -> Result<Command<'a>, AllocError> {
         .arg(peer)
 }
 
-pub fn run<R: AllocGlobal + Input + Print + Eprint>(
+/// Answers the line on standard input by the given words, and tells the exit status.
+pub(crate) fn run<R: AllocGlobal + Input + Print + Eprint>(
     rt: &R,
     given: &ArgMatches<'_>,
 ) -> anyhow::Result<ExitCode> {

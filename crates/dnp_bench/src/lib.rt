@@ -1,13 +1,17 @@
 //! The link frames as `bench/` calls them from C. Each export calls a proved function and makes a
-//! number of what it gave, so that no compiler can leave the work out. Nothing here is a new promise.
+//! number of what it gave, so that no compiler can leave the work out.
 #![tactic(auto)]
+
+ghost use Rattle.dnp_linkframe.specs.CheckWord.{IsCheckWord};
 
 use arrayvec::ArrayVec;
 use dnp_linkframe::{Frame, check_word, read_frame, write_frame};
 
 /// The check word of the octets.
 #[unsafe(no_mangle)]
-pub extern "C" fn dnp_bench_check_word(octets: &[u8]) -> u16 {
+pub extern "C" fn dnp_bench_check_word(octets: &[u8]) -> u16
+    ensures { IsCheckWord octets.now result }
+{
     check_word(octets)
 }
 

@@ -1,4 +1,4 @@
-//! The check word bit by bit, as the division is done on paper: what the tests hold the table against.
+//! The check word bit by bit, as one divides by hand: what the tests hold the table against.
 
 ghost use Rattle.std.specs.Prelude.{ℕ, List, [], ◌∷◌};
 ghost use Rattle.dnp_linkframe.specs.CheckWord.{IsCheckWord, Continues, Leaves, remainder};

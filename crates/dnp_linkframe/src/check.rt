@@ -26,6 +26,7 @@ pub fn check_word(octets: &[u8]) -> u16
 
 // Divides on by eight octets at once: the word is added to the first two of them, and what each octet
 // leaves after those behind it stands in the table.
+#[inline]
 fn after_eight(word: u16, octets: &[u8; 8]) -> u16
     ensures { Continues octets.now word result }
 {
@@ -44,6 +45,7 @@ fn after_eight(word: u16, octets: &[u8; 8]) -> u16
 
 // Divides on by one octet: what the octet and the lower half of the word leave stands in the table,
 // and the upper half moves down.
+#[inline]
 fn after_octet(word: u16, octet: u8) -> u16
     ensures { Continues (octet ∷ []) word result }
 {
@@ -51,6 +53,7 @@ fn after_octet(word: u16, octet: u8) -> u16
 }
 
 // What is left of an octet after its eight bits and those of `behind` octets of zeros.
+#[inline]
 fn left_of(octet: u8, behind: usize) -> u16
     requires { behind < 8 }
     ensures { Leaves (times_x (8 * (behind + 1)) (remainder octet)) (remainder result) }

@@ -7,6 +7,18 @@ pub const MAX_USER: usize = 250;
 /// The most octets of a link frame.
 pub const MAX_FRAME: usize = 292;
 
+/// The octets of the header with its check word.
+pub(crate) const CHECKED_HEADER: usize = 10;
+
+/// User data go in blocks of so many octets, the last one of what is left.
+pub(crate) const BLOCK: usize = 16;
+
+/// The octets of a whole block with its check word.
+pub(crate) const CHECKED_BLOCK: usize = 18;
+
+/// What LENGTH counts beside the user data: CONTROL and both addresses.
+pub(crate) const LENGTH_OF_NONE: u8 = 5;
+
 /// A link frame (IEEE Std 1815-2012, data link layer), without its start, its LENGTH and its check
 /// words, which follow from the rest.
 #[derive(Debug, PartialEq, Eq, Drop)]

@@ -4,10 +4,13 @@ ghost use Rattle.dnp_linkframe.specs.declared.frame.Frame.{Frame as FrameValue};
 ghost use Rattle.dnp_linkframe.specs.declared.frame.FrameFault.{FrameFault as FaultValue};
 
 use crate::check::check_word;
-use crate::frame::{Frame, FrameFault, MAX_USER};
+use crate::frame::{
+    BLOCK, CHECKED_BLOCK, CHECKED_HEADER, Frame, FrameFault, LENGTH_OF_NONE, MAX_USER,
+};
 use arrayvec::ArrayVec;
 
 /// Whether the last two octets are the check word of those before.
+#[inline]
 fn is_checked(octets: &[u8]) -> bool
     ensures { IsTrue result ↔ IsChecked octets.now }
 {
@@ -19,6 +22,7 @@ fn is_checked(octets: &[u8]) -> bool
 
 /// The user data of the blocks, each with its check word behind it, that take `size` octets without
 /// them; or the number of the first block whose check word is wrong.
+#[inline]
 fn read_blocks(octets: &[u8], size: usize) -> Result<ArrayVec<u8, MAX_USER>, usize>
     requires fits { size ≤ 250 }
     requires sized { length octets.now ≡ size + 2 * block_count size }
@@ -26,7 +30,7 @@ fn read_blocks(octets: &[u8], size: usize) -> Result<ArrayVec<u8, MAX_USER>, usi
     ensures fault { IfErr result (IsFirstUnchecked octets.now) }
 {
     let mut user = ArrayVec::new();
-    for (number, block) in octets.chunks(18).enumerate() {
+    for (number, block) in octets.chunks(CHECKED_BLOCK).enumerate() {
         if !is_checked(block) {
             return Err(number);
         }
@@ -37,27 +41,28 @@ fn read_blocks(octets: &[u8], size: usize) -> Result<ArrayVec<u8, MAX_USER>, usi
 }
 
 /// The frame that the unit spells, or the first fault of the order.
+#[inline]
 fn read(unit: &[u8]) -> Result<Frame, FrameFault>
     ensures found { IfOk result (Spells unit.now) }
     ensures fault { IfErr result (IsFirstFault unit.now) }
 {
-    if unit.len() < 10 {
+    if unit.len() < CHECKED_HEADER {
         return Err(FrameFault::Short);
     }
     if unit[0] != 0x05 || unit[1] != 0x64 {
         return Err(FrameFault::Start);
     }
-    if !is_checked(&unit[..10]) {
+    if !is_checked(&unit[..CHECKED_HEADER]) {
         return Err(FrameFault::HeaderCheck);
     }
-    if unit[2] < 5 {
+    if unit[2] < LENGTH_OF_NONE {
         return Err(FrameFault::Length);
     }
-    let size = usize::from(unit[2] - 5);
-    if unit.len() != 10 + size + 2 * size.div_ceil(16) {
+    let size = usize::from(unit[2] - LENGTH_OF_NONE);
+    if unit.len() != CHECKED_HEADER + size + 2 * size.div_ceil(BLOCK) {
         return Err(FrameFault::Size);
     }
-    match read_blocks(&unit[10..], size) {
+    match read_blocks(&unit[CHECKED_HEADER..], size) {
         Ok(user) => Ok(Frame {
             control: unit[3],
             dest: u16::from_le_bytes([unit[4], unit[5]]),

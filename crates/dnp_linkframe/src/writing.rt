@@ -3,11 +3,12 @@ ghost use Rattle.std.specs.Int.{w16, to_le_bytes};
 ghost use Rattle.dnp_linkframe.specs.Frames.{Spells, HasCheck, IsFrame, header};
 
 use crate::check::check_word;
-use crate::frame::{Frame, MAX_FRAME};
+use crate::frame::{BLOCK, Frame, LENGTH_OF_NONE, MAX_FRAME};
 use arrayvec::ArrayVec;
 use byteorder::{ByteOrder, LittleEndian};
 
 /// The number as two octets, low octet first.
+#[inline]
 fn low_first(number: u16) -> [u8; 2]
     ensures octets { result ≡ to_le_bytes w16 number }
     ensures fits { number < 2 ^ 16 }
@@ -18,11 +19,12 @@ fn low_first(number: u16) -> [u8; 2]
 }
 
 /// The frame's first 8 octets.
+#[inline]
 fn header_of(frame: &Frame) -> [u8; 8]
     ensures octets { result ≡ header frame.now }
     ensures fits { IsFrame frame.now }
 {
-    let length = 5 + frame.user.len() as u8;
+    let length = LENGTH_OF_NONE + frame.user.len() as u8;
     let [dest_low, dest_high] = low_first(frame.dest);
     let [source_low, source_high] = low_first(frame.source);
     [
@@ -38,6 +40,7 @@ fn header_of(frame: &Frame) -> [u8; 8]
 }
 
 /// Appends the part and its check word, low octet first.
+#[inline]
 fn push_checked(unit: &mut ArrayVec<u8, MAX_FRAME>, part: &[u8])
     requires { length unit.old.items + length part.now + 2 ≤ 292 }
     ensures { (octets : List ℕ) × HasCheck part.now octets × (unit.new.items ≡ unit.old.items ++ octets) }
@@ -54,7 +57,7 @@ pub fn write_frame(frame: &Frame) -> ArrayVec<u8, MAX_FRAME>
 {
     let mut unit = ArrayVec::new();
     push_checked(&mut unit, &header_of(frame));
-    for block in frame.user.chunks(16) {
+    for block in frame.user.chunks(BLOCK) {
         push_checked(&mut unit, block);
     }
     unit
