@@ -1,0 +1,315 @@
+-- A new way flows, and each event keeps it so.
+use Rattle.std.proofs.Common.{◌≡◌, ℕ, ◌+◌, ◌<◌, ◌≤◌, Bool, true, false, inl, inr, List, [], ◌∷◌, ◌++◌, length, refl, sym, ap, ◌∙◌, subst, arith, append_assoc}
+use Rattle.std.specs.Prelude.{nat_le, slice_get, if◌then◌else◌}
+use Rattle.std.proofs.lemmas.Bool.{cases_lt, both_ways, cond-true, cond-false, le-leb, lt-leb}
+use Rattle.std.proofs.lemmas.List.{append-nil}
+use Rattle.dnp_transport.specs.Assembly.{Assembly}
+use Rattle.dnp_transport.specs.Cuts.{cut_count}
+use Rattle.dnp_transport.specs.Series.{IsOpen}
+use Rattle.dnp_transport.proofs.Exits.{idle_stands, nothing_pushed}
+use Rattle.dnp_line.specs.Lines.{LineState, line_of, quiet_line, delivered_on, repeated_on, lost_on, Nothing, Loss}
+use Rattle.dnp_line.specs.Ports.{PortState, moved_on, reset_of}
+use Rattle.dnp_line.specs.Ways.{Way, new_way, WayEvent, Send, Deliver, Repeat, Lose, Damage, Clear, SenderReset, WayBack, opened_on, all_sent_on, Sends, SendsUnlessMute, HearsIfAny, IsDamaged, Happens, Runs}
+use Rattle.dnp_line.specs.Flows.{AreFacing, segment_total, AreLast, IsRecent, Flows, MayGive, RestMoves}
+use Rattle.dnp_line.specs.Flows.{Nothing as NothingGiven}
+use Rattle.dnp_line.proofs.Coming.{ComesTo-behind, ComesTo-clear}
+use Rattle.dnp_line.proofs.Splits.{total-append, recent_more}
+use Rattle.dnp_line.proofs.OnLine.{last_from, last_more, fresh_last, all_sent, all_dropped}
+use Rattle.dnp_line.proofs.Hearing.{OneFrame, HasHeard, has_heard}
+
+nothing_open : (s : List (List ℕ)) → IsOpen [] s → ⊥
+nothing_open s o = nothing_pushed.no_series s o
+
+-- a link that is opened anew
+pub opened_flows : (w : Way) → AreFacing w.sender w.receiver → Flows (opened_on w) []
+opened_flows w facing =
+    record {
+      facing = record { to_receiver = facing.to_receiver; from_sender = facing.from_sender; one_master = facing.one_master };
+      numbered = λ _. refl;
+      past = [];
+      split = refl;
+      came = (0, refl);
+      gone = 0;
+      reached = omega arith;
+      on_line = λ _. refl;
+      broken = λ _. refl;
+      pushed = [];
+      stands = idle_stands [] nothing_pushed;
+      half_built = λ few s o. absurd (nothing_open s o);
+    }
+
+-- a new way
+pub new_flows : (own peer : ℕ) (m : Bool) → Flows (new_way own peer m) []
+new_flows own peer m =
+    opened_flows (new_way own peer m) record { to_receiver = refl; from_sender = refl; one_master = refl }
+
+-- a send, which leaves the line so
+send_flows : (w : Way) (rest : List (List ℕ)) (f : List ℕ) (line : LineState) → w.mute ≡ false → (fl : Flows w rest) → line.lost ≡ w.line.lost → (line.lost < 32 → AreLast (moved_on (cut_count (length f)) w.sender) (w.sent ++ f ∷ []) fl.gone line.units) → (32 ≤ line.lost → line.units ≡ []) → Flows (record w { line = line; sender = moved_on (cut_count (length f)) w.sender; sent = w.sent ++ f ∷ [] }) (rest ++ f ∷ [])
+send_flows w rest f line audible fl lost_is on_line broken =
+    record {
+      facing = record { to_receiver = fl.facing.to_receiver; from_sender = fl.facing.from_sender; one_master = fl.facing.one_master };
+      numbered = λ _. omega (arith, fl.numbered audible, total-append w.sent (f ∷ []));
+      past = fl.past;
+      split = ap (λ (l : List (List ℕ)). l ++ f ∷ []) fl.split ∙ append_assoc fl.past rest (f ∷ []);
+      came = ComesTo-behind w.given w.sent rest (f ∷ []) fl.came;
+      gone = fl.gone;
+      reached = fl.reached;
+      on_line = on_line;
+      broken = broken;
+      pushed = fl.pushed;
+      stands = fl.stands;
+      half_built = λ few s o.
+          let few' : w.line.lost < 32 = omega (arith, few, lost_is) in
+          recent_more w.sent (f ∷ []) fl.gone line.lost s
+          (subst (λ (n : ℕ). IsRecent w.sent fl.gone n s) (sym lost_is) (fl.half_built few' s o));
+    }
+
+sends_flow : (w w' : Way) (rest : List (List ℕ)) (f : List ℕ) → w.mute ≡ false → Flows w rest → Sends f w w' → Flows w' (rest ++ f ∷ [])
+sends_flow w w' rest f audible fl s =
+    let moved : PortState = moved_on (cut_count (length f)) w.sender in
+    let after : LineState → Way = λ line. record w { line = line; sender = moved; sent = w.sent ++ f ∷ [] } in
+    let flows : Flows (after (all_sent_on s.units w.line)) (rest ++ f ∷ []) =
+    elim (cases_lt w.line.lost 32) [
+      | inl few ↦
+          let line_is : all_sent_on s.units w.line ≡ line_of (w.line.units ++ s.units) w.line.lost =
+          all_sent s.units w.line.units w.line.lost few in
+          let last : AreLast w.sender (w.sent ++ f ∷ []) fl.gone (w.line.units ++ s.units) =
+          last_more w.sender w.sent f fl.gone w.line.units s.units (fl.on_line few)
+          (fresh_last w.sender w.sent f w.sender.number s.units (fl.numbered audible) s.spelled) in
+          subst (λ (l : LineState). Flows (after l) (rest ++ f ∷ [])) (sym line_is)
+          (send_flows w rest f (line_of (w.line.units ++ s.units) w.line.lost) audible fl refl
+          (λ _. last_from w.sender moved (λ x. refl) (w.sent ++ f ∷ []) fl.gone (w.line.units ++ s.units) last)
+          (λ many. absurd (omega (arith, few, many))))
+      | inr many ↦
+          let line_is : all_sent_on s.units w.line ≡ w.line = all_dropped s.units w.line.units w.line.lost many in
+          subst (λ (l : LineState). Flows (after l) (rest ++ f ∷ [])) (sym line_is)
+          (send_flows w rest f w.line audible fl refl (λ few. absurd (omega (arith, few, many))) fl.broken)
+    ] in
+    subst (λ (v : Way). Flows v (rest ++ f ∷ [])) (sym s.after) flows
+
+-- the way flows still, with what may still come
+pub record Goes (event : WayEvent) (old new : Way) (rest : List (List ℕ)) : Type 0 where
+  pub left : List (List ℕ)
+  pub moves : RestMoves old event new rest left
+  pub flows : Flows new left
+
+send_goes : (w w' : Way) (rest : List (List ℕ)) (f : List ℕ) (mute : Bool) → w.mute ≡ mute → Flows w rest → SendsUnlessMute mute f w w' → Goes (Send f) w w' rest
+send_goes w w' rest f true e fl h =
+    record { left = rest; moves = sym (cond-true w.mute rest (rest ++ f ∷ []) e); flows = subst (λ (v : Way). Flows v rest) (sym h) fl }
+send_goes w w' rest f false e fl h =
+    record { left = rest ++ f ∷ []; moves = sym (cond-false w.mute rest (rest ++ f ∷ []) e); flows = sends_flow w w' rest f e fl h }
+
+-- a loss
+lost_flows : (w : Way) (rest units : List (List ℕ)) (lost : ℕ) → Flows (record w { line = line_of units lost }) rest → Flows (record w { line = lost_on (line_of units lost) }) rest
+lost_flows w rest [] lost fl = fl
+lost_flows w rest (u ∷ units) lost fl =
+    let left : List (List ℕ) = if nat_le 32 (lost + 1) then [] else units in
+    record {
+      facing = fl.facing;
+      numbered = fl.numbered;
+      past = fl.past;
+      split = fl.split;
+      came = fl.came;
+      gone = fl.gone + 1;
+      reached = omega (arith, fl.reached);
+      on_line = λ few.
+          subst (λ (l : List (List ℕ)). AreLast w.sender w.sent (fl.gone + 1) l)
+          (sym (cond-false (nat_le 32 (lost + 1)) [] units (lt-leb 32 (lost + 1) few)))
+          ((fl.on_line (omega (arith, few))).3);
+      broken = λ many. cond-true (nat_le 32 (lost + 1)) [] units (le-leb 32 (lost + 1) many);
+      pushed = fl.pushed;
+      stands = fl.stands;
+      half_built = λ few s o.
+          let r : IsRecent w.sent fl.gone lost s = fl.half_built (omega (arith, few)) s o in
+          record { place = r.place; is_begun = r.is_begun; low = omega (arith, r.low); high = omega (arith, r.high) };
+    }
+
+damaged_flows : (w w' : Way) (rest : List (List ℕ)) (octets : List ℕ) → Flows w rest → IsDamaged octets w w' → Flows w' rest
+damaged_flows w w' rest octets fl d =
+    let flows : Flows (record w { line = d.line }) rest =
+    elim d.damages [
+      | Nothing reads e ↦ subst (λ (l : LineState). Flows (record w { line = l }) rest) (sym e) fl
+      | Loss no_frame e ↦
+          subst (λ (l : LineState). Flows (record w { line = l }) rest) (sym e)
+          (lost_flows w rest w.line.units w.line.lost fl)
+    ] in
+    subst (λ (v : Way). Flows v rest) (sym d.after) flows
+
+-- a unit that comes, by a delivery
+pub record Brought (w : Way) (line : LineState) (rest : List (List ℕ)) (receiver : PortState) (given : List (List ℕ)) : Type 0 where
+  pub left : List (List ℕ)
+  pub gives : MayGive rest w.given left given
+  pub flows : Flows (record w { line = line; receiver = receiver; given = given }) left
+
+brought_nothing : (w : Way) (rest : List (List ℕ)) (receiver : PortState) (given : List (List ℕ)) → Flows w rest → receiver ≡ w.receiver → given ≡ w.given → Brought w w.line rest receiver given
+brought_nothing w rest receiver given fl r g =
+    record {
+      left = rest;
+      gives = NothingGiven refl g;
+      flows =
+          subst (λ (p : PortState). Flows (record w { receiver = p; given = given }) rest) (sym r)
+          (subst (λ (l : List (List ℕ)). Flows (record w { given = l }) rest) (sym g) fl);
+    }
+
+delivered : OneFrame → (w : Way) (rest units : List (List ℕ)) (lost : ℕ) (receiver : PortState) (given : List (List ℕ)) → Flows (record w { line = line_of units lost }) rest → HearsIfAny (slice_get units 0) w.receiver receiver w.given given → Brought (record w { line = line_of units lost }) (delivered_on (line_of units lost)) rest receiver given
+delivered one w rest [] lost receiver given fl h =
+    brought_nothing (record w { line = line_of [] lost }) rest receiver given fl h.0 h.1
+delivered one w rest (u ∷ units) lost receiver given fl h =
+    let v : Way = record w { line = line_of (u ∷ units) lost } in
+    let few : lost < 32 =
+    elim (cases_lt lost 32) [ inl few ↦ few | inr many ↦ let none : u ∷ units ≡ [] = fl.broken many in absurd (cc) ] in
+    let on = fl.on_line few in
+    let heard : HasHeard v rest fl.gone receiver given = has_heard one v rest fl u on.0 receiver given few on.1 on.2 h in
+    record {
+      left = heard.left;
+      gives = heard.gives;
+      flows =
+          record {
+            facing = heard.facing;
+            numbered = fl.numbered;
+            past = heard.past;
+            split = heard.split;
+            came = heard.came;
+            gone = fl.gone + 1;
+            reached = omega (arith, heard.reached);
+            on_line = λ _. on.3;
+            broken = λ many. absurd (omega (arith, many));
+            pushed = heard.pushed;
+            stands = heard.stands;
+            half_built = λ _ s o.
+                record { place = fl.gone; is_begun = heard.newest s o; low = omega arith; high = omega arith };
+          };
+    }
+
+-- a unit that comes, by a repeat
+repeated : OneFrame → (w : Way) (rest units : List (List ℕ)) (lost : ℕ) (receiver : PortState) (given : List (List ℕ)) → Flows (record w { line = line_of units lost }) rest → HearsIfAny (slice_get units 0) w.receiver receiver w.given given → Brought (record w { line = line_of units lost }) (repeated_on (line_of units lost)) rest receiver given
+repeated one w rest [] lost receiver given fl h =
+    brought_nothing (record w { line = line_of [] lost }) rest receiver given fl h.0 h.1
+repeated one w rest (u ∷ units) lost receiver given fl h =
+    let v : Way = record w { line = line_of (u ∷ units) lost } in
+    let few : lost < 32 =
+    elim (cases_lt lost 32) [ inl few ↦ few | inr many ↦ let none : u ∷ units ≡ [] = fl.broken many in absurd (cc) ] in
+    let on = fl.on_line few in
+    let heard : HasHeard v rest fl.gone receiver given = has_heard one v rest fl u on.0 receiver given few on.1 on.2 h in
+    record {
+      left = heard.left;
+      gives = heard.gives;
+      flows =
+          record {
+            facing = heard.facing;
+            numbered = fl.numbered;
+            past = heard.past;
+            split = heard.split;
+            came = heard.came;
+            gone = fl.gone;
+            reached = heard.reached;
+            on_line = λ _. on;
+            broken = λ many. absurd (omega (arith, many));
+            pushed = heard.pushed;
+            stands = heard.stands;
+            half_built = λ _ s o.
+                record { place = fl.gone; is_begun = heard.newest s o; low = omega arith; high = omega arith };
+          };
+    }
+
+-- a clearing
+cleared_flows : (w : Way) (rest : List (List ℕ)) → Flows w rest → Flows (record w { line = quiet_line; receiver = reset_of w.receiver }) []
+cleared_flows w rest fl =
+    record {
+      facing = record { to_receiver = fl.facing.to_receiver; from_sender = fl.facing.from_sender; one_master = fl.facing.one_master };
+      numbered = fl.numbered;
+      past = w.sent;
+      split = sym (append-nil w.sent);
+      came = ComesTo-clear w.given w.sent rest fl.came;
+      gone = segment_total w.sent;
+      reached = omega arith;
+      on_line = λ _. refl;
+      broken = λ _. refl;
+      pushed = [];
+      stands = idle_stands [] nothing_pushed;
+      half_built = λ few s o. absurd (nothing_open s o);
+    }
+
+-- a reset of the sender's port
+reset_flows : (w : Way) (rest : List (List ℕ)) → Flows w rest → Flows (record w { sender = reset_of w.sender; mute = true }) rest
+reset_flows w rest fl =
+    record {
+      facing = record { to_receiver = fl.facing.to_receiver; from_sender = fl.facing.from_sender; one_master = fl.facing.one_master };
+      numbered = λ audible. absurd (both_ways true audible refl);
+      past = fl.past;
+      split = fl.split;
+      came = fl.came;
+      gone = fl.gone;
+      reached = fl.reached;
+      on_line = λ few. last_from w.sender (reset_of w.sender) (λ x. refl) w.sent fl.gone w.line.units (fl.on_line few);
+      broken = fl.broken;
+      pushed = fl.pushed;
+      stands = fl.stands;
+      half_built = fl.half_built;
+    }
+
+-- what happens on the way back
+back_flows : (w : Way) (rest : List (List ℕ)) (a : Assembly) (n : ℕ) → Flows w rest → Flows (record w { sender = record w.sender { assembly = a }; receiver = record w.receiver { number = n } }) rest
+back_flows w rest a n fl =
+    record {
+      facing = record { to_receiver = fl.facing.to_receiver; from_sender = fl.facing.from_sender; one_master = fl.facing.one_master };
+      numbered = fl.numbered;
+      past = fl.past;
+      split = fl.split;
+      came = fl.came;
+      gone = fl.gone;
+      reached = fl.reached;
+      on_line = λ few.
+          last_from w.sender (record w.sender { assembly = a }) (λ x. refl) w.sent fl.gone w.line.units (fl.on_line few);
+      broken = fl.broken;
+      pushed = fl.pushed;
+      stands = fl.stands;
+      half_built = fl.half_built;
+    }
+
+-- each event
+pub goes : OneFrame → (w w' : Way) (event : WayEvent) (rest : List (List ℕ)) → Flows w rest → Happens w event w' → Goes event w w' rest
+goes one w w' (Send f) rest fl h = send_goes w w' rest f w.mute refl fl h
+goes one w w' Deliver rest fl h =
+    let b : Brought w (delivered_on w.line) rest h.receiver h.given =
+    delivered one w rest w.line.units w.line.lost h.receiver h.given fl h.heard in
+    record {
+      left = b.left;
+      moves = subst (λ (v : Way). MayGive rest w.given b.left v.given) (sym h.after) b.gives;
+      flows = subst (λ (v : Way). Flows v b.left) (sym h.after) b.flows;
+    }
+goes one w w' Repeat rest fl h =
+    let b : Brought w (repeated_on w.line) rest h.receiver h.given =
+    repeated one w rest w.line.units w.line.lost h.receiver h.given fl h.heard in
+    record {
+      left = b.left;
+      moves = subst (λ (v : Way). MayGive rest w.given b.left v.given) (sym h.after) b.gives;
+      flows = subst (λ (v : Way). Flows v b.left) (sym h.after) b.flows;
+    }
+goes one w w' Lose rest fl h =
+    record {
+      left = rest;
+      moves = refl;
+      flows = subst (λ (v : Way). Flows v rest) (sym h) (lost_flows w rest w.line.units w.line.lost fl);
+    }
+goes one w w' (Damage octets) rest fl h =
+    record { left = rest; moves = refl; flows = damaged_flows w w' rest octets fl h }
+goes one w w' Clear rest fl h =
+    record { left = []; moves = refl; flows = subst (λ (v : Way). Flows v []) (sym h) (cleared_flows w rest fl) }
+goes one w w' SenderReset rest fl h =
+    record { left = rest; moves = refl; flows = subst (λ (v : Way). Flows v rest) (sym h) (reset_flows w rest fl) }
+goes one w w' WayBack rest fl h =
+    record {
+      left = rest;
+      moves = refl;
+      flows =
+          subst (λ (v : Way). Flows v rest) (sym h)
+          (back_flows w rest w'.sender.assembly w'.receiver.number fl);
+    }
+
+-- many events
+pub keeps_flowing : OneFrame → (w w' : Way) (events : List WayEvent) (rest : List (List ℕ)) → Flows w rest → Runs w events w' → (left : List (List ℕ)) × Flows w' left
+keeps_flowing one w w' [] rest fl h = (rest, subst (λ (v : Way). Flows v rest) (sym h) fl)
+keeps_flowing one w w' (event ∷ events) rest fl h =
+    let g : Goes event w h.0 rest = goes one w h.0 event rest fl h.1 in
+    keeps_flowing one h.0 w' events g.left g.flows h.2

@@ -1,0 +1,9 @@
+pub mod Coming
+pub mod Headers
+pub mod Splits
+pub mod Pushes
+pub mod Arrivals
+pub mod OnLine
+pub mod Hearing
+pub mod Flowing
+pub mod Sending

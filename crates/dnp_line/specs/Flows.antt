@@ -1,0 +1,95 @@
+-- What holds of a way at every moment, and what each event does to the fragments that may still come.
+use Rattle.std.specs.Prelude.{◌≡◌, ℕ, zero, suc, ◌+◌, ◌%◌, ◌<◌, ◌≤◌, false, not, if◌then◌else◌, List, [], ◌∷◌, ◌++◌, length, drop, slice_get, Some}
+use Rattle.dnp_linkframe.specs.Frames.{Spells}
+use Rattle.dnp_transport.specs.Assembly.{Stands}
+use Rattle.dnp_transport.specs.Cuts.{cut_count, cut}
+use Rattle.dnp_transport.specs.Series.{IsOpen}
+use Rattle.dnp_line.specs.Comes.{ComesTo}
+use Rattle.dnp_line.specs.Lines.{broken_losses}
+use Rattle.dnp_line.specs.Ports.{PortState, data_frame}
+use Rattle.dnp_line.specs.Ways.{Way, WayEvent, Send, Deliver, Repeat, Clear}
+
+-- each port's station is the other's peer, and one of them is the master
+pub record AreFacing (sender receiver : PortState) : Type 0 where
+  pub to_receiver : sender.peer ≡ receiver.own
+  pub from_sender : sender.own ≡ receiver.peer
+  pub one_master : receiver.is_master ≡ not sender.is_master
+
+-- how many segments the fragments were cut into
+abbrev pub segment_total : List (List ℕ) → ℕ
+segment_total [] = 0
+segment_total (fragment ∷ others) = cut_count (length fragment) + segment_total others
+
+-- this is the segment at the place, counted from 0, of all those that the fragments were cut into
+pub record IsSegment (sent : List (List ℕ)) (place : ℕ) (segment : List ℕ) : Type 0 where
+  pub before : List (List ℕ)
+  pub fragment : List ℕ
+  pub after : List (List ℕ)
+  pub k : ℕ
+  pub split : sent ≡ before ++ fragment ∷ after
+  pub place_is : place ≡ segment_total before + k
+  pub within : k < cut_count (length fragment)
+  pub segment_is : segment ≡ cut fragment (segment_total before) k
+
+-- the units on the line are those of the last segments, from the place on
+abbrev pub AreLast : PortState → List (List ℕ) → ℕ → List (List ℕ) → Type 0
+AreLast port sent place [] = place ≡ segment_total sent
+AreLast port sent place (unit ∷ units) =
+    (segment : List ℕ) × IsSegment sent place segment × Spells unit (data_frame port segment)
+    × AreLast port sent (place + 1) units
+
+-- a fragment's segments up to k, newest first
+abbrev pub begun : List ℕ → ℕ → ℕ → List (List ℕ)
+begun fragment first zero = cut fragment first 0 ∷ []
+begun fragment first (suc k) = cut fragment first (suc k) ∷ begun fragment first k
+
+-- the series is of the first segments of a fragment, its newest at the place, and waits for more
+pub record IsBegun (sent : List (List ℕ)) (place : ℕ) (series : List (List ℕ)) : Type 0 where
+  pub before : List (List ℕ)
+  pub fragment : List ℕ
+  pub after : List (List ℕ)
+  pub k : ℕ
+  pub split : sent ≡ before ++ fragment ∷ after
+  pub place_is : place ≡ segment_total before + k
+  pub waits : k + 1 < cut_count (length fragment)
+  pub series_is : series ≡ begun fragment (segment_total before) k
+
+-- the same, and no more segments than those that were lost since can have gone by after its newest
+pub record IsRecent (sent : List (List ℕ)) (gone lost : ℕ) (series : List (List ℕ)) : Type 0 where
+  pub place : ℕ
+  pub is_begun : IsBegun sent place series
+  pub low : place ≤ gone
+  pub high : gone ≤ place + 1 + lost
+
+-- what holds of a way: what the receiver's port gave came of what was handed to the sender's port, and `rest` may
+-- still come. So many segments are gone from the line; those that are left are on it, unless it is broken, and belong
+-- to the fragments of `rest`. What the receiver's port took, newest first, leaves at most the beginning of one fragment.
+pub record Flows (w : Way) (rest : List (List ℕ)) : Type 0 where
+  pub facing : AreFacing w.sender w.receiver
+  pub numbered : w.mute ≡ false → w.sender.number ≡ segment_total w.sent % 64
+  pub past : List (List ℕ)
+  pub split : w.sent ≡ past ++ rest
+  pub came : ComesTo w.given w.sent rest
+  pub gone : ℕ
+  pub reached : segment_total past ≤ gone
+  pub on_line : w.line.lost < broken_losses → AreLast w.sender w.sent gone w.line.units
+  pub broken : broken_losses ≤ w.line.lost → w.line.units ≡ []
+  pub pushed : List (List ℕ)
+  pub stands : Stands pushed w.receiver.assembly
+  pub half_built : w.line.lost < broken_losses → (series : List (List ℕ)) → IsOpen pushed series →
+      IsRecent w.sent gone w.line.lost series
+
+-- what a unit that comes does: nothing is given, or one of the fragments that may still come, and then those before it
+-- come no more
+pub data MayGive (rest given rest' given' : List (List ℕ)) : Type 0 where
+  Nothing : rest' ≡ rest → given' ≡ given → MayGive rest given rest' given'
+  One : (n : ℕ) → (fragment : List ℕ) → slice_get rest n ≡ Some fragment → rest' ≡ drop n rest →
+      given' ≡ given ++ fragment ∷ [] → MayGive rest given rest' given'
+
+-- what an event does to the fragments that may still come
+abbrev pub RestMoves : Way → WayEvent → Way → List (List ℕ) → List (List ℕ) → Type 0
+RestMoves old (Send fragment) new rest rest' = rest' ≡ (if old.mute then rest else rest ++ fragment ∷ [])
+RestMoves old Deliver new rest rest' = MayGive rest old.given rest' new.given
+RestMoves old Repeat new rest rest' = MayGive rest old.given rest' new.given
+RestMoves old Clear new rest rest' = rest' ≡ []
+RestMoves old event new rest rest' = rest' ≡ rest

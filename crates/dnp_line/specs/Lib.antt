@@ -1,0 +1,6 @@
+pub mod Lines
+pub mod Holding
+pub mod Ports
+pub mod Comes
+pub mod Ways
+pub mod Flows

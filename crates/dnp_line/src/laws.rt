@@ -1,0 +1,102 @@
+//! What is true of every way of a link, and of every list that came of another: each function is a law about the words
+//! of its clauses, and its body changes nothing when it runs.
+
+ghost use Rattle.std.specs.Prelude.{◌≡◌, ℕ, ◌↔◌, Bool, IsTrue, List, [], ◌∷◌, ◌++◌, drop, slice_get, All, Contains};
+ghost use Rattle.dnp_line.specs.Comes.{Comes, ComesTo, comes};
+ghost use Rattle.dnp_line.specs.Flows.{AreFacing, Flows, RestMoves};
+ghost use Rattle.dnp_line.specs.Ways.{Way, new_way, opened_on, WayEvent, Happens, Runs};
+
+use dnp_linkframe::laws::a_unit_spells_one_frame;
+
+/// The law of a line between two ports: the fragments that the receiver's port gave came of those that were handed to
+/// the sender's port, after every run of sends, deliveries, repeats, losses, damage and clearings since the link was
+/// opened.
+///
+/// What carries it, `Flows`, holds of a new way and is kept by each event, with what may still come; so the law goes on
+/// from any moment, also where the events of several ways are mixed.
+pub fn line_law()
+    ensures opened { (own peer : ℕ) (from_master : Bool) → Flows (new_way own peer from_master) [] }
+    ensures reopened { (old : Way) → AreFacing old.sender old.receiver → Flows (opened_on old) [] }
+    ensures kept { (old new : Way) (event : WayEvent) (rest : List (List ℕ)) → Flows old rest → Happens old event new →
+        (left : List (List ℕ)) × RestMoves old event new rest left × Flows new left }
+    ensures came { (way : Way) (rest : List (List ℕ)) → Flows way rest → ComesTo way.given way.sent rest }
+    ensures runs { (own peer : ℕ) (from_master : Bool) (events : List WayEvent) (way : Way) →
+        Runs (new_way own peer from_master) events way → Comes way.given way.sent }
+    ensures goes_on { (old new : Way) (events : List WayEvent) (rest : List (List ℕ)) → Flows old rest → Runs old events new →
+        (left : List (List ℕ)) × Flows new left }
+{
+    a_unit_spells_one_frame();
+}
+
+/// Each list came of itself.
+pub fn comes_of_itself<T>()
+    ensures { (sent : List T) → Comes sent sent }
+{}
+
+/// What came of a list that came of a third one came of the third one: two lines in a row are a line.
+pub fn comes_on<T>()
+    ensures { (came sent first : List T) → Comes came sent → Comes sent first → Comes came first }
+{}
+
+/// Nothing comes of any list, and of nothing comes nothing.
+pub fn nothing_comes<T>()
+    ensures of_any { (sent : List T) → Comes [] sent }
+    ensures of_nothing { (came : List T) → Comes came [] → came ≡ [] }
+{}
+
+/// What came of a list came still when the list has more members, behind or in front.
+pub fn comes_of_more<T>()
+    ensures behind { (came sent more : List T) → Comes came sent → Comes came (sent ++ more) }
+    ensures in_front { (came before sent : List T) → Comes came sent → Comes came (before ++ sent) }
+{}
+
+/// Each member that came was sent.
+pub fn members_were_sent<T>()
+    ensures { (came sent : List T) → Comes came sent → All (Contains sent) came }
+{}
+
+/// The relation is the one that the test finds by going along both lists, for every test of equal
+/// members.
+pub fn comes_as_tested<T>()
+    ensures { (equal : T → T → Bool) → ((x y : T) → IsTrue (equal x y) ↔ (x ≡ y)) →
+        (came sent : List T) → Comes came sent ↔ IsTrue (comes equal came sent) }
+{}
+
+/// What came of a list has a rest that may still come, and only such a list has.
+pub fn comes_to_a_rest<T>()
+    ensures { (came sent : List T) → Comes came sent ↔ ((rest : List T) × ComesTo came sent rest) }
+{}
+
+/// What may still come is an end of what was sent.
+pub fn rest_is_an_end<T>()
+    ensures { (came sent rest : List T) → ComesTo came sent rest → (n : ℕ) × (rest ≡ drop n sent) }
+{}
+
+/// As long as nothing came, all that was sent may come, or nothing, if all of it is gone.
+pub fn nothing_came<T>()
+    ensures all { (sent : List T) → ComesTo [] sent sent }
+    ensures gone { (sent : List T) → ComesTo [] sent [] }
+{}
+
+/// A member that is sent may come, behind what may come already.
+pub fn one_sent<T>()
+    ensures { (came sent rest : List T) (member : T) → ComesTo came sent rest →
+        ComesTo came (sent ++ member ∷ []) (rest ++ member ∷ []) }
+{}
+
+/// The first members of what may come may be lost.
+pub fn some_lost<T>()
+    ensures { (came sent rest : List T) (n : ℕ) → ComesTo came sent rest → ComesTo came sent (drop n rest) }
+{}
+
+/// All of what may come may be lost, as when a line is cleared.
+pub fn cleared<T>()
+    ensures { (came sent rest : List T) → ComesTo came sent rest → ComesTo came sent [] }
+{}
+
+/// A member of what may come may come next; those before it are lost, and it may come again, so that
+/// a delivery and a repeat are one law.
+pub fn one_came<T>()
+    ensures { (came sent rest : List T) (n : ℕ) (member : T) → ComesTo came sent rest →
+        slice_get rest n ≡ Some member → ComesTo (came ++ member ∷ []) sent (drop n rest) }
+{}
