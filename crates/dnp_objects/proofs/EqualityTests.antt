@@ -11,7 +11,7 @@ use Rattle.dnp_objects.specs.declared.row.Row.{Row}
 use Rattle.dnp_objects.specs.declared.command.Command.{Command}
 use Rattle.dnp_objects.specs.declared.command.Command.TheVariants.{Block, Set16, Set32}
 
-Decides-kind_eq : (a b : Kind) → Decides (kind_eq a b) (a ≡ b)
+pub Decides-kind_eq : (a b : Kind) → Decides (kind_eq a b) (a ≡ b)
 Decides-kind_eq Binary Binary = (λ _. refl, λ _. refl)
 Decides-kind_eq Counter Counter = (λ _. refl, λ _. refl)
 Decides-kind_eq Analog Analog = (λ _. refl, λ _. refl)

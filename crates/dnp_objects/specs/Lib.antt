@@ -1,3 +1,10 @@
+pub mod Commands
 pub mod Counts
 pub mod Equality
+pub mod Faults
+pub mod Lanes
+pub mod Objects
+pub mod Parts
+pub mod Rows
 pub mod Status
+pub mod Words

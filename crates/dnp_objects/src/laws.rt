@@ -1,9 +1,17 @@
 //! Laws of the words of `specs/`: each function does nothing, and its contract is a law.
-ghost use Rattle.std.specs.Prelude.{◌≡◌, ◌≤◌, ◌+◌, ◌↔◌, Bool, List, ◌∷◌, ◌++◌};
+ghost use Rattle.std.specs.Prelude.{◌≡◌, ◌≤◌, ◌<◌, ◌+◌, ◌^◌, ◌↔◌, ℕ, Bool, List, [], ◌∷◌, ◌++◌, IsSome, IfSome};
 ghost use Rattle.std.specs.Prelude.{nat_eq, map, filter, All, Contains};
 ghost use Rattle.std.specs.List.Sorted.{IsPermutation};
 ghost use Rattle.dnp_objects.specs.Counts.{count, IsCoveredBy, HasNoRepeat, IsEqualityTest};
 ghost use Rattle.dnp_objects.specs.Equality.{row_eq, command_eq, pair_eq};
+ghost use Rattle.dnp_objects.specs.Objects.{content_of, shape_read, shape_written, HasNoRow};
+ghost use Rattle.dnp_objects.specs.Rows.{Reads, Writes, carried};
+ghost use Rattle.dnp_objects.specs.Commands.{ReadsCommand, IsInRange, carrier, object_of, index_of, command_octets};
+ghost use Rattle.dnp_objects.specs.Lanes.{IsLane, lane_number};
+ghost use Rattle.dnp_objects.specs.declared.row.Row.{Row};
+ghost use Rattle.dnp_objects.specs.declared.command.Command.{Command};
+ghost use Rattle.dnp_objects.specs.declared.lane.Lane.{Lane};
+ghost use Rattle.dnp_objects.specs.declared.flags.TheConstants as flags;
 
 /// The tests of equality of numbers (as of a substation), rows, commands and pairs answer
 /// whether two values are the same.
@@ -61,4 +69,54 @@ pub fn parts_are_covered<T>()
 /// all its members stand.
 pub fn members_are_covered<T>()
     ensures { (xs ys : List T) → HasNoRepeat xs → All (Contains ys) xs → IsCoveredBy xs ys }
+{}
+
+/// The objects that carry rows: none of group 12, of a group from 40 on, and not 1.1, nor anything
+/// that the library lacks. What is read as a row is written as one too.
+pub fn rows_have_their_objects()
+    ensures no_rows { (group variation : ℕ) → HasNoRow group variation
+        → shape_written group variation ≡ None }
+    ensures unlisted { (group variation : ℕ) → content_of group variation ≡ None
+        → shape_written group variation ≡ None }
+    ensures written { (group variation : ℕ)
+        → IfSome (shape_read group variation) (λ shape. shape_written group variation ≡ Some shape) }
+{}
+
+/// A row that was written is read as the same row, without a time that the object lacks. What is
+/// written and never read is binary output status, 10.2, alone.
+pub fn a_written_row_is_read()
+    ensures read { (group variation : ℕ) (row : Row) (octets : List ℕ) → Writes group variation row octets
+        → IfSome (shape_read group variation)
+        (λ shape. Reads group variation row.index octets (carried shape row)) }
+    ensures written_only { (group variation : ℕ) → IsSome (shape_written group variation)
+        → shape_read group variation ≡ None → (group ≡ 10) × (variation ≡ 2) }
+{}
+
+/// Octets that are read as a row are those that the row is written as.
+pub fn a_read_row_is_written()
+    ensures { (group variation index : ℕ) (octets : List ℕ) (row : Row)
+        → Reads group variation index octets row → Writes group variation row octets }
+{}
+
+/// A command that was written is read as the same command with the same status, from the one object
+/// that carries it.
+pub fn a_written_command_is_read()
+    ensures read { (command : Command) (status : ℕ) → IsInRange command → status < 128
+        → ReadsCommand (object_of command).0 (object_of command).1 (index_of command)
+        (command_octets command status) (command, status) }
+    ensures one_object { (group variation : ℕ) (command : Command)
+        → content_of group variation ≡ Some (carrier command) → object_of command ≡ (group, variation) }
+{}
+
+/// The named flags are these bits of the octet.
+pub fn flags_have_their_bits()
+    ensures all { (flags.ONLINE ∷ flags.RESTART ∷ flags.COMM_LOST ∷ flags.REMOTE_FORCED ∷ flags.LOCAL_FORCED ∷ [])
+        ≡ map (λ bit. 2 ^ bit) (0 ∷ 1 ∷ 2 ∷ 3 ∷ 4 ∷ []) }
+    ensures binary { (flags.CHATTER_FILTER ∷ flags.STATE ∷ []) ≡ map (λ bit. 2 ^ bit) (5 ∷ 7 ∷ []) }
+    ensures analog { (flags.OVER_RANGE ∷ flags.REFERENCE_ERR ∷ []) ≡ map (λ bit. 2 ^ bit) (5 ∷ 6 ∷ []) }
+{}
+
+/// Two lanes of one number are of one class and one kind.
+pub fn a_number_is_of_one_lane()
+    ensures { (a b : Lane) → lane_number a ≡ lane_number b → IsLane a b.class b.kind }
 {}

@@ -1,12 +1,30 @@
 //! Objects of DNP3 (IEEE Std 1815-2012, object library): readings, commands and their status
-//! octets, and how often a thing stands in a list.
+//! octets, how they stand in octets, and how often a thing stands in a list.
 #![tactic(auto)]
 
 pub mod command;
+mod controls;
+mod fault;
+pub mod flags;
+mod lane;
 pub mod laws;
+mod reading;
 pub mod row;
 pub mod status;
+mod store;
+mod table;
+#[cfg(test)]
+mod tests;
+mod words;
+mod writing;
 
 pub use command::Command;
+pub use controls::{read_command, write_command};
+pub use fault::ObjectFault;
+pub use lane::{LANES, Lane, LaneRow};
+pub use reading::read_row;
 pub use row::{Kind, Row};
 pub use status::Status;
+pub use store::StoreFault;
+pub use table::object_size;
+pub use writing::write_row;

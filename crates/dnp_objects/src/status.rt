@@ -1,4 +1,4 @@
-ghost use Rattle.std.specs.Prelude.{◌≡◌, ◌<◌, ◌↔◌, ℕ, [], ◌∷◌, IsSome, IfSome};
+ghost use Rattle.std.specs.Prelude.{◌≡◌, ◌%◌, ◌<◌, ◌↔◌, ℕ, [], ◌∷◌, IsSome, IfSome};
 ghost use Rattle.dnp_objects.specs.Status as code_of;
 
 use std::marker::Model;
@@ -66,6 +66,13 @@ impl Status {
             Status::LOCAL,
             Status::TOO_MANY_OBJS,
         ]
+    }
+
+    /// The status in a status octet, whose bit 7 is not looked at.
+    pub(crate) fn of_octet(octet: u8) -> Status
+        ensures { result ≡ octet % 128 }
+    {
+        Status(octet % 128)
     }
 
     /// The status's number, 0 to 127: the octet on the wire with bit 7 clear.

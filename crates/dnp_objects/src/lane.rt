@@ -1,0 +1,73 @@
+ghost use Rattle.std.specs.Prelude.{◌≤◌};
+
+use crate::row::{Kind, Row};
+
+/// How many lanes there are.
+pub const LANES: usize = 9;
+
+/// One of the nine lanes of events: those of one class and one kind of point (IEEE Std 1815-2012,
+/// application layer: event classes).
+#[derive(Clone, Copy, Debug, PartialEq, Eq, PartialOrd, Ord, Hash)]
+pub struct Lane {
+    /// 1 to 3. Class 0 is that of the points themselves and has no events.
+    pub class: u8,
+    pub kind: Kind,
+    ghost at_least_1: { 1 ≤ class },
+    ghost at_most_3: { class ≤ 3 },
+}
+
+impl Lane {
+    ghost use Rattle.std.specs.Prelude.{◌≡◌, ◌≤◌, ◌<◌, ◌↔◌, IsSome, IfSome};
+    ghost use Rattle.dnp_objects.specs.Lanes.{lane_number, IsLane};
+
+    /// The lane of this class and kind, or `None` for a class that has no events.
+    pub fn new(class: u8, kind: Kind) -> Option<Lane>
+        ensures in_range { IsSome result ↔ ((1 ≤ class) × (class ≤ 3)) }
+        ensures lane { IfSome result (λ lane. IsLane lane class kind) }
+    {
+        if 1 <= class && class <= 3 {
+            Some(Lane { class, kind })
+        } else {
+            None
+        }
+    }
+
+    /// The lane's number, 0 to 8: by class, and within a class Binary, Counter, Analog.
+    pub fn number(self) -> usize
+        ensures value { result ≡ lane_number self }
+        ensures range { result < 9 }
+    {
+        let kind = match self.kind {
+            Kind::Binary => 0,
+            Kind::Counter => 1,
+            Kind::Analog => 2,
+        };
+        3 * usize::from(self.class - 1) + kind
+    }
+
+    /// The lane of this number, or `None` from 9 on.
+    pub fn numbered(number: usize) -> Option<Lane>
+        ensures in_range { IsSome result ↔ (number < 9) }
+        ensures value { IfSome result (λ lane. lane_number lane ≡ number) }
+    {
+        let class = match number / 3 {
+            0 => 1,
+            1 => 2,
+            2 => 3,
+            _ => return None,
+        };
+        let kind = match number % 3 {
+            0 => Kind::Binary,
+            1 => Kind::Counter,
+            _ => Kind::Analog,
+        };
+        Lane::new(class, kind)
+    }
+}
+
+/// A row and the lane that it goes to.
+#[derive(Clone, Copy, Debug, PartialEq, Eq, Hash)]
+pub struct LaneRow {
+    pub lane: Lane,
+    pub row: Row,
+}

@@ -1,0 +1,106 @@
+ghost use Rattle.std.specs.Prelude.{◌≡◌, ◌≤◌, IfOk, IfErr, length};
+ghost use Rattle.byteorder.specs.Endian.{little_number};
+ghost use Rattle.dnp_objects.specs.declared.row.Row.{Row as RowValue};
+ghost use Rattle.dnp_objects.specs.declared.fault.ObjectFault.{ObjectFault as FaultValue};
+ghost use Rattle.dnp_objects.specs.Objects.{IsShape, shape_size};
+ghost use Rattle.dnp_objects.specs.Faults.{IsFirst};
+ghost use Rattle.dnp_objects.specs.Rows.{IsReading, Reads, IsReadFault};
+ghost use Rattle.dnp_objects.specs.Parts as parts;
+
+use crate::fault::ObjectFault;
+use crate::row::{Kind, Row};
+use crate::table::{Content, Shape, content_of};
+use byteorder::{ByteOrder, LittleEndian};
+
+/// The flags in a flags octet: all of it but for a binary, whose bit 7 is its value.
+fn flags_of(kind: Kind, first: u8) -> u8
+    ensures { result ≡ parts.flags_of kind first }
+{
+    match kind {
+        Kind::Binary => first % 128,
+        Kind::Counter | Kind::Analog => first,
+    }
+}
+
+/// The value in the flags octet of a binary, or in the octets that begin `number`.
+fn value_of(shape: Shape, first: u8, number: &[u8]) -> i64
+    requires shape { IsShape shape }
+    requires room { shape.width ≤ length number.now }
+    ensures { result ≡ parts.value_of shape.kind shape.width first (little_number shape.width number.now) }
+{
+    match shape.kind {
+        Kind::Binary => i64::from(first / 128),
+        Kind::Counter => LittleEndian::read_uint(number, shape.width) as i64,
+        Kind::Analog => LittleEndian::read_int(number, shape.width),
+    }
+}
+
+/// The time behind the value, if the object has one.
+fn time_of(shape: Shape, octets: &[u8]) -> Option<u64>
+    requires shape { IsShape shape }
+    requires size { length octets.now ≡ shape_size shape }
+    ensures { result ≡ parts.time_of shape octets.now }
+{
+    if shape.time {
+        let behind = &octets[usize::from(shape.flags) + shape.width..];
+        Some(LittleEndian::read_u48(behind))
+    } else {
+        None
+    }
+}
+
+/// The parts of a row from the octets of an object of this shape.
+fn parts_of(shape: Shape, index: u16, octets: &[u8]) -> Row
+    requires shape { IsShape shape }
+    requires size { length octets.now ≡ shape_size shape }
+    ensures { result ≡ parts.row_of shape index octets.now }
+{
+    let first = if shape.flags { octets[0] } else { 1 };
+    let number = &octets[usize::from(shape.flags)..];
+    Row {
+        kind: shape.kind,
+        index,
+        flags: flags_of(shape.kind, first),
+        value: value_of(shape, first, number),
+        time: time_of(shape, octets),
+    }
+}
+
+/// The row that the octets of an object of this shape are.
+fn row_of(shape: Shape, index: u16, octets: &[u8]) -> Row
+    requires shape { IsShape shape }
+    requires size { length octets.now ≡ shape_size shape }
+    ensures { IsReading shape index octets.now result }
+{
+    parts_of(shape, index, octets)
+}
+
+/// The row, or the first cause of a refusal.
+fn read(group: u8, variation: u8, index: u16, octets: &[u8]) -> Result<Row, ObjectFault>
+    ensures found { IfOk result (Reads group variation index octets.now) }
+    ensures fault { IfErr result (IsFirst (IsReadFault group variation octets.now)) }
+{
+    let Some(Content::Row(shape)) = content_of(group, variation) else {
+        return Err(ObjectFault::ObjectUnknown);
+    };
+    if octets.len() != shape.size() {
+        return Err(ObjectFault::Cut);
+    }
+    Ok(row_of(shape, index, octets))
+}
+
+/// The row with this index whose value, flags and time the octets of one object of this group and
+/// variation are (IEEE Std 1815-2012, object library). A row from an object without a time has none,
+/// and one from an object without flags has the flags 01.
+///
+/// Refused is, first of all, an object that carries no row to be read (`ObjectUnknown`; group 10 is
+/// one: it is written only), and then another number of octets than the object's (`Cut`).
+pub fn read_row(group: u8, variation: u8, index: u16, octets: &[u8]) -> Result<Row, ObjectFault>
+    ensures found { IfOk result (Reads group variation index octets.now) }
+    ensures only { (row : RowValue) → Reads group variation index octets.now row → result ≡ Ok row }
+    ensures fault { IfErr result (IsFirst (IsReadFault group variation octets.now)) }
+    ensures only_fault { (fault : FaultValue) → IsFirst (IsReadFault group variation octets.now) fault
+        → result ≡ Err fault }
+{
+    read(group, variation, index, octets)
+}

@@ -1,0 +1,136 @@
+ghost use Rattle.std.specs.Prelude.{◌≡◌, ◌+◌, ◌≤◌, ◌++◌, IfOk, IfErr, IsTrue, List, ℕ};
+ghost use Rattle.std.specs.Option.{IsSomeAnd};
+ghost use Rattle.std.specs.Result.{IsOkAnd};
+ghost use Rattle.arrayvec.specs.ArrayVec.{array_vec_len};
+ghost use Rattle.byteorder.specs.Endian.{little_bytes};
+ghost use Rattle.dnp_objects.specs.declared.fault.ObjectFault.{ObjectFault as FaultValue};
+ghost use Rattle.dnp_objects.specs.Objects.{IsNumber, IsShape};
+ghost use Rattle.dnp_objects.specs.Faults.{IsFirst};
+ghost use Rattle.dnp_objects.specs.Rows as spec;
+
+use crate::fault::ObjectFault;
+use crate::row::{Kind, Row};
+use crate::table::{Content, Shape, content_of};
+use arrayvec::ArrayVec;
+
+/// Whether the value is one of this kind, in so many octets.
+fn value_fits(shape: Shape, value: i64) -> bool
+    requires { IsShape shape }
+    ensures { result ≡ spec.value_fits shape.kind shape.width value }
+{
+    match (shape.kind, shape.width) {
+        (Kind::Binary, _) => value == 0 || value == 1,
+        (Kind::Counter, 2) => 0 <= value && value < 0x1_0000,
+        (Kind::Counter, _) => 0 <= value && value < 0x1_0000_0000,
+        (Kind::Analog, 2) => -0x8000 <= value && value < 0x8000,
+        (Kind::Analog, _) => -0x8000_0000 <= value && value < 0x8000_0000,
+    }
+}
+
+/// Whether the flags stand in an object of this shape.
+fn flags_fit(shape: Shape, flags: u8) -> bool
+    ensures { result ≡ spec.flags_fit shape.kind shape.flags flags }
+{
+    match shape.kind {
+        Kind::Binary => flags < 128,
+        Kind::Counter | Kind::Analog => shape.flags || flags == 1,
+    }
+}
+
+/// Whether the time is there and in range, where the object has one.
+fn time_fits(shape: Shape, time: Option<u64>) -> bool
+    ensures { result ≡ spec.time_fits shape.time time }
+{
+    match time {
+        None => !shape.time,
+        Some(time) => !shape.time || time < 0x1_0000_0000_0000,
+    }
+}
+
+/// Whether the row can stand in an object of this shape.
+fn row_fits(shape: Shape, row: &Row) -> bool
+    requires { IsShape shape }
+    ensures { result ≡ spec.row_fits shape row.now }
+{
+    row.kind == shape.kind
+        && value_fits(shape, row.value)
+        && flags_fit(shape, row.flags)
+        && time_fits(shape, row.time)
+}
+
+/// Appends the lowest octets of the number, the lowest first.
+fn push_number(octets: &mut ArrayVec<u8, 11>, number: u64, width: usize)
+    requires width { width ≤ 8 }
+    requires room { array_vec_len octets.old + width ≤ 11 }
+    ensures items { octets.new.items ≡ octets.old.items ++ little_bytes width number }
+    ensures len { array_vec_len octets.new ≡ array_vec_len octets.old + width }
+{
+    octets
+        .try_extend_from_slice(&number.to_le_bytes()[..width])
+        .unwrap()
+}
+
+/// The flags octet: a binary's value is its bit 7.
+fn flags_octet(shape: Shape, row: &Row) -> u8
+    requires value { IsTrue (spec.value_fits shape.kind shape.width row.now.value) }
+    requires flags { IsTrue (spec.flags_fit shape.kind shape.flags row.now.flags) }
+    ensures { result ≡ spec.flags_octet shape.kind row.now.flags row.now.value }
+{
+    match shape.kind {
+        Kind::Binary => row.flags + 128 * row.value as u8,
+        Kind::Counter | Kind::Analog => row.flags,
+    }
+}
+
+/// The octets of a row that fits.
+fn octets_of(shape: Shape, row: &Row) -> ArrayVec<u8, 11>
+    requires shape { IsShape shape }
+    requires fits { IsTrue (spec.row_fits shape row.now) }
+    ensures { result.items ≡ spec.row_octets shape row.now }
+{
+    let mut octets = ArrayVec::new();
+    if shape.flags {
+        octets.push(flags_octet(shape, row));
+    }
+    push_number(&mut octets, row.value.cast_unsigned(), shape.width);
+    if shape.time
+        && let Some(time) = row.time
+    {
+        push_number(&mut octets, time, 6);
+    }
+    octets
+}
+
+/// The octets, or the first cause of a refusal.
+fn write(group: u8, variation: u8, row: &Row) -> Result<ArrayVec<u8, 11>, ObjectFault>
+    ensures found { IfOk result (λ written. spec.Writes group variation row.now written.items) }
+    ensures fault { IfErr result (IsFirst (spec.IsWriteFault group variation row.now)) }
+{
+    let (Some(Content::Row(shape)) | Some(Content::WrittenRow(shape))) = content_of(
+        group, variation,
+    ) else {
+        return Err(ObjectFault::ObjectUnknown);
+    };
+    if !row_fits(shape, row) {
+        return Err(ObjectFault::ValueRange);
+    }
+    Ok(octets_of(shape, row))
+}
+
+/// The octets of the row as one object of this group and variation (IEEE Std 1815-2012, object
+/// library). The row's index stands elsewhere, and its time is left out where the object has none.
+///
+/// Refused is, first of all, an object that carries no row (`ObjectUnknown`), and then a row that
+/// does not fit (`ValueRange`): of another kind than the group's, with a value out of the object's
+/// range, with flags other than 01 for an object without flags, a binary with bit 7 in its flags, or
+/// without a time below 2^48 ms where the object has one.
+pub fn write_row(group: u8, variation: u8, row: &Row) -> Result<ArrayVec<u8, 11>, ObjectFault>
+    ensures found { IfOk result (λ written. spec.Writes group variation row.now written.items) }
+    ensures only { (octets : List ℕ) → spec.Writes group variation row.now octets
+        → IsOkAnd result (λ written. written.items ≡ octets) }
+    ensures fault { IfErr result (IsFirst (spec.IsWriteFault group variation row.now)) }
+    ensures only_fault { (fault : FaultValue) → IsFirst (spec.IsWriteFault group variation row.now) fault
+        → result ≡ Err fault }
+{
+    write(group, variation, row)
+}
