@@ -9,3 +9,6 @@ mod Blocks
 mod LastTwo
 mod ReadBlocks
 mod Units
+mod Fronts
+mod Pieces
+mod Refused

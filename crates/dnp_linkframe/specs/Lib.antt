@@ -1,3 +1,4 @@
 pub mod Polynomials
 pub mod CheckWord
 pub mod Frames
+pub mod Stream

@@ -1,6 +1,8 @@
-//! What holds of spellings and faults, each law as the contract of a function that does nothing.
+//! What holds of spellings, faults and streams, each law as the contract of a function that does nothing.
 ghost use Rattle.std.specs.Prelude.{◌≡◌, ℕ, List, [], ◌++◌};
+ghost use Rattle.std.specs.List.{concat};
 ghost use Rattle.dnp_linkframe.specs.Frames.{Spells, IsFault, IsFirstFault};
+ghost use Rattle.dnp_linkframe.specs.Stream.{Gives, SpellEach};
 ghost use Rattle.dnp_linkframe.specs.declared.frame.Frame.{Frame as FrameValue};
 ghost use Rattle.dnp_linkframe.specs.declared.frame.FrameFault.{FrameFault as FaultValue};
 
@@ -28,4 +30,21 @@ pub fn a_spelling_has_no_fault()
 /// A unit has one first fault at most.
 pub fn a_unit_has_one_first_fault()
     ensures { (unit : List ℕ) (fault other : FaultValue) → IsFirstFault unit fault → IsFirstFault unit other → fault ≡ other }
+{}
+
+/// Any pieces give what the joined octets give: where a stream gave frames and some octets wait, and
+/// these with a piece behind them give further frames, the stream with the piece behind it gives all of
+/// them, and the same octets wait.
+pub fn any_pieces_give_the_same()
+    ensures { (stream held piece rest : List ℕ) (before frames : List FrameValue) → Gives stream before held → Gives (held ++ piece) frames rest → Gives (stream ++ piece) (before ++ frames) rest }
+{}
+
+/// A stream gives one list of frames, and one rest waits.
+pub fn a_stream_gives_one_answer()
+    ensures { (stream rest other : List ℕ) (frames others : List FrameValue) → Gives stream frames rest → Gives stream others other → (frames ≡ others) × (rest ≡ other) }
+{}
+
+/// Joined spellings give their frames, and nothing waits.
+pub fn joined_spellings_give_their_frames()
+    ensures { (units : List (List ℕ)) (frames : List FrameValue) → SpellEach units frames → Gives (concat units) frames [] }
 {}

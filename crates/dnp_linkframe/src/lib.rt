@@ -1,5 +1,6 @@
 //! Link frames of DNP3 (IEEE Std 1815-2012, data link layer): their check word, their spelling in
-//! octets, and reading them back with the first fault of a fixed order.
+//! octets, reading them back with the first fault of a fixed order, and finding them in a stream of
+//! octets that comes in pieces.
 #![tactic(auto)]
 
 #[cfg(test)]
@@ -7,7 +8,9 @@ mod by_bits;
 mod check;
 mod frame;
 pub mod laws;
+mod reader;
 mod reading;
+mod stream;
 mod table;
 #[cfg(test)]
 mod tests;
@@ -15,5 +18,6 @@ mod writing;
 
 pub use check::check_word;
 pub use frame::{Frame, FrameFault, MAX_FRAME, MAX_USER};
+pub use reader::FrameReader;
 pub use reading::read_frame;
 pub use writing::write_frame;

@@ -1,7 +1,10 @@
-//! Check words and frames that the standard, a catalogue of such codes and hand-made examples give.
+//! Check words and frames that the standard, a catalogue of such codes and hand-made examples give, and
+//! such frames in a stream.
 
 use super::by_bits::check_word_by_bits;
 use super::*;
+use arrayvec::ArrayVec;
+use std::process::Abort;
 
 /// A READ of classes 1, 2, 3 and 0 from master 1 to outstation 10.
 const CLASS_READ: [u8; 27] = [
@@ -52,4 +55,69 @@ fn broken_units_get_the_first_fault(rt: HostRuntime) {
     let mut bad_header = CLASS_READ;
     bad_header[3] = 0xC5;
     assert_eq!(rt; read_frame(&bad_header), Err(FrameFault::HeaderCheck));
+}
+
+/// A reset of the link states from master 1024 to station 1.
+const LINK_RESET: [u8; 10] = [0x05, 0x64, 0x05, 0xC0, 0x01, 0x00, 0x00, 0x04, 0xE9, 0x21];
+
+/// Feeds the piece, and once more where memory is refused: then nothing may have changed.
+fn fed(rt: &impl Abort, reader: &mut FrameReader, piece: &[u8], out: &mut Vec<Frame>) {
+    let before = out.len();
+    if reader.feed(piece, out).is_err() {
+        assert_eq!(rt; out.len(), before);
+        assert!(rt; reader.feed(piece, out).is_ok());
+    }
+}
+
+#[test]
+fn a_frame_comes_octet_by_octet(rt: HostRuntime) {
+    let mut reader = FrameReader::new();
+    let mut out: Vec<Frame> = Vec::new(rt.alloc());
+    for (i, octet) in CLASS_READ.iter().enumerate() {
+        assert!(rt; out.is_empty(), "before octet {i}");
+        fed(&rt, &mut reader, &[*octet], &mut out);
+    }
+    assert_eq!(rt; out.len(), 1);
+    assert_eq!(rt; write_frame(&out[0]).as_slice(), CLASS_READ.as_slice());
+}
+
+#[test]
+fn two_frames_and_noise_cut_anywhere(rt: HostRuntime) {
+    // Half a start, a false start, and a good header with too small a LENGTH.
+    let noise = [
+        0x05, 0x05, 0x64, 0x14, 0xC4, 0x05, 0x64, 0x04, 0xC4, 0x0A, 0x00, 0x01, 0x00, 0x4E, 0x95,
+        0x64,
+    ];
+    let mut stream: ArrayVec<u8, 64> = ArrayVec::new();
+    for part in [
+        CLASS_READ.as_slice(),
+        noise.as_slice(),
+        LINK_RESET.as_slice(),
+    ] {
+        assert!(rt; stream.try_extend_from_slice(part).is_ok());
+    }
+    for cut in 0..=stream.len() {
+        let mut reader = FrameReader::new();
+        let mut out: Vec<Frame> = Vec::new(rt.alloc());
+        fed(&rt, &mut reader, &stream[..cut], &mut out);
+        fed(&rt, &mut reader, &stream[cut..], &mut out);
+        assert_eq!(rt; out.len(), 2, "cut at {cut}");
+        assert_eq!(rt; write_frame(&out[0]).as_slice(), CLASS_READ.as_slice());
+        assert_eq!(rt; write_frame(&out[1]).as_slice(), LINK_RESET.as_slice());
+    }
+}
+
+#[test]
+fn a_damaged_frame_is_dropped_whole(rt: HostRuntime) {
+    // The damaged frame's user data hold a good frame, which is dropped with it.
+    let mut stream: ArrayVec<u8, 64> = ArrayVec::new();
+    assert!(rt; stream.try_extend_from_slice(&CLASS_READ[..10]).is_ok());
+    assert!(rt; stream.try_extend_from_slice(&LINK_RESET).is_ok());
+    assert!(rt; stream.try_extend_from_slice(&[0; 7]).is_ok());
+    assert!(rt; stream.try_extend_from_slice(&CLASS_READ).is_ok());
+    let mut reader = FrameReader::new();
+    let mut out: Vec<Frame> = Vec::new(rt.alloc());
+    fed(&rt, &mut reader, &stream, &mut out);
+    assert_eq!(rt; out.len(), 1);
+    assert_eq!(rt; write_frame(&out[0]).as_slice(), CLASS_READ.as_slice());
 }

@@ -28,7 +28,7 @@ abbrev pub untimed : Bool
 untimed = false
 
 abbrev pub object : ℕ → ℕ → Content → Object
-object g v c = record { group = g; variation = v; content = c }
+object group variation c = record { group = group; variation = variation; content = c }
 
 abbrev pub shape : Kind → Bool → ℕ → Bool → Shape
 shape k f w t = record { kind = k; flags = f; width = w; time = t }
@@ -37,23 +37,23 @@ shape k f w t = record { kind = k; flags = f; width = w; time = t }
 -- untimed. An analog's value is two's complement, a counter's unsigned; a binary's value stands in
 -- bit 7 of the flags and has no octets of its own.
 abbrev pub row : ℕ → ℕ → Kind → Bool → ℕ → Bool → Object
-row g v k f w t = object g v (content.Row (shape k f w t))
+row group variation k f w t = object group variation (content.Row (shape k f w t))
 
 -- the same, but such a row is written and never read
 abbrev pub written_row : ℕ → ℕ → Kind → Bool → ℕ → Bool → Object
-written_row g v k f w t = object g v (content.WrittenRow (shape k f w t))
+written_row group variation k f w t = object group variation (content.WrittenRow (shape k f w t))
 
 -- a control relay output block
 abbrev pub block : ℕ → ℕ → Object
-block g v = object g v content.Block
+block group variation = object group variation content.Block
 
 -- an analog output: the octets of its value, two's complement, before the status octet
 abbrev pub setpoint : ℕ → ℕ → ℕ → Object
-setpoint g v w = object g v (content.Setpoint w)
+setpoint group variation w = object group variation (content.Setpoint w)
 
 -- anything else of so many octets
 abbrev pub other : ℕ → ℕ → ℕ → Object
-other g v n = object g v (content.Other n)
+other group variation n = object group variation (content.Other n)
 
 -- ---- the objects
 
@@ -95,11 +95,11 @@ objects =
 -- ---- looking one up
 
 abbrev pub is_object : ℕ → ℕ → Object → Bool
-is_object g v o = (o.group == g) && (o.variation == v)
+is_object group variation line = (line.group == group) && (line.variation == variation)
 
 -- what the object of this group and variation carries, if there is one
 unfoldable pub content_of : ℕ → ℕ → Option Content
-content_of g v = option_map (λ o. o.content) (find (is_object g v) objects)
+content_of group variation = option_map (λ line. line.content) (find (is_object group variation) objects)
 
 -- the shape of the row, of what is read as a row
 abbrev pub readable : Content → Option Shape
@@ -119,14 +119,14 @@ writable (content.Other n) = None
 
 -- the shape of the row that is read from this object, and of the one that is written as it
 abbrev pub shape_read : ℕ → ℕ → Option Shape
-shape_read g v = option_and_then readable (content_of g v)
+shape_read group variation = option_and_then readable (content_of group variation)
 
 abbrev pub shape_written : ℕ → ℕ → Option Shape
-shape_written g v = option_and_then writable (content_of g v)
+shape_written group variation = option_and_then writable (content_of group variation)
 
 -- an object that carries no row, though it may be listed: packed bits, commands, and the groups from 40 on
 abbrev pub HasNoRow : ℕ → ℕ → Type 0
-HasNoRow g v = ((g ≡ 1) × (v ≡ 1)) ⊎ ((g ≡ 12) ⊎ (40 ≤ g))
+HasNoRow group variation = ((group ≡ 1) × (variation ≡ 1)) ⊎ ((group ≡ 12) ⊎ (40 ≤ group))
 
 -- ---- sizes
 
@@ -148,7 +148,7 @@ content_size (content.Other n) = n
 
 -- how many octets one object has
 abbrev pub object_size : ℕ → ℕ → Option ℕ
-object_size g v = option_map content_size (content_of g v)
+object_size group variation = option_map content_size (content_of group variation)
 
 -- ---- what is so of every line
 

@@ -1,0 +1,101 @@
+-- Each turn decides what stands at the front of the rest, and is done with its octets.
+use Rattle.std.proofs.Common.{◌≡◌, ℕ, ◌+◌, ◌-◌, ◌<◌, ◌≤◌, ◌++◌, List, [], ◌∷◌, length, take, drop, refl, subst, sym, arith, vec_len, vec_capacity}
+use Rattle.std.proofs.lemmas.List.{take_rest, length-drop}
+use Rattle.dnp_linkframe.specs.declared.frame.Frame.{Frame}
+use Rattle.dnp_linkframe.specs.Stream.{NoHeader, NoLength, Damaged, Whole, HasHeader, IsFront, Gives}
+use Rattle.dnp_linkframe.proofs.Units.{no_fault}
+use Rattle.dnp_linkframe.proofs.Fronts.{damaged_some, whole_some}
+use Rattle.dnp_linkframe.proofs.Pieces.{Took, took_none, took_more, took_past, took_short}
+use Rattle.dnp_linkframe.proofs.Refused.{on_err}
+use Rattle.dnp_linkframe.proofs.stream.take_frames.Goals as goal
+use Rattle.dnp_linkframe.proofs.stream.take_frames.Goals.{in-Ok+in_ok-push, in_default}
+
+pub loop-done-init : goal.loop-done-init
+loop-done-init c = record { took = took_none c.args.stream.now c.args.out.now.items; room = omega arith }
+
+pub loop-done-preserved-then-not-has_header : goal.loop-done-preserved-then-not-has_header
+loop-done-preserved-then-not-has_header c =
+    let stream = c.args.stream.now in
+    let done = c.loop-done.done in
+    let ten : 10 ≤ length (drop done stream) = let test = c.loop-done-test.true in omega (arith, length-drop done stream) in
+    let bad : HasHeader (drop done stream) → ⊥ =
+    λ h. cc (c.has_header.ensures.1 (subst (λ (t : List ℕ). HasHeader t) (sym (take_rest stream done)) h)) in
+    record {
+      took = took_past stream done c.args.out.now.items c.loop-done.out.items NoHeader refl c.loop-done.invariant.took (ten, bad) (omega arith);
+      room = c.loop-done.invariant.room;
+    }
+
+pub loop-done-preserved-then-rest-lt-LENGTH_OF_NONE : goal.loop-done-preserved-then-rest-lt-LENGTH_OF_NONE
+loop-done-preserved-then-rest-lt-LENGTH_OF_NONE c =
+    let stream = c.args.stream.now in
+    let done = c.loop-done.done in
+    let rest = take (length stream - done) (drop done stream) in
+    let front : IsFront rest NoLength = (c.has_header.ensures.0 c.if-not-has_header.false, c.if-rest-lt-LENGTH_OF_NONE.true) in
+    record {
+      took =
+          took_past stream done c.args.out.now.items c.loop-done.out.items NoLength refl c.loop-done.invariant.took
+          (subst (λ (t : List ℕ). IsFront t NoLength) (take_rest stream done) front) (omega arith);
+      room = c.loop-done.invariant.room;
+    }
+
+pub returns-in_err-push-clause-full : goal.returns-in_err-push-clause-full
+returns-in_err-push-clause-full c =
+    let stream = c.args.stream.now in
+    let done = c.loop-done.done in
+    let size = c.size_of_frame-size.result in
+    let frame = c.in-Ok.frame in
+    let rest = take (length stream - done) (drop done stream) in
+    let front : IsFront rest (Whole frame size) = (c.if-rest-size.false, c.in-Ok.ensures.found) in
+    let here : IsFront (drop done stream) (Whole frame size) =
+    subst (λ (t : List ℕ). IsFront t (Whole frame size)) (take_rest stream done) front in
+    let room = c.loop-done.invariant.room in
+    let full : vec_capacity c.loop-done.out ≤ vec_len c.loop-done.out = c.in_err-push.ensures.full in
+    on_err c.from_residual.result _ (λ (more : List ℕ) (all : List Frame) (left : List ℕ) (g : Gives (stream ++ more) all left).
+    let short : length c.loop-done.out.items < length c.args.out.now.items + length all =
+    took_short stream more left done size c.args.out.now.items c.loop-done.out.items all frame c.loop-done.invariant.took here
+    (whole_some (drop done stream) frame size here) g in
+    let ok = c.loop-done.out.ok in
+    let ok_before = c.args.out.now.ok in
+    omega arith)
+
+pub loop-done-preserved : goal.loop-done-preserved
+loop-done-preserved c =
+    let stream = c.args.stream.now in
+    let done = c.loop-done.done in
+    let size = c.size_of_frame-size.result in
+    let rest = take (length stream - done) (drop done stream) in
+    let left = take_rest stream done in
+    let room = c.loop-done.invariant.room in
+    elim c.match-read_frame.branch [
+      | in-Ok+in_ok-push w ↦
+          let frame = w.in-Ok.frame in
+          let front : IsFront rest (Whole frame size) = (c.if-rest-size.false, w.in-Ok.ensures.found) in
+          let here : IsFront (drop done stream) (Whole frame size) = subst (λ (t : List ℕ). IsFront t (Whole frame size)) left front in
+          let items : c.match-read_frame.out.items ≡ c.loop-done.out.items ++ frame ∷ [] = cc (w.out-is, w.in_ok-push.ensures.items) in
+          let grown : vec_capacity c.loop-done.out ≤ vec_capacity w.push.new.self = w.push.ensures.capacity in
+          let same : vec_capacity c.match-read_frame.out ≡ vec_capacity w.push.new.self = cc w.out-is in
+          record {
+            took =
+                subst (λ (x : List Frame). Took stream (done + size) c.args.out.now.items x) (sym items)
+                (took_more stream done c.args.out.now.items c.loop-done.out.items (Whole frame size) c.loop-done.invariant.took here
+                (whole_some (drop done stream) frame size here));
+            room = omega arith;
+          }
+      | in_default w ↦
+          let front : IsFront rest (Damaged size) = (
+            record { header = c.has_header.ensures.0 c.if-not-has_header.false; long = c.if-rest-lt-LENGTH_OF_NONE.false },
+            c.size_of_frame-size.ensures,
+            c.if-rest-size.false,
+            λ frame s. no_fault (take size rest) frame s w.in_default.field-0 w.in_default.ensures.fault.0,
+          ) in
+          let here : IsFront (drop done stream) (Damaged size) = subst (λ (t : List ℕ). IsFront t (Damaged size)) left front in
+          let items : c.match-read_frame.out.items ≡ c.loop-done.out.items = cc w.out-is in
+          let same : vec_capacity c.match-read_frame.out ≡ vec_capacity c.loop-done.out = cc w.out-is in
+          record {
+            took =
+                subst (λ (x : List Frame). Took stream (done + size) c.args.out.now.items x) (sym items)
+                (took_past stream done c.args.out.now.items c.loop-done.out.items (Damaged size) refl c.loop-done.invariant.took here
+                (damaged_some (drop done stream) size here));
+            room = omega arith;
+          }
+    ]

@@ -1,0 +1,66 @@
+//! Frames in a stream of octets that stands there as one list.
+
+ghost use Rattle.std.specs.Prelude.{◌≡◌, ℕ, ◌<◌, ◌≤◌, List, ◌++◌, length, drop, slice_index, IsTrue, ◌↔◌, OnOk, OnErr, IfOk, ◌+◌, vec_len, vec_capacity};
+ghost use Rattle.dnp_linkframe.specs.Stream.{HasHeader, said_size, Gives};
+ghost use Rattle.dnp_linkframe.specs.declared.frame.Frame.{Frame as FrameValue};
+
+use crate::check::check_word;
+use crate::frame::{BLOCK, CHECKED_HEADER, Frame, LENGTH_OF_NONE};
+use crate::reading::read_frame;
+use std::alloc::AllocError;
+
+/// Whether a header stands at the front: 05 64, and a check word that is right.
+#[inline]
+fn has_header(stream: &[u8]) -> bool
+    requires { 10 ≤ length stream.now }
+    ensures { IsTrue result ↔ HasHeader stream.now }
+{
+    if stream[0] != 0x05 || stream[1] != 0x64 {
+        return false;
+    }
+    u16::from_le_bytes([stream[8], stream[9]]) == check_word(&stream[..8])
+}
+
+/// How many octets the frame of the header at the front has, by its LENGTH.
+#[inline]
+fn size_of_frame(stream: &[u8]) -> usize
+    requires ten { 10 ≤ length stream.now }
+    requires long { 5 ≤ slice_index stream.now 2 }
+    ensures { result ≡ said_size stream.now }
+{
+    let user = usize::from(stream[2] - LENGTH_OF_NONE);
+    CHECKED_HEADER + user + 2 * user.div_ceil(BLOCK)
+}
+
+/// Appends the frames that the stream gives, and answers how many of its octets are done with: the
+/// others wait. Where memory is refused some of the frames may have been appended.
+pub(crate) fn take_frames(stream: &[u8], out: &mut Vec<Frame>) -> Result<usize, AllocError>
+    ensures given { IfOk result (λ done. (frames : List FrameValue) × (out.new.items ≡ out.old.items ++ frames) × Gives stream.now frames (drop done stream.now)) }
+    ensures within { IfOk result (λ done. done ≤ length stream.now) }
+    ensures fewer { IfOk result (λ done. length (drop done stream.now) < 292) }
+    ensures refused { OnErr result ((frames : List FrameValue) × (out.new.items ≡ out.old.items ++ frames)) }
+    ensures full { OnErr result ((more : List ℕ) (frames : List FrameValue) (rest : List ℕ) → Gives (stream.now ++ more) frames rest → vec_capacity out.old < vec_len out.old + length frames) }
+    ensures capacity { vec_capacity out.old ≤ vec_capacity out.new }
+{
+    let mut done = 0;
+    while stream.len() - done >= CHECKED_HEADER {
+        let rest = &stream[done..];
+        if !has_header(rest) {
+            done += 1;
+            continue;
+        }
+        if rest[2] < LENGTH_OF_NONE {
+            done += CHECKED_HEADER;
+            continue;
+        }
+        let size = size_of_frame(rest);
+        if rest.len() < size {
+            break;
+        }
+        if let Ok(frame) = read_frame(&rest[..size]) {
+            out.push(frame)?;
+        }
+        done += size;
+    }
+    Ok(done)
+}
