@@ -1,6 +1,6 @@
-// Times the proved library beside plain C, and prints a table of ratios. Each row does the same work on
-// the same octets as often for each of the four, in turns, and keeps the best of the rounds. Each gives a
-// sum of what it made, and the four sums must be one number.
+// Times the proved library beside plain C and plain Rust, and prints tables of ratios. Each row does the
+// same work on the same octets as often in each way, in turns, and keeps the best of the rounds. Each way
+// gives a sum of what it made, and the sums must be one number.
 #include "plain.h"
 
 #include <stdio.h>
@@ -12,6 +12,10 @@
 uint16_t dnp_bench_check_word(const uint8_t *octets, size_t count);
 uint64_t dnp_bench_read_frame(const uint8_t *unit, size_t size, size_t pick);
 uint64_t dnp_bench_write_frames(const uint8_t *user, size_t size, uint64_t count);
+uint64_t dnp_bench_feed(const uint8_t *stream, size_t size, size_t piece);
+
+// The same in plain Rust: plain.rs.
+uint64_t plain_feed(const uint8_t *stream, size_t size, size_t piece);
 
 enum { WAYS = 4, UNITS = 64, MOST_OCTETS = 4096 };
 
@@ -103,14 +107,17 @@ static void row(const char *what, const char *unit, double per_time, uint64_t (*
     all_sums = all_sums * 31 + sums[0];
 }
 
-static void fill(size_t size) {
+static uint8_t random_octet(void) {
     static uint64_t state = 0x9E3779B97F4A7C15;
+    state ^= state << 13, state ^= state >> 7, state ^= state << 17;
+    return state >> 32;
+}
+
+static void fill(size_t size) {
     data.size = size;
     for (int unit = 0; unit < UNITS; unit++)
-        for (size_t i = 0; i < size; i++) {
-            state ^= state << 13, state ^= state >> 7, state ^= state << 17;
-            data.octets[unit][i] = state >> 32;
-        }
+        for (size_t i = 0; i < size; i++)
+            data.octets[unit][i] = random_octet();
 }
 
 static void fill_frames(size_t user) {
@@ -120,6 +127,51 @@ static void fill_frames(size_t user) {
         memcpy(frame.user, data.octets[unit], user);
         data.size = write_by_bits(&frame, data.octets[unit]);
     }
+}
+
+// A stream that is fed in pieces to a reader, by the proved library and by plain Rust in turns.
+enum { STREAM = 1 << 20 };
+static uint8_t stream[STREAM];
+
+static void stream_row(const char *what, size_t size, size_t piece) {
+    static uint64_t (*const feeders[2])(const uint8_t *, size_t, size_t) = {dnp_bench_feed, plain_feed};
+    double best[2] = {0};
+    uint64_t sums[2];
+    for (int round = 0; round < rounds; round++)
+        for (int way = 0; way < 2; way++) {
+            double start = seconds();
+            for (uint64_t i = 0; i < 20 / scale; i++)
+                sums[way] = feeders[way](stream, size, piece);
+            double took = seconds() - start;
+            if (!round || took < best[way]) best[way] = took;
+        }
+    printf("%-27s %5zu %11.1f Moctet/s %10.2f%s\n", what, piece, (double)size * (20 / scale) / best[0] / 1e6, best[1] / best[0],
+           sums[0] == sums[1] ? "" : "  THE SUMS DIFFER");
+    if (sums[0] != sums[1]) failed = 1;
+    all_sums = all_sums * 31 + sums[0];
+}
+
+static void stream_rows(void) {
+    static const size_t users[] = {15, 250}, pieces[] = {1, 64, 4096};
+    char what[64];
+    printf("\n%-27s %5s %20s   beside plain Rust\n", "feed", "piece", "proved");
+    for (int i = 0; i < 2; i++) {
+        fill_frames(users[i]);
+        size_t size = 0;
+        for (int unit = 0; size + data.size <= STREAM; unit = (unit + 1) % UNITS, size += data.size)
+            memcpy(stream + size, data.octets[unit], data.size);
+        snprintf(what, sizeof what, "frames of %zu user octets", users[i]);
+        for (int j = 0; j < 3; j++)
+            stream_row(what, size, pieces[j]);
+    }
+    for (size_t i = 0; i < STREAM; i++)
+        stream[i] = random_octet();
+    for (int j = 0; j < 3; j++)
+        stream_row("random octets", STREAM, pieces[j]);
+    for (size_t i = 0; i < STREAM; i++)
+        stream[i] = i % 2 ? 0x64 : 0x05;
+    for (int j = 0; j < 3; j++)
+        stream_row("05 64 05 64 ..", STREAM, pieces[j]);
 }
 
 int main(int argc, char **argv) {
@@ -144,6 +196,7 @@ int main(int argc, char **argv) {
         snprintf(what, sizeof what, "write_frame, %zu user octets", users[i]);
         row(what, "frame", 1, frames_written, 12800000 / (users[i] + 10));
     }
-    printf("sum of all that was made: %016llx, %s\n", (unsigned long long)all_sums, failed ? "AND NOT ONE FOR ALL FOUR" : "the same for all four");
+    stream_rows();
+    printf("\nsum of all that was made: %016llx, %s\n", (unsigned long long)all_sums, failed ? "AND NOT ONE FOR ALL" : "the same for all");
     return failed;
 }

@@ -15,6 +15,19 @@ expect answers-lower-case-digits 0 "$answered" "${asked,,}$lf" answer
 expect answers-at-its-own-address 0 "$answered" "$asked$lf" answer --own 0010 --peer=1
 expect is-silent-to-another-address 0 'no answer' "$asked$lf" answer --own 11
 
+# What the link layer replies
+link='answer --own 1 --peer 1024'
+expect acknowledges-a-reset 0 '05 64 05 00 00 04 01 00 19 A6' "05 64 05 C0 01 00 00 04 E9 21$lf" $link
+expect tells-the-link-status 0 '05 64 05 0B 00 04 01 00 5A 96' "05 64 05 C9 01 00 00 04 A6 57$lf" $link
+expect refuses-a-test-before-a-reset 0 '05 64 05 01 00 04 01 00 1F 85' "05 64 05 D2 01 00 00 04 77 CD$lf" $link
+expect refuses-confirmed-data-before-a-reset 0 '05 64 05 01 00 04 01 00 1F 85' \
+    "05 64 0B F3 01 00 00 04 29 07 C0 C0 01 3C 02 06 54 E0$lf" $link
+expect supports-no-other-function 0 '05 64 05 0F 00 04 01 00 42 1A' "05 64 05 C1 01 00 00 04 EF 02$lf" $link
+expect is-silent-to-a-reply 0 'no answer' "05 64 05 80 01 00 00 04 53 11$lf" $link
+expect is-silent-to-an-outstation 0 'no answer' "05 64 05 40 01 00 00 04 9D 40$lf" $link
+expect is-silent-to-no-data 0 'no answer' "05 64 05 C4 01 00 00 04 F1 AD$lf" $link
+expect is-silent-to-a-stranger 0 'no answer' "05 64 05 C0 01 00 00 04 E9 21$lf" answer --own 1 --peer 1023
+
 # What is refused as a frame
 expect refuses-no-octets 1 'refused 1 Short' '' answer
 expect refuses-an-empty-line 1 'refused 1 Short' "$lf" answer

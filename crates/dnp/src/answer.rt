@@ -30,7 +30,8 @@ EXAMPLE
 
 OUTPUT
   One line on standard output:
-    the octets of the frame that is sent in answer, written as above;
+    the octets of the frame that is sent back, written as above: the link layer's reply, as to
+    a reset or a request for the link's status, or the answer to a READ of class data;
     'no answer', where the outstation stays silent, as for a frame to another address;
     'refused N REASON', where the input is no frame: 0 Text (not written as above), 1 Short,
     2 Start, 3 HeaderCheck, 4 Length, 5 Size, 6 BlockCheck B (B is the number of the first

@@ -1,13 +1,18 @@
 -- One text has one answer: the laws of the layers below, put together.
-use Rattle.std.proofs.Common.{◌≡◌, ℕ, List, [], ◌∷◌, ◌++◌, ◌%◌, Bool, refl, sym, ◌∙◌, ap, subst, get_or}
-use Rattle.arrayvec.specs.ArrayVec.{ArrayVec}
+use Rattle.std.proofs.Common.{◌≡◌, ℕ, List, [], ◌∷◌, ◌++◌, ◌%◌, Bool, true, false, inl, inr, Some, None, refl, sym, ◌∙◌, ap, subst, get_or}
+use Rattle.std.proofs.lemmas.Bool.{cases_Bool, both_ways, cond-true, cond-false}
 use Rattle.dnp_linkframe.specs.declared.frame.Frame.{Frame}
 use Rattle.dnp_linkframe.specs.declared.frame.FrameFault.{FrameFault}
 use Rattle.dnp_linkframe.specs.Frames.{Spells, IsFault, IsFirstFault}
+use Rattle.dnp_linkstation.specs.Control.{primary_function, frame_count_bit}
+use Rattle.dnp_linkstation.specs.Station.{Ends, is_for, answer_to, dropped, answer}
+use Rattle.dnp_linkstation.specs.declared.function.PrimaryFunction.{PrimaryFunction}
+use Rattle.dnp_linkstation.specs.declared.function.PrimaryFunction.TheVariants.{ResetLinkStates, TestLinkStates, ConfirmedUserData, UnconfirmedUserData, RequestLinkStatus, Other}
+use Rattle.dnp_linkstation.specs.declared.station.LinkAnswer.{LinkAnswer}
 use Rattle.dnp_transport.specs.Series.{IsWhole}
 use Rattle.dnp_daemons.specs.declared.answer.Answer.{Answer}
 use Rattle.dnp_daemons.specs.declared.answer.Answer.TheVariants.{Unreadable, Refused, Silent, Sent}
-use Rattle.dnp_daemons.specs.Station.{IsClassRead, AsksFor, answer_frame}
+use Rattle.dnp_daemons.specs.Station.{AsksFor, station_ends, answer_frame, IsSentBack, Reply, Response}
 use Rattle.dnp_daemons.specs.AnswerLine.{IsFrameLine, IsFaultLine, IsSent, IsSilent, IsAnswer, IsPrinted, answer_text, is_frame}
 use Rattle.dnp_daemons.proofs.Spaced.{one_line}
 
@@ -43,18 +48,46 @@ one_sequence laws own peer frame s t a b =
     let control : a.read.control ≡ b.read.control = ap (λ (xs : List ℕ). get_or xs 0 0) (sym a.read.spelled ∙ same ∙ b.read.spelled) in
     a.read.numbered ∙ ap (λ (n : ℕ). n % 16) control ∙ sym b.read.numbered
 
+-- a link layer that has heard nothing before doesn't both reply and hand up
+no_reply_and_up : (e : Ends) (p : PrimaryFunction) (fcb : Bool) (back : Frame) → (answer_to e p None fcb).reply ≡ Some back → (answer_to e p None fcb).up ≡ true → ⊥
+no_reply_and_up e ResetLinkStates fcb back r u = both_ways false refl u
+no_reply_and_up e TestLinkStates fcb back r u = both_ways false refl u
+no_reply_and_up e ConfirmedUserData fcb back r u = both_ways false refl u
+no_reply_and_up e UnconfirmedUserData fcb back r u = absurd (cc)
+no_reply_and_up e RequestLinkStatus fcb back r u = both_ways false refl u
+no_reply_and_up e Other fcb back r u = both_ways false refl u
+
+reply_or_up : (e : Ends) (f back : Frame) → (answer e [] f).reply ≡ Some back → (answer e [] f).up ≡ true → ⊥
+reply_or_up e f back r u =
+    let p : PrimaryFunction = primary_function f.control in
+    let fcb : Bool = frame_count_bit f.control in
+    elim (cases_Bool (is_for e f)) [
+      | inl for_it ↦
+          let same : answer e [] f ≡ answer_to e p None fcb = cond-true (is_for e f) (answer_to e p None fcb) dropped for_it in
+          no_reply_and_up e p fcb back (ap (λ (a : LinkAnswer). a.reply) (sym same) ∙ r) (ap (λ (a : LinkAnswer). a.up) (sym same) ∙ u)
+      | inr other ↦
+          let same : answer e [] f ≡ dropped = cond-false (is_for e f) (answer_to e p None fcb) dropped other in
+          both_ways false refl (ap (λ (a : LinkAnswer). a.up) (sym same) ∙ u)
+    ]
+
+one_back : Laws → (own peer : ℕ) (frame a b : Frame) → IsSentBack own peer frame a → IsSentBack own peer frame b → a ≡ b
+one_back laws own peer frame a b (Reply r) (Reply s) = cc
+one_back laws own peer frame a b (Reply r) (Response n asks e) = absurd (reply_or_up (station_ends own peer) frame a r asks.up)
+one_back laws own peer frame a b (Response n asks e) (Reply s) = absurd (reply_or_up (station_ends own peer) frame b s asks.up)
+one_back laws own peer frame a b (Response n asks e) (Response m asks' e') =
+    e ∙ ap (λ (k : ℕ). answer_frame own peer k) (one_sequence laws own peer frame n m asks asks') ∙ sym e'
+
 one_unit : Laws → (text : List ℕ) (own peer : ℕ) (unit other : List ℕ) → IsSent text own peer unit → IsSent text own peer other → unit ≡ other
 one_unit laws text own peer unit other a b =
     let frames : a.frame ≡ b.frame = one_frame laws text a.frame b.frame a.line b.line in
-    let asks : AsksFor own peer a.frame b.sequence = subst (λ (f : Frame). AsksFor own peer f b.sequence) (sym frames) b.asks in
-    let numbers : a.sequence ≡ b.sequence = one_sequence laws own peer a.frame a.sequence b.sequence a.asks asks in
-    laws.spelling unit other (answer_frame own peer a.sequence) a.spelled
-    (subst (λ (n : ℕ). Spells other (answer_frame own peer n)) (sym numbers) b.spelled)
+    let back : IsSentBack own peer a.frame b.back = subst (λ (f : Frame). IsSentBack own peer f b.back) (sym frames) b.sent_back in
+    let backs : a.back ≡ b.back = one_back laws own peer a.frame a.back b.back a.sent_back back in
+    laws.spelling unit other a.back a.spelled (subst (λ (f : Frame). Spells other f) (sym backs) b.spelled)
 
 silent_or_sent : Laws → (text : List ℕ) (own peer : ℕ) (unit : List ℕ) → IsSilent text own peer → IsSent text own peer unit → ⊥
 silent_or_sent laws text own peer unit a b =
     let frames : a.frame ≡ b.frame = one_frame laws text a.frame b.frame a.line b.line in
-    a.silent b.sequence (subst (λ (f : Frame). AsksFor own peer f b.sequence) (sym frames) b.asks)
+    a.silent b.back (subst (λ (f : Frame). IsSentBack own peer f b.back) (sym frames) b.sent_back)
 
 one_answer : Laws → (text : List ℕ) (own peer : ℕ) (a b : Answer) → IsAnswer text own peer a → IsAnswer text own peer b → a ≡ b
 one_answer laws text own peer Unreadable Unreadable f g = refl

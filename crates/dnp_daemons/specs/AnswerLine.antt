@@ -8,7 +8,7 @@ use Rattle.dnp_linkframe.specs.Frames.{Spells, IsFirstFault}
 use Rattle.dnp_daemons.specs.declared.answer.Answer.{Answer}
 use Rattle.dnp_daemons.specs.declared.answer.Answer.TheVariants.{Unreadable, Refused, Silent, Sent}
 use Rattle.dnp_daemons.specs.OctetLines.{IsLineOf, line_of}
-use Rattle.dnp_daemons.specs.Station.{AsksFor, answer_frame}
+use Rattle.dnp_daemons.specs.Station.{IsSentBack}
 
 -- the text is a line of octets that spell the frame
 pub record IsFrameLine (text : List ℕ) (frame : Frame) : Type 0 where
@@ -22,19 +22,19 @@ pub record IsFaultLine (text : List ℕ) (fault : FrameFault) : Type 0 where
   pub line : IsLineOf text octets
   pub first : IsFirstFault octets fault
 
--- the station sends a frame, spelled by these octets, back to the peer
+-- the station sends a frame back to the peer, spelled by these octets
 pub record IsSent (text : List ℕ) (own peer : ℕ) (unit : List ℕ) : Type 0 where
   pub frame : Frame
-  pub sequence : ℕ
+  pub back : Frame
   pub line : IsFrameLine text frame
-  pub asks : AsksFor own peer frame sequence
-  pub spelled : Spells unit (answer_frame own peer sequence)
+  pub sent_back : IsSentBack own peer frame back
+  pub spelled : Spells unit back
 
--- a frame that the station doesn't answer
+-- a frame for which the station sends nothing back
 pub record IsSilent (text : List ℕ) (own peer : ℕ) : Type 0 where
   pub frame : Frame
   pub line : IsFrameLine text frame
-  pub silent : (sequence : ℕ) → AsksFor own peer frame sequence → ⊥
+  pub silent : (back : Frame) → IsSentBack own peer frame back → ⊥
 
 -- when which answer is given
 abbrev pub IsAnswer : List ℕ → ℕ → ℕ → Answer → Type 0

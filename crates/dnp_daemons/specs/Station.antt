@@ -1,7 +1,9 @@
--- The station behind `dnp answer`: an outstation without points, which answers a READ of class data.
-use Rattle.std.specs.Prelude.{◌≡◌, ℕ, ◌+◌, ◌%◌, ◌<◌, ◌≤◌, List, [], ◌∷◌, bit_and}
+-- The station behind `dnp answer`: an outstation without points, which replies by the link layer's table and answers a
+-- READ of class data.
+use Rattle.std.specs.Prelude.{◌≡◌, ℕ, ◌+◌, ◌%◌, ◌≤◌, true, false, List, [], ◌∷◌, Some, bit_and}
 use Rattle.std.specs.List.{AllByRecursion, concat}
 use Rattle.dnp_linkframe.specs.declared.frame.Frame.{Frame}
+use Rattle.dnp_linkstation.specs.Station.{Ends, answer, sent}
 use Rattle.dnp_transport.specs.Cuts.{cut}
 use Rattle.dnp_transport.specs.Series.{IsWhole}
 
@@ -29,12 +31,14 @@ pub record IsClassRead (fragment : List ℕ) (sequence : ℕ) : Type 0 where
   pub class_data : AreClassHeaders headers
   pub spelled : fragment ≡ control ∷ 1 ∷ headers
 
--- The frame asks station `own` for class data on behalf of `peer`: it is unconfirmed user data of the
--- primary, from a master (FCB and FCV aren't looked at), and its user data alone is a whole fragment.
+-- the outstation's end of the link with its master
+abbrev pub station_ends : ℕ → ℕ → Ends
+station_ends own peer = record { own = own; peer = peer; is_master = false }
+
+-- The frame, the first that station `own` hears, asks it for class data on behalf of `peer`: the station's link layer
+-- hands its user data up, and they alone are a whole fragment.
 pub record AsksFor (own peer : ℕ) (frame : Frame) (sequence : ℕ) : Type 0 where
-  pub dest : frame.dest ≡ own
-  pub source : frame.source ≡ peer
-  pub control : bit_and frame.control 0xCF ≡ 0xC4
+  pub up : (answer (station_ends own peer) [] frame).up ≡ true
   pub fragment : List ℕ
   pub whole : IsWhole (frame.user.items ∷ []) fragment
   pub read : IsClassRead fragment sequence
@@ -46,9 +50,11 @@ null_response sequence = (0xC0 + sequence) ∷ 0x81 ∷ 0x80 ∷ 0 ∷ []
 
 -- the frame that carries it back, as the first segment on its way
 abbrev pub answer_frame : ℕ → ℕ → ℕ → Frame
-answer_frame own peer sequence = record {
-  control = 0x44;
-  dest = peer;
-  source = own;
-  user = record { items = cut (null_response sequence) 0 0 };
-}
+answer_frame own peer sequence = sent (station_ends own peer) (cut (null_response sequence) 0 0)
+
+-- the frame that the station sends back for the first frame that it hears: its link layer's reply, or the response to
+-- what that hands up
+pub data IsSentBack (own peer : ℕ) (frame back : Frame) : Type 0 where
+  Reply : (answer (station_ends own peer) [] frame).reply ≡ Some back → IsSentBack own peer frame back
+  Response : (sequence : ℕ) → AsksFor own peer frame sequence → back ≡ answer_frame own peer sequence →
+      IsSentBack own peer frame back

@@ -5,7 +5,7 @@ ghost use Rattle.dnp_daemons.specs.AnswerLine.{IsAnswer, IsPrinted, answer_text,
 use crate::octets::{MAX_LINE, line_of_octets, read_octets};
 use crate::station::respond;
 use arrayvec::ArrayVec;
-use dnp_linkframe::{FrameFault, MAX_FRAME, read_frame, write_frame};
+use dnp_linkframe::{FrameFault, MAX_FRAME, read_frame};
 use itoa::Buffer;
 use std::io::Write;
 use thiserror::Error;
@@ -77,7 +77,7 @@ impl Answer {
         match read_frame(&octets) {
             Err(fault) => Answer::Refused(fault),
             Ok(frame) => match respond(&frame, own, peer) {
-                Some(answer) => Answer::Sent(write_frame(&answer)),
+                Some(unit) => Answer::Sent(unit),
                 None => Answer::Silent,
             },
         }
@@ -111,8 +111,9 @@ impl Answer {
 /// Where the octets are a link frame, the line of the frame that the station `own` sends back is
 /// written, or `no answer`, and the result is true. Otherwise `refused`, a number and a name are
 /// written, and the result is false: 0 Text where the text is no such line, else the frame's fault. The
-/// station is an outstation without points that `peer` is the master of; it answers a READ of class
-/// data (IEEE Std 1815-2012, application layer).
+/// station is an outstation without points that `peer` is the master of, and has heard nothing before.
+/// It replies by the table of the data link layer, and answers a READ of class data (IEEE Std
+/// 1815-2012, data link layer and application layer).
 ///
 /// One line is written, by one call of `write_all`. A fault comes only where that call failed, and a
 /// part of the line may have been written then. No call asks for memory.

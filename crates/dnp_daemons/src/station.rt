@@ -1,17 +1,14 @@
-//! An outstation without points. It answers a READ of class data with a response that holds nothing
-//! but the indication that the station has restarted, and is silent on all else.
+//! An outstation without points. Its link layer replies to what a master asks of it; a READ of class
+//! data is answered with a response that holds nothing but the indication that the station has
+//! restarted; on all else it is silent.
 ghost use Rattle.std.specs.Prelude.{◌≡◌, ℕ, ◌↔◌, IsTrue, IfSome, IfNone};
-ghost use Rattle.dnp_daemons.specs.Station.{IsClassHeader, AreClassHeaders, IsClassRead, AsksFor, answer_frame};
+ghost use Rattle.dnp_linkframe.specs.Frames.{Spells};
+ghost use Rattle.dnp_linkframe.specs.declared.frame.Frame.{Frame as FrameValue};
+ghost use Rattle.dnp_daemons.specs.Station.{IsClassHeader, AreClassHeaders, IsClassRead, IsSentBack};
 
 use arrayvec::ArrayVec;
-use dnp_linkframe::Frame;
-use dnp_transport::{Assembler, Pushed, segment};
-
-/// CONTROL of a frame: DIR and PRM set and function 4, unconfirmed user data, from a master.
-const FROM_MASTER: u8 = 0xC4;
-
-/// The bits of CONTROL that are looked at: all but FCB and FCV.
-const LOOKED_AT: u8 = 0xCF;
+use dnp_line::Port;
+use dnp_linkframe::{Frame, MAX_FRAME, write_frame};
 
 /// Whether the octets are one object header 60.1 to 60.4 with qualifier 06.
 fn is_class_header(octets: &[u8]) -> bool
@@ -45,26 +42,21 @@ fn class_read(fragment: &[u8]) -> Option<u8>
     }
 }
 
-/// The frame that the station sends in answer, or none where it is silent.
-pub(crate) fn respond(frame: &Frame, own: u16, peer: u16) -> Option<Frame>
-    ensures sent { IfSome result (λ answer. (sequence : ℕ) × AsksFor own peer frame.now sequence × (answer ≡ answer_frame own peer sequence)) }
-    ensures silent { IfNone result ((sequence : ℕ) → AsksFor own peer frame.now sequence → ⊥) }
+/// The unit in which the station sends a frame back for a frame, the first that it hears, or none
+/// where it is silent.
+pub(crate) fn respond(frame: &Frame, own: u16, peer: u16) -> Option<ArrayVec<u8, MAX_FRAME>>
+    ensures sent { IfSome result (λ unit. (back : FrameValue) × IsSentBack own peer frame.now back × Spells unit.items back) }
+    ensures silent { IfNone result ((back : FrameValue) → IsSentBack own peer frame.now back → ⊥) }
 {
-    if frame.dest != own || frame.source != peer || frame.control & LOOKED_AT != FROM_MASTER {
+    let mut port = Port::new(own, peer, false);
+    let taken = port.take(frame);
+    if let Some(reply) = &taken.reply {
+        return Some(write_frame(reply));
+    }
+    if !taken.whole {
         return None;
     }
-    let mut assembler = Assembler::new();
-    match assembler.push(&frame.user) {
-        Pushed::Whole => {
-            let sequence = class_read(assembler.fragment())?;
-            let response = [0xC0 + sequence, 0x81, 0x80, 0x00];
-            Some(Frame {
-                control: 0x44,
-                dest: peer,
-                source: own,
-                user: segment(&response, 0, 0),
-            })
-        }
-        Pushed::Nothing | Pushed::Dropped => None,
-    }
+    let sequence = class_read(port.fragment())?;
+    let response = [0xC0 + sequence, 0x81, 0x80, 0x00];
+    Some(port.unit(&response, 0))
 }

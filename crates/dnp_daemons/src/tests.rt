@@ -81,9 +81,9 @@ fn a_line_of_292_octets_has_875_characters(rt: HostRuntime) {
 }
 
 /// What `answer_line` writes for a text, and what it answers.
-fn answer(rt: &impl Abort, text: &[u8], own: u16) -> (ArrayString<64>, Option<bool>) {
+fn answer(rt: &impl Abort, text: &[u8], own: u16, peer: u16) -> (ArrayString<64>, Option<bool>) {
     let mut written = ArrayVec::<u8, 64>::new();
-    let accepted = answer_line(text, own, 1, &mut written).ok();
+    let accepted = answer_line(text, own, peer, &mut written).ok();
     let mut line = ArrayString::new();
     for octet in &written {
         line.try_push(*octet as char).expect(rt, "room");
@@ -112,9 +112,36 @@ fn a_line_gets_its_answer(rt: HostRuntime) {
         ("", 10, "refused 1 Short\n", false),
         ("05 6", 10, "refused 0 Text\n", false),
     ] {
-        let (written, answered) = answer(&rt, text.as_bytes(), own);
+        let (written, answered) = answer(&rt, text.as_bytes(), own, 1);
         assert_eq!(rt; written.as_str(), line, "{text}");
         assert_eq!(rt; answered, Some(accepted), "{text}");
+    }
+}
+
+#[test]
+fn the_link_layer_replies(rt: HostRuntime) {
+    for (text, line) in [
+        // RESET_LINK_STATES: ACK
+        (
+            "05 64 05 C0 01 00 00 04 E9 21",
+            "05 64 05 00 00 04 01 00 19 A6\n",
+        ),
+        // REQUEST_LINK_STATUS: LINK_STATUS
+        (
+            "05 64 05 C9 01 00 00 04 A6 57",
+            "05 64 05 0B 00 04 01 00 5A 96\n",
+        ),
+        // A READ as CONFIRMED_USER_DATA, before any reset: NACK, and the READ is not answered
+        (
+            "05 64 0B F3 01 00 00 04 29 07 C0 C0 01 3C 02 06 54 E0",
+            "05 64 05 01 00 04 01 00 1F 85\n",
+        ),
+        // PRM 0
+        ("05 64 05 80 01 00 00 04 53 11", "no answer\n"),
+    ] {
+        let (written, answered) = answer(&rt, text.as_bytes(), 1, 1024);
+        assert_eq!(rt; written.as_str(), line, "{text}");
+        assert_eq!(rt; answered, Some(true), "{text}");
     }
 }
 

@@ -3,19 +3,21 @@ use Rattle.std.proofs.Common.{◌≡◌, ℕ, ◌+◌, ◌<◌, ◌≤◌, Bool,
 use Rattle.std.specs.Prelude.{nat_le, slice_get, if◌then◌else◌}
 use Rattle.std.proofs.lemmas.Bool.{cases_lt, both_ways, cond-true, cond-false, le-leb, lt-leb}
 use Rattle.std.proofs.lemmas.List.{append-nil}
+use Rattle.dnp_linkstation.specs.Station.{Ends, ends, opposite, sent}
+use Rattle.dnp_linkstation.specs.declared.station.LinkStation.{LinkStation}
 use Rattle.dnp_transport.specs.Assembly.{Assembly}
 use Rattle.dnp_transport.specs.Cuts.{cut_count}
 use Rattle.dnp_transport.specs.Series.{IsOpen}
 use Rattle.dnp_transport.proofs.Exits.{idle_stands, nothing_pushed}
 use Rattle.dnp_line.specs.Lines.{LineState, line_of, quiet_line, delivered_on, repeated_on, lost_on, Nothing, Loss}
-use Rattle.dnp_line.specs.Ports.{PortState, moved_on, reset_of}
+use Rattle.dnp_line.specs.Ports.{PortState, data_frame, moved_on, reset_of}
 use Rattle.dnp_line.specs.Ways.{Way, new_way, WayEvent, Send, Deliver, Repeat, Lose, Damage, Clear, SenderReset, WayBack, opened_on, all_sent_on, Sends, SendsUnlessMute, HearsIfAny, IsDamaged, Happens, Runs}
 use Rattle.dnp_line.specs.Flows.{AreFacing, segment_total, AreLast, IsRecent, Flows, MayGive, RestMoves}
 use Rattle.dnp_line.specs.Flows.{Nothing as NothingGiven}
 use Rattle.dnp_line.proofs.Coming.{ComesTo-behind, ComesTo-clear}
 use Rattle.dnp_line.proofs.Splits.{total-append, recent_more}
 use Rattle.dnp_line.proofs.OnLine.{last_from, last_more, fresh_last, all_sent, all_dropped}
-use Rattle.dnp_line.proofs.Hearing.{OneFrame, HasHeard, has_heard}
+use Rattle.dnp_line.proofs.Hearing.{OneFrame, GoesUp, HasHeard, has_heard}
 
 nothing_open : (s : List (List ℕ)) → IsOpen [] s → ⊥
 nothing_open s o = nothing_pushed.no_series s o
@@ -24,7 +26,7 @@ nothing_open s o = nothing_pushed.no_series s o
 pub opened_flows : (w : Way) → AreFacing w.sender w.receiver → Flows (opened_on w) []
 opened_flows w facing =
     record {
-      facing = record { to_receiver = facing.to_receiver; from_sender = facing.from_sender; one_master = facing.one_master };
+      facing = facing;
       numbered = λ _. refl;
       past = [];
       split = refl;
@@ -33,6 +35,8 @@ opened_flows w facing =
       reached = omega arith;
       on_line = λ _. refl;
       broken = λ _. refl;
+      heard = [];
+      answers = refl;
       pushed = [];
       stands = idle_stands [] nothing_pushed;
       half_built = λ few s o. absurd (nothing_open s o);
@@ -41,13 +45,13 @@ opened_flows w facing =
 -- a new way
 pub new_flows : (own peer : ℕ) (m : Bool) → Flows (new_way own peer m) []
 new_flows own peer m =
-    opened_flows (new_way own peer m) record { to_receiver = refl; from_sender = refl; one_master = refl }
+    opened_flows (new_way own peer m) refl
 
 -- a send, which leaves the line so
 send_flows : (w : Way) (rest : List (List ℕ)) (f : List ℕ) (line : LineState) → w.mute ≡ false → (fl : Flows w rest) → line.lost ≡ w.line.lost → (line.lost < 32 → AreLast (moved_on (cut_count (length f)) w.sender) (w.sent ++ f ∷ []) fl.gone line.units) → (32 ≤ line.lost → line.units ≡ []) → Flows (record w { line = line; sender = moved_on (cut_count (length f)) w.sender; sent = w.sent ++ f ∷ [] }) (rest ++ f ∷ [])
 send_flows w rest f line audible fl lost_is on_line broken =
     record {
-      facing = record { to_receiver = fl.facing.to_receiver; from_sender = fl.facing.from_sender; one_master = fl.facing.one_master };
+      facing = fl.facing;
       numbered = λ _. omega (arith, fl.numbered audible, total-append w.sent (f ∷ []));
       past = fl.past;
       split = ap (λ (l : List (List ℕ)). l ++ f ∷ []) fl.split ∙ append_assoc fl.past rest (f ∷ []);
@@ -56,6 +60,8 @@ send_flows w rest f line audible fl lost_is on_line broken =
       reached = fl.reached;
       on_line = on_line;
       broken = broken;
+      heard = fl.heard;
+      answers = fl.answers;
       pushed = fl.pushed;
       stands = fl.stands;
       half_built = λ few s o.
@@ -117,6 +123,8 @@ lost_flows w rest (u ∷ units) lost fl =
           (sym (cond-false (nat_le 32 (lost + 1)) [] units (lt-leb 32 (lost + 1) few)))
           ((fl.on_line (omega (arith, few))).3);
       broken = λ many. cond-true (nat_le 32 (lost + 1)) [] units (le-leb 32 (lost + 1) many);
+      heard = fl.heard;
+      answers = fl.answers;
       pushed = fl.pushed;
       stands = fl.stands;
       half_built = λ few s o.
@@ -151,15 +159,15 @@ brought_nothing w rest receiver given fl r g =
           (subst (λ (l : List (List ℕ)). Flows (record w { given = l }) rest) (sym g) fl);
     }
 
-delivered : OneFrame → (w : Way) (rest units : List (List ℕ)) (lost : ℕ) (receiver : PortState) (given : List (List ℕ)) → Flows (record w { line = line_of units lost }) rest → HearsIfAny (slice_get units 0) w.receiver receiver w.given given → Brought (record w { line = line_of units lost }) (delivered_on (line_of units lost)) rest receiver given
-delivered one w rest [] lost receiver given fl h =
+delivered : OneFrame → GoesUp → (w : Way) (rest units : List (List ℕ)) (lost : ℕ) (receiver : PortState) (given : List (List ℕ)) → Flows (record w { line = line_of units lost }) rest → HearsIfAny (slice_get units 0) w.receiver receiver w.given given → Brought (record w { line = line_of units lost }) (delivered_on (line_of units lost)) rest receiver given
+delivered one to_peer w rest [] lost receiver given fl h =
     brought_nothing (record w { line = line_of [] lost }) rest receiver given fl h.0 h.1
-delivered one w rest (u ∷ units) lost receiver given fl h =
+delivered one to_peer w rest (u ∷ units) lost receiver given fl h =
     let v : Way = record w { line = line_of (u ∷ units) lost } in
     let few : lost < 32 =
     elim (cases_lt lost 32) [ inl few ↦ few | inr many ↦ let none : u ∷ units ≡ [] = fl.broken many in absurd (cc) ] in
     let on = fl.on_line few in
-    let heard : HasHeard v rest fl.gone receiver given = has_heard one v rest fl u on.0 receiver given few on.1 on.2 h in
+    let heard : HasHeard v rest fl.gone receiver given = has_heard one to_peer v rest fl u on.0 receiver given few on.1 on.2 h in
     record {
       left = heard.left;
       gives = heard.gives;
@@ -174,6 +182,8 @@ delivered one w rest (u ∷ units) lost receiver given fl h =
             reached = omega (arith, heard.reached);
             on_line = λ _. on.3;
             broken = λ many. absurd (omega (arith, many));
+            heard = heard.heard;
+            answers = heard.answers;
             pushed = heard.pushed;
             stands = heard.stands;
             half_built = λ _ s o.
@@ -182,15 +192,15 @@ delivered one w rest (u ∷ units) lost receiver given fl h =
     }
 
 -- a unit that comes, by a repeat
-repeated : OneFrame → (w : Way) (rest units : List (List ℕ)) (lost : ℕ) (receiver : PortState) (given : List (List ℕ)) → Flows (record w { line = line_of units lost }) rest → HearsIfAny (slice_get units 0) w.receiver receiver w.given given → Brought (record w { line = line_of units lost }) (repeated_on (line_of units lost)) rest receiver given
-repeated one w rest [] lost receiver given fl h =
+repeated : OneFrame → GoesUp → (w : Way) (rest units : List (List ℕ)) (lost : ℕ) (receiver : PortState) (given : List (List ℕ)) → Flows (record w { line = line_of units lost }) rest → HearsIfAny (slice_get units 0) w.receiver receiver w.given given → Brought (record w { line = line_of units lost }) (repeated_on (line_of units lost)) rest receiver given
+repeated one to_peer w rest [] lost receiver given fl h =
     brought_nothing (record w { line = line_of [] lost }) rest receiver given fl h.0 h.1
-repeated one w rest (u ∷ units) lost receiver given fl h =
+repeated one to_peer w rest (u ∷ units) lost receiver given fl h =
     let v : Way = record w { line = line_of (u ∷ units) lost } in
     let few : lost < 32 =
     elim (cases_lt lost 32) [ inl few ↦ few | inr many ↦ let none : u ∷ units ≡ [] = fl.broken many in absurd (cc) ] in
     let on = fl.on_line few in
-    let heard : HasHeard v rest fl.gone receiver given = has_heard one v rest fl u on.0 receiver given few on.1 on.2 h in
+    let heard : HasHeard v rest fl.gone receiver given = has_heard one to_peer v rest fl u on.0 receiver given few on.1 on.2 h in
     record {
       left = heard.left;
       gives = heard.gives;
@@ -205,6 +215,8 @@ repeated one w rest (u ∷ units) lost receiver given fl h =
             reached = heard.reached;
             on_line = λ _. on;
             broken = λ many. absurd (omega (arith, many));
+            heard = heard.heard;
+            answers = heard.answers;
             pushed = heard.pushed;
             stands = heard.stands;
             half_built = λ _ s o.
@@ -216,7 +228,7 @@ repeated one w rest (u ∷ units) lost receiver given fl h =
 cleared_flows : (w : Way) (rest : List (List ℕ)) → Flows w rest → Flows (record w { line = quiet_line; receiver = reset_of w.receiver }) []
 cleared_flows w rest fl =
     record {
-      facing = record { to_receiver = fl.facing.to_receiver; from_sender = fl.facing.from_sender; one_master = fl.facing.one_master };
+      facing = fl.facing;
       numbered = fl.numbered;
       past = w.sent;
       split = sym (append-nil w.sent);
@@ -225,6 +237,8 @@ cleared_flows w rest fl =
       reached = omega arith;
       on_line = λ _. refl;
       broken = λ _. refl;
+      heard = [];
+      answers = refl;
       pushed = [];
       stands = idle_stands [] nothing_pushed;
       half_built = λ few s o. absurd (nothing_open s o);
@@ -234,7 +248,7 @@ cleared_flows w rest fl =
 reset_flows : (w : Way) (rest : List (List ℕ)) → Flows w rest → Flows (record w { sender = reset_of w.sender; mute = true }) rest
 reset_flows w rest fl =
     record {
-      facing = record { to_receiver = fl.facing.to_receiver; from_sender = fl.facing.from_sender; one_master = fl.facing.one_master };
+      facing = fl.facing;
       numbered = λ audible. absurd (both_ways true audible refl);
       past = fl.past;
       split = fl.split;
@@ -243,73 +257,78 @@ reset_flows w rest fl =
       reached = fl.reached;
       on_line = λ few. last_from w.sender (reset_of w.sender) (λ x. refl) w.sent fl.gone w.line.units (fl.on_line few);
       broken = fl.broken;
+      heard = fl.heard;
+      answers = fl.answers;
       pushed = fl.pushed;
       stands = fl.stands;
       half_built = fl.half_built;
     }
 
 -- what happens on the way back
-back_flows : (w : Way) (rest : List (List ℕ)) (a : Assembly) (n : ℕ) → Flows w rest → Flows (record w { sender = record w.sender { assembly = a }; receiver = record w.receiver { number = n } }) rest
-back_flows w rest a n fl =
+back_flows : (w : Way) (rest : List (List ℕ)) (link : LinkStation) (a : Assembly) (n : ℕ) → ends link ≡ ends w.sender.link → Flows w rest → Flows (record w { sender = record w.sender { link = link; assembly = a }; receiver = record w.receiver { number = n } }) rest
+back_flows w rest link a n same fl =
+    let sender : PortState = record w.sender { link = link; assembly = a } in
+    let frames : (x : List ℕ) → data_frame w.sender x ≡ data_frame sender x = λ x. ap (λ (e : Ends). sent e x) (sym same) in
     record {
-      facing = record { to_receiver = fl.facing.to_receiver; from_sender = fl.facing.from_sender; one_master = fl.facing.one_master };
+      facing = fl.facing ∙ ap (λ (e : Ends). opposite e) (sym same);
       numbered = fl.numbered;
       past = fl.past;
       split = fl.split;
       came = fl.came;
       gone = fl.gone;
       reached = fl.reached;
-      on_line = λ few.
-          last_from w.sender (record w.sender { assembly = a }) (λ x. refl) w.sent fl.gone w.line.units (fl.on_line few);
+      on_line = λ few. last_from w.sender sender frames w.sent fl.gone w.line.units (fl.on_line few);
       broken = fl.broken;
+      heard = fl.heard;
+      answers = fl.answers;
       pushed = fl.pushed;
       stands = fl.stands;
       half_built = fl.half_built;
     }
 
 -- each event
-pub goes : OneFrame → (w w' : Way) (event : WayEvent) (rest : List (List ℕ)) → Flows w rest → Happens w event w' → Goes event w w' rest
-goes one w w' (Send f) rest fl h = send_goes w w' rest f w.mute refl fl h
-goes one w w' Deliver rest fl h =
+pub goes : OneFrame → GoesUp → (w w' : Way) (event : WayEvent) (rest : List (List ℕ)) → Flows w rest → Happens w event w' → Goes event w w' rest
+goes one to_peer w w' (Send f) rest fl h = send_goes w w' rest f w.mute refl fl h
+goes one to_peer w w' Deliver rest fl h =
     let b : Brought w (delivered_on w.line) rest h.receiver h.given =
-    delivered one w rest w.line.units w.line.lost h.receiver h.given fl h.heard in
+    delivered one to_peer w rest w.line.units w.line.lost h.receiver h.given fl h.heard in
     record {
       left = b.left;
       moves = subst (λ (v : Way). MayGive rest w.given b.left v.given) (sym h.after) b.gives;
       flows = subst (λ (v : Way). Flows v b.left) (sym h.after) b.flows;
     }
-goes one w w' Repeat rest fl h =
+goes one to_peer w w' Repeat rest fl h =
     let b : Brought w (repeated_on w.line) rest h.receiver h.given =
-    repeated one w rest w.line.units w.line.lost h.receiver h.given fl h.heard in
+    repeated one to_peer w rest w.line.units w.line.lost h.receiver h.given fl h.heard in
     record {
       left = b.left;
       moves = subst (λ (v : Way). MayGive rest w.given b.left v.given) (sym h.after) b.gives;
       flows = subst (λ (v : Way). Flows v b.left) (sym h.after) b.flows;
     }
-goes one w w' Lose rest fl h =
+goes one to_peer w w' Lose rest fl h =
     record {
       left = rest;
       moves = refl;
       flows = subst (λ (v : Way). Flows v rest) (sym h) (lost_flows w rest w.line.units w.line.lost fl);
     }
-goes one w w' (Damage octets) rest fl h =
+goes one to_peer w w' (Damage octets) rest fl h =
     record { left = rest; moves = refl; flows = damaged_flows w w' rest octets fl h }
-goes one w w' Clear rest fl h =
+goes one to_peer w w' Clear rest fl h =
     record { left = []; moves = refl; flows = subst (λ (v : Way). Flows v []) (sym h) (cleared_flows w rest fl) }
-goes one w w' SenderReset rest fl h =
+goes one to_peer w w' SenderReset rest fl h =
     record { left = rest; moves = refl; flows = subst (λ (v : Way). Flows v rest) (sym h) (reset_flows w rest fl) }
-goes one w w' WayBack rest fl h =
+goes one to_peer w w' WayBack rest fl h =
     record {
       left = rest;
       moves = refl;
       flows =
-          subst (λ (v : Way). Flows v rest) (sym h)
-          (back_flows w rest w'.sender.assembly w'.receiver.number fl);
+          subst (λ (v : Way). Flows v rest) (sym h.after)
+          (back_flows w rest w'.sender.link w'.sender.assembly w'.receiver.number h.same_ends fl);
     }
 
 -- many events
-pub keeps_flowing : OneFrame → (w w' : Way) (events : List WayEvent) (rest : List (List ℕ)) → Flows w rest → Runs w events w' → (left : List (List ℕ)) × Flows w' left
-keeps_flowing one w w' [] rest fl h = (rest, subst (λ (v : Way). Flows v rest) (sym h) fl)
-keeps_flowing one w w' (event ∷ events) rest fl h =
-    let g : Goes event w h.0 rest = goes one w h.0 event rest fl h.1 in
-    keeps_flowing one h.0 w' events g.left g.flows h.2
+pub keeps_flowing : OneFrame → GoesUp → (w w' : Way) (events : List WayEvent) (rest : List (List ℕ)) → Flows w rest → Runs w events w' → (left : List (List ℕ)) × Flows w' left
+keeps_flowing one to_peer w w' [] rest fl h = (rest, subst (λ (v : Way). Flows v rest) (sym h) fl)
+keeps_flowing one to_peer w w' (event ∷ events) rest fl h =
+    let g : Goes event w h.0 rest = goes one to_peer w h.0 event rest fl h.1 in
+    keeps_flowing one to_peer h.0 w' events g.left g.flows h.2

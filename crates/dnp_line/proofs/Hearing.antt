@@ -1,14 +1,18 @@
 -- What the receiver's port makes of a unit that the sender's port made.
-use Rattle.std.proofs.Common.{◌≡◌, ℕ, ◌%◌, ◌<◌, ◌≤◌, ◌==◌, Bool, true, false, not, inl, inr, List, [], ◌∷◌, ◌++◌, length, drop, refl, sym, ap, ◌∙◌, subst, arith}
-use Rattle.std.proofs.lemmas.Bool.{cases_Bool, cond-true, cond-false, and_from, eq-eqb}
-use Rattle.std.specs.Prelude.{slice_get, Some, if◌then◌else◌}
-use Rattle.std.specs.Int.{bit_at}
+use Rattle.std.proofs.Common.{◌≡◌, ℕ, ◌<◌, ◌≤◌, true, inl, inr, List, [], ◌∷◌, ◌++◌, length, drop, refl, sym, ap, ◌∙◌, subst, arith}
+use Rattle.std.proofs.lemmas.Bool.{cases_Bool, cond-true, cond-false}
+use Rattle.std.specs.Prelude.{slice_get, Some}
 use Rattle.dnp_linkframe.specs.Frames.{Spells}
 use Rattle.dnp_linkframe.specs.declared.frame.Frame.{Frame}
+use Rattle.dnp_linkstation.specs.Control.{primary_function, frame_count_bit}
+use Rattle.dnp_linkstation.specs.Station.{Ends, ends, opposite, is_for, expected, sent, answer_to, dropped, answer, Stands as Answers}
+use Rattle.dnp_linkstation.specs.declared.function.PrimaryFunction.{PrimaryFunction}
+use Rattle.dnp_linkstation.specs.declared.function.PrimaryFunction.TheVariants.{UnconfirmedUserData}
+use Rattle.dnp_linkstation.specs.declared.station.LinkAnswer.{LinkAnswer}
 use Rattle.dnp_transport.specs.Assembly.{Stands}
 use Rattle.dnp_transport.specs.Series.{IsOpen, IsWhole}
 use Rattle.dnp_line.specs.Comes.{ComesTo}
-use Rattle.dnp_line.specs.Ports.{PortState, data_control, data_frame, counts, Takes}
+use Rattle.dnp_line.specs.Ports.{PortState, data_frame, Takes}
 use Rattle.dnp_line.specs.Ways.{Way, Hears, AFrame, NoFrame}
 use Rattle.dnp_line.specs.Flows.{AreFacing, segment_total, IsSegment, IsBegun, Flows, MayGive, Nothing, One}
 use Rattle.dnp_line.proofs.Coming.{ComesTo-push}
@@ -19,60 +23,59 @@ use Rattle.dnp_line.proofs.Arrivals.{open_after, IsWholeAt, whole_after}
 abbrev pub OneFrame : Type 0
 OneFrame = (unit : List ℕ) (frame other : Frame) → Spells unit frame → Spells unit other → frame ≡ other
 
-direction_counts : (m : Bool) → (bit_at (data_control m) 7 == (if not m then 0 else 1)) ≡ true
-direction_counts true = refl
-direction_counts false = refl
+-- the frame in which a station sends user data is for its peer, and is one of UNCONFIRMED_USER_DATA
+abbrev pub GoesUp : Type 0
+GoesUp = (e : Ends) (user : List ℕ) → (is_for (opposite e) (sent e user) ≡ true) × (primary_function (sent e user).control ≡ UnconfirmedUserData)
 
-primary_counts : (m : Bool) → (bit_at (data_control m) 6 == 1) ≡ true
-primary_counts true = refl
-primary_counts false = refl
+-- the user data of such a frame go up
+up_after : (e : Ends) (heard : List Frame) (f : Frame) → is_for e f ≡ true → primary_function f.control ≡ UnconfirmedUserData → (answer e heard f).up ≡ true
+up_after e heard f for_it unconfirmed =
+    ap (λ (a : LinkAnswer). a.up)
+    (cond-true (is_for e f) (answer_to e (primary_function f.control) (expected e heard) (frame_count_bit f.control)) dropped for_it
+    ∙ ap (λ (p : PrimaryFunction). answer_to e p (expected e heard) (frame_count_bit f.control)) unconfirmed)
 
-function_counts : (m : Bool) → (data_control m % 16 == 4) ≡ true
-function_counts true = refl
-function_counts false = refl
-
--- the receiver's port counts what the sender's sends
-counts_facing : (s r : PortState) (x : List ℕ) → AreFacing s r → counts r (data_frame s x) ≡ true
-counts_facing s r x f =
-    let dest : (s.peer == r.own) ≡ true = eq-eqb s.peer r.own f.to_receiver in
-    let source : (s.own == r.peer) ≡ true = eq-eqb s.own r.peer f.from_sender in
-    let direction : (bit_at (data_control s.is_master) 7 == (if r.is_master then 0 else 1)) ≡ true =
-    subst (λ (m : Bool). (bit_at (data_control s.is_master) 7 == (if m then 0 else 1)) ≡ true) (sym f.one_master)
-    (direction_counts s.is_master) in
-    and_from _ _ (and_from _ _ (and_from _ _ (and_from _ _ dest source) direction) (primary_counts s.is_master)) (function_counts s.is_master)
+-- what the sender's port sends goes up at the receiver's, whatever that heard before
+goes_up : GoesUp → (s r : PortState) (x : List ℕ) (heard : List Frame) → AreFacing s r → (answer (ends r.link) heard (data_frame s x)).up ≡ true
+goes_up to_peer s r x heard facing =
+    subst (λ (e : Ends). (answer e heard (data_frame s x)).up ≡ true) (sym facing)
+    (up_after (opposite (ends s.link)) heard (data_frame s x) (to_peer (ends s.link) x).0 (to_peer (ends s.link) x).1)
 
 -- what came of it, where so many segments were gone before
 pub record HasHeard (w : Way) (rest : List (List ℕ)) (gone : ℕ) (receiver : PortState) (given : List (List ℕ)) : Type 0 where
   pub left : List (List ℕ)
   pub past : List (List ℕ)
+  pub heard : List Frame
   pub pushed : List (List ℕ)
   pub gives : MayGive rest w.given left given
   pub facing : AreFacing w.sender receiver
   pub split : w.sent ≡ past ++ left
   pub came : ComesTo given w.sent left
   pub reached : segment_total past ≤ gone
+  pub answers : Answers heard receiver.link
   pub stands : Stands pushed receiver.assembly
   pub newest : (s : List (List ℕ)) → IsOpen pushed s → IsBegun w.sent gone s
 
 -- no fragment was completed
-heard_nothing : (w : Way) (rest : List (List ℕ)) (fl : Flows w rest) (receiver : PortState) (given pushed : List (List ℕ)) → AreFacing w.sender receiver → Stands pushed receiver.assembly → ((s : List (List ℕ)) → IsOpen pushed s → IsBegun w.sent fl.gone s) → given ≡ w.given → HasHeard w rest fl.gone receiver given
-heard_nothing w rest fl receiver given pushed facing stands newest e =
+heard_nothing : (w : Way) (rest : List (List ℕ)) (fl : Flows w rest) (receiver : PortState) (given : List (List ℕ)) (heard : List Frame) (pushed : List (List ℕ)) → AreFacing w.sender receiver → Answers heard receiver.link → Stands pushed receiver.assembly → ((s : List (List ℕ)) → IsOpen pushed s → IsBegun w.sent fl.gone s) → given ≡ w.given → HasHeard w rest fl.gone receiver given
+heard_nothing w rest fl receiver given heard pushed facing answers stands newest e =
     record {
       left = rest;
       past = fl.past;
+      heard = heard;
       pushed = pushed;
       gives = Nothing refl e;
       facing = facing;
       split = fl.split;
       came = subst (λ (g : List (List ℕ)). ComesTo g w.sent rest) (sym e) fl.came;
       reached = fl.reached;
+      answers = answers;
       stands = stands;
       newest = newest;
     }
 
 -- this fragment was completed
-heard_one : (w : Way) (rest : List (List ℕ)) (fl : Flows w rest) (receiver : PortState) (given pushed : List (List ℕ)) (f : List ℕ) → AreFacing w.sender receiver → Stands pushed receiver.assembly → ((s : List (List ℕ)) → IsOpen pushed s → IsBegun w.sent fl.gone s) → IsWholeAt w.sent fl.gone f → given ≡ w.given ++ f ∷ [] → HasHeard w rest fl.gone receiver given
-heard_one w rest fl receiver given pushed f facing stands newest at e =
+heard_one : (w : Way) (rest : List (List ℕ)) (fl : Flows w rest) (receiver : PortState) (given : List (List ℕ)) (heard : List Frame) (pushed : List (List ℕ)) (f : List ℕ) → AreFacing w.sender receiver → Answers heard receiver.link → Stands pushed receiver.assembly → ((s : List (List ℕ)) → IsOpen pushed s → IsBegun w.sent fl.gone s) → IsWholeAt w.sent fl.gone f → given ≡ w.given ++ f ∷ [] → HasHeard w rest fl.gone receiver given
+heard_one w rest fl receiver given heard pushed f facing answers stands newest at e =
     let among : IsAmong fl.past rest at.before f at.after =
     among_rest fl.past rest at.before f at.after (sym fl.split ∙ at.split) (omega (arith, fl.reached, at.high)) in
     let n : ℕ = length among.between in
@@ -83,6 +86,7 @@ heard_one w rest fl receiver given pushed f facing stands newest at e =
     record {
       left = drop n rest;
       past = at.before;
+      heard = heard;
       pushed = pushed;
       gives = One n f here refl e;
       facing = facing;
@@ -91,35 +95,38 @@ heard_one w rest fl receiver given pushed f facing stands newest at e =
           subst (λ (g : List (List ℕ)). ComesTo g w.sent (drop n rest)) (sym e)
           (ComesTo-push w.given w.sent rest n f fl.came here);
       reached = at.low;
+      answers = answers;
       stands = stands;
       newest = newest;
     }
 
-pub has_heard : OneFrame → (w : Way) (rest : List (List ℕ)) (fl : Flows w rest) (u x : List ℕ) (receiver : PortState) (given : List (List ℕ)) → w.line.lost < 32 → IsSegment w.sent fl.gone x → Spells u (data_frame w.sender x) → Hears u w.receiver receiver w.given given → HasHeard w rest fl.gone receiver given
-has_heard one w rest fl u x receiver given few i spells heard =
+pub has_heard : OneFrame → GoesUp → (w : Way) (rest : List (List ℕ)) (fl : Flows w rest) (u x : List ℕ) (receiver : PortState) (given : List (List ℕ)) → w.line.lost < 32 → IsSegment w.sent fl.gone x → Spells u (data_frame w.sender x) → Hears u w.receiver receiver w.given given → HasHeard w rest fl.gone receiver given
+has_heard one to_peer w rest fl u x receiver given few i spells heard =
     elim heard [
       | NoFrame none same e ↦ absurd (none (data_frame w.sender x, spells))
-      | AFrame frame whole f spelled takes shown e ↦
-          let same : frame ≡ data_frame w.sender x = one u frame (data_frame w.sender x) spelled spells in
-          let t : Takes w.receiver (data_frame w.sender x) receiver whole =
-          subst (λ (g : Frame). Takes w.receiver g receiver whole) same takes in
-          let counted : counts w.receiver (data_frame w.sender x) ≡ true = counts_facing w.sender w.receiver x fl.facing in
-          let stands : Stands (x ∷ fl.pushed) receiver.assembly = t.pushed counted fl.pushed fl.stands in
-          let facing : AreFacing w.sender receiver =
-          subst (λ (r : PortState). AreFacing w.sender r) (sym t.keeps)
-          record { to_receiver = fl.facing.to_receiver; from_sender = fl.facing.from_sender; one_master = fl.facing.one_master } in
+      | AFrame frame taken f spelled takes shown e ↦
+          let sent_frame : Frame = data_frame w.sender x in
+          let same : frame ≡ sent_frame = one u frame sent_frame spelled spells in
+          let t : Takes w.receiver sent_frame receiver taken =
+          subst (λ (g : Frame). Takes w.receiver g receiver taken) same takes in
+          let up : (answer (ends w.receiver.link) fl.heard sent_frame).up ≡ true =
+          goes_up to_peer w.sender w.receiver x fl.heard fl.facing in
+          let facing : AreFacing w.sender receiver = t.same_ends ∙ fl.facing in
+          let answers : Answers (sent_frame ∷ fl.heard) receiver.link = t.heard fl.heard fl.answers in
+          let stands : Stands (x ∷ fl.pushed) receiver.assembly = t.pushed fl.heard fl.answers up fl.pushed fl.stands in
           let newest : (s : List (List ℕ)) → IsOpen (x ∷ fl.pushed) s → IsBegun w.sent fl.gone s =
           λ s o. open_after w.sent fl.gone w.line.lost x fl.pushed s few i (fl.half_built few) o in
-          elim (cases_Bool whole) [
+          elim (cases_Bool taken.whole) [
             | inl completes ↦
-                let found : (g : List ℕ) × IsWhole (x ∷ fl.pushed) g = (t.completed counted fl.pushed fl.stands).0 completes in
+                let found : (g : List ℕ) × IsWhole (x ∷ fl.pushed) g =
+                (t.completed fl.heard fl.answers up fl.pushed fl.stands).0 completes in
                 let f_is : f ≡ found.0 = (shown (x ∷ fl.pushed) stands).whole found.0 found.1 in
                 let is_whole : IsWhole (x ∷ fl.pushed) f = subst (λ (g : List ℕ). IsWhole (x ∷ fl.pushed) g) (sym f_is) found.1 in
-                heard_one w rest fl receiver given (x ∷ fl.pushed) f facing stands newest
+                heard_one w rest fl receiver given (sent_frame ∷ fl.heard) (x ∷ fl.pushed) f facing answers stands newest
                 (whole_after w.sent fl.gone w.line.lost x fl.pushed f few i (fl.half_built few) is_whole)
-                (e ∙ cond-true whole (w.given ++ f ∷ []) w.given completes)
+                (e ∙ cond-true taken.whole (w.given ++ f ∷ []) w.given completes)
             | inr completes_none ↦
-                heard_nothing w rest fl receiver given (x ∷ fl.pushed) facing stands newest
-                (e ∙ cond-false whole (w.given ++ f ∷ []) w.given completes_none)
+                heard_nothing w rest fl receiver given (sent_frame ∷ fl.heard) (x ∷ fl.pushed) facing answers stands newest
+                (e ∙ cond-false taken.whole (w.given ++ f ∷ []) w.given completes_none)
           ]
     ]

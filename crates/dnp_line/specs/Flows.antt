@@ -1,6 +1,8 @@
 -- What holds of a way at every moment, and what each event does to the fragments that may still come.
-use Rattle.std.specs.Prelude.{◌≡◌, ℕ, zero, suc, ◌+◌, ◌%◌, ◌<◌, ◌≤◌, false, not, if◌then◌else◌, List, [], ◌∷◌, ◌++◌, length, drop, slice_get, Some}
+use Rattle.std.specs.Prelude.{◌≡◌, ℕ, zero, suc, ◌+◌, ◌%◌, ◌<◌, ◌≤◌, false, if◌then◌else◌, List, [], ◌∷◌, ◌++◌, length, drop, slice_get, Some}
 use Rattle.dnp_linkframe.specs.Frames.{Spells}
+use Rattle.dnp_linkframe.specs.declared.frame.Frame.{Frame}
+use Rattle.dnp_linkstation.specs.Station.{ends, opposite, Stands as Answers}
 use Rattle.dnp_transport.specs.Assembly.{Stands}
 use Rattle.dnp_transport.specs.Cuts.{cut_count, cut}
 use Rattle.dnp_transport.specs.Series.{IsOpen}
@@ -9,11 +11,9 @@ use Rattle.dnp_line.specs.Lines.{broken_losses}
 use Rattle.dnp_line.specs.Ports.{PortState, data_frame}
 use Rattle.dnp_line.specs.Ways.{Way, WayEvent, Send, Deliver, Repeat, Clear}
 
--- each port's station is the other's peer, and one of them is the master
-pub record AreFacing (sender receiver : PortState) : Type 0 where
-  pub to_receiver : sender.peer ≡ receiver.own
-  pub from_sender : sender.own ≡ receiver.peer
-  pub one_master : receiver.is_master ≡ not sender.is_master
+-- the two ends of one link: each port's station is the other's peer, and one of them is the master
+abbrev pub AreFacing : PortState → PortState → Type 0
+AreFacing sender receiver = ends receiver.link ≡ opposite (ends sender.link)
 
 -- how many segments the fragments were cut into
 abbrev pub segment_total : List (List ℕ) → ℕ
@@ -63,7 +63,8 @@ pub record IsRecent (sent : List (List ℕ)) (gone lost : ℕ) (series : List (L
 
 -- what holds of a way: what the receiver's port gave came of what was handed to the sender's port, and `rest` may
 -- still come. So many segments are gone from the line; those that are left are on it, unless it is broken, and belong
--- to the fragments of `rest`. What the receiver's port took, newest first, leaves at most the beginning of one fragment.
+-- to the fragments of `rest`. The receiver's port heard some frames, newest first; what was pushed into what it joins,
+-- newest first, leaves at most the beginning of one fragment.
 pub record Flows (w : Way) (rest : List (List ℕ)) : Type 0 where
   pub facing : AreFacing w.sender w.receiver
   pub numbered : w.mute ≡ false → w.sender.number ≡ segment_total w.sent % 64
@@ -74,6 +75,8 @@ pub record Flows (w : Way) (rest : List (List ℕ)) : Type 0 where
   pub reached : segment_total past ≤ gone
   pub on_line : w.line.lost < broken_losses → AreLast w.sender w.sent gone w.line.units
   pub broken : broken_losses ≤ w.line.lost → w.line.units ≡ []
+  pub heard : List Frame
+  pub answers : Answers heard w.receiver.link
   pub pushed : List (List ℕ)
   pub stands : Stands pushed w.receiver.assembly
   pub half_built : w.line.lost < broken_losses → (series : List (List ℕ)) → IsOpen pushed series →

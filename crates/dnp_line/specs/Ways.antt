@@ -3,8 +3,10 @@
 use Rattle.std.specs.Prelude.{◌≡◌, ℕ, ◌<◌, ◌≤◌, Bool, true, false, not, if◌then◌else◌, List, [], ◌∷◌, ◌++◌, length, Option, Some, None}
 use Rattle.dnp_linkframe.specs.Frames.{Spells}
 use Rattle.dnp_linkframe.specs.declared.frame.Frame.{Frame}
+use Rattle.dnp_linkstation.specs.Station.{ends}
 use Rattle.dnp_transport.specs.Cuts.{cut_count, cuts}
 use Rattle.dnp_line.specs.Lines.{LineState, quiet_line, front_of, sent_on, delivered_on, repeated_on, lost_on, ReadsAsFrame, Damages, cleared_on}
+use Rattle.dnp_line.specs.declared.port.Taken.{Taken}
 use Rattle.dnp_line.specs.Ports.{PortState, new_port, data_frame, moved_on, Takes, IsShown, reset_of}
 
 -- the line and the ports at its ends; whether the sender hands over nothing more until the link is opened anew; the
@@ -85,8 +87,8 @@ SendsUnlessMute false fragment old new = Sends fragment old new
 -- the receiver's port gets a unit: where it reads as a frame the port takes that, and gives the fragment that this made
 -- whole, if it did
 pub data Hears (unit : List ℕ) (old new : PortState) (given given' : List (List ℕ)) : Type 0 where
-  AFrame : (frame : Frame) → (whole : Bool) → (fragment : List ℕ) → Spells unit frame → Takes old frame new whole →
-      IsShown new fragment → given' ≡ (if whole then given ++ fragment ∷ [] else given) → Hears unit old new given given'
+  AFrame : (frame : Frame) → (taken : Taken) → (fragment : List ℕ) → Spells unit frame → Takes old frame new taken →
+      IsShown new fragment → given' ≡ (if taken.whole then given ++ fragment ∷ [] else given) → Hears unit old new given given'
   NoFrame : (ReadsAsFrame unit → ⊥) → new ≡ old → given' ≡ given → Hears unit old new given given'
 
 -- the same for the unit that comes, if one does
@@ -108,12 +110,12 @@ pub record IsDamaged (octets : List ℕ) (old new : Way) : Type 0 where
   pub after : new ≡ record old { line = line }
 
 -- on the way back the sender's port takes what comes, and the receiver's port sends
-abbrev pub IsWayBack : Way → Way → Type 0
-IsWayBack old new =
-    new ≡ record old {
-      sender = record old.sender { assembly = new.sender.assembly };
-      receiver = record old.receiver { number = new.receiver.number };
-    }
+pub record IsWayBack (old new : Way) : Type 0 where
+  pub same_ends : ends new.sender.link ≡ ends old.sender.link
+  pub after : new ≡ record old {
+    sender = record old.sender { link = new.sender.link; assembly = new.sender.assembly };
+    receiver = record old.receiver { number = new.receiver.number };
+  }
 
 -- the event takes the way from `old` to `new`
 abbrev pub Happens : Way → WayEvent → Way → Type 0

@@ -7,6 +7,7 @@ ghost use Rattle.dnp_line.specs.Flows.{AreFacing, Flows, RestMoves};
 ghost use Rattle.dnp_line.specs.Ways.{Way, new_way, opened_on, WayEvent, Happens, Runs};
 
 use dnp_linkframe::laws::a_unit_spells_one_frame;
+use dnp_linkstation::laws::what_is_sent_is_for_the_peer;
 
 /// The law of a line between two ports: the fragments that the receiver's port gave came of those that were handed to
 /// the sender's port, after every run of sends, deliveries, repeats, losses, damage and clearings since the link was
@@ -26,6 +27,7 @@ pub fn line_law()
         (left : List (List ℕ)) × Flows new left }
 {
     a_unit_spells_one_frame();
+    what_is_sent_is_for_the_peer();
 }
 
 /// Each list came of itself.

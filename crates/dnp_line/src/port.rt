@@ -1,22 +1,17 @@
 //! A station's port to a line.
-ghost use Rattle.std.specs.Prelude.{◌≡◌, ℕ, ◌<◌, ◌≤◌, Bool, List, [], length, None};
+ghost use Rattle.std.specs.Prelude.{◌≡◌, ℕ, ◌<◌, ◌≤◌, ◌↔◌, List, [], ◌∷◌, length, IsTrue};
 ghost use Rattle.dnp_linkframe.specs.Frames.{Spells};
 ghost use Rattle.dnp_transport.specs.Assembly.{Stands};
 ghost use Rattle.dnp_transport.specs.Cuts.{cut_count, cut};
-ghost use Rattle.dnp_line.specs.Ports.{new_port, data_control, data_frame, moved_on, counts as counts_of, Takes, IsShown, reset_of};
+ghost use Rattle.dnp_transport.specs.Series.{IsWhole};
+ghost use Rattle.dnp_linkstation.specs.Station.{Stands as Answers};
+ghost use Rattle.dnp_line.specs.Ports.{new_port, data_frame, moved_on, Takes, IsShown, reset_of};
 
 use arrayvec::ArrayVec;
 use dnp_linkframe::{Frame, MAX_FRAME, write_frame};
+use dnp_linkstation::LinkStation;
 use dnp_transport::{Assembler, Pushed, segment};
 use std::marker::Model;
-
-// The function of user data that needs no confirmation.
-const USER_DATA: u8 = 4;
-
-// CONTROL of such a frame (IEEE Std 1815-2012, data link layer): DIR (0x80) from a master, and PRM (0x40).
-const MASTER_DATA: u8 = 0xC0 + USER_DATA;
-
-const OUTSTATION_DATA: u8 = 0x40 + USER_DATA;
 
 // The numbers of segments go round from 0 to 63.
 const NUMBERS: usize = 64;
@@ -35,9 +30,7 @@ pub struct Taken {
 /// to fragments (IEEE Std 1815-2012, transport function over data link layer).
 #[derive(Debug, Drop)]
 pub struct Port {
-    own: u16,
-    peer: u16,
-    is_master: bool,
+    link: LinkStation,
 
     // The number of the next segment.
     number: u8,
@@ -50,7 +43,7 @@ impl Model for Port {
 
     ghost Value = { PortState };
 
-    ghost view = { λ p. record { own = p.own; peer = p.peer; is_master = p.is_master; number = p.number; assembly = p.assembler } };
+    ghost view = { λ p. record { link = p.link; number = p.number; assembly = p.assembler } };
 
     ghost invariant = { λ p. p.number < 64 };
 }
@@ -59,12 +52,11 @@ impl Port {
     /// The port of the station with the address `own`, whose peer has the address `peer`.
     pub fn new(own: u16, peer: u16, is_master: bool) -> Port
         ensures port { result ≡ new_port own peer is_master }
+        ensures answers { Answers [] result.link }
         ensures stands { Stands [] result.assembly }
     {
         Port {
-            own,
-            peer,
-            is_master,
+            link: LinkStation::new(own, peer, is_master),
             number: 0,
             assembler: Assembler::new(),
         }
@@ -81,23 +73,8 @@ impl Port {
         ensures spells { Spells result.items (data_frame self.now (cut fragment.now self.now.number k)) }
         ensures only { (unit : List ℕ) → Spells unit (data_frame self.now (cut fragment.now self.now.number k)) → unit ≡ result.items }
     {
-        write_frame(&Frame {
-            control: self.control(),
-            dest: self.peer,
-            source: self.own,
-            user: segment(fragment, k, self.number),
-        })
-    }
-
-    // CONTROL of the station's user data.
-    fn control(&self) -> u8
-        ensures { result ≡ data_control self.now.is_master }
-    {
-        if self.is_master {
-            MASTER_DATA
-        } else {
-            OUTSTATION_DATA
-        }
+        let segment = segment(fragment, k, self.number);
+        write_frame(&self.link.send(segment.as_slice()))
     }
 
     /// Moves the number of the next segment on by `n`, once so many were sent.
@@ -107,43 +84,30 @@ impl Port {
         self.number = ((usize::from(self.number) + n % NUMBERS) % NUMBERS) as u8;
     }
 
-    /// Takes a frame that came. One of user data from the peer is joined to those before it; every other is ignored.
-    /// There is no reply.
+    /// Takes a frame that came. The station's end of the link answers it, and user data that go up are joined to those
+    /// before them.
+    ///
+    /// The reply, if there is one, is the link layer's: an acknowledgment or refusal of confirmed user data, of a test
+    /// or of a reset, the link's status, or that a function is not supported (IEEE Std 1815-2012, data link layer).
     pub fn take(&mut self, frame: &Frame) -> Taken
-        ensures takes { Takes self.old frame.now self.new result.whole }
-        ensures reply { result.reply ≡ None }
+        ensures takes { Takes self.old frame.now self.new result }
     {
-        if !self.counts(frame) {
-            return Taken {
-                whole: false,
-                reply: None,
-            };
-        }
-        let pushed = self.assembler.push(frame.user.as_slice());
+        let answer = self.link.receive(frame);
+        let whole = answer.up && self.joins(frame.user.as_slice());
         Taken {
-            whole: matches!(pushed, Pushed::Whole),
-            reply: None,
+            whole,
+            reply: answer.reply,
         }
     }
 
-    // Does the frame bring user data from the peer?
-    fn counts(&self, frame: &Frame) -> bool
-        ensures { result ≡ counts_of self.now frame.now }
+    // Joins user data to those before them. Does that complete a fragment?
+    fn joins(&mut self, user: &[u8]) -> bool
+        ensures pushed { (before : List (List ℕ)) → Stands before self.old.assembly → Stands (user.now ∷ before) self.new.assembly }
+        ensures completed { (before : List (List ℕ)) → Stands before self.old.assembly →
+            IsTrue result ↔ ((fragment : List ℕ) × IsWhole (user.now ∷ before) fragment) }
+        ensures rest { self.new ≡ record self.old { assembly = self.new.assembly } }
     {
-        if frame.dest != self.own {
-            return false;
-        }
-        if frame.source != self.peer {
-            return false;
-        }
-        let peer_direction = u8::from(!self.is_master);
-        if (frame.control >> 7) & 1 != peer_direction {
-            return false;
-        }
-        if (frame.control >> 6) & 1 != 1 {
-            return false;
-        }
-        frame.control % 16 == USER_DATA
+        matches!(self.assembler.push(user), Pushed::Whole)
     }
 
     /// The fragment that the last frame of user data completed, until the next, and else no octets.
@@ -159,19 +123,20 @@ impl Port {
         ensures { result ≡ self.now }
     {
         Port {
-            own: self.own,
-            peer: self.peer,
-            is_master: self.is_master,
+            link: self.link.copy(),
             number: self.number,
             assembler: self.assembler.copy(),
         }
     }
 
-    /// Forgets what was sent and taken: the next segment has the number 0, and no fragment is begun.
+    /// Forgets what was sent and taken: the next segment has the number 0, no fragment is begun, and the link states
+    /// were never reset.
     pub fn reset(&mut self)
         ensures port { self.new ≡ reset_of self.old }
+        ensures answers { Answers [] self.new.link }
         ensures stands { Stands [] self.new.assembly }
     {
+        self.link.reset();
         self.number = 0;
         self.assembler.reset();
     }

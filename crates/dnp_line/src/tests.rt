@@ -4,7 +4,7 @@ ghost use Rattle.dnp_line.specs.Comes.{Comes};
 
 use crate::way::{deliver, send};
 use crate::{Line, Port};
-use dnp_linkframe::read_frame;
+use dnp_linkframe::{read_frame, write_frame};
 use dnp_transport::segment_count;
 
 // A master's READ of classes 1, 2, 3 and 0 to the outstation 10, as a link frame.
@@ -68,6 +68,36 @@ fn carries_a_fragment_of_two_segments(rt: HostRuntime) {
     send(&mut line, &mut master, &fragment);
     let third = read_frame(line.front().unwrap_or(&[])).expect(&rt, "a frame");
     assert_eq!(rt; third.user.first().copied(), Some(0x42));
+}
+
+// The link layer of the outstation 1, whose master is 1024: a reset gets its ACK; confirmed user data go up once, and a
+// repeat gets its ACK alone.
+#[test]
+fn replies_and_takes_confirmed_data_once(rt: HostRuntime) {
+    let reset = [0x05, 0x64, 0x05, 0xC0, 0x01, 0x00, 0x00, 0x04, 0xE9, 0x21];
+    let read = [
+        0x05, 0x64, 0x0B, 0xF3, 0x01, 0x00, 0x00, 0x04, 0x29, 0x07, 0xC0, 0xC0, 0x01, 0x3C, 0x02,
+        0x06, 0x54, 0xE0,
+    ];
+    let ack = [0x05, 0x64, 0x05, 0x00, 0x00, 0x04, 0x01, 0x00, 0x19, 0xA6];
+    let nack = [0x05, 0x64, 0x05, 0x01, 0x00, 0x04, 0x01, 0x00, 0x1F, 0x85];
+    let mut port = Port::new(1, 1024, false);
+    for (unit, whole, reply) in [
+        (&read[..], false, &nack[..]),
+        (&reset[..], false, &ack[..]),
+        (&read[..], true, &ack[..]),
+        (&read[..], false, &ack[..]),
+    ] {
+        let frame = read_frame(unit).expect(&rt, "a frame");
+        let taken = port.take(&frame);
+        assert_eq!(rt; taken.whole, whole);
+        let sent = write_frame(&taken.reply.expect(&rt, "a reply"));
+        assert_eq!(rt; sent.as_slice(), reply);
+    }
+    assert_eq!(rt; port.fragment(), [0xC0, 0x01, 0x3C, 0x02, 0x06].as_slice());
+    port.reset();
+    let taken = port.take(&read_frame(&read).expect(&rt, "a frame"));
+    assert_eq!(rt; taken.reply.map(|frame| frame.control), Some(0x01));
 }
 
 // Whether `came` came of `sent`: the relation of the clause as a function that runs, so that a table of pairs made by

@@ -64,6 +64,10 @@ expected e (frame ∷ before) =
 abbrev pub Stands : List Frame → LinkStation → Type 0
 Stands frames station = station.expected ≡ expected (ends station) frames
 
+-- a station that no frame came to since it was new or reset
+abbrev pub fresh : Ends → LinkStation
+fresh e = record { own = e.own; peer = e.peer; is_master = e.is_master; expected = None }
+
 -- DIR of the station's own frames
 abbrev pub direction : Ends → ℕ
 direction e = (if e.is_master then 128 else 0)

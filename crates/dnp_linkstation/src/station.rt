@@ -2,7 +2,7 @@
 
 ghost use Rattle.std.specs.Prelude.{◌≡◌, ℕ, ◌+◌, ◌<◌, ◌≤◌, List, [], ◌∷◌, length, true, false, not};
 ghost use Rattle.dnp_linkstation.specs.Control.{primary_function, frame_count_bit};
-ghost use Rattle.dnp_linkstation.specs.Station.{ends, is_for, Stands, answer, sent, replies, direction, is_same, dropped};
+ghost use Rattle.dnp_linkstation.specs.Station.{ends, fresh, is_for, Stands, answer, sent, replies, direction, is_same, dropped};
 ghost use Rattle.dnp_linkframe.specs.declared.frame.Frame.{Frame as FrameValue};
 
 use crate::function::{PrimaryFunction, SecondaryFunction, UNCONFIRMED_USER_DATA};
@@ -44,6 +44,7 @@ impl LinkStation {
     /// A station with the address `own`, whose peer has the address `peer`. Its link states were never
     /// reset.
     pub fn new(own: u16, peer: u16, is_master: bool) -> Self
+        ensures fresh { result ≡ fresh (record { own = own; peer = peer; is_master = is_master }) }
         ensures ends { ends result ≡ record { own = own; peer = peer; is_master = is_master } }
         ensures stands { Stands [] result }
     {
@@ -136,6 +137,7 @@ impl LinkStation {
 
     /// Forgets all frames: the link states were never reset.
     pub fn reset(&mut self)
+        ensures fresh { self.new ≡ fresh (ends self.old) }
         ensures ends { ends self.new ≡ ends self.old }
         ensures stands { Stands [] self.new }
     {

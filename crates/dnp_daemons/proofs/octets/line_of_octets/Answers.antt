@@ -1,4 +1,4 @@
-use Rattle.std.proofs.Common.{◌≡◌, ◌≤◌, [], ◌∷◌, ◌++◌, length, take, ◌+◌, ◌/◌, ◌%◌, slice_index_or, arith, ap}
+use Rattle.std.proofs.Common.{◌≡◌, [], ◌∷◌, ◌++◌, length, take, ◌+◌, ◌/◌, ◌%◌, slice_index_or, arith, ap}
 use Rattle.std.proofs.lemmas.List.{length-take}
 use Rattle.dnp_daemons.specs.OctetLines.{digit, line_of}
 use Rattle.dnp_daemons.proofs.Spaced.{length-line_of}

@@ -1,4 +1,4 @@
-use Rattle.std.proofs.Common.{rules, ◌≡◌, ℕ, length, ◌∙◌, ap, subst, min, refl}
+use Rattle.std.proofs.Common.{rules, ◌≡◌, ℕ, length, ◌∙◌, ap, min, refl}
 use Rattle.dnp_daemons.specs.Station.{IsClassHeader}
 use Rattle.dnp_daemons.proofs.ClassHeaders.{Left, left_all, left_more, none_left, no_headers}
 use Rattle.dnp_daemons.proofs.station.are_class_headers.Goals as goal

@@ -8,14 +8,14 @@ pub returns-then-whole : goal.returns-then-whole
 returns-then-whole c =
     λ given. (
       if c.take-whole.result.whole then given ++ c.fragment.result.now ∷ [] else given,
-      AFrame c.in-Ok.frame c.take-whole.result.whole c.fragment.result.now c.in-Ok.ensures.found c.take-whole.ensures.takes c.fragment.ensures.shown refl,
+      AFrame c.in-Ok.frame c.take-whole.result c.fragment.result.now c.in-Ok.ensures.found c.take-whole.ensures.takes c.fragment.ensures.shown refl,
     )
 
 pub returns-else-whole : goal.returns-else-whole
 returns-else-whole c =
     λ given. (
       if c.take-whole.result.whole then given ++ c.fragment.result.now ∷ [] else given,
-      AFrame c.in-Ok.frame c.take-whole.result.whole c.fragment.result.now c.in-Ok.ensures.found c.take-whole.ensures.takes c.fragment.ensures.shown refl,
+      AFrame c.in-Ok.frame c.take-whole.result c.fragment.result.now c.in-Ok.ensures.found c.take-whole.ensures.takes c.fragment.ensures.shown refl,
     )
 
 pub returns-in-Err : goal.returns-in-Err
