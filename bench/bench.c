@@ -13,9 +13,13 @@ uint16_t dnp_bench_check_word(const uint8_t *octets, size_t count);
 uint64_t dnp_bench_read_frame(const uint8_t *unit, size_t size, size_t pick);
 uint64_t dnp_bench_write_frames(const uint8_t *user, size_t size, uint64_t count);
 uint64_t dnp_bench_feed(const uint8_t *stream, size_t size, size_t piece);
+uint64_t dnp_bench_walk(const uint8_t *fragment, size_t size);
+uint64_t dnp_bench_build(uint64_t turn);
 
-// The same in plain Rust: plain.rs.
+// The same in plain Rust: plain_rust/.
 uint64_t plain_feed(const uint8_t *stream, size_t size, size_t piece);
+uint64_t plain_walk(const uint8_t *fragment, size_t size);
+uint64_t plain_build(uint64_t turn);
 
 enum { WAYS = 4, UNITS = 64, MOST_OCTETS = 4096 };
 
@@ -174,6 +178,63 @@ static void stream_rows(void) {
         stream_row("05 64 05 64 ..", STREAM, pieces[j]);
 }
 
+// Fragments that are read and walked, and such that are built.
+static uint8_t fragment[2048];
+static size_t fragment_size;
+
+static uint64_t walked(int way, uint64_t turn) {
+    (void)turn;
+    return (way ? plain_walk : dnp_bench_walk)(fragment, fragment_size);
+}
+
+static uint64_t built(int way, uint64_t turn) { return (way ? plain_build : dnp_bench_build)(turn % 65536); }
+
+static void fragment_row(const char *what, uint64_t (*work)(int, uint64_t), uint64_t count) {
+    double best[2] = {0};
+    uint64_t sums[2];
+    count /= scale;
+    for (int round = 0; round < rounds; round++)
+        for (int way = 0; way < 2; way++) {
+            double start = seconds();
+            sums[way] = 0;
+            for (uint64_t turn = 0; turn < count; turn++)
+                sums[way] = sums[way] * 31 + work(way, turn);
+            double took = seconds() - start;
+            if (!round || took < best[way]) best[way] = took;
+        }
+    printf("%-33s %11.1f Kfragment/s %7.2f%s\n", what, count / best[0] / 1e3, best[1] / best[0], sums[0] == sums[1] ? "" : "  THE SUMS DIFFER");
+    if (sums[0] != sums[1]) failed = 1;
+    all_sums = all_sums * 31 + sums[0];
+}
+
+// A fragment that begins so, and then `count` times `size` random octets.
+static void begin_fragment(const uint8_t *front, size_t front_size, size_t count, size_t size) {
+    memcpy(fragment, front, front_size);
+    fragment_size = front_size;
+    for (size_t i = 0; i < count * size; i++)
+        fragment[fragment_size++] = random_octet();
+}
+
+static void fragment_rows(void) {
+    static const uint8_t events[] = {0xE0, 0x81, 0x00, 0x00, 0x20, 0x03, 0x28, 0x9C, 0x00};
+    static const uint8_t values[] = {0xC0, 0x81, 0x00, 0x00, 0x1E, 0x01, 0x01, 0x00, 0x00, 0x8F, 0x01};
+    printf("\n%-33s %23s   beside plain Rust\n", "fragments", "proved");
+    begin_fragment(events, sizeof events, 156, 13);
+    fragment_row("read: 156 analog events", walked, 40000);
+    begin_fragment(values, sizeof values, 400, 5);
+    fragment_row("read: 400 analog values", walked, 40000);
+    fragment_size = 0;
+    fragment[fragment_size++] = 0xC0;
+    fragment[fragment_size++] = 0x01;
+    for (int i = 0; i < 682; i++) {
+        fragment[fragment_size++] = 0x3C;
+        fragment[fragment_size++] = 2 + i % 3;
+        fragment[fragment_size++] = 0x06;
+    }
+    fragment_row("read: a READ of 682 headers", walked, 40000);
+    fragment_row("built: 156 analog events", built, 40000);
+}
+
 int main(int argc, char **argv) {
     if (argc > 1 && !strcmp(argv[1], "--quick")) rounds = 2, scale = 10;
     plain_start();
@@ -197,6 +258,7 @@ int main(int argc, char **argv) {
         row(what, "frame", 1, frames_written, 12800000 / (users[i] + 10));
     }
     stream_rows();
+    fragment_rows();
     printf("\nsum of all that was made: %016llx, %s\n", (unsigned long long)all_sums, failed ? "AND NOT ONE FOR ALL" : "the same for all");
     return failed;
 }

@@ -9,6 +9,10 @@
 
 uint64_t dnp_memory_feed(void);
 uint64_t dnp_memory_reserve(void);
+uint64_t dnp_memory_points(void);
+uint64_t dnp_memory_lanes(void);
+uint64_t dnp_memory_book(void);
+uint64_t dnp_memory_outputs(void);
 
 static const struct {
     const char *name;
@@ -16,6 +20,10 @@ static const struct {
 } cases[] = {
     {"feed", dnp_memory_feed},
     {"reserve", dnp_memory_reserve},
+    {"points", dnp_memory_points},
+    {"lanes", dnp_memory_lanes},
+    {"book", dnp_memory_book},
+    {"outputs", dnp_memory_outputs},
 };
 
 int main(void) {

@@ -3,5 +3,8 @@
 //! do then what it would have done: a refusal changes nothing. All ones stand for a wrong turn.
 #![tactic(auto)]
 
+mod controls;
 mod frames;
+mod lanes;
 mod lines;
+mod points;

@@ -20,6 +20,15 @@ impl Model for Status {
     ghost inverse = { λ code. record { 0 = code } };
 }
 
+/// SUCCESS.
+impl Default for Status {
+    ghost is_default = { λ status. status ≡ 0 };
+
+    fn default() -> Status {
+        Status::SUCCESS
+    }
+}
+
 impl Status {
     /// The command was accepted, selected or done.
     pub const SUCCESS: Status = Status(0);

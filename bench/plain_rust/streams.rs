@@ -1,5 +1,4 @@
-//! The same work in plain Rust, as a Rust programmer would write it: the measure that the proved
-//! library is held against where memory is asked for.
+//! Link frames in a stream that comes in pieces.
 
 const BLOCK: usize = 16;
 const CHECKED_HEADER: usize = 10;

@@ -1,0 +1,5 @@
+//! The same work in plain Rust, as a Rust programmer would write it: the measure that the proved
+//! library is held against.
+
+mod fragments;
+mod streams;

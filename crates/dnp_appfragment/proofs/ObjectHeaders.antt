@@ -1,0 +1,200 @@
+-- Rows and commands that are put are headers of their function, each with one object.
+use Rattle.std.proofs.Common.{◌≡◌, Bool, true, false, IsTrue, refl, sym, ◌∙◌, ap, subst, ℕ, ◌+◌, ◌-◌, ◌*◌, ◌^◌, ◌<◌, ◌==◌, ◌||◌, List, [], ◌∷◌, length, arith, Option, Some, None, IsSome, ◌⊎◌, inl, inr, eqb-true}
+use Rattle.std.specs.Option.{option_map, option_map_or, option_and_then, IsSomeAnd}
+use Rattle.dnp_objects.specs.Objects.{objects, content_of, object_size, content_size, writable, shape_size}
+use Rattle.dnp_objects.specs.Rows.{row_fits, row_octets}
+use Rattle.dnp_objects.specs.Commands.{object_of, index_of, command_octets}
+use Rattle.dnp_objects.specs.declared.command.Command.{Command}
+use Rattle.dnp_objects.specs.declared.command.Command.TheVariants as command
+use Rattle.dnp_objects.specs.declared.row.Kind.{Kind}
+use Rattle.dnp_objects.specs.declared.row.Kind.TheVariants.{Binary, Counter, Analog}
+use Rattle.dnp_objects.specs.declared.row.Row.{Row}
+use Rattle.dnp_objects.specs.declared.table.Content.{Content}
+use Rattle.dnp_objects.specs.declared.table.Content.TheVariants as content
+use Rattle.dnp_objects.proofs.Spelling.{length-row_octets}
+use Rattle.dnp_appfragment.specs.declared.function.Function.{Function}
+use Rattle.dnp_appfragment.specs.declared.header.Range.TheVariants as range
+use Rattle.dnp_appfragment.specs.declared.table.Form.{Form}
+use Rattle.dnp_appfragment.specs.declared.table.Form.TheVariants as form
+use Rattle.dnp_appfragment.specs.Table.{form_eq, form_of, is_response, rules, takes_of, IsInTable}
+use Rattle.dnp_appfragment.specs.Headers.{Head, octets_of, objects_size, IsHeader, Divide}
+use Rattle.dnp_appfragment.specs.Fragments.{looked_at}
+use Rattle.dnp_appfragment.specs.Built.{carries_commands}
+use Rattle.dnp_appfragment.specs.Written.{indexed, spanned, Fits, written, FitsEvent, event_object, FitsPoint, is_point_group, point_variation}
+
+-- ---- forms
+
+form_is : (f : Form) → form_eq f form.Response ≡ true → f ≡ form.Response
+form_is form.Response is = refl
+form_is form.Bare is = cc
+form_is form.Read is = cc
+form_is form.Write is = cc
+form_is form.Command is = cc
+form_is form.Enable is = cc
+
+pub response_form : (f : Function) → IsTrue (is_response f) → form_of f ≡ form.Response
+response_form f is = form_is (form_of f) is
+
+command_form : (f : Form) → form_eq f form.Command || form_eq f form.Response ≡ true → (f ≡ form.Command) ⊎ (f ≡ form.Response)
+command_form form.Command is = inl refl
+command_form form.Response is = inr refl
+command_form form.Bare is = cc
+command_form form.Read is = cc
+command_form form.Write is = cc
+command_form form.Enable is = cc
+
+-- a fragment without headers has none
+none_bare : (g v q : ℕ) → IsInTable form.Bare g v q → ⊥
+unfolding takes_of rules objects
+none_bare g v q is = is
+
+bare_divides : (octets : List ℕ) (hs : List Head) → Divide form.Bare octets hs → Divide form.Bare [] hs
+bare_divides octets [] divide = record { each = tt; whole = refl }
+bare_divides octets (h ∷ hs) divide = absurd (none_bare h.group h.variation _ divide.each.0.object)
+
+pub looked_at_divides : (f : Form) (octets : List ℕ) (hs : List Head) → Divide f octets hs → Divide f (looked_at f octets) hs
+looked_at_divides form.Bare octets hs divide = bare_divides octets hs divide
+looked_at_divides form.Read octets hs divide = divide
+looked_at_divides form.Write octets hs divide = divide
+looked_at_divides form.Command octets hs divide = divide
+looked_at_divides form.Enable octets hs divide = divide
+looked_at_divides form.Response octets hs divide = divide
+
+-- ---- the octets of one object
+
+pub record IsSized (g v : ℕ) (octets : List ℕ) : Type 0 where
+  pub size : ℕ
+  pub size_is : object_size g v ≡ Some size
+  pub length_is : length octets ≡ size
+
+pub written_sized : (g v : ℕ) (row : Row) → Fits g v row → IsSized g v (written g v row)
+written_sized g v row fits = go (content_of g v) refl fits
+  where
+    go : (o : Option Content) → content_of g v ≡ o → IsSomeAnd (option_and_then writable o) (λ shape. IsTrue (row_fits shape row))
+        → IsSized g v (option_map_or (λ shape. row_octets shape row) (option_and_then writable o) [])
+    go None is fits = absurd fits
+    go (Some (content.Row s)) is fits = record { size = shape_size s; size_is = ap (option_map content_size) is; length_is = length-row_octets s row fits }
+    go (Some (content.WrittenRow s)) is fits = record { size = shape_size s; size_is = ap (option_map content_size) is; length_is = length-row_octets s row fits }
+    go (Some content.Block) is fits = absurd fits
+    go (Some (content.Setpoint w)) is fits = absurd fits
+    go (Some (content.Other n)) is fits = absurd fits
+
+pub command_sized : (c : Command) (status : ℕ) → IsSized (object_of c).0 (object_of c).1 (command_octets c status)
+unfolding content_of objects
+command_sized (command.Block index code count on off) status = record { size = 11; size_is = refl; length_is = refl }
+command_sized (command.Set16 index value) status = record { size = 3; size_is = refl; length_is = refl }
+command_sized (command.Set32 index value) status = record { size = 5; size_is = refl; length_is = refl }
+
+pub has_size : (g v : ℕ) (octets : List ℕ) → IsSized g v octets → IsSome (object_size g v)
+has_size g v octets sized = subst (λ (o : Option ℕ). IsSome o) (sym sized.size_is) refl
+
+-- ---- the headers
+
+indexed_header : (f : Form) (g v i : ℕ) (octets : List ℕ) → IsInTable f g v 0x28
+    → objects_size f g v (range.Indexed true 1) ≡ octets_of 1 2 (object_size g v) → IsSized g v octets → IsHeader f (indexed g v i octets)
+indexed_header f g v i octets object all sized =
+    let size : octets_of 1 2 (object_size g v) ≡ 1 * (2 + sized.size) = ap (λ (o : Option ℕ). octets_of 1 2 o) sized.size_is in
+    record { object = object; fits = omega arith; forward = tt; objects = omega (arith, all, size, sized.length_is) }
+
+spanned_header : (g v i : ℕ) (octets : List ℕ) → IsInTable form.Response g v 0x01 → i < 2 ^ 16 → IsSized g v octets
+    → IsHeader form.Response (spanned g v i octets)
+spanned_header g v i octets object fits sized =
+    let size : octets_of (i + 1 - i) 0 (object_size g v) ≡ (i + 1 - i) * (0 + sized.size) = ap (λ (o : Option ℕ). octets_of (i + 1 - i) 0 o) sized.size_is in
+    let one : i + 1 - i ≡ 1 = omega arith in
+    let product : (i + 1 - i) * (0 + sized.size) ≡ 1 * (0 + sized.size) = ap (λ (n : ℕ). n * (0 + sized.size)) one in
+    record { object = object; fits = (fits, fits); forward = omega arith; objects = omega (arith, size, product, sized.length_is) }
+
+event_in_table : (k : Kind) (time : Option ℕ) → IsInTable form.Response (event_object k time).0 (event_object k time).1 0x28
+unfolding takes_of rules objects
+event_in_table Binary (Some time) = refl
+event_in_table Binary None = refl
+event_in_table Counter (Some time) = refl
+event_in_table Counter None = refl
+event_in_table Analog (Some time) = refl
+event_in_table Analog None = refl
+
+pub event_header : (f : Function) (k : Kind) (time : Option ℕ) (i : ℕ) (octets : List ℕ) → IsTrue (is_response f)
+    → IsSized (event_object k time).0 (event_object k time).1 octets
+    → IsHeader (form_of f) (indexed (event_object k time).0 (event_object k time).1 i octets)
+event_header f k time i octets response sized =
+    subst (λ (x : Form). IsHeader x (indexed (event_object k time).0 (event_object k time).1 i octets)) (sym (response_form f response))
+    (indexed_header form.Response _ _ i octets (event_in_table k time) refl sized)
+
+point_in_table : (g : ℕ) → IsTrue (is_point_group g) → IsInTable form.Response g (point_variation g) 0x01
+unfolding takes_of rules objects
+point_in_table g is =
+    one 1 (1 == g) refl refl (λ a.
+    one 10 (10 == g) refl refl (λ b.
+    one 20 (20 == g) refl refl (λ c.
+    one 30 (30 == g) refl refl (λ d.
+    absurd (no (1 == g) (10 == g) (20 == g) (30 == g) a b c d is)))))
+  where
+    one : (n : ℕ) (b : Bool) → (n == g) ≡ b → IsInTable form.Response n (point_variation n) 0x01
+        → (b ≡ false → IsInTable form.Response g (point_variation g) 0x01) → IsInTable form.Response g (point_variation g) 0x01
+    one n true same here other = subst (λ (m : ℕ). IsInTable form.Response m (point_variation m) 0x01) (eqb-true n g same) here
+    one n false same here other = other refl
+
+    no : (a b c d : Bool) → a ≡ false → b ≡ false → c ≡ false → d ≡ false → (a || (b || (c || (d || false)))) ≡ true → ⊥
+    no true b c d e e' e'' e''' is = cc
+    no false true c d e e' e'' e''' is = cc
+    no false false true d e e' e'' e''' is = cc
+    no false false false true e e' e'' e''' is = cc
+    no false false false false e e' e'' e''' is = cc
+
+pub point_header : (f : Function) (g i : ℕ) (octets : List ℕ) → IsTrue (is_response f) → IsTrue (is_point_group g) → i < 2 ^ 16
+    → IsSized g (point_variation g) octets → IsHeader (form_of f) (spanned g (point_variation g) i octets)
+point_header f g i octets response group fits sized =
+    subst (λ (x : Form). IsHeader x (spanned g (point_variation g) i octets)) (sym (response_form f response))
+    (spanned_header g (point_variation g) i octets (point_in_table g group) fits sized)
+
+command_in_table : (c : Command) → IsInTable form.Command (object_of c).0 (object_of c).1 0x28 × IsInTable form.Response (object_of c).0 (object_of c).1 0x28
+unfolding takes_of rules objects
+command_in_table (command.Block index code count on off) = (refl, refl)
+command_in_table (command.Set16 index value) = (refl, refl)
+command_in_table (command.Set32 index value) = (refl, refl)
+
+pub command_header : (f : Function) (c : Command) (octets : List ℕ) → IsTrue (carries_commands f)
+    → IsSized (object_of c).0 (object_of c).1 octets
+    → IsHeader (form_of f) (indexed (object_of c).0 (object_of c).1 (index_of c) octets)
+command_header f c octets carries sized = go (command_form (form_of f) carries)
+  where
+    go : (form_of f ≡ form.Command) ⊎ (form_of f ≡ form.Response) → IsHeader (form_of f) (indexed (object_of c).0 (object_of c).1 (index_of c) octets)
+    go (inl is) =
+        subst (λ (x : Form). IsHeader x (indexed (object_of c).0 (object_of c).1 (index_of c) octets)) (sym is)
+        (indexed_header form.Command _ _ (index_of c) octets (command_in_table c).0 refl sized)
+    go (inr is) =
+        subst (λ (x : Form). IsHeader x (indexed (object_of c).0 (object_of c).1 (index_of c) octets)) (sym is)
+        (indexed_header form.Response _ _ (index_of c) octets (command_in_table c).1 refl sized)
+
+-- ---- the same of what a call has found: the object, and its octets as they are shown
+
+pub event_put : (f : Function) (row : Row) (object : ℕ × ℕ) (items shown : List ℕ) → object ≡ event_object row.kind row.time
+    → items ≡ written object.0 object.1 row → shown ≡ items → IsTrue (is_response f) → FitsEvent row
+    → IsHeader (form_of f) (indexed object.0 object.1 row.index shown)
+event_put f row object items shown same own seen response fits =
+    let o = event_object row.kind row.time in
+    let octets : shown ≡ written o.0 o.1 row = seen ∙ own ∙ ap (λ (p : ℕ × ℕ). written p.0 p.1 row) same in
+    let sized : IsSized o.0 o.1 shown = subst (λ (t : List ℕ). IsSized o.0 o.1 t) (sym octets) (written_sized o.0 o.1 row fits) in
+    subst (λ (p : ℕ × ℕ). IsHeader (form_of f) (indexed p.0 p.1 row.index shown)) (sym same)
+    (event_header f row.kind row.time row.index shown response sized)
+
+pub point_put : (f : Function) (g v : ℕ) (row : Row) (items shown : List ℕ) → v ≡ point_variation g
+    → items ≡ written g v row → shown ≡ items → IsTrue (is_response f) → FitsPoint g row → row.index < 2 ^ 16
+    → IsHeader (form_of f) (spanned g v row.index shown)
+point_put f g v row items shown same own seen response fits index =
+    let octets : shown ≡ written g (point_variation g) row = seen ∙ own ∙ ap (λ (n : ℕ). written g n row) same in
+    let sized : IsSized g (point_variation g) shown =
+    subst (λ (t : List ℕ). IsSized g (point_variation g) t) (sym octets) (written_sized g (point_variation g) row fits.row_fits) in
+    subst (λ (n : ℕ). IsHeader (form_of f) (spanned g n row.index shown)) (sym same)
+    (point_header f g row.index shown response fits.group_is index sized)
+
+pub command_put : (f : Function) (c : Command) (status : ℕ) (object : ℕ × ℕ) (index : ℕ) (items shown : List ℕ) → object ≡ object_of c → index ≡ index_of c
+    → items ≡ command_octets c status → shown ≡ items → IsTrue (carries_commands f)
+    → IsHeader (form_of f) (indexed object.0 object.1 index shown) × IsSome (object_size object.0 object.1)
+command_put f c status object index items shown same its own seen carries =
+    let o = object_of c in
+    let sized : IsSized o.0 o.1 shown = subst (λ (t : List ℕ). IsSized o.0 o.1 t) (sym (seen ∙ own)) (command_sized c status) in (
+      subst (λ (p : (ℕ × ℕ) × ℕ). IsHeader (form_of f) (indexed p.0.0 p.0.1 p.1 shown)) (λ i. (sym same i, sym its i))
+          (command_header f c shown carries sized),
+      subst (λ (p : ℕ × ℕ). IsSome (object_size p.0 p.1)) (sym same) (has_size o.0 o.1 shown sized),
+    )

@@ -1,0 +1,93 @@
+-- Rows and commands that were put are read as themselves.
+use Rattle.std.proofs.Common.{◌≡◌, Bool, true, false, IsTrue, refl, sym, subst, ℕ, ◌<◌, ◌==◌, ◌||◌, ◌≢◌, List, length, Option, Some, None, inr, eqb-true}
+use Rattle.std.specs.Prelude.{slice_get}
+use Rattle.dnp_objects.specs.Objects.{objects, content_of}
+use Rattle.dnp_objects.specs.Rows.{Reads}
+use Rattle.dnp_objects.specs.Commands.{IsInRange, ReadsCommand}
+use Rattle.dnp_objects.specs.declared.command.Command.{Command}
+use Rattle.dnp_objects.specs.declared.row.Kind.{Kind}
+use Rattle.dnp_objects.specs.declared.row.Kind.TheVariants.{Binary, Counter, Analog}
+use Rattle.dnp_objects.specs.declared.row.Row.{Row}
+use Rattle.dnp_objects.proofs.Lines.{command_read}
+use Rattle.dnp_appfragment.specs.Headers.{Head}
+use Rattle.dnp_appfragment.specs.Objects.{IsRow, IsCommand}
+use Rattle.dnp_appfragment.specs.Written.{Fits, FitsEvent, FitsPoint, event_object, is_point_group, point_variation, written}
+use Rattle.dnp_appfragment.specs.Items.{Item, Holds, event_item, point_item, command_item}
+use Rattle.dnp_appfragment.proofs.Held.{HasObject, has_object}
+
+-- ---- the octets of an object
+
+event_reads : (row : Row) (k : Kind) (time : Option ℕ) → row.time ≡ time → Fits (event_object k time).0 (event_object k time).1 row
+    → Reads (event_object k time).0 (event_object k time).1 row.index (written (event_object k time).0 (event_object k time).1 row) row
+unfolding content_of objects
+event_reads row Binary (Some t) is fits = record { index_is = refl; carried_is = refl; row_is = record { fits = fits; spelled = refl } }
+event_reads row Counter (Some t) is fits = record { index_is = refl; carried_is = refl; row_is = record { fits = fits; spelled = refl } }
+event_reads row Analog (Some t) is fits = record { index_is = refl; carried_is = refl; row_is = record { fits = fits; spelled = refl } }
+event_reads row Binary None is fits =
+    record { index_is = refl; carried_is = λ i. record row { time = sym is i }; row_is = record { fits = fits; spelled = refl } }
+event_reads row Counter None is fits =
+    record { index_is = refl; carried_is = λ i. record row { time = sym is i }; row_is = record { fits = fits; spelled = refl } }
+event_reads row Analog None is fits =
+    record { index_is = refl; carried_is = λ i. record row { time = sym is i }; row_is = record { fits = fits; spelled = refl } }
+
+abbrev pub untimed : Row → Row
+untimed row = record row { time = None }
+
+-- a present value of group n, where that is the group
+abbrev pub ReadsPoint : ℕ → Row → Type 0
+ReadsPoint g row = Fits g (point_variation g) row → Reads g (point_variation g) row.index (written g (point_variation g) row) (untimed row)
+
+point_reads : (g : ℕ) (row : Row) → IsTrue (is_point_group g) → g ≢ 10 → ReadsPoint g row
+unfolding content_of objects
+point_reads g row is other =
+    one 1 (1 == g) refl (λ fits. record { index_is = refl; carried_is = refl; row_is = record { fits = fits; spelled = refl } }) (λ a.
+    one 20 (20 == g) refl (λ fits. record { index_is = refl; carried_is = refl; row_is = record { fits = fits; spelled = refl } }) (λ b.
+    one 30 (30 == g) refl (λ fits. record { index_is = refl; carried_is = refl; row_is = record { fits = fits; spelled = refl } }) (λ c.
+    absurd (other (sym (eqb-true 10 g (left (1 == g) (10 == g) (20 == g) (30 == g) a b c is)))))))
+  where
+    one : (n : ℕ) (b : Bool) → (n == g) ≡ b → ReadsPoint n row → (b ≡ false → ReadsPoint g row) → ReadsPoint g row
+    one n true same here rest = subst (λ (m : ℕ). ReadsPoint m row) (eqb-true n g same) here
+    one n false same here rest = rest refl
+
+    left : (a b c d : Bool) → a ≡ false → c ≡ false → d ≡ false → (a || (b || (c || (d || false)))) ≡ true → b ≡ true
+    left a true c d e e' e'' is = refl
+    left true false c d e e' e'' is = cc
+    left false false true d e e' e'' is = cc
+    left false false false true e e' e'' is = cc
+    left false false false false e e' e'' is = cc
+
+-- ---- object k of a header
+
+row_of : (h : Head) (k : ℕ) (item : Item) (row : Row) → HasObject h k item → Reads item.group item.variation item.index item.octets row → IsRow h k row
+row_of h k item row has reads = inr (record {
+  size = length item.octets;
+  size_is = has.size_is;
+  index = item.index;
+  octets = item.octets;
+  object = has.object;
+  reads = subst (λ (p : ℕ × ℕ). Reads p.0 p.1 item.index item.octets row) (λ i. (has.is_of.group i, has.is_of.variation i)) reads;
+})
+
+pub event_back : (h : Head) (items : List Item) (k : ℕ) (row : Row) → Holds h items → FitsEvent row → slice_get items k ≡ Some (event_item row) → IsRow h k row
+event_back h items k row holds fits at =
+    row_of h k (event_item row) row (has_object h items k (event_item row) holds at) (event_reads row row.kind row.time refl fits)
+
+pub point_back : (h : Head) (items : List Item) (k g : ℕ) (row : Row) → Holds h items → FitsPoint g row → g ≢ 10
+    → slice_get items k ≡ Some (point_item g row) → IsRow h k (untimed row)
+point_back h items k g row holds fits other at =
+    row_of h k (point_item g row) (untimed row) (has_object h items k (point_item g row) holds at) (point_reads g row fits.group_is other fits.row_fits)
+
+pub command_back : (h : Head) (items : List Item) (k : ℕ) (command : Command) (status : ℕ) → Holds h items → IsInRange command → status < 128
+    → slice_get items k ≡ Some (command_item command status) → IsCommand h k (command, status)
+command_back h items k command status holds in_range small at =
+    let item = command_item command status in
+    let has = has_object h items k item holds at in
+    record {
+      size = length item.octets;
+      size_is = has.size_is;
+      index = item.index;
+      octets = item.octets;
+      object = has.object;
+      reads = subst (λ (p : ℕ × ℕ). ReadsCommand p.0 p.1 item.index item.octets (command, status)) (λ i. (has.is_of.group i, has.is_of.variation i))
+          (command_read command status in_range small);
+    }

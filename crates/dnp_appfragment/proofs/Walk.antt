@@ -1,0 +1,224 @@
+-- Going through the headers of a fragment one by one. Nothing here asks that the numbers are octets.
+use Rattle.std.proofs.Common.{◌≡◌, refl, sym, ◌∙◌, ap, subst, ℕ, zero, suc, ◌<◌, ◌≤◌, Bool, true, false, IsTrue, cond, List, [], ◌∷◌, length, take, drop, arith, Result, Ok, Err, IfOk, nat_lt, ◌==◌}
+use Rattle.std.specs.Result.{is_ok, result_unwrap_or}
+use Rattle.std.proofs.lemmas.Bool.{cond_both}
+use Rattle.std.proofs.lemmas.List.{length-drop}
+use Rattle.dnp_appfragment.specs.declared.fault.AppFault.{AppFault}
+use Rattle.dnp_appfragment.specs.declared.fault.AppFault.TheVariants.{QualifierUnknown, RangeBackward, ObjectsCut}
+use Rattle.dnp_appfragment.specs.declared.header.Range.{Range}
+use Rattle.dnp_appfragment.specs.declared.header.Range.TheVariants as range
+use Rattle.dnp_appfragment.specs.declared.table.Form.{Form}
+use Rattle.dnp_appfragment.specs.declared.table.Takes.{Takes}
+use Rattle.dnp_appfragment.specs.Table.{takes_of}
+use Rattle.dnp_appfragment.specs.Headers.{Head, objects_size}
+use Rattle.dnp_appfragment.specs.Left.{is_whole, headers_of}
+use Rattle.dnp_appfragment.specs.Reading.{◌>>=◌, number_at, span_at, count_at, indexed_at, range_at, taken, objects_at, header_at, headers_in, headers_at}
+
+pub not_empty : (octets : List ℕ) → (length octets == 0) ≡ false → 0 < length octets
+not_empty [] is = cc
+not_empty (b ∷ octets) is = omega arith
+
+-- ---- a step leaves fewer octets
+
+-- no more octets are left than there were
+abbrev pub NoMore : {A : Type 0} → List ℕ → Result (A × List ℕ) AppFault → Type 0
+NoMore octets r = IfOk r (λ x. length x.1 ≤ length octets)
+
+pub ok_then : {A B : Type 0} (P : A → Type 0) (Q : B → Type 0) (r : Result A AppFault) (k : A → Result B AppFault)
+    → IfOk r P → ((a : A) → P a → IfOk (k a) Q) → IfOk (r >>= k) Q
+ok_then P Q (Ok a) k is next = next a is
+ok_then P Q (Err e) k is next = tt
+
+number_no_more : (wide : Bool) (octets : List ℕ) → NoMore octets (number_at wide octets)
+number_no_more false [] = tt
+number_no_more false (a ∷ rest) = omega arith
+number_no_more true [] = tt
+number_no_more true (a ∷ []) = tt
+number_no_more true (a ∷ b ∷ rest) = omega arith
+
+one_no_more : (wide : Bool) (octets : List ℕ) (named : ℕ → Range) → NoMore octets (number_at wide octets >>= λ (n : ℕ × List ℕ). Ok (named n.0, n.1))
+one_no_more wide octets named =
+    ok_then (λ (n : ℕ × List ℕ). length n.1 ≤ length octets) (λ (x : Range × List ℕ). length x.1 ≤ length octets)
+    (number_at wide octets) (λ n. Ok (named n.0, n.1)) (number_no_more wide octets) (λ n less. less)
+
+span_no_more : (wide : Bool) (octets : List ℕ) → NoMore octets (span_at wide octets)
+unfolding span_at
+span_no_more wide octets =
+    ok_then (λ (n : ℕ × List ℕ). length n.1 ≤ length octets) (λ (x : Range × List ℕ). length x.1 ≤ length octets)
+    (number_at wide octets) _ (number_no_more wide octets) (λ a less.
+    ok_then (λ (n : ℕ × List ℕ). length n.1 ≤ length a.1) (λ (x : Range × List ℕ). length x.1 ≤ length octets)
+    (number_at wide a.1) _ (number_no_more wide a.1) (λ b fewer.
+    cond_both (nat_lt b.0 a.0) (Err RangeBackward) (Ok (range.Span wide a.0 b.0, b.1)) (λ (r : Result (Range × List ℕ) AppFault). NoMore octets r)
+    (λ _. tt) (λ _. omega (arith, less, fewer))))
+
+range_no_more : (q : ℕ) (octets : List ℕ) → NoMore octets (range_at q octets)
+unfolding range_at
+range_no_more q octets =
+    turn 0x00 (span_at false octets) _ (span_no_more false octets)
+    (turn 0x01 (span_at true octets) _ (span_no_more true octets)
+    (turn 0x06 (Ok (range.All, octets)) _ (omega arith)
+    (turn 0x07 (count_at false octets) _ (one_no_more false octets (λ n. range.Count false n))
+    (turn 0x08 (count_at true octets) _ (one_no_more true octets (λ n. range.Count true n))
+    (turn 0x17 (indexed_at false octets) _ (one_no_more false octets (λ n. range.Indexed false n))
+    (turn 0x28 (indexed_at true octets) (Err QualifierUnknown) (one_no_more true octets (λ n. range.Indexed true n)) tt))))))
+  where
+    turn : (k : ℕ) (here others : Result (Range × List ℕ) AppFault) → NoMore octets here → NoMore octets others → NoMore octets (cond (q == k) here others)
+    turn k here others at other = cond_both (q == k) here others (λ (r : Result (Range × List ℕ) AppFault). NoMore octets r) (λ _. at) (λ _. other)
+
+objects_no_more : (f : Form) (g v : ℕ) (r : Range) (octets : List ℕ) → NoMore octets (objects_at f g v r octets)
+objects_no_more f g v r octets =
+    cond_both (nat_lt (length octets) (objects_size f g v r)) (Err ObjectsCut)
+    (Ok (record { group = g; variation = v; range = r; octets = take (objects_size f g v r) octets }, drop (objects_size f g v r) octets))
+    (λ (x : Result (Head × List ℕ) AppFault). NoMore octets x)
+    (λ _. tt) (λ _. omega (arith, length-drop (objects_size f g v r) octets))
+
+-- fewer octets are left behind a header
+abbrev pub Fewer : {A : Type 0} → List ℕ → Result (A × List ℕ) AppFault → Type 0
+Fewer octets r = IfOk r (λ x. length x.1 < length octets)
+
+pub header_fewer : (f : Form) (octets : List ℕ) → Fewer octets (header_at f octets)
+unfolding header_at
+header_fewer f [] = tt
+header_fewer f (g ∷ []) = tt
+header_fewer f (g ∷ v ∷ []) = tt
+header_fewer f (g ∷ v ∷ q ∷ octets) =
+    ok_then (λ (t : Takes). Unit {0}) (λ (x : Head × List ℕ). length x.1 < length (g ∷ v ∷ q ∷ octets))
+    (taken (takes_of f g v) q) _ (any (taken (takes_of f g v) q)) (λ t _.
+    ok_then (λ (r : Range × List ℕ). length r.1 ≤ length octets) (λ (x : Head × List ℕ). length x.1 < length (g ∷ v ∷ q ∷ octets))
+    (range_at q octets) _ (range_no_more q octets) (λ r less.
+    few (objects_at f g v r.0 r.1) r.1 less (objects_no_more f g v r.0 r.1)))
+  where
+    any : (r : Result Takes AppFault) → IfOk r (λ (t : Takes). Unit {0})
+    any (Ok t) = tt
+    any (Err e) = tt
+
+    few : (x : Result (Head × List ℕ) AppFault) (rest : List ℕ) → length rest ≤ length octets → NoMore rest x → Fewer (g ∷ v ∷ q ∷ octets) x
+    few (Ok x) rest less fewer = omega (arith, less, fewer)
+    few (Err e) rest less fewer = tt
+
+pub fewer_left : (f : Form) (octets : List ℕ) (h : Head × List ℕ) → header_at f octets ≡ Ok h → length h.1 < length octets
+fewer_left f octets h is = subst (λ (r : Result (Head × List ℕ) AppFault). Fewer octets r) is (header_fewer f octets)
+
+-- ---- any bound on the number of headers serves, if it is one of the octets
+
+-- a header, and the headers behind it
+onto : Head → Result (List Head) AppFault → Result (List Head) AppFault
+onto h r = r >>= λ (hs : List Head). Ok (h ∷ hs)
+
+enough : (n m : ℕ) (f : Form) (octets : List ℕ) → length octets ≤ n → length octets ≤ m → headers_in n f octets ≡ headers_in m f octets
+unfolding headers_in
+enough n m f [] small small' = none n ∙ sym (none m)
+  where
+    none : (k : ℕ) → headers_in k f [] ≡ Ok []
+    none zero = refl
+    none (suc k) = refl
+enough zero m f (b ∷ octets) small small' = absurd (omega arith)
+enough (suc n) zero f (b ∷ octets) small small' = absurd (omega arith)
+enough (suc n) (suc m) f (b ∷ octets) small small' = go (λ rest. enough n m f rest) (header_at f (b ∷ octets)) (header_fewer f (b ∷ octets))
+  where
+    go : ((rest : List ℕ) → length rest ≤ n → length rest ≤ m → headers_in n f rest ≡ headers_in m f rest)
+        → (r : Result (Head × List ℕ) AppFault) → Fewer (b ∷ octets) r
+        → (r >>= λ (h : Head × List ℕ). headers_in n f h.1 >>= λ (hs : List Head). Ok (h.0 ∷ hs))
+        ≡ (r >>= λ (h : Head × List ℕ). headers_in m f h.1 >>= λ (hs : List Head). Ok (h.0 ∷ hs))
+    go same (Ok h) fewer =
+        ap (λ (r : Result (List Head) AppFault). r >>= λ (hs : List Head). Ok (h.0 ∷ hs)) (same h.1 (omega (arith, fewer)) (omega (arith, fewer)))
+    go same (Err e) fewer = refl
+
+-- ---- the first step, and the others
+
+pub headers_none : (f : Form) → headers_at f [] ≡ Ok []
+unfolding headers_at headers_in
+headers_none f = refl
+
+pub headers_step : (f : Form) (octets : List ℕ) → 0 < length octets
+    → headers_at f octets ≡ (header_at f octets >>= λ (h : Head × List ℕ). headers_at f h.1 >>= λ (hs : List Head). Ok (h.0 ∷ hs))
+unfolding headers_at headers_in
+headers_step f [] some = absurd (omega arith)
+headers_step f (b ∷ octets) some = go (header_at f (b ∷ octets)) (header_fewer f (b ∷ octets))
+  where
+    go : (r : Result (Head × List ℕ) AppFault) → Fewer (b ∷ octets) r
+        → (r >>= λ (h : Head × List ℕ). headers_in (length octets) f h.1 >>= λ (hs : List Head). Ok (h.0 ∷ hs))
+        ≡ (r >>= λ (h : Head × List ℕ). headers_in (length h.1) f h.1 >>= λ (hs : List Head). Ok (h.0 ∷ hs))
+    go (Ok h) fewer =
+        ap (λ (r : Result (List Head) AppFault). r >>= λ (hs : List Head). Ok (h.0 ∷ hs))
+        (enough (length octets) (length h.1) f h.1 (omega (arith, fewer)) (omega arith))
+    go (Err e) fewer = refl
+
+-- a result without its value
+abbrev pub fault_of : {A : Type 0} → Result A AppFault → Result ℕ AppFault
+fault_of (Ok x) = Ok 0
+fault_of (Err e) = Err e
+
+fault_onto : (h : Head) (r : Result (List Head) AppFault) → fault_of r ≡ fault_of (r >>= λ (hs : List Head). Ok (h ∷ hs))
+fault_onto h (Ok hs) = refl
+fault_onto h (Err e) = refl
+
+-- behind a header in order, the first fault is the first fault of all
+pub fault_on : (f : Form) (octets : List ℕ) (h : Head × List ℕ) → 0 < length octets → header_at f octets ≡ Ok h
+    → fault_of (headers_at f h.1) ≡ fault_of (headers_at f octets)
+fault_on f octets h some is =
+    let step = headers_step f octets some in
+    let next = λ (r : Result (Head × List ℕ) AppFault). fault_of (r >>= λ (x : Head × List ℕ). headers_at f x.1 >>= λ (hs : List Head). Ok (x.0 ∷ hs)) in
+    fault_onto h.0 (headers_at f h.1) ∙ sym (ap next is) ∙ sym (ap fault_of step)
+
+-- where none is in order, that is the first fault
+pub stops : (f : Form) (octets : List ℕ) (e : AppFault) → 0 < length octets → header_at f octets ≡ Err e → headers_at f octets ≡ Err e
+stops f octets e some is =
+    headers_step f octets some
+    ∙ ap (λ (r : Result (Head × List ℕ) AppFault). r >>= λ (x : Head × List ℕ). headers_at f x.1 >>= λ (hs : List Head). Ok (x.0 ∷ hs)) is
+
+-- no fault: then there are headers
+no_fault_then : (r : Result (List Head) AppFault) → fault_of r ≡ Ok 0 → r ≡ Ok (result_unwrap_or r [])
+no_fault_then (Ok hs) is = refl
+no_fault_then (Err e) is = cc
+
+pub all_read : (f : Form) (octets : List ℕ) → fault_of (headers_at f octets) ≡ Ok 0 → headers_at f octets ≡ Ok (headers_of f octets)
+all_read f octets is = no_fault_then (headers_at f octets) is
+
+whole_then : (r : Result (List Head) AppFault) → fault_of r ≡ Ok 0 → is_ok r ≡ true
+whole_then (Ok hs) is = refl
+whole_then (Err e) is = cc
+
+pub all_whole : (f : Form) (octets : List ℕ) → fault_of (headers_at f octets) ≡ Ok 0 → IsTrue (is_whole f octets)
+all_whole f octets is = whole_then (headers_at f octets) is
+
+fault_is : (r : Result (List Head) AppFault) (e : AppFault) → Err e ≡ fault_of r → r ≡ Err e
+fault_is (Ok hs) e is = cc
+fault_is (Err d) e is = cc
+
+-- a fault of what is left is that of all
+pub fault_of_all : (f : Form) (octets rest : List ℕ) (e : AppFault) → 0 < length rest → header_at f rest ≡ Err e
+    → fault_of (headers_at f rest) ≡ fault_of (headers_at f octets) → headers_at f octets ≡ Err e
+fault_of_all f octets rest e some is same =
+    fault_is (headers_at f octets) e (sym (ap fault_of (stops f rest e some is)) ∙ same)
+
+-- and where nothing is left, there was none
+pub none_left : (f : Form) (octets rest : List ℕ) → length rest ≡ 0 → fault_of (headers_at f rest) ≡ fault_of (headers_at f octets)
+    → fault_of (headers_at f octets) ≡ Ok 0
+none_left f octets [] none same = sym same ∙ ap fault_of (headers_none f)
+none_left f octets (b ∷ rest) none same = absurd (omega arith)
+
+-- ---- one header off the front
+
+pub nothing_left : (f : Form) (octets : List ℕ) → length octets ≡ 0 → headers_of f octets ≡ []
+nothing_left f [] none = ap (λ (r : Result (List Head) AppFault). result_unwrap_or r []) (headers_none f)
+nothing_left f (b ∷ octets) none = absurd (omega arith)
+
+first_and_others : (h : Head) (r : Result (List Head) AppFault) → is_ok (r >>= λ (hs : List Head). Ok (h ∷ hs)) ≡ true
+    → (is_ok r ≡ true) × (result_unwrap_or (r >>= λ (hs : List Head). Ok (h ∷ hs)) [] ≡ h ∷ result_unwrap_or r [])
+first_and_others h (Ok hs) is = (refl, refl)
+first_and_others h (Err e) is = cc
+
+pub one_off : (f : Form) (octets : List ℕ) (h : Head × List ℕ) → 0 < length octets → header_at f octets ≡ Ok h → IsTrue (is_whole f octets)
+    → IsTrue (is_whole f h.1) × (headers_of f octets ≡ h.0 ∷ headers_of f h.1)
+one_off f octets h some is whole =
+    let next = λ (r : Result (Head × List ℕ) AppFault). r >>= λ (x : Head × List ℕ). headers_at f x.1 >>= λ (hs : List Head). Ok (x.0 ∷ hs) in
+    let same : headers_at f octets ≡ (headers_at f h.1 >>= λ (hs : List Head). Ok (h.0 ∷ hs)) = headers_step f octets some ∙ ap next is in
+    let both = first_and_others h.0 (headers_at f h.1) (subst (λ (r : Result (List Head) AppFault). is_ok r ≡ true) same whole) in
+    (both.0, ap (λ (r : Result (List Head) AppFault). result_unwrap_or r []) same ∙ both.1)
+
+-- a fault where there is none
+pub no_stop : (f : Form) (octets : List ℕ) (e : AppFault) → 0 < length octets → header_at f octets ≡ Err e → IsTrue (is_whole f octets) → ⊥
+no_stop f octets e some is whole =
+    let same : is_ok (headers_at f octets) ≡ false = ap (λ (r : Result (List Head) AppFault). is_ok r) (stops f octets e some is) in
+    cc

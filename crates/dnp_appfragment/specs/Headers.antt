@@ -1,0 +1,105 @@
+-- Object headers with their objects, and their one spelling in octets (IEEE Std 1815-2012, application
+-- layer: object headers). A fragment's headers divide its octets.
+use Rattle.std.specs.Prelude.{◌≡◌, ℕ, ◌+◌, ◌-◌, ◌*◌, ◌/◌, ◌%◌, ◌^◌, ◌<◌, ◌≤◌, Bool, true, false, if◌then◌else◌, List, [], ◌∷◌, ◌++◌, length, Option, Some, None, ⊤}
+use Rattle.std.specs.List.{flat_map, AllByRecursion}
+use Rattle.dnp_objects.specs.Objects.{object_size}
+use Rattle.dnp_appfragment.specs.declared.header.Range.{Range}
+use Rattle.dnp_appfragment.specs.declared.header.Range.TheVariants as range
+use Rattle.dnp_appfragment.specs.declared.table.Form.{Form}
+use Rattle.dnp_appfragment.specs.declared.table.Form.TheVariants as form
+use Rattle.dnp_appfragment.specs.Table.{IsInTable}
+
+-- an object header with the octets of its objects, wherever they lie
+pub record Head : Type 0 where
+  pub group : ℕ
+  pub variation : ℕ
+  pub range : Range
+  pub octets : List ℕ
+
+-- ---- the range
+
+abbrev pub qualifier_of : Range → ℕ
+qualifier_of range.All = 0x06
+qualifier_of (range.Span wide first last) = if wide then 0x01 else 0x00
+qualifier_of (range.Count wide n) = if wide then 0x08 else 0x07
+qualifier_of (range.Indexed wide n) = if wide then 0x28 else 0x17
+
+-- a number in one octet, or, wide, in two: the low one first
+abbrev pub number : Bool → ℕ → List ℕ
+number false n = n ∷ []
+number true n = n % 256 ∷ n / 256 ∷ []
+
+abbrev pub range_octets : Range → List ℕ
+range_octets range.All = []
+range_octets (range.Span wide first last) = number wide first ++ number wide last
+range_octets (range.Count wide n) = number wide n
+range_octets (range.Indexed wide n) = number wide n
+
+-- what a number stays below
+abbrev pub limit : Bool → ℕ
+limit false = 2 ^ 8
+limit true = 2 ^ 16
+
+-- the numbers fit their octets
+abbrev pub NumbersFit : Range → Type 0
+NumbersFit range.All = ⊤
+NumbersFit (range.Span wide first last) = (first < limit wide) × (last < limit wide)
+NumbersFit (range.Count wide n) = n < limit wide
+NumbersFit (range.Indexed wide n) = n < limit wide
+
+-- the stop is not under the start
+abbrev pub IsForward : Range → Type 0
+IsForward range.All = ⊤
+IsForward (range.Span wide first last) = first ≤ last
+IsForward (range.Count wide n) = ⊤
+IsForward (range.Indexed wide n) = ⊤
+
+-- ---- the objects
+
+-- how many objects the range names; "all" names none
+abbrev pub count_of : Range → ℕ
+count_of range.All = 0
+count_of (range.Span wide first last) = last + 1 - first
+count_of (range.Count wide n) = n
+count_of (range.Indexed wide n) = n
+
+-- how many octets of index stand before each object
+abbrev pub prefix_size : Range → ℕ
+prefix_size range.All = 0
+prefix_size (range.Span wide first last) = 0
+prefix_size (range.Count wide n) = 0
+prefix_size (range.Indexed wide n) = if wide then 2 else 1
+
+-- how many octets so many objects have, each of this size behind such a prefix; without a size they are
+-- packed bits, eight to an octet
+abbrev pub octets_of : ℕ → ℕ → Option ℕ → ℕ
+octets_of count prefix (Some size) = count * (prefix + size)
+octets_of count prefix None = (count + 7) / 8
+
+-- how many octets of objects follow a header: in a READ none
+abbrev pub objects_size : Form → ℕ → ℕ → Range → ℕ
+objects_size form.Read group variation r = 0
+objects_size _ group variation r = octets_of (count_of r) (prefix_size r) (object_size group variation)
+
+-- ---- a header
+
+-- group, variation, qualifier, range, objects
+abbrev pub header_octets : Head → List ℕ
+header_octets h = h.group ∷ h.variation ∷ qualifier_of h.range ∷ (range_octets h.range ++ h.octets)
+
+-- the object stands in the table with its qualifier, the range is one, and as many octets of objects
+-- follow as it says
+pub record IsHeader (f : Form) (h : Head) : Type 0 where
+  pub object : IsInTable f h.group h.variation (qualifier_of h.range)
+  pub fits : NumbersFit h.range
+  pub forward : IsForward h.range
+  pub objects : length h.octets ≡ objects_size f h.group h.variation h.range
+
+-- the headers in order
+abbrev pub spelled : List Head → List ℕ
+spelled hs = flat_map header_octets hs
+
+-- the headers divide the octets
+pub record Divide (f : Form) (octets : List ℕ) (hs : List Head) : Type 0 where
+  pub each : AllByRecursion (IsHeader f) hs
+  pub whole : octets ≡ spelled hs

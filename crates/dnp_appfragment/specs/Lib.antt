@@ -1,0 +1,17 @@
+pub mod Building
+pub mod Built
+pub mod Control
+pub mod Faults
+pub mod Fragments
+pub mod Headers
+pub mod Indications
+pub mod Items
+pub mod Joining
+pub mod Left
+pub mod Objects
+pub mod Places
+pub mod Reading
+pub mod Seen
+pub mod Table
+pub mod Whole
+pub mod Written

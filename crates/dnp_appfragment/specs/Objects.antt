@@ -1,0 +1,100 @@
+-- The objects of one header, counted from 0: where each stands in the header's octets, with its index,
+-- and the row or the command that it is (IEEE Std 1815-2012, application layer: prefix and range).
+use Rattle.std.specs.Prelude.{◌≡◌, ℕ, ◌+◌, ◌*◌, ◌/◌, ◌%◌, ◌<◌, pos, ◌⊎◌, List, [], ◌++◌, length, slice_index, Some, None, IsSome, ⊤}
+use Rattle.std.specs.Int.{bit_at}
+use Rattle.dnp_objects.specs.Objects.{object_size, shape_read}
+use Rattle.dnp_objects.specs.Rows.{Reads}
+use Rattle.dnp_objects.specs.Commands.{ReadsCommand, command_size}
+use Rattle.dnp_objects.specs.declared.row.Kind.TheVariants.{Binary}
+use Rattle.dnp_objects.specs.declared.row.Row.{Row}
+use Rattle.dnp_objects.specs.declared.command.Command.{Command}
+use Rattle.dnp_appfragment.specs.declared.header.Range.{Range}
+use Rattle.dnp_appfragment.specs.declared.header.Range.TheVariants as range
+use Rattle.dnp_appfragment.specs.declared.table.Form.{Form}
+use Rattle.dnp_appfragment.specs.declared.table.Form.TheVariants as form
+use Rattle.dnp_appfragment.specs.Headers.{Head, IsHeader, number, limit, count_of, prefix_size}
+
+-- in a span the index of object k is counted from the start, and elsewhere not
+abbrev pub IsCounted : Range → ℕ → ℕ → Type 0
+IsCounted range.All k index = ⊥
+IsCounted (range.Span wide first last) k index = index ≡ first + k
+IsCounted (range.Count wide n) k index = ⊥
+IsCounted (range.Indexed wide n) k index = ⊥
+
+-- the range is a span
+abbrev pub IsSpan : Range → Type 0
+IsSpan range.All = ⊥
+IsSpan (range.Span wide first last) = ⊤
+IsSpan (range.Count wide n) = ⊥
+IsSpan (range.Indexed wide n) = ⊥
+
+-- the index of object k: counted in a span, and behind a count the one that stands before the object; a
+-- limit, and "all", give none
+abbrev pub IsIndex : Range → ℕ → ℕ → Type 0
+IsIndex range.All k index = ⊥
+IsIndex (range.Span wide first last) k index = index ≡ first + k
+IsIndex (range.Count wide n) k index = ⊥
+IsIndex (range.Indexed wide n) k index = index < limit wide
+
+-- the octets of index before an object
+abbrev pub prefix_octets : Range → ℕ → List ℕ
+prefix_octets range.All index = []
+prefix_octets (range.Span wide first last) index = []
+prefix_octets (range.Count wide n) index = []
+prefix_octets (range.Indexed wide n) index = number wide index
+
+-- object k of the header, of so many octets, has this index and these octets
+pub record IsObject (h : Head) (size k index : ℕ) (octets : List ℕ) : Type 0 where
+  pub counted : k < count_of h.range
+  pub index_is : IsIndex h.range k index
+  pub before : List ℕ
+  pub after : List ℕ
+  pub placed : length before ≡ k * (prefix_size h.range + size)
+  pub sized : length octets ≡ size
+  pub joined : h.octets ≡ before ++ (prefix_octets h.range index ++ (octets ++ after))
+
+-- object k of a header of packed bits of binary inputs, 1.1, is this binary: its value is the next bit,
+-- from bit 0 of the first octet on, and it has the flags 01
+pub record IsBit (h : Head) (k : ℕ) (row : Row) : Type 0 where
+  pub group : h.group ≡ 1
+  pub variation : h.variation ≡ 1
+  pub counted : k < count_of h.range
+  pub index : ℕ
+  pub index_is : IsCounted h.range k index
+  pub there : k / 8 < length h.octets
+  pub row_is : row ≡ record { kind = Binary; index = index; flags = 1; value = pos (bit_at (slice_index h.octets (k / 8)) (k % 8)); time = None }
+
+-- object k, of an object of a known size, is read as this row
+pub record IsObjectRow (h : Head) (k : ℕ) (row : Row) : Type 0 where
+  pub size : ℕ
+  pub size_is : object_size h.group h.variation ≡ Some size
+  pub index : ℕ
+  pub octets : List ℕ
+  pub object : IsObject h size k index octets
+  pub reads : Reads h.group h.variation index octets row
+
+-- row k of a header
+abbrev pub IsRow : Head → ℕ → Row → Type 0
+IsRow h k row = IsBit h k row ⊎ IsObjectRow h k row
+
+-- command k of a header, with its status
+pub record IsCommand (h : Head) (k : ℕ) (answer : Command × ℕ) : Type 0 where
+  pub size : ℕ
+  pub size_is : object_size h.group h.variation ≡ Some size
+  pub index : ℕ
+  pub octets : List ℕ
+  pub object : IsObject h size k index octets
+  pub reads : ReadsCommand h.group h.variation index octets answer
+
+-- ---- headers whose objects are all there
+
+-- a response's header of rows that are read, or of packed bits
+pub record HasRows (h : Head) : Type 0 where
+  pub header : IsHeader form.Response h
+  pub rows : IsSome (shape_read h.group h.variation) ⊎ ((h.group ≡ 1) × (h.variation ≡ 1))
+
+-- any fragment's header of commands
+pub record HasCommands (h : Head) : Type 0 where
+  pub under : Form
+  pub header : IsHeader under h
+  pub commands : IsSome (command_size h.group h.variation)

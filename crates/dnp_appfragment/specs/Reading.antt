@@ -1,0 +1,147 @@
+-- Reading a fragment from left to right, up to the first fault: what each private step of reading
+-- answers. What the answers have to be is said in Headers.antt, Fragments.antt and Faults.antt.
+use Rattle.std.specs.Prelude.{ℕ, zero, suc, ◌+◌, ◌*◌, ◌%◌, Bool, true, false, nat_lt, ◌==◌, if◌then◌else◌, List, [], ◌∷◌, length, take, drop, Option, Some, None, Result, Ok, Err}
+use Rattle.std.specs.Int.{bit_at}
+use Rattle.std.specs.Result.{result_ok}
+use Rattle.dnp_appfragment.specs.declared.fault.AppFault.{AppFault}
+use Rattle.dnp_appfragment.specs.declared.fault.AppFault.TheVariants.{Short, FunctionUnknown, HeaderCut, QualifierUnknown, ObjectUnknown, RangeBackward, ObjectsCut}
+use Rattle.dnp_appfragment.specs.declared.function.Function.{Function}
+use Rattle.dnp_appfragment.specs.declared.header.Range.{Range}
+use Rattle.dnp_appfragment.specs.declared.header.Range.TheVariants as range
+use Rattle.dnp_appfragment.specs.declared.table.Form.{Form}
+use Rattle.dnp_appfragment.specs.declared.table.Form.TheVariants as form
+use Rattle.dnp_appfragment.specs.declared.table.Takes.{Takes}
+use Rattle.dnp_appfragment.specs.Control.{ControlBits}
+use Rattle.dnp_appfragment.specs.Table.{form_of, is_response, function_of, takes_of, allows}
+use Rattle.dnp_appfragment.specs.Headers.{Head, objects_size, count_of, prefix_size}
+use Rattle.dnp_appfragment.specs.Fragments.{Asked, Answered, looked_at}
+
+-- the next step, if there was no fault
+infixl 10 ◌>>=◌
+abbrev pub ◌>>=◌ : {A B : Type 0} → Result A AppFault → (A → Result B AppFault) → Result B AppFault
+(Ok x) >>= f = f x
+(Err e) >>= f = Err e
+
+-- ---- a header
+
+abbrev pub number_at : Bool → List ℕ → Result (ℕ × List ℕ) AppFault
+number_at false [] = Err HeaderCut
+number_at false (a ∷ rest) = Ok (a, rest)
+number_at true [] = Err HeaderCut
+number_at true (a ∷ []) = Err HeaderCut
+number_at true (a ∷ b ∷ rest) = Ok (a + 256 * b, rest)
+
+unfoldable pub span_at : Bool → List ℕ → Result (Range × List ℕ) AppFault
+span_at wide octets = do
+  first ← number_at wide octets
+  last ← number_at wide first.1
+  if nat_lt last.0 first.0 then Err RangeBackward else Ok (range.Span wide first.0 last.0, last.1)
+
+abbrev pub count_at : Bool → List ℕ → Result (Range × List ℕ) AppFault
+count_at wide octets = do
+  n ← number_at wide octets
+  Ok (range.Count wide n.0, n.1)
+
+abbrev pub indexed_at : Bool → List ℕ → Result (Range × List ℕ) AppFault
+indexed_at wide octets = do
+  n ← number_at wide octets
+  Ok (range.Indexed wide n.0, n.1)
+
+unfoldable pub range_at : ℕ → List ℕ → Result (Range × List ℕ) AppFault
+range_at q octets =
+    if q == 0x00 then span_at false octets else
+    (if q == 0x01 then span_at true octets else
+    (if q == 0x06 then Ok (range.All, octets) else
+    (if q == 0x07 then count_at false octets else
+    (if q == 0x08 then count_at true octets else
+    (if q == 0x17 then indexed_at false octets else
+    (if q == 0x28 then indexed_at true octets else Err QualifierUnknown))))))
+
+abbrev pub taken : Option Takes → ℕ → Result Takes AppFault
+taken None q = Err ObjectUnknown
+taken (Some t) q = if allows t q then Ok t else Err QualifierUnknown
+
+abbrev pub objects_at : Form → ℕ → ℕ → Range → List ℕ → Result (Head × List ℕ) AppFault
+objects_at f g v r octets =
+    if nat_lt (length octets) (objects_size f g v r) then Err ObjectsCut
+    else Ok (record { group = g; variation = v; range = r; octets = take (objects_size f g v r) octets }, drop (objects_size f g v r) octets)
+
+-- the header at the front, with its objects, and the octets behind them
+unfoldable pub header_at : Form → List ℕ → Result (Head × List ℕ) AppFault
+header_at f [] = Err HeaderCut
+header_at f (g ∷ []) = Err HeaderCut
+header_at f (g ∷ v ∷ []) = Err HeaderCut
+header_at f (g ∷ v ∷ q ∷ octets) = do
+  t ← taken (takes_of f g v) q
+  r ← range_at q octets
+  objects_at f g v r.0 r.1
+
+-- at most so many headers, which are all of the octets
+unfoldable pub headers_in : ℕ → Form → List ℕ → Result (List Head) AppFault
+headers_in n f [] = Ok []
+headers_in zero f (b ∷ octets) = Err HeaderCut
+headers_in (suc n) f (b ∷ octets) = do
+  h ← header_at f (b ∷ octets)
+  hs ← headers_in n f h.1
+  Ok (h.0 ∷ hs)
+
+-- the headers that divide the octets
+unfoldable pub headers_at : Form → List ℕ → Result (List Head) AppFault
+headers_at f octets = headers_in (length octets) f octets
+
+-- ---- an object of a header
+
+-- the index of object k, and the octets behind it
+abbrev pub index_at : Range → ℕ → List ℕ → Option (ℕ × List ℕ)
+index_at range.All k octets = None
+index_at (range.Span wide first last) k octets = Some (first + k, octets)
+index_at (range.Count wide n) k octets = None
+index_at (range.Indexed wide n) k octets = result_ok (number_at wide octets)
+
+-- the index, and so many of the octets behind it
+abbrev pub first_octets : ℕ → Option (ℕ × List ℕ) → Option (ℕ × List ℕ)
+first_octets size None = None
+first_octets size (Some x) = if nat_lt (length x.1) size then None else Some (x.0, take size x.1)
+
+-- object k of objects of this size: its index and its octets
+abbrev pub object_at : Range → List ℕ → ℕ → ℕ → Option (ℕ × List ℕ)
+object_at r octets size k =
+    if nat_lt k (count_of r) then (
+    if nat_lt (length octets) (k * (prefix_size r + size)) then None
+    else first_octets size (index_at r k (drop (k * (prefix_size r + size)) octets)))
+    else None
+
+-- ---- a fragment
+
+abbrev pub control_of : ℕ → ControlBits
+control_of octet = record {
+  fir = bit_at octet 7 == 1;
+  fin = bit_at octet 6 == 1;
+  con = bit_at octet 5 == 1;
+  uns = bit_at octet 4 == 1;
+  seq = octet % 16;
+}
+
+-- the function of this octet, if it is a response's, or a request's
+abbrev pub function_at : Bool → Option Function → Result Function AppFault
+function_at response None = Err FunctionUnknown
+function_at true (Some f) = if is_response f then Ok f else Err FunctionUnknown
+function_at false (Some f) = if is_response f then Err FunctionUnknown else Ok f
+
+unfoldable pub request_at : List ℕ → Result Asked AppFault
+request_at [] = Err Short
+request_at (control ∷ []) = Err Short
+request_at (control ∷ code ∷ body) = do
+  f ← function_at false (function_of code)
+  hs ← headers_at (form_of f) (looked_at (form_of f) body)
+  Ok (record { control = control_of control; function = f; headers = hs })
+
+unfoldable pub response_at : List ℕ → Result Answered AppFault
+response_at [] = Err Short
+response_at (control ∷ []) = Err Short
+response_at (control ∷ code ∷ []) = Err Short
+response_at (control ∷ code ∷ one ∷ []) = Err Short
+response_at (control ∷ code ∷ one ∷ two ∷ body) = do
+  f ← function_at true (function_of code)
+  hs ← headers_at form.Response body
+  Ok (record { control = control_of control; function = f; iin = record { one = one; two = two }; headers = hs })

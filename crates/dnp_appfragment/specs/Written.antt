@@ -1,0 +1,74 @@
+-- What rows and commands are written as in a fragment, each as a header of its own (IEEE Std 1815-2012,
+-- application layer: object headers; object library).
+use Rattle.std.specs.Prelude.{ℕ, Bool, true, IsTrue, ◌==◌, ◌||◌, if◌then◌else◌, List, [], ◌∷◌, ◌++◌, Option, Some, None}
+use Rattle.std.specs.Option.{IsSomeAnd, option_map_or}
+use Rattle.std.specs.List.{list_any}
+use Rattle.dnp_objects.specs.Objects.{shape_written}
+use Rattle.dnp_objects.specs.Rows.{row_fits, row_octets}
+use Rattle.dnp_objects.specs.Commands.{object_of, index_of, command_octets}
+use Rattle.dnp_objects.specs.declared.command.Command.{Command}
+use Rattle.dnp_objects.specs.declared.row.Kind.{Kind}
+use Rattle.dnp_objects.specs.declared.row.Kind.TheVariants.{Binary, Counter, Analog}
+use Rattle.dnp_objects.specs.declared.row.Row.{Row}
+use Rattle.dnp_appfragment.specs.declared.header.Range.TheVariants as range
+use Rattle.dnp_appfragment.specs.Headers.{Head, number}
+
+-- ---- an object as a header of its own
+
+-- behind its index: qualifier 28
+abbrev pub indexed : ℕ → ℕ → ℕ → List ℕ → Head
+indexed group variation index octets =
+    record { group = group; variation = variation; range = range.Indexed true 1; octets = number true index ++ octets }
+
+-- from its index to its index: qualifier 01
+abbrev pub spanned : ℕ → ℕ → ℕ → List ℕ → Head
+spanned group variation index octets =
+    record { group = group; variation = variation; range = range.Span true index index; octets = octets }
+
+-- ---- rows
+
+-- the row can be written as this object, and its octets then
+abbrev pub Fits : ℕ → ℕ → Row → Type 0
+Fits group variation row = IsSomeAnd (shape_written group variation) (λ shape. IsTrue (row_fits shape row))
+
+abbrev pub written : ℕ → ℕ → Row → List ℕ
+written group variation row = option_map_or (λ shape. row_octets shape row) (shape_written group variation) []
+
+-- the group and the variation of an event, with a time and without
+abbrev pub event_object : Kind → Option ℕ → ℕ × ℕ
+event_object Binary (Some time) = (2, 2)
+event_object Binary None = (2, 1)
+event_object Counter (Some time) = (22, 5)
+event_object Counter None = (22, 1)
+event_object Analog (Some time) = (32, 3)
+event_object Analog None = (32, 1)
+
+-- the row can be written as an event
+abbrev pub FitsEvent : Row → Type 0
+FitsEvent row = Fits (event_object row.kind row.time).0 (event_object row.kind row.time).1 row
+
+abbrev pub event : Row → Head
+event row =
+    let object = event_object row.kind row.time in
+    indexed object.0 object.1 row.index (written object.0 object.1 row)
+
+-- the groups of present values: binary inputs and outputs, 1.2 and 10.2, counters, 20.1, and analog
+-- inputs, 30.1
+abbrev pub is_point_group : ℕ → Bool
+is_point_group group = list_any (λ g. g == group) (1 ∷ 10 ∷ 20 ∷ 30 ∷ [])
+
+abbrev pub point_variation : ℕ → ℕ
+point_variation group = if (group == 1) || (group == 10) then 2 else 1
+
+-- the row can be written as a present value of this group
+pub record FitsPoint (group : ℕ) (row : Row) : Type 0 where
+  pub group_is : IsTrue (is_point_group group)
+  pub row_fits : Fits group (point_variation group) row
+
+abbrev pub point : ℕ → Row → Head
+point group row = spanned group (point_variation group) row.index (written group (point_variation group) row)
+
+-- ---- commands
+
+abbrev pub order : Command → ℕ → Head
+order command status = indexed (object_of command).0 (object_of command).1 (index_of command) (command_octets command status)

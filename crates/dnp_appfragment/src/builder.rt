@@ -1,0 +1,281 @@
+use crate::control::Control;
+use crate::function::Function;
+use crate::header::{Header, Range};
+use crate::iin::Iin;
+use crate::putting::{MAX_FRAGMENT, header_size, push_header, whole_request, whole_response};
+use crate::run::{Run, longer};
+use crate::table::{Form, form_of};
+use crate::written::{
+    behind_index, command_index, command_object, event_object, point_variation, row_octets,
+};
+use arrayvec::ArrayVec;
+use dnp_objects::{Command, Row, Status, write_command};
+use std::marker::Model;
+use thiserror::Error;
+
+/// There is no room in the 2,048 octets of a fragment.
+#[derive(Clone, Copy, Debug, PartialEq, Eq, Hash, Error)]
+#[error("no room in the fragment")]
+pub struct Full;
+
+/// A fragment that is being built (IEEE Std 1815-2012, application layer), of at most 2,048 octets.
+///
+/// A clause sees its function, the headers that are ended, and the run: the header that the next
+/// object may join.
+#[derive(Debug, Drop)]
+pub struct Builder {
+    function: Function,
+    /// The ended headers, as they stand in the fragment.
+    ended: ArrayVec<u8, MAX_FRAGMENT>,
+    run: Option<Run>,
+    /// The octets of the run's objects, if there is a run.
+    objects: ArrayVec<u8, MAX_FRAGMENT>,
+}
+
+impl Model for Builder {
+    ghost use Rattle.dnp_appfragment.specs.Built.{Built};
+    ghost use Rattle.dnp_appfragment.specs.Building.{built, IsBuilt};
+
+    ghost Value = { Built };
+
+    ghost view = { λ b. built b.function b.ended.items b.run b.objects.items };
+
+    ghost invariant = { λ b. IsBuilt b.function b.ended.items b.run b.objects.items };
+}
+
+impl Builder {
+    ghost use Rattle.std.specs.Prelude.{◌≡◌, ◌≤◌, ◌<◌, ◌↔◌, ◌+◌, ◌^◌, [], length, IsErr, IsSome, IsTrue, true, false, OnOk, OnErr, None};
+    ghost use Rattle.dnp_objects.specs.Objects.{object_size};
+    ghost use Rattle.dnp_appfragment.specs.Table as table;
+    ghost use Rattle.dnp_appfragment.specs.Headers.{IsHeader, header_octets};
+    ghost use Rattle.dnp_appfragment.specs.Seen.{head};
+    ghost use Rattle.dnp_appfragment.specs.Built as built;
+    ghost use Rattle.dnp_appfragment.specs.Written as written;
+    ghost use Rattle.dnp_appfragment.specs.Fragments.{IsRequest, IsResponse, request_octets, response_octets};
+
+    /// A fragment of this function without headers. `is_response` tells a response's function from
+    /// a request's.
+    pub fn new(function: Function, is_response: bool) -> Builder
+        requires { table.is_response function ≡ is_response }
+        ensures { result ≡ record { function = function; ended = []; run = None } }
+    {
+        let _ = is_response;
+        Builder {
+            function,
+            ended: ArrayVec::new(),
+            run: None,
+            objects: ArrayVec::new(),
+        }
+    }
+
+    /// How many octets the fragment has so far.
+    fn size(&self) -> usize
+        ensures value { result ≡ built.size self.now }
+        ensures small { result ≤ 2048 }
+    {
+        let front = if self.function.is_response() { 4 } else { 2 };
+        match self.run {
+            None => front + self.ended.len(),
+            Some(run) => front + self.ended.len() + header_size(&run.header(&self.objects)),
+        }
+    }
+
+    /// Ends the last header: the next object begins a new one.
+    pub fn break_run(&mut self)
+        ensures { self.new ≡ built.broken self.old }
+    {
+        if let Some(run) = self.run {
+            push_header(&mut self.ended, &run.header(&self.objects));
+            self.run = None;
+        }
+    }
+
+    /// Puts a header with its objects, which no object joins. `Header::fits` is the test of what is
+    /// required. Full, where the fragment would pass 2,048 octets; nothing is put then.
+    pub fn header(&mut self, header: &Header<'_>) -> Result<(), Full>
+        requires { IsHeader (table.form_of self.old.function) (head header.now) }
+        ensures ok { OnOk result (self.new ≡ built.with_header self.old (head header.now)) }
+        ensures full { IsErr result ↔ (2048 < built.size (built.with_header self.old (head header.now))) }
+        ensures err { OnErr result (self.new ≡ self.old) }
+        ensures function { self.new.function ≡ self.old.function }
+    {
+        if MAX_FRAGMENT - self.size() < header_size(header) {
+            return Err(Full);
+        }
+        self.break_run();
+        push_header(&mut self.ended, header);
+        Ok(())
+    }
+
+    /// Puts an object, which comes as a header of its own.
+    fn put(&mut self, object: &Header<'_>) -> Result<(), Full>
+        requires fits { IsHeader (table.form_of self.old.function) (head object.now) }
+        requires sized { IsSome (object_size object.now.group object.now.variation) }
+        ensures ok { OnOk result (self.new ≡ built.with_object self.old (head object.now)) }
+        ensures full { IsErr result ↔ (2048 < built.size (built.with_object self.old (head object.now))) }
+        ensures err { OnErr result (self.new ≡ self.old) }
+        ensures function { self.new.function ≡ self.old.function }
+    {
+        let room = MAX_FRAGMENT - self.size();
+        match longer(self.run, object) {
+            Some(longer) => {
+                if room < object.octets.len() {
+                    return Err(Full);
+                }
+                self.objects.try_extend_from_slice(object.octets).unwrap();
+                self.run = Some(longer);
+                Ok(())
+            }
+            None => {
+                if room < header_size(object) {
+                    return Err(Full);
+                }
+                self.break_run();
+                self.objects.clear();
+                self.objects.try_extend_from_slice(object.octets).unwrap();
+                self.run = Some(Run::of(object));
+                Ok(())
+            }
+        }
+    }
+
+    /// Puts an object behind its index: qualifier 28.
+    fn put_indexed(
+        &mut self,
+        group: u8,
+        variation: u8,
+        index: u16,
+        octets: &[u8],
+    ) -> Result<(), Full>
+        requires small { length octets.now ≤ 11 }
+        requires fits { IsHeader (table.form_of self.old.function) (written.indexed group variation index octets.now) }
+        requires sized { IsSome (object_size group variation) }
+        ensures ok { OnOk result (self.new ≡ built.with_object self.old (written.indexed group variation index octets.now)) }
+        ensures full { IsErr result
+            ↔ (2048 < built.size (built.with_object self.old (written.indexed group variation index octets.now))) }
+        ensures err { OnErr result (self.new ≡ self.old) }
+        ensures function { self.new.function ≡ self.old.function }
+    {
+        let object = behind_index(index, octets);
+        self.put(&Header {
+            group,
+            variation,
+            range: Range::Indexed { wide: true, n: 1 },
+            octets: &object,
+        })
+    }
+
+    /// Puts an object of this index as a range of one: qualifier 01.
+    fn put_spanned(
+        &mut self,
+        group: u8,
+        variation: u8,
+        index: u16,
+        octets: &[u8],
+    ) -> Result<(), Full>
+        requires fits { index < 2 ^ 16
+            → IsHeader (table.form_of self.old.function) (written.spanned group variation index octets.now) }
+        requires sized { IsSome (object_size group variation) }
+        ensures ok { OnOk result (self.new ≡ built.with_object self.old (written.spanned group variation index octets.now)) }
+        ensures full { IsErr result
+            ↔ (2048 < built.size (built.with_object self.old (written.spanned group variation index octets.now))) }
+        ensures err { OnErr result (self.new ≡ self.old) }
+        ensures function { self.new.function ≡ self.old.function }
+    {
+        self.put(&Header {
+            group,
+            variation,
+            range: Range::Span {
+                wide: true,
+                first: index,
+                last: index,
+            },
+            octets,
+        })
+    }
+
+    /// Puts a row into a response as an event: with a time as 2.2, 22.5 or 32.3, and else as 2.1,
+    /// 22.1 or 32.1, behind its index. It joins the header before it, where that is of the same
+    /// object and no `break_run` came between. `fits_event` is the test of what the row has to be.
+    ///
+    /// Full, where the fragment would pass 2,048 octets; nothing is put then.
+    pub fn event(&mut self, row: &Row) -> Result<(), Full>
+        requires response { IsTrue (table.is_response self.old.function) }
+        requires fits { written.FitsEvent row.now }
+        ensures ok { OnOk result (self.new ≡ built.with_object self.old (written.event row.now)) }
+        ensures full { IsErr result ↔ (2048 < built.size (built.with_object self.old (written.event row.now))) }
+        ensures err { OnErr result (self.new ≡ self.old) }
+        ensures function { self.new.function ≡ self.old.function }
+    {
+        let (group, variation) = event_object(row);
+        let octets = row_octets(group, variation, row);
+        self.put_indexed(group, variation, row.index, &octets)
+    }
+
+    /// Puts a row into a response as a present value of this group: 1.2, 10.2, 20.1 or 30.1, in a
+    /// range of indexes. It joins the header before it, where that is of the same object, ends at
+    /// the index before it, and no `break_run` came between. `fits_point` is the test of what group
+    /// and row have to be.
+    ///
+    /// Full, where the fragment would pass 2,048 octets; nothing is put then.
+    pub fn point(&mut self, group: u8, row: &Row) -> Result<(), Full>
+        requires response { IsTrue (table.is_response self.old.function) }
+        requires fits { written.FitsPoint group row.now }
+        ensures ok { OnOk result (self.new ≡ built.with_object self.old (written.point group row.now)) }
+        ensures full { IsErr result ↔ (2048 < built.size (built.with_object self.old (written.point group row.now))) }
+        ensures err { OnErr result (self.new ≡ self.old) }
+        ensures function { self.new.function ≡ self.old.function }
+    {
+        let variation = point_variation(group);
+        let octets = row_octets(group, variation, row);
+        self.put_spanned(group, variation, row.index, &octets)
+    }
+
+    /// Puts a command with its status, behind its index, into a fragment that carries commands:
+    /// 12.1, 41.1 or 41.2. It joins the header before it, where that is of the same object and no
+    /// `break_run` came between. `Function::carries_commands` is the test of what the function has
+    /// to be.
+    ///
+    /// Full, where the fragment would pass 2,048 octets; nothing is put then.
+    pub fn command(&mut self, command: &Command, status: Status) -> Result<(), Full>
+        requires carries { IsTrue (built.carries_commands self.old.function) }
+        ensures ok { OnOk result (self.new ≡ built.with_object self.old (written.order command.now status)) }
+        ensures full { IsErr result ↔ (2048 < built.size (built.with_object self.old (written.order command.now status))) }
+        ensures err { OnErr result (self.new ≡ self.old) }
+        ensures function { self.new.function ≡ self.old.function }
+    {
+        let (group, variation) = command_object(command);
+        let octets = write_command(command, status);
+        self.put_indexed(group, variation, command_index(command), &octets)
+    }
+
+    /// The fragment with this control octet and, in a response, these internal indications.
+    pub fn finish(mut self, control: Control, iin: Iin) -> ArrayVec<u8, MAX_FRAGMENT>
+        ensures request { table.is_response self.function ≡ false → IsRequest result.items (built.asked self control) }
+        ensures request_octets { table.is_response self.function ≡ false
+            → result.items ≡ request_octets (built.asked self control) }
+        ensures response { table.is_response self.function ≡ true → IsResponse result.items (built.answered self control iin) }
+        ensures response_octets { table.is_response self.function ≡ true
+            → result.items ≡ response_octets (built.answered self control iin) }
+    {
+        self.break_run();
+        if self.function.is_response() {
+            whole_response(control, self.function, iin, &self.ended)
+        } else {
+            whole_request(control, self.function, &self.ended)
+        }
+    }
+}
+
+impl Function {
+    ghost use Rattle.std.specs.Prelude.{◌≡◌};
+    ghost use Rattle.dnp_appfragment.specs.Built.{carries_commands};
+
+    /// Whether its fragments carry commands: SELECT, OPERATE, DIRECT_OPERATE, DIRECT_OPERATE_NR, and
+    /// the responses.
+    pub fn carries_commands(self) -> bool
+        ensures { result ≡ carries_commands self }
+    {
+        matches!(form_of(self), Form::Command | Form::Response)
+    }
+}

@@ -1,0 +1,128 @@
+ghost use Rattle.std.specs.Prelude.{◌≡◌, ◌<◌, ℕ, IfOk, IfErr};
+ghost use Rattle.std.specs.Result.{IsOkAnd};
+ghost use Rattle.dnp_appfragment.specs.declared.fault.AppFault.{AppFault as FaultValue};
+ghost use Rattle.dnp_appfragment.specs.Fragments as spec;
+ghost use Rattle.dnp_appfragment.specs.Fragments.{Asked, Answered, IsRequest, IsResponse, request_octets, confirmation};
+ghost use Rattle.dnp_appfragment.specs.Faults.{IsRequestFault, IsResponseFault};
+ghost use Rattle.dnp_appfragment.specs.Places.{Ends};
+ghost use Rattle.dnp_appfragment.specs.Reading.{request_at, response_at};
+ghost use Rattle.dnp_appfragment.specs.Seen.{Gives};
+ghost use Rattle.dnp_appfragment.specs.Whole.{request, response};
+
+use crate::control::Control;
+use crate::fault::AppFault;
+use crate::function::Function;
+use crate::headers::Headers;
+use crate::iin::Iin;
+use crate::request::Request;
+use crate::response::Response;
+use crate::table::{Form, form_of};
+
+/// The octets in which headers are looked for: all behind the function, or none.
+fn looked_at(form: Form, body: &[u8]) -> &[u8]
+    ensures value { result.now ≡ spec.looked_at form body.now }
+    ensures end { Ends body.entry result }
+{
+    match form {
+        Form::Bare => &body[body.len()..],
+        _ => body,
+    }
+}
+
+/// The request, or the first fault.
+#[tactic(auto, unfolding(crate::specs::Reading::request_at))]
+fn request_of(octets: &[u8]) -> Result<Request<'_>, AppFault>
+    ensures gives { Gives request result (request_at octets.now) }
+    ensures place { IfOk result (λ r. Ends octets.entry r.headers.rest) }
+{
+    match octets {
+        [control, code, body @ ..] => {
+            let function = match Function::of_octet(*code) {
+                Some(function) if !function.is_response() => function,
+                _ => return Err(AppFault::FunctionUnknown),
+            };
+            let form = form_of(function);
+            Ok(Request {
+                control: Control::read(*control),
+                function,
+                headers: Headers::new(form, looked_at(form, body))?,
+            })
+        }
+        _ => Err(AppFault::Short),
+    }
+}
+
+/// The response, or the first fault.
+#[tactic(auto, unfolding(crate::specs::Reading::response_at))]
+fn response_of(octets: &[u8]) -> Result<Response<'_>, AppFault>
+    ensures gives { Gives response result (response_at octets.now) }
+    ensures place { IfOk result (λ r. Ends octets.entry r.headers.rest) }
+{
+    match octets {
+        [control, code, one, two, body @ ..] => {
+            let function = match Function::of_octet(*code) {
+                Some(function) if function.is_response() => function,
+                _ => return Err(AppFault::FunctionUnknown),
+            };
+            Ok(Response {
+                control: Control::read(*control),
+                function,
+                iin: Iin {
+                    one: *one,
+                    two: *two,
+                },
+                headers: Headers::new(Form::Response, body)?,
+            })
+        }
+        _ => Err(AppFault::Short),
+    }
+}
+
+/// The request that the octets are (IEEE Std 1815-2012, application layer).
+///
+/// Refused is, from left to right: fewer than 2 octets (`Short`); another function than a request's
+/// (`FunctionUnknown`); and of the first header that is not in order fewer than three octets
+/// (`HeaderCut`), an object that has no place under the function (`ObjectUnknown`), or not with this
+/// qualifier (`QualifierUnknown`), a range that is cut (`HeaderCut`) or whose stop is under its
+/// start (`RangeBackward`), and objects that are cut (`ObjectsCut`).
+pub fn read_request(octets: &[u8]) -> Result<Request<'_>, AppFault>
+    ensures found { IfOk result (λ r. IsRequest octets.now (request r)) }
+    ensures only { (asked : Asked) → IsRequest octets.now asked → IsOkAnd result (λ r. request r ≡ asked) }
+    ensures fault { IfErr result (IsRequestFault octets.now) }
+    ensures only_fault { (fault : FaultValue) → IsRequestFault octets.now fault → result ≡ Err fault }
+    // The headers lie in the octets, to their end.
+    ensures place { IfOk result (λ r. Ends octets.entry r.headers.rest) }
+{
+    request_of(octets)
+}
+
+/// The response that the octets are (IEEE Std 1815-2012, application layer).
+///
+/// Refused is, from left to right: fewer than 4 octets (`Short`); another function than a
+/// response's (`FunctionUnknown`); and the first header that is not in order, as in a request.
+pub fn read_response(octets: &[u8]) -> Result<Response<'_>, AppFault>
+    ensures found { IfOk result (λ r. IsResponse octets.now (response r)) }
+    ensures only { (answered : Answered) → IsResponse octets.now answered → IsOkAnd result (λ r. response r ≡ answered) }
+    ensures fault { IfErr result (IsResponseFault octets.now) }
+    ensures only_fault { (fault : FaultValue) → IsResponseFault octets.now fault → result ≡ Err fault }
+    // The headers lie in the octets, to their end.
+    ensures place { IfOk result (λ r. Ends octets.entry r.headers.rest) }
+{
+    response_of(octets)
+}
+
+/// The two octets that confirm the fragment of this sequence number, 0 to 15, of the unsolicited
+/// responses where `uns` is set (IEEE Std 1815-2012, application layer: CONFIRM).
+pub fn confirm(seq: u8, uns: bool) -> [u8; 2]
+    requires { seq < 16 }
+    ensures { result ≡ request_octets (confirmation seq uns) }
+{
+    let control = Control {
+        fir: true,
+        fin: true,
+        con: false,
+        uns,
+        seq,
+    };
+    [control.octet(), Function::Confirm.octet()]
+}

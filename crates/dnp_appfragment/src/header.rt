@@ -1,0 +1,86 @@
+use crate::function::Function;
+use crate::objects::{command_at, row_at};
+use crate::range::{count_of, is_range, objects_size, qualifier_of};
+use crate::table::{allows, form_of, takes_of};
+use dnp_objects::{Command, Row, Status};
+
+/// Which objects a header speaks of (IEEE Std 1815-2012, application layer: qualifier and range).
+/// `wide` numbers have two octets in the fragment, and others one.
+#[derive(Clone, Copy, Debug, PartialEq, Eq, Hash)]
+pub enum Range {
+    /// All of them (qualifier 06).
+    All,
+    /// Those of the indexes `first` to `last` (00, or wide 01).
+    Span { wide: bool, first: u16, last: u16 },
+    /// So many (07, or wide 08).
+    Count { wide: bool, n: u16 },
+    /// So many, each behind its index (17, or wide 28).
+    Indexed { wide: bool, n: u16 },
+}
+
+/// An object header, with the octets of its objects as they stand in the fragment (IEEE Std
+/// 1815-2012, application layer: object headers). In a READ no objects follow.
+#[derive(Clone, Copy, Debug, PartialEq, Eq)]
+pub struct Header<'a> {
+    pub group: u8,
+    pub variation: u8,
+    pub range: Range,
+    pub octets: &'a [u8],
+}
+
+impl<'a> Header<'a> {
+    ghost use Rattle.std.specs.Prelude.{◌≡◌, ◌≤◌, ◌<◌, ◌↔◌, ℕ, IsTrue, IsSome, IfSome, Some};
+    ghost use Rattle.dnp_objects.specs.declared.row.Row.{Row as RowValue};
+    ghost use Rattle.dnp_objects.specs.declared.command.Command.{Command as CommandValue};
+    ghost use Rattle.dnp_appfragment.specs.Objects.{IsRow, IsCommand, HasRows, HasCommands};
+    ghost use Rattle.dnp_appfragment.specs.Headers.{IsHeader, count_of};
+    ghost use Rattle.dnp_appfragment.specs.Table.{form_of};
+    ghost use Rattle.dnp_appfragment.specs.Seen.{head};
+
+    /// How many objects the range names, 0 to 65,536; all is none. In a READ a count is the most
+    /// that are wanted.
+    pub fn count(&self) -> usize
+        ensures value { result ≡ count_of self.now.range }
+        ensures small { result ≤ 65536 }
+    {
+        count_of(self.range)
+    }
+
+    /// Whether the header can stand in a fragment of this function: the object takes its qualifier
+    /// there, the range's stop is not under its start, its numbers fit in one octet where they are
+    /// not wide, and the octets are as many as the range says.
+    pub fn fits(&self, function: Function) -> bool
+        ensures { IsTrue result ↔ IsHeader (form_of function) (head self.now) }
+    {
+        let form = form_of(function);
+        let Some(takes) = takes_of(form, self.group, self.variation) else {
+            return false;
+        };
+        let size = objects_size(form, self.group, self.variation, self.range);
+        allows(takes, qualifier_of(self.range)) && is_range(self.range) && self.octets.len() == size
+    }
+
+    /// Row k of the header, counted from 0, or `None` where there are fewer objects or octets, or
+    /// the object is no row that is read. Its index is counted from the range's start, or stands
+    /// before it. Packed bits, 1.1, are binaries with the flags 01. No octet behind the row's is
+    /// looked at.
+    pub fn row(&self, k: usize) -> Option<Row>
+        ensures found { IfSome result (IsRow (head self.now) k) }
+        ensures only { (row : RowValue) → IsRow (head self.now) k row → result ≡ Some row }
+        // In a response each row that the range names is there.
+        ensures there { HasRows (head self.now) → k < count_of self.now.range → IsSome result }
+    {
+        row_at(self.group, self.variation, self.range, self.octets, k)
+    }
+
+    /// Command k of the header, counted from 0, with its status, or `None` where there are fewer
+    /// objects or octets, or the object is no command.
+    pub fn command(&self, k: usize) -> Option<(Command, Status)>
+        ensures found { IfSome result (IsCommand (head self.now) k) }
+        ensures only { (answer : CommandValue × ℕ) → IsCommand (head self.now) k answer → result ≡ Some answer }
+        // In any fragment each command that the range names is there.
+        ensures there { HasCommands (head self.now) → k < count_of self.now.range → IsSome result }
+    {
+        command_at(self.group, self.variation, self.range, self.octets, k)
+    }
+}

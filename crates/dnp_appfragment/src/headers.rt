@@ -1,0 +1,67 @@
+use crate::fault::AppFault;
+use crate::header::Header;
+use crate::reading::header_at;
+use crate::table::Form;
+use std::marker::Model;
+
+/// The headers of a fragment that are left, with their objects: parts of its octets, of which
+/// nothing is copied.
+#[derive(Debug, Drop)]
+pub struct Headers<'a> {
+    form: Form,
+    rest: &'a [u8],
+}
+
+impl<'a> Model for Headers<'a> {
+    ghost use Rattle.std.specs.Prelude.{IsTrue};
+    ghost use Rattle.dnp_appfragment.specs.Left.{Left, headers_of, is_whole};
+
+    ghost Value = { Left };
+
+    ghost view = { λ h. record { rest = h.rest; headers = headers_of h.form h.rest.now } };
+
+    ghost invariant = { λ h. IsTrue (is_whole h.form h.rest.now) };
+}
+
+impl<'a> Headers<'a> {
+    ghost use Rattle.std.specs.Prelude.{◌≡◌, IfOk};
+    ghost use Rattle.dnp_appfragment.specs.Seen.{Gives};
+    ghost use Rattle.dnp_appfragment.specs.Reading.{headers_at};
+
+    /// The headers that divide the octets.
+    pub(crate) fn new(form: Form, octets: &'a [u8]) -> Result<Headers<'a>, AppFault>
+        ensures gives { Gives (λ l. l.headers) result (headers_at form octets.now) }
+        ensures rest { IfOk result (λ l. l.rest ≡ octets.entry) }
+    {
+        let mut rest = octets;
+        while !rest.is_empty() {
+            let (_, after) = header_at(form, rest)?;
+            rest = after;
+        }
+        Ok(Headers { form, rest: octets })
+    }
+}
+
+impl<'a> Iterator for Headers<'a> {
+    ghost use Rattle.std.specs.Iterator.{item_count};
+    ghost use Rattle.dnp_appfragment.specs.Places.{YieldsHeader};
+
+    type Item = Header<'a>;
+
+    ghost next_gives = { YieldsHeader };
+
+    ghost remaining = { item_count (λ l. l.headers) };
+
+    fn next(&mut self) -> Option<Header<'a>> {
+        if self.rest.is_empty() {
+            return None;
+        }
+        match header_at(self.form, self.rest) {
+            Ok((header, rest)) => {
+                self.rest = rest;
+                Some(header)
+            }
+            Err(_) => None,
+        }
+    }
+}

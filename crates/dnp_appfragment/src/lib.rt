@@ -1,0 +1,38 @@
+//! Application fragments of DNP3 (IEEE Std 1815-2012, application layer): control octet, function,
+//! internal indications, and object headers with their objects, read without copying.
+#![tactic(auto)]
+
+mod builder;
+#[cfg(test)]
+mod builder_tests;
+mod control;
+mod fault;
+mod fragments;
+mod function;
+mod header;
+mod headers;
+mod iin;
+pub mod laws;
+mod objects;
+mod putting;
+mod range;
+mod reading;
+mod request;
+mod response;
+mod run;
+mod table;
+#[cfg(test)]
+mod tests;
+mod written;
+
+pub use builder::{Builder, Full};
+pub use control::Control;
+pub use fault::AppFault;
+pub use fragments::{confirm, read_request, read_response};
+pub use function::Function;
+pub use header::{Header, Range};
+pub use headers::Headers;
+pub use iin::Iin;
+pub use request::Request;
+pub use response::Response;
+pub use written::{fits_event, fits_point};

@@ -1,0 +1,111 @@
+// The objects of a header, one by one.
+ghost use Rattle.std.specs.Prelude.{◌≡◌, ◌≤◌, ◌<◌, ◌/◌, ℕ, List, length, IsSome, IfSome, Some};
+ghost use Rattle.std.specs.Option.{option_map, IsSomeAnd};
+ghost use Rattle.dnp_objects.specs.Objects.{shape_read, object_size as size_of};
+ghost use Rattle.dnp_objects.specs.declared.row.Row.{Row as RowValue};
+ghost use Rattle.dnp_objects.specs.declared.command.Command.{Command as CommandValue};
+ghost use Rattle.dnp_appfragment.specs.Headers.{count_of as count};
+ghost use Rattle.dnp_appfragment.specs.Objects as spec;
+ghost use Rattle.dnp_appfragment.specs.Reading as reading;
+ghost use Rattle.dnp_appfragment.specs.Seen.{number_and_rest, head_of};
+
+use crate::header::Range;
+use crate::range::{count_of, prefix_size};
+use crate::reading::number_at;
+use dnp_objects::{Command, Kind, Row, Status, object_size, read_command, read_row};
+
+/// The index of object k, and the octets behind it.
+fn index_at(range: Range, k: usize, octets: &[u8]) -> Option<(u16, &[u8])>
+    requires { k < count range }
+    ensures { option_map number_and_rest result ≡ reading.index_at range k octets.now }
+{
+    match range {
+        Range::Span { first, .. } => Some((first + k as u16, octets)),
+        Range::Indexed { wide, .. } => number_at(wide, octets).ok(),
+        Range::All | Range::Count { .. } => None,
+    }
+}
+
+/// The index and the octets of object k, where each has so many.
+fn object_at(range: Range, octets: &[u8], size: usize, k: usize) -> Option<(u16, &[u8])>
+    requires { size ≤ 11 }
+    ensures { option_map number_and_rest result ≡ reading.object_at range octets.now size k }
+{
+    if k >= count_of(range) {
+        return None;
+    }
+    let start = k * (prefix_size(range) + size);
+    if octets.len() < start {
+        return None;
+    }
+    let (index, rest) = index_at(range, k, &octets[start..])?;
+    if rest.len() < size {
+        return None;
+    }
+    Some((index, &rest[..size]))
+}
+
+/// Binary k of packed bits.
+fn bit_at(range: Range, octets: &[u8], k: usize) -> Option<Row>
+    ensures found { IfSome result (spec.IsBit (head_of 1 1 range octets.now) k) }
+    ensures only { (row : RowValue) → spec.IsBit (head_of 1 1 range octets.now) k row → result ≡ Some row }
+    ensures there { spec.IsSpan range → k < count range → k / 8 < length octets.now → IsSome result }
+{
+    let Range::Span { first, .. } = range else {
+        return None;
+    };
+    if k >= count_of(range) {
+        return None;
+    }
+    let octet = octets.get(k / 8)?;
+    Some(Row {
+        kind: Kind::Binary,
+        index: first + k as u16,
+        flags: 1,
+        value: i64::from((octet >> (k % 8)) % 2),
+        time: None,
+    })
+}
+
+/// Row k of a header whose objects have a known size.
+fn object_row_at(group: u8, variation: u8, range: Range, octets: &[u8], k: usize) -> Option<Row>
+    ensures found { IfSome result (spec.IsObjectRow (head_of group variation range octets.now) k) }
+    ensures only { (row : RowValue) → spec.IsObjectRow (head_of group variation range octets.now) k row → result ≡ Some row }
+    ensures there { IsSome (shape_read group variation)
+        → IsSomeAnd (size_of group variation) (λ size. IsSome (reading.object_at range octets.now size k)) → IsSome result }
+{
+    let size = object_size(group, variation)?;
+    let (index, octets) = object_at(range, octets, size, k)?;
+    read_row(group, variation, index, octets).ok()
+}
+
+/// Row k of a header of this object and range, with these octets.
+pub(crate) fn row_at(group: u8, variation: u8, range: Range, octets: &[u8], k: usize) -> Option<Row>
+    ensures found { IfSome result (spec.IsRow (head_of group variation range octets.now) k) }
+    ensures only { (row : RowValue) → spec.IsRow (head_of group variation range octets.now) k row → result ≡ Some row }
+    ensures there { spec.HasRows (head_of group variation range octets.now) → k < count range → IsSome result }
+{
+    if group == 1 && variation == 1 {
+        bit_at(range, octets, k)
+    } else {
+        object_row_at(group, variation, range, octets, k)
+    }
+}
+
+/// Command k, with its status.
+pub(crate) fn command_at(
+    group: u8,
+    variation: u8,
+    range: Range,
+    octets: &[u8],
+    k: usize,
+) -> Option<(Command, Status)>
+    ensures found { IfSome result (spec.IsCommand (head_of group variation range octets.now) k) }
+    ensures only { (answer : CommandValue × ℕ) → spec.IsCommand (head_of group variation range octets.now) k answer
+        → result ≡ Some answer }
+    ensures there { spec.HasCommands (head_of group variation range octets.now) → k < count range → IsSome result }
+{
+    let size = object_size(group, variation)?;
+    let (index, octets) = object_at(range, octets, size, k)?;
+    read_command(group, variation, index, octets).ok()
+}

@@ -1,0 +1,101 @@
+ghost use Rattle.std.specs.Prelude.{◌≡◌, ◌≤◌, IfOk};
+ghost use Rattle.dnp_appfragment.specs.Reading as spec;
+ghost use Rattle.dnp_appfragment.specs.Places.{Ends, IsPart};
+ghost use Rattle.dnp_appfragment.specs.Seen.{Gives, number_and_rest, range_and_rest, head_and_rest};
+
+use crate::fault::AppFault;
+use crate::header::{Header, Range};
+use crate::range::objects_size;
+use crate::table::{Form, allows, takes_of};
+
+/// A number in one octet, or in two, and the octets behind it.
+pub(crate) fn number_at(wide: bool, octets: &[u8]) -> Result<(u16, &[u8]), AppFault>
+    ensures gives { Gives number_and_rest result (spec.number_at wide octets.now) }
+    ensures end { IfOk result (λ x. Ends octets.entry x.1) }
+{
+    match (wide, octets) {
+        (false, [number, rest @ ..]) => Ok((u16::from(*number), rest)),
+        (true, [low, high, rest @ ..]) => Ok((u16::from_le_bytes([*low, *high]), rest)),
+        _ => Err(AppFault::HeaderCut),
+    }
+}
+
+/// A start and a stop.
+#[tactic(auto, unfolding(crate::specs::Reading::span_at))]
+fn span_at(wide: bool, octets: &[u8]) -> Result<(Range, &[u8]), AppFault>
+    ensures gives { Gives range_and_rest result (spec.span_at wide octets.now) }
+    ensures end { IfOk result (λ x. Ends octets.entry x.1) }
+{
+    let (first, rest) = number_at(wide, octets)?;
+    let (last, rest) = number_at(wide, rest)?;
+    if last < first {
+        return Err(AppFault::RangeBackward);
+    }
+    Ok((Range::Span { wide, first, last }, rest))
+}
+
+/// A count.
+fn count_at(wide: bool, octets: &[u8]) -> Result<(Range, &[u8]), AppFault>
+    ensures gives { Gives range_and_rest result (spec.count_at wide octets.now) }
+    ensures end { IfOk result (λ x. Ends octets.entry x.1) }
+{
+    let (n, rest) = number_at(wide, octets)?;
+    Ok((Range::Count { wide, n }, rest))
+}
+
+/// A count of objects that have an index before them.
+fn indexed_at(wide: bool, octets: &[u8]) -> Result<(Range, &[u8]), AppFault>
+    ensures gives { Gives range_and_rest result (spec.indexed_at wide octets.now) }
+    ensures end { IfOk result (λ x. Ends octets.entry x.1) }
+{
+    let (n, rest) = number_at(wide, octets)?;
+    Ok((Range::Indexed { wide, n }, rest))
+}
+
+/// The range of a qualifier, and the octets behind it.
+#[tactic(auto, unfolding(crate::specs::Reading::range_at))]
+fn range_at(qualifier: u8, octets: &[u8]) -> Result<(Range, &[u8]), AppFault>
+    ensures gives { Gives range_and_rest result (spec.range_at qualifier octets.now) }
+    ensures end { IfOk result (λ x. Ends octets.entry x.1) }
+{
+    match qualifier {
+        0x00 => span_at(false, octets),
+        0x01 => span_at(true, octets),
+        0x06 => Ok((Range::All, octets)),
+        0x07 => count_at(false, octets),
+        0x08 => count_at(true, octets),
+        0x17 => indexed_at(false, octets),
+        0x28 => indexed_at(true, octets),
+        _ => Err(AppFault::QualifierUnknown),
+    }
+}
+
+/// The header at the front, with its objects, and the octets behind them.
+#[tactic(auto, unfolding(crate::specs::Reading::header_at))]
+pub(crate) fn header_at(form: Form, octets: &[u8]) -> Result<(Header<'_>, &[u8]), AppFault>
+    ensures gives { Gives head_and_rest result (spec.header_at form octets.now) }
+    // Nothing is copied: the objects lie in the octets, just before the rest.
+    ensures part { IfOk result (λ x. IsPart octets.entry x.0.octets x.1) }
+{
+    let [group, variation, qualifier, rest @ ..] = octets else {
+        return Err(AppFault::HeaderCut);
+    };
+    let Some(takes) = takes_of(form, *group, *variation) else {
+        return Err(AppFault::ObjectUnknown);
+    };
+    if !allows(takes, *qualifier) {
+        return Err(AppFault::QualifierUnknown);
+    }
+    let (range, rest) = range_at(*qualifier, rest)?;
+    let size = objects_size(form, *group, *variation, range);
+    if rest.len() < size {
+        return Err(AppFault::ObjectsCut);
+    }
+    let header = Header {
+        group: *group,
+        variation: *variation,
+        range,
+        octets: &rest[..size],
+    };
+    Ok((header, &rest[size..]))
+}

@@ -1,0 +1,97 @@
+ghost use Rattle.std.specs.Prelude.{◌≡◌};
+ghost use Rattle.dnp_appfragment.specs.Joining.{joined_range};
+ghost use Rattle.dnp_appfragment.specs.Building as spec;
+ghost use Rattle.dnp_appfragment.specs.Seen.{head};
+
+use crate::header::{Header, Range};
+
+/// The header that the next object may join: its object and its range so far.
+#[derive(Clone, Copy, Debug)]
+pub struct Run {
+    pub group: u8,
+    pub variation: u8,
+    pub range: Range,
+}
+
+/// The range of the objects of both, where the second go on behind the first.
+fn joined_range(first: Range, second: Range) -> Option<Range>
+    ensures { result ≡ joined_range first second }
+{
+    match (first, second) {
+        (
+            Range::Indexed { wide: true, n },
+            Range::Indexed {
+                wide: true,
+                n: more,
+            },
+        ) => {
+            let n = n.checked_add(more)?;
+            Some(Range::Indexed { wide: true, n })
+        }
+        (
+            Range::Span {
+                wide: true,
+                first,
+                last,
+            },
+            Range::Span {
+                wide: true,
+                first: next,
+                last: end,
+            },
+        ) if last.checked_add(1) == Some(next) => {
+            Some(Range::Span {
+                wide: true,
+                first,
+                last: end,
+            })
+        }
+        _ => None,
+    }
+}
+
+impl Run {
+    ghost use Rattle.dnp_appfragment.specs.Building.{run_head, joined_run};
+    ghost use Rattle.dnp_appfragment.specs.Seen.{head};
+
+    /// The header with the octets of its objects.
+    pub(crate) fn header<'a>(&self, objects: &'a [u8]) -> Header<'a>
+        ensures { head result ≡ run_head objects.now self.now }
+    {
+        Header {
+            group: self.group,
+            variation: self.variation,
+            range: self.range,
+            octets: objects,
+        }
+    }
+
+    /// The run with this object, where it joins the run.
+    fn joined(self, object: &Header<'_>) -> Option<Run>
+        ensures { result ≡ joined_run (head object.now) self }
+    {
+        if self.group != object.group || self.variation != object.variation {
+            return None;
+        }
+        let range = joined_range(self.range, object.range)?;
+        Some(Run { range, ..self })
+    }
+
+    /// A run of these objects.
+    pub(crate) fn of(object: &Header<'_>) -> Run
+        ensures { run_head object.now.octets.now result ≡ head object.now }
+    {
+        Run {
+            group: object.group,
+            variation: object.variation,
+            range: object.range,
+        }
+    }
+}
+
+/// The run with this object, if there is a run and the object joins it.
+pub(crate) fn longer(run: Option<Run>, object: &Header<'_>) -> Option<Run>
+    ensures { result ≡ spec.longer run (head object.now) }
+{
+    run?.joined(object)
+}

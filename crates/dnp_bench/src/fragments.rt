@@ -1,0 +1,83 @@
+//! Application fragments as `bench/` calls them from C.
+
+ghost use Rattle.std.specs.Prelude.{IsTrue};
+ghost use Rattle.dnp_appfragment.specs.Table.{is_response};
+
+use dnp_appfragment::{
+    Builder, Control, Function, Headers, Iin, fits_event, read_request, read_response,
+};
+use dnp_objects::{Kind, Row};
+
+/// The headers of a request or a response, if the octets are one.
+fn headers_of(fragment: &[u8]) -> Option<Headers<'_>> {
+    match fragment.get(1) {
+        Some(129..) => read_response(fragment)
+            .ok()
+            .map(|response| response.headers),
+        _ => read_request(fragment).ok().map(|request| request.headers),
+    }
+}
+
+/// A row in one number.
+fn number_of(row: &Row) -> u64 {
+    let value = u64::from_le_bytes(row.value.to_le_bytes());
+    u64::from(row.index)
+        ^ u64::from(row.flags) << 16
+        ^ value.wrapping_mul(1 << 24)
+        ^ row.time.unwrap_or(0)
+}
+
+/// Reads a fragment, walks its headers and rows, and makes a number of them; all ones where the
+/// octets are no fragment.
+#[unsafe(no_mangle)]
+pub extern "C" fn dnp_bench_walk(fragment: &[u8]) -> u64 {
+    let Some(headers) = headers_of(fragment) else {
+        return u64::MAX;
+    };
+    let mut sum = 0u64;
+    for header in headers {
+        let object = u64::from(header.group) << 8 | u64::from(header.variation);
+        sum = sum.wrapping_mul(31).wrapping_add(object);
+        for k in 0..header.count() {
+            match header.row(k) {
+                Some(row) => sum = sum.wrapping_mul(31).wrapping_add(number_of(&row)),
+                None => break,
+            }
+        }
+    }
+    sum
+}
+
+/// Puts events of analogs with this value and time into a response, as many as fit.
+fn put_events(builder: &mut Builder, value: u16, time: u64)
+    requires { IsTrue (is_response builder.old.function) }
+{
+    for index in 0..2_048 {
+        let row = Row {
+            kind: Kind::Analog,
+            index,
+            flags: 1,
+            value: i64::from(value),
+            time: Some(time),
+        };
+        if !fits_event(&row) || builder.event(&row).is_err() {
+            return;
+        }
+    }
+}
+
+/// Builds a response of events, as many as fit in one, and makes a number of it; `turn`, below
+/// 65,536, makes each one another.
+#[unsafe(no_mangle)]
+pub extern "C" fn dnp_bench_build(turn: u64) -> u64 {
+    let turn = turn % 65_536;
+    let mut builder = Builder::new(Function::Response, true);
+    put_events(&mut builder, turn as u16, 1_000 + turn);
+    let control = Control::read(0xE0 | (turn % 16) as u8);
+    let fragment = builder.finish(control, Iin { one: 0, two: 0 });
+    let mut sum = fragment.len() as u64;
+    for part in fragment.chunks(97) {
+        sum = sum.wrapping_mul(31).wrapping_add(u64::from(part[0]));
+    }
+    sum
+}

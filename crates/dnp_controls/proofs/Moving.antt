@@ -1,0 +1,243 @@
+-- What calls make of a book, one after another.
+use Rattle.std.proofs.Common.{◌≡◌, ℕ, ◌+◌, ◌≤◌, Bool, true, false, not, List, [], ◌∷◌, length, refl, ap, sym, ◌∙◌, arith, subst}
+use Rattle.std.specs.Prelude.{Option, Some, None, eqb, cond, IsTrue, MatchOption, ◌&&◌, count_by, option_map, All}
+use Rattle.std.specs.Option.{option_or, IsSomeAnd}
+use Rattle.std.proofs.lemmas.List.Folds.{find-append}
+use Rattle.std.proofs.lemmas.List.Elements.{All-cons, All-nil, All-weaker, Contains-append_left, Contains-append_right, Contains-get_or}
+use Rattle.std.proofs.lemmas.List.Sums.{sum_by-cons}
+use Rattle.std.proofs.lemmas.Bool.Decides.{Decides-eqb}
+use Rattle.dnp_objects.specs.declared.command.Command.{Command}
+use Rattle.dnp_controls.specs.declared.book.Entry.{Entry}
+use Rattle.dnp_controls.specs.declared.book.State.{State}
+use Rattle.dnp_controls.specs.declared.book.State.TheVariants.{Pending, Spent, Finished}
+use Rattle.dnp_controls.specs.Book.{AreNumberedFrom, IsSound, Has, entry_of, next_of, added, in_state, spent, finished, is_pending, is_finished}
+use Rattle.dnp_controls.specs.Moves.{Move, Add, Spend, Finish, IsGranted, moved, AreGranted, after, is_spend_of, IsNext, HasNoNext}
+use Rattle.dnp_controls.proofs.Numbered.{with_state, numbered-push, in_state-numbered}
+
+-- ---- one entry, when another one or itself comes into a state
+
+head-id : (b : Bool) (entry : Entry) (state : State) → (cond b (with_state entry state) entry).id ≡ entry.id
+head-id true entry state = refl
+head-id false entry state = refl
+
+entry_of-in_state-same : (entries : List Entry) (id : ℕ) (state : State)
+    → entry_of (in_state entries id state) id ≡ option_map (λ entry. with_state entry state) (entry_of entries id)
+entry_of-in_state-same [] id state = refl
+entry_of-in_state-same (entry ∷ entries) id state =
+    ap (λ n. cond (eqb n id) (Some (cond (eqb entry.id id) (with_state entry state) entry)) (entry_of (in_state entries id state) id)) (head-id (eqb entry.id id) entry state)
+    ∙ go (eqb entry.id id) (entry_of-in_state-same entries id state)
+  where
+    go : (b : Bool) → entry_of (in_state entries id state) id ≡ option_map (λ e. with_state e state) (entry_of entries id)
+        → cond b (Some (cond b (with_state entry state) entry)) (entry_of (in_state entries id state) id) ≡ option_map (λ e. with_state e state) (cond b (Some entry) (entry_of entries id))
+    go true rest = refl
+    go false rest = rest
+
+entry_of-in_state-other : (entries : List Entry) (other id : ℕ) (state : State) → (other ≡ id → ⊥)
+    → entry_of (in_state entries other state) id ≡ entry_of entries id
+entry_of-in_state-other [] other id state ne = refl
+entry_of-in_state-other (entry ∷ entries) other id state ne =
+    ap (λ n. cond (eqb n id) (Some (cond (eqb entry.id other) (with_state entry state) entry)) (entry_of (in_state entries other state) id)) (head-id (eqb entry.id other) entry state)
+    ∙ go (eqb entry.id other) (eqb entry.id id) (Decides-eqb entry.id other).0 (Decides-eqb entry.id id).0 (entry_of-in_state-other entries other id state ne)
+  where
+    go : (a b : Bool) → (a ≡ true → entry.id ≡ other) → (b ≡ true → entry.id ≡ id) → entry_of (in_state entries other state) id ≡ entry_of entries id
+        → cond b (Some (cond a (with_state entry state) entry)) (entry_of (in_state entries other state) id) ≡ cond b (Some entry) (entry_of entries id)
+    go true true is_other is_id rest = absurd (ne (sym (is_other refl) ∙ is_id refl))
+    go true false is_other is_id rest = rest
+    go false true is_other is_id rest = refl
+    go false false is_other is_id rest = rest
+
+entry_of-added : (entries : List Entry) (target : ℕ) (command : Command) (id : ℕ)
+    → entry_of (added entries target command) id
+    ≡ option_or (entry_of entries id) (entry_of (record { id = length entries + 1; target = target; command = command; state = Pending } ∷ []) id)
+entry_of-added entries target command id =
+    find-append (λ entry. eqb entry.id id) entries (record { id = length entries + 1; target = target; command = command; state = Pending } ∷ [])
+
+-- ---- what holds of an entry's state
+
+-- the entry is there, and its state passes
+abbrev Passes : Option Entry → (State → Bool) → Type 0
+Passes o test = IsSomeAnd o (λ entry. IsTrue (test entry.state))
+
+has-added : (entries : List Entry) (target : ℕ) (command : Command) (id : ℕ) (test : State → Bool) → Has entries id test → Has (added entries target command) id test
+has-added entries target command id test has =
+    let P : Option Entry → Type 0 = λ o. Passes o test in
+    subst P (sym (entry_of-added entries target command id)) (go (entry_of entries id) _ has)
+  where
+    go : (o p : Option Entry) → Passes o test → Passes (option_or o p) test
+    go None p has = absurd has
+    go (Some entry) p has = has
+
+has-set : (entries : List Entry) (id : ℕ) (state : State) (before after' : State → Bool) → Has entries id before → after' state ≡ true → Has (in_state entries id state) id after'
+has-set entries id state before after' has passes =
+    let P : Option Entry → Type 0 = λ o. Passes o after' in
+    subst P (sym (entry_of-in_state-same entries id state)) (go (entry_of entries id) has)
+  where
+    go : (o : Option Entry) → Passes o before → Passes (option_map (λ entry. with_state entry state) o) after'
+    go None has = absurd has
+    go (Some entry) has = passes
+
+has-other : (entries : List Entry) (other id : ℕ) (state : State) (test : State → Bool) → (other ≡ id → ⊥) → Has entries id test → Has (in_state entries other state) id test
+has-other entries other id state test ne has =
+    let P : Option Entry → Type 0 = λ o. Passes o test in
+    subst P (sym (entry_of-in_state-other entries other id state ne)) has
+
+-- an entry does not pass a test and its opposite
+has-both : (entries : List Entry) (id : ℕ) (test : State → Bool) → Has entries id test → Has entries id (λ state. not (test state)) → ⊥
+has-both entries id test has has_not = go (entry_of entries id) has has_not
+  where
+    go : (o : Option Entry) → Passes o test → Passes o (λ state. not (test state)) → ⊥
+    go None has has_not = has
+    go (Some entry) has has_not = both (test entry.state) has has_not
+      where
+        both : (b : Bool) → b ≡ true → not b ≡ true → ⊥
+        both true p q = cc
+        both false p q = cc
+
+-- ---- an entry that is past pending
+
+abbrev IsPast : List Entry → ℕ → Type 0
+IsPast entries id = Has entries id (λ state. not (is_pending state))
+
+past-in_state : (entries : List Entry) (other id : ℕ) (state : State) (before : State → Bool) → is_pending state ≡ false → Has entries other before → IsPast entries id → IsPast (in_state entries other state) id
+past-in_state entries other id state before done has past = go (eqb other id) (Decides-eqb other id)
+  where
+    go : (b : Bool) → (b ≡ true → other ≡ id) × (other ≡ id → b ≡ true) → IsPast (in_state entries other state) id
+    go true decides =
+        let P : ℕ → Type 0 = λ k. Has (in_state entries other state) k (λ s. not (is_pending s)) in
+        subst P (decides.0 refl) (has-set entries other state before (λ s. not (is_pending s)) has (ap not done))
+    go false decides = has-other entries other id state (λ s. not (is_pending s)) (λ e. let h : false ≡ true = decides.1 e in cc) past
+
+past-moved : (entries : List Entry) (move : Move) (id : ℕ) → IsGranted entries move → IsPast entries id → IsPast (moved entries move) id
+past-moved entries (Add target command) id granted past = has-added entries target command id (λ s. not (is_pending s)) past
+past-moved entries (Spend other) id granted past = past-in_state entries other id Spent is_pending refl granted past
+past-moved entries (Finish other status) id granted past = past-in_state entries other id (Finished status) (λ s. not (is_finished s)) refl granted past
+
+-- how often an entry is spent by one call and those behind it
+spends-cons : (id : ℕ) (move : Move) (moves : List Move) → count_by (is_spend_of id) (move ∷ moves) ≡ cond (is_spend_of id move) 1 0 + count_by (is_spend_of id) moves
+spends-cons id move moves = sum_by-cons (λ m. cond (is_spend_of id m) 1 0) move moves
+
+-- it is spent by none of the calls
+spends-none : (entries : List Entry) (moves : List Move) (id : ℕ) → AreGranted entries moves → IsPast entries id → count_by (is_spend_of id) moves ≡ 0
+spends-none entries [] id granted past = refl
+spends-none entries (move ∷ moves) id granted past =
+    let rest : count_by (is_spend_of id) moves ≡ 0 = spends-none (moved entries move) moves id granted.1 (past-moved entries move id granted.0 past) in
+    let this : is_spend_of id move ≡ false = not-this entries move id granted.0 past in
+    spends-cons id move moves ∙ ap (λ b. cond b 1 0 + count_by (is_spend_of id) moves) this ∙ (let h : 0 + count_by (is_spend_of id) moves ≡ 0 = omega arith in h)
+  where
+    not-this : (entries : List Entry) (move : Move) (id : ℕ) → IsGranted entries move → IsPast entries id → is_spend_of id move ≡ false
+    not-this entries (Add target command) id granted past = refl
+    not-this entries (Finish other status) id granted past = refl
+    not-this entries (Spend other) id granted past = go (eqb other id) (Decides-eqb other id).0
+      where
+        go : (b : Bool) → (b ≡ true → other ≡ id) → b ≡ false
+        go true same = let P : ℕ → Type 0 = λ k. Has entries k is_pending in absurd (has-both entries id is_pending (subst P (same refl) granted) past)
+        go false same = refl
+
+-- an entry is spent by at most one of the calls
+pub spends-once : (entries : List Entry) (moves : List Move) (id : ℕ) → AreGranted entries moves → count_by (is_spend_of id) moves ≤ 1
+spends-once entries [] id granted = omega arith
+spends-once entries (Add target command ∷ moves) id granted =
+    let rest = spends-once (added entries target command) moves id granted.1 in omega (arith, rest, spends-cons id (Add target command) moves)
+spends-once entries (Finish other status ∷ moves) id granted =
+    let rest = spends-once (finished entries other status) moves id granted.1 in omega (arith, rest, spends-cons id (Finish other status) moves)
+spends-once entries (Spend other ∷ moves) id granted =
+    let here : cond (eqb other id) 1 0 + count_by (is_spend_of id) moves ≤ 1 =
+    go (eqb other id) (Decides-eqb other id).0 (spends-once (spent entries other) moves id granted.1) in
+    let P : ℕ → Type 0 = λ n. n ≤ 1 in
+    subst P (sym (spends-cons id (Spend other) moves)) here
+  where
+    go : (b : Bool) → (b ≡ true → other ≡ id) → count_by (is_spend_of id) moves ≤ 1 → cond b 1 0 + count_by (is_spend_of id) moves ≤ 1
+    go true same rest =
+        let P : ℕ → Type 0 = λ k. Has (spent entries other) k (λ s. not (is_pending s)) in
+        let none : count_by (is_spend_of id) moves ≡ 0 =
+        spends-none (spent entries other) moves id granted.1 (subst P (same refl) (has-set entries other Spent is_pending (λ s. not (is_pending s)) granted.0 refl)) in
+        omega (arith, none)
+    go false same rest = omega (arith, rest)
+
+-- ---- an entry that is finished
+
+finished-moved : (entries : List Entry) (move : Move) (id : ℕ) (entry : Entry) → IsGranted entries move → entry_of entries id ≡ Some entry → is_finished entry.state ≡ true
+    → entry_of (moved entries move) id ≡ Some entry
+finished-moved entries (Add target command) id entry granted is done =
+    entry_of-added entries target command id
+    ∙ ap (λ o. option_or o (entry_of (record { id = length entries + 1; target = target; command = command; state = Pending } ∷ []) id)) is
+finished-moved entries (Spend other) id entry granted is done = go (eqb other id) (Decides-eqb other id)
+  where
+    pending-not : (state : State) → is_pending state ≡ true → is_finished state ≡ true → ⊥
+    pending-not Pending p q = cc
+    pending-not Spent p q = cc
+    pending-not (Finished status) p q = cc
+
+    go : (b : Bool) → (b ≡ true → other ≡ id) × (other ≡ id → b ≡ true) → entry_of (spent entries other) id ≡ Some entry
+    go true decides =
+        let P : ℕ → Type 0 = λ k. Has entries k is_pending in
+        let Q : Option Entry → Type 0 = λ o. Passes o is_pending in
+        absurd (pending-not entry.state (subst Q is (subst P (decides.0 refl) granted)) done)
+    go false decides = entry_of-in_state-other entries other id Spent (λ e. let h : false ≡ true = decides.1 e in cc) ∙ is
+finished-moved entries (Finish other status) id entry granted is done = go (eqb other id) (Decides-eqb other id)
+  where
+    not-both : (b : Bool) → not b ≡ true → b ≡ true → ⊥
+    not-both true p q = cc
+    not-both false p q = cc
+
+    go : (b : Bool) → (b ≡ true → other ≡ id) × (other ≡ id → b ≡ true) → entry_of (finished entries other status) id ≡ Some entry
+    go true decides =
+        let P : ℕ → Type 0 = λ k. Has entries k (λ s. not (is_finished s)) in
+        let Q : Option Entry → Type 0 = λ o. Passes o (λ s. not (is_finished s)) in
+        absurd (not-both (is_finished entry.state) (subst Q is (subst P (decides.0 refl) granted)) done)
+    go false decides = entry_of-in_state-other entries other id (Finished status) (λ e. let h : false ≡ true = decides.1 e in cc) ∙ is
+
+-- a finished entry stays as it is
+pub finished-stays : (entries : List Entry) (moves : List Move) (id : ℕ) (entry : Entry) → AreGranted entries moves → entry_of entries id ≡ Some entry → is_finished entry.state ≡ true
+    → entry_of (after entries moves) id ≡ Some entry
+finished-stays entries [] id entry granted is done = is
+finished-stays entries (move ∷ moves) id entry granted is done =
+    finished-stays (moved entries move) moves id entry granted.1 (finished-moved entries move id entry granted.0 is done) done
+
+-- ---- the ids
+
+pub sound-after : (entries : List Entry) (moves : List Move) → IsSound entries → IsSound (after entries moves)
+sound-after entries [] sound = sound
+sound-after entries (Add target command ∷ moves) sound = sound-after (added entries target command) moves (numbered-push entries 1 _ sound (omega arith))
+sound-after entries (Spend id ∷ moves) sound = sound-after (spent entries id) moves (in_state-numbered entries 1 id Spent sound)
+sound-after entries (Finish id status ∷ moves) sound = sound-after (finished entries id status) moves (in_state-numbered entries 1 id (Finished status) sound)
+
+-- ---- the next entry
+
+-- the ids are at least the first one
+ids-from : (entries : List Entry) (first : ℕ) → AreNumberedFrom first entries → All (λ entry. first ≤ entry.id) entries
+ids-from [] first numbered = All-nil (λ entry. first ≤ entry.id)
+ids-from (entry ∷ entries) first numbered =
+    All-cons (λ e. first ≤ e.id) entry entries (let h : entry.id ≡ first = numbered.0 in omega arith)
+    (All-weaker (λ e. first + 1 ≤ e.id) (λ e. first ≤ e.id) (λ e h. omega arith) entries (ids-from entries (first + 1) numbered.1))
+
+-- no pending entry is for the target but perhaps behind the first one
+behind : (entry : Entry) (entries : List Entry) (target : ℕ) (o : Option Entry) → (is_pending entry.state ≡ true → entry.target ≡ target → ⊥)
+    → MatchOption o (HasNoNext entries target) (IsNext entries target) → MatchOption o (HasNoNext (entry ∷ entries) target) (IsNext (entry ∷ entries) target)
+behind entry entries target None not_this rest = All-cons (λ e. is_pending e.state ≡ true → e.target ≡ target → ⊥) entry entries not_this rest
+behind entry entries target (Some e) not_this rest = record {
+  contained = Contains-append_right (entry ∷ []) entries e rest.contained;
+  pending = rest.pending;
+  target_is = rest.target_is;
+  least = All-cons (λ other. is_pending other.state ≡ true → other.target ≡ target → e.id ≤ other.id) entry entries (λ p t. absurd (not_this p t)) rest.least;
+}
+
+-- the next entry is the pending one of the least id for the target
+pub next-is-least : (entries : List Entry) (first target : ℕ) → AreNumberedFrom first entries
+    → MatchOption (next_of entries target) (HasNoNext entries target) (IsNext entries target)
+next-is-least [] first target numbered = All-nil (λ other. is_pending other.state ≡ true → other.target ≡ target → ⊥)
+next-is-least (entry ∷ entries) first target numbered =
+    go (is_pending entry.state) (eqb entry.target target) refl (Decides-eqb entry.target target) (next-is-least entries (first + 1) target numbered.1)
+  where
+    go : (a b : Bool) → is_pending entry.state ≡ a → (b ≡ true → entry.target ≡ target) × (entry.target ≡ target → b ≡ true)
+        → MatchOption (next_of entries target) (HasNoNext entries target) (IsNext entries target)
+        → MatchOption (cond (a && b) (Some entry) (next_of entries target)) (HasNoNext (entry ∷ entries) target) (IsNext (entry ∷ entries) target)
+    go true true pending decides rest = record {
+      contained = Contains-append_left (entry ∷ []) entries entry (Contains-get_or (entry ∷ []) 0 entry (omega arith));
+      pending = pending;
+      target_is = decides.0 refl;
+      least = All-weaker (λ other. first ≤ other.id) (λ other. is_pending other.state ≡ true → other.target ≡ target → entry.id ≤ other.id)
+          (λ other h _ _. let e : entry.id ≡ first = numbered.0 in omega arith) (entry ∷ entries) (ids-from (entry ∷ entries) first numbered);
+    }
+    go true false pending decides rest = behind entry entries target (next_of entries target) (λ _ t. let h : false ≡ true = decides.1 t in cc) rest
+    go false b not_pending decides rest = behind entry entries target (next_of entries target) (λ p _. cc) rest

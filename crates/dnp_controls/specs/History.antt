@@ -1,0 +1,22 @@
+-- What a contract sees of the commands that outputs in memory performed.
+use Rattle.std.specs.Prelude.{◌≡◌, ℕ, ◌<◌, Bool, false, List, length, slice_index_or, All}
+use Rattle.dnp_objects.specs.declared.command.Command.{Command}
+use Rattle.dnp_objects.specs.declared.command.Command.TheVariants.{Block, Set16, Set32}
+use Rattle.dnp_controls.specs.Latches.{is_latched}
+
+-- the commands, in order, and how many more can be put behind them without more memory
+pub record History : Type 0 where
+  pub commands : List Command
+  pub room : ℕ
+
+-- a block is for one of the binary outputs 0 to 255
+abbrev pub IsInPlace : Command → Type 0
+IsInPlace (Block index code count on off) = index < 256
+IsInPlace (Set16 index value) = Unit {0}
+IsInPlace (Set32 index value) = Unit {0}
+
+-- the latches of the outputs 0 to 255 are those that the commands left
+pub record IsLatchedBy (latched : List Bool) (commands : List Command) : Type 0 where
+  pub count : length latched ≡ 256
+  pub each : (output : ℕ) → output < 256 → slice_index_or latched output false ≡ is_latched commands output
+  pub in_place : All IsInPlace commands

@@ -1,0 +1,9 @@
+pub mod Book
+pub mod Code
+pub mod History
+pub mod Keeping
+pub mod Latches
+pub mod Moves
+pub mod Panel
+pub mod Places
+pub mod Selecting

@@ -1,0 +1,22 @@
+//! Controls of DNP3 (IEEE Std 1815-2012, application layer: SELECT, OPERATE, DIRECT OPERATE): the select
+//! that an OPERATE needs, outputs that perform commands, and the book in which commands to be sent on
+//! stand until they are finished.
+#![tactic(auto)]
+
+mod book;
+mod code;
+pub mod laws;
+mod outputs;
+mod performed;
+mod plain_book;
+mod plain_outputs;
+mod select;
+#[cfg(test)]
+mod tests;
+
+pub use book::{Book, BookFault, Entry, State};
+pub use code::{Operation, obeys_code_rule};
+pub use outputs::{MAX_COMMANDS, NoOutputs, Outputs};
+pub use plain_book::PlainBook;
+pub use plain_outputs::PlainOutputs;
+pub use select::{MAX_OCTETS, Selects};

@@ -1,0 +1,104 @@
+//! The commands that outputs in memory performed, and what they left.
+
+ghost use Rattle.std.specs.Prelude.{◌≡◌, ◌≤◌, ◌<◌, ◌+◌, Bool, false, ℕ, [], ◌∷◌, ◌++◌, OnOk, OnErr, length, slice_index_or, unwrap_or};
+ghost use Rattle.dnp_controls.specs.Latches.{latch_of, latch_by, status_of, is_latched};
+ghost use Rattle.dnp_controls.specs.History.{IsInPlace};
+
+use crate::code::Operation;
+use dnp_objects::Command;
+use dnp_objects::flags::{ONLINE, STATE};
+use std::alloc::{AllocError, Global};
+use std::marker::Model;
+
+/// The most binary outputs.
+pub const MAX_OUTPUTS: u16 = 256;
+
+/// Commands that were performed, in order, with the latches that they left.
+#[derive(Debug, Drop)]
+pub(crate) struct Performed {
+    commands: Vec<Command>,
+
+    // Whether the binary output of an index is latched on.
+    latched: [bool; 256],
+}
+
+impl Model for Performed {
+    ghost use Rattle.dnp_controls.specs.History.{History, IsLatchedBy};
+    ghost use Rattle.std.specs.Prelude.{◌-◌, vec_len};
+    ghost use Rattle.std.specs.Vec.{vec_capacity};
+
+    ghost Value = { History };
+
+    ghost view = { λ a. record { commands = a.commands.items; room = vec_capacity a.commands - vec_len a.commands } };
+
+    ghost invariant = { λ a. IsLatchedBy a.latched a.commands.items };
+}
+
+impl Performed {
+    /// Nothing was performed.
+    pub fn new(alloc: Global) -> Self
+        ensures { result.commands ≡ [] }
+    {
+        Performed {
+            commands: Vec::new(alloc),
+            latched: [false; 256],
+        }
+    }
+
+    /// The commands, in order.
+    pub fn commands(&self) -> &[Command]
+        ensures { result.now ≡ self.now.commands }
+    {
+        self.commands.as_slice()
+    }
+
+    /// The flags octet of the binary output of this index.
+    pub fn status(&self, index: u16) -> u8
+        ensures { result ≡ status_of self.now.commands index }
+    {
+        let latched = &self.latched;
+        if index >= MAX_OUTPUTS {
+            return ONLINE;
+        }
+        if latched[index as usize] {
+            ONLINE | STATE
+        } else {
+            ONLINE
+        }
+    }
+
+    /// Takes room for so many commands more.
+    pub fn reserve(&mut self, count: usize) -> Result<(), AllocError>
+        ensures same { self.new.commands ≡ self.old.commands }
+        ensures room { OnOk result (count ≤ self.new.room) }
+    {
+        self.commands.reserve(count)
+    }
+
+    /// Puts a command behind the others. There must be room.
+    pub fn perform(&mut self, command: Command)
+        requires room { 0 < self.old.room }
+        requires in_place { IsInPlace command }
+        ensures commands { self.new.commands ≡ self.old.commands ++ command ∷ [] }
+        ensures room { self.old.room ≤ self.new.room + 1 }
+    {
+        set_latch(&mut self.latched, command);
+        let _ = self.commands.push(command);
+    }
+}
+
+// Sets the latch that the command is for, if it touches one.
+fn set_latch(latched: &mut [bool], command: Command)
+    requires count { length latched.old ≡ 256 }
+    requires in_place { IsInPlace command }
+    ensures { (output : ℕ) → output < 256 → slice_index_or latched.new output false ≡ unwrap_or (latch_of output command) (slice_index_or latched.old output false) }
+{
+    let Command::Block { index, code, .. } = command else {
+        return;
+    };
+    match Operation::of(code) {
+        Operation::LatchOn => latched[index as usize] = true,
+        Operation::LatchOff => latched[index as usize] = false,
+        Operation::Nul | Operation::PulseOn | Operation::PulseOff | Operation::Other => {}
+    }
+}

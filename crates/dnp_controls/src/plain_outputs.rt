@@ -1,0 +1,133 @@
+//! Outputs in memory.
+
+ghost use Rattle.std.specs.Prelude.{◌≡◌, ◌≤◌, ◌+◌, ◌<◌, [], ◌++◌, OnErr, length, map};
+ghost use Rattle.dnp_controls.specs.Latches.{PlainState, can_perform, plain_check, plain_panel};
+
+use crate::code::obeys_code_rule;
+use crate::outputs::{MAX_COMMANDS, Outputs};
+use crate::performed::Performed;
+use arrayvec::ArrayVec;
+use dnp_objects::{Command, Status, StoreFault};
+use std::alloc::Global;
+use std::marker::Model;
+
+/// Outputs in memory: binary outputs and setpoints, each from index 0 on, that keep the commands which
+/// they performed.
+#[derive(Debug, Drop)]
+pub struct PlainOutputs {
+    // How many binary outputs there are.
+    outputs: u16,
+
+    // How many setpoints there are.
+    setpoints: u16,
+
+    performed: Performed,
+}
+
+impl Model for PlainOutputs {
+    ghost use Rattle.std.specs.Prelude.{◌≤◌};
+    ghost use Rattle.dnp_controls.specs.Latches.{PlainState};
+
+    ghost Value = { PlainState };
+
+    ghost view = { λ a. record { outputs = a.outputs; setpoints = a.setpoints; performed = a.performed.commands } };
+
+    ghost invariant = { λ a. (a.outputs ≤ 256) × (a.setpoints ≤ 256) };
+}
+
+impl PlainOutputs {
+    /// Outputs that have performed nothing: so many binary outputs and so many setpoints, each 0 to 256.
+    pub fn new(alloc: Global, outputs: u16, setpoints: u16) -> Self
+        requires few_outputs { outputs ≤ 256 }
+        requires few_setpoints { setpoints ≤ 256 }
+        ensures { result ≡ record { outputs = outputs; setpoints = setpoints; performed = [] } }
+    {
+        PlainOutputs {
+            outputs,
+            setpoints,
+            performed: Performed::new(alloc),
+        }
+    }
+
+    /// The commands that were performed, in order.
+    pub fn operated(&self) -> &[Command]
+        ensures { result.now ≡ self.now.performed }
+    {
+        self.performed.commands()
+    }
+}
+
+// Whether there is such an output, and a block obeys the code rule.
+fn can_perform(outputs: u16, setpoints: u16, command: &Command) -> bool
+    ensures { result ≡ can_perform outputs setpoints command.now }
+{
+    match *command {
+        Command::Block {
+            index,
+            code,
+            count,
+            ..
+        } => index < outputs && obeys_code_rule(code, count),
+        Command::Set16 { index, .. } => index < setpoints,
+        Command::Set32 { index, .. } => index < setpoints,
+    }
+}
+
+/// At most 8 commands at a time. A block is answered SUCCESS where its output is there and it obeys the
+/// code rule, a setpoint command where its setpoint is there, and any other NOT_SUPPORTED. All room for
+/// the commands of a request is taken before the first one is performed.
+///
+/// A binary output shows ONLINE, and STATE beside it from a performed LATCH_ON until a performed
+/// LATCH_OFF.
+impl Outputs for PlainOutputs {
+    ghost use Rattle.std.specs.Prelude.{⊤, false};
+    ghost use Rattle.dnp_controls.specs.Latches.{wants_memory};
+
+    ghost panel = { plain_panel };
+
+    ghost honest = { λ _. ⊤ };
+
+    ghost is_stopped = { λ _. false };
+
+    ghost may_fault = { wants_memory };
+
+    fn most(&self) -> usize {
+        MAX_COMMANDS
+    }
+
+    fn outputs(&self) -> u16 {
+        self.outputs
+    }
+
+    fn status(&self, index: u16) -> u8 {
+        self.performed.status(index)
+    }
+
+    fn check(&self, command: &Command) -> Status {
+        if can_perform(self.outputs, self.setpoints, command) {
+            Status::SUCCESS
+        } else {
+            Status::NOT_SUPPORTED
+        }
+    }
+
+    fn operate(
+        &mut self,
+        _alloc: Global,
+        commands: &[Command],
+    ) -> Result<ArrayVec<Status, MAX_COMMANDS>, StoreFault> {
+        if self.performed.reserve(commands.len()).is_err() {
+            return Err(StoreFault::Memory);
+        }
+        let mut statuses = ArrayVec::new();
+        for command in commands {
+            if can_perform(self.outputs, self.setpoints, command) {
+                self.performed.perform(*command);
+                statuses.push(Status::SUCCESS);
+            } else {
+                statuses.push(Status::NOT_SUPPORTED);
+            }
+        }
+        Ok(statuses)
+    }
+}

@@ -1,0 +1,108 @@
+//! The select that an OPERATE needs.
+
+ghost use Rattle.std.specs.Prelude.{◌≡◌, ◌≤◌, List, [], ◌∷◌, None, Some, length};
+ghost use Rattle.dnp_controls.specs.Selecting.{SelectCall, Selecting, Operating, Forgetting, Stands, answer};
+
+use arrayvec::ArrayVec;
+use dnp_objects::Status;
+use std::marker::Model;
+
+/// The most octets of a select's objects.
+pub const MAX_OCTETS: usize = 2048;
+
+// Sequence numbers follow one another modulo this.
+const NUMBERS: u8 = 16;
+
+#[derive(Debug, Drop)]
+struct Kept {
+    // The moment of the select, in milliseconds.
+    at: u64,
+
+    // Its sequence number.
+    seq: u8,
+
+    // The octets of its objects.
+    octets: ArrayVec<u8, MAX_OCTETS>,
+}
+
+/// The select that stands at a station, if one does (IEEE Std 1815-2012, application layer: functions
+/// SELECT and OPERATE).
+///
+/// A clause sees the select that stands: its moment, its sequence number and its octets.
+#[derive(Debug, Drop)]
+pub struct Selects {
+    kept: Option<Kept>,
+}
+
+impl Model for Selects {
+    ghost use Rattle.std.specs.Prelude.{Option};
+    ghost use Rattle.dnp_controls.specs.Selecting.{Select};
+
+    ghost Value = { Option Select };
+
+    ghost use Rattle.dnp_controls.specs.Keeping.{select_of};
+
+    ghost view = { λ selects. select_of selects.kept };
+}
+
+impl Selects {
+    /// No select stands.
+    pub fn new() -> Self
+        ensures nothing { result ≡ None }
+        ensures stands { Stands [] result }
+    {
+        Selects { kept: None }
+    }
+
+    /// Keeps a select in place of the one that stood: `now` is its moment in milliseconds, `seq` its
+    /// sequence number, `octets` are those of its objects, at most 2,048.
+    pub fn select(&mut self, now: u64, seq: u8, octets: &[u8])
+        requires { length octets.now ≤ 2048 }
+        ensures kept { self.new ≡ Some (record { at = now; seq = seq; octets = octets.now }) }
+        ensures stands { (before : List SelectCall) → Stands before self.old → Stands (Selecting (record { at = now; seq = seq; octets = octets.now }) ∷ before) self.new }
+    {
+        let mut kept = ArrayVec::new();
+        kept.try_extend_from_slice(octets).unwrap();
+        self.kept = Some(Kept {
+            at: now,
+            seq,
+            octets: kept,
+        });
+    }
+
+    /// The status of an OPERATE that comes at the moment `now` with the sequence number `seq` and these
+    /// octets, where a select stands for `select_ms` milliseconds. The select is forgotten, whatever the
+    /// status:
+    ///
+    /// - SUCCESS where a select stands whose sequence number is the one before `seq` modulo 16 and whose
+    ///   octets are the same, and its timer has not ended.
+    /// - TIMEOUT where such a select stands, and its timer has ended.
+    /// - NO_SELECT otherwise.
+    ///
+    /// A timer has ended from the moment `select_ms` after the select on. A moment past the last one that
+    /// a `u64` has is that last one.
+    pub fn operate(&mut self, now: u64, seq: u8, octets: &[u8], select_ms: u64) -> Status
+        ensures answers { result ≡ answer self.old now seq octets.now select_ms }
+        ensures forgotten { self.new ≡ None }
+        ensures stands { (before : List SelectCall) → Stands before self.old → Stands (Operating ∷ before) self.new }
+    {
+        let Some(kept) = self.kept.take() else {
+            return Status::NO_SELECT;
+        };
+        if seq % NUMBERS != (kept.seq % NUMBERS + 1) % NUMBERS || octets != kept.octets.as_slice() {
+            return Status::NO_SELECT;
+        }
+        if now >= kept.at.saturating_add(select_ms) {
+            return Status::TIMEOUT;
+        }
+        Status::SUCCESS
+    }
+
+    /// Forgets the select that stands, if one does.
+    pub fn forget(&mut self)
+        ensures forgotten { self.new ≡ None }
+        ensures stands { (before : List SelectCall) → Stands before self.old → Stands (Forgetting ∷ before) self.new }
+    {
+        self.kept = None;
+    }
+}

@@ -1,0 +1,9 @@
+pub mod Conserved
+pub mod Drops
+pub mod Ids
+pub mod InPlace
+pub mod LaneNumbers
+pub mod LatestRows
+pub mod Limits
+pub mod Offers
+pub mod Soundness

@@ -1,0 +1,5 @@
+pub mod Carried
+pub mod Latest
+pub mod Sound
+pub mod Stock
+pub mod Tallies

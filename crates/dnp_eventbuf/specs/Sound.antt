@@ -1,0 +1,23 @@
+-- What is so of nine lanes at all times.
+use Rattle.std.specs.Prelude.{◌≡◌, ℕ, ◌^◌, ◌<◌, ◌≤◌, All, AllPairs, length}
+use Rattle.dnp_objects.specs.Lanes.{lane_number}
+use Rattle.dnp_objects.specs.declared.lane.Lane.{Lane}
+use Rattle.dnp_eventbuf.specs.Carried.{IsCarried}
+use Rattle.dnp_eventbuf.specs.Stock.{LaneState, Stock, lane_at}
+
+-- the lane of this number, where `last` is the last id used
+pub record IsSoundLane (number last : ℕ) (lane : LaneState) : Type 0 where
+  pub takes_one : 1 ≤ lane.capacity
+  pub has_room : length lane.rows ≤ lane.capacity
+  -- ids rise, from 1 on, and are at most the last one used
+  pub rising : AllPairs (λ x y. x.id < y.id) lane.rows
+  pub from_1 : All (λ x. 1 ≤ x.id) lane.rows
+  pub up_to_last : All (λ x. x.id ≤ last) lane.rows
+  -- the lane's event object can carry each row
+  pub carried : (of : Lane) → lane_number of ≡ number → All (λ x. IsCarried (record { lane = of; row = x.row })) lane.rows
+  pub lost_at_most : lane.lost ≤ 2 ^ 62
+
+pub record IsSound (s : Stock) : Type 0 where
+  pub nine : length s.lanes ≡ 9
+  pub each : (number : ℕ) → number < 9 → IsSoundLane number s.last_id (lane_at s number)
+  pub last_id_at_most : s.last_id ≤ 2 ^ 62

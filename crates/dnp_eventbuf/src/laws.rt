@@ -1,0 +1,83 @@
+//! Laws of the words of `specs/`: each function does nothing, and its contract is a law.
+ghost use Rattle.std.specs.Prelude.{◌≡◌, ◌⊎◌, ◌≤◌, ◌<◌, ◌+◌, ℕ, Bool, false, List, [], ◌++◌, length, map, sum_by, count_by, All, Contains};
+ghost use Rattle.std.specs.List.Sorted.{IsPermutation};
+ghost use Rattle.dnp_objects.specs.declared.row.Row.{Row};
+ghost use Rattle.dnp_objects.specs.declared.lane.LaneRow.{LaneRow};
+ghost use Rattle.dnp_objects.specs.Counts.{IsCoveredBy};
+ghost use Rattle.dnp_eventbuf.specs.Carried.{IsCarried};
+ghost use Rattle.dnp_eventbuf.specs.Latest.{KeepsLatest, numbered_for};
+ghost use Rattle.dnp_eventbuf.specs.Sound.{IsSound};
+ghost use Rattle.dnp_eventbuf.specs.Stock.{Stock, lane_at, empty_stock, arriving, with_rows, dropped_by, exhausts, rows_in, lost_in, all_up_to, without, without_all, offered, last_of, up_to, row_of};
+
+/// An append loses nothing unseen: the old rows and those that came are the new rows and those that
+/// were dropped. As many as were dropped are counted as lost.
+pub fn an_append_conserves_rows()
+    ensures lists { (s : Stock) (rows : List LaneRow) → IsSound s
+        → IsPermutation (rows_in s ++ arriving rows) (rows_in (with_rows s rows) ++ dropped_by s rows) }
+    ensures counts { (s : Stock) (rows : List LaneRow) (test : Row → Bool) → IsSound s
+        → count_by test (rows_in s) + count_by test (arriving rows)
+        ≡ count_by test (rows_in (with_rows s rows)) + count_by test (dropped_by s rows) }
+    ensures lost { (s : Stock) (rows : List LaneRow) → IsSound s
+        → lost_in (with_rows s rows) ≡ lost_in s + length (dropped_by s rows) }
+{}
+
+/// What a release takes and what it leaves are the old rows. It counts none as lost.
+pub fn a_release_conserves_rows()
+    ensures lists { (s : Stock) (upto : List ℕ) → length upto ≡ length s.lanes
+        → IsPermutation (rows_in s) (all_up_to s upto ++ rows_in (without s upto)) }
+    ensures counts { (s : Stock) (upto : List ℕ) (test : Row → Bool) → length upto ≡ length s.lanes
+        → count_by test (rows_in s) ≡ count_by test (all_up_to s upto) + count_by test (rows_in (without s upto)) }
+    ensures lost { (s : Stock) (upto : List ℕ) → lost_in (without s upto) ≡ lost_in s }
+{}
+
+/// Emptied lanes have no row, and their counts of lost rows stay.
+pub fn emptying_takes_all_rows()
+    ensures rows { (s : Stock) → rows_in (without_all s) ≡ [] }
+    ensures lost { (s : Stock) → lost_in (without_all s) ≡ lost_in s }
+{}
+
+/// An id is never given twice: a row that comes has an id over the last one used, which only rises,
+/// and a release leaves only rows that stood there.
+pub fn ids_are_used_once()
+    ensures new_ids { (s : Stock) (rows : List LaneRow) (number : ℕ)
+        → All (λ x. Contains (lane_at s number).rows x ⊎ (s.last_id < x.id)) (lane_at (with_rows s rows) number).rows }
+    ensures last_id { (s : Stock) (rows : List LaneRow) → (with_rows s rows).last_id ≡ s.last_id + length rows }
+    ensures released { (s : Stock) (upto : List ℕ) → (without s upto).last_id ≡ s.last_id }
+    ensures left { (s : Stock) (upto : List ℕ) (number : ℕ)
+        → All (Contains (lane_at s number).rows) (lane_at (without s upto) number).rows }
+    ensures emptied { (s : Stock) → (without_all s).last_id ≡ s.last_id }
+{}
+
+/// Empty lanes are sound, and each step keeps lanes sound.
+pub fn lanes_stay_sound()
+    ensures made { (capacities : List ℕ) → length capacities ≡ 9 → All (λ capacity. 1 ≤ capacity) capacities
+        → IsSound (empty_stock capacities) }
+    ensures appended { (s : Stock) (rows : List LaneRow) → IsSound s → All IsCarried rows
+        → exhausts s rows ≡ false → IsSound (with_rows s rows) }
+    ensures released { (s : Stock) (upto : List ℕ) → IsSound s → length upto ≡ 9 → IsSound (without s upto) }
+    ensures emptied { (s : Stock) → IsSound s → IsSound (without_all s) }
+{}
+
+/// Rows that are appended in two calls are appended as in one.
+pub fn two_appends_are_one()
+    ensures rows { (s : Stock) (first second : List LaneRow)
+        → with_rows s (first ++ second) ≡ with_rows (with_rows s first) second }
+    ensures dropped { (s : Stock) (first second : List LaneRow)
+        → dropped_by s (first ++ second) ≡ dropped_by s first ++ dropped_by (with_rows s first) second }
+{}
+
+/// An append, lane by lane: a lane keeps the latest of its rows and of those that came for it, as many
+/// as it takes, and counts the others as lost.
+pub fn a_lane_keeps_its_latest_rows()
+    ensures { (s : Stock) (rows : List LaneRow) (number : ℕ) → IsSound s → number < 9
+        → KeepsLatest (lane_at s number) (numbered_for number s.last_id rows) (lane_at (with_rows s rows) number) }
+{}
+
+/// What a release takes up to the last id of an offer was offered, or has an id up to that behind which
+/// the offer began, whatever was appended since the offer.
+pub fn a_release_takes_what_was_offered()
+    ensures { (s : Stock) (rows : List LaneRow) (number after most : ℕ) → IsSound s → All IsCarried rows
+        → exhausts s rows ≡ false → number < 9
+        → IsCoveredBy (up_to (last_of (offered s number after most)) (lane_at (with_rows s rows) number))
+        (up_to after (lane_at (with_rows s rows) number) ++ map row_of (offered s number after most)) }
+{}

@@ -1,0 +1,19 @@
+//! Event lanes of DNP3 (IEEE Std 1815-2012, application layer: event classes and event buffers): nine
+//! numbered lists of rows that wait to be reported, and that count what they drop.
+#![tactic(auto)]
+
+mod carried;
+mod lanes;
+pub mod laws;
+mod numbered;
+mod plain;
+mod plain_lane;
+mod tally;
+#[cfg(test)]
+mod tests;
+
+pub use carried::is_carried;
+pub use dnp_objects::{Lane, LaneRow, StoreFault};
+pub use lanes::Lanes;
+pub use numbered::{Numbered, Upto};
+pub use plain::PlainLanes;

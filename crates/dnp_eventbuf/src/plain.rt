@@ -1,0 +1,222 @@
+ghost use Rattle.std.specs.Prelude.{◌≡◌, ◌≢◌, ◌^◌, ◌<◌, ◌≤◌, ◌+◌, Bool, true, false, IfOk, IfErr, IfSome, IfNone, OnOk, IsTrue, All, length, map, ◌++◌, vec_len, vec_capacity, ⊤};
+ghost use Rattle.std.specs.List.{list_any};
+ghost use Rattle.std.specs.Option.{option_to_list};
+ghost use Rattle.dnp_objects.specs.Lanes.{lane_number};
+ghost use Rattle.dnp_eventbuf.specs.Carried.{IsCarried};
+ghost use Rattle.dnp_eventbuf.specs.Sound.{IsSound};
+ghost use Rattle.dnp_eventbuf.specs.Stock.{Stock, lane_at, is_full, dropped_from, empty_stock, with_row, with_rows, dropped_by, is_past, exhausts, offered, lanes_above, lanes_up_to, emptied, lane_rows, without, all_up_to, without_all, rows_in, last_of};
+ghost use Rattle.dnp_eventbuf.specs.Tallies.{tally_of};
+
+use crate::lanes::Lanes;
+use crate::numbered::{Numbered, Upto};
+use crate::plain_lane::PlainLane;
+use crate::tally::{LIMIT, Tally, drops};
+use dnp_objects::{LANES, Lane, LaneRow, Row, StoreFault};
+use std::alloc::{AllocError, Global};
+use std::marker::Model;
+
+/// Nine lanes in memory, which take their room as they are made.
+#[derive(Drop)]
+pub struct PlainLanes {
+    lanes: [PlainLane; LANES],
+    overflow: bool,
+    last_id: u64,
+}
+
+impl Model for PlainLanes {
+    ghost use Rattle.dnp_eventbuf.specs.Sound.{IsSound};
+    ghost use Rattle.dnp_eventbuf.specs.Stock.{Stock};
+
+    ghost Value = { Stock };
+
+    ghost view = { λ a. record { lanes = a.lanes; overflow = a.overflow; last_id = a.last_id } };
+
+    ghost invariant = { λ a. IsSound (record { lanes = a.lanes; overflow = a.overflow; last_id = a.last_id }) };
+}
+
+impl PlainLanes {
+    /// Empty lanes that take so many rows each, 1 to 4,096.
+    pub fn new(alloc: Global, capacities: [u32; LANES]) -> Result<PlainLanes, AllocError>
+        requires { All (λ capacity. (1 ≤ capacity) × (capacity ≤ 4096)) capacities }
+        ensures { IfOk result (λ lanes. lanes ≡ empty_stock capacities) }
+    {
+        let lanes = capacities.try_map(|capacity| PlainLane::new(alloc, capacity))?;
+        Ok(PlainLanes {
+            lanes,
+            overflow: false,
+            last_id: 0,
+        })
+    }
+
+    /// How many rows the lanes would drop for these, or `None` where an id or a count of lost rows
+    /// would pass the limit.
+    fn drops(&self, rows: &[LaneRow]) -> Option<usize>
+        ensures sound { IsSound self.now }
+        ensures some { IfSome result (λ dropped. (dropped ≡ length (dropped_by self.now rows.now)) × (exhausts self.now rows.now ≡ false)) }
+        ensures none { IfNone result (IsTrue (exhausts self.now rows.now)) }
+    {
+        if rows.len() as u64 > LIMIT - self.last_id {
+            return None;
+        }
+        let mut tallies = tallies(&self.lanes);
+        drops(&mut tallies, rows)
+    }
+
+    /// Puts one row into its lane, under the next id.
+    fn put(&mut self, x: LaneRow) -> Option<Row>
+        requires carried { IsCarried x }
+        requires fits { is_past (with_row self.old x) ≡ false }
+        ensures with { self.new ≡ with_row self.old x }
+        ensures dropped { option_to_list result ≡ dropped_from (lane_at self.old (lane_number x.lane)) }
+    {
+        let id = self.last_id + 1;
+        let lane = &mut self.lanes[x.lane.number()];
+        let was_full = lane.is_full();
+        let dropped = lane.put(Numbered { id, row: x.row });
+        self.overflow |= was_full;
+        self.last_id = id;
+        dropped
+    }
+
+    /// Puts the rows one by one. There is room for those that are dropped.
+    fn put_all(&mut self, rows: &[LaneRow], dropped: &mut Vec<Row>)
+        requires carried { All IsCarried rows.now }
+        requires fits { exhausts self.old rows.now ≡ false }
+        requires room { vec_len dropped.old + length (dropped_by self.old rows.now) ≤ vec_capacity dropped.old }
+        ensures with { self.new ≡ with_rows self.old rows.now }
+        ensures dropped { dropped.new.items ≡ dropped.old.items ++ dropped_by self.old rows.now }
+    {
+        for x in rows {
+            if let Some(row) = self.put(*x) {
+                let _ = dropped.push(row);
+            }
+        }
+    }
+}
+
+/// Each lane's tally.
+fn tallies(lanes: &[PlainLane; LANES]) -> [Tally; LANES]
+    ensures { result ≡ map tally_of lanes.now }
+{
+    let mut tallies = [Tally { free: 0, lost: 0 }; LANES];
+    for (k, lane) in lanes.iter().enumerate() {
+        tallies[k] = lane.tally();
+    }
+    tallies
+}
+
+fn any_full(lanes: &[PlainLane; LANES]) -> bool
+    ensures { result ≡ list_any is_full lanes.now }
+{
+    lanes.iter().any(|lane| lane.is_full())
+}
+
+/// Adds the rows of each lane with ids up to its number.
+fn push_all_up_to(
+    lanes: &[PlainLane; LANES],
+    upto: &Upto,
+    out: &mut Vec<Row>,
+) -> Result<(), AllocError>
+    ensures { OnOk result (out.new.items ≡ out.old.items ++ lanes_up_to lanes.now upto.now) }
+{
+    for k in 0..LANES {
+        lanes[k].push_up_to(upto[k], out)?;
+    }
+    Ok(())
+}
+
+/// Takes the rows of each lane with ids up to its number out.
+fn cut_all(lanes: &mut [PlainLane; LANES], upto: &Upto)
+    ensures { lanes.new ≡ lanes_above lanes.old upto.now }
+{
+    for k in 0..LANES {
+        lanes[k].cut(upto[k]);
+    }
+}
+
+/// Adds the rows of each lane.
+fn push_all(lanes: &[PlainLane; LANES], out: &mut Vec<Row>) -> Result<(), AllocError>
+    ensures { OnOk result (out.new.items ≡ out.old.items ++ lane_rows lanes.now) }
+{
+    for lane in lanes {
+        lane.push_all(out)?;
+    }
+    Ok(())
+}
+
+fn clear_all(lanes: &mut [PlainLane; LANES])
+    ensures { lanes.new ≡ map emptied lanes.old }
+{
+    for lane in lanes {
+        lane.clear();
+    }
+}
+
+/// Want of memory, as a store names it.
+fn memory(_: AllocError) -> StoreFault
+    ensures { result ≡ StoreFault.Memory }
+{
+    StoreFault::Memory
+}
+
+impl Lanes for PlainLanes {
+    ghost contents = { λ s. s };
+
+    ghost honest = { λ _. ⊤ };
+
+    ghost is_stopped = { λ _. false };
+
+    fn append(&mut self, alloc: Global, rows: &[LaneRow]) -> Result<Vec<Row>, StoreFault> {
+        let count = self.drops(rows).ok_or(StoreFault::Exhausted)?;
+        let mut dropped = Vec::with_capacity(alloc, count).map_err(memory)?;
+        self.put_all(rows, &mut dropped);
+        Ok(dropped)
+    }
+
+    fn offer(
+        &mut self,
+        alloc: Global,
+        lane: Lane,
+        after: u64,
+        most: usize,
+    ) -> Result<Vec<Numbered>, StoreFault> {
+        let lane = &self.lanes[lane.number()];
+        let rows = lane.offer(alloc, after, most).map_err(memory)?;
+        Ok(rows)
+    }
+
+    fn release(&mut self, alloc: Global, upto: &Upto) -> Result<Vec<Row>, StoreFault> {
+        let mut taken = Vec::new(alloc);
+        push_all_up_to(&self.lanes, upto, &mut taken).map_err(memory)?;
+        cut_all(&mut self.lanes, upto);
+        self.overflow &= any_full(&self.lanes);
+        Ok(taken)
+    }
+
+    fn empty(&mut self, alloc: Global) -> Result<Vec<Row>, StoreFault> {
+        let mut taken = Vec::new(alloc);
+        push_all(&self.lanes, &mut taken).map_err(memory)?;
+        clear_all(&mut self.lanes);
+        self.overflow = false;
+        Ok(taken)
+    }
+
+    fn len(&mut self, lane: Lane) -> u32 {
+        let lane = &self.lanes[lane.number()];
+        lane.len()
+    }
+
+    fn last(&mut self, lane: Lane) -> u64 {
+        let lane = &self.lanes[lane.number()];
+        lane.last()
+    }
+
+    fn lost(&mut self, lane: Lane) -> u64 {
+        let lane = &self.lanes[lane.number()];
+        lane.lost()
+    }
+
+    fn raised(&mut self) -> bool {
+        self.overflow
+    }
+}

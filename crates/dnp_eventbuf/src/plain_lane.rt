@@ -1,0 +1,155 @@
+ghost use Rattle.std.specs.Prelude.{◌≡◌, ◌^◌, ◌<◌, ◌≤◌, ◌++◌, IfOk, OnOk, [], length, map, nat_le, nat_lt, vec_len, vec_capacity, filter, take};
+ghost use Rattle.std.specs.Option.{option_to_list};
+ghost use Rattle.std.specs.VecDeque.{deque_len, deque_capacity};
+ghost use Rattle.dnp_eventbuf.specs.Stock.{is_full, put_in, dropped_from, empty_lane, emptied, above, up_to, last_of, row_of};
+ghost use Rattle.dnp_eventbuf.specs.Tallies.{tally_of};
+
+use crate::numbered::Numbered;
+use crate::tally::Tally;
+use dnp_objects::Row;
+use std::alloc::{AllocError, Global};
+use std::collections::VecDeque;
+use std::marker::Model;
+
+/// One lane, whose room is taken at once.
+#[derive(Drop)]
+pub struct PlainLane {
+    capacity: u32,
+    rows: VecDeque<Numbered>,
+    lost: u64,
+}
+
+impl Model for PlainLane {
+    ghost use Rattle.std.specs.Prelude.{◌<◌, ◌≤◌};
+    ghost use Rattle.std.specs.VecDeque.{deque_len, deque_capacity};
+    ghost use Rattle.dnp_eventbuf.specs.Stock.{LaneState};
+
+    ghost Value = { LaneState };
+
+    ghost view = { λ a. record { capacity = a.capacity; rows = a.rows.items; lost = a.lost } };
+
+    ghost invariant = { λ a. (deque_len a.rows ≤ a.capacity) × (a.capacity ≤ deque_capacity a.rows) };
+}
+
+impl PlainLane {
+    /// An empty lane that takes so many rows.
+    pub fn new(alloc: Global, capacity: u32) -> Result<PlainLane, AllocError>
+        ensures { IfOk result (λ lane. lane ≡ empty_lane capacity) }
+    {
+        let rows = VecDeque::with_capacity(alloc, capacity as usize)?;
+        Ok(PlainLane {
+            capacity,
+            rows,
+            lost: 0,
+        })
+    }
+
+    pub fn is_full(&self) -> bool
+        ensures { result ≡ is_full self.now }
+    {
+        self.rows.len() >= self.capacity as usize
+    }
+
+    /// Takes a row at the end. A full lane drops its oldest first, counts it, and gives it back.
+    pub fn put(&mut self, x: Numbered) -> Option<Row>
+        requires takes_one { 1 ≤ self.old.capacity }
+        requires counted { self.old.lost ≤ 2 ^ 62 }
+        ensures lane { self.new ≡ put_in self.old x }
+        ensures dropped { option_to_list result ≡ dropped_from self.old }
+    {
+        let mut dropped = None;
+        if self.rows.len() >= self.capacity as usize {
+            self.lost += 1;
+            dropped = self.rows.pop_front().map(|x| x.row);
+        }
+        self.rows.push_back_reserved(x);
+        dropped
+    }
+
+    /// The first rows with an id over `after`, at most `most`.
+    pub fn offer(&self, alloc: Global, after: u64, most: usize) -> Result<Vec<Numbered>, AllocError>
+        ensures { IfOk result (λ rows. rows.items ≡ take most (filter (λ x. nat_lt after x.id) self.now.rows)) }
+    {
+        self.rows
+            .iter()
+            .copied()
+            .filter(|x| after < x.id)
+            .take(most)
+            .collect(alloc)
+    }
+
+    /// Adds the rows with ids up to this.
+    pub fn push_up_to(&self, upto: u64, out: &mut Vec<Row>) -> Result<(), AllocError>
+        ensures { OnOk result (out.new.items ≡ out.old.items ++ up_to upto self.now) }
+    {
+        for x in self.rows.iter() {
+            if x.id <= upto {
+                out.push(x.row)?;
+            }
+        }
+        Ok(())
+    }
+
+    /// Adds all rows.
+    pub fn push_all(&self, out: &mut Vec<Row>) -> Result<(), AllocError>
+        ensures { OnOk result (out.new.items ≡ out.old.items ++ map row_of self.now.rows) }
+    {
+        for x in self.rows.iter() {
+            out.push(x.row)?;
+        }
+        Ok(())
+    }
+
+    /// Takes the rows with ids up to this out.
+    pub fn cut(&mut self, upto: u64)
+        ensures { self.new ≡ above upto self.old }
+    {
+        keep_above(&mut self.rows, upto);
+    }
+
+    pub fn clear(&mut self)
+        ensures { self.new ≡ emptied self.old }
+    {
+        self.rows.clear();
+    }
+
+    pub fn len(&self) -> u32
+        ensures { result ≡ length self.now.rows }
+    {
+        let capacity = self.capacity;
+        let len = self.rows.len();
+        prove!(len <= capacity as usize);
+        len as u32
+    }
+
+    /// The id of the last row, or 0.
+    pub fn last(&self) -> u64
+        ensures { result ≡ last_of self.now.rows }
+    {
+        self.rows.back().map_or(0, |x| x.id)
+    }
+
+    pub fn lost(&self) -> u64
+        ensures { result ≡ self.now.lost }
+    {
+        self.lost
+    }
+
+    pub fn tally(&self) -> Tally
+        ensures { result ≡ tally_of self.now }
+    {
+        Tally {
+            free: self.capacity as usize - self.rows.len(),
+            lost: self.lost,
+        }
+    }
+}
+
+/// Keeps the rows with ids over this.
+fn keep_above(rows: &mut VecDeque<Numbered>, upto: u64)
+    ensures rows { rows.new.items ≡ filter (λ x. nat_lt upto x.id) rows.old.items }
+    ensures len { deque_len rows.new ≤ deque_len rows.old }
+    ensures capacity { deque_capacity rows.new ≡ deque_capacity rows.old }
+{
+    rows.retain(|x| upto < x.id);
+}

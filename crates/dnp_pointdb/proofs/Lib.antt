@@ -1,0 +1,14 @@
+pub mod Changes
+pub mod Events
+pub mod FirstFaults
+pub mod Histories
+pub mod LaneValues
+pub mod Lookups
+pub mod Mapped
+pub mod Marks
+pub mod Orders
+pub mod Places
+pub mod PlanFaults
+pub mod Plans
+pub mod Ranges
+pub mod Runs

@@ -1,0 +1,5 @@
+use Rattle.dnp_pointdb.proofs.Plans.{there, nowhere}
+use Rattle.dnp_pointdb.proofs.laws.points_are_those_of_the_plan.Goals as goal
+
+pub returns : goal.returns
+returns c = record { there = there; nowhere = nowhere }

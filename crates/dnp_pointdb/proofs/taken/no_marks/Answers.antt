@@ -1,0 +1,5 @@
+use Rattle.dnp_pointdb.proofs.Mapped.{unmarked}
+use Rattle.dnp_pointdb.proofs.taken.no_marks.Goals as goal
+
+pub returns : goal.returns
+returns c = λ k. unmarked 65536 k

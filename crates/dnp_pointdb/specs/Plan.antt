@@ -1,0 +1,66 @@
+-- The plan of a station's points, and what is no plan. Blocks of different kinds have nothing to do
+-- with one another; within a kind each index belongs to one point at most.
+use Rattle.std.specs.Prelude.{ℕ, ◌+◌, ◌<◌, ◌^◌, ◌⊎◌, List, length, Any}
+use Rattle.dnp_objects.specs.declared.row.Kind.{Kind}
+use Rattle.dnp_objects.specs.declared.row.Kind.TheVariants.{Binary, Counter, Analog}
+use Rattle.dnp_pointdb.specs.declared.point.Point.{Point}
+use Rattle.dnp_pointdb.specs.declared.point.Block.{Block}
+use Rattle.dnp_pointdb.specs.declared.fault.PlanFault.{PlanFault}
+use Rattle.dnp_pointdb.specs.declared.fault.PlanFault.TheVariants.{Class, TooMany, TooWide, Overlap}
+use Rattle.dnp_pointdb.specs.Blocks.{ShareIndex}
+
+-- the blocks of each kind, in the plan's order
+pub record Plan : Type 0 where
+  pub binary : List Block
+  pub counter : List Block
+  pub analog : List Block
+
+abbrev pub plan_of : List Block → List Block → List Block → Plan
+plan_of binary counter analog = record { binary = binary; counter = counter; analog = analog }
+
+abbrev pub blocks_of : Plan → Kind → List Block
+blocks_of plan Binary = plan.binary
+blocks_of plan Counter = plan.counter
+blocks_of plan Analog = plan.analog
+
+-- ---- causes to refuse blocks
+
+-- a class over 3, or a deadband on a binary or a counter
+abbrev pub IsWrong : Kind → Point → Type 0
+IsWrong Binary point = (3 < point.class) ⊎ (0 < point.deadband)
+IsWrong Counter point = (3 < point.class) ⊎ (0 < point.deadband)
+IsWrong Analog point = 3 < point.class
+
+-- what is the matter with one block
+abbrev pub HasWrongPoint : Kind → Block → Type 0
+HasWrongPoint kind block = Any (IsWrong kind) block.points
+
+-- a block has at most 1,024 points
+abbrev pub HasTooMany : Block → Type 0
+HasTooMany block = 1024 < length block.points
+
+-- indices end at 65,535
+abbrev pub IsTooWide : Block → Type 0
+IsTooWide block = 2 ^ 16 < block.base + length block.points
+
+-- why blocks are no plan
+abbrev pub IsPlanFault : Plan → PlanFault → Type 0
+IsPlanFault plan Class = (kind : Kind) × Any (HasWrongPoint kind) (blocks_of plan kind)
+IsPlanFault plan TooMany = (kind : Kind) × Any HasTooMany (blocks_of plan kind)
+IsPlanFault plan TooWide = (kind : Kind) × Any IsTooWide (blocks_of plan kind)
+IsPlanFault plan Overlap = (kind : Kind) × ShareIndex (blocks_of plan kind)
+
+-- the order in which causes are looked for
+abbrev pub place : PlanFault → ℕ
+place Class = 0
+place TooMany = 1
+place TooWide = 2
+place Overlap = 3
+
+-- the fault is a cause, and none of those before it in the order is
+abbrev pub IsFirst : Plan → PlanFault → Type 0
+IsFirst plan fault = IsPlanFault plan fault × ((other : PlanFault) → place other < place fault → IsPlanFault plan other → ⊥)
+
+-- nothing is the matter with the blocks
+abbrev pub IsSound : Plan → Type 0
+IsSound plan = (fault : PlanFault) → IsPlanFault plan fault → ⊥

@@ -1,0 +1,181 @@
+//! The points of one kind.
+
+ghost use Rattle.std.specs.Prelude.{◌≡◌, ◌<◌, List, map, length, Option, IfOk, OnErr, slice_index_or, slice_set};
+ghost use Rattle.std.specs.List.{HoldsAt};
+ghost use Rattle.dnp_pointdb.specs.declared.state.BlockState.{BlockState as BlockValue};
+ghost use Rattle.dnp_pointdb.specs.Database as spec;
+
+use crate::fault::ChangeFault;
+use crate::order::{Place, find, order_of};
+use crate::point::Block;
+use crate::reading::Reading;
+use crate::state::{BlockState, PointState};
+use dnp_objects::{Kind, LaneRow};
+use std::alloc::{AllocError, Global};
+use std::marker::Model;
+
+/// The blocks of one kind, in the plan's order, and how a point of them is looked up.
+#[derive(Debug, Drop)]
+pub struct Bank {
+    blocks: Vec<BlockState>,
+
+    // Those of the blocks that have points, by rising base.
+    order: Vec<Place>,
+}
+
+impl Model for Bank {
+    ghost use Rattle.std.specs.Prelude.{List};
+    ghost use Rattle.dnp_pointdb.specs.declared.state.BlockState.{BlockState};
+
+    ghost Value = { List BlockState };
+
+    ghost use Rattle.dnp_pointdb.specs.Order.{IsOrder, extents};
+
+    ghost view = { λ bank. bank.blocks.items };
+
+    ghost invariant = { λ bank. IsOrder (extents bank.blocks.items) bank.order.items };
+}
+
+/// The point, if it is there and can have the reading, or the first cause to refuse it.
+fn checked(
+    found: Option<PointState>,
+    kind: Kind,
+    reading: Reading,
+) -> Result<PointState, ChangeFault>
+    ensures { result ≡ spec.checked found kind reading }
+{
+    let state = found.ok_or(ChangeFault::NoPoint)?;
+    if !reading.is_carried(kind) {
+        return Err(ChangeFault::ValueRange);
+    }
+    if !reading.is_in_time() {
+        return Err(ChangeFault::TimeRange);
+    }
+    Ok(state)
+}
+
+impl Bank {
+    ghost use Rattle.dnp_pointdb.specs.Database as spec;
+    ghost use Rattle.dnp_pointdb.specs.Order.{extents, place_in};
+    ghost use Rattle.dnp_pointdb.specs.Blocks.{ShareIndex};
+
+    /// Points of which nothing was read.
+    pub fn new(alloc: Global, blocks: &[Block]) -> Result<Self, AllocError>
+        requires { ShareIndex blocks.now → ⊥ }
+        ensures { IfOk result (λ bank. bank ≡ map spec.new_block blocks.now) }
+    {
+        let mut states = Vec::with_capacity(alloc, blocks.len())?;
+        for block in blocks {
+            states.push(BlockState::new(alloc, block)?)?;
+        }
+        let order = order_of(alloc, &states)?;
+        Ok(Bank {
+            blocks: states,
+            order,
+        })
+    }
+
+    /// The blocks, in the plan's order.
+    pub fn blocks(&self) -> &[BlockState]
+        ensures { result.now ≡ self.now }
+    {
+        self.blocks.as_slice()
+    }
+
+    /// The number of the block that has the index, and the point's place in it.
+    fn find(&self, index: u16) -> Option<(usize, usize)>
+        ensures { result ≡ place_in (extents self.now) index }
+    {
+        find(&self.order, index)
+    }
+
+    /// Puts the point at this place of the block with this number.
+    fn put(&mut self, block: usize, place: usize, state: PointState)
+        requires block { block < length self.old }
+        requires place { HoldsAt (λ b. place < length b.points) self.old block }
+        ensures { (d : BlockValue) → let b = slice_index_or self.old block d in
+            self.new ≡ slice_set self.old block (record b { points = slice_set b.points place state }) }
+    {
+        self.blocks[block].set(place, state);
+    }
+
+    /// The point with this index.
+    pub fn state(&self, index: u16) -> Option<PointState>
+        ensures { result ≡ spec.state_in self.now index }
+    {
+        let (block, place) = self.find(index)?;
+        Some(self.blocks[block].state(place))
+    }
+
+    /// What a change answers.
+    pub fn would(
+        &self,
+        kind: Kind,
+        index: u16,
+        reading: Reading,
+    ) -> Result<Option<LaneRow>, ChangeFault>
+        ensures { result ≡ spec.answer_in self.now kind index reading }
+    {
+        let state = checked(self.state(index), kind, reading)?;
+        Ok(state.event(kind, index, reading))
+    }
+
+    /// A change.
+    pub fn change(
+        &mut self,
+        kind: Kind,
+        index: u16,
+        reading: Reading,
+    ) -> Result<Option<LaneRow>, ChangeFault>
+        ensures answer { result ≡ spec.answer_in self.old kind index reading }
+        ensures after { self.new ≡ spec.changed_in self.old kind index reading }
+        ensures err { OnErr result (self.new ≡ self.old) }
+    {
+        let Some((block, place)) = self.find(index) else {
+            return Err(ChangeFault::NoPoint);
+        };
+        let state = checked(Some(self.blocks[block].state(place)), kind, reading)?;
+        let (state, event) = state.change(kind, index, reading);
+        self.put(block, place, state);
+        Ok(event)
+    }
+
+    /// A reading without an event.
+    pub fn set(&mut self, kind: Kind, index: u16, reading: Reading) -> Result<(), ChangeFault>
+        ensures answer { result ≡ spec.set_answer_in self.old kind index reading }
+        ensures after { self.new ≡ spec.set_in self.old kind index reading }
+        ensures err { OnErr result (self.new ≡ self.old) }
+    {
+        let Some((block, place)) = self.find(index) else {
+            return Err(ChangeFault::NoPoint);
+        };
+        let state = checked(Some(self.blocks[block].state(place)), kind, reading)?;
+        self.put(block, place, state.set(reading));
+        Ok(())
+    }
+
+    /// The communication of the block with this number was lost, if there is one.
+    pub fn lose(&mut self, number: usize)
+        ensures { self.new ≡ spec.updated spec.lost_block self.old number }
+    {
+        if number < self.blocks.len() {
+            self.blocks[number].lose();
+        }
+    }
+
+    /// Nothing was read of any point.
+    pub fn restart(&mut self)
+        ensures { self.new ≡ map spec.restarted_block self.old }
+    {
+        restart_all(&mut self.blocks);
+    }
+}
+
+/// Nothing was read of any point of the blocks.
+fn restart_all(blocks: &mut [BlockState])
+    ensures { blocks.new ≡ map spec.restarted_block blocks.old }
+{
+    for block in blocks.iter_mut() {
+        block.restart();
+    }
+}

@@ -1,0 +1,177 @@
+ghost use Rattle.std.specs.Prelude.{◌≡◌, OnErr, IfOk, IfErr, Err};
+ghost use Rattle.std.specs.Option.{option_map};
+ghost use Rattle.dnp_pointdb.specs.declared.fault.ChangeFault.{ChangeFault as FaultValue};
+
+use crate::bank::Bank;
+use crate::fault::ChangeFault;
+use crate::plan::PointPlan;
+use crate::reading::Reading;
+use crate::state::{BlockState, PointState};
+use dnp_objects::{Kind, LaneRow};
+use std::alloc::{AllocError, Global};
+use std::marker::Model;
+
+/// The points of a plan with their last readings and their last reports (IEEE Std 1815-2012,
+/// application layer: event classes, deadbands; object library: flags). It decides which changes
+/// are events.
+///
+/// A point is looked up by a search among the blocks of its kind, in logarithmic time. Only `new`
+/// allocates. A clause sees the blocks of each kind with the states of their points.
+#[derive(Debug, Drop)]
+pub struct PointDb {
+    binary: Bank,
+    counter: Bank,
+    analog: Bank,
+}
+
+impl Model for PointDb {
+    ghost use Rattle.dnp_pointdb.specs.Database.{Database};
+
+    ghost Value = { Database };
+
+    ghost view = { λ database. record {
+      binary = database.binary;
+      counter = database.counter;
+      analog = database.analog;
+    } };
+}
+
+impl PointDb {
+    ghost use Rattle.dnp_pointdb.specs.Database as spec;
+    ghost use Rattle.dnp_pointdb.specs.Plan.{Plan};
+
+    /// The points of the plan, of which nothing was read: each reading and each last report has the
+    /// value 0 and the flags 02 (RESTART), and no time. An error says that memory is wanting.
+    pub fn new(alloc: Global, plan: PointPlan) -> Result<PointDb, AllocError>
+        ensures { IfOk result (λ database. database ≡ spec.new_database plan) }
+    {
+        Ok(PointDb {
+            binary: Bank::new(alloc, plan.blocks(Kind::Binary))?,
+            counter: Bank::new(alloc, plan.blocks(Kind::Counter))?,
+            analog: Bank::new(alloc, plan.blocks(Kind::Analog))?,
+        })
+    }
+
+    /// The blocks of a kind, in the plan's order, as they stand.
+    pub fn blocks(&self, kind: Kind) -> &[BlockState]
+        ensures { result.now ≡ spec.blocks_of self.now kind }
+    {
+        match kind {
+            Kind::Binary => self.binary.blocks(),
+            Kind::Counter => self.counter.blocks(),
+            Kind::Analog => self.analog.blocks(),
+        }
+    }
+
+    /// The point of this kind and index as it stands, if the plan has it.
+    pub fn state(&self, kind: Kind, index: u16) -> Option<PointState>
+        ensures { result ≡ spec.state_at self.now kind index }
+    {
+        match kind {
+            Kind::Binary => self.binary.state(index),
+            Kind::Counter => self.counter.state(index),
+            Kind::Analog => self.analog.state(index),
+        }
+    }
+
+    /// The last reading of the point, if the plan has it.
+    pub fn reading(&self, kind: Kind, index: u16) -> Option<Reading>
+        ensures { result ≡ option_map (λ state. state.reading) (spec.state_at self.now kind index) }
+    {
+        self.state(kind, index).map(|state| state.reading)
+    }
+
+    /// The class of the point, 0 to 3, if the plan has it.
+    pub fn class_of(&self, kind: Kind, index: u16) -> Option<u8>
+        ensures { result ≡ option_map (λ state. state.point.class) (spec.state_at self.now kind index) }
+    {
+        self.state(kind, index).map(|state| state.point.class)
+    }
+
+    /// What `change` answers, with nothing changed: the row that it makes, or none.
+    pub fn would(
+        &self,
+        kind: Kind,
+        index: u16,
+        reading: Reading,
+    ) -> Result<Option<LaneRow>, ChangeFault>
+        ensures answer { result ≡ spec.answer_of self.now kind index reading }
+        ensures fault { IfErr result (spec.IsFirst self.now kind index reading) }
+        ensures only_fault { (fault : FaultValue) → spec.IsFirst self.now kind index reading fault
+            → result ≡ Err fault }
+    {
+        match kind {
+            Kind::Binary => self.binary.would(kind, index, reading),
+            Kind::Counter => self.counter.would(kind, index, reading),
+            Kind::Analog => self.analog.would(kind, index, reading),
+        }
+    }
+
+    /// Takes in a new reading of a point, and answers the event that it is, with its lane, or none.
+    ///
+    /// It is an event if the point has class 1, 2 or 3, and either the flags differ from those last
+    /// reported or the value differs from the one last reported by more than the deadband. Then it
+    /// is the last report from now on. The reading becomes the point's either way.
+    ///
+    /// Refused is, first of all, a point that the plan lacks (`NoPoint`), then a value or flags that
+    /// no object of the kind can carry (`ValueRange`: a binary other than 0 or 1, or with bit 7 in
+    /// its flags, a counter outside 0 to 2^32 - 1, an analog outside -2^31 to 2^31 - 1), and then a
+    /// time of 2^48 ms or more (`TimeRange`). After a refusal nothing has changed.
+    pub fn change(
+        &mut self,
+        kind: Kind,
+        index: u16,
+        reading: Reading,
+    ) -> Result<Option<LaneRow>, ChangeFault>
+        ensures answer { result ≡ spec.answer_of self.old kind index reading }
+        ensures after { self.new ≡ spec.changed_of self.old kind index reading }
+        ensures fault { IfErr result (spec.IsFirst self.old kind index reading) }
+        ensures only_fault { (fault : FaultValue) → spec.IsFirst self.old kind index reading fault
+            → result ≡ Err fault }
+        ensures err { OnErr result (self.new ≡ self.old) }
+    {
+        match kind {
+            Kind::Binary => self.binary.change(kind, index, reading),
+            Kind::Counter => self.counter.change(kind, index, reading),
+            Kind::Analog => self.analog.change(kind, index, reading),
+        }
+    }
+
+    /// Takes in a new reading of a point that is no event: the last report stays. The refusals are
+    /// those of `change`.
+    pub fn set(&mut self, kind: Kind, index: u16, reading: Reading) -> Result<(), ChangeFault>
+        ensures answer { result ≡ spec.set_answer_of self.old kind index reading }
+        ensures after { self.new ≡ spec.set_of self.old kind index reading }
+        ensures fault { IfErr result (spec.IsFirst self.old kind index reading) }
+        ensures only_fault { (fault : FaultValue) → spec.IsFirst self.old kind index reading fault
+            → result ≡ Err fault }
+        ensures err { OnErr result (self.new ≡ self.old) }
+    {
+        match kind {
+            Kind::Binary => self.binary.set(kind, index, reading),
+            Kind::Counter => self.counter.set(kind, index, reading),
+            Kind::Analog => self.analog.set(kind, index, reading),
+        }
+    }
+
+    /// The device behind a block can't be reached: in the block with this number in the plan, from 0,
+    /// of each kind that has one, each reading loses the flag ONLINE and gets COMM_LOST. The last
+    /// reports stay.
+    pub fn mark_lost(&mut self, block: usize)
+        ensures { self.new ≡ spec.lost_of self.old block }
+    {
+        self.binary.lose(block);
+        self.counter.lose(block);
+        self.analog.lose(block);
+    }
+
+    /// Sets each reading and each last report back to the value 0 with the flags 02 (RESTART) and
+    /// no time.
+    pub fn restart(&mut self)
+        ensures { self.new ≡ spec.restarted self.old }
+    {
+        self.binary.restart();
+        self.counter.restart();
+        self.analog.restart();
+    }
+}

@@ -1,0 +1,101 @@
+//! Laws of the points: each function does nothing, and its contract is a law.
+ghost use Rattle.std.specs.Prelude.{◌≡◌, ◌≢◌, ℕ, ◌≤◌, ◌<◌, ◌-◌, ◌⊎◌, ◌↔◌, List, Bool, true, IsSome, IfSome, IsTrue, IsNone, Contains, Any, slice_get};
+ghost use Rattle.std.specs.Option.{option_map, IsSomeAnd};
+ghost use Rattle.std.specs.Int.{bit_at};
+ghost use Rattle.dnp_objects.specs.declared.row.Kind.{Kind as KindValue};
+ghost use Rattle.dnp_objects.specs.Objects.{shape_written};
+ghost use Rattle.dnp_objects.specs.Rows.{row_fits};
+ghost use Rattle.dnp_objects.specs.Lanes.{IsLane};
+ghost use Rattle.dnp_pointdb.specs.declared.point.Point.{Point as PointValue};
+ghost use Rattle.dnp_pointdb.specs.declared.point.Block.{Block as BlockValue};
+ghost use Rattle.dnp_pointdb.specs.declared.reading.Reading.{Reading as ReadingValue};
+ghost use Rattle.dnp_pointdb.specs.declared.reading.Report.{Report as ReportValue};
+ghost use Rattle.dnp_pointdb.specs.Blocks.{HasIndex};
+ghost use Rattle.dnp_pointdb.specs.Plan.{Plan, blocks_of, IsSound};
+ghost use Rattle.dnp_pointdb.specs.Events.{event_of, row_of, distance};
+ghost use Rattle.dnp_pointdb.specs.Database.{Database, state_at, new_database, changed_of, set_of, restarted, changed_state, set_state, restarted_state, lost_flags, lost_of};
+ghost use Rattle.dnp_pointdb.specs.Ranges.{is_carried, is_in_range};
+ghost use Rattle.dnp_pointdb.specs.Runs.{Move, rows_of, rows_at, happened_at, happenings_of};
+
+/// A change is an event exactly if the point has class 1, 2 or 3 and either the flags are others
+/// than those last reported or the value differs from the one last reported by more than the
+/// deadband. The event is the reading's row, in the lane of the point's class and kind.
+pub fn a_change_of_note_is_an_event()
+    ensures event { (kind : KindValue) (index : ℕ) (point : PointValue) (last : ReportValue) (reading : ReadingValue)
+        → IsSome (event_of kind index point last reading)
+        ↔ ((1 ≤ point.class) × (point.class ≤ 3)
+        × ((reading.flags ≢ last.flags) ⊎ (point.deadband < distance reading.value last.value))) }
+    ensures row { (kind : KindValue) (index : ℕ) (point : PointValue) (last : ReportValue) (reading : ReadingValue)
+        → IfSome (event_of kind index point last reading)
+        (λ made. IsLane made.lane point.class kind × (made.row ≡ row_of kind index reading)) }
+{}
+
+/// The value and the flags of a reading are in range exactly if some object of the library can carry
+/// the row, whatever its time.
+pub fn readings_are_those_that_objects_carry()
+    ensures { (kind : KindValue) (index : ℕ) (reading : ReadingValue)
+        → (is_carried kind reading ≡ true)
+        ↔ ((group : ℕ) × (variation : ℕ)
+        × IsSomeAnd (shape_written group variation) (λ shape. IsTrue (row_fits shape (row_of kind index reading)))) }
+{}
+
+/// Lost communication clears ONLINE, bit 0, sets COMM_LOST, bit 2, and leaves the other flags.
+pub fn lost_communication_shows_in_two_flags()
+    ensures online { (flags : ℕ) → bit_at (lost_flags flags) 0 ≡ 0 }
+    ensures comm_lost { (flags : ℕ) → bit_at (lost_flags flags) 2 ≡ 1 }
+    ensures others { (flags bit : ℕ) → bit < 8 → bit ≢ 0 → bit ≢ 2
+        → bit_at (lost_flags flags) bit ≡ bit_at flags bit }
+{}
+
+/// The points are those of the plan: in each kind a point has the class and the deadband that the
+/// plan's block gives its index, and an index of no block has no point.
+pub fn points_are_those_of_the_plan()
+    ensures there { (plan : Plan) (kind : KindValue) (index : ℕ) (block : BlockValue)
+        → IsSound plan → Contains (blocks_of plan kind) block → HasIndex block index
+        → option_map (λ state. state.point) (state_at (new_database plan) kind index)
+        ≡ slice_get block.points (index - block.base) }
+    ensures nowhere { (plan : Plan) (kind : KindValue) (index : ℕ)
+        → (Any (λ block. HasIndex block index) (blocks_of plan kind) → ⊥)
+        → IsNone (state_at (new_database plan) kind index) }
+{}
+
+/// A run of changes and restarts, whatever points they are of, makes of each point exactly the
+/// events that happened to it: those which its class, its deadband, its last report and its own
+/// readings and restarts give by themselves.
+pub fn a_run_makes_what_happened()
+    ensures { (database : Database) (moves : List Move) (kind : KindValue) (index : ℕ)
+        → rows_at kind index (rows_of database moves)
+        ≡ happened_at (state_at database kind index) kind index (happenings_of kind index moves) }
+{}
+
+/// A change of one point changes no other, and what it changes of its own point depends on that
+/// point alone. The same is so of a reading without an event; a restart sets back each point.
+pub fn a_change_is_of_one_point()
+    ensures changed { (database : Database) (kind : KindValue) (index : ℕ) (reading : ReadingValue)
+        → is_in_range kind reading ≡ true
+        → state_at (changed_of database kind index reading) kind index
+        ≡ option_map (changed_state kind index reading) (state_at database kind index) }
+    ensures set { (database : Database) (kind : KindValue) (index : ℕ) (reading : ReadingValue)
+        → is_in_range kind reading ≡ true
+        → state_at (set_of database kind index reading) kind index
+        ≡ option_map (set_state reading) (state_at database kind index) }
+    ensures others_changed { (database : Database) (kind other_kind : KindValue) (index other : ℕ) (reading : ReadingValue)
+        → (kind ≢ other_kind) ⊎ (index ≢ other)
+        → state_at (changed_of database kind index reading) other_kind other ≡ state_at database other_kind other }
+    ensures others_set { (database : Database) (kind other_kind : KindValue) (index other : ℕ) (reading : ReadingValue)
+        → (kind ≢ other_kind) ⊎ (index ≢ other)
+        → state_at (set_of database kind index reading) other_kind other ≡ state_at database other_kind other }
+    ensures restarted { (database : Database) (kind : KindValue) (index : ℕ)
+        → state_at (restarted database) kind index ≡ option_map restarted_state (state_at database kind index) }
+{}
+
+/// Lost communication leaves of each point what the plan says of it and what was last reported, and
+/// so what its next change makes.
+pub fn lost_communication_is_no_report()
+    ensures points { (database : Database) (number : ℕ) (kind : KindValue) (index : ℕ)
+        → option_map (λ state. state.point) (state_at (lost_of database number) kind index)
+        ≡ option_map (λ state. state.point) (state_at database kind index) }
+    ensures reports { (database : Database) (number : ℕ) (kind : KindValue) (index : ℕ)
+        → option_map (λ state. state.reported) (state_at (lost_of database number) kind index)
+        ≡ option_map (λ state. state.reported) (state_at database kind index) }
+{}

@@ -1,0 +1,27 @@
+//! The points of a station (IEEE Std 1815-2012, object library and application layer: point indices,
+//! event classes, deadbands): the plan that gives them, their last readings and reports, and when a
+//! change is an event.
+#![tactic(auto)]
+
+mod bank;
+mod database;
+mod event;
+mod fault;
+pub mod laws;
+mod order;
+mod plan;
+mod point;
+mod reading;
+mod state;
+mod taken;
+#[cfg(test)]
+mod tests;
+mod times;
+
+pub use database::PointDb;
+pub use fault::{ChangeFault, PlanFault};
+pub use plan::PointPlan;
+pub use point::{Block, Point, Points};
+pub use reading::{Reading, Report};
+pub use state::{BlockState, PointState, PointStates};
+pub use times::Times;
