@@ -1,13 +1,15 @@
 -- The objects of a header: what is cut out of its octets is object k, and nothing else is.
 use Rattle.std.proofs.Common.{◌≡◌, refl, sym, ◌∙◌, ap, subst, ℕ, ◌+◌, ◌*◌, ◌<◌, ◌≤◌, Bool, true, false, cond, List, ◌++◌, length, take, drop, arith, Option, Some, None, IfSome, Result, Ok, Err, IfOk, nat_lt, inl, inr}
+use Rattle.std.specs.Option.{IsSomeAnd}
 use Rattle.std.specs.Result.{result_ok}
 use Rattle.std.proofs.lemmas.Bool.{ltb-true, ltb-false, le-ltb, lt-ltb}
 use Rattle.std.proofs.lemmas.List.{length-append, take-append-drop, take_at, drop_at, length-take}
 use Rattle.dnp_objects.specs.declared.row.Row.{Row}
 use Rattle.dnp_objects.specs.declared.command.Command.{Command}
 use Rattle.dnp_objects.specs.declared.fault.ObjectFault.{ObjectFault}
-use Rattle.dnp_objects.specs.Objects.{objects, content_of, object_size}
-use Rattle.dnp_objects.specs.Rows.{Reads}
+use Rattle.dnp_objects.specs.declared.table.Shape.{Shape}
+use Rattle.dnp_objects.specs.Objects.{objects, content_of, object_size, shape_read, shape_size}
+use Rattle.dnp_objects.specs.Rows.{IsReading, Reads}
 use Rattle.dnp_objects.specs.Commands.{ReadsCommand}
 use Rattle.dnp_appfragment.specs.declared.fault.AppFault.{AppFault}
 use Rattle.dnp_appfragment.specs.declared.header.Range.{Range}
@@ -111,20 +113,6 @@ cut_is g v r octets size k index part are is =
 
 -- ---- rows and commands
 
-pub row_cut : (g v : ℕ) (r : Range) (octets : List ℕ) (size k index : ℕ) (part : List ℕ) → AreOctets octets → object_size g v ≡ Some size
-    → object_at r octets size k ≡ Some (index, part) → (x : Result Row ObjectFault) → IfOk x (Reads g v index part)
-    → IfSome (result_ok x) (IsObjectRow (head_of g v r octets) k)
-row_cut g v r octets size k index part are sized is (Ok row) reads =
-    record { size = size; size_is = sized; index = index; octets = part; object = cut_is g v r octets size k index part are is; reads = reads }
-row_cut g v r octets size k index part are sized is (Err e) reads = tt
-
-pub command_cut : (g v : ℕ) (r : Range) (octets : List ℕ) (size k index : ℕ) (part : List ℕ) → AreOctets octets → object_size g v ≡ Some size
-    → object_at r octets size k ≡ Some (index, part) → (x : Result (Command × ℕ) ObjectFault) → IfOk x (ReadsCommand g v index part)
-    → IfSome (result_ok x) (IsCommand (head_of g v r octets) k)
-command_cut g v r octets size k index part are sized is (Ok answer) reads =
-    record { size = size; size_is = sized; index = index; octets = part; object = cut_is g v r octets size k index part are is; reads = reads }
-command_cut g v r octets size k index part are sized is (Err e) reads = tt
-
 -- the object of a row, or of a command, is the one that was cut out
 pub same_cut : (g v : ℕ) (r : Range) (octets : List ℕ) (size k index : ℕ) (part : List ℕ) (size' index' : ℕ) (part' : List ℕ)
     → object_size g v ≡ Some size → object_at r octets size k ≡ Some (index, part)
@@ -135,6 +123,36 @@ same_cut g v r octets size k index part size' index' part' sized is sized' objec
     ap (λ (n : ℕ). object_at r octets n k) (sym one) ∙ object_again g v r octets size' k index' part' object in
     let pair : ◌≡◌ {A = ℕ × List ℕ} (index', part') (index, part) = cc in
     (ap (λ (x : ℕ × List ℕ). x.0) pair, ap (λ (x : ℕ × List ℕ). x.1) pair)
+
+-- what the call cut out is the row that it is read as
+pub row_cut : (g v : ℕ) (r : Range) (octets : List ℕ) (shape : Shape) (k index : ℕ) (part : List ℕ) (row : Row) → AreOctets octets
+    → shape_read g v ≡ Some shape → object_size g v ≡ Some (shape_size shape) → object_at r octets (shape_size shape) k ≡ Some (index, part)
+    → IsReading shape index part row → IsObjectRow (head_of g v r octets) k row
+row_cut g v r octets shape k index part row are shaped sized is reading = record {
+  size = shape_size shape;
+  size_is = sized;
+  index = index;
+  octets = part;
+  object = cut_is g v r octets (shape_size shape) k index part are is;
+  reads = subst (λ (o : Option Shape). IsSomeAnd o (λ s. IsReading s index part row)) (sym shaped) reading;
+}
+
+-- and it is read so
+pub cut_reads : (g v : ℕ) (r : Range) (octets : List ℕ) (shape : Shape) (k index : ℕ) (part : List ℕ) (row : Row)
+    → shape_read g v ≡ Some shape → object_size g v ≡ Some (shape_size shape) → object_at r octets (shape_size shape) k ≡ Some (index, part)
+    → IsObjectRow (head_of g v r octets) k row → IsReading shape index part row
+cut_reads g v r octets shape k index part row shaped sized is row_is =
+    let same = same_cut g v r octets (shape_size shape) k index part row_is.size row_is.index row_is.octets sized is row_is.size_is row_is.object in
+    let reads : Reads g v index part row =
+    subst (λ (n : ℕ). Reads g v n part row) same.0 (subst (λ (t : List ℕ). Reads g v row_is.index t row) same.1 row_is.reads) in
+    subst (λ (o : Option Shape). IsSomeAnd o (λ s. IsReading s index part row)) shaped reads
+
+pub command_cut : (g v : ℕ) (r : Range) (octets : List ℕ) (size k index : ℕ) (part : List ℕ) → AreOctets octets → object_size g v ≡ Some size
+    → object_at r octets size k ≡ Some (index, part) → (x : Result (Command × ℕ) ObjectFault) → IfOk x (ReadsCommand g v index part)
+    → IfSome (result_ok x) (IsCommand (head_of g v r octets) k)
+command_cut g v r octets size k index part are sized is (Ok answer) reads =
+    record { size = size; size_is = sized; index = index; octets = part; object = cut_is g v r octets size k index part are is; reads = reads }
+command_cut g v r octets size k index part are sized is (Err e) reads = tt
 
 -- where nothing was cut out there is no object k
 pub no_cut : (g v : ℕ) (r : Range) (octets : List ℕ) (size k : ℕ) (size' index' : ℕ) (part' : List ℕ)

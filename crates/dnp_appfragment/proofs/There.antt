@@ -15,10 +15,9 @@ use Rattle.dnp_appfragment.specs.declared.header.Range.{Range}
 use Rattle.dnp_appfragment.specs.declared.header.Range.TheVariants as range
 use Rattle.dnp_appfragment.specs.declared.table.Form.{Form}
 use Rattle.dnp_appfragment.specs.declared.table.Form.TheVariants as form
-use Rattle.dnp_appfragment.specs.declared.table.Rule.{Rule}
 use Rattle.dnp_appfragment.specs.declared.table.Takes.{Takes}
 use Rattle.dnp_appfragment.specs.declared.table.Takes.TheVariants as takes
-use Rattle.dnp_appfragment.specs.Table.{rules, takes_of, is_rule, form_eq, allows}
+use Rattle.dnp_appfragment.specs.Table.{Rule, rules, takes_of, is_rule, form_eq, allows}
 use Rattle.dnp_appfragment.specs.Headers.{Head, qualifier_of, count_of, prefix_size, octets_of, objects_size, IsHeader}
 use Rattle.dnp_appfragment.specs.Reading.{number_at, index_at, first_octets, object_at}
 use Rattle.dnp_appfragment.specs.Objects.{IsSpan, HasRows, HasCommands}

@@ -14,7 +14,6 @@ use Rattle.dnp_appfragment.specs.declared.table.Form.{Form}
 use Rattle.dnp_appfragment.specs.declared.table.Form.TheVariants as form
 use Rattle.dnp_appfragment.specs.declared.table.Takes.{Takes}
 use Rattle.dnp_appfragment.specs.declared.table.Takes.TheVariants as takes
-use Rattle.dnp_appfragment.specs.declared.table.Rule.{Rule}
 
 -- ---- the functions
 
@@ -101,6 +100,13 @@ abbrev pub allows : Takes → ℕ → Bool
 allows t qualifier = list_any (λ q. q == qualifier) (qualifiers t)
 
 -- ---- the table
+
+-- a line: in fragments of this form the object takes these qualifiers
+pub record Rule : Type 0 where
+  pub form : Form
+  pub group : ℕ
+  pub variation : ℕ
+  pub takes : Takes
 
 -- in fragments of this form these objects, by group and variation, take these qualifiers
 abbrev pub lines : Form → List (ℕ × ℕ) → Takes → List Rule

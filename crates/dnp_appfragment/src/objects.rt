@@ -12,7 +12,7 @@ ghost use Rattle.dnp_appfragment.specs.Seen.{number_and_rest, head_of};
 use crate::header::Range;
 use crate::range::{count_of, prefix_size};
 use crate::reading::number_at;
-use dnp_objects::{Command, Kind, Row, Status, object_size, read_command, read_row};
+use dnp_objects::{Command, Kind, Row, Status, object_size, read_command, row_shape};
 
 /// The index of object k, and the octets behind it.
 fn index_at(range: Range, k: usize, octets: &[u8]) -> Option<(u16, &[u8])>
@@ -29,7 +29,8 @@ fn index_at(range: Range, k: usize, octets: &[u8]) -> Option<(u16, &[u8])>
 /// The index and the octets of object k, where each has so many.
 fn object_at(range: Range, octets: &[u8], size: usize, k: usize) -> Option<(u16, &[u8])>
     requires { size ≤ 11 }
-    ensures { option_map number_and_rest result ≡ reading.object_at range octets.now size k }
+    ensures value { option_map number_and_rest result ≡ reading.object_at range octets.now size k }
+    ensures sized { IfSome result (λ x. length x.1.now ≡ size) }
 {
     if k >= count_of(range) {
         return None;
@@ -74,9 +75,9 @@ fn object_row_at(group: u8, variation: u8, range: Range, octets: &[u8], k: usize
     ensures there { IsSome (shape_read group variation)
         → IsSomeAnd (size_of group variation) (λ size. IsSome (reading.object_at range octets.now size k)) → IsSome result }
 {
-    let size = object_size(group, variation)?;
-    let (index, octets) = object_at(range, octets, size, k)?;
-    read_row(group, variation, index, octets).ok()
+    let shape = row_shape(group, variation)?;
+    let (index, octets) = object_at(range, octets, shape.size(), k)?;
+    Some(shape.row(index, octets))
 }
 
 /// Row k of a header of this object and range, with these octets.

@@ -39,79 +39,6 @@ pub enum Takes {
     SpanOrIndexed,
 }
 
-/// A line of the table: in fragments of this form the object takes these qualifiers.
-#[derive(Clone, Copy)]
-pub struct Rule {
-    pub form: Form,
-    pub group: u8,
-    pub variation: u8,
-    pub takes: Takes,
-}
-
-macro_rules! rule {
-    ($form:ident, $group:literal, $variation:literal, $takes:ident) => {
-        Rule { form: Form::$form, group: $group, variation: $variation, takes: Takes::$takes }
-    };
-}
-
-static RULES: [Rule; 55] = [
-    rule!(Read, 60, 1, All),
-    rule!(Read, 60, 2, AllOrCount),
-    rule!(Read, 60, 3, AllOrCount),
-    rule!(Read, 60, 4, AllOrCount),
-    rule!(Read, 2, 0, AllOrCount),
-    rule!(Read, 2, 2, AllOrCount),
-    rule!(Read, 22, 0, AllOrCount),
-    rule!(Read, 22, 5, AllOrCount),
-    rule!(Read, 32, 0, AllOrCount),
-    rule!(Read, 32, 3, AllOrCount),
-    rule!(Read, 1, 0, AllOrSpan),
-    rule!(Read, 1, 2, AllOrSpan),
-    rule!(Read, 10, 0, AllOrSpan),
-    rule!(Read, 10, 2, AllOrSpan),
-    rule!(Read, 20, 0, AllOrSpan),
-    rule!(Read, 20, 1, AllOrSpan),
-    rule!(Read, 30, 0, AllOrSpan),
-    rule!(Read, 30, 1, AllOrSpan),
-    rule!(Write, 80, 1, Span),
-    rule!(Write, 50, 1, Count),
-    rule!(Command, 12, 1, Indexed),
-    rule!(Command, 41, 1, Indexed),
-    rule!(Command, 41, 2, Indexed),
-    rule!(Enable, 60, 2, All),
-    rule!(Enable, 60, 3, All),
-    rule!(Enable, 60, 4, All),
-    rule!(Response, 12, 1, Indexed),
-    rule!(Response, 41, 1, Indexed),
-    rule!(Response, 41, 2, Indexed),
-    rule!(Response, 1, 2, SpanOrIndexed),
-    rule!(Response, 2, 1, SpanOrIndexed),
-    rule!(Response, 2, 2, SpanOrIndexed),
-    rule!(Response, 10, 2, SpanOrIndexed),
-    rule!(Response, 20, 1, SpanOrIndexed),
-    rule!(Response, 20, 2, SpanOrIndexed),
-    rule!(Response, 20, 5, SpanOrIndexed),
-    rule!(Response, 20, 6, SpanOrIndexed),
-    rule!(Response, 22, 1, SpanOrIndexed),
-    rule!(Response, 22, 2, SpanOrIndexed),
-    rule!(Response, 22, 5, SpanOrIndexed),
-    rule!(Response, 22, 6, SpanOrIndexed),
-    rule!(Response, 30, 1, SpanOrIndexed),
-    rule!(Response, 30, 2, SpanOrIndexed),
-    rule!(Response, 30, 3, SpanOrIndexed),
-    rule!(Response, 30, 4, SpanOrIndexed),
-    rule!(Response, 32, 1, SpanOrIndexed),
-    rule!(Response, 32, 2, SpanOrIndexed),
-    rule!(Response, 32, 3, SpanOrIndexed),
-    rule!(Response, 32, 4, SpanOrIndexed),
-    rule!(Response, 40, 1, SpanOrIndexed),
-    rule!(Response, 40, 2, SpanOrIndexed),
-    rule!(Response, 50, 1, Count),
-    rule!(Response, 52, 2, Count),
-    rule!(Response, 1, 1, Span),
-    rule!(Response, 80, 1, Span),
-];
-
 /// The part of the table that is this function's.
 pub(crate) fn form_of(function: Function) -> Form
     ensures { result ≡ spec.form_of function }
@@ -129,15 +56,38 @@ pub(crate) fn form_of(function: Function) -> Form
     }
 }
 
-/// What the object takes in fragments of this form, if it stands in the table for them.
+/// What the object takes in fragments of this form, if it stands in the table for them: a line for
+/// each form and object.
 #[tactic(auto, unfolding(crate::specs::Table::takes_of, crate::specs::Table::rules, dnp_objects::specs::Objects::objects))]
 pub(crate) fn takes_of(form: Form, group: u8, variation: u8) -> Option<Takes>
     ensures { result ≡ spec.takes_of form group variation }
 {
-    RULES
-        .iter()
-        .find(|rule| rule.form == form && rule.group == group && rule.variation == variation)
-        .map(|rule| rule.takes)
+    let takes = match (form, group, variation) {
+        (Form::Read, 60, 1) => Takes::All,
+        (Form::Read, 60, 2 | 3 | 4) => Takes::AllOrCount,
+        (Form::Read, 2, 0 | 2) => Takes::AllOrCount,
+        (Form::Read, 22, 0 | 5) => Takes::AllOrCount,
+        (Form::Read, 32, 0 | 3) => Takes::AllOrCount,
+        (Form::Read, 1 | 10, 0 | 2) => Takes::AllOrSpan,
+        (Form::Read, 20 | 30, 0 | 1) => Takes::AllOrSpan,
+        (Form::Write, 80, 1) => Takes::Span,
+        (Form::Write, 50, 1) => Takes::Count,
+        (Form::Command, 12, 1) => Takes::Indexed,
+        (Form::Command, 41, 1 | 2) => Takes::Indexed,
+        (Form::Enable, 60, 2 | 3 | 4) => Takes::All,
+        (Form::Response, 12, 1) => Takes::Indexed,
+        (Form::Response, 41, 1 | 2) => Takes::Indexed,
+        (Form::Response, 1 | 10, 2) => Takes::SpanOrIndexed,
+        (Form::Response, 2, 1 | 2) => Takes::SpanOrIndexed,
+        (Form::Response, 20 | 22, 1 | 2 | 5 | 6) => Takes::SpanOrIndexed,
+        (Form::Response, 30 | 32, 1 | 2 | 3 | 4) => Takes::SpanOrIndexed,
+        (Form::Response, 40, 1 | 2) => Takes::SpanOrIndexed,
+        (Form::Response, 50, 1) => Takes::Count,
+        (Form::Response, 52, 2) => Takes::Count,
+        (Form::Response, 1 | 80, 1) => Takes::Span,
+        _ => return None,
+    };
+    Some(takes)
 }
 
 /// Whether this qualifier is one of them.

@@ -10,11 +10,10 @@ use Rattle.dnp_objects.specs.declared.row.Kind.TheVariants.{Binary, Counter, Ana
 use Rattle.dnp_objects.specs.declared.table.Shape.{Shape}
 use Rattle.dnp_objects.specs.declared.table.Content.{Content}
 use Rattle.dnp_objects.specs.declared.table.Content.TheVariants as content
-use Rattle.dnp_objects.specs.declared.table.Object.{Object}
 use Rattle.dnp_objects.specs.declared.command.Command.{Command}
 use Rattle.dnp_objects.specs.declared.command.Command.TheVariants.{Block, Set16, Set32}
 use Rattle.dnp_objects.specs.Commands.{carrier, object_of, index_of, IsInRange, command_octets, IsCommandOf, ReadsCommand}
-use Rattle.dnp_objects.specs.Objects.{objects, content_of, is_object, shape_size, IsNumber, IsShape, IsContent, HasNoRow, object, readable, writable, shape_read, shape_written}
+use Rattle.dnp_objects.specs.Objects.{Object, objects, content_of, is_object, shape_size, IsNumber, IsShape, IsContent, HasNoRow, object, readable, writable, shape_read, shape_written}
 
 -- two or four
 two_or_four : (w : ℕ) → (w == 2) || (w == 4) ≡ true → (w ≡ 2) ⊎ (w ≡ 4)

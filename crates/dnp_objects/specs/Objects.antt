@@ -9,7 +9,12 @@ use Rattle.dnp_objects.specs.declared.row.Kind.TheVariants.{Binary, Counter, Ana
 use Rattle.dnp_objects.specs.declared.table.Shape.{Shape}
 use Rattle.dnp_objects.specs.declared.table.Content.{Content}
 use Rattle.dnp_objects.specs.declared.table.Content.TheVariants as content
-use Rattle.dnp_objects.specs.declared.table.Object.{Object}
+
+-- a line: an object and what it carries
+pub record Object : Type 0 where
+  pub group : ℕ
+  pub variation : ℕ
+  pub content : Content
 
 -- ---- the words of a line
 

@@ -29,7 +29,7 @@ fn block_of(index: u16, octets: &[u8]) -> Command
 }
 
 /// The analog output with a value of so many octets.
-fn setpoint_of(width: usize, index: u16, octets: &[u8]) -> Command
+fn setpoint_of(width: u8, index: u16, octets: &[u8]) -> Command
     requires width { (width ≡ 2) ⊎ (width ≡ 4) }
     requires size { length octets.now ≡ width + 1 }
     ensures { result ≡ parts.setpoint_of width index octets.now }
@@ -56,14 +56,14 @@ fn read_block(index: u16, octets: &[u8]) -> (Command, Status)
 }
 
 /// The analog output and its status.
-fn read_setpoint(width: usize, index: u16, octets: &[u8]) -> (Command, Status)
+fn read_setpoint(width: u8, index: u16, octets: &[u8]) -> (Command, Status)
     requires width { (width ≡ 2) ⊎ (width ≡ 4) }
     requires size { length octets.now ≡ width + 1 }
     ensures { IsCommandOf (Content.Setpoint width) index octets.now result.0 result.1 }
 {
     (
         setpoint_of(width, index, octets),
-        Status::of_octet(octets[width]),
+        Status::of_octet(octets[usize::from(width)]),
     )
 }
 
@@ -79,7 +79,7 @@ fn read(
 {
     match content_of(group, variation) {
         Some(Content::Block) if octets.len() == 11 => Ok(read_block(index, octets)),
-        Some(Content::Setpoint(width)) if octets.len() == width + 1 => {
+        Some(Content::Setpoint(width)) if octets.len() == usize::from(width) + 1 => {
             Ok(read_setpoint(width, index, octets))
         }
         Some(Content::Block | Content::Setpoint(_)) => Err(ObjectFault::Cut),

@@ -26,5 +26,5 @@ pub use reading::read_row;
 pub use row::{Kind, Row};
 pub use status::Status;
 pub use store::StoreFault;
-pub use table::object_size;
+pub use table::{Shape, object_size, row_shape};
 pub use writing::write_row;

@@ -4,15 +4,16 @@ ghost use Rattle.dnp_objects.specs.declared.row.Row.{Row as RowValue};
 ghost use Rattle.dnp_objects.specs.declared.fault.ObjectFault.{ObjectFault as FaultValue};
 ghost use Rattle.dnp_objects.specs.Objects.{IsShape, shape_size};
 ghost use Rattle.dnp_objects.specs.Faults.{IsFirst};
-ghost use Rattle.dnp_objects.specs.Rows.{IsReading, Reads, IsReadFault};
+ghost use Rattle.dnp_objects.specs.Rows.{Reads, IsReadFault};
 ghost use Rattle.dnp_objects.specs.Parts as parts;
 
 use crate::fault::ObjectFault;
 use crate::row::{Kind, Row};
-use crate::table::{Content, Shape, content_of};
+use crate::table::{Shape, row_shape};
 use byteorder::{ByteOrder, LittleEndian};
 
 /// The flags in a flags octet: all of it but for a binary, whose bit 7 is its value.
+#[inline]
 fn flags_of(kind: Kind, first: u8) -> u8
     ensures { result ≡ parts.flags_of kind first }
 {
@@ -23,26 +24,30 @@ fn flags_of(kind: Kind, first: u8) -> u8
 }
 
 /// The value in the flags octet of a binary, or in the octets that begin `number`.
+#[inline]
 fn value_of(shape: Shape, first: u8, number: &[u8]) -> i64
     requires shape { IsShape shape }
     requires room { shape.width ≤ length number.now }
     ensures { result ≡ parts.value_of shape.kind shape.width first (little_number shape.width number.now) }
 {
-    match shape.kind {
-        Kind::Binary => i64::from(first / 128),
-        Kind::Counter => LittleEndian::read_uint(number, shape.width) as i64,
-        Kind::Analog => LittleEndian::read_int(number, shape.width),
+    match (shape.kind, shape.width) {
+        (Kind::Binary, _) => i64::from(first / 128),
+        (Kind::Counter, 2) => i64::from(LittleEndian::read_u16(number)),
+        (Kind::Counter, _) => i64::from(LittleEndian::read_u32(number)),
+        (Kind::Analog, 2) => LittleEndian::read_int(number, 2),
+        (Kind::Analog, _) => LittleEndian::read_int(number, 4),
     }
 }
 
 /// The time behind the value, if the object has one.
+#[inline]
 fn time_of(shape: Shape, octets: &[u8]) -> Option<u64>
     requires shape { IsShape shape }
     requires size { length octets.now ≡ shape_size shape }
     ensures { result ≡ parts.time_of shape octets.now }
 {
     if shape.time {
-        let behind = &octets[usize::from(shape.flags) + shape.width..];
+        let behind = &octets[usize::from(shape.flags) + usize::from(shape.width)..];
         Some(LittleEndian::read_u48(behind))
     } else {
         None
@@ -50,6 +55,7 @@ fn time_of(shape: Shape, octets: &[u8]) -> Option<u64>
 }
 
 /// The parts of a row from the octets of an object of this shape.
+#[inline]
 fn parts_of(shape: Shape, index: u16, octets: &[u8]) -> Row
     requires shape { IsShape shape }
     requires size { length octets.now ≡ shape_size shape }
@@ -66,27 +72,39 @@ fn parts_of(shape: Shape, index: u16, octets: &[u8]) -> Row
     }
 }
 
-/// The row that the octets of an object of this shape are.
-fn row_of(shape: Shape, index: u16, octets: &[u8]) -> Row
-    requires shape { IsShape shape }
-    requires size { length octets.now ≡ shape_size shape }
-    ensures { IsReading shape index octets.now result }
-{
-    parts_of(shape, index, octets)
+impl Shape {
+    ghost use Rattle.std.specs.Prelude.{◌≡◌, length};
+    ghost use Rattle.dnp_objects.specs.declared.row.Row.{Row as RowValue};
+    ghost use Rattle.dnp_objects.specs.Objects.{IsShape, shape_size};
+    ghost use Rattle.dnp_objects.specs.Rows.{IsReading};
+
+    /// The row with this index that the octets of an object of this shape are; they have to be as many
+    /// as `size` says. A row from an object without a time has none, and one from an object without
+    /// flags has the flags 01.
+    #[inline]
+    pub fn row(self, index: u16, octets: &[u8]) -> Row
+        requires shape { IsShape self }
+        requires size { length octets.now ≡ shape_size self }
+        ensures found { IsReading self index octets.now result }
+        ensures only { (row : RowValue) → IsReading self index octets.now row → result ≡ row }
+    {
+        parts_of(self, index, octets)
+    }
 }
 
 /// The row, or the first cause of a refusal.
+#[inline]
 fn read(group: u8, variation: u8, index: u16, octets: &[u8]) -> Result<Row, ObjectFault>
     ensures found { IfOk result (Reads group variation index octets.now) }
     ensures fault { IfErr result (IsFirst (IsReadFault group variation octets.now)) }
 {
-    let Some(Content::Row(shape)) = content_of(group, variation) else {
+    let Some(shape) = row_shape(group, variation) else {
         return Err(ObjectFault::ObjectUnknown);
     };
     if octets.len() != shape.size() {
         return Err(ObjectFault::Cut);
     }
-    Ok(row_of(shape, index, octets))
+    Ok(shape.row(index, octets))
 }
 
 /// The row with this index whose value, flags and time the octets of one object of this group and
@@ -95,6 +113,7 @@ fn read(group: u8, variation: u8, index: u16, octets: &[u8]) -> Result<Row, Obje
 ///
 /// Refused is, first of all, an object that carries no row to be read (`ObjectUnknown`; group 10 is
 /// one: it is written only), and then another number of octets than the object's (`Cut`).
+#[inline]
 pub fn read_row(group: u8, variation: u8, index: u16, octets: &[u8]) -> Result<Row, ObjectFault>
     ensures found { IfOk result (Reads group variation index octets.now) }
     ensures only { (row : RowValue) → Reads group variation index octets.now row → result ≡ Ok row }

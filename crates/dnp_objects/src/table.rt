@@ -1,15 +1,18 @@
-ghost use Rattle.std.specs.Prelude.{◌≡◌, ◌≤◌, IfSome};
+ghost use Rattle.std.specs.Prelude.{◌≡◌, ◌≤◌, IfSome, Some};
 ghost use Rattle.dnp_objects.specs.Objects as spec;
 
 use crate::row::Kind;
 
-/// How a row lies in an object: its flags, its value, its time, in this order.
-#[derive(Clone, Copy)]
+/// How a row lies in an object (IEEE Std 1815-2012, object library): its flags, its value, its time,
+/// in this order.
+#[derive(Clone, Copy, Debug, PartialEq, Eq)]
 pub struct Shape {
     pub kind: Kind,
+    /// Whether it has a flags octet.
     pub flags: bool,
-    /// The octets of the value. A binary has none: its value is bit 7 of the flags.
-    pub width: usize,
+    /// The octets of the value, 2 or 4. A binary has none: its value is bit 7 of the flags.
+    pub width: u8,
+    /// Whether it has a time, in 6 octets.
     pub time: bool,
 }
 
@@ -23,20 +26,12 @@ pub enum Content {
     /// A control relay output block: control code, count, on-time, off-time, status.
     Block,
     /// A value of so many octets to set, and a status.
-    Setpoint(usize),
+    Setpoint(u8),
     /// So many octets that are neither a row nor a command.
-    Other(usize),
+    Other(u8),
 }
 
-/// A line of the object library.
-#[derive(Clone, Copy)]
-pub struct Object {
-    pub group: u8,
-    pub variation: u8,
-    pub content: Content,
-}
-
-/// The words of a line: whether a row has a flags octet and whether it has a time.
+/// The words of a shape: whether a row has a flags octet and whether it has a time.
 const FLAGGED: bool = true;
 
 const BARE: bool = false;
@@ -45,75 +40,58 @@ const TIMED: bool = true;
 
 const UNTIMED: bool = false;
 
-/// A line: what the object carries, its group, its variation, and for a row the kind of point, the
-/// flags, the octets of the value, and the time.
-macro_rules! object {
-    (Row, $group:literal, $variation:literal, $kind:ident, $flags:ident, $width:literal, $time:ident) => {
-        object!(@ $group, $variation, Content::Row(Shape { kind: Kind::$kind, flags: $flags, width: $width, time: $time }))
-    };
-    (WrittenRow, $group:literal, $variation:literal, $kind:ident, $flags:ident, $width:literal, $time:ident) => {
-        object!(@ $group, $variation, Content::WrittenRow(Shape { kind: Kind::$kind, flags: $flags, width: $width, time: $time }))
-    };
-    (Block, $group:literal, $variation:literal) => {
-        object!(@ $group, $variation, Content::Block)
-    };
-    (Setpoint, $group:literal, $variation:literal, $width:literal) => {
-        object!(@ $group, $variation, Content::Setpoint($width))
-    };
-    (Other, $group:literal, $variation:literal, $size:literal) => {
-        object!(@ $group, $variation, Content::Other($size))
-    };
-    (@ $group:literal, $variation:literal, $content:expr) => {
-        Object { group: $group, variation: $variation, content: $content }
+/// A shape: the kind of point, the flags, the octets of the value, and the time.
+macro_rules! shape {
+    ($kind:ident, $flags:ident, $width:literal, $time:ident) => {
+        Shape { kind: Kind::$kind, flags: $flags, width: $width, time: $time }
     };
 }
 
-static OBJECTS: [Object; 31] = [
-    object!(Row, 1, 2, Binary, FLAGGED, 0, UNTIMED),
-    object!(Row, 2, 1, Binary, FLAGGED, 0, UNTIMED),
-    object!(Row, 2, 2, Binary, FLAGGED, 0, TIMED),
-    object!(WrittenRow, 10, 2, Binary, FLAGGED, 0, UNTIMED),
-    object!(Block, 12, 1),
-    object!(Row, 20, 1, Counter, FLAGGED, 4, UNTIMED),
-    object!(Row, 20, 2, Counter, FLAGGED, 2, UNTIMED),
-    object!(Row, 20, 5, Counter, BARE, 4, UNTIMED),
-    object!(Row, 20, 6, Counter, BARE, 2, UNTIMED),
-    object!(Row, 22, 1, Counter, FLAGGED, 4, UNTIMED),
-    object!(Row, 22, 2, Counter, FLAGGED, 2, UNTIMED),
-    object!(Row, 22, 5, Counter, FLAGGED, 4, TIMED),
-    object!(Row, 22, 6, Counter, FLAGGED, 2, TIMED),
-    object!(Row, 30, 1, Analog, FLAGGED, 4, UNTIMED),
-    object!(Row, 30, 2, Analog, FLAGGED, 2, UNTIMED),
-    object!(Row, 30, 3, Analog, BARE, 4, UNTIMED),
-    object!(Row, 30, 4, Analog, BARE, 2, UNTIMED),
-    object!(Row, 32, 1, Analog, FLAGGED, 4, UNTIMED),
-    object!(Row, 32, 2, Analog, FLAGGED, 2, UNTIMED),
-    object!(Row, 32, 3, Analog, FLAGGED, 4, TIMED),
-    object!(Row, 32, 4, Analog, FLAGGED, 2, TIMED),
-    object!(Other, 40, 1, 5),
-    object!(Other, 40, 2, 3),
-    object!(Setpoint, 41, 1, 4),
-    object!(Setpoint, 41, 2, 2),
-    object!(Other, 50, 1, 6),
-    object!(Other, 52, 2, 2),
-    object!(Other, 60, 1, 0),
-    object!(Other, 60, 2, 0),
-    object!(Other, 60, 3, 0),
-    object!(Other, 60, 4, 0),
-];
-
-/// What the line of this group and variation says.
+/// What the object of this group and variation carries: the object library, a line for each object.
+#[inline(always)]
 #[tactic(auto, unfolding(crate::specs::Objects::content_of, crate::specs::Objects::objects))]
 fn line_of(group: u8, variation: u8) -> Option<Content>
     ensures { result ≡ spec.content_of group variation }
 {
-    OBJECTS
-        .iter()
-        .find(|object| object.group == group && object.variation == variation)
-        .map(|object| object.content)
+    let content = match (group, variation) {
+        (1, 2) => Content::Row(shape!(Binary, FLAGGED, 0, UNTIMED)),
+        (2, 1) => Content::Row(shape!(Binary, FLAGGED, 0, UNTIMED)),
+        (2, 2) => Content::Row(shape!(Binary, FLAGGED, 0, TIMED)),
+        (10, 2) => Content::WrittenRow(shape!(Binary, FLAGGED, 0, UNTIMED)),
+        (12, 1) => Content::Block,
+        (20, 1) => Content::Row(shape!(Counter, FLAGGED, 4, UNTIMED)),
+        (20, 2) => Content::Row(shape!(Counter, FLAGGED, 2, UNTIMED)),
+        (20, 5) => Content::Row(shape!(Counter, BARE, 4, UNTIMED)),
+        (20, 6) => Content::Row(shape!(Counter, BARE, 2, UNTIMED)),
+        (22, 1) => Content::Row(shape!(Counter, FLAGGED, 4, UNTIMED)),
+        (22, 2) => Content::Row(shape!(Counter, FLAGGED, 2, UNTIMED)),
+        (22, 5) => Content::Row(shape!(Counter, FLAGGED, 4, TIMED)),
+        (22, 6) => Content::Row(shape!(Counter, FLAGGED, 2, TIMED)),
+        (30, 1) => Content::Row(shape!(Analog, FLAGGED, 4, UNTIMED)),
+        (30, 2) => Content::Row(shape!(Analog, FLAGGED, 2, UNTIMED)),
+        (30, 3) => Content::Row(shape!(Analog, BARE, 4, UNTIMED)),
+        (30, 4) => Content::Row(shape!(Analog, BARE, 2, UNTIMED)),
+        (32, 1) => Content::Row(shape!(Analog, FLAGGED, 4, UNTIMED)),
+        (32, 2) => Content::Row(shape!(Analog, FLAGGED, 2, UNTIMED)),
+        (32, 3) => Content::Row(shape!(Analog, FLAGGED, 4, TIMED)),
+        (32, 4) => Content::Row(shape!(Analog, FLAGGED, 2, TIMED)),
+        (40, 1) => Content::Other(5),
+        (40, 2) => Content::Other(3),
+        (41, 1) => Content::Setpoint(4),
+        (41, 2) => Content::Setpoint(2),
+        (50, 1) => Content::Other(6),
+        (52, 2) => Content::Other(2),
+        (60, 1) => Content::Other(0),
+        (60, 2) => Content::Other(0),
+        (60, 3) => Content::Other(0),
+        (60, 4) => Content::Other(0),
+        _ => return None,
+    };
+    Some(content)
 }
 
 /// What the object of this group and variation carries.
+#[inline(always)]
 pub fn content_of(group: u8, variation: u8) -> Option<Content>
     ensures value { result ≡ spec.content_of group variation }
     ensures sound { IfSome result spec.IsContent }
@@ -124,17 +102,34 @@ pub fn content_of(group: u8, variation: u8) -> Option<Content>
 impl Shape {
     ghost use Rattle.dnp_objects.specs.Objects as spec;
 
-    /// The octets of the whole row.
+    /// The octets of the whole row, 1 to 11. `row_shape` gives shapes that are an object's.
+    #[inline(always)]
     pub fn size(self) -> usize
         requires { spec.IsShape self }
         ensures { result ≡ spec.shape_size self }
     {
-        usize::from(self.flags) + self.width + if self.time { 6 } else { 0 }
+        usize::from(self.flags) + usize::from(self.width) + if self.time { 6 } else { 0 }
+    }
+}
+
+/// How the row lies that is read from an object of this group and variation (IEEE Std 1815-2012,
+/// object library); `None` where no row is read from it.
+#[inline(always)]
+pub fn row_shape(group: u8, variation: u8) -> Option<Shape>
+    ensures value { result ≡ spec.shape_read group variation }
+    ensures sound { IfSome result spec.IsShape }
+    // It fills the object.
+    ensures size { IfSome result (λ shape. spec.object_size group variation ≡ Some (spec.shape_size shape)) }
+{
+    match content_of(group, variation)? {
+        Content::Row(shape) => Some(shape),
+        Content::WrittenRow(_) | Content::Block | Content::Setpoint(_) | Content::Other(_) => None,
     }
 }
 
 /// The octets of one object of this group and variation (IEEE Std 1815-2012, object library), 0 to
 /// 11; `None` for packed bits and for what the library lacks.
+#[inline(always)]
 pub fn object_size(group: u8, variation: u8) -> Option<usize>
     ensures value { result ≡ spec.object_size group variation }
     ensures small { IfSome result (λ size. size ≤ 11) }
@@ -142,8 +137,8 @@ pub fn object_size(group: u8, variation: u8) -> Option<usize>
     let size = match content_of(group, variation)? {
         Content::Row(shape) | Content::WrittenRow(shape) => shape.size(),
         Content::Block => 11,
-        Content::Setpoint(width) => width + 1,
-        Content::Other(size) => size,
+        Content::Setpoint(width) => usize::from(width) + 1,
+        Content::Other(size) => usize::from(size),
     };
     Some(size)
 }

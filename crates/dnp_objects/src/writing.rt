@@ -92,7 +92,12 @@ fn octets_of(shape: Shape, row: &Row) -> ArrayVec<u8, 11>
     if shape.flags {
         octets.push(flags_octet(shape, row));
     }
-    push_number(&mut octets, row.value.cast_unsigned(), shape.width);
+    let value = row.value.cast_unsigned();
+    match shape.width {
+        0 => {}
+        2 => push_number(&mut octets, value, 2),
+        _ => push_number(&mut octets, value, 4),
+    }
     if shape.time
         && let Some(time) = row.time
     {

@@ -16,14 +16,14 @@ returns-clause-found c =
     subst (λ (o : Option (Command × ℕ)). IfSome o (IsCommand (head_of a.group a.variation a.range a.octets.now) a.k)) (sym c.ok.ensures.value)
     (command_cut a.group a.variation a.range a.octets.now c.in_ok-size.size a.k c.in_ok-index.index c.in_ok-index.octets.now
     (are_octets a.octets.now (λ i. let fits = c.type_inv.octets i in fits.fits)) (sym (c.in_ok-size.ensures).value)
-    (sym c.in_ok-index.ensures) c.read_command.result c.read_command.ensures.found)
+    (sym c.in_ok-index.ensures.value) c.read_command.result c.read_command.ensures.found)
 
 pub returns-clause-only : goal.returns-clause-only
 returns-clause-only c = λ wanted is.
     let a = c.args in
     let same =
     same_cut a.group a.variation a.range a.octets.now c.in_ok-size.size a.k c.in_ok-index.index c.in_ok-index.octets.now
-    is.size is.index is.octets (sym (c.in_ok-size.ensures).value) (sym c.in_ok-index.ensures) is.size_is is.object in
+    is.size is.index is.octets (sym (c.in_ok-size.ensures).value) (sym c.in_ok-index.ensures.value) is.size_is is.object in
     let reads : ReadsCommand a.group a.variation c.in_ok-index.index c.in_ok-index.octets.now wanted =
     subst (λ (n : ℕ). ReadsCommand a.group a.variation n c.in_ok-index.octets.now wanted) same.0
     (subst (λ (t : List ℕ). ReadsCommand a.group a.variation is.index t wanted) same.1 is.reads) in
@@ -33,4 +33,4 @@ pub returns-in_err-index-clause-there : goal.returns-in_err-index-clause-there
 returns-in_err-index-clause-there c = λ has here.
     let a = c.args in
     let commands = commands_of a.group a.variation a.range a.octets.now a.k has here in
-    absurd (not_there a.group a.variation a.range a.octets.now a.k c.in_ok-size.size commands.1 (sym (c.in_ok-size.ensures).value) (sym c.in_err-index.ensures))
+    absurd (not_there a.group a.variation a.range a.octets.now a.k c.in_ok-size.size commands.1 (sym (c.in_ok-size.ensures).value) (sym c.in_err-index.ensures.value))
