@@ -20,7 +20,9 @@ use Rattle.dnp_appfragment.specs.Table.{form_eq, form_of, is_response, rules, ta
 use Rattle.dnp_appfragment.specs.Headers.{Head, octets_of, objects_size, IsHeader, Divide}
 use Rattle.dnp_appfragment.specs.Fragments.{looked_at}
 use Rattle.dnp_appfragment.specs.Built.{carries_commands}
-use Rattle.dnp_appfragment.specs.Written.{indexed, spanned, Fits, written, FitsEvent, event_object, FitsPoint, is_point_group, point_variation}
+use Rattle.dnp_objects.specs.Rows.{Fits}
+use Rattle.dnp_objects.specs.Events.{IsEvent, event_object}
+use Rattle.dnp_appfragment.specs.Written.{indexed, spanned, written, FitsPoint, is_point_group, point_variation}
 
 -- ---- forms
 
@@ -169,7 +171,7 @@ command_header f c octets carries sized = go (command_form (form_of f) carries)
 -- ---- the same of what a call has found: the object, and its octets as they are shown
 
 pub event_put : (f : Function) (row : Row) (object : ℕ × ℕ) (items shown : List ℕ) → object ≡ event_object row.kind row.time
-    → items ≡ written object.0 object.1 row → shown ≡ items → IsTrue (is_response f) → FitsEvent row
+    → items ≡ written object.0 object.1 row → shown ≡ items → IsTrue (is_response f) → IsEvent row
     → IsHeader (form_of f) (indexed object.0 object.1 row.index shown)
 event_put f row object items shown same own seen response fits =
     let o = event_object row.kind row.time in

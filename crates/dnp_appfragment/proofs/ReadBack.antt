@@ -11,7 +11,9 @@ use Rattle.dnp_objects.specs.declared.row.Row.{Row}
 use Rattle.dnp_objects.proofs.Lines.{command_read}
 use Rattle.dnp_appfragment.specs.Headers.{Head}
 use Rattle.dnp_appfragment.specs.Objects.{IsRow, IsCommand}
-use Rattle.dnp_appfragment.specs.Written.{Fits, FitsEvent, FitsPoint, event_object, is_point_group, point_variation, written}
+use Rattle.dnp_objects.specs.Rows.{Fits}
+use Rattle.dnp_objects.specs.Events.{IsEvent, event_object}
+use Rattle.dnp_appfragment.specs.Written.{FitsPoint, is_point_group, point_variation, written}
 use Rattle.dnp_appfragment.specs.Items.{Item, Holds, event_item, point_item, command_item}
 use Rattle.dnp_appfragment.proofs.Held.{HasObject, has_object}
 
@@ -68,7 +70,7 @@ row_of h k item row has reads = inr (record {
   reads = subst (λ (p : ℕ × ℕ). Reads p.0 p.1 item.index item.octets row) (λ i. (has.is_of.group i, has.is_of.variation i)) reads;
 })
 
-pub event_back : (h : Head) (items : List Item) (k : ℕ) (row : Row) → Holds h items → FitsEvent row → slice_get items k ≡ Some (event_item row) → IsRow h k row
+pub event_back : (h : Head) (items : List Item) (k : ℕ) (row : Row) → Holds h items → IsEvent row → slice_get items k ≡ Some (event_item row) → IsRow h k row
 event_back h items k row holds fits at =
     row_of h k (event_item row) row (has_object h items k (event_item row) holds at) (event_reads row row.kind row.time refl fits)
 

@@ -1,14 +1,13 @@
 -- What rows and commands are written as in a fragment, each as a header of its own (IEEE Std 1815-2012,
 -- application layer: object headers; object library).
-use Rattle.std.specs.Prelude.{ℕ, Bool, true, IsTrue, ◌==◌, ◌||◌, if◌then◌else◌, List, [], ◌∷◌, ◌++◌, Option, Some, None}
-use Rattle.std.specs.Option.{IsSomeAnd, option_map_or}
+use Rattle.std.specs.Prelude.{ℕ, Bool, true, IsTrue, ◌==◌, ◌||◌, if◌then◌else◌, List, [], ◌∷◌, ◌++◌}
+use Rattle.std.specs.Option.{option_map_or}
 use Rattle.std.specs.List.{list_any}
 use Rattle.dnp_objects.specs.Objects.{shape_written}
-use Rattle.dnp_objects.specs.Rows.{row_fits, row_octets}
+use Rattle.dnp_objects.specs.Rows.{Fits, row_octets}
+use Rattle.dnp_objects.specs.Events.{event_object}
 use Rattle.dnp_objects.specs.Commands.{object_of, index_of, command_octets}
 use Rattle.dnp_objects.specs.declared.command.Command.{Command}
-use Rattle.dnp_objects.specs.declared.row.Kind.{Kind}
-use Rattle.dnp_objects.specs.declared.row.Kind.TheVariants.{Binary, Counter, Analog}
 use Rattle.dnp_objects.specs.declared.row.Row.{Row}
 use Rattle.dnp_appfragment.specs.declared.header.Range.TheVariants as range
 use Rattle.dnp_appfragment.specs.Headers.{Head, number}
@@ -27,26 +26,11 @@ spanned group variation index octets =
 
 -- ---- rows
 
--- the row can be written as this object, and its octets then
-abbrev pub Fits : ℕ → ℕ → Row → Type 0
-Fits group variation row = IsSomeAnd (shape_written group variation) (λ shape. IsTrue (row_fits shape row))
-
+-- the octets of a row that can be written as this object
 abbrev pub written : ℕ → ℕ → Row → List ℕ
 written group variation row = option_map_or (λ shape. row_octets shape row) (shape_written group variation) []
 
--- the group and the variation of an event, with a time and without
-abbrev pub event_object : Kind → Option ℕ → ℕ × ℕ
-event_object Binary (Some time) = (2, 2)
-event_object Binary None = (2, 1)
-event_object Counter (Some time) = (22, 5)
-event_object Counter None = (22, 1)
-event_object Analog (Some time) = (32, 3)
-event_object Analog None = (32, 1)
-
--- the row can be written as an event
-abbrev pub FitsEvent : Row → Type 0
-FitsEvent row = Fits (event_object row.kind row.time).0 (event_object row.kind row.time).1 row
-
+-- an event, with a time or without as the row has it
 abbrev pub event : Row → Head
 event row =
     let object = event_object row.kind row.time in

@@ -5,11 +5,9 @@ use crate::iin::Iin;
 use crate::putting::{MAX_FRAGMENT, header_size, push_header, whole_request, whole_response};
 use crate::run::{Run, longer};
 use crate::table::{Form, form_of};
-use crate::written::{
-    behind_index, command_index, command_object, event_object, point_variation, row_octets,
-};
+use crate::written::{behind_index, point_variation, row_octets};
 use arrayvec::ArrayVec;
-use dnp_objects::{Command, Row, Status, write_command};
+use dnp_objects::{Command, Row, Status, event_object, write_command};
 use std::marker::Model;
 use thiserror::Error;
 
@@ -46,6 +44,7 @@ impl Model for Builder {
 impl Builder {
     ghost use Rattle.std.specs.Prelude.{◌≡◌, ◌≤◌, ◌<◌, ◌↔◌, ◌+◌, ◌^◌, [], length, IsErr, IsSome, IsTrue, true, false, OnOk, OnErr, None};
     ghost use Rattle.dnp_objects.specs.Objects.{object_size};
+    ghost use Rattle.dnp_objects.specs.Events.{IsEvent};
     ghost use Rattle.dnp_appfragment.specs.Table as table;
     ghost use Rattle.dnp_appfragment.specs.Headers.{IsHeader, header_octets};
     ghost use Rattle.dnp_appfragment.specs.Seen.{head};
@@ -196,12 +195,13 @@ impl Builder {
 
     /// Puts a row into a response as an event: with a time as 2.2, 22.5 or 32.3, and else as 2.1,
     /// 22.1 or 32.1, behind its index. It joins the header before it, where that is of the same
-    /// object and no `break_run` came between. `fits_event` is the test of what the row has to be.
+    /// object and no `break_run` came between. `dnp_objects::is_event` is the test of what the row has to
+    /// be.
     ///
     /// Full, where the fragment would pass 2,048 octets; nothing is put then.
     pub fn event(&mut self, row: &Row) -> Result<(), Full>
         requires response { IsTrue (table.is_response self.old.function) }
-        requires fits { written.FitsEvent row.now }
+        requires fits { IsEvent row.now }
         ensures ok { OnOk result (self.new ≡ built.with_object self.old (written.event row.now)) }
         ensures full { IsErr result ↔ (2048 < built.size (built.with_object self.old (written.event row.now))) }
         ensures err { OnErr result (self.new ≡ self.old) }
@@ -244,9 +244,9 @@ impl Builder {
         ensures err { OnErr result (self.new ≡ self.old) }
         ensures function { self.new.function ≡ self.old.function }
     {
-        let (group, variation) = command_object(command);
+        let (group, variation) = command.object();
         let octets = write_command(command, status);
-        self.put_indexed(group, variation, command_index(command), &octets)
+        self.put_indexed(group, variation, command.index(), &octets)
     }
 
     /// The fragment with this control octet and, in a response, these internal indications.

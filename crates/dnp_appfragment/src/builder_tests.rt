@@ -6,9 +6,9 @@ use crate::control::Control;
 use crate::function::Function;
 use crate::header::{Header, Range};
 use crate::iin::Iin;
-use crate::written::{fits_event, fits_point};
+use crate::written::fits_point;
 use arrayvec::ArrayVec;
-use dnp_objects::{Command, Kind, Row, Status};
+use dnp_objects::{Command, Kind, Row, Status, is_event};
 use std::process::Abort;
 
 fn row(kind: Kind, index: u16, value: i64, time: Option<u64>) -> Row {
@@ -31,7 +31,7 @@ fn event(rt: &impl Abort, builder: &mut Builder, row: &Row) -> Result<(), Full>
     requires { IsTrue (is_response builder.old.function) }
     ensures { builder.new.function ≡ builder.old.function }
 {
-    assert!(rt; fits_event(row));
+    assert!(rt; is_event(row));
     builder.event(row)
 }
 

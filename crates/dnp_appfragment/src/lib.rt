@@ -35,4 +35,4 @@ pub use headers::Headers;
 pub use iin::Iin;
 pub use request::Request;
 pub use response::Response;
-pub use written::{fits_event, fits_point};
+pub use written::fits_point;

@@ -3,10 +3,8 @@
 ghost use Rattle.std.specs.Prelude.{IsTrue};
 ghost use Rattle.dnp_appfragment.specs.Table.{is_response};
 
-use dnp_appfragment::{
-    Builder, Control, Function, Headers, Iin, fits_event, read_request, read_response,
-};
-use dnp_objects::{Kind, Row};
+use dnp_appfragment::{Builder, Control, Function, Headers, Iin, read_request, read_response};
+use dnp_objects::{Kind, Row, is_event};
 
 /// The headers of a request or a response, if the octets are one.
 fn headers_of(fragment: &[u8]) -> Option<Headers<'_>> {
@@ -60,7 +58,7 @@ fn put_events(builder: &mut Builder, value: u16, time: u64)
             value: i64::from(value),
             time: Some(time),
         };
-        if !fits_event(&row) || builder.event(&row).is_err() {
+        if !is_event(&row) || builder.event(&row).is_err() {
             return;
         }
     }

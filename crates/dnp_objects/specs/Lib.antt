@@ -1,6 +1,7 @@
 pub mod Commands
 pub mod Counts
 pub mod Equality
+pub mod Events
 pub mod Faults
 pub mod Lanes
 pub mod Objects

@@ -75,6 +75,10 @@ pub record IsRowOf (shape : Shape) (row : Row) (octets : List ℕ) : Type 0 wher
   pub fits : IsTrue (row_fits shape row)
   pub spelled : octets ≡ row_octets shape row
 
+-- the row can be written as this object
+abbrev pub Fits : ℕ → ℕ → Row → Type 0
+Fits group variation row = IsSomeAnd (shape_written group variation) (λ shape. IsTrue (row_fits shape row))
+
 -- the row is written so as this object
 abbrev pub Writes : ℕ → ℕ → Row → List ℕ → Type 0
 Writes group variation row octets = IsSomeAnd (shape_written group variation) (λ shape. IsRowOf shape row octets)

@@ -31,3 +31,31 @@ pub enum Command {
         value: i32,
     },
 }
+
+impl Command {
+    ghost use Rattle.std.specs.Prelude.{◌≡◌};
+    ghost use Rattle.dnp_objects.specs.Commands.{object_of, index_of};
+
+    /// The output that the command is for.
+    pub fn index(&self) -> u16
+        ensures { result ≡ index_of self.now }
+    {
+        match *self {
+            Command::Block { index, .. }
+            | Command::Set16 { index, .. }
+            | Command::Set32 { index, .. } => index,
+        }
+    }
+
+    /// The group and the variation of the object that carries the command (IEEE Std 1815-2012, object
+    /// library): 12.1, 41.2 or 41.1.
+    pub fn object(&self) -> (u8, u8)
+        ensures { result ≡ object_of self.now }
+    {
+        match self {
+            Command::Block { .. } => (12, 1),
+            Command::Set16 { .. } => (41, 2),
+            Command::Set32 { .. } => (41, 1),
+        }
+    }
+}

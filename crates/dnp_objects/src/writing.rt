@@ -1,4 +1,4 @@
-ghost use Rattle.std.specs.Prelude.{◌≡◌, ◌+◌, ◌≤◌, ◌++◌, IfOk, IfErr, IsTrue, List, ℕ};
+ghost use Rattle.std.specs.Prelude.{◌≡◌, ◌↔◌, ◌+◌, ◌≤◌, ◌++◌, IfOk, IfErr, IsTrue, List, ℕ};
 ghost use Rattle.std.specs.Option.{IsSomeAnd};
 ghost use Rattle.std.specs.Result.{IsOkAnd};
 ghost use Rattle.arrayvec.specs.ArrayVec.{array_vec_len};
@@ -104,6 +104,18 @@ fn octets_of(shape: Shape, row: &Row) -> ArrayVec<u8, 11>
         push_number(&mut octets, time, 6);
     }
     octets
+}
+
+/// Whether the row can be written as an object of this group and variation (IEEE Std 1815-2012,
+/// object library), as `write_row` wants it.
+#[inline]
+pub fn fits_object(group: u8, variation: u8, row: &Row) -> bool
+    ensures { IsTrue result ↔ spec.Fits group variation row.now }
+{
+    match content_of(group, variation) {
+        Some(Content::Row(shape) | Content::WrittenRow(shape)) => row_fits(shape, row),
+        _ => false,
+    }
 }
 
 /// The octets, or the first cause of a refusal.

@@ -1,17 +1,18 @@
 //! Laws of what is built: the objects put are those that the finished fragment holds, in order.
 ghost use Rattle.std.specs.Prelude.{◌≡◌, ◌≢◌, ◌<◌, ◌^◌, ℕ, List, [], ◌∷◌, ◌++◌, slice_get, Some, None};
 ghost use Rattle.dnp_objects.specs.Commands.{IsInRange, index_of};
+ghost use Rattle.dnp_objects.specs.Events.{IsEvent};
 ghost use Rattle.dnp_objects.specs.declared.row.Row.{Row};
 ghost use Rattle.dnp_objects.specs.declared.command.Command.{Command};
 ghost use Rattle.dnp_appfragment.specs.Headers.{Head};
 ghost use Rattle.dnp_appfragment.specs.Objects.{IsRow, IsCommand};
 ghost use Rattle.dnp_appfragment.specs.Built.{Built, heads, broken, with_header, with_object};
-ghost use Rattle.dnp_appfragment.specs.Written.{FitsEvent, FitsPoint, event, point, order};
+ghost use Rattle.dnp_appfragment.specs.Written.{FitsPoint, event, point, order};
 ghost use Rattle.dnp_appfragment.specs.Items.{Item, Holds, HoldAll, event_item, point_item, command_item};
 
 /// A row or a command that is put is one object, as a header of its own.
 pub fn a_header_holds_what_was_put()
-    ensures event { (row : Row) → FitsEvent row → row.index < 2 ^ 16 → Holds (event row) (event_item row ∷ []) }
+    ensures event { (row : Row) → IsEvent row → row.index < 2 ^ 16 → Holds (event row) (event_item row ∷ []) }
     ensures point { (group : ℕ) (row : Row) → FitsPoint group row → Holds (point group row) (point_item group row ∷ []) }
     ensures order { (command : Command) (status : ℕ) → index_of command < 2 ^ 16
         → Holds (order command status) (command_item command status ∷ []) }
@@ -31,7 +32,7 @@ pub fn what_is_put_is_held()
 /// a present value as the row without its time. Binary output status, group 10, is not read as a
 /// row.
 pub fn what_is_held_is_read()
-    ensures event { (header : Head) (items : List Item) (k : ℕ) (row : Row) → Holds header items → FitsEvent row
+    ensures event { (header : Head) (items : List Item) (k : ℕ) (row : Row) → Holds header items → IsEvent row
         → slice_get items k ≡ Some (event_item row) → IsRow header k row }
     ensures point { (header : Head) (items : List Item) (k group : ℕ) (row : Row) → Holds header items → FitsPoint group row
         → group ≢ 10 → slice_get items k ≡ Some (point_item group row) → IsRow header k (record row { time = None }) }
