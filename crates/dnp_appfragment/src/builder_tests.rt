@@ -1,4 +1,4 @@
-ghost use Rattle.std.specs.Prelude.{◌≡◌, IsTrue};
+ghost use Rattle.std.specs.Prelude.{◌≡◌, IsTrue, false};
 ghost use Rattle.dnp_appfragment.specs.Table.{is_response};
 
 use crate::builder::{Builder, Full};
@@ -249,4 +249,319 @@ fn an_empty_unsolicited_response(rt: HostRuntime) {
             .as_slice(),
         [0xF0, 0x82, 0x80, 0].as_slice()
     );
+}
+
+/// A request of one header, as those who build it test it.
+fn of_header(
+    rt: &impl Abort,
+    function: Function,
+    header: &Header<'_>,
+    control: u8,
+) -> ArrayVec<u8, 2048>
+    requires { is_response function ≡ false }
+{
+    let mut builder = Builder::new(function, false);
+    assert!(rt; header.fits(function));
+    assert_eq!(rt; builder.header(header), Ok(()));
+    finished(builder, control)
+}
+
+/// What a master writes, enables and asks for beside its polls.
+#[test]
+fn requests_of_one_header(rt: HostRuntime) {
+    for (control, bit, octets) in [
+        (0xC0, 7, [0xC0, 0x02, 0x50, 0x01, 0x00, 0x07, 0x07, 0x00]),
+        (0xC1, 6, [0xC1, 0x02, 0x50, 0x01, 0x00, 0x06, 0x06, 0x00]),
+    ] {
+        let indication = Header {
+            group: 80,
+            variation: 1,
+            range: Range::Span {
+                wide: false,
+                first: bit,
+                last: bit,
+            },
+            octets: &[0],
+        };
+        assert_eq!(rt;
+            of_header(&rt, Function::Write, &indication, control).as_slice(),
+            octets.as_slice()
+        );
+    }
+    let time = Header {
+        group: 50,
+        variation: 1,
+        range: Range::Count { wide: false, n: 1 },
+        octets: &[0xE8, 0x03, 0, 0, 0, 0],
+    };
+    assert_eq!(rt;
+        of_header(&rt, Function::Write, &time, 0xC2).as_slice(),
+        [
+            0xC2, 0x02, 0x32, 0x01, 0x07, 0x01, 0xE8, 0x03, 0x00, 0x00, 0x00, 0x00
+        ]
+        .as_slice()
+    );
+    let class_1 = Header {
+        group: 60,
+        variation: 2,
+        range: Range::All,
+        octets: &[],
+    };
+    assert_eq!(rt;
+        of_header(&rt, Function::EnableUnsolicited, &class_1, 0xC0).as_slice(),
+        [0xC0, 0x14, 0x3C, 0x02, 0x06].as_slice()
+    );
+    assert_eq!(rt;
+        of_header(&rt, Function::Read, &class_1, 0xC1).as_slice(),
+        [0xC1, 0x01, 0x3C, 0x02, 0x06].as_slice()
+    );
+    let binaries = Header {
+        group: 1,
+        variation: 0,
+        range: Range::Span {
+            wide: false,
+            first: 1,
+            last: 2,
+        },
+        octets: &[],
+    };
+    assert_eq!(rt;
+        of_header(&rt, Function::Read, &binaries, 0xC0).as_slice(),
+        [0xC0, 0x01, 0x01, 0x00, 0x00, 0x01, 0x02].as_slice()
+    );
+    assert_eq!(rt;
+        finished(Builder::new(Function::DelayMeasure, false), 0xC0).as_slice(),
+        [0xC0, 0x17].as_slice()
+    );
+}
+
+/// A poll with a limit behind one without.
+#[test]
+fn a_poll_with_a_limit(rt: HostRuntime) {
+    let mut builder = Builder::new(Function::Read, false);
+    let all = Header {
+        group: 60,
+        variation: 2,
+        range: Range::All,
+        octets: &[],
+    };
+    let one = Header {
+        group: 60,
+        variation: 3,
+        range: Range::Count { wide: false, n: 1 },
+        octets: &[],
+    };
+    assert!(rt; all.fits(Function::Read) && one.fits(Function::Read));
+    assert_eq!(rt; builder.header(&all), Ok(()));
+    assert_eq!(rt; builder.header(&one), Ok(()));
+    assert_eq!(rt;
+        finished(builder, 0xC1).as_slice(),
+        [0xC1, 0x01, 0x3C, 0x02, 0x06, 0x3C, 0x03, 0x07, 0x01].as_slice()
+    );
+}
+
+/// What answers a request without objects, or tells of a fault.
+#[test]
+fn responses_of_indications_alone(rt: HostRuntime) {
+    let restart = Iin::DEVICE_RESTART;
+    let cases = [
+        (0xC0, Iin::NONE, [0xC0, 0x81, 0x00, 0x00]),
+        (0xC0, restart, [0xC0, 0x81, 0x80, 0x00]),
+        (0xC2, restart, [0xC2, 0x81, 0x80, 0x00]),
+        (0xC1, Iin::PARAMETER_ERROR, [0xC1, 0x81, 0x00, 0x04]),
+        (
+            0xC0,
+            restart.with(Iin::NO_FUNC_CODE_SUPPORT),
+            [0xC0, 0x81, 0x80, 0x01],
+        ),
+        (
+            0xC0,
+            restart.with(Iin::OBJECT_UNKNOWN),
+            [0xC0, 0x81, 0x80, 0x02],
+        ),
+        (
+            0xC0,
+            restart.with(Iin::PARAMETER_ERROR),
+            [0xC0, 0x81, 0x80, 0x04],
+        ),
+    ];
+    for (control, iin, octets) in cases {
+        assert_eq!(rt;
+            response().finish(Control::read(control), iin).as_slice(),
+            octets.as_slice()
+        );
+    }
+}
+
+#[test]
+fn the_answer_to_a_delay_measurement(rt: HostRuntime) {
+    let mut builder = response();
+    let delay = Header {
+        group: 52,
+        variation: 2,
+        range: Range::Count { wide: false, n: 1 },
+        octets: &[0, 0],
+    };
+    assert!(rt; delay.fits(Function::Response));
+    assert_eq!(rt; builder.header(&delay), Ok(()));
+    assert_eq!(rt;
+        builder
+            .finish(Control::read(0xC0), Iin::DEVICE_RESTART)
+            .as_slice(),
+        [0xC0, 0x81, 0x80, 0x00, 0x34, 0x02, 0x07, 0x01, 0x00, 0x00].as_slice()
+    );
+}
+
+/// An event in an unsolicited response of a station that was started again.
+#[test]
+fn an_unsolicited_event(rt: HostRuntime) {
+    let mut builder = Builder::new(Function::UnsolicitedResponse, true);
+    assert_eq!(rt;
+        event(&rt, &mut builder, &row(Kind::Binary, 3, 1, Some(1_000))),
+        Ok(())
+    );
+    assert_eq!(rt;
+        builder
+            .finish(Control::read(0xF1), Iin::DEVICE_RESTART)
+            .as_slice(),
+        [
+            0xF1, 0x82, 0x80, 0x00, 0x02, 0x02, 0x28, 0x01, 0x00, 0x03, 0x00, 0x81, 0xE8, 0x03,
+            0x00, 0x00, 0x00, 0x00
+        ]
+        .as_slice()
+    );
+}
+
+/// The later event, once the earlier one was confirmed; and two that are left after an overflow.
+#[test]
+fn events_with_their_indications(rt: HostRuntime) {
+    let mut later = response();
+    assert_eq!(rt;
+        event(&rt, &mut later, &row(Kind::Binary, 3, 0, Some(2_000))),
+        Ok(())
+    );
+    assert_eq!(rt;
+        finished(later, 0xE2).as_slice(),
+        [
+            0xE2, 0x81, 0x00, 0x00, 0x02, 0x02, 0x28, 0x01, 0x00, 0x03, 0x00, 0x01, 0xD0, 0x07,
+            0x00, 0x00, 0x00, 0x00
+        ]
+        .as_slice()
+    );
+    let mut left = response();
+    assert_eq!(rt;
+        event(&rt, &mut left, &row(Kind::Binary, 0, 0, Some(2))),
+        Ok(())
+    );
+    assert_eq!(rt;
+        event(&rt, &mut left, &row(Kind::Binary, 0, 1, Some(3))),
+        Ok(())
+    );
+    assert_eq!(rt;
+        left.finish(Control::read(0xE1), Iin::EVENT_BUFFER_OVERFLOW)
+            .as_slice(),
+        [
+            0xE1, 0x81, 0x00, 0x08, 0x02, 0x02, 0x28, 0x02, 0x00, 0x00, 0x00, 0x01, 0x02, 0x00,
+            0x00, 0x00, 0x00, 0x00, 0x00, 0x00, 0x81, 0x03, 0x00, 0x00, 0x00, 0x00, 0x00
+        ]
+        .as_slice()
+    );
+}
+
+/// A fragment of one command.
+fn of_command(
+    rt: &impl Abort,
+    function: Function,
+    command: &Command,
+    status: Status,
+    control: u8,
+) -> ArrayVec<u8, 2048> {
+    let mut builder = Builder::new(function, function.is_response());
+    assert!(rt; function.carries_commands());
+    assert_eq!(rt; builder.command(command, status), Ok(()));
+    finished(builder, control)
+}
+
+/// The two steps of a control, and their answers.
+#[test]
+fn a_setpoint_is_selected_and_operated(rt: HostRuntime) {
+    let command = Command::Set16 {
+        index: 2,
+        value: -1,
+    };
+    let done = Status::SUCCESS;
+    assert_eq!(rt;
+        of_command(&rt, Function::Select, &command, done, 0xC0).as_slice(),
+        [
+            0xC0, 0x03, 0x29, 0x02, 0x28, 0x01, 0x00, 0x02, 0x00, 0xFF, 0xFF, 0x00
+        ]
+        .as_slice()
+    );
+    assert_eq!(rt;
+        of_command(&rt, Function::Response, &command, done, 0xC0).as_slice(),
+        [
+            0xC0, 0x81, 0x00, 0x00, 0x29, 0x02, 0x28, 0x01, 0x00, 0x02, 0x00, 0xFF, 0xFF, 0x00
+        ]
+        .as_slice()
+    );
+    assert_eq!(rt;
+        of_command(&rt, Function::Operate, &command, done, 0xC1).as_slice(),
+        [
+            0xC1, 0x04, 0x29, 0x02, 0x28, 0x01, 0x00, 0x02, 0x00, 0xFF, 0xFF, 0x00
+        ]
+        .as_slice()
+    );
+    let other = Command::Set16 {
+        index: 2,
+        value: -2,
+    };
+    assert_eq!(rt;
+        of_command(&rt, Function::Response, &other, done, 0xC0).as_slice(),
+        [
+            0xC0, 0x81, 0x00, 0x00, 0x29, 0x02, 0x28, 0x01, 0x00, 0x02, 0x00, 0xFE, 0xFF, 0x00
+        ]
+        .as_slice()
+    );
+}
+
+/// A block operated directly, and the answers that other statuses give it.
+#[test]
+fn a_block_is_answered_with_its_status(rt: HostRuntime) {
+    let command = Command::Block {
+        index: 5,
+        code: 3,
+        count: 1,
+        on_ms: 0,
+        off_ms: 0,
+    };
+    assert_eq!(rt;
+        of_command(
+            &rt,
+            Function::DirectOperateNr,
+            &command,
+            Status::SUCCESS,
+            0xC8
+        )
+        .as_slice(),
+        [
+            0xC8, 0x06, 0x0C, 0x01, 0x28, 0x01, 0x00, 0x05, 0x00, 0x03, 0x01, 0x00, 0x00, 0x00,
+            0x00, 0x00, 0x00, 0x00, 0x00, 0x00
+        ]
+        .as_slice()
+    );
+    for (status, last) in [
+        (Status::SUCCESS, 0x00),
+        (Status::TIMEOUT, 0x01),
+        (Status::NO_SELECT, 0x02),
+        (Status::TOO_MANY_OBJS, 0x08),
+    ] {
+        assert_eq!(rt;
+            of_command(&rt, Function::Response, &command, status, 0xC3).as_slice(),
+            [
+                0xC3, 0x81, 0x00, 0x00, 0x0C, 0x01, 0x28, 0x01, 0x00, 0x05, 0x00, 0x03, 0x01, 0x00,
+                0x00, 0x00, 0x00, 0x00, 0x00, 0x00, 0x00, last
+            ]
+            .as_slice()
+        );
+    }
 }
