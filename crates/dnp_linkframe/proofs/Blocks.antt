@@ -1,11 +1,10 @@
 -- Parts with their check words: one spelling, its length, and one block more.
-use Rattle.std.proofs.Common.{◌≡◌, ℕ, zero, suc, ◌+◌, ◌*◌, ◌/◌, ◌-◌, ◌<◌, ◌≤◌, List, [], ◌∷◌, ◌++◌, length, take, drop, refl, sym, ◌∙◌, ap, subst, arith, min, inl, inr}
+use Rattle.std.proofs.Common.{◌≡◌, ℕ, zero, suc, ◌+◌, ◌*◌, ◌-◌, ◌<◌, ◌≤◌, List, [], ◌∷◌, ◌++◌, length, take, drop, refl, sym, ◌∙◌, ap, subst, arith, min, inl, inr}
 use Rattle.std.proofs.lemmas.Bool.{cases_lt}
 use Rattle.std.specs.Int.{w16, to_le_bytes}
 use Rattle.std.proofs.lemmas.List.{append_assoc, length-append, length-take, length-drop, append-nil, take-append-drop, append_cancel_left, take_at, take_all, nil_from_length}
-use Rattle.dnp_linkframe.specs.CheckWord.{IsCheckWord}
 use Rattle.dnp_linkframe.specs.declared.frame.Frame.{Frame}
-use Rattle.dnp_linkframe.specs.Frames.{HasCheck, AreChecked, first_blocks, block_count, blocks, frame_size, header, IsFrame, Spells}
+use Rattle.dnp_linkframe.specs.Frames.{HasCheck, AreChecked, first_blocks, block_count, blocks, frame_size, header, Spells}
 use Rattle.dnp_linkframe.proofs.Unique.{one_check_word}
 
 -- a part has one spelling with its check word

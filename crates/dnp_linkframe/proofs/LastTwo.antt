@@ -1,10 +1,10 @@
 -- Octets that end in their check word, by their last two octets.
-use Rattle.std.proofs.Common.{◌≡◌, ℕ, ◌+◌, ◌*◌, ◌-◌, ◌<◌, ◌≤◌, ◌^◌, List, [], ◌∷◌, ◌++◌, length, take, drop, get_or, refl, sym, ◌∙◌, ap, subst, arith}
+use Rattle.std.proofs.Common.{◌≡◌, ℕ, ◌+◌, ◌*◌, ◌-◌, ◌<◌, ◌≤◌, List, ◌++◌, length, take, drop, get_or, sym, ◌∙◌, ap, subst, arith}
 use Rattle.std.specs.Int.{w16, to_le_bytes, from_le_bytes}
-use Rattle.std.proofs.lemmas.List.{length-append, length-take, length-drop, take-append-drop, take_at, drop_at, get_or-drop}
+use Rattle.std.proofs.lemmas.List.{length-append, length-drop, take-append-drop, take_at, drop_at, get_or-drop}
 use Rattle.std.proofs.lemmas.Nat.{le_bytes_2, from_le_bytes-to_le_bytes_2}
 use Rattle.dnp_linkframe.specs.CheckWord.{IsCheckWord}
-use Rattle.dnp_linkframe.specs.Frames.{HasCheck, IsChecked}
+use Rattle.dnp_linkframe.specs.Frames.{IsChecked}
 
 word-drop : (octets : List ℕ) → 2 ≤ length octets
     → from_le_bytes w16 (drop (length octets - 2) octets) ≡ get_or octets (length octets - 2) 0 + get_or octets (length octets - 1) 0 * 256

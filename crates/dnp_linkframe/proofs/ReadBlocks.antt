@@ -1,10 +1,10 @@
 -- The loop that reads blocks: what is read so far, and what is left of the octets.
-use Rattle.std.proofs.Common.{◌≡◌, ℕ, zero, suc, ◌+◌, ◌*◌, ◌/◌, ◌-◌, ◌<◌, ◌≤◌, List, [], ◌∷◌, ◌++◌, length, take, drop, refl, sym, ◌∙◌, ap, subst, arith, min, inl, inr, ◌⊎◌}
+use Rattle.std.proofs.Common.{◌≡◌, ℕ, suc, ◌+◌, ◌*◌, ◌-◌, ◌<◌, ◌≤◌, List, [], ◌∷◌, ◌++◌, length, take, drop, refl, sym, ◌∙◌, ap, subst, arith, min, inl, inr, ◌⊎◌}
 use Rattle.std.proofs.lemmas.Bool.{cases_lt}
 use Rattle.std.specs.Int.{w16, to_le_bytes}
-use Rattle.std.proofs.lemmas.List.{append_assoc, length-append, length-take, length-drop, append-nil, take_at, take_all, drop-drop, nil_from_length}
-use Rattle.dnp_linkframe.specs.Frames.{HasCheck, IsChecked, AreChecked, IsUnchecked, IsFirstUnchecked, first_blocks, block_count, blocks}
-use Rattle.dnp_linkframe.proofs.Blocks.{total, length-joined, total-blocks, blocks-more, take-chunk, drop-chunk, length-checked}
+use Rattle.std.proofs.lemmas.List.{append_assoc, length-append, length-drop, append-nil, take_at, drop-drop, nil_from_length}
+use Rattle.dnp_linkframe.specs.Frames.{HasCheck, IsChecked, AreChecked, IsFirstUnchecked, block_count, blocks}
+use Rattle.dnp_linkframe.proofs.Blocks.{length-joined, total-blocks, blocks-more, take-chunk, drop-chunk, length-checked}
 
 -- user data that begins with a whole block, or is one block
 pub blocks-part : (part more : List ℕ) → 0 < length part → length part ≡ min 16 (length (part ++ more)) → blocks (part ++ more) ≡ part ∷ blocks more

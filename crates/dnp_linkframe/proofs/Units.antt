@@ -1,15 +1,14 @@
 -- Units of octets: one frame, or faults, and never both.
-use Rattle.std.proofs.Common.{◌≡◌, ◌≢◌, ℕ, zero, suc, ◌+◌, ◌*◌, ◌/◌, ◌-◌, ◌<◌, ◌≤◌, ◌^◌, List, [], ◌∷◌, ◌++◌, length, take, drop, get_or, refl, sym, ◌∙◌, ap, subst, arith, min, inl, inr, Result, Ok, Err, IfOk, IfErr}
-use Rattle.std.proofs.lemmas.Bool.{cases_lt, cases_order}
+use Rattle.std.proofs.Common.{◌≡◌, ℕ, zero, suc, ◌+◌, ◌*◌, ◌-◌, ◌<◌, ◌≤◌, List, [], ◌∷◌, ◌++◌, length, take, drop, get_or, refl, sym, ◌∙◌, ap, subst, arith, min, inl, inr, Result, Ok, Err, IfOk, IfErr}
+use Rattle.std.proofs.lemmas.Bool.{cases_order}
 use Rattle.std.specs.Int.{w16, to_le_bytes, from_le_bytes}
-use Rattle.std.proofs.lemmas.List.{append_assoc, length-append, length-take, length-drop, append-nil, take_at, drop_at, take_all, take-take, take-append-drop, drop-drop, drop_more, drop_all, get_or-take, get_or_append_left, nil_from_length, append_cancel_left}
+use Rattle.std.proofs.lemmas.List.{length-append, length-take, length-drop, take_at, drop_at, take-take, take-append-drop, drop-drop, drop_more, drop_all, get_or-take, get_or_append_left, nil_from_length}
 use Rattle.std.proofs.lemmas.Nat.{le_bytes_2, from_le_bytes-to_le_bytes_2}
 use Rattle.dnp_linkframe.specs.declared.frame.Frame.{Frame}
 use Rattle.dnp_linkframe.specs.declared.frame.FrameFault.{FrameFault}
 use Rattle.dnp_linkframe.specs.declared.frame.FrameFault.TheVariants.{Short, Start, HeaderCheck, Length, Size, BlockCheck}
-use Rattle.dnp_linkframe.specs.CheckWord.{IsCheckWord}
 use Rattle.dnp_linkframe.specs.Frames.{HasCheck, IsChecked, AreChecked, IsUnchecked, IsFirstUnchecked, first_blocks, block_count, blocks, frame_size, header, IsFrame, Spells, IsFault, IsFirstFault, place}
-use Rattle.dnp_linkframe.proofs.Blocks.{total, length-joined, total-blocks, take-chunk, drop-chunk, length-checked, length-spelled}
+use Rattle.dnp_linkframe.proofs.Blocks.{length-joined, total-blocks, take-chunk, drop-chunk, length-checked, length-spelled}
 
 -- a list of eight cells
 eight : (p : List ℕ) → length p ≡ 8

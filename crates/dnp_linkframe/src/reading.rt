@@ -22,7 +22,7 @@ fn is_checked(octets: &[u8]) -> bool
 
 /// The user data of the blocks, each with its check word behind it, that take `size` octets without
 /// them; or the number of the first block whose check word is wrong.
-#[inline]
+#[inline(always)]
 fn read_blocks(octets: &[u8], size: usize) -> Result<ArrayVec<u8, MAX_USER>, usize>
     requires fits { size ≤ 250 }
     requires sized { length octets.now ≡ size + 2 * block_count size }
@@ -41,7 +41,7 @@ fn read_blocks(octets: &[u8], size: usize) -> Result<ArrayVec<u8, MAX_USER>, usi
 }
 
 /// The frame that the unit spells, or the first fault of the order.
-#[inline]
+#[inline(always)]
 fn read(unit: &[u8]) -> Result<Frame, FrameFault>
     ensures found { IfOk result (Spells unit.now) }
     ensures fault { IfErr result (IsFirstFault unit.now) }
@@ -75,6 +75,7 @@ fn read(unit: &[u8]) -> Result<Frame, FrameFault>
 
 /// The frame that the unit of octets spells, and a fault where it spells none: the first that fits
 /// in the order of [`FrameFault`].
+#[inline(always)]
 pub fn read_frame(unit: &[u8]) -> Result<Frame, FrameFault>
     ensures found { IfOk result (Spells unit.now) }
     ensures only { (frame : FrameValue) → Spells unit.now frame → result ≡ Ok frame }

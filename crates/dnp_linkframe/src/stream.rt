@@ -1,11 +1,12 @@
 //! Frames in a stream of octets that stands there as one list.
 
-ghost use Rattle.std.specs.Prelude.{◌≡◌, ℕ, ◌<◌, ◌≤◌, List, ◌++◌, length, drop, slice_index, IsTrue, ◌↔◌, OnOk, OnErr, IfOk, ◌+◌, vec_len, vec_capacity};
+ghost use Rattle.std.specs.Prelude.{◌≡◌, ℕ, ◌<◌, ◌≤◌, List, ◌++◌, length, drop, slice_index, IsTrue, ◌↔◌, OnOk, OnErr, IfOk, Ok, ◌+◌, vec_len, vec_capacity};
+ghost use Rattle.dnp_linkframe.specs.Frames.{Spells};
 ghost use Rattle.dnp_linkframe.specs.Stream.{HasHeader, said_size, Gives};
 ghost use Rattle.dnp_linkframe.specs.declared.frame.Frame.{Frame as FrameValue};
 
 use crate::check::check_word;
-use crate::frame::{BLOCK, CHECKED_HEADER, Frame, LENGTH_OF_NONE};
+use crate::frame::{BLOCK, CHECKED_HEADER, Frame, FrameFault, LENGTH_OF_NONE};
 use crate::reading::read_frame;
 use std::alloc::AllocError;
 
@@ -30,6 +31,15 @@ fn size_of_frame(stream: &[u8]) -> usize
 {
     let user = usize::from(stream[2] - LENGTH_OF_NONE);
     CHECKED_HEADER + user + 2 * user.div_ceil(BLOCK)
+}
+
+/// `read_frame` as a call of its own: else its room for a frame is made ready at each octet of noise.
+#[inline(never)]
+fn read_apart(unit: &[u8]) -> Result<Frame, FrameFault>
+    ensures found { IfOk result (Spells unit.now) }
+    ensures only { (frame : FrameValue) → Spells unit.now frame → result ≡ Ok frame }
+{
+    read_frame(unit)
 }
 
 /// Appends the frames that the stream gives, and answers how many of its octets are done with: the
@@ -57,7 +67,7 @@ pub(crate) fn take_frames(stream: &[u8], out: &mut Vec<Frame>) -> Result<usize, 
         if rest.len() < size {
             break;
         }
-        if let Ok(frame) = read_frame(&rest[..size]) {
+        if let Ok(frame) = read_apart(&rest[..size]) {
             out.push(frame)?;
         }
         done += size;

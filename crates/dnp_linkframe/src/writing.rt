@@ -40,7 +40,7 @@ fn header_of(frame: &Frame) -> [u8; 8]
 }
 
 /// Appends the part and its check word, low octet first.
-#[inline]
+#[inline(always)]
 fn push_checked(unit: &mut ArrayVec<u8, MAX_FRAME>, part: &[u8])
     requires { length unit.old.items + length part.now + 2 ≤ 292 }
     ensures { (octets : List ℕ) × HasCheck part.now octets × (unit.new.items ≡ unit.old.items ++ octets) }
@@ -51,6 +51,7 @@ fn push_checked(unit: &mut ArrayVec<u8, MAX_FRAME>, part: &[u8])
 }
 
 /// The octets that spell the frame: at most 292, and the only ones that do.
+#[inline]
 pub fn write_frame(frame: &Frame) -> ArrayVec<u8, MAX_FRAME>
     ensures spells { Spells result.items frame.now }
     ensures only { (unit : List ℕ) → Spells unit frame.now → unit ≡ result.items }

@@ -1,4 +1,4 @@
-use Rattle.std.proofs.Common.{◌≡◌, ℕ, List, length, take, ◌-◌, eqb-true, eq-eqb, subst, sym, ◌∙◌, arith}
+use Rattle.std.proofs.Common.{◌≡◌, ℕ, length, take, ◌-◌, eqb-true, eq-eqb, subst, sym, ◌∙◌, arith}
 use Rattle.dnp_linkframe.specs.CheckWord.{IsCheckWord}
 use Rattle.dnp_linkframe.proofs.LastTwo.{checked_from, checked_word}
 use Rattle.dnp_linkframe.proofs.reading.is_checked.Goals as goal

@@ -1,7 +1,7 @@
 -- The tests before have ruled out each earlier fault; what is read is what the cells say.
-use Rattle.std.proofs.Common.{◌≡◌, ℕ, ◌+◌, ◌*◌, ◌-◌, ◌<◌, ◌≤◌, List, length, drop, subst, arith, get_or, refl}
+use Rattle.std.proofs.Common.{ℕ, List, drop, subst, arith, refl}
 use Rattle.std.proofs.lemmas.List.{take_rest}
-use Rattle.dnp_linkframe.specs.Frames.{IsFirstUnchecked, IsChecked, AreChecked, blocks}
+use Rattle.dnp_linkframe.specs.Frames.{IsFirstUnchecked, AreChecked, blocks}
 use Rattle.dnp_linkframe.proofs.Units.{spells_from, first_unchecked}
 use Rattle.dnp_linkframe.proofs.reading.read.Goals as goal
 

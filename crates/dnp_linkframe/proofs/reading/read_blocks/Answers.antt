@@ -1,6 +1,6 @@
-use Rattle.std.proofs.Common.{rules, ◌≡◌, ℕ, ◌+◌, ◌*◌, ◌/◌, ◌-◌, ◌<◌, ◌≤◌, List, [], ◌∷◌, ◌++◌, length, take, subst, sym, refl, ap, ◌∙◌, arith, min, suc}
+use Rattle.std.proofs.Common.{rules, ◌≡◌, ℕ, ◌-◌, [], ◌++◌, length, take, subst, sym, ap, ◌∙◌, arith, min, suc}
 use Rattle.std.proofs.lemmas.List.{length-append}
-use Rattle.dnp_linkframe.specs.Frames.{IsFirstUnchecked, IsChecked, AreChecked, blocks}
+use Rattle.dnp_linkframe.specs.Frames.{IsFirstUnchecked, IsChecked}
 use Rattle.dnp_linkframe.proofs.ReadBlocks.{Reads, reads_none, reads_more, reads_all, reads_bad, leaves_now, Leaves}
 use Rattle.dnp_linkframe.proofs.reading.read_blocks.Goals as goal
 

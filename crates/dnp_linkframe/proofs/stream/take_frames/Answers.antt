@@ -3,7 +3,6 @@ use Rattle.std.proofs.Common.{◌≡◌, ℕ, ◌+◌, ◌-◌, ◌<◌, ◌≤�
 use Rattle.std.proofs.lemmas.List.{take_rest, length-drop}
 use Rattle.dnp_linkframe.specs.declared.frame.Frame.{Frame}
 use Rattle.dnp_linkframe.specs.Stream.{NoHeader, NoLength, Damaged, Whole, HasHeader, IsFront, Gives}
-use Rattle.dnp_linkframe.proofs.Units.{no_fault}
 use Rattle.dnp_linkframe.proofs.Fronts.{damaged_some, whole_some}
 use Rattle.dnp_linkframe.proofs.Pieces.{Took, took_none, took_more, took_past, took_short}
 use Rattle.dnp_linkframe.proofs.Refused.{on_err}
@@ -66,14 +65,14 @@ loop-done-preserved c =
     let rest = take (length stream - done) (drop done stream) in
     let left = take_rest stream done in
     let room = c.loop-done.invariant.room in
-    elim c.match-read_frame.branch [
+    elim c.match-read_apart.branch [
       | in-Ok+in_ok-push w ↦
           let frame = w.in-Ok.frame in
           let front : IsFront rest (Whole frame size) = (c.if-rest-size.false, w.in-Ok.ensures.found) in
           let here : IsFront (drop done stream) (Whole frame size) = subst (λ (t : List ℕ). IsFront t (Whole frame size)) left front in
-          let items : c.match-read_frame.out.items ≡ c.loop-done.out.items ++ frame ∷ [] = cc (w.out-is, w.in_ok-push.ensures.items) in
+          let items : c.match-read_apart.out.items ≡ c.loop-done.out.items ++ frame ∷ [] = cc (w.out-is, w.in_ok-push.ensures.items) in
           let grown : vec_capacity c.loop-done.out ≤ vec_capacity w.push.new.self = w.push.ensures.capacity in
-          let same : vec_capacity c.match-read_frame.out ≡ vec_capacity w.push.new.self = cc w.out-is in
+          let same : vec_capacity c.match-read_apart.out ≡ vec_capacity w.push.new.self = cc w.out-is in
           record {
             took =
                 subst (λ (x : List Frame). Took stream (done + size) c.args.out.now.items x) (sym items)
@@ -86,11 +85,11 @@ loop-done-preserved c =
             record { header = c.has_header.ensures.0 c.if-not-has_header.false; long = c.if-rest-lt-LENGTH_OF_NONE.false },
             c.size_of_frame-size.ensures,
             c.if-rest-size.false,
-            λ frame s. no_fault (take size rest) frame s w.in_default.field-0 w.in_default.ensures.fault.0,
+            λ frame s. let same = w.in_default.ensures.only frame s in cc,
           ) in
           let here : IsFront (drop done stream) (Damaged size) = subst (λ (t : List ℕ). IsFront t (Damaged size)) left front in
-          let items : c.match-read_frame.out.items ≡ c.loop-done.out.items = cc w.out-is in
-          let same : vec_capacity c.match-read_frame.out ≡ vec_capacity c.loop-done.out = cc w.out-is in
+          let items : c.match-read_apart.out.items ≡ c.loop-done.out.items = cc w.out-is in
+          let same : vec_capacity c.match-read_apart.out ≡ vec_capacity c.loop-done.out = cc w.out-is in
           record {
             took =
                 subst (λ (x : List Frame). Took stream (done + size) c.args.out.now.items x) (sym items)

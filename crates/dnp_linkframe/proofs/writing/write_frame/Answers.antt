@@ -1,7 +1,7 @@
 -- The header has its check word first; then each block adds its own. Octets with check words have one spelling.
-use Rattle.std.proofs.Common.{◌≡◌, ℕ, ◌+◌, ◌≤◌, List, ◌∷◌, ◌++◌, length, arith, rules, refl, ◌∙◌, ap, subst, min}
+use Rattle.std.proofs.Common.{◌≡◌, ℕ, List, ◌∷◌, length, arith, rules, refl, ◌∙◌, subst, min}
 use Rattle.dnp_linkframe.specs.Frames.{HasCheck, header, blocks}
-use Rattle.dnp_linkframe.proofs.Blocks.{Writes, writes_first, writes_more, writes_all, one_joined}
+use Rattle.dnp_linkframe.proofs.Blocks.{writes_first, writes_more, writes_all, one_joined}
 use Rattle.dnp_linkframe.proofs.writing.write_frame.Goals as goal
 
 pub loop-block-init : goal.loop-block-init
