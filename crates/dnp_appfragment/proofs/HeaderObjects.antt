@@ -176,6 +176,7 @@ bit_only g v r octets k row group variation (inl bit) = record {
   group = refl;
   variation = refl;
   counted = bit.counted;
+  span = bit.span;
   index = bit.index;
   index_is = bit.index_is;
   there = bit.there;

@@ -14,13 +14,6 @@ use Rattle.dnp_appfragment.specs.declared.table.Form.{Form}
 use Rattle.dnp_appfragment.specs.declared.table.Form.TheVariants as form
 use Rattle.dnp_appfragment.specs.Headers.{Head, IsHeader, number, limit, count_of, prefix_size}
 
--- in a span the index of object k is counted from the start, and elsewhere not
-abbrev pub IsCounted : Range → ℕ → ℕ → Type 0
-IsCounted range.All k index = ⊥
-IsCounted (range.Span wide first last) k index = index ≡ first + k
-IsCounted (range.Count wide n) k index = ⊥
-IsCounted (range.Indexed wide n) k index = ⊥
-
 -- the range is a span
 abbrev pub IsSpan : Range → Type 0
 IsSpan range.All = ⊥
@@ -59,8 +52,9 @@ pub record IsBit (h : Head) (k : ℕ) (row : Row) : Type 0 where
   pub group : h.group ≡ 1
   pub variation : h.variation ≡ 1
   pub counted : k < count_of h.range
+  pub span : IsSpan h.range
   pub index : ℕ
-  pub index_is : IsCounted h.range k index
+  pub index_is : IsIndex h.range k index
   pub there : k / 8 < length h.octets
   pub row_is : row ≡ record { kind = Binary; index = index; flags = 1; value = pos (bit_at (slice_index h.octets (k / 8)) (k % 8)); time = None }
 

@@ -1,6 +1,7 @@
 -- The points of a station with their readings and last reports, and what each call does to them. Each
 -- call is one function here: the contracts of the calls and the laws are stated by it.
-use Rattle.std.specs.Prelude.{◌≡◌, ℕ, zero, suc, ◌+◌, ◌-◌, Bool, false, ◌&&◌, nat_lt, nat_le, if◌then◌else◌, List, [], ◌∷◌, map, length, Option, Some, None, Result, Ok, Err, slice_get, bit_and, bit_or, ◌<◌, ⊤}
+use Rattle.std.specs.Prelude.{◌≡◌, ℕ, zero, suc, ◌+◌, ◌-◌, Bool, false, ◌&&◌, nat_lt, nat_le, if◌then◌else◌, List, [], ◌∷◌, map, length, Option, Some, None, Result, Ok, Err, slice_get, bit_and, bit_or, ⊤}
+use Rattle.dnp_objects.specs.Faults.{IsFirstOf}
 use Rattle.dnp_objects.specs.declared.row.Kind.{Kind}
 use Rattle.dnp_objects.specs.declared.row.Kind.TheVariants.{Binary, Counter, Analog}
 use Rattle.dnp_objects.specs.declared.lane.LaneRow.{LaneRow}
@@ -111,11 +112,8 @@ place NoPoint = 0
 place ValueRange = 1
 place TimeRange = 2
 
--- the fault is a cause, and none of those before it in the order is
 abbrev pub IsFirst : Database → Kind → ℕ → Reading → ChangeFault → Type 0
-IsFirst database kind index reading fault =
-    IsChangeFault database kind index reading fault
-    × ((other : ChangeFault) → place other < place fault → IsChangeFault database kind index reading other → ⊥)
+IsFirst database kind index reading fault = IsFirstOf place (IsChangeFault database kind index reading) fault
 
 -- a point that can have the reading, or the first cause to refuse it
 abbrev pub checked : Option PointState → Kind → Reading → Result PointState ChangeFault

@@ -1,6 +1,7 @@
 -- The plan of a station's points, and what is no plan. Blocks of different kinds have nothing to do
 -- with one another; within a kind each index belongs to one point at most.
 use Rattle.std.specs.Prelude.{ℕ, ◌+◌, ◌<◌, ◌^◌, ◌⊎◌, List, length, Any}
+use Rattle.dnp_objects.specs.Faults.{IsFirstOf}
 use Rattle.dnp_objects.specs.declared.row.Kind.{Kind}
 use Rattle.dnp_objects.specs.declared.row.Kind.TheVariants.{Binary, Counter, Analog}
 use Rattle.dnp_pointdb.specs.declared.point.Point.{Point}
@@ -57,9 +58,8 @@ place TooMany = 1
 place TooWide = 2
 place Overlap = 3
 
--- the fault is a cause, and none of those before it in the order is
 abbrev pub IsFirst : Plan → PlanFault → Type 0
-IsFirst plan fault = IsPlanFault plan fault × ((other : PlanFault) → place other < place fault → IsPlanFault plan other → ⊥)
+IsFirst plan fault = IsFirstOf place (IsPlanFault plan) fault
 
 -- nothing is the matter with the blocks
 abbrev pub IsSound : Plan → Type 0
