@@ -56,8 +56,7 @@ pub(crate) fn form_of(function: Function) -> Form
     }
 }
 
-/// What the object takes in fragments of this form, if it stands in the table for them: a line for
-/// each form and object.
+/// What the object takes in fragments of this form, if it stands in the table for them.
 #[tactic(auto, unfolding(crate::specs::Table::takes_of, crate::specs::Table::rules, dnp_objects::specs::Objects::objects))]
 pub(crate) fn takes_of(form: Form, group: u8, variation: u8) -> Option<Takes>
     ensures { result ≡ spec.takes_of form group variation }

@@ -47,7 +47,8 @@ macro_rules! shape {
     };
 }
 
-/// What the object of this group and variation carries: the object library, a line for each object.
+/// What the object of this group and variation carries: the object library, a line for each object. It
+/// stands in its callers, since each row that is read or written is looked up.
 #[inline(always)]
 #[tactic(auto, unfolding(crate::specs::Objects::content_of, crate::specs::Objects::objects))]
 fn line_of(group: u8, variation: u8) -> Option<Content>
@@ -124,6 +125,18 @@ pub fn row_shape(group: u8, variation: u8) -> Option<Shape>
     match content_of(group, variation)? {
         Content::Row(shape) => Some(shape),
         Content::WrittenRow(_) | Content::Block | Content::Setpoint(_) | Content::Other(_) => None,
+    }
+}
+
+/// How the row lies that is written as an object of this group and variation; `None` where none is.
+#[inline(always)]
+pub(crate) fn written_shape(group: u8, variation: u8) -> Option<Shape>
+    ensures value { result ≡ spec.shape_written group variation }
+    ensures sound { IfSome result spec.IsShape }
+{
+    match content_of(group, variation)? {
+        Content::Row(shape) | Content::WrittenRow(shape) => Some(shape),
+        Content::Block | Content::Setpoint(_) | Content::Other(_) => None,
     }
 }
 

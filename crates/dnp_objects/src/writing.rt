@@ -10,7 +10,7 @@ ghost use Rattle.dnp_objects.specs.Rows as spec;
 
 use crate::fault::ObjectFault;
 use crate::row::{Kind, Row};
-use crate::table::{Content, Shape, content_of};
+use crate::table::{Shape, written_shape};
 use arrayvec::ArrayVec;
 
 /// Whether the value is one of this kind, in so many octets.
@@ -112,10 +112,7 @@ fn octets_of(shape: Shape, row: &Row) -> ArrayVec<u8, 11>
 pub fn fits_object(group: u8, variation: u8, row: &Row) -> bool
     ensures { IsTrue result ↔ spec.Fits group variation row.now }
 {
-    match content_of(group, variation) {
-        Some(Content::Row(shape) | Content::WrittenRow(shape)) => row_fits(shape, row),
-        _ => false,
-    }
+    written_shape(group, variation).is_some_and(|shape| row_fits(shape, row))
 }
 
 /// The octets, or the first cause of a refusal.
@@ -123,9 +120,7 @@ fn write(group: u8, variation: u8, row: &Row) -> Result<ArrayVec<u8, 11>, Object
     ensures found { IfOk result (λ written. spec.Writes group variation row.now written.items) }
     ensures fault { IfErr result (IsFirst (spec.IsWriteFault group variation row.now)) }
 {
-    let (Some(Content::Row(shape)) | Some(Content::WrittenRow(shape))) = content_of(
-        group, variation,
-    ) else {
+    let Some(shape) = written_shape(group, variation) else {
         return Err(ObjectFault::ObjectUnknown);
     };
     if !row_fits(shape, row) {
