@@ -266,9 +266,9 @@ fn of_header(
     finished(builder, control)
 }
 
-/// What a master writes, enables and asks for beside its polls.
+/// WRITEs of two internal indications: of DEVICE_RESTART, and of another.
 #[test]
-fn requests_of_one_header(rt: HostRuntime) {
+fn writes_of_an_indication(rt: HostRuntime) {
     for (control, bit, octets) in [
         (0xC0, 7, [0xC0, 0x02, 0x50, 0x01, 0x00, 0x07, 0x07, 0x00]),
         (0xC1, 6, [0xC1, 0x02, 0x50, 0x01, 0x00, 0x06, 0x06, 0x00]),
@@ -288,6 +288,10 @@ fn requests_of_one_header(rt: HostRuntime) {
             octets.as_slice()
         );
     }
+}
+
+#[test]
+fn a_write_of_the_time(rt: HostRuntime) {
     let time = Header {
         group: 50,
         variation: 1,
@@ -301,6 +305,11 @@ fn requests_of_one_header(rt: HostRuntime) {
         ]
         .as_slice()
     );
+}
+
+/// Unsolicited responses enabled, a poll, a READ of values, and a measurement of the delay.
+#[test]
+fn requests_without_objects(rt: HostRuntime) {
     let class_1 = Header {
         group: 60,
         variation: 2,
