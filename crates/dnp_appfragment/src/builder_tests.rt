@@ -134,9 +134,9 @@ fn events_of_two_objects_stand_apart(rt: HostRuntime) {
         Ok(())
     );
     assert_eq!(rt;
-        finished(builder, 0xC0).as_slice(),
+        finished(builder, 0xE1).as_slice(),
         [
-            0xC0, 0x81, 0, 0, 2, 1, 0x28, 1, 0, 0, 0, 0x81, 0x16, 1, 0x28, 1, 0, 0, 0, 1, 7, 0, 0,
+            0xE1, 0x81, 0, 0, 2, 1, 0x28, 1, 0, 0, 0, 0x81, 0x16, 1, 0x28, 1, 0, 0, 0, 1, 7, 0, 0,
             0
         ]
         .as_slice()
@@ -156,8 +156,10 @@ fn points_of_following_indexes_join(rt: HostRuntime) {
     assert_eq!(rt; point(&rt, &mut builder, 1, &off(1)), Ok(()));
     assert_eq!(rt; point(&rt, &mut builder, 1, &off(2)), Ok(()));
     assert_eq!(rt;
-        finished(builder, 0xC0).as_slice(),
-        [0xC0, 0x81, 0, 0, 1, 2, 1, 1, 0, 2, 0, 2, 2].as_slice()
+        builder
+            .finish(Control::read(0xC0), Iin::DEVICE_RESTART)
+            .as_slice(),
+        [0xC0, 0x81, 0x80, 0, 1, 2, 1, 1, 0, 2, 0, 2, 2].as_slice()
     );
 }
 
@@ -201,12 +203,29 @@ fn filled(rt: &impl Abort) -> Builder
 
 #[test]
 fn events_fill_a_fragment(rt: HostRuntime) {
-    let octets = finished(filled(&rt), 0xA0);
+    let octets = filled(&rt).finish(Control::read(0xA0), Iin::CLASS_1_EVENTS);
     assert_eq!(rt; octets.len(), 2_037);
     let front: Option<&[u8]> = octets.get(..9);
     assert_eq!(rt;
         front,
-        Some([0xA0, 0x81, 0, 0, 0x20, 3, 0x28, 0x9C, 0].as_slice())
+        Some([0xA0, 0x81, 0x02, 0, 0x20, 3, 0x28, 0x9C, 0].as_slice())
+    );
+}
+
+/// The one event for which that fragment had no room.
+#[test]
+fn an_event_in_a_second_fragment(rt: HostRuntime) {
+    let mut builder = response();
+    assert_eq!(rt;
+        event(&rt, &mut builder, &row(Kind::Analog, 156, 0, Some(1))),
+        Ok(())
+    );
+    assert_eq!(rt;
+        finished(builder, 0x61).as_slice(),
+        [
+            0x61, 0x81, 0, 0, 0x20, 3, 0x28, 1, 0, 0x9C, 0, 1, 0, 0, 0, 0, 1, 0, 0, 0, 0, 0
+        ]
+        .as_slice()
     );
 }
 
@@ -533,7 +552,7 @@ fn a_setpoint_is_selected_and_operated(rt: HostRuntime) {
     );
 }
 
-/// A block operated directly, and the answers that other statuses give it.
+/// A block operated after its SELECT or at once, and the answers that statuses give it.
 #[test]
 fn a_block_is_answered_with_its_status(rt: HostRuntime) {
     let command = Command::Block {
@@ -543,21 +562,20 @@ fn a_block_is_answered_with_its_status(rt: HostRuntime) {
         on_ms: 0,
         off_ms: 0,
     };
-    assert_eq!(rt;
-        of_command(
-            &rt,
-            Function::DirectOperateNr,
-            &command,
-            Status::SUCCESS,
-            0xC8
-        )
-        .as_slice(),
-        [
-            0xC8, 0x06, 0x0C, 0x01, 0x28, 0x01, 0x00, 0x05, 0x00, 0x03, 0x01, 0x00, 0x00, 0x00,
-            0x00, 0x00, 0x00, 0x00, 0x00, 0x00
-        ]
-        .as_slice()
-    );
+    let done = Status::SUCCESS;
+    for (function, control, code) in [
+        (Function::Operate, 0xC4, 0x04),
+        (Function::DirectOperateNr, 0xC8, 0x06),
+    ] {
+        assert_eq!(rt;
+            of_command(&rt, function, &command, done, control).as_slice(),
+            [
+                control, code, 0x0C, 0x01, 0x28, 0x01, 0x00, 0x05, 0x00, 0x03, 0x01, 0x00, 0x00,
+                0x00, 0x00, 0x00, 0x00, 0x00, 0x00, 0x00
+            ]
+            .as_slice()
+        );
+    }
     for (status, last) in [
         (Status::SUCCESS, 0x00),
         (Status::TIMEOUT, 0x01),
