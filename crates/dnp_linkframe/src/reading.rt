@@ -75,7 +75,7 @@ fn read(unit: &[u8]) -> Result<Frame, FrameFault>
 
 /// The frame that the unit of octets spells, and a fault where it spells none: the first that fits
 /// in the order of [`FrameFault`].
-// It stands in its callers, so that a frame is made where it is wanted and not moved there.
+// It stands in its callers: as a call of its own it was measured slower for short frames.
 #[inline(always)]
 pub fn read_frame(unit: &[u8]) -> Result<Frame, FrameFault>
     ensures found { IfOk result (Spells unit.now) }

@@ -33,7 +33,7 @@ fn size_of_frame(stream: &[u8]) -> usize
     CHECKED_HEADER + user + 2 * user.div_ceil(BLOCK)
 }
 
-/// `read_frame` as a call of its own: else its room for a frame is made ready at each octet of noise.
+/// `read_frame` as a call of its own: the loop over noise was measured slower with its body inside.
 #[inline(never)]
 fn read_apart(unit: &[u8]) -> Result<Frame, FrameFault>
     ensures found { IfOk result (Spells unit.now) }
