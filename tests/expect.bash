@@ -30,3 +30,14 @@ expect() {
     printf '%s' "$input" | "$dnp" "$@" >out 2>err || got=$?
     judge "$name" "$status" "$stdout" "$got"
 }
+
+# says NAME STDERR: holds standard error of the last case against what was expected, a line without its line feed.
+says() {
+    printf '%s' "${2:+$2$'\n'}" >want
+    if cmp -s want err; then
+        echo "ok $1"
+        return
+    fi
+    echo "FAILED $1"
+    printf '    expected on standard error  %q\n    came                        %q\n' "$(cat want)" "$(head -c 500 err)"
+}

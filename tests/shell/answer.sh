@@ -38,24 +38,29 @@ expect refuses-a-length-of-4 1 'refused 4 Length' "05 64 04 C4 0A 00 01 00 4E 95
 expect refuses-20-octets 1 'refused 5 Size' "${asked:0:59}$lf" answer
 expect refuses-a-wrong-block-check 1 'refused 6 BlockCheck 0' "${asked%51}52$lf" answer
 
-# What is refused as text
-expect refuses-two-spaces 1 "$text" "${asked/05 64/05  64}$lf" answer
-expect refuses-a-tab 1 "$text" "${asked/05 64/05$'\t'64}$lf" answer
-expect refuses-no-space 1 "$text" "${asked/05 64/0564}$lf" answer
-expect refuses-an-odd-digit 1 "$text" "${asked%1}$lf" answer
-expect refuses-another-letter 1 "$text" "${asked%1}G$lf" answer
-expect refuses-a-carriage-return 1 "$text" "$asked"$'\r'"$lf" answer
-expect refuses-a-space-at-the-end 1 "$text" "$asked $lf" answer
-expect refuses-a-space-at-the-start 1 "$text" " $asked$lf" answer
-expect refuses-two-line-feeds 1 "$text" "$asked$lf$lf" answer
-expect refuses-two-lines 1 "$text" "$asked$lf$asked$lf" answer
-expect refuses-what-is-no-text 1 "$text" $'\xff\xfe\n' answer
-# 667 octets are 2,000 characters, and 668 are 2,003.
+# What is refused as text, and what standard error says of it. 667 octets are 2,000 characters, and 668 are 2,003.
 long=$asked$(printf ' 00%.0s' {1..640})
 expect reads-2000-characters 1 'refused 5 Size' "$long$lf" answer
-expect refuses-2001-characters 1 "$text" "${long}0$lf" answer
-expect refuses-2003-characters 1 "$text" "$long 00$lf" answer
-expect refuses-a-long-input 1 "$text" "$(printf '00 %.0s' {1..100000})" answer
+says is-quiet-on-what-is-no-fault-of-the-text ''
+# refuses NAME INPUT WHY
+refuses() {
+    expect "refuses-$1" 1 "$text" "$2" answer
+    says "tells-of-$1" "dnp: standard input: $3"
+}
+refuses two-spaces "${asked/05 64/05  64}$lf" 'column 4: a space, where a hexadecimal digit belongs'
+refuses a-tab "${asked/05 64/05$'\t'64}$lf" 'column 3: a tab, where one space or the end belongs'
+refuses no-space "${asked/05 64/0564}$lf" "column 3: '6', where one space or the end belongs"
+refuses an-odd-digit "${asked%1}$lf" 'column 80: the line ends, where a hexadecimal digit belongs'
+refuses another-letter "${asked%1}G$lf" "column 80: 'G', where a hexadecimal digit belongs"
+refuses a-carriage-return "$asked"$'\r'"$lf" 'column 81: a carriage return, where one space or the end belongs'
+refuses a-space-at-the-end "$asked $lf" 'column 82: the line ends, where a hexadecimal digit belongs'
+refuses a-space-at-the-start " $asked$lf" 'column 1: a space, where a hexadecimal digit belongs'
+refuses two-line-feeds "$asked$lf$lf" 'column 81: a line feed, where one space or the end belongs'
+refuses two-lines "$asked$lf$asked$lf" 'column 81: a line feed, where one space or the end belongs'
+refuses what-is-no-text $'\xff\xfe\n' 'column 1: the octet FF, where a hexadecimal digit belongs'
+refuses 2001-characters "${long}0$lf" 'the line has more than 2,000 characters'
+refuses 2003-characters "$long 00$lf" 'the line has more than 2,000 characters'
+refuses a-long-input "$(printf '00 %.0s' {1..100000})" 'the line has more than 2,000 characters'
 
 # The command line
 for words in '' 'reply' 'answer --own' 'answer --own 65520' 'answer --own 99999999999999999999' 'answer --own +1' \
@@ -67,28 +72,48 @@ expect takes-no-space-in-an-address 2 '' "$asked$lf" answer --own ' 1'
 expect takes-no-argument-that-is-no-text 2 '' "$asked$lf" answer --own $'\xff'
 expect takes-the-last-address 0 'no answer' "$asked$lf" answer --own 65519 --peer 65519
 
-# Help
-for words in '--help' 'answer --help' 'help' 'help answer'; do
+# Help: what the program prints is what ./dnp prints where it is not built
+for words in '--help' 'answer --help' 'help' 'help answer' '--version'; do
     got=0
-    "$dnp" $words >all 2>err </dev/null || got=$?
-    grep -o 'Usage: dnp' all >out
-    judge "helps:dnp $words" 0 'Usage: dnp' "$got"
+    "$dnp" $words >out 2>err </dev/null || got=$?
+    case $words in
+    *answer*) file=answer ;;
+    *version*) file=version ;;
+    *) file=dnp ;;
+    esac
+    judge "helps:dnp $words" 0 "$(cat "$top/crates/dnp/help/$file")" "$got"
+done
+mkdir -p unbuilt/crates/dnp
+cp "$dnp" unbuilt/dnp
+cp -r "$top/crates/dnp/help" unbuilt/crates/dnp/help
+for words in '--help:dnp' 'answer --help:answer' '--version:version'; do
+    got=0
+    PATH=/usr/bin:/bin unbuilt/dnp ${words%:*} >out 2>err </dev/null || got=$?
+    judge "helps-without-a-build:dnp ${words%:*}" 0 "$(cat "$top/crates/dnp/help/${words#*:}")" "$got"
 done
 
-# A lost output
+# A lost input or output
 : >out
 got=0
 "$dnp" answer <<<"$asked" >/dev/full 2>err || got=$?
 judge fails-where-the-output-is-full 3 '' "$got"
+says tells-that-the-output-is-full 'dnp: standard output: No space left on device (os error 28)'
 got=0
 "$dnp" answer <<<"$asked" >&- 2>err || got=$?
 judge fails-where-the-output-is-closed 3 '' "$got"
+says tells-that-the-output-is-closed 'dnp: standard output: Bad file descriptor (os error 9)'
 got=0
 "$dnp" answer <&- >out 2>err || got=$?
 judge fails-where-the-input-is-closed 3 '' "$got"
+says tells-that-the-input-is-closed 'dnp: standard input: Bad file descriptor (os error 9)'
+got=0
+"$dnp" answer <"$room" >out 2>err || got=$?
+judge fails-where-the-input-is-a-folder 3 '' "$got"
+says tells-that-the-input-is-a-folder 'dnp: standard input: Is a directory (os error 21)'
 got=0
 "$dnp" answer --help >/dev/full 2>err || got=$?
 judge fails-where-help-is-lost 3 '' "$got"
+says tells-that-help-is-lost 'dnp: standard output: No space left on device (os error 28)'
 
 # Other folders
 ln -s "$dnp" linked

@@ -1,10 +1,9 @@
 //! `dnp answer`: the outstation's answer to one link frame.
 
-use crate::address::read_address;
 use crate::exit;
-use crate::input::read_text;
+use crate::fault::{Noted, lost};
 use clap::{Arg, ArgMatches, Command};
-use dnp_daemons::answer_line;
+use dnp_daemons::{AnswerFault, answer_line, read_address, read_text, text_fault};
 use std::alloc::{AllocError, Global};
 use std::io;
 use std::process::ExitCode;
@@ -36,12 +35,15 @@ OUTPUT
     'refused N REASON', where the input is no frame: 0 Text (not written as above), 1 Short,
     2 Start, 3 HeaderCheck, 4 Length, 5 Size, 6 BlockCheck B (B is the number of the first
     data block with a wrong check word, from 0).
+  With 'refused 0 Text' a line on standard error says in which column the input stops being
+  written as above, and why.
 
 EXIT STATUS
   0  the frame was read: there is an answer, or there is none to give
   1  the input was refused
   2  the command line is wrong
-  3  the program failed: no memory, or the input or the output was lost";
+  3  the program failed: out of memory, or the input or the output was lost; a line on
+     standard error says which, and why";
 
 const NO_ADDRESS: &str = "\
 not a decimal number from 0 to 65519
@@ -78,9 +80,35 @@ pub(crate) fn run<R: AllocGlobal + Input + Print + Eprint>(
     let Some(peer) = address_given(rt, given, "peer") else {
         return Ok(ExitCode::from(exit::USAGE));
     };
-    let text = read_text(rt.alloc(), rt.reader())?;
-    let is_read = answer_line(text.as_slice(), own, peer, &mut io::writer(rt))?;
-    Ok(ExitCode::from(if is_read { exit::DONE } else { exit::REFUSED }))
+    let text = match read_text(rt.alloc(), rt.reader()) {
+        Ok(text) => text,
+        Err(cause) => return Ok(lost(rt, "standard input", &cause)),
+    };
+    let mut out = Noted::new(io::writer(rt));
+    match answer_line(text.as_slice(), own, peer, &mut out) {
+        Ok(true) => Ok(ExitCode::from(exit::DONE)),
+        Ok(false) => {
+            explain(rt, text.as_slice());
+            Ok(ExitCode::from(exit::REFUSED))
+        }
+        Err(fault) => Ok(unwritten(rt, fault, out.cause())),
+    }
+}
+
+/// Says on standard error where and why a text is no line of octets, if it isn't.
+fn explain<R: Eprint>(rt: &R, text: &[u8]) {
+    if let Some(fault) = text_fault(text) {
+        let _ = eprintln!(rt; "dnp: standard input: {fault}");
+    }
+}
+
+/// Says on standard error why the answer was not written, and gives the exit status of a fault.
+fn unwritten<R: Eprint>(rt: &R, fault: AnswerFault, cause: Option<&io::Error>) -> ExitCode {
+    if let Some(cause) = cause {
+        return lost(rt, "standard output", cause);
+    }
+    let _ = eprintln!(rt; "dnp: standard output: {fault}");
+    ExitCode::from(exit::FAULT)
 }
 
 /// The address that an option gives. Where it gives none, what is wrong with it is printed.

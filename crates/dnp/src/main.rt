@@ -3,11 +3,11 @@
 //! Where standard error is lost, the exit status alone tells what was wrong.
 #![tactic(auto)]
 
-mod address;
 mod answer;
 mod exit;
-mod input;
+mod fault;
 
+use crate::fault::lost;
 use clap::error::ErrorKind;
 use clap::{ArgMatches, Command};
 use std::alloc::{AllocError, Global};
@@ -21,7 +21,10 @@ const AFTER: &str = "\
 Each subcommand has a help text of its own, such as 'dnp answer --help'.
 
 Exit status: 2 where the command line is wrong, and 3 where the program itself failed,
-as for want of memory. The others are each subcommand's own.";
+as when it is out of memory. The others are each subcommand's own.";
+
+/// What `dnp --version` prints after the program's name.
+const VERSION: &str = "0.1.0";
 
 fn main(rt: HostRuntime) -> ExitCode {
     match run(&rt) {
@@ -54,6 +57,7 @@ fn command<'a>(alloc: Global) -> Result<Command<'a>, AllocError> {
     Command::new(alloc, "dnp")
         .about(ABOUT)
         .after_help(AFTER)
+        .version(VERSION)
         .subcommand_required(true)
         .arg_required_else_help(true)
         .subcommand(answer::command(alloc)?)
@@ -73,9 +77,10 @@ fn dispatch<R: AllocGlobal + Input + Print + Eprint>(
 /// Prints what `clap` has to say in place of matches: a help text on standard output, or what is wrong
 /// with the command line on standard error.
 fn refuse<R: Print + Eprint>(rt: &R, error: &clap::Error) -> anyhow::Result<ExitCode> {
-    let printed = error.print(rt);
-    if !error.use_stderr() {
-        printed?;
+    if let Err(cause) = error.print(rt)
+        && !error.use_stderr()
+    {
+        return Ok(lost(rt, "standard output", &cause));
     }
     Ok(ExitCode::from(match error.kind() {
         ErrorKind::DisplayHelp | ErrorKind::DisplayVersion => exit::DONE,

@@ -4,3 +4,4 @@ mod OneAnswer
 mod Spaced
 mod SpacedPieces
 mod SpacedWriting
+mod TextPlaces

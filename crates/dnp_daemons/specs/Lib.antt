@@ -1,3 +1,5 @@
+pub mod Address
 pub mod OctetLines
+pub mod TextFaults
 pub mod Station
 pub mod AnswerLine

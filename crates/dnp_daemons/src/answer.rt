@@ -1,9 +1,10 @@
-ghost use Rattle.std.specs.Prelude.{◌≡◌, ℕ, ◌≤◌, List, [], ◌∷◌, ◌++◌, length, codes, IfOk, IfErr};
+ghost use Rattle.std.specs.Prelude.{◌≡◌, ℕ, ◌≤◌, Bool, List, [], ◌∷◌, ◌++◌, length, codes, IfOk, IfErr, OnErr};
 ghost use Rattle.std.specs.Io.KnownBytes.{Appends};
 ghost use Rattle.dnp_daemons.specs.AnswerLine.{IsAnswer, IsPrinted, answer_text, fault_text, is_frame};
 
 use crate::octets::{MAX_LINE, line_of_octets, read_octets};
 use crate::station::respond;
+use crate::writing::write_out;
 use arrayvec::ArrayVec;
 use dnp_linkframe::{FrameFault, MAX_FRAME, read_frame};
 use itoa::Buffer;
@@ -13,7 +14,7 @@ use thiserror::Error;
 /// Why a line was not answered.
 #[derive(Clone, Copy, Debug, PartialEq, Eq, Error)]
 pub enum AnswerFault {
-    /// The writer failed. A part of the line may have been written.
+    /// The writer failed. What was written is a beginning of the line.
     #[error("the answer could not be written")]
     WriteFailed,
     /// No memory was left. `answer_line` asks for none today.
@@ -115,8 +116,8 @@ impl Answer {
 /// It replies by the table of the data link layer, and answers a READ of class data (IEEE Std
 /// 1815-2012, data link layer and application layer).
 ///
-/// One line is written, by one call of `write_all`. A fault comes only where that call failed, and a
-/// part of the line may have been written then. No call asks for memory.
+/// One line is written. A fault comes only where the writer failed, and what was written then is a
+/// beginning of that line. No call asks for memory.
 pub fn answer_line<W: Write>(
     text: &[u8],
     own: u16,
@@ -125,9 +126,10 @@ pub fn answer_line<W: Write>(
 ) -> Result<bool, AnswerFault>
     ensures answered { IfOk result (λ accepted. (line : List ℕ) × IsPrinted text.now own peer line accepted × Appends (W.contents out.old) (W.contents out.new) line) }
     ensures fault { IfErr result (λ fault. fault ≡ AnswerFault.WriteFailed) }
+    ensures part { OnErr result ((part : List ℕ) × (rest : List ℕ) × (accepted : Bool) × IsPrinted text.now own peer (part ++ rest) accepted × Appends (W.contents out.old) (W.contents out.new) part) }
 {
     let answer = Answer::to(text, own, peer);
-    match out.write_all(&answer.line()) {
+    match write_out(&answer.line(), out) {
         Ok(()) => Ok(answer.is_frame()),
         Err(_) => Err(AnswerFault::WriteFailed),
     }

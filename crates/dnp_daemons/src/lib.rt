@@ -1,11 +1,18 @@
 //! What the program `dnp` does, as calls over values: `answer_line` answers one line of octets.
 #![tactic(auto)]
 
+mod address;
 mod answer;
+mod input;
 pub mod laws;
 mod octets;
 mod station;
 #[cfg(test)]
 mod tests;
+mod text;
+mod writing;
 
+pub use address::{LAST, read_address};
 pub use answer::{AnswerFault, answer_line};
+pub use input::{MOST, read_text};
+pub use text::{TextFault, text_fault};

@@ -8,7 +8,7 @@ ghost use Rattle.dnp_daemons.specs.OctetLines.{digit, octet_text, line_of, Begin
 use arrayvec::ArrayVec;
 
 /// The most characters of a line that is read, not counting a line feed.
-const MAX_CHARACTERS: usize = 2000;
+pub(crate) const MAX_CHARACTERS: usize = 2000;
 
 /// The most octets that a line of 2,000 characters has: three characters each, but for the last.
 pub(crate) const MAX_READ: usize = 667;
@@ -17,7 +17,7 @@ pub(crate) const MAX_READ: usize = 667;
 pub(crate) const MAX_LINE: usize = 876;
 
 /// The value of a hexadecimal digit of either case.
-fn digit_value(character: u8) -> Option<u8>
+pub(crate) fn digit_value(character: u8) -> Option<u8>
     ensures found { IfSome result (λ value. value < 16) }
     ensures same { IfSome result (λ value. to_ascii_uppercase character ≡ digit value) }
     ensures none { IfNone result ((value : ℕ) → value < 16 → to_ascii_uppercase character ≡ digit value → ⊥) }
@@ -66,7 +66,7 @@ fn digit_of(number: u8) -> u8
 }
 
 /// The text without the line feed that may end it.
-fn line_in(text: &[u8]) -> &[u8]
+pub(crate) fn line_in(text: &[u8]) -> &[u8]
     ensures { result.now ≡ without_line_feed text.now }
 {
     match text {

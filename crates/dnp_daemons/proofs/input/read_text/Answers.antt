@@ -1,7 +1,7 @@
 use Rattle.std.proofs.Common.{◌≡◌, IfSome, ℕ, List, Some, Option, take, [], ◌++◌}
 use Rattle.std.specs.Io.Take.{take_remaining, take_inner, take_limit}
 use Rattle.std.specs.declared.io.traits.Take.{Take}
-use Rattle.dnp.proofs.input.read_text.Goals as goal
+use Rattle.dnp_daemons.proofs.input.read_text.Goals as goal
 
 -- What a reader of at most 2,002 octets appends to nothing.
 appended : {R : Type 0} (remaining : R → Option (List ℕ)) (t : Take R) (reader : R) (start items octets : List ℕ) → start ≡ [] → take_inner t ≡ reader → take_limit t ≡ 2002 → IfSome (take_remaining remaining t) (λ xs. items ≡ start ++ xs) → remaining reader ≡ Some octets → items ≡ take 2002 octets

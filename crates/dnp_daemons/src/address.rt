@@ -1,7 +1,7 @@
 //! The address of a station, as the command line writes it.
 
 ghost use Rattle.std.specs.Prelude.{◌≡◌, ◌↔◌, ℕ, Some};
-ghost use Rattle.dnp.specs.Address.{IsAddressText};
+ghost use Rattle.dnp_daemons.specs.Address.{IsAddressText};
 
 /// The last address that one station alone may have: those above it are reserved or mean all stations.
 pub const LAST: u16 = 65_519;

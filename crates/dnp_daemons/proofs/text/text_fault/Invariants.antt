@@ -1,0 +1,6 @@
+use Rattle.std.proofs.Common.{◌≤◌}
+use Rattle.dnp_daemons.specs.TextFaults.{AreInPlace}
+use Rattle.dnp_daemons.proofs.text.text_fault.Given as goal
+
+abbrev pub invariant-loop-place : goal.invariant-loop-place
+invariant-loop-place l = AreInPlace l.line l.place × (l.place ≤ 2000)
