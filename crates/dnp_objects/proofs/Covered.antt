@@ -1,9 +1,7 @@
 -- Laws of lists that cover each other, whatever stands in them.
 use Rattle.std.proofs.Common.{ℕ, ◌+◌, ◌-◌, ◌<◌, ◌≤◌, ◌≡◌, ◌≢◌, ◌∙◌, sym, ap, refl, suc, Bool, true, false, cond, List, [], ◌∷◌, ◌++◌, length, map, take, drop, get_or, arith, inl, inr}
 use Rattle.std.specs.List.{count_by, All, AllPairs, Contains, filter, remove}
-use Rattle.std.specs.List.Sorted.{IsPermutation}
 use Rattle.std.proofs.lemmas.List.Sums.{sum_by-cons, sum_by-append, sum_by-take-le, sum_by-take-drop, sum_by-remove}
-use Rattle.std.proofs.lemmas.List.Sorted.{sum_by-IsPermutation}
 use Rattle.std.proofs.lemmas.List.Elements.{All-head, All-tail}
 use Rattle.std.proofs.lemmas.List.Edits.{length-remove, get_or-remove_below, get_or-remove_above}
 use Rattle.std.proofs.lemmas.List.{get_or_default}
@@ -32,9 +30,6 @@ count_by-map test f (x ∷ xs) =
 pub count_by-all : {A : Type 0} (xs : List A) → count_by (λ _. true) xs ≡ length xs
 count_by-all [] = refl
 count_by-all (x ∷ xs) = omega (arith, count_by-cons (λ _. true) x xs, count_by-all xs)
-
-pub count-append : {A : Type 0} (equal : A → A → Bool) (x : A) (xs ys : List A) → count equal x (xs ++ ys) ≡ count equal x xs + count equal x ys
-count-append equal x xs ys = count_by-append (equal x) xs ys
 
 -- a count over 0 has a member that passes
 pub count_by-some : {A : Type 0} (test : A → Bool) (xs : List A) → 0 < count_by test xs → (k : ℕ) × (k < length xs) × ((d : A) → test (get_or xs k d) ≡ true)
@@ -71,26 +66,6 @@ pub IsCoveredBy-append : {A : Type 0} (xs ys us vs : List A) → IsCoveredBy xs 
 IsCoveredBy-append xs ys us vs h k =
     record { at_most = λ test. omega (arith, h.at_most test, k.at_most test, count_by-append test xs us, count_by-append test ys vs) }
 
--- the same list behind both, and in front of both
-pub IsCoveredBy-append_left : {A : Type 0} (zs xs ys : List A) → IsCoveredBy xs ys → IsCoveredBy (xs ++ zs) (ys ++ zs)
-IsCoveredBy-append_left zs xs ys h = IsCoveredBy-append xs ys zs zs h (IsCoveredBy-refl zs)
-
-pub IsCoveredBy-append_right : {A : Type 0} (zs xs ys : List A) → IsCoveredBy xs ys → IsCoveredBy (zs ++ xs) (zs ++ ys)
-IsCoveredBy-append_right zs xs ys h = IsCoveredBy-append zs zs xs ys (IsCoveredBy-refl zs) h
-
--- the same list taken away from in front of both, and from behind both
-pub IsCoveredBy-cancel_right : {A : Type 0} (zs xs ys : List A) → IsCoveredBy (zs ++ xs) (zs ++ ys) → IsCoveredBy xs ys
-IsCoveredBy-cancel_right zs xs ys h =
-    record { at_most = λ test. omega (arith, h.at_most test, count_by-append test zs xs, count_by-append test zs ys) }
-
-pub IsCoveredBy-cancel_left : {A : Type 0} (zs xs ys : List A) → IsCoveredBy (xs ++ zs) (ys ++ zs) → IsCoveredBy xs ys
-IsCoveredBy-cancel_left zs xs ys h =
-    record { at_most = λ test. omega (arith, h.at_most test, count_by-append test xs zs, count_by-append test ys zs) }
-
-pub IsCoveredBy-cancel_cons : {A : Type 0} (x : A) (xs ys : List A) → IsCoveredBy (x ∷ xs) (x ∷ ys) → IsCoveredBy xs ys
-IsCoveredBy-cancel_cons x xs ys h =
-    record { at_most = λ test. omega (arith, h.at_most test, count_by-cons test x xs, count_by-cons test x ys) }
-
 -- a list is covered by itself with more behind it, and in front of it
 pub IsCoveredBy-in_front : {A : Type 0} (xs ys : List A) → IsCoveredBy xs (xs ++ ys)
 IsCoveredBy-in_front xs ys = record { at_most = λ test. omega (arith, count_by-append test xs ys) }
@@ -102,15 +77,9 @@ IsCoveredBy-behind xs ys = record { at_most = λ test. omega (arith, count_by-ap
 pub IsCoveredBy-more : {A : Type 0} (xs ys zs : List A) → IsCoveredBy xs ys → IsCoveredBy xs (ys ++ zs)
 IsCoveredBy-more xs ys zs h = IsCoveredBy-trans xs ys (ys ++ zs) h (IsCoveredBy-in_front ys zs)
 
-pub IsCoveredBy-fewer : {A : Type 0} (xs ys zs : List A) → IsCoveredBy (xs ++ zs) ys → IsCoveredBy xs ys
-IsCoveredBy-fewer xs ys zs h = IsCoveredBy-trans xs (xs ++ zs) ys (IsCoveredBy-in_front xs zs) h
-
 pub IsCoveredBy-map : {A B : Type 0} (f : A → B) (xs ys : List A) → IsCoveredBy xs ys → IsCoveredBy (map f xs) (map f ys)
 IsCoveredBy-map f xs ys h =
     record { at_most = λ test. omega (arith, h.at_most (λ x. test (f x)), count_by-map test f xs, count_by-map test f ys) }
-
-pub IsCoveredBy-permutation : {A : Type 0} (xs ys : List A) → IsPermutation xs ys → IsCoveredBy xs ys
-IsCoveredBy-permutation xs ys p = record { at_most = λ test. omega (arith, sum_by-IsPermutation (one_if test) xs ys p) }
 
 -- parts of a list
 pub IsCoveredBy-take : {A : Type 0} (n : ℕ) (xs : List A) → IsCoveredBy (take n xs) xs
@@ -127,9 +96,6 @@ IsCoveredBy-filter p (x ∷ xs) =
       | true ↦ IsCoveredBy-cons x (filter p xs) xs h
       | false ↦ IsCoveredBy-trans (filter p xs) xs (x ∷ xs) h (IsCoveredBy-behind (x ∷ []) xs)
     ]
-
-pub length-IsCoveredBy : {A : Type 0} (xs ys : List A) → IsCoveredBy xs ys → length xs ≤ length ys
-length-IsCoveredBy xs ys h = omega (arith, h.at_most (λ _. true), count_by-all xs, count_by-all ys)
 
 -- ---- a member at a time
 
@@ -182,18 +148,6 @@ Contains-from_count equal e x xs h =
     let (k, lt, passes) = count_by-some (equal x) xs h in
     (k, lt, sym ((e.decides x (get_or xs k x)).0 (passes x)))
 
-pub count-from_Contains : {A : Type 0} (equal : A → A → Bool) → IsEqualityTest equal → (x : A) (xs : List A) → Contains xs x → 0 < count equal x xs
-count-from_Contains equal e x xs (k, lt, is) =
-    let passes : equal x (get_or xs k x) ≡ true = (e.decides x (get_or xs k x)).1 (sym is) in
-    omega (arith, sum_by-remove (one_if (equal x)) xs k x lt, ap {B = ℕ} (λ b. cond b 1 0) passes)
-
--- a member of the covered list stands in the covering one
-pub Contains-IsCoveredBy : {A : Type 0} (equal : A → A → Bool) → IsEqualityTest equal → (x : A) (xs ys : List A) → IsCoveredBy xs ys → Contains xs x → Contains ys x
-Contains-IsCoveredBy equal e x xs ys h c =
-    let here : 0 < count equal x xs = count-from_Contains equal e x xs c in
-    let there : 0 < count equal x ys = omega (arith, h.at_most (equal x)) in
-    Contains-from_count equal e x ys there
-
 pub IsCoveredBy-from_counts : {A : Type 0} (equal : A → A → Bool) → IsEqualityTest equal → (xs ys : List A) → ((x : A) → count equal x xs ≤ count equal x ys) → IsCoveredBy xs ys
 IsCoveredBy-from_counts equal e [] ys h = IsCoveredBy-nil ys
 IsCoveredBy-from_counts {A} equal e (x ∷ xs) ys h =
@@ -207,13 +161,6 @@ IsCoveredBy-from_counts {A} equal e (x ∷ xs) ys h =
     omega (arith, h y, count_by-cons (equal y) x xs, sum_by-remove (one_if (equal y)) ys k x lt, ap (one_if (equal y)) is)
     in
     IsCoveredBy-one_more x xs ys k lt is (IsCoveredBy-from_counts equal e xs (remove ys k) rest)
-
--- two lists in which each thing stands equally often have equally many members that pass, by any test
-pub count_by-from_counts : {A : Type 0} (equal : A → A → Bool) → IsEqualityTest equal → (xs ys : List A) → ((x : A) → count equal x xs ≡ count equal x ys) → (test : A → Bool) → count_by test xs ≡ count_by test ys
-count_by-from_counts equal e xs ys h test =
-    let there = IsCoveredBy-from_counts equal e xs ys (λ x. omega (arith, h x)) in
-    let back = IsCoveredBy-from_counts equal e ys xs (λ x. omega (arith, h x)) in
-    omega (arith, there.at_most test, back.at_most test)
 
 -- for `search` and `grind` at a goal that some list is covered by another
 pub ruleset covering = (IsCoveredBy-refl, IsCoveredBy-nil, IsCoveredBy-cons, IsCoveredBy-append, IsCoveredBy-in_front, IsCoveredBy-behind, IsCoveredBy-more, IsCoveredBy-map, IsCoveredBy-take, IsCoveredBy-drop, IsCoveredBy-filter)

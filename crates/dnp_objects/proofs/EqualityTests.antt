@@ -23,9 +23,6 @@ Decides-option_eq equal e None (Some y) = (λ h. cc, λ h. cc)
 Decides-option_eq equal e (Some x) None = (λ h. cc, λ h. cc)
 Decides-option_eq equal e (Some x) (Some y) = (λ h. ap Some ((e x y).0 h), λ h. (e x y).1 (cc))
 
-pub IsEqualityTest-nat_eq : IsEqualityTest eqb
-IsEqualityTest-nat_eq = record { decides = Decides-eqb }
-
 pub IsEqualityTest-row_eq : IsEqualityTest row_eq
 IsEqualityTest-row_eq =
     record {
