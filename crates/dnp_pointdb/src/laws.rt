@@ -118,8 +118,8 @@ pub fn points_stay_sound()
         → sound.IsSound database → sound.IsSound (restarted database) }
 {}
 
-/// In a sound database the point at a place of a block has the index of that place, and no other
-/// point of the kind has it.
+/// In a sound database the point that stands at a place of a block is the one that its index, the
+/// block's base and the place, finds.
 pub fn a_point_has_its_index()
     ensures { (database : Database) (kind : KindValue) (block : BlockStateValue) (place : ℕ)
         → sound.IsSound database → Contains (database_words.blocks_of database kind) block
