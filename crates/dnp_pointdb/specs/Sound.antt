@@ -32,6 +32,7 @@ pub record AreSound (kind : Kind) (blocks : List BlockState) : Type 0 where
   pub each : All (IsSoundBlock kind) blocks
   pub apart : AllPairs ShareNoIndex blocks
 
+-- and so in each kind
 abbrev pub IsSound : Database → Type 0
 IsSound database = (kind : Kind) → AreSound kind (blocks_of database kind)
 
