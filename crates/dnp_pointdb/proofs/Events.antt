@@ -1,5 +1,5 @@
 -- Which changes are events, and what lost communication does to flags.
-use Rattle.std.proofs.Common.{◌≡◌, ◌≢◌, ℕ, zero, suc, ◌<◌, ◌≤◌, ◌⊎◌, ◌↔◌, Bool, true, false, cond, not, ◌||◌, ◌==◌, min, max, Option, Some, None, refl, sym, ◌∙◌, ap, arith, rules, inl, inr, ltb-true, lt-ltb}
+use Rattle.std.proofs.Common.{◌≡◌, ◌≢◌, ℕ, zero, suc, ◌<◌, ◌≤◌, ◌⊎◌, ◌↔◌, Bool, true, false, cond, not, ◌||◌, ◌==◌, min, max, Option, None, refl, sym, ◌∙◌, ap, arith, rules, inl, inr, ltb-true, lt-ltb}
 use Rattle.std.specs.Prelude.{IsSome, IfSome, nat_lt, bit_and}
 use Rattle.std.specs.Option.{option_map}
 use Rattle.std.specs.Int.{bit_at}
@@ -20,9 +20,6 @@ use Rattle.dnp_pointdb.specs.Database.{lost_flags}
 
 abbrev event_from : Bool → Option Lane → Row → Option LaneRow
 event_from d lane row = cond d (option_map (λ (l : Lane). record { lane = l; row = row }) lane) None
-
-some_event : (lane : Lane) (row : Row) → IsSome (event_from true (Some lane) row)
-some_event lane row = search rules
 
 no_event : IsSome {T = LaneRow} None → ⊥
 no_event h = grind (arith, h)

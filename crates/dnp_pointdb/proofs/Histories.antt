@@ -13,7 +13,7 @@ use Rattle.dnp_pointdb.proofs.Places.{covers_low}
 
 -- ---- one member of a list
 
-length-updated : {A : Type 0} (f : A → A) (xs : List A) (p : ℕ) → length (updated f xs p) ≡ length xs
+pub length-updated : {A : Type 0} (f : A → A) (xs : List A) (p : ℕ) → length (updated f xs p) ≡ length xs
 length-updated f [] p = refl
 length-updated f (x ∷ xs) zero = refl
 length-updated f (x ∷ xs) (suc p) = ap (λ (n : ℕ). suc n) (length-updated f xs p)
@@ -50,7 +50,7 @@ pub state_in-cons : (b : BlockState) (bs : List BlockState) (index : ℕ) (t : B
     → state_in (b ∷ bs) index ≡ cond t (slice_get b.points (index - b.base)) (state_in bs index)
 state_in-cons b bs index t is = ap (λ (s : Bool). cond s (slice_get b.points (index - b.base)) (state_in bs index)) is
 
-updated_in-cons : (f : PointState → PointState) (b : BlockState) (bs : List BlockState) (index : ℕ) (t : Bool) → has_index b index ≡ t
+pub updated_in-cons : (f : PointState → PointState) (b : BlockState) (bs : List BlockState) (index : ℕ) (t : Bool) → has_index b index ≡ t
     → updated_in f (b ∷ bs) index
     ≡ cond t (with_points b (updated f b.points (index - b.base)) ∷ bs) (b ∷ updated_in f bs index)
 updated_in-cons f b bs index t is =

@@ -1,3 +1,4 @@
+pub mod Carried
 pub mod Changes
 pub mod Events
 pub mod FirstFaults
@@ -12,3 +13,4 @@ pub mod PlanFaults
 pub mod Plans
 pub mod Ranges
 pub mod Runs
+pub mod Sound

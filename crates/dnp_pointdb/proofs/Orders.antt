@@ -4,7 +4,7 @@ use Rattle.std.specs.List.{Any, All, HoldsAt, Contains}
 use Rattle.std.specs.List.Sorted.{IsPermutation, IsNonDecreasingBy}
 use Rattle.std.proofs.lemmas.Bool.{cases_lt}
 use Rattle.std.proofs.lemmas.List.{get_or-map, length-map, length-set, map-set, set-get_or}
-use Rattle.std.proofs.lemmas.List.Elements.{All-nil, All-push, Contains-append_left}
+use Rattle.std.proofs.lemmas.List.Elements.{All-push, Contains-append_left}
 use Rattle.std.proofs.lemmas.List.Quantifiers.{Any-push}
 use Rattle.std.proofs.lemmas.List.Sorted.{All-permutation, Contains-permutation}
 use Rattle.dnp_pointdb.specs.declared.order.Place.{Place}
@@ -22,9 +22,6 @@ use Rattle.dnp_pointdb.proofs.Places.{covers_low, covers_high}
 pub record Placed (es : List Extent) (n : ℕ) (order : List Place) : Type 0 where
   pub listed : All (IsPlaceOf es) order
   pub complete : (j : ℕ) → j < n → HoldsAt (λ e. 0 < e.count → Any (λ place. place.block ≡ j) order) es j
-
-pub placed_none : (es : List Extent) → Placed es 0 []
-placed_none es = record { listed = All-nil (IsPlaceOf es); complete = λ j lt. absurd (omega arith) }
 
 any_more : (P : Place → Type 0) (xs ys : List Place) → Any P xs → Any P (xs ++ ys)
 any_more P xs ys found =

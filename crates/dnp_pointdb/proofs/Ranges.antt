@@ -17,7 +17,7 @@ use Rattle.dnp_pointdb.specs.Ranges.{is_carried}
 
 -- ---- what is wider
 
-both : (a b : Bool) → a && b ≡ true → (a ≡ true) × (b ≡ true)
+pub both : (a b : Bool) → a && b ≡ true → (a ≡ true) × (b ≡ true)
 both true b is = (refl, is)
 both false b is = absurd (cc)
 
@@ -61,7 +61,7 @@ from_true : (b : Bool) → IsTrue b → b ≡ true
 from_true true h = refl
 from_true false h = absurd (grind (arith, h))
 
-to_true : (b : Bool) → b ≡ true → IsTrue b
+pub to_true : (b : Bool) → b ≡ true → IsTrue b
 to_true true h = search rules
 to_true false h = absurd (cc)
 

@@ -241,12 +241,6 @@ step_elsewhere database k i reading moves kind index misses apart rest =
     ∙ ap (λ (o : Option PointState). happened_at o kind index (happenings_of kind index moves)) (changed_elsewhere database k kind i index reading apart)
     ∙ sym (ap (λ (hs : List Happening). happened_at (state_at database kind index) kind index hs) (happenings-cons k i reading moves kind index false misses))
 
-test_same : (k kind : Kind) (i index : ℕ) → k ≡ kind → i ≡ index → (kind_eq k kind && i == index) ≡ true
-test_same k kind i index same_kind same_index =
-    ap (λ (x : Kind). kind_eq k x && i == index) (sym same_kind)
-    ∙ ap (λ (x : ℕ). kind_eq k k && i == x) (sym same_index)
-    ∙ is_itself k i
-
 indices : (i index : ℕ) → (i ≡ index) ⊎ (i ≢ index)
 indices i index = elim (cases_order i index) [
   | inl same ↦ inl same

@@ -25,6 +25,9 @@ pub record Database : Type 0 where
   pub counter : List BlockState
   pub analog : List BlockState
 
+abbrev pub database_of : List BlockState → List BlockState → List BlockState → Database
+database_of binary counter analog = record { binary = binary; counter = counter; analog = analog }
+
 abbrev pub blocks_of : Database → Kind → List BlockState
 blocks_of database Binary = database.binary
 blocks_of database Counter = database.counter

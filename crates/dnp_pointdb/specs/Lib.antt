@@ -5,3 +5,4 @@ pub mod Order
 pub mod Plan
 pub mod Ranges
 pub mod Runs
+pub mod Sound

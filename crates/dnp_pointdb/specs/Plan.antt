@@ -32,7 +32,7 @@ IsWrong Binary point = (3 < point.class) ⊎ (0 < point.deadband)
 IsWrong Counter point = (3 < point.class) ⊎ (0 < point.deadband)
 IsWrong Analog point = 3 < point.class
 
--- what is the matter with one block
+-- why one block is refused
 abbrev pub HasWrongPoint : Kind → Block → Type 0
 HasWrongPoint kind block = Any (IsWrong kind) block.points
 
@@ -61,6 +61,6 @@ place Overlap = 3
 abbrev pub IsFirst : Plan → PlanFault → Type 0
 IsFirst plan fault = IsFirstOf place (IsPlanFault plan) fault
 
--- nothing is the matter with the blocks
+-- nothing is wrong with the blocks
 abbrev pub IsSound : Plan → Type 0
 IsSound plan = (fault : PlanFault) → IsPlanFault plan fault → ⊥

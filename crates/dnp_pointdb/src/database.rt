@@ -1,6 +1,9 @@
-ghost use Rattle.std.specs.Prelude.{◌≡◌, OnErr, IfOk, IfErr, Err};
+ghost use Rattle.std.specs.Prelude.{◌≡◌, ◌≤◌, true, OnErr, IfOk, IfErr, IfSome, Err};
 ghost use Rattle.std.specs.Option.{option_map};
+ghost use Rattle.dnp_objects.specs.Events.{IsEvent};
 ghost use Rattle.dnp_pointdb.specs.declared.fault.ChangeFault.{ChangeFault as FaultValue};
+ghost use Rattle.dnp_pointdb.specs.Ranges.{is_in_range};
+ghost use Rattle.dnp_pointdb.specs.Sound.{IsSound, IsSoundPoint, AreSound};
 
 use crate::bank::Bank;
 use crate::fault::ChangeFault;
@@ -25,15 +28,15 @@ pub struct PointDb {
 }
 
 impl Model for PointDb {
-    ghost use Rattle.dnp_pointdb.specs.Database.{Database};
+    ghost use Rattle.dnp_pointdb.specs.Database.{Database, database_of};
+    ghost use Rattle.dnp_pointdb.specs.Sound.{IsSound};
 
     ghost Value = { Database };
 
-    ghost view = { λ database. record {
-      binary = database.binary;
-      counter = database.counter;
-      analog = database.analog;
-    } };
+    ghost view = { λ database. database_of database.binary database.counter database.analog };
+
+    ghost invariant = { λ database.
+        IsSound (database_of database.binary database.counter database.analog) };
 }
 
 impl PointDb {
@@ -41,9 +44,10 @@ impl PointDb {
     ghost use Rattle.dnp_pointdb.specs.Plan.{Plan};
 
     /// The points of the plan, of which nothing was read: each reading and each last report has the
-    /// value 0 and the flags 02 (RESTART), and no time. An error says that memory is wanting.
+    /// value 0 and the flags 02 (RESTART), and no time. An error says that it ran out of memory.
     pub fn new(alloc: Global, plan: PointPlan) -> Result<PointDb, AllocError>
-        ensures { IfOk result (λ database. database ≡ spec.new_database plan) }
+        ensures value { IfOk result (λ database. database ≡ spec.new_database plan) }
+        ensures sound { IfOk result IsSound }
     {
         Ok(PointDb {
             binary: Bank::new(alloc, plan.blocks(Kind::Binary))?,
@@ -52,38 +56,52 @@ impl PointDb {
         })
     }
 
-    /// The blocks of a kind, in the plan's order, as they stand.
-    pub fn blocks(&self, kind: Kind) -> &[BlockState]
-        ensures { result.now ≡ spec.blocks_of self.now kind }
+    /// The points of a kind.
+    fn bank(&self, kind: Kind) -> &Bank
+        ensures value { result.now ≡ spec.blocks_of self.now kind }
+        ensures sound { IsSound self.now }
     {
         match kind {
-            Kind::Binary => self.binary.blocks(),
-            Kind::Counter => self.counter.blocks(),
-            Kind::Analog => self.analog.blocks(),
+            Kind::Binary => &self.binary,
+            Kind::Counter => &self.counter,
+            Kind::Analog => &self.analog,
         }
+    }
+
+    /// The blocks of a kind, in the plan's order, as they stand. Each has at most 1,024 points,
+    /// whose readings are in range and whose indices are below 65,536, and no two share an index.
+    pub fn blocks(&self, kind: Kind) -> &[BlockState]
+        ensures value { result.now ≡ spec.blocks_of self.now kind }
+        ensures sound { IsSound self.now }
+        ensures sound_blocks { AreSound kind result.now }
+    {
+        self.bank(kind).blocks()
     }
 
     /// The point of this kind and index as it stands, if the plan has it.
     pub fn state(&self, kind: Kind, index: u16) -> Option<PointState>
-        ensures { result ≡ spec.state_at self.now kind index }
+        ensures value { result ≡ spec.state_at self.now kind index }
+        ensures sound { IsSound self.now }
+        ensures sound_point { IfSome result (IsSoundPoint kind) }
     {
-        match kind {
-            Kind::Binary => self.binary.state(index),
-            Kind::Counter => self.counter.state(index),
-            Kind::Analog => self.analog.state(index),
-        }
+        self.bank(kind).state(index)
     }
 
-    /// The last reading of the point, if the plan has it.
+    /// The last reading of the point, if the plan has it. It is in range: `change` and `set` would
+    /// take it.
     pub fn reading(&self, kind: Kind, index: u16) -> Option<Reading>
-        ensures { result ≡ option_map (λ state. state.reading) (spec.state_at self.now kind index) }
+        ensures value { result
+            ≡ option_map (λ state. state.reading) (spec.state_at self.now kind index) }
+        ensures in_range { IfSome result (λ reading. is_in_range kind reading ≡ true) }
     {
         self.state(kind, index).map(|state| state.reading)
     }
 
     /// The class of the point, 0 to 3, if the plan has it.
     pub fn class_of(&self, kind: Kind, index: u16) -> Option<u8>
-        ensures { result ≡ option_map (λ state. state.point.class) (spec.state_at self.now kind index) }
+        ensures value { result
+            ≡ option_map (λ state. state.point.class) (spec.state_at self.now kind index) }
+        ensures highest { IfSome result (λ class. class ≤ 3) }
     {
         self.state(kind, index).map(|state| state.point.class)
     }
@@ -96,27 +114,27 @@ impl PointDb {
         reading: Reading,
     ) -> Result<Option<LaneRow>, ChangeFault>
         ensures answer { result ≡ spec.answer_of self.now kind index reading }
+        ensures carried { IfOk result (λ made. IfSome made (λ x.
+            (x.row.kind ≡ x.lane.kind) × IsEvent x.row)) }
         ensures fault { IfErr result (spec.IsFirst self.now kind index reading) }
         ensures only_fault { (fault : FaultValue) → spec.IsFirst self.now kind index reading fault
             → result ≡ Err fault }
+        ensures sound { IsSound self.now }
     {
-        match kind {
-            Kind::Binary => self.binary.would(kind, index, reading),
-            Kind::Counter => self.counter.would(kind, index, reading),
-            Kind::Analog => self.analog.would(kind, index, reading),
-        }
+        self.bank(kind).would(kind, index, reading)
     }
 
     /// Takes in a new reading of a point, and answers the event that it is, with its lane, or none.
     ///
     /// It is an event if the point has class 1, 2 or 3, and either the flags differ from those last
     /// reported or the value differs from the one last reported by more than the deadband. Then it
-    /// is the last report from now on. The reading becomes the point's either way.
+    /// is the last report from now on, and may be appended to its lane. The reading becomes the
+    /// point's either way.
     ///
-    /// Refused is, first of all, a point that the plan lacks (`NoPoint`), then a value or flags that
-    /// no object of the kind can carry (`ValueRange`: a binary other than 0 or 1, or with bit 7 in
-    /// its flags, a counter outside 0 to 2^32 - 1, an analog outside -2^31 to 2^31 - 1), and then a
-    /// time of 2^48 ms or more (`TimeRange`). After a refusal nothing has changed.
+    /// Refused is, first of all, a point that the plan lacks (`NoPoint`), then a value or flags
+    /// that no object of the kind can carry (`ValueRange`: a binary other than 0 or 1, or with bit 7
+    /// in its flags, a counter outside 0 to 2^32 - 1, an analog outside -2^31 to 2^31 - 1), and then
+    /// a time of 2^48 ms or more (`TimeRange`). After a refusal nothing has changed.
     pub fn change(
         &mut self,
         kind: Kind,
@@ -124,11 +142,14 @@ impl PointDb {
         reading: Reading,
     ) -> Result<Option<LaneRow>, ChangeFault>
         ensures answer { result ≡ spec.answer_of self.old kind index reading }
+        ensures carried { IfOk result (λ made. IfSome made (λ x.
+            (x.row.kind ≡ x.lane.kind) × IsEvent x.row)) }
         ensures after { self.new ≡ spec.changed_of self.old kind index reading }
         ensures fault { IfErr result (spec.IsFirst self.old kind index reading) }
         ensures only_fault { (fault : FaultValue) → spec.IsFirst self.old kind index reading fault
             → result ≡ Err fault }
         ensures err { OnErr result (self.new ≡ self.old) }
+        ensures sound { IsSound self.new }
     {
         match kind {
             Kind::Binary => self.binary.change(kind, index, reading),
@@ -146,6 +167,7 @@ impl PointDb {
         ensures only_fault { (fault : FaultValue) → spec.IsFirst self.old kind index reading fault
             → result ≡ Err fault }
         ensures err { OnErr result (self.new ≡ self.old) }
+        ensures sound { IsSound self.new }
     {
         match kind {
             Kind::Binary => self.binary.set(kind, index, reading),
@@ -154,11 +176,12 @@ impl PointDb {
         }
     }
 
-    /// The device behind a block can't be reached: in the block with this number in the plan, from 0,
-    /// of each kind that has one, each reading loses the flag ONLINE and gets COMM_LOST. The last
-    /// reports stay.
+    /// The device behind a block can't be reached: in the block with this number in the plan, from
+    /// 0, of each kind that has one, each reading loses the flag ONLINE and gets COMM_LOST. The
+    /// last reports stay.
     pub fn mark_lost(&mut self, block: usize)
-        ensures { self.new ≡ spec.lost_of self.old block }
+        ensures after { self.new ≡ spec.lost_of self.old block }
+        ensures sound { IsSound self.new }
     {
         self.binary.lose(block);
         self.counter.lose(block);
@@ -168,7 +191,8 @@ impl PointDb {
     /// Sets each reading and each last report back to the value 0 with the flags 02 (RESTART) and
     /// no time.
     pub fn restart(&mut self)
-        ensures { self.new ≡ spec.restarted self.old }
+        ensures after { self.new ≡ spec.restarted self.old }
+        ensures sound { IsSound self.new }
     {
         self.binary.restart();
         self.counter.restart();

@@ -1,10 +1,11 @@
 //! Laws of the points: each function does nothing, and its contract is a law.
-ghost use Rattle.std.specs.Prelude.{◌≡◌, ◌≢◌, ℕ, ◌≤◌, ◌<◌, ◌-◌, ◌⊎◌, ◌↔◌, List, Bool, true, IsSome, IfSome, IsTrue, IsNone, Contains, Any, slice_get};
+ghost use Rattle.std.specs.Prelude.{◌≡◌, ◌≢◌, ℕ, ◌≤◌, ◌<◌, ◌+◌, ◌-◌, ◌⊎◌, ◌↔◌, List, Bool, true, IsSome, IfSome, IfOk, IsTrue, IsNone, Contains, Any, length, slice_get};
 ghost use Rattle.std.specs.Option.{option_map, IsSomeAnd};
 ghost use Rattle.std.specs.Int.{bit_at};
 ghost use Rattle.dnp_objects.specs.declared.row.Kind.{Kind as KindValue};
 ghost use Rattle.dnp_objects.specs.Objects.{shape_written};
-ghost use Rattle.dnp_objects.specs.Rows.{row_fits};
+ghost use Rattle.dnp_objects.specs.Rows.{row_fits, Fits};
+ghost use Rattle.dnp_objects.specs.Events.{IsEvent};
 ghost use Rattle.dnp_objects.specs.Lanes.{IsLane};
 ghost use Rattle.dnp_pointdb.specs.declared.point.Point.{Point as PointValue};
 ghost use Rattle.dnp_pointdb.specs.declared.point.Block.{Block as BlockValue};
@@ -12,8 +13,11 @@ ghost use Rattle.dnp_pointdb.specs.declared.reading.Reading.{Reading as ReadingV
 ghost use Rattle.dnp_pointdb.specs.declared.reading.Report.{Report as ReportValue};
 ghost use Rattle.dnp_pointdb.specs.Blocks.{HasIndex};
 ghost use Rattle.dnp_pointdb.specs.Plan.{Plan, blocks_of, IsSound};
+ghost use Rattle.dnp_pointdb.specs.Sound as sound;
 ghost use Rattle.dnp_pointdb.specs.Events.{event_of, row_of, distance};
-ghost use Rattle.dnp_pointdb.specs.Database.{Database, state_at, new_database, changed_of, set_of, restarted, changed_state, set_state, restarted_state, lost_flags, lost_of};
+ghost use Rattle.dnp_pointdb.specs.declared.state.BlockState.{BlockState as BlockStateValue};
+ghost use Rattle.dnp_pointdb.specs.Database as database_words;
+ghost use Rattle.dnp_pointdb.specs.Database.{Database, state_at, answer_of, new_database, changed_of, set_of, restarted, changed_state, set_state, restarted_state, lost_flags, lost_of};
 ghost use Rattle.dnp_pointdb.specs.Ranges.{is_carried, is_in_range};
 ghost use Rattle.dnp_pointdb.specs.Runs.{Move, rows_of, rows_at, happened_at, happenings_of};
 
@@ -98,4 +102,45 @@ pub fn lost_communication_is_no_report()
     ensures reports { (database : Database) (number : ℕ) (kind : KindValue) (index : ℕ)
         → option_map (λ state. state.reported) (state_at (lost_of database number) kind index)
         ≡ option_map (λ state. state.reported) (state_at database kind index) }
+{}
+
+/// The points of a new database of a plan are sound, and each call keeps them so: classes from 0 to
+/// 3, readings in range, indices below 65,536, and no index that two blocks of a kind share.
+pub fn points_stay_sound()
+    ensures new { (plan : Plan) → IsSound plan → sound.IsSound (new_database plan) }
+    ensures changed { (database : Database) (kind : KindValue) (index : ℕ) (reading : ReadingValue)
+        → sound.IsSound database → sound.IsSound (changed_of database kind index reading) }
+    ensures set { (database : Database) (kind : KindValue) (index : ℕ) (reading : ReadingValue)
+        → sound.IsSound database → sound.IsSound (set_of database kind index reading) }
+    ensures lost { (database : Database) (number : ℕ)
+        → sound.IsSound database → sound.IsSound (lost_of database number) }
+    ensures restarted { (database : Database)
+        → sound.IsSound database → sound.IsSound (restarted database) }
+{}
+
+/// In a sound database the point that stands at a place of a block is the one that its index, the
+/// block's base and the place, finds.
+pub fn a_point_has_its_index()
+    ensures { (database : Database) (kind : KindValue) (block : BlockStateValue) (place : ℕ)
+        → sound.IsSound database → Contains (database_words.blocks_of database kind) block
+        → place < length block.points → state_at database kind (block.base + place) ≡ slice_get block.points place }
+{}
+
+/// A reading in range can be written as a present value of its kind: 1.2, 20.1 or 30.1. So can the
+/// reading of each point of a sound database.
+pub fn readings_fit_their_static_objects()
+    ensures carried { (kind : KindValue) (index : ℕ) (reading : ReadingValue)
+        → is_carried kind reading ≡ true
+        → let object = sound.static_object kind in Fits object.0 object.1 (row_of kind index reading) }
+    ensures kept { (database : Database) (kind : KindValue) (index : ℕ) → sound.IsSound database
+        → let object = sound.static_object kind in IfSome (state_at database kind index)
+        (λ state. Fits object.0 object.1 (row_of kind index state.reading)) }
+{}
+
+/// The row that a change makes can be written as an event, and is of its lane's kind: an event lane
+/// takes it.
+pub fn a_change_makes_what_its_lane_takes()
+    ensures { (database : Database) (kind : KindValue) (index : ℕ) (reading : ReadingValue)
+        → IfOk (answer_of database kind index reading)
+        (λ made. IfSome made (λ x. (x.row.kind ≡ x.lane.kind) × IsEvent x.row)) }
 {}

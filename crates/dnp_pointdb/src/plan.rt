@@ -114,7 +114,7 @@ fn has_overlap(binary: &[Block], counter: &[Block], analog: &[Block]) -> bool
     share_index(binary) || share_index(counter) || share_index(analog)
 }
 
-/// The first thing that is the matter with the blocks, if anything is.
+/// The first thing that is wrong with the blocks, if anything is.
 fn first_fault(binary: &[Block], counter: &[Block], analog: &[Block]) -> Option<PlanFault>
     ensures { MatchOption result (IsSound (plan_of binary.now counter.now analog.now))
         (IsFirst (plan_of binary.now counter.now analog.now)) }
@@ -177,7 +177,7 @@ impl PointPlan {
         }
     }
 
-    /// The same plan once more. An error says that memory is wanting.
+    /// The same plan once more. An error says that it ran out of memory.
     pub fn try_clone(&self, alloc: Global) -> Result<PointPlan, AllocError>
         ensures { IfOk result (λ copy. copy ≡ self.now) }
     {

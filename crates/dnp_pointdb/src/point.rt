@@ -44,7 +44,7 @@ impl Points {
         self.items.as_slice()
     }
 
-    /// The same points once more. An error says that memory is wanting.
+    /// The same points once more. An error says that it ran out of memory.
     pub fn try_clone(&self, alloc: Global) -> Result<Self, AllocError>
         ensures { IfOk result (λ copy. copy ≡ self.now) }
     {
@@ -64,7 +64,7 @@ pub struct Block {
 }
 
 impl Block {
-    /// The same block once more. An error says that memory is wanting.
+    /// The same block once more. An error says that it ran out of memory.
     pub fn try_clone(&self, alloc: Global) -> Result<Self, AllocError>
         ensures { IfOk result (λ copy. copy ≡ self.now) }
     {
