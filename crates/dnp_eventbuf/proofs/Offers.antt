@@ -4,11 +4,14 @@ use Rattle.std.specs.List.{All, AllPairs, Contains, filter}
 use Rattle.std.specs.Option.{option_map, unwrap_or}
 use Rattle.std.proofs.lemmas.Bool.{cases_lt, leb-true, lt-ltb, le-leb}
 use Rattle.std.proofs.lemmas.List.{map-append, get_or-take, length-take}
-use Rattle.std.proofs.lemmas.List.Elements.{All-filter, filter_passes, All-contains_itself, All-take, Contains-append_left, Contains-append_right}
+use Rattle.std.proofs.lemmas.List.Elements.{All-filter, filter_passes, All-contains_itself, All-take, All-weaker, Contains-append_left, Contains-append_right}
 use Rattle.std.proofs.lemmas.List.Kept.{AllPairs-filter}
 use Rattle.std.proofs.lemmas.Option.{slice_get-get_or}
 use Rattle.dnp_objects.specs.Counts.{IsCoveredBy, HasNoRepeat}
 use Rattle.dnp_objects.proofs.Covered.{IsCoveredBy-from_members, IsCoveredBy-map, HasNoRepeat-by}
+use Rattle.dnp_objects.specs.Events.{IsEvent}
+use Rattle.dnp_objects.specs.Lanes.{lane_number}
+use Rattle.dnp_objects.specs.declared.lane.Lane.{Lane}
 use Rattle.dnp_objects.specs.declared.row.Row.{Row}
 use Rattle.dnp_objects.specs.declared.lane.LaneRow.{LaneRow}
 use Rattle.dnp_eventbuf.specs.declared.numbered.Numbered.{Numbered}
@@ -120,3 +123,13 @@ release_takes_offered s xs number after most sound carried within low =
     in
     subst (λ (ys : List Row). IsCoveredBy (map row_of taken) ys) (map-append row_of before shown)
     (IsCoveredBy-map row_of taken (before ++ shown) (IsCoveredBy-from_members taken (before ++ shown) apart each))
+
+-- ---- what is offered is an event
+
+pub offered_events : (s : Stock) (of : Lane) (after most : ℕ) → IsSound s → lane_number of < 9 → All (λ x. IsEvent x.row) (offered s (lane_number of) after most)
+offered_events s of after most sound low =
+    let rows = (lane_at s (lane_number of)).rows in
+    let Fits : Numbered → Type 0 = λ x. IsEvent x.row in
+    let carried : All (λ (x : Numbered). IsCarried (record { lane = of; row = x.row })) rows = (sound.each (lane_number of) low).carried of refl in
+    let events : All Fits rows = All-weaker (λ (x : Numbered). IsCarried (record { lane = of; row = x.row })) Fits (λ x h. h.fits) rows carried in
+    All-take Fits most (filter (λ x. nat_lt after x.id) rows) (All-filter (λ x. nat_lt after x.id) Fits rows events)
