@@ -1,4 +1,4 @@
-ghost use Rattle.std.specs.Prelude.{◌≡◌, ◌≢◌, Bool, false, IsTrue, OnOk, IfOk, IfErr, List, length, All};
+ghost use Rattle.std.specs.Prelude.{◌≡◌, ◌≢◌, Bool, false, IsTrue, OnOk, IfOk, IfErr, List, [], length, All};
 ghost use Rattle.dnp_objects.specs.Events.{IsEvent};
 ghost use Rattle.dnp_objects.specs.Lanes.{lane_number};
 ghost use Rattle.dnp_eventbuf.specs.Calls.{IsLanesCall};
@@ -32,6 +32,9 @@ pub trait Lanes {
     /// It has answered Device.
     ghost is_stopped: { Self → Bool };
 
+    /// An append may be out of memory also where it drops no row, as one of a database may.
+    ghost asks_memory: { Bool };
+
     /// Puts the rows into their lanes, as if one by one, all or none, and answers the rows that full
     /// lanes dropped for them. A full lane drops its oldest row first, and counts it.
     ///
@@ -44,7 +47,8 @@ pub trait Lanes {
         ensures dropped { honest self.new → IfOk result (λ dropped. dropped.items ≡ dropped_by (contents self.old) rows.now) }
         ensures not_exhausted { honest self.new → OnOk result (exhausts (contents self.old) rows.now ≡ false) }
         ensures exhausted { honest self.new → IfErr result (λ e. e ≡ StoreFault.Exhausted → IsTrue (exhausts (contents self.old) rows.now)) }
-        ensures exhausted_first { honest self.new → IfErr result (λ e. e ≡ StoreFault.Memory → exhausts (contents self.old) rows.now ≡ false) };
+        ensures exhausted_first { honest self.new → IfErr result (λ e. e ≡ StoreFault.Memory → exhausts (contents self.old) rows.now ≡ false) }
+        ensures memory { result ≡ Err StoreFault.Memory → asks_memory ≡ false → dropped_by (contents self.old) rows.now ≢ [] };
 
     /// The first rows of the lane with an id over `after`, at most `most`; `after` 0 begins at the
     /// oldest. Each is an event. Memory or Device.

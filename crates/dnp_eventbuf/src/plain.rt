@@ -209,6 +209,8 @@ impl Lanes for PlainLanes {
 
     ghost is_stopped = { λ _. false };
 
+    ghost asks_memory = { false };
+
     fn append(&mut self, alloc: Global, rows: &[LaneRow]) -> Result<Vec<Row>, StoreFault> {
         let count = self.drops(rows).ok_or(StoreFault::Exhausted)?;
         let mut dropped = Vec::with_capacity(alloc, count).map_err(memory)?;
