@@ -7,4 +7,5 @@ pub mod LatestRows
 pub mod Limits
 pub mod Offers
 pub mod Released
+pub mod Remaining
 pub mod Soundness

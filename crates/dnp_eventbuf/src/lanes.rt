@@ -32,7 +32,7 @@ pub trait Lanes {
     /// It has answered Device.
     ghost is_stopped: { Self → Bool };
 
-    /// An append may be out of memory also where it drops no row, as one of a database may.
+    /// Calls may be out of memory also where they drop or take no row, as those of a database may.
     ghost asks_memory: { Bool };
 
     /// Puts the rows into their lanes, as if one by one, all or none, and answers the rows that full
@@ -73,6 +73,7 @@ pub trait Lanes {
 
         ensures released { honest self.new → OnOk result (contents self.new ≡ without (contents self.old) upto.now) }
         ensures taken { honest self.new → IfOk result (λ rows. rows.items ≡ all_up_to (contents self.old) upto.now) }
+        ensures memory { result ≡ Err StoreFault.Memory → asks_memory ≡ false → all_up_to (contents self.old) upto.now ≢ [] }
         ensures named { IfErr result (λ e. e ≢ StoreFault.Exhausted) };
 
     /// Takes all rows out, and answers them, lane by lane. The overflow ends; the counts of lost rows
@@ -82,6 +83,7 @@ pub trait Lanes {
 
         ensures emptied { honest self.new → OnOk result (contents self.new ≡ without_all (contents self.old)) }
         ensures taken { honest self.new → IfOk result (λ rows. rows.items ≡ rows_in (contents self.old)) }
+        ensures memory { result ≡ Err StoreFault.Memory → asks_memory ≡ false → rows_in (contents self.old) ≢ [] }
         ensures named { IfErr result (λ e. e ≢ StoreFault.Exhausted) };
 
     /// How many rows the lane holds.

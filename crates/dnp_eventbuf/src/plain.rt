@@ -1,4 +1,4 @@
-ghost use Rattle.std.specs.Prelude.{◌≡◌, ◌≢◌, ◌^◌, ◌<◌, ◌≤◌, ◌+◌, Bool, true, false, IfOk, IfErr, IfSome, IfNone, OnOk, IsTrue, All, length, map, [], ◌++◌, vec_len, vec_capacity, ⊤};
+ghost use Rattle.std.specs.Prelude.{◌≡◌, ◌≢◌, ◌^◌, ◌<◌, ◌≤◌, ◌+◌, Bool, true, false, IfOk, IfErr, IfSome, IfNone, OnOk, OnErr, IsTrue, All, length, map, [], ◌++◌, vec_len, vec_capacity, ⊤};
 ghost use Rattle.std.specs.List.{list_any};
 ghost use Rattle.std.specs.Option.{option_to_list};
 ghost use Rattle.dnp_objects.specs.Lanes.{lane_number};
@@ -100,6 +100,7 @@ impl PlainLanes {
     pub fn rows_up_to(&self, alloc: Global, upto: &Upto) -> Result<Vec<Row>, AllocError>
         ensures sound { IsSound self.now }
         ensures rows { IfOk result (λ rows. rows.items ≡ all_up_to self.now upto.now) }
+        ensures memory { OnErr result (all_up_to self.now upto.now ≢ []) }
     {
         let mut taken = Vec::new(alloc);
         push_all_up_to(&self.lanes, upto, &mut taken)?;
@@ -119,6 +120,7 @@ impl PlainLanes {
     pub fn all_rows(&self, alloc: Global) -> Result<Vec<Row>, AllocError>
         ensures sound { IsSound self.now }
         ensures rows { IfOk result (λ rows. rows.items ≡ rows_in self.now) }
+        ensures memory { OnErr result (rows_in self.now ≢ []) }
     {
         let mut taken = Vec::new(alloc);
         push_all(&self.lanes, &mut taken)?;
@@ -158,7 +160,8 @@ fn push_all_up_to(
     upto: &Upto,
     out: &mut Vec<Row>,
 ) -> Result<(), AllocError>
-    ensures { OnOk result (out.new.items ≡ out.old.items ++ lanes_up_to lanes.now upto.now) }
+    ensures rows { OnOk result (out.new.items ≡ out.old.items ++ lanes_up_to lanes.now upto.now) }
+    ensures memory { OnErr result (lanes_up_to lanes.now upto.now ≢ []) }
 {
     for k in 0..LANES {
         lanes[k].push_up_to(upto[k], out)?;
@@ -177,7 +180,8 @@ fn cut_all(lanes: &mut [PlainLane; LANES], upto: &Upto)
 
 /// Adds the rows of each lane.
 fn push_all(lanes: &[PlainLane; LANES], out: &mut Vec<Row>) -> Result<(), AllocError>
-    ensures { OnOk result (out.new.items ≡ out.old.items ++ lane_rows lanes.now) }
+    ensures rows { OnOk result (out.new.items ≡ out.old.items ++ lane_rows lanes.now) }
+    ensures memory { OnErr result (lane_rows lanes.now ≢ []) }
 {
     for lane in lanes {
         lane.push_all(out)?;
