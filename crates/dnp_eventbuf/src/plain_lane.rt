@@ -1,4 +1,4 @@
-ghost use Rattle.std.specs.Prelude.{◌≡◌, ◌^◌, ◌<◌, ◌≤◌, ◌++◌, IfOk, OnOk, [], length, map, nat_le, nat_lt, vec_len, vec_capacity, filter, take};
+ghost use Rattle.std.specs.Prelude.{◌≡◌, ◌≢◌, ◌^◌, ◌<◌, ◌≤◌, ◌++◌, IfOk, OnOk, OnErr, [], length, map, nat_le, nat_lt, vec_len, vec_capacity, filter, take};
 ghost use Rattle.std.specs.Option.{option_to_list};
 ghost use Rattle.std.specs.VecDeque.{deque_len, deque_capacity};
 ghost use Rattle.dnp_eventbuf.specs.Stock.{is_full, put_in, dropped_from, empty_lane, emptied, above, up_to, last_of, row_of};
@@ -80,7 +80,8 @@ impl PlainLane {
 
     /// Adds the rows with ids up to this.
     pub fn push_up_to(&self, upto: u64, out: &mut Vec<Row>) -> Result<(), AllocError>
-        ensures { OnOk result (out.new.items ≡ out.old.items ++ up_to upto self.now) }
+        ensures rows { OnOk result (out.new.items ≡ out.old.items ++ up_to upto self.now) }
+        ensures memory { OnErr result (up_to upto self.now ≢ []) }
     {
         for x in self.rows.iter() {
             if x.id <= upto {
@@ -92,7 +93,8 @@ impl PlainLane {
 
     /// Adds all rows.
     pub fn push_all(&self, out: &mut Vec<Row>) -> Result<(), AllocError>
-        ensures { OnOk result (out.new.items ≡ out.old.items ++ map row_of self.now.rows) }
+        ensures rows { OnOk result (out.new.items ≡ out.old.items ++ map row_of self.now.rows) }
+        ensures memory { OnErr result (map row_of self.now.rows ≢ []) }
     {
         for x in self.rows.iter() {
             out.push(x.row)?;
