@@ -12,7 +12,7 @@ use Rattle.dnp_appfragment.specs.Table.{rules, takes_of, allows, form_of, is_res
 use Rattle.dnp_appfragment.specs.Headers.{Head, qualifier_of, IsHeader, Divide, spelled}
 use Rattle.dnp_appfragment.specs.Fragments.{Asked, Answered, looked_at, IsRequest, IsResponse, request_octets, response_octets}
 use Rattle.dnp_appfragment.specs.Faults.{IsRequestFault, IsResponseFault}
-use Rattle.dnp_appfragment.specs.Reading.{request_at, response_at}
+use Rattle.dnp_appfragment.specs.Meaning.{request_at, response_at}
 use Rattle.dnp_appfragment.proofs.Requests.{request_again, request_fault, response_again, response_fault}
 
 same_ok : {A : Type 0} (r : Result A AppFault) (a b : A) → r ≡ Ok a → r ≡ Ok b → a ≡ b

@@ -13,6 +13,16 @@ use Rattle.dnp_appfragment.specs.Table.{function_octet, form_of, is_response, ta
 use Rattle.dnp_appfragment.specs.Headers.{Head, qualifier_of, range_octets, NumbersFit, IsForward, objects_size, spelled, IsHeader}
 use Rattle.dnp_appfragment.specs.Fragments.{looked_at}
 
+-- the number of a fault
+abbrev pub fault_number : AppFault → ℕ
+fault_number Short = 1
+fault_number FunctionUnknown = 2
+fault_number HeaderCut = 3
+fault_number QualifierUnknown = 4
+fault_number ObjectUnknown = 5
+fault_number RangeBackward = 6
+fault_number ObjectsCut = 7
+
 -- ---- of a header
 
 -- one or two octets, which are no header

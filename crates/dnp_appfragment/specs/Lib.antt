@@ -8,6 +8,7 @@ pub mod Indications
 pub mod Items
 pub mod Joining
 pub mod Left
+pub mod Meaning
 pub mod Objects
 pub mod Places
 pub mod Reading

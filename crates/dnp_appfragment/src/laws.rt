@@ -13,8 +13,10 @@ ghost use Rattle.dnp_appfragment.specs.Faults.{IsRequestFault, IsResponseFault};
 use crate::iin::Iin;
 
 mod built;
+mod read;
 
 pub use built::{a_header_holds_what_was_put, what_is_held_is_read, what_is_put_is_held};
+pub use read::{octets_say_a_request, octets_say_a_response};
 
 /// Octets are one request at most, and have one fault at most, and never both.
 pub fn octets_are_one_request()
@@ -45,7 +47,7 @@ pub fn a_bare_request_has_no_headers()
         → asked.headers ≡ [] }
 {}
 
-/// Each named indication is one bit of its octet.
+/// Each named indication is one bit of its octet, and `NONE` has no bit.
 pub fn indications_have_their_bits()
     ensures one { map (λ (iin : IinValue). iin.one) (Iin.BROADCAST ∷ Iin.CLASS_1_EVENTS ∷ Iin.CLASS_2_EVENTS
         ∷ Iin.CLASS_3_EVENTS ∷ Iin.NEED_TIME ∷ Iin.LOCAL_CONTROL ∷ Iin.DEVICE_TROUBLE ∷ Iin.DEVICE_RESTART ∷ [])
@@ -53,6 +55,7 @@ pub fn indications_have_their_bits()
     ensures only_one { map (λ (iin : IinValue). iin.two) (Iin.BROADCAST ∷ Iin.CLASS_1_EVENTS ∷ Iin.CLASS_2_EVENTS
         ∷ Iin.CLASS_3_EVENTS ∷ Iin.NEED_TIME ∷ Iin.LOCAL_CONTROL ∷ Iin.DEVICE_TROUBLE ∷ Iin.DEVICE_RESTART ∷ [])
         ≡ 0 ∷ 0 ∷ 0 ∷ 0 ∷ 0 ∷ 0 ∷ 0 ∷ 0 ∷ [] }
+    ensures none { Iin.NONE ≡ record { one = 0; two = 0 } }
     ensures two { map (λ (iin : IinValue). iin.two) (Iin.NO_FUNC_CODE_SUPPORT ∷ Iin.OBJECT_UNKNOWN
         ∷ Iin.PARAMETER_ERROR ∷ Iin.EVENT_BUFFER_OVERFLOW ∷ Iin.ALREADY_EXECUTING ∷ Iin.CONFIG_CORRUPT ∷ [])
         ≡ map (λ bit. 2 ^ bit) (0 ∷ 1 ∷ 2 ∷ 3 ∷ 4 ∷ 5 ∷ []) }
