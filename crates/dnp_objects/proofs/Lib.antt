@@ -3,6 +3,7 @@ pub mod Covered
 pub mod EqualityTests
 pub mod FirstFaults
 pub mod Lines
+pub mod ReadEvents
 pub mod RowFaults
 pub mod Spelling
 pub mod Values
