@@ -10,6 +10,7 @@ pub mod Held
 pub mod Joins
 pub mod Numbers
 pub mod ObjectHeaders
+pub mod ObjectValues
 pub mod OneFragment
 pub mod Ranges
 pub mod ReadBack

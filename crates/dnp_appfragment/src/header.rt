@@ -34,6 +34,7 @@ impl<'a> Header<'a> {
     ghost use Rattle.dnp_objects.specs.declared.command.Command.{Command as CommandValue};
     ghost use Rattle.dnp_appfragment.specs.Objects.{IsRow, IsCommand, HasRows, HasCommands};
     ghost use Rattle.dnp_appfragment.specs.Headers.{IsHeader, count_of};
+    ghost use Rattle.dnp_appfragment.specs.Meaning.{row_in, command_in};
     ghost use Rattle.dnp_appfragment.specs.Table.{form_of};
     ghost use Rattle.dnp_appfragment.specs.Seen.{head};
 
@@ -65,6 +66,7 @@ impl<'a> Header<'a> {
     /// before it. Packed bits, 1.1, are binaries with the flags 01. No octet behind the row's is
     /// looked at.
     pub fn row(&self, k: usize) -> Option<Row>
+        ensures value { result ≡ row_in (head self.now) k }
         ensures found { IfSome result (IsRow (head self.now) k) }
         ensures only { (row : RowValue) → IsRow (head self.now) k row → result ≡ Some row }
         // In a response each row that the range names is there.
@@ -76,6 +78,7 @@ impl<'a> Header<'a> {
     /// Command k of the header, counted from 0, with its status, or `None` where there are fewer
     /// objects or octets, or the object is no command.
     pub fn command(&self, k: usize) -> Option<(Command, Status)>
+        ensures value { result ≡ command_in (head self.now) k }
         ensures found { IfSome result (IsCommand (head self.now) k) }
         ensures only { (answer : CommandValue × ℕ) → IsCommand (head self.now) k answer → result ≡ Some answer }
         // In any fragment each command that the range names is there.

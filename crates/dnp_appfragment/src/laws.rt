@@ -16,7 +16,9 @@ mod built;
 mod read;
 
 pub use built::{a_header_holds_what_was_put, what_is_held_is_read, what_is_put_is_held};
-pub use read::{octets_say_a_request, octets_say_a_response};
+pub use read::{
+    objects_say_rows_and_commands, octets_say_a_request, octets_say_a_response, rows_are_events,
+};
 
 /// Octets are one request at most, and have one fault at most, and never both.
 pub fn octets_are_one_request()

@@ -1,4 +1,5 @@
 pub mod CommandOctets
+pub mod CommandsBack
 pub mod Covered
 pub mod EqualityTests
 pub mod FirstFaults
