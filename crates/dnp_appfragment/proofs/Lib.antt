@@ -17,3 +17,4 @@ pub mod ReadBack
 pub mod Requests
 pub mod There
 pub mod Walk
+pub mod Walked

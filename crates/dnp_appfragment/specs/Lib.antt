@@ -14,5 +14,6 @@ pub mod Places
 pub mod Reading
 pub mod Seen
 pub mod Table
+pub mod Walking
 pub mod Whole
 pub mod Written

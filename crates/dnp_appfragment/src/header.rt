@@ -1,6 +1,7 @@
 use crate::function::Function;
 use crate::objects::{command_at, row_at};
 use crate::range::{count_of, is_range, objects_size, qualifier_of};
+use crate::row_walk::RowWalk;
 use crate::table::{allows, form_of, takes_of};
 use dnp_objects::{Command, Row, Status};
 
@@ -29,7 +30,7 @@ pub struct Header<'a> {
 }
 
 impl<'a> Header<'a> {
-    ghost use Rattle.std.specs.Prelude.{◌≡◌, ◌≤◌, ◌<◌, ◌↔◌, ℕ, IsTrue, IsSome, IfSome, Some};
+    ghost use Rattle.std.specs.Prelude.{◌≡◌, ◌≤◌, ◌<◌, ◌↔◌, ℕ, IsTrue, IsSome, IfSome, Some, slice_get};
     ghost use Rattle.dnp_objects.specs.declared.row.Row.{Row as RowValue};
     ghost use Rattle.dnp_objects.specs.declared.command.Command.{Command as CommandValue};
     ghost use Rattle.dnp_appfragment.specs.Objects.{IsRow, IsCommand, HasRows, HasCommands};
@@ -73,6 +74,14 @@ impl<'a> Header<'a> {
         ensures there { HasRows (head self.now) → k < count_of self.now.range → IsSome result }
     {
         row_at(self.group, self.variation, self.range, self.octets, k)
+    }
+
+    /// The rows of the header, in order: as the k-th item it gives what `row(k)` gives, and it ends
+    /// before the first k where that gives none. To go through all of them is quicker so.
+    pub fn rows(&self) -> RowWalk<'a>
+        ensures { (k : ℕ) → slice_get result k ≡ row_in (head self.now) k }
+    {
+        RowWalk::new(self)
     }
 
     /// Command k of the header, counted from 0, with its status, or `None` where there are fewer

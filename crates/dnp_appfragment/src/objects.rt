@@ -16,7 +16,8 @@ use crate::reading::number_at;
 use dnp_objects::{Command, Kind, Row, Status, object_size, read_command, row_shape};
 
 /// The index of object k, and the octets behind it.
-fn index_at(range: Range, k: usize, octets: &[u8]) -> Option<(u16, &[u8])>
+#[inline]
+pub(crate) fn index_at(range: Range, k: usize, octets: &[u8]) -> Option<(u16, &[u8])>
     requires { k < count range }
     ensures { option_map number_and_rest result ≡ reading.index_at range k octets.now }
 {
@@ -48,7 +49,8 @@ fn object_at(range: Range, octets: &[u8], size: usize, k: usize) -> Option<(u16,
 }
 
 /// Binary k of packed bits.
-fn bit_at(range: Range, octets: &[u8], k: usize) -> Option<Row>
+pub(crate) fn bit_at(range: Range, octets: &[u8], k: usize) -> Option<Row>
+    ensures value { result ≡ meaning.bit_in (head_of 1 1 range octets.now) k }
     ensures found { IfSome result (spec.IsBit (head_of 1 1 range octets.now) k) }
     ensures only { (row : RowValue) → spec.IsBit (head_of 1 1 range octets.now) k row → result ≡ Some row }
     ensures there { spec.IsSpan range → k < count range → k / 8 < length octets.now → IsSome result }
