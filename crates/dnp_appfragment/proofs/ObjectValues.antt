@@ -65,7 +65,7 @@ same_some o a b p q = cc
 
 -- ---- a row
 
-shape_sized : (g v : ℕ) (s : Shape) → shape_read g v ≡ Some s → object_size g v ≡ Some (shape_size s)
+pub shape_sized : (g v : ℕ) (s : Shape) → shape_read g v ≡ Some s → object_size g v ≡ Some (shape_size s)
 shape_sized g v s is = go (content_of g v) is
   where
     go : (o : Option Content) → option_and_then readable o ≡ Some s → option_map content_size o ≡ Some (shape_size s)

@@ -1,15 +1,15 @@
 -- The rows that a walk gives are those of the header, one by one.
-use Rattle.std.proofs.Common.{◌≡◌, refl, sym, ◌∙◌, ap, subst, ℕ, zero, suc, ◌+◌, ◌-◌, ◌*◌, ◌/◌, ◌%◌, ◌<◌, ◌≤◌, ◌⊎◌, Bool, true, false, cond, List, [], ◌∷◌, length, take, drop, arith, Option, Some, None, IfSome, nat_lt, ◌==◌, ◌&&◌, inl, inr}
-use Rattle.std.specs.Prelude.{slice_get, slice_index, pos, MatchOption}
+use Rattle.std.proofs.Common.{eqb-true, ◌≡◌, refl, sym, ◌∙◌, ap, subst, ℕ, zero, suc, ◌+◌, ◌-◌, ◌*◌, ◌/◌, ◌%◌, ◌<◌, ◌≤◌, ◌⊎◌, Bool, true, false, cond, List, [], ◌∷◌, length, take, drop, arith, Option, Some, None, IfSome, nat_lt, ◌==◌, ◌&&◌, inl, inr}
+use Rattle.std.specs.Prelude.{slice_get, slice_index, pos, MatchOption, is_some, IsSome}
 use Rattle.std.specs.Int.{bit_at}
-use Rattle.std.specs.Option.{option_map, option_and_then, option_map_or}
+use Rattle.std.specs.Option.{option_map, option_and_then, option_map_or, IsSomeAnd}
 use Rattle.std.proofs.lemmas.Bool.{ltb-true, ltb-false, le-ltb, lt-ltb, cond_both, and_parts, and_from}
 use Rattle.std.proofs.lemmas.List.{length-drop, drop-drop}
 use Rattle.std.proofs.Math.Nat.{suc-mul, mul-le-mul_right}
 use Rattle.dnp_objects.specs.declared.row.Kind.TheVariants.{Binary}
 use Rattle.dnp_objects.specs.declared.row.Row.{Row}
 use Rattle.dnp_objects.specs.declared.table.Shape.{Shape}
-use Rattle.dnp_objects.specs.Objects.{shape_read, shape_size, IsShape}
+use Rattle.dnp_objects.specs.Objects.{object_size, shape_read, shape_size, IsShape}
 use Rattle.dnp_objects.specs.Parts.{row_of}
 use Rattle.dnp_objects.specs.Rows.{IsReading}
 use Rattle.dnp_objects.proofs.Spelling.{only_reading}
@@ -20,7 +20,10 @@ use Rattle.dnp_appfragment.specs.declared.row_walk.Carried.TheVariants as carrie
 use Rattle.dnp_appfragment.specs.Headers.{count_of, prefix_size}
 use Rattle.dnp_appfragment.specs.Reading.{index_at, first_octets, object_at}
 use Rattle.dnp_appfragment.specs.Meaning.{start_of, bit_in, shaped_row_in, row_in}
+use Rattle.dnp_appfragment.specs.Objects.{IsSpan, HasRows}
 use Rattle.dnp_appfragment.specs.Seen.{head_of}
+use Rattle.dnp_appfragment.proofs.ObjectValues.{shape_sized}
+use Rattle.dnp_appfragment.proofs.There.{bits_of, rows_of}
 use Rattle.dnp_appfragment.specs.Walking.{carried_by, Cut, cut_octets, cut_at, shaped_left, bits_left, rows_left, IsCarried}
 
 -- ---- a step
@@ -314,3 +317,70 @@ walk_is g v r octets c left carries counts i =
         ≡ cond b (bit_in (head_of g v r octets) i) (option_and_then (shaped_row_in (head_of g v r octets) i) (shape_read g v))
     go true = bits_are r octets (count_of r) 0 i (at (count_of r)) ∙ ap (bit_in (head_of 1 1 r octets)) (at i)
     go false = shaped (shape_read g v)
+
+-- ---- how many rows there are
+
+-- a list that gives what f gives is as long as f gives something
+pub long_as : (xs : List Row) (f : ℕ → Option Row) (n : ℕ) → ((k : ℕ) → slice_get xs k ≡ f k) → ((k : ℕ) → k < n → is_some (f k) ≡ true)
+    → ((k : ℕ) → n ≤ k → f k ≡ None) → length xs ≡ n
+long_as [] f zero gives some none = refl
+long_as [] f (suc n) gives some none = let first = gives 0 in let there = some 0 (omega arith) in cc
+long_as (x ∷ xs) f zero gives some none = let first = gives 0 in let past = none 0 (omega arith) in cc
+long_as (x ∷ xs) f (suc n) gives some none =
+    ap suc (long_as xs (λ k. f (suc k)) n (λ k. gives (suc k)) (λ k below. some (suc k) (omega (arith, below))) (λ k past. none (suc k) (omega (arith, past))))
+
+pub no_longer : (xs : List Row) (f : ℕ → Option Row) (n : ℕ) → ((k : ℕ) → slice_get xs k ≡ f k) → ((k : ℕ) → n ≤ k → f k ≡ None) → length xs ≤ n
+no_longer [] f n gives none = omega arith
+no_longer (x ∷ xs) f zero gives none = let first = gives 0 in let past = none 0 (omega arith) in cc
+no_longer (x ∷ xs) f (suc n) gives none =
+    let fewer = no_longer xs (λ k. f (suc k)) n (λ k. gives (suc k)) (λ k past. none (suc k) (omega (arith, past))) in
+    omega (arith, fewer)
+
+-- no row behind the count
+pub row_past : (g v : ℕ) (r : Range) (octets : List ℕ) (k : ℕ) → count_of r ≤ k → row_in (head_of g v r octets) k ≡ None
+row_past g v r octets k past =
+    cond_both ((g == 1) && (v == 1)) (bit_in (head_of g v r octets) k) (option_and_then (shaped_row_in (head_of g v r octets) k) (shape_read g v))
+    (λ (o : Option Row). o ≡ None) (λ _. bit_none r octets k (λ counted there. absurd (omega (arith, counted, past)))) (λ _. shaped (shape_read g v))
+  where
+    shaped : (o : Option Shape) → option_and_then (shaped_row_in (head_of g v r octets) k) o ≡ None
+    shaped None = refl
+    shaped (Some s) = ap (option_map (λ (x : ℕ × List ℕ). row_of s x.0 x.1)) (object_past r octets (shape_size s) k past)
+
+-- in a response each row that the range names is there
+pub row_there_in : (g v : ℕ) (r : Range) (octets : List ℕ) (k : ℕ) → HasRows (head_of g v r octets) → k < count_of r
+    → is_some (row_in (head_of g v r octets) k) ≡ true
+unfolding the_bit
+row_there_in g v r octets k has here = go ((g == 1) && (v == 1)) refl
+  where
+    mapped : {A : Type 0} (f : A → Row) (o : Option A) → is_some o ≡ true → is_some (option_map f o) ≡ true
+    mapped f None is = cc
+    mapped f (Some a) is = refl
+
+    started : (r : Range) → IsSpan r → is_some (start_of r) ≡ true
+    started range.All span = absurd span
+    started (range.Span wide first last) span = refl
+    started (range.Count wide n) span = absurd span
+    started (range.Indexed wide n) span = absurd span
+
+    shaped : (o : Option Shape) → shape_read g v ≡ o → is_some o ≡ true → IsSomeAnd (object_size g v) (λ size. IsSome (object_at r octets size k))
+        → is_some (option_and_then (shaped_row_in (head_of g v r octets) k) o) ≡ true
+    shaped None at is there = cc
+    shaped (Some s) at is there =
+        let object : is_some (object_at r octets (shape_size s) k) ≡ true =
+        subst (λ (o : Option ℕ). IsSomeAnd o (λ size. IsSome (object_at r octets size k))) (shape_sized g v s at) there in
+        mapped (λ (x : ℕ × List ℕ). row_of s x.0 x.1) (object_at r octets (shape_size s) k) object
+
+    go : (b : Bool) → ((g == 1) && (v == 1)) ≡ b
+        → is_some (cond b (bit_in (head_of g v r octets) k) (option_and_then (shaped_row_in (head_of g v r octets) k) (shape_read g v))) ≡ true
+    go true packed =
+        let names = and_parts (g == 1) (v == 1) packed in
+        let bits = bits_of g v r octets k (eqb-true g 1 names.0) (eqb-true v 1 names.1) has here in
+        let both : (nat_lt k (count_of r) && nat_lt (k / 8) (length octets)) ≡ true =
+        and_from (nat_lt k (count_of r)) (nat_lt (k / 8) (length octets)) (lt-ltb k (count_of r) here) (lt-ltb (k / 8) (length octets) bits.1) in
+        ap (λ (b : Bool). is_some (cond b (option_map (the_bit octets k) (start_of r)) None)) both
+        ∙ mapped (the_bit octets k) (start_of r) (started r bits.0)
+    go false other =
+        let apart : g ≡ 1 → v ≡ 1 → ⊥ = λ group variation.
+        let is : ((g == 1) && (v == 1)) ≡ true = λ i. (group i == 1) && (variation i == 1) in cc in
+        let rows = rows_of g v r octets k apart has here in
+        shaped (shape_read g v) refl rows.0 rows.1

@@ -30,7 +30,7 @@ pub struct Header<'a> {
 }
 
 impl<'a> Header<'a> {
-    ghost use Rattle.std.specs.Prelude.{◌≡◌, ◌≤◌, ◌<◌, ◌↔◌, ℕ, IsTrue, IsSome, IfSome, Some, slice_get};
+    ghost use Rattle.std.specs.Prelude.{◌≡◌, ◌≤◌, ◌<◌, ◌↔◌, ℕ, IsTrue, IsSome, IfSome, Some, length, slice_get};
     ghost use Rattle.dnp_objects.specs.declared.row.Row.{Row as RowValue};
     ghost use Rattle.dnp_objects.specs.declared.command.Command.{Command as CommandValue};
     ghost use Rattle.dnp_appfragment.specs.Objects.{IsRow, IsCommand, HasRows, HasCommands};
@@ -79,7 +79,10 @@ impl<'a> Header<'a> {
     /// The rows of the header, in order: as the k-th item it gives what `row(k)` gives, and it ends
     /// before the first k where that gives none. To go through all of them is quicker so.
     pub fn rows(&self) -> RowWalk<'a>
-        ensures { (k : ℕ) → slice_get result k ≡ row_in (head self.now) k }
+        ensures items { (k : ℕ) → slice_get result k ≡ row_in (head self.now) k }
+        ensures few { length result ≤ count_of self.now.range }
+        // In a response they are as many as the range names.
+        ensures counted { HasRows (head self.now) → length result ≡ count_of self.now.range }
     {
         RowWalk::new(self)
     }
