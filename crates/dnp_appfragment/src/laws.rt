@@ -1,12 +1,11 @@
 //! Laws of the words of `specs/`: each function does nothing, and its contract is a law.
 ghost use Rattle.std.specs.Prelude.{◌≡◌, ◌^◌, ℕ, false, true, List, [], ◌∷◌, map};
-ghost use Rattle.std.specs.List.{AllByRecursion};
 ghost use Rattle.dnp_appfragment.specs.declared.fault.AppFault.{AppFault};
 ghost use Rattle.dnp_appfragment.specs.declared.iin.Iin.{Iin as IinValue};
 ghost use Rattle.dnp_appfragment.specs.declared.table.Form.TheVariants as form;
 ghost use Rattle.dnp_appfragment.specs.Control.{IsControl};
 ghost use Rattle.dnp_appfragment.specs.Table.{form_of, is_response};
-ghost use Rattle.dnp_appfragment.specs.Headers.{IsHeader};
+ghost use Rattle.dnp_appfragment.specs.Headers.{AreHeaders, begin};
 ghost use Rattle.dnp_appfragment.specs.Fragments.{Asked, Answered, IsRequest, IsResponse, request_octets, response_octets};
 ghost use Rattle.dnp_appfragment.specs.Faults.{IsRequestFault, IsResponseFault};
 
@@ -38,9 +37,9 @@ pub fn octets_are_one_response()
 /// says just these.
 pub fn what_is_spelled_is_a_fragment()
     ensures request { (asked : Asked) → IsControl asked.control → is_response asked.function ≡ false
-        → AllByRecursion (IsHeader (form_of asked.function)) asked.headers → IsRequest (request_octets asked) asked }
+        → AreHeaders (form_of asked.function) begin asked.headers → IsRequest (request_octets asked) asked }
     ensures response { (answered : Answered) → IsControl answered.control → is_response answered.function ≡ true
-        → AllByRecursion (IsHeader form.Response) answered.headers → IsResponse (response_octets answered) answered }
+        → AreHeaders form.Response begin answered.headers → IsResponse (response_octets answered) answered }
 {}
 
 /// Where no headers are looked for there are none.
