@@ -28,3 +28,12 @@ pub only_fault_of : {X Y : Type 0} (view : X → Y) (r : Result X AppFault) (wan
     → Gives view r wanted → wanted ≡ Err e → r ≡ Err e
 only_fault_of view (Ok x) wanted e gives is = cc
 only_fault_of view (Err d) wanted e gives is = cc
+
+-- ---- what is wanted, without a call
+
+pub meant : {Y : Type 0} (P : Y → Type 0) (Q : AppFault → Type 0) (wanted : Result Y AppFault) (y : Y) → Meets wanted P Q → wanted ≡ Ok y → P y
+meant {Y} P Q wanted y meets is = subst (λ (w : Result Y AppFault). Meets w P Q) is meets
+
+pub meant_fault : {Y : Type 0} (P : Y → Type 0) (Q : AppFault → Type 0) (wanted : Result Y AppFault) (e : AppFault) → Meets wanted P Q
+    → wanted ≡ Err e → Q e
+meant_fault {Y} P Q wanted e meets is = subst (λ (w : Result Y AppFault). Meets w P Q) is meets

@@ -2,7 +2,6 @@
 use Rattle.std.proofs.Common.{◌≡◌, Bool, true, false, cond, sym, ◌∙◌, ap, subst, ℕ, ◌+◌, ◌≤◌, List, [], ◌∷◌, ◌++◌, length, arith, Option, Some, None, IfSome, Result}
 use Rattle.std.specs.Option.{option_map}
 use Rattle.std.specs.Result.{result_unwrap_or}
-use Rattle.std.specs.List.{AllByRecursion}
 use Rattle.std.proofs.lemmas.List.{append-nil, length-append}
 use Rattle.std.proofs.lemmas.Grind.{flat_map-append}
 use Rattle.dnp_appfragment.specs.declared.fault.AppFault.{AppFault}
@@ -10,7 +9,7 @@ use Rattle.dnp_appfragment.specs.declared.function.Function.{Function}
 use Rattle.dnp_appfragment.specs.declared.run.Run.{Run}
 use Rattle.dnp_appfragment.specs.declared.table.Form.{Form}
 use Rattle.dnp_appfragment.specs.Table.{form_of, is_response}
-use Rattle.dnp_appfragment.specs.Headers.{Head, header_octets, spelled, IsHeader, Divide}
+use Rattle.dnp_appfragment.specs.Headers.{Head, header_octets, spelled, IsHeader, Divide, AreHeaders, begin}
 use Rattle.dnp_appfragment.specs.Left.{headers_of}
 use Rattle.dnp_appfragment.specs.Built.{Built, front_size, heads, size, broken, with_header}
 use Rattle.dnp_appfragment.specs.Building.{run_head, built, IsBuilt}
@@ -21,7 +20,7 @@ use Rattle.dnp_appfragment.proofs.Divisions.{divided_headers}
 pub headers_are : (f : Form) (octets : List ℕ) (hs : List Head) → Divide f octets hs → headers_of f octets ≡ hs
 headers_are f octets hs divide = ap (λ (r : Result (List Head) AppFault). result_unwrap_or r []) (divided_headers f octets hs divide)
 
-each-append : (f : Form) (hs gs : List Head) → AllByRecursion (IsHeader f) hs → AllByRecursion (IsHeader f) gs → AllByRecursion (IsHeader f) (hs ++ gs)
+each-append : (f : Form) (hs gs : List Head) → AreHeaders f begin hs → AreHeaders f begin gs → AreHeaders f begin (hs ++ gs)
 each-append f [] gs some others = others
 each-append f (h ∷ hs) gs some others = (some.0, each-append f hs gs some.1 others)
 

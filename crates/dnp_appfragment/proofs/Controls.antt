@@ -2,7 +2,7 @@
 use Rattle.std.proofs.Common.{◌≡◌, refl, sym, ap, ℕ, ◌*◌, ◌/◌, ◌%◌, ◌<◌, ◌≤◌, Bool, true, false, cond, arith, ◌==◌, eqb-true}
 use Rattle.std.proofs.lemmas.Bool.{eqb-false}
 use Rattle.dnp_appfragment.specs.Control.{ControlBits, IsControl, control_octet}
-use Rattle.dnp_appfragment.specs.Reading.{control_of}
+use Rattle.dnp_appfragment.specs.Meaning.{control_of}
 
 -- a bit as a number
 worth : Bool → ℕ

@@ -1,10 +1,9 @@
 -- The headers that divide octets, read and spelled.
 use Rattle.std.proofs.Common.{◌≡◌, refl, sym, ◌∙◌, ap, subst, ℕ, zero, suc, ◌<◌, ◌≤◌, List, [], ◌∷◌, ◌++◌, length, arith, Result, Ok, Err}
-use Rattle.std.specs.List.{AllByRecursion}
 use Rattle.std.proofs.lemmas.List.{append_assoc}
 use Rattle.dnp_appfragment.specs.declared.fault.AppFault.{AppFault}
 use Rattle.dnp_appfragment.specs.declared.table.Form.{Form}
-use Rattle.dnp_appfragment.specs.Headers.{Head, header_octets, spelled, IsHeader, Divide}
+use Rattle.dnp_appfragment.specs.Headers.{Head, header_octets, spelled, IsHeader, Divide, AreHeaders, begin}
 use Rattle.dnp_appfragment.specs.Faults.{IsHeaderFault, HasHeaderFault}
 use Rattle.dnp_appfragment.specs.Reading.{◌>>=◌, header_at, headers_at}
 use Rattle.dnp_appfragment.proofs.Numbers.{AreOctets}
@@ -62,7 +61,7 @@ step_over f h rest is =
     headers_step f (header_octets h ++ rest) (omega arith)
     ∙ ap (next f) (header_again f h rest is)
 
-spelled_again : (f : Form) (hs : List Head) → AllByRecursion (IsHeader f) hs → headers_at f (spelled hs) ≡ Ok hs
+spelled_again : (f : Form) (hs : List Head) → AreHeaders f begin hs → headers_at f (spelled hs) ≡ Ok hs
 unfolding onto
 spelled_again f [] each = headers_none f
 spelled_again f (h ∷ hs) each = step_over f h (spelled hs) each.0 ∙ ap (onto h) (spelled_again f hs each.1)
@@ -71,7 +70,7 @@ pub divided_headers : (f : Form) (octets : List ℕ) (hs : List Head) → Divide
 divided_headers f octets hs divide = ap (headers_at f) divide.whole ∙ spelled_again f hs divide.each
 
 -- and refused for the first fault
-fault_after : (f : Form) (before : List Head) (rest : List ℕ) (e : AppFault) → AllByRecursion (IsHeader f) before → IsHeaderFault f rest e
+fault_after : (f : Form) (before : List Head) (rest : List ℕ) (e : AppFault) → AreHeaders f begin before → IsHeaderFault f rest e
     → headers_at f (spelled before ++ rest) ≡ Err e
 unfolding onto
 fault_after f [] rest e each here = stops f rest e (fault_some f rest e here) (fault_again f rest e here)

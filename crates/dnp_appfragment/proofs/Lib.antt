@@ -10,9 +10,11 @@ pub mod Held
 pub mod Joins
 pub mod Numbers
 pub mod ObjectHeaders
+pub mod ObjectValues
 pub mod OneFragment
 pub mod Ranges
 pub mod ReadBack
 pub mod Requests
 pub mod There
 pub mod Walk
+pub mod Walked

@@ -1,6 +1,7 @@
 -- Numbers of one octet and of two, and lists of octets.
-use Rattle.std.proofs.Common.{◌≡◌, refl, ap, ℕ, suc, ◌+◌, ◌*◌, ◌/◌, ◌%◌, ◌<◌, Bool, true, false, List, [], ◌∷◌, ◌++◌, length, get_or, arith, Result, Ok, Err}
-use Rattle.std.specs.Prelude.{⊤}
+use Rattle.std.proofs.Common.{◌≡◌, refl, ap, ℕ, suc, ◌+◌, ◌*◌, ◌/◌, ◌%◌, ◌^◌, ◌<◌, Bool, true, false, List, [], ◌∷◌, ◌++◌, length, get_or, arith, Result, Ok, Err}
+use Rattle.std.specs.Prelude.{⊤, slice_index_or}
+use Rattle.std.specs.List.{All}
 use Rattle.dnp_appfragment.specs.declared.fault.AppFault.{AppFault}
 use Rattle.dnp_appfragment.specs.declared.fault.AppFault.TheVariants.{HeaderCut}
 use Rattle.dnp_appfragment.specs.Headers.{number, limit}
@@ -14,6 +15,11 @@ AreOctets (b ∷ bs) = (b < 256) × AreOctets bs
 pub are_octets : (bs : List ℕ) → ((i : ℕ) → get_or bs i 0 < 256) → AreOctets bs
 are_octets [] each = tt
 are_octets (b ∷ bs) each = (each 0, are_octets bs (λ i. let next : get_or (b ∷ bs) (suc i) 0 < 256 = each (suc i) in next))
+
+pub octets_all : (bs : List ℕ) → All (λ b. b < 2 ^ 8) bs → AreOctets bs
+octets_all [] all = tt
+octets_all (b ∷ bs) all =
+    (all 0 0 (omega arith), octets_all bs (λ k d below. let next : slice_index_or (b ∷ bs) (suc k) d < 256 = all (suc k) d (omega arith) in next))
 
 -- the octets of a number
 abbrev pub number_size : Bool → ℕ

@@ -1,7 +1,6 @@
 -- Octets are one fragment or have one fault, and what is spelled is a fragment.
 use Rattle.std.proofs.Common.{◌≡◌, refl, subst, ℕ, true, false, IsTrue, List, [], ◌∷◌, Option, None, Result, Ok, Err}
 use Rattle.std.specs.Option.{IsSomeAnd}
-use Rattle.std.specs.List.{AllByRecursion}
 use Rattle.dnp_objects.specs.Objects.{objects}
 use Rattle.dnp_appfragment.specs.declared.fault.AppFault.{AppFault}
 use Rattle.dnp_appfragment.specs.declared.table.Form.{Form}
@@ -9,10 +8,10 @@ use Rattle.dnp_appfragment.specs.declared.table.Form.TheVariants as form
 use Rattle.dnp_appfragment.specs.declared.table.Takes.{Takes}
 use Rattle.dnp_appfragment.specs.Control.{IsControl}
 use Rattle.dnp_appfragment.specs.Table.{rules, takes_of, allows, form_of, is_response}
-use Rattle.dnp_appfragment.specs.Headers.{Head, qualifier_of, IsHeader, Divide, spelled}
+use Rattle.dnp_appfragment.specs.Headers.{Head, qualifier_of, IsHeader, Divide, spelled, AreHeaders, begin}
 use Rattle.dnp_appfragment.specs.Fragments.{Asked, Answered, looked_at, IsRequest, IsResponse, request_octets, response_octets}
 use Rattle.dnp_appfragment.specs.Faults.{IsRequestFault, IsResponseFault}
-use Rattle.dnp_appfragment.specs.Reading.{request_at, response_at}
+use Rattle.dnp_appfragment.specs.Meaning.{request_at, response_at}
 use Rattle.dnp_appfragment.proofs.Requests.{request_again, request_fault, response_again, response_fault}
 
 same_ok : {A : Type 0} (r : Result A AppFault) (a b : A) → r ≡ Ok a → r ≡ Ok b → a ≡ b
@@ -51,7 +50,7 @@ no_bare_header : (h : Head) → IsHeader form.Bare h → ⊥
 no_bare_header h is =
     subst (λ (o : Option Takes). IsSomeAnd o (λ t. IsTrue (allows t (qualifier_of h.range)))) (bare_takes h.group h.variation) is.object
 
-divided : (f : Form) (hs : List Head) → AllByRecursion (IsHeader f) hs → Divide f (looked_at f (spelled hs)) hs
+divided : (f : Form) (hs : List Head) → AreHeaders f begin hs → Divide f (looked_at f (spelled hs)) hs
 divided form.Bare [] each = record { each = each; whole = refl }
 divided form.Bare (h ∷ hs) each = absurd (no_bare_header h each.0)
 divided form.Read hs each = record { each = each; whole = refl }
@@ -61,7 +60,7 @@ divided form.Enable hs each = record { each = each; whole = refl }
 divided form.Response hs each = record { each = each; whole = refl }
 
 pub spelled_request : (asked : Asked) → IsControl asked.control → is_response asked.function ≡ false
-    → AllByRecursion (IsHeader (form_of asked.function)) asked.headers → IsRequest (request_octets asked) asked
+    → AreHeaders (form_of asked.function) begin asked.headers → IsRequest (request_octets asked) asked
 spelled_request asked control function each = record {
   body = spelled asked.headers;
   control = control;
@@ -71,7 +70,7 @@ spelled_request asked control function each = record {
 }
 
 pub spelled_response : (answered : Answered) → IsControl answered.control → is_response answered.function ≡ true
-    → AllByRecursion (IsHeader form.Response) answered.headers → IsResponse (response_octets answered) answered
+    → AreHeaders form.Response begin answered.headers → IsResponse (response_octets answered) answered
 spelled_response answered control function each = record {
   body = spelled answered.headers;
   control = control;

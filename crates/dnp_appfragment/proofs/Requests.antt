@@ -10,7 +10,8 @@ use Rattle.dnp_appfragment.specs.Table.{function_of, function_octet, form_of, is
 use Rattle.dnp_appfragment.specs.Headers.{Head}
 use Rattle.dnp_appfragment.specs.Fragments.{Asked, Answered, looked_at, IsRequest, IsResponse}
 use Rattle.dnp_appfragment.specs.Faults.{HasRequestFault, HasResponseFault, IsRequestFault, IsResponseFault}
-use Rattle.dnp_appfragment.specs.Reading.{◌>>=◌, headers_at, control_of, function_at, request_at, response_at}
+use Rattle.dnp_appfragment.specs.Reading.{◌>>=◌, headers_at}
+use Rattle.dnp_appfragment.specs.Meaning.{control_of, function_at, request_at, response_at}
 use Rattle.dnp_appfragment.proofs.Answering.{Meets}
 use Rattle.dnp_appfragment.proofs.Numbers.{AreOctets}
 use Rattle.dnp_appfragment.proofs.Controls.{control_of_octet, octet_of_control}

@@ -1,5 +1,6 @@
 -- Going through the headers of a fragment one by one. Nothing here asks that the numbers are octets.
-use Rattle.std.proofs.Common.{◌≡◌, refl, sym, ◌∙◌, ap, subst, ℕ, zero, suc, ◌<◌, ◌≤◌, Bool, true, false, IsTrue, cond, List, [], ◌∷◌, length, take, drop, arith, Result, Ok, Err, IfOk, nat_lt, ◌==◌}
+use Rattle.std.proofs.Common.{◌≡◌, refl, sym, ◌∙◌, ap, subst, ℕ, zero, suc, ◌<◌, ◌≤◌, Bool, true, false, IsTrue, cond, List, [], ◌∷◌, length, take, drop, arith, Option, Some, None, Bor, ◌-◌, Result, Ok, Err, IfOk, nat_lt, ◌==◌}
+use Rattle.std.specs.Prelude.{is_some}
 use Rattle.std.specs.Result.{is_ok, result_unwrap_or}
 use Rattle.std.proofs.lemmas.Bool.{cond_both}
 use Rattle.std.proofs.lemmas.List.{length-drop}
@@ -11,7 +12,10 @@ use Rattle.dnp_appfragment.specs.declared.table.Form.{Form}
 use Rattle.dnp_appfragment.specs.declared.table.Takes.{Takes}
 use Rattle.dnp_appfragment.specs.Table.{takes_of}
 use Rattle.dnp_appfragment.specs.Headers.{Head, objects_size}
-use Rattle.dnp_appfragment.specs.Left.{is_whole, headers_of}
+use Rattle.dnp_appfragment.specs.declared.header.Header.{Header}
+use Rattle.dnp_appfragment.specs.Left.{Left, is_whole, headers_of}
+use Rattle.dnp_appfragment.specs.Places.{Ends, YieldsHeader}
+use Rattle.dnp_appfragment.specs.Seen.{head}
 use Rattle.dnp_appfragment.specs.Reading.{◌>>=◌, number_at, span_at, count_at, indexed_at, range_at, taken, objects_at, header_at, headers_in, headers_at}
 
 pub not_empty : (octets : List ℕ) → (length octets == 0) ≡ false → 0 < length octets
@@ -222,3 +226,24 @@ pub no_stop : (f : Form) (octets : List ℕ) (e : AppFault) → 0 < length octet
 no_stop f octets e some is whole =
     let same : is_ok (headers_at f octets) ≡ false = ap (λ (r : Result (List Head) AppFault). is_ok r) (stops f octets e some is) in
     cc
+
+-- ---- passing headers
+
+ends_on : (source old new : Bor (List ℕ)) → Ends source old → Ends old new → Ends source new
+ends_on source old new is on = (on.0 ∙ is.0, on.1 ∙ is.1)
+
+-- a header passed is one fewer to be passed
+pub passes : (source : Bor (List ℕ)) (all : List Head) (old new : Left) (given : Option Header) (n : ℕ) → YieldsHeader old given new
+    → is_some given ≡ true → (drop n old.headers ≡ all) × Ends source old.rest → 0 < n → (drop (n - 1) new.headers ≡ all) × Ends source new.rest
+passes source all old new None n yields some is more = cc
+passes source all old new (Some h) n yields some is more =
+    let one : n ≡ suc (n - 1) = omega arith in (
+      ap (λ (m : ℕ). drop m (head h ∷ new.headers)) (sym one) ∙ ap (drop n) (sym yields.0) ∙ is.0,
+      ends_on source old.rest new.rest is.1 yields.1.0,
+    )
+
+-- and where there is none, what is left stays
+pub stays : (source : Bor (List ℕ)) (old new : Left) (given : Option Header) → YieldsHeader old given new → is_some given ≡ false
+    → Ends source old.rest → Ends source new.rest
+stays source old new None yields none is = subst (λ (b : Bor (List ℕ)). Ends source b) (sym yields.1) is
+stays source old new (Some h) yields none is = cc

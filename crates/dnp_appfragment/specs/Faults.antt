@@ -1,7 +1,6 @@
 -- Why octets are no fragment: the first fault from left to right (IEEE Std 1815-2012, application layer).
 -- Each of these facts says that all before the fault is in order, so that octets have one fault at most.
 use Rattle.std.specs.Prelude.{◌≡◌, ◌≢◌, ℕ, ◌<◌, Bool, true, false, ◌==◌, if◌then◌else◌, ◌⊎◌, List, ◌∷◌, ◌++◌, length, Some, None}
-use Rattle.std.specs.List.{AllByRecursion}
 use Rattle.dnp_appfragment.specs.declared.fault.AppFault.{AppFault}
 use Rattle.dnp_appfragment.specs.declared.fault.AppFault.TheVariants.{Short, FunctionUnknown, HeaderCut, QualifierUnknown, ObjectUnknown, RangeBackward, ObjectsCut}
 use Rattle.dnp_appfragment.specs.declared.function.Function.{Function}
@@ -10,8 +9,18 @@ use Rattle.dnp_appfragment.specs.declared.table.Form.{Form}
 use Rattle.dnp_appfragment.specs.declared.table.Form.TheVariants as form
 use Rattle.dnp_appfragment.specs.declared.table.Takes.{Takes}
 use Rattle.dnp_appfragment.specs.Table.{function_octet, form_of, is_response, takes_of, allows, IsInTable}
-use Rattle.dnp_appfragment.specs.Headers.{Head, qualifier_of, range_octets, NumbersFit, IsForward, objects_size, spelled, IsHeader}
+use Rattle.dnp_appfragment.specs.Headers.{Head, qualifier_of, range_octets, NumbersFit, IsForward, objects_size, spelled, AreHeaders, begin}
 use Rattle.dnp_appfragment.specs.Fragments.{looked_at}
+
+-- the number of a fault
+abbrev pub fault_number : AppFault → ℕ
+fault_number Short = 1
+fault_number FunctionUnknown = 2
+fault_number HeaderCut = 3
+fault_number QualifierUnknown = 4
+fault_number ObjectUnknown = 5
+fault_number RangeBackward = 6
+fault_number ObjectsCut = 7
 
 -- ---- of a header
 
@@ -95,7 +104,7 @@ IsHeaderFault f octets FunctionUnknown = ⊥
 pub record HasHeaderFault (f : Form) (octets : List ℕ) (fault : AppFault) : Type 0 where
   pub before : List Head
   pub rest : List ℕ
-  pub each : AllByRecursion (IsHeader f) before
+  pub each : AreHeaders f begin before
   pub whole : octets ≡ spelled before ++ rest
   pub here : IsHeaderFault f rest fault
 

@@ -1,7 +1,7 @@
 -- Object headers with their objects, and their one spelling in octets (IEEE Std 1815-2012, application
 -- layer: object headers). A fragment's headers divide its octets.
 use Rattle.std.specs.Prelude.{◌≡◌, ℕ, ◌+◌, ◌-◌, ◌*◌, ◌/◌, ◌%◌, ◌^◌, ◌<◌, ◌≤◌, Bool, true, false, if◌then◌else◌, List, [], ◌∷◌, ◌++◌, length, Option, Some, None, ⊤}
-use Rattle.std.specs.List.{flat_map, AllByRecursion}
+use Rattle.std.specs.List.{flat_map}
 use Rattle.dnp_objects.specs.Objects.{object_size}
 use Rattle.dnp_appfragment.specs.declared.header.Range.{Range}
 use Rattle.dnp_appfragment.specs.declared.header.Range.TheVariants as range
@@ -95,11 +95,30 @@ pub record IsHeader (f : Form) (h : Head) : Type 0 where
   pub forward : IsForward h.range
   pub objects : length h.octets ≡ objects_size f h.group h.variation h.range
 
--- the headers in order
+-- ---- headers, one after the other
+
+-- what the headers before one say for it. Nothing yet: a common time, to which times of rows behind it are
+-- relative, will be a field of it
+abbrev pub Context : Type 0
+Context = ⊤
+
+-- before the first header, and behind one more
+abbrev pub begin : Context
+begin = tt
+
+abbrev pub behind : Context → Head → Context
+behind context h = context
+
+-- each is a header where it stands
+abbrev pub AreHeaders : Form → Context → List Head → Type 0
+AreHeaders f context [] = ⊤
+AreHeaders f context (h ∷ hs) = IsHeader f h × AreHeaders f (behind context h) hs
+
+-- their octets in order
 abbrev pub spelled : List Head → List ℕ
 spelled hs = flat_map header_octets hs
 
 -- the headers divide the octets
 pub record Divide (f : Form) (octets : List ℕ) (hs : List Head) : Type 0 where
-  pub each : AllByRecursion (IsHeader f) hs
+  pub each : AreHeaders f begin hs
   pub whole : octets ≡ spelled hs

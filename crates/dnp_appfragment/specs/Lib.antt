@@ -8,10 +8,12 @@ pub mod Indications
 pub mod Items
 pub mod Joining
 pub mod Left
+pub mod Meaning
 pub mod Objects
 pub mod Places
 pub mod Reading
 pub mod Seen
 pub mod Table
+pub mod Walking
 pub mod Whole
 pub mod Written

@@ -1,20 +1,16 @@
--- Reading a fragment from left to right, up to the first fault: what each private step of reading
--- answers. What the answers have to be is said in Headers.antt, Fragments.antt and Faults.antt.
-use Rattle.std.specs.Prelude.{ℕ, zero, suc, ◌+◌, ◌*◌, ◌%◌, Bool, true, false, nat_lt, ◌==◌, if◌then◌else◌, List, [], ◌∷◌, length, take, drop, Option, Some, None, Result, Ok, Err}
-use Rattle.std.specs.Int.{bit_at}
+-- The steps in which headers, and the objects of one, are cut off the front of octets: the next one, and the
+-- octets behind it, or why there is none. Meaning.antt is made of them; what they have to answer is said in
+-- Headers.antt, Faults.antt and Objects.antt.
+use Rattle.std.specs.Prelude.{ℕ, zero, suc, ◌+◌, ◌*◌, Bool, true, false, nat_lt, ◌==◌, if◌then◌else◌, List, [], ◌∷◌, length, take, drop, Option, Some, None, Result, Ok, Err}
 use Rattle.std.specs.Result.{result_ok}
 use Rattle.dnp_appfragment.specs.declared.fault.AppFault.{AppFault}
-use Rattle.dnp_appfragment.specs.declared.fault.AppFault.TheVariants.{Short, FunctionUnknown, HeaderCut, QualifierUnknown, ObjectUnknown, RangeBackward, ObjectsCut}
-use Rattle.dnp_appfragment.specs.declared.function.Function.{Function}
+use Rattle.dnp_appfragment.specs.declared.fault.AppFault.TheVariants.{HeaderCut, QualifierUnknown, ObjectUnknown, RangeBackward, ObjectsCut}
 use Rattle.dnp_appfragment.specs.declared.header.Range.{Range}
 use Rattle.dnp_appfragment.specs.declared.header.Range.TheVariants as range
 use Rattle.dnp_appfragment.specs.declared.table.Form.{Form}
-use Rattle.dnp_appfragment.specs.declared.table.Form.TheVariants as form
 use Rattle.dnp_appfragment.specs.declared.table.Takes.{Takes}
-use Rattle.dnp_appfragment.specs.Control.{ControlBits}
-use Rattle.dnp_appfragment.specs.Table.{form_of, is_response, function_of, takes_of, allows}
+use Rattle.dnp_appfragment.specs.Table.{takes_of, allows}
 use Rattle.dnp_appfragment.specs.Headers.{Head, objects_size, count_of, prefix_size}
-use Rattle.dnp_appfragment.specs.Fragments.{Asked, Answered, looked_at}
 
 -- the next step, if there was no fault
 infixl 10 ◌>>=◌
@@ -110,38 +106,3 @@ object_at r octets size k =
     if nat_lt (length octets) (k * (prefix_size r + size)) then None
     else first_octets size (index_at r k (drop (k * (prefix_size r + size)) octets)))
     else None
-
--- ---- a fragment
-
-abbrev pub control_of : ℕ → ControlBits
-control_of octet = record {
-  fir = bit_at octet 7 == 1;
-  fin = bit_at octet 6 == 1;
-  con = bit_at octet 5 == 1;
-  uns = bit_at octet 4 == 1;
-  seq = octet % 16;
-}
-
--- the function of this octet, if it is a response's, or a request's
-abbrev pub function_at : Bool → Option Function → Result Function AppFault
-function_at response None = Err FunctionUnknown
-function_at true (Some f) = if is_response f then Ok f else Err FunctionUnknown
-function_at false (Some f) = if is_response f then Err FunctionUnknown else Ok f
-
-unfoldable pub request_at : List ℕ → Result Asked AppFault
-request_at [] = Err Short
-request_at (control ∷ []) = Err Short
-request_at (control ∷ code ∷ body) = do
-  f ← function_at false (function_of code)
-  hs ← headers_at (form_of f) (looked_at (form_of f) body)
-  Ok (record { control = control_of control; function = f; headers = hs })
-
-unfoldable pub response_at : List ℕ → Result Answered AppFault
-response_at [] = Err Short
-response_at (control ∷ []) = Err Short
-response_at (control ∷ code ∷ []) = Err Short
-response_at (control ∷ code ∷ one ∷ []) = Err Short
-response_at (control ∷ code ∷ one ∷ two ∷ body) = do
-  f ← function_at true (function_of code)
-  hs ← headers_at form.Response body
-  Ok (record { control = control_of control; function = f; iin = record { one = one; two = two }; headers = hs })

@@ -29,8 +29,11 @@ impl Model for Control {
 }
 
 impl Control {
+    ghost use Rattle.dnp_appfragment.specs.Meaning.{control_of};
+
     /// The control of this octet.
     pub fn read(octet: u8) -> Control
+        ensures value { result ≡ control_of octet }
         ensures octet { control_octet result ≡ octet }
         ensures only { (control : ControlBits) → IsControl control → control_octet control ≡ octet → result ≡ control }
         ensures seq { IsControl result }

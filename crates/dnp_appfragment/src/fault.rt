@@ -1,3 +1,6 @@
+ghost use Rattle.std.specs.Prelude.{◌≡◌};
+ghost use Rattle.dnp_appfragment.specs.Faults.{fault_number};
+
 use thiserror::Error;
 
 /// Why octets are no fragment (IEEE Std 1815-2012, application layer). Of several causes it is the
@@ -27,4 +30,13 @@ pub enum AppFault {
     /// The octets end before the last of the objects that the range names.
     #[error("objects that are cut")]
     ObjectsCut = 7,
+}
+
+impl AppFault {
+    /// Its number, 1 to 7.
+    pub fn number(self) -> u8
+        ensures { result ≡ fault_number self }
+    {
+        self as u8
+    }
 }

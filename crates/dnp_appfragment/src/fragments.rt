@@ -1,11 +1,11 @@
-ghost use Rattle.std.specs.Prelude.{◌≡◌, ◌<◌, ℕ, IfOk, IfErr};
+ghost use Rattle.std.specs.Prelude.{◌≡◌, ◌%◌, IfOk, IfErr};
 ghost use Rattle.std.specs.Result.{IsOkAnd};
 ghost use Rattle.dnp_appfragment.specs.declared.fault.AppFault.{AppFault as FaultValue};
 ghost use Rattle.dnp_appfragment.specs.Fragments as spec;
 ghost use Rattle.dnp_appfragment.specs.Fragments.{Asked, Answered, IsRequest, IsResponse, request_octets, confirmation};
 ghost use Rattle.dnp_appfragment.specs.Faults.{IsRequestFault, IsResponseFault};
 ghost use Rattle.dnp_appfragment.specs.Places.{Ends};
-ghost use Rattle.dnp_appfragment.specs.Reading.{request_at, response_at};
+ghost use Rattle.dnp_appfragment.specs.Meaning.{request_at, response_at};
 ghost use Rattle.dnp_appfragment.specs.Seen.{Gives};
 ghost use Rattle.dnp_appfragment.specs.Whole.{request, response};
 
@@ -30,7 +30,7 @@ fn looked_at(form: Form, body: &[u8]) -> &[u8]
 }
 
 /// The request, or the first fault.
-#[tactic(auto, unfolding(crate::specs::Reading::request_at))]
+#[tactic(auto, unfolding(crate::specs::Meaning::request_at))]
 fn request_of(octets: &[u8]) -> Result<Request<'_>, AppFault>
     ensures gives { Gives request result (request_at octets.now) }
     ensures place { IfOk result (λ r. Ends octets.entry r.headers.rest) }
@@ -53,7 +53,7 @@ fn request_of(octets: &[u8]) -> Result<Request<'_>, AppFault>
 }
 
 /// The response, or the first fault.
-#[tactic(auto, unfolding(crate::specs::Reading::response_at))]
+#[tactic(auto, unfolding(crate::specs::Meaning::response_at))]
 fn response_of(octets: &[u8]) -> Result<Response<'_>, AppFault>
     ensures gives { Gives response result (response_at octets.now) }
     ensures place { IfOk result (λ r. Ends octets.entry r.headers.rest) }
@@ -86,6 +86,7 @@ fn response_of(octets: &[u8]) -> Result<Response<'_>, AppFault>
 /// qualifier (`QualifierUnknown`), a range that is cut (`HeaderCut`) or whose stop is under its
 /// start (`RangeBackward`), and objects that are cut (`ObjectsCut`).
 pub fn read_request(octets: &[u8]) -> Result<Request<'_>, AppFault>
+    ensures value { Gives request result (request_at octets.now) }
     ensures found { IfOk result (λ r. IsRequest octets.now (request r)) }
     ensures only { (asked : Asked) → IsRequest octets.now asked → IsOkAnd result (λ r. request r ≡ asked) }
     ensures fault { IfErr result (IsRequestFault octets.now) }
@@ -101,6 +102,7 @@ pub fn read_request(octets: &[u8]) -> Result<Request<'_>, AppFault>
 /// Refused is, from left to right: fewer than 4 octets (`Short`); another function than a
 /// response's (`FunctionUnknown`); and the first header that is not in order, as in a request.
 pub fn read_response(octets: &[u8]) -> Result<Response<'_>, AppFault>
+    ensures value { Gives response result (response_at octets.now) }
     ensures found { IfOk result (λ r. IsResponse octets.now (response r)) }
     ensures only { (answered : Answered) → IsResponse octets.now answered → IsOkAnd result (λ r. response r ≡ answered) }
     ensures fault { IfErr result (IsResponseFault octets.now) }
@@ -111,18 +113,18 @@ pub fn read_response(octets: &[u8]) -> Result<Response<'_>, AppFault>
     response_of(octets)
 }
 
-/// The two octets that confirm the fragment of this sequence number, 0 to 15, of the unsolicited
-/// responses where `uns` is set (IEEE Std 1815-2012, application layer: CONFIRM).
+/// The two octets that confirm the fragment of this sequence number, of the unsolicited responses
+/// where `uns` is set (IEEE Std 1815-2012, application layer: CONFIRM). The number is taken modulo
+/// 16.
 pub fn confirm(seq: u8, uns: bool) -> [u8; 2]
-    requires { seq < 16 }
-    ensures { result ≡ request_octets (confirmation seq uns) }
+    ensures { result ≡ request_octets (confirmation (seq % 16) uns) }
 {
     let control = Control {
         fir: true,
         fin: true,
         con: false,
         uns,
-        seq,
+        seq: seq % 16,
     };
     [control.octet(), Function::Confirm.octet()]
 }

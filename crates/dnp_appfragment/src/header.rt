@@ -1,6 +1,7 @@
 use crate::function::Function;
 use crate::objects::{command_at, row_at};
 use crate::range::{count_of, is_range, objects_size, qualifier_of};
+use crate::row_walk::RowWalk;
 use crate::table::{allows, form_of, takes_of};
 use dnp_objects::{Command, Row, Status};
 
@@ -29,11 +30,12 @@ pub struct Header<'a> {
 }
 
 impl<'a> Header<'a> {
-    ghost use Rattle.std.specs.Prelude.{◌≡◌, ◌≤◌, ◌<◌, ◌↔◌, ℕ, IsTrue, IsSome, IfSome, Some};
+    ghost use Rattle.std.specs.Prelude.{◌≡◌, ◌≤◌, ◌<◌, ◌↔◌, ℕ, IsTrue, IsSome, IfSome, Some, length, slice_get};
     ghost use Rattle.dnp_objects.specs.declared.row.Row.{Row as RowValue};
     ghost use Rattle.dnp_objects.specs.declared.command.Command.{Command as CommandValue};
     ghost use Rattle.dnp_appfragment.specs.Objects.{IsRow, IsCommand, HasRows, HasCommands};
     ghost use Rattle.dnp_appfragment.specs.Headers.{IsHeader, count_of};
+    ghost use Rattle.dnp_appfragment.specs.Meaning.{row_in, command_in};
     ghost use Rattle.dnp_appfragment.specs.Table.{form_of};
     ghost use Rattle.dnp_appfragment.specs.Seen.{head};
 
@@ -65,6 +67,7 @@ impl<'a> Header<'a> {
     /// before it. Packed bits, 1.1, are binaries with the flags 01. No octet behind the row's is
     /// looked at.
     pub fn row(&self, k: usize) -> Option<Row>
+        ensures value { result ≡ row_in (head self.now) k }
         ensures found { IfSome result (IsRow (head self.now) k) }
         ensures only { (row : RowValue) → IsRow (head self.now) k row → result ≡ Some row }
         // In a response each row that the range names is there.
@@ -73,9 +76,21 @@ impl<'a> Header<'a> {
         row_at(self.group, self.variation, self.range, self.octets, k)
     }
 
+    /// The rows of the header, in order: as the k-th item it gives what `row(k)` gives, and it ends
+    /// before the first k where that gives none. To go through all of them is quicker so.
+    pub fn rows(&self) -> RowWalk<'a>
+        ensures items { (k : ℕ) → slice_get result k ≡ row_in (head self.now) k }
+        ensures few { length result ≤ count_of self.now.range }
+        // In a response they are as many as the range names.
+        ensures counted { HasRows (head self.now) → length result ≡ count_of self.now.range }
+    {
+        RowWalk::new(self)
+    }
+
     /// Command k of the header, counted from 0, with its status, or `None` where there are fewer
     /// objects or octets, or the object is no command.
     pub fn command(&self, k: usize) -> Option<(Command, Status)>
+        ensures value { result ≡ command_in (head self.now) k }
         ensures found { IfSome result (IsCommand (head self.now) k) }
         ensures only { (answer : CommandValue × ℕ) → IsCommand (head self.now) k answer → result ≡ Some answer }
         // In any fragment each command that the range names is there.

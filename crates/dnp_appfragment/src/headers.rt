@@ -24,7 +24,8 @@ impl<'a> Model for Headers<'a> {
 }
 
 impl<'a> Headers<'a> {
-    ghost use Rattle.std.specs.Prelude.{◌≡◌, IfOk};
+    ghost use Rattle.std.specs.Prelude.{◌≡◌, IfOk, drop};
+    ghost use Rattle.dnp_appfragment.specs.Places.{Ends};
     ghost use Rattle.dnp_appfragment.specs.Seen.{Gives};
     ghost use Rattle.dnp_appfragment.specs.Reading.{headers_at};
 
@@ -39,6 +40,25 @@ impl<'a> Headers<'a> {
             rest = after;
         }
         Ok(Headers { form, rest: octets })
+    }
+
+    /// The headers from the k-th on, counted from 0, and none past the end. They lie in the same
+    /// octets.
+    pub fn after(&self, k: usize) -> Headers<'a>
+        ensures headers { result.headers ≡ drop k self.now.headers }
+        ensures place { Ends self.now.rest result.rest }
+    {
+        let mut left = Headers {
+            form: self.form,
+            rest: self.rest,
+        };
+        for passed in 0..k {
+            let _ = passed;
+            if left.next().is_none() {
+                return left;
+            }
+        }
+        left
     }
 }
 

@@ -1,20 +1,23 @@
 //! Laws of the words of `specs/`: each function does nothing, and its contract is a law.
 ghost use Rattle.std.specs.Prelude.{◌≡◌, ◌^◌, ℕ, false, true, List, [], ◌∷◌, map};
-ghost use Rattle.std.specs.List.{AllByRecursion};
 ghost use Rattle.dnp_appfragment.specs.declared.fault.AppFault.{AppFault};
 ghost use Rattle.dnp_appfragment.specs.declared.iin.Iin.{Iin as IinValue};
 ghost use Rattle.dnp_appfragment.specs.declared.table.Form.TheVariants as form;
 ghost use Rattle.dnp_appfragment.specs.Control.{IsControl};
 ghost use Rattle.dnp_appfragment.specs.Table.{form_of, is_response};
-ghost use Rattle.dnp_appfragment.specs.Headers.{IsHeader};
+ghost use Rattle.dnp_appfragment.specs.Headers.{AreHeaders, begin};
 ghost use Rattle.dnp_appfragment.specs.Fragments.{Asked, Answered, IsRequest, IsResponse, request_octets, response_octets};
 ghost use Rattle.dnp_appfragment.specs.Faults.{IsRequestFault, IsResponseFault};
 
 use crate::iin::Iin;
 
 mod built;
+mod read;
 
 pub use built::{a_header_holds_what_was_put, what_is_held_is_read, what_is_put_is_held};
+pub use read::{
+    objects_say_rows_and_commands, octets_say_a_request, octets_say_a_response, rows_are_events,
+};
 
 /// Octets are one request at most, and have one fault at most, and never both.
 pub fn octets_are_one_request()
@@ -34,9 +37,9 @@ pub fn octets_are_one_response()
 /// says just these.
 pub fn what_is_spelled_is_a_fragment()
     ensures request { (asked : Asked) → IsControl asked.control → is_response asked.function ≡ false
-        → AllByRecursion (IsHeader (form_of asked.function)) asked.headers → IsRequest (request_octets asked) asked }
+        → AreHeaders (form_of asked.function) begin asked.headers → IsRequest (request_octets asked) asked }
     ensures response { (answered : Answered) → IsControl answered.control → is_response answered.function ≡ true
-        → AllByRecursion (IsHeader form.Response) answered.headers → IsResponse (response_octets answered) answered }
+        → AreHeaders form.Response begin answered.headers → IsResponse (response_octets answered) answered }
 {}
 
 /// Where no headers are looked for there are none.
@@ -45,7 +48,7 @@ pub fn a_bare_request_has_no_headers()
         → asked.headers ≡ [] }
 {}
 
-/// Each named indication is one bit of its octet.
+/// Each named indication is one bit of its octet, and `NONE` has no bit.
 pub fn indications_have_their_bits()
     ensures one { map (λ (iin : IinValue). iin.one) (Iin.BROADCAST ∷ Iin.CLASS_1_EVENTS ∷ Iin.CLASS_2_EVENTS
         ∷ Iin.CLASS_3_EVENTS ∷ Iin.NEED_TIME ∷ Iin.LOCAL_CONTROL ∷ Iin.DEVICE_TROUBLE ∷ Iin.DEVICE_RESTART ∷ [])
@@ -53,6 +56,7 @@ pub fn indications_have_their_bits()
     ensures only_one { map (λ (iin : IinValue). iin.two) (Iin.BROADCAST ∷ Iin.CLASS_1_EVENTS ∷ Iin.CLASS_2_EVENTS
         ∷ Iin.CLASS_3_EVENTS ∷ Iin.NEED_TIME ∷ Iin.LOCAL_CONTROL ∷ Iin.DEVICE_TROUBLE ∷ Iin.DEVICE_RESTART ∷ [])
         ≡ 0 ∷ 0 ∷ 0 ∷ 0 ∷ 0 ∷ 0 ∷ 0 ∷ 0 ∷ [] }
+    ensures none { Iin.NONE ≡ record { one = 0; two = 0 } }
     ensures two { map (λ (iin : IinValue). iin.two) (Iin.NO_FUNC_CODE_SUPPORT ∷ Iin.OBJECT_UNKNOWN
         ∷ Iin.PARAMETER_ERROR ∷ Iin.EVENT_BUFFER_OVERFLOW ∷ Iin.ALREADY_EXECUTING ∷ Iin.CONFIG_CORRUPT ∷ [])
         ≡ map (λ bit. 2 ^ bit) (0 ∷ 1 ∷ 2 ∷ 3 ∷ 4 ∷ 5 ∷ []) }

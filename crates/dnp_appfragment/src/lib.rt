@@ -19,6 +19,7 @@ mod range;
 mod reading;
 mod request;
 mod response;
+mod row_walk;
 mod run;
 mod table;
 #[cfg(test)]
@@ -35,4 +36,5 @@ pub use headers::Headers;
 pub use iin::Iin;
 pub use request::Request;
 pub use response::Response;
+pub use row_walk::RowWalk;
 pub use written::fits_point;

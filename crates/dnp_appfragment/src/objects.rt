@@ -5,6 +5,7 @@ ghost use Rattle.dnp_objects.specs.Objects.{shape_read, object_size as size_of};
 ghost use Rattle.dnp_objects.specs.declared.row.Row.{Row as RowValue};
 ghost use Rattle.dnp_objects.specs.declared.command.Command.{Command as CommandValue};
 ghost use Rattle.dnp_appfragment.specs.Headers.{count_of as count};
+ghost use Rattle.dnp_appfragment.specs.Meaning as meaning;
 ghost use Rattle.dnp_appfragment.specs.Objects as spec;
 ghost use Rattle.dnp_appfragment.specs.Reading as reading;
 ghost use Rattle.dnp_appfragment.specs.Seen.{number_and_rest, head_of};
@@ -15,7 +16,8 @@ use crate::reading::number_at;
 use dnp_objects::{Command, Kind, Row, Status, object_size, read_command, row_shape};
 
 /// The index of object k, and the octets behind it.
-fn index_at(range: Range, k: usize, octets: &[u8]) -> Option<(u16, &[u8])>
+#[inline]
+pub(crate) fn index_at(range: Range, k: usize, octets: &[u8]) -> Option<(u16, &[u8])>
     requires { k < count range }
     ensures { option_map number_and_rest result ≡ reading.index_at range k octets.now }
 {
@@ -47,7 +49,8 @@ fn object_at(range: Range, octets: &[u8], size: usize, k: usize) -> Option<(u16,
 }
 
 /// Binary k of packed bits.
-fn bit_at(range: Range, octets: &[u8], k: usize) -> Option<Row>
+pub(crate) fn bit_at(range: Range, octets: &[u8], k: usize) -> Option<Row>
+    ensures value { result ≡ meaning.bit_in (head_of 1 1 range octets.now) k }
     ensures found { IfSome result (spec.IsBit (head_of 1 1 range octets.now) k) }
     ensures only { (row : RowValue) → spec.IsBit (head_of 1 1 range octets.now) k row → result ≡ Some row }
     ensures there { spec.IsSpan range → k < count range → k / 8 < length octets.now → IsSome result }
@@ -82,6 +85,7 @@ fn object_row_at(group: u8, variation: u8, range: Range, octets: &[u8], k: usize
 
 /// Row k of a header of this object and range, with these octets.
 pub(crate) fn row_at(group: u8, variation: u8, range: Range, octets: &[u8], k: usize) -> Option<Row>
+    ensures value { result ≡ meaning.row_in (head_of group variation range octets.now) k }
     ensures found { IfSome result (spec.IsRow (head_of group variation range octets.now) k) }
     ensures only { (row : RowValue) → spec.IsRow (head_of group variation range octets.now) k row → result ≡ Some row }
     ensures there { spec.HasRows (head_of group variation range octets.now) → k < count range → IsSome result }
@@ -101,6 +105,7 @@ pub(crate) fn command_at(
     octets: &[u8],
     k: usize,
 ) -> Option<(Command, Status)>
+    ensures value { result ≡ meaning.command_in (head_of group variation range octets.now) k }
     ensures found { IfSome result (spec.IsCommand (head_of group variation range octets.now) k) }
     ensures only { (answer : CommandValue × ℕ) → spec.IsCommand (head_of group variation range octets.now) k answer
         → result ≡ Some answer }

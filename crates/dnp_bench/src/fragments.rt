@@ -36,11 +36,8 @@ pub extern "C" fn dnp_bench_walk(fragment: &[u8]) -> u64 {
     for header in headers {
         let object = u64::from(header.group) << 8 | u64::from(header.variation);
         sum = sum.wrapping_mul(31).wrapping_add(object);
-        for k in 0..header.count() {
-            match header.row(k) {
-                Some(row) => sum = sum.wrapping_mul(31).wrapping_add(number_of(&row)),
-                None => break,
-            }
+        for row in header.rows() {
+            sum = sum.wrapping_mul(31).wrapping_add(number_of(&row));
         }
     }
     sum

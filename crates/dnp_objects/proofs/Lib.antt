@@ -1,8 +1,10 @@
 pub mod CommandOctets
+pub mod CommandsBack
 pub mod Covered
 pub mod EqualityTests
 pub mod FirstFaults
 pub mod Lines
+pub mod ReadEvents
 pub mod RowFaults
 pub mod Spelling
 pub mod Values

@@ -1,5 +1,5 @@
--- The row and the command that octets give, part by part. Only private functions speak of it; what
--- they have to be is said in Rows.antt and Commands.antt.
+-- The row and the command that octets give, part by part, as functions of as many octets as the object
+-- has. What they have to be is said in Rows.antt and Commands.antt.
 use Rattle.std.specs.Prelude.{ℕ, ◌+◌, ◌/◌, ◌%◌, ℤ, pos, if◌then◌else◌, ◌==◌, List, drop, Option, Some, None, slice_index}
 use Rattle.std.specs.Int.{w16, w32, cast_signed}
 use Rattle.byteorder.specs.Endian.{little_number, twos_complement}
@@ -9,6 +9,8 @@ use Rattle.dnp_objects.specs.declared.row.Row.{Row}
 use Rattle.dnp_objects.specs.declared.command.Command.{Command}
 use Rattle.dnp_objects.specs.declared.command.Command.TheVariants.{Block, Set16, Set32}
 use Rattle.dnp_objects.specs.declared.table.Shape.{Shape}
+use Rattle.dnp_objects.specs.declared.table.Content.{Content}
+use Rattle.dnp_objects.specs.declared.table.Content.TheVariants as content
 use Rattle.dnp_objects.specs.Objects.{flags_size}
 
 -- the flags octet, which is 01 for an object without
@@ -47,3 +49,11 @@ setpoint_of width index octets =
     if width == 2
     then Set16 index (cast_signed w16 (little_number 2 octets))
     else Set32 index (cast_signed w32 (little_number 4 octets))
+
+-- the command and the status in an object that carries one
+abbrev pub command_of : Content → ℕ → List ℕ → Option (Command × ℕ)
+command_of (content.Row s) index octets = None
+command_of (content.WrittenRow s) index octets = None
+command_of content.Block index octets = Some (block_of index octets, slice_index octets 10 % 128)
+command_of (content.Setpoint width) index octets = Some (setpoint_of width index octets, slice_index octets width % 128)
+command_of (content.Other n) index octets = None

@@ -6,6 +6,7 @@ ghost use Rattle.dnp_objects.specs.Counts.{count, IsCoveredBy, HasNoRepeat, IsEq
 ghost use Rattle.dnp_objects.specs.Equality.{row_eq, command_eq, pair_eq};
 ghost use Rattle.dnp_objects.specs.Objects.{content_of, shape_read, shape_written, HasNoRow};
 ghost use Rattle.dnp_objects.specs.Rows.{Reads, Writes, carried};
+ghost use Rattle.dnp_objects.specs.Events.{IsEvent};
 ghost use Rattle.dnp_objects.specs.Commands.{ReadsCommand, IsInRange, carrier, object_of, index_of, command_octets};
 ghost use Rattle.dnp_objects.specs.Lanes.{IsLane, lane_number};
 ghost use Rattle.dnp_objects.specs.declared.row.Row.{Row};
@@ -96,6 +97,13 @@ pub fn a_written_row_is_read()
 pub fn a_read_row_is_written()
     ensures { (group variation index : ℕ) (octets : List ℕ) (row : Row)
         → Reads group variation index octets row → Writes group variation row octets }
+{}
+
+/// A row that was read, from whichever object, is one that an event object of its kind carries: its
+/// value and its flags fit there, and its time, if it has one.
+pub fn a_read_row_is_an_event()
+    ensures { (group variation index : ℕ) (octets : List ℕ) (row : Row)
+        → Reads group variation index octets row → IsEvent row }
 {}
 
 /// A command that was written is read as the same command with the same status, from the one object

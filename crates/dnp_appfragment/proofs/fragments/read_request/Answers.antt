@@ -1,6 +1,6 @@
 use Rattle.dnp_appfragment.specs.Fragments.{IsRequest}
 use Rattle.dnp_appfragment.specs.Faults.{IsRequestFault}
-use Rattle.dnp_appfragment.specs.Reading.{request_at}
+use Rattle.dnp_appfragment.specs.Meaning.{request_at}
 use Rattle.dnp_appfragment.specs.Whole.{request}
 use Rattle.dnp_appfragment.proofs.Answering.{found_of, fault_of, only_of, only_fault_of}
 use Rattle.dnp_appfragment.proofs.Numbers.{are_octets}

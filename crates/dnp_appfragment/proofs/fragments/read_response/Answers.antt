@@ -1,6 +1,6 @@
 use Rattle.dnp_appfragment.specs.Fragments.{IsResponse}
 use Rattle.dnp_appfragment.specs.Faults.{IsResponseFault}
-use Rattle.dnp_appfragment.specs.Reading.{response_at}
+use Rattle.dnp_appfragment.specs.Meaning.{response_at}
 use Rattle.dnp_appfragment.specs.Whole.{response}
 use Rattle.dnp_appfragment.proofs.Answering.{found_of, fault_of, only_of, only_fault_of}
 use Rattle.dnp_appfragment.proofs.Numbers.{are_octets}

@@ -8,6 +8,7 @@ use Rattle.dnp_appfragment.specs.Seen.{head_of}
 use Rattle.dnp_appfragment.proofs.Numbers.{are_octets}
 use Rattle.dnp_appfragment.proofs.HeaderObjects.{command_cut, same_cut}
 use Rattle.dnp_appfragment.proofs.There.{commands_of, not_there}
+use Rattle.dnp_appfragment.proofs.ObjectValues.{given_command, no_command, no_command_there}
 use Rattle.dnp_appfragment.proofs.objects.command_at.Goals as goal
 
 pub returns-clause-found : goal.returns-clause-found
@@ -34,3 +35,20 @@ returns-in_err-index-clause-there c = λ has here.
     let a = c.args in
     let commands = commands_of a.group a.variation a.range a.octets.now a.k has here in
     absurd (not_there a.group a.variation a.range a.octets.now a.k c.in_ok-size.size commands.1 (sym (c.in_ok-size.ensures).value) (sym c.in_err-index.ensures.value))
+
+pub returns-clause-value : goal.returns-clause-value
+returns-clause-value c =
+    let a = c.args in
+    given_command (head_of a.group a.variation a.range a.octets.now) a.k c.ok.result
+    (are_octets a.octets.now (λ i. let fits = c.type_inv.octets i in fits.fits)) (returns-clause-found c) (returns-clause-only c)
+
+pub returns-in_err-size-clause-value : goal.returns-in_err-size-clause-value
+returns-in_err-size-clause-value c =
+    let a = c.args in
+    c.from_residual.ensures ∙ no_command (head_of a.group a.variation a.range a.octets.now) a.k (sym c.in_err-size.ensures.value)
+
+pub returns-in_err-index-clause-value : goal.returns-in_err-index-clause-value
+returns-in_err-index-clause-value c =
+    let a = c.args in
+    c.from_residual-in_err-index.ensures ∙ no_command_there (head_of a.group a.variation a.range a.octets.now) a.k c.in_ok-size.size (sym (c.in_ok-size.ensures).value)
+    (sym c.in_err-index.ensures.value)

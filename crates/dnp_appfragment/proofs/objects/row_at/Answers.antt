@@ -1,6 +1,8 @@
 use Rattle.std.proofs.Common.{◌≡◌}
 use Rattle.dnp_appfragment.proofs.HeaderObjects.{bit_only, sized_only}
 use Rattle.dnp_appfragment.proofs.There.{bits_of, rows_of}
+use Rattle.dnp_appfragment.proofs.Numbers.{are_octets}
+use Rattle.dnp_appfragment.proofs.ObjectValues.{given_bit, given_object_row}
 use Rattle.dnp_appfragment.proofs.objects.row_at.Goals as goal
 use Rattle.dnp_appfragment.proofs.objects.row_at.Goals.{else-group-eq1-via-then-group-eq1+else-variation-eq1, else-group-eq1-via-else-group-eq1}
 
@@ -36,3 +38,20 @@ returns-else-group-eq1-clause-there c = λ has here.
     ] in
     let rows = rows_of a.group a.variation a.range a.octets.now a.k other has here in
     c.object_row_at.ensures.there rows.0 rows.1
+
+pub returns-then-variation-eq1-clause-value : goal.returns-then-variation-eq1-clause-value
+returns-then-variation-eq1-clause-value c =
+    let a = c.args in
+    given_bit a.group a.variation a.range a.octets.now a.k c.bit_at.result (are_octets a.octets.now (λ i. let fits = c.type_inv.octets i in fits.fits))
+    c.if-group-eq1.true c.if-variation-eq1.true c.bit_at.ensures.found c.bit_at.ensures.only
+
+pub returns-else-group-eq1-clause-value : goal.returns-else-group-eq1-clause-value
+returns-else-group-eq1-clause-value c =
+    let a = c.args in
+    let other : a.group ≡ 1 → a.variation ≡ 1 → ⊥ = λ group variation.
+    elim c.else-group-eq1.branch [
+      | else-group-eq1-via-then-group-eq1+else-variation-eq1 w ↦ w.if-variation-eq1.false variation
+      | else-group-eq1-via-else-group-eq1 w ↦ w.if-group-eq1.false group
+    ] in
+    given_object_row a.group a.variation a.range a.octets.now a.k c.object_row_at.result
+    (are_octets a.octets.now (λ i. let fits = c.type_inv.octets i in fits.fits)) other c.object_row_at.ensures.found c.object_row_at.ensures.only

@@ -1,5 +1,5 @@
 use Rattle.std.proofs.Common.{sym, ◌∙◌, ap}
-use Rattle.dnp_appfragment.specs.Reading.{control_of}
+use Rattle.dnp_appfragment.specs.Meaning.{control_of}
 use Rattle.dnp_appfragment.proofs.Controls.{octet_of_control}
 use Rattle.dnp_appfragment.proofs.control.Control.read.Goals as goal
 

@@ -1,4 +1,4 @@
-use Rattle.std.proofs.Common.{rules, ◌≡◌, ◌<◌, ℕ, length, List, [], sym, ◌∙◌, ap, subst, eqb-true, Bor}
+use Rattle.std.proofs.Common.{rules, refl, ◌≡◌, ◌<◌, ℕ, length, List, [], sym, ◌∙◌, ap, subst, eqb-true, Bor}
 use Rattle.dnp_appfragment.specs.Headers.{Head}
 use Rattle.dnp_appfragment.specs.Left.{Left}
 use Rattle.dnp_appfragment.specs.Places.{IsPart}
@@ -10,7 +10,7 @@ returns-then-is_empty-clause-steps c =
     let none : length c.self.inside.rest.now ≡ 0 = eqb-true (length c.self.inside.rest.now) 0 (sym c.is_empty.ensures ∙ c.if-is_empty.true) in
     let left : c.args.self.now.headers ≡ [] =
     sym (ap (λ (l : Left). l.headers) c.self.view_is) ∙ nothing_left c.self.inside.form c.self.inside.rest.now none in
-    ((left, left), tt)
+    ((left, left), refl)
 
 pub invariant_of-self : goal.invariant_of-self
 invariant_of-self c =

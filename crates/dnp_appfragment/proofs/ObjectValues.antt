@@ -1,0 +1,332 @@
+-- The functions of object k of a header, `row_in` and `command_in`, give what the relations say, on octets.
+use Rattle.std.proofs.Common.{◌≡◌, refl, sym, ◌∙◌, ap, subst, ℕ, zero, suc, ◌+◌, ◌/◌, ◌<◌, Bool, true, false, cond, List, [], ◌∷◌, ◌++◌, length, arith, Option, Some, None, IfSome, nat_lt, ◌==◌, ◌&&◌, inl, inr, eqb-true}
+use Rattle.std.specs.Prelude.{pos, ◌%◌, slice_index}
+use Rattle.std.specs.Int.{bit_at}
+use Rattle.std.specs.Option.{option_map, option_and_then, IsSomeAnd}
+use Rattle.std.proofs.lemmas.Nat.Bits.{bit_at-lt}
+use Rattle.std.proofs.lemmas.Bool.{and_parts, and_from, ltb-true, lt-ltb}
+use Rattle.dnp_objects.specs.declared.row.Kind.TheVariants.{Binary}
+use Rattle.dnp_objects.specs.declared.row.Row.{Row}
+use Rattle.dnp_objects.specs.declared.command.Command.{Command}
+use Rattle.dnp_objects.specs.declared.table.Content.{Content}
+use Rattle.dnp_objects.specs.declared.table.Content.TheVariants as content
+use Rattle.dnp_objects.specs.declared.table.Shape.{Shape}
+use Rattle.dnp_objects.specs.Objects.{objects, content_of, content_size, object_size, readable, shape_read, shape_size, IsShape, IsContent}
+use Rattle.dnp_objects.specs.Rows.{IsReading}
+use Rattle.dnp_objects.specs.Parts.{row_of, command_of}
+use Rattle.dnp_objects.specs.Commands.{IsCommandOf}
+use Rattle.dnp_objects.proofs.Values.{AreOctets as AreBytes}
+use Rattle.dnp_objects.proofs.Lines.{content_sound}
+use Rattle.dnp_objects.proofs.Spelling.{is_reading, only_reading}
+use Rattle.dnp_objects.proofs.RowFaults.{shape_read_sound}
+use Rattle.dnp_objects.specs.Events.{IsEvent}
+use Rattle.dnp_objects.proofs.ReadEvents.{read_is_event}
+use Rattle.dnp_objects.proofs.CommandsBack.{command_again, command_reads}
+use Rattle.dnp_appfragment.specs.declared.header.Range.{Range}
+use Rattle.dnp_appfragment.specs.declared.header.Range.TheVariants as range
+use Rattle.dnp_appfragment.specs.Headers.{Head, count_of}
+use Rattle.dnp_appfragment.specs.Objects.{IsObject, IsBit, IsObjectRow, IsRow, IsCommand, IsSpan, IsIndex, prefix_octets}
+use Rattle.dnp_appfragment.specs.Reading.{object_at}
+use Rattle.dnp_appfragment.specs.Meaning.{start_of, bit_in, shaped_row_in, row_in, content_command_in, command_in}
+use Rattle.dnp_appfragment.specs.Seen.{head_of}
+use Rattle.dnp_appfragment.proofs.Numbers.{AreOctets}
+use Rattle.dnp_appfragment.proofs.HeaderObjects.{object_reads, object_again, packed_unsized, bit_only, sized_only}
+
+-- ---- the octets of an object
+
+behind : (xs ys : List ℕ) → AreOctets (xs ++ ys) → AreOctets ys
+behind [] ys are = are
+behind (x ∷ xs) ys are = behind xs ys are.1
+
+before : (xs ys : List ℕ) → AreOctets (xs ++ ys) → AreOctets xs
+before [] ys are = tt
+before (x ∷ xs) ys are = (are.0, before xs ys are.1)
+
+octet_in : (bs : List ℕ) → AreOctets bs → AreBytes bs
+octet_in [] are i = omega arith
+octet_in (b ∷ bs) are zero = are.0
+octet_in (b ∷ bs) are (suc i) = octet_in bs are.1 i
+
+part_octets : (h : Head) (size k index : ℕ) (part : List ℕ) → AreOctets h.octets → IsObject h size k index part → AreBytes part
+part_octets h size k index part are is =
+    octet_in part (before part is.after (behind (prefix_octets h.range index) (part ++ is.after)
+    (behind is.before (prefix_octets h.range index ++ (part ++ is.after)) (subst AreOctets is.joined are))))
+
+object_is : (h : Head) (size k : ℕ) (x : ℕ × List ℕ) → AreOctets h.octets → object_at h.range h.octets size k ≡ Some x → IsObject h size k x.0 x.1
+object_is h size k x are is =
+    subst (λ (o : Option (ℕ × List ℕ)). IfSome o (λ x. IsObject h size k x.0 x.1)) is (object_reads h.group h.variation h.range h.octets size k are)
+
+-- the size of an object is that of what it carries
+sized : (g v : ℕ) (c : Content) → content_of g v ≡ Some c → object_size g v ≡ Some (content_size c)
+sized g v c is = ap (option_map content_size) is
+
+same_some : {A : Type 0} (o : Option A) (a b : A) → o ≡ Some a → o ≡ Some b → a ≡ b
+same_some o a b p q = cc
+
+-- ---- a row
+
+pub shape_sized : (g v : ℕ) (s : Shape) → shape_read g v ≡ Some s → object_size g v ≡ Some (shape_size s)
+shape_sized g v s is = go (content_of g v) is
+  where
+    go : (o : Option Content) → option_and_then readable o ≡ Some s → option_map content_size o ≡ Some (shape_size s)
+    go None is = cc
+    go (Some (content.Row t)) is = let same : t ≡ s = cc in ap (λ (u : Shape). Some (shape_size u)) same
+    go (Some (content.WrittenRow t)) is = cc
+    go (Some content.Block) is = cc
+    go (Some (content.Setpoint w)) is = cc
+    go (Some (content.Other n)) is = cc
+
+shaped_reads : (h : Head) (k : ℕ) (s : Shape) → AreOctets h.octets → IsShape s → shape_read h.group h.variation ≡ Some s
+    → IfSome (shaped_row_in h k s) (IsObjectRow h k)
+shaped_reads h k s are is shaped = go (object_at h.range h.octets (shape_size s) k) refl
+  where
+    go : (o : Option (ℕ × List ℕ)) → object_at h.range h.octets (shape_size s) k ≡ o
+        → IfSome (option_map (λ (x : ℕ × List ℕ). row_of s x.0 x.1) o) (IsObjectRow h k)
+    go None at = tt
+    go (Some x) at =
+        let object = object_is h (shape_size s) k x are at in
+        let reading : IsReading s x.0 x.1 (row_of s x.0 x.1) =
+        is_reading s.kind s.flags s.width s.time x.0 x.1 is.number (part_octets h (shape_size s) k x.0 x.1 are object) object.sized in
+        record {
+          size = shape_size s;
+          size_is = shape_sized h.group h.variation s shaped;
+          index = x.0;
+          octets = x.1;
+          object = object;
+          reads = subst (λ (o : Option Shape). IsSomeAnd o (λ t. IsReading t x.0 x.1 (row_of s x.0 x.1))) (sym shaped) reading;
+        }
+
+-- the binary of this index
+bit_row : (octets : List ℕ) (k index : ℕ) → Row
+bit_row octets k index =
+    record { kind = Binary; index = index; flags = 1; value = pos (bit_at (slice_index octets (k / 8)) (k % 8)); time = None }
+
+guarded : (b : Bool) (o : Option Row) (P : Row → Type 0) → (b ≡ true → IfSome o P) → IfSome (cond b o None) P
+guarded true o P is = is refl
+guarded false o P is = tt
+
+bit_reads : (r : Range) (octets : List ℕ) (k : ℕ) → IfSome (bit_in (head_of 1 1 r octets) k) (IsBit (head_of 1 1 r octets) k)
+unfolding bit_row
+bit_reads r octets k =
+    guarded (nat_lt k (count_of r) && nat_lt (k / 8) (length octets)) (option_map (λ (first : ℕ). bit_row octets k (first + k)) (start_of r))
+    (IsBit (head_of 1 1 r octets) k) (λ both.
+    let parts = and_parts (nat_lt k (count_of r)) (nat_lt (k / 8) (length octets)) both in
+    spans r (ltb-true k (count_of r) parts.0) (ltb-true (k / 8) (length octets) parts.1))
+  where
+    spans : (r : Range) → k < count_of r → k / 8 < length octets
+        → IfSome (option_map (λ (first : ℕ). bit_row octets k (first + k)) (start_of r)) (IsBit (head_of 1 1 r octets) k)
+    spans range.All here there = tt
+    spans (range.Span wide first last) here there = record {
+      group = refl;
+      variation = refl;
+      counted = here;
+      span = tt;
+      index = first + k;
+      index_is = refl;
+      there = there;
+      row_is = refl;
+    }
+    spans (range.Count wide n) here there = tt
+    spans (range.Indexed wide n) here there = tt
+
+pub row_reads : (g v : ℕ) (r : Range) (octets : List ℕ) (k : ℕ) → AreOctets octets → IfSome (row_in (head_of g v r octets) k) (IsRow (head_of g v r octets) k)
+row_reads g v r octets k are = go ((g == 1) && (v == 1)) refl
+  where
+    as_bit : (o : Option Row) → IfSome o (IsBit (head_of g v r octets) k) → IfSome o (IsRow (head_of g v r octets) k)
+    as_bit None is = tt
+    as_bit (Some row) is = inl is
+
+    as_object : (o : Option Row) → IfSome o (IsObjectRow (head_of g v r octets) k) → IfSome o (IsRow (head_of g v r octets) k)
+    as_object None is = tt
+    as_object (Some row) is = inr is
+
+    shaped : (o : Option Shape) → shape_read g v ≡ o → IfSome o IsShape
+        → IfSome (option_and_then (shaped_row_in (head_of g v r octets) k) o) (IsRow (head_of g v r octets) k)
+    shaped None is sound = tt
+    shaped (Some s) is sound =
+        as_object (shaped_row_in (head_of g v r octets) k s) (shaped_reads (head_of g v r octets) k s are sound is)
+
+    go : (b : Bool) → ((g == 1) && (v == 1)) ≡ b
+        → IfSome (cond b (bit_in (head_of g v r octets) k) (option_and_then (shaped_row_in (head_of g v r octets) k) (shape_read g v)))
+        (IsRow (head_of g v r octets) k)
+    go true is =
+        let names = and_parts (g == 1) (v == 1) is in
+        let group : g ≡ 1 = eqb-true g 1 names.0 in
+        let variation : v ≡ 1 = eqb-true v 1 names.1 in
+        as_bit (bit_in (head_of g v r octets) k)
+        (subst (λ (p : ℕ × ℕ). IfSome (bit_in (head_of p.0 p.1 r octets) k) (IsBit (head_of p.0 p.1 r octets) k)) (λ i. (sym group i, sym variation i))
+        (bit_reads r octets k))
+    go false is = shaped (shape_read g v) refl (shape_read_sound g v)
+
+-- what is a row is given
+bit_again : (h : Head) (k : ℕ) (row : Row) → IsBit h k row → bit_in h k ≡ Some row
+unfolding bit_row
+bit_again h k row is =
+    let counted : nat_lt k (count_of h.range) ≡ true = lt-ltb k (count_of h.range) is.counted in
+    let there : nat_lt (k / 8) (length h.octets) ≡ true = lt-ltb (k / 8) (length h.octets) is.there in
+    ap (λ (b : Bool). cond b (option_map (λ (first : ℕ). bit_row h.octets k (first + k)) (start_of h.range)) None)
+    (and_from (nat_lt k (count_of h.range)) (nat_lt (k / 8) (length h.octets)) counted there)
+    ∙ spans h.range is.index is.span is.index_is
+    ∙ ap (λ (r : Row). Some r) (sym is.row_is)
+  where
+    spans : (r : Range) (index : ℕ) → IsSpan r → IsIndex r k index
+        → option_map (λ (first : ℕ). bit_row h.octets k (first + k)) (start_of r) ≡ Some (bit_row h.octets k index)
+    spans range.All index span at = absurd span
+    spans (range.Span wide first last) index span at = ap (λ (n : ℕ). Some (bit_row h.octets k n)) (sym at)
+    spans (range.Count wide n) index span at = absurd span
+    spans (range.Indexed wide n) index span at = absurd span
+
+object_row_again : (h : Head) (k : ℕ) (row : Row) → IsObjectRow h k row
+    → option_and_then (shaped_row_in h k) (shape_read h.group h.variation) ≡ Some row
+object_row_again h k row is = go (shape_read h.group h.variation) refl (shape_read_sound h.group h.variation) is.reads
+  where
+    go : (o : Option Shape) → shape_read h.group h.variation ≡ o → IfSome o IsShape → IsSomeAnd o (λ s. IsReading s is.index is.octets row)
+        → option_and_then (shaped_row_in h k) o ≡ Some row
+    go None at sound reads = absurd reads
+    go (Some s) at sound reads =
+        let same : is.size ≡ shape_size s = same_some (object_size h.group h.variation) is.size (shape_size s) is.size_is (shape_sized h.group h.variation s at) in
+        ap (λ (n : ℕ). option_map (λ (x : ℕ × List ℕ). row_of s x.0 x.1) (object_at h.range h.octets n k)) (sym same)
+        ∙ ap (option_map (λ (x : ℕ × List ℕ). row_of s x.0 x.1))
+        (object_again h.group h.variation h.range h.octets is.size k is.index is.octets is.object)
+        ∙ ap (λ (r : Row). Some r) (sym (only_reading s is.index is.octets row sound reads))
+
+pub row_again : (h : Head) (k : ℕ) (row : Row) → IsRow h k row → row_in h k ≡ Some row
+row_again h k row (inl bit) =
+    ap (λ (b : Bool). cond b (bit_in h k) (option_and_then (shaped_row_in h k) (shape_read h.group h.variation)))
+    (λ i. (bit.group i == 1) && (bit.variation i == 1))
+    ∙ bit_again h k row bit
+row_again h k row (inr is) = go ((h.group == 1) && (h.variation == 1)) refl
+  where
+    unsized : (o : Option ℕ) (n : ℕ) → o ≡ Some n → o ≡ None → ⊥
+    unsized o n some none = cc
+
+    go : (b : Bool) → ((h.group == 1) && (h.variation == 1)) ≡ b
+        → cond b (bit_in h k) (option_and_then (shaped_row_in h k) (shape_read h.group h.variation)) ≡ Some row
+    go true packed =
+        let names = and_parts (h.group == 1) (h.variation == 1) packed in
+        let none : object_size h.group h.variation ≡ None =
+        (λ i. object_size (eqb-true h.group 1 names.0 i) (eqb-true h.variation 1 names.1 i)) ∙ packed_unsized in
+        absurd (unsized (object_size h.group h.variation) is.size is.size_is none)
+    go false other = object_row_again h k row is
+
+-- where there is none, none is given
+pub given_row : (h : Head) (k : ℕ) (o : Option Row) → AreOctets h.octets → IfSome o (IsRow h k) → ((row : Row) → IsRow h k row → o ≡ Some row)
+    → o ≡ row_in h k
+given_row h k o are found only = go o (row_in h k) found (row_reads h.group h.variation h.range h.octets k are) only (row_again h k)
+  where
+    go : (o p : Option Row) → IfSome o (IsRow h k) → IfSome p (IsRow h k) → ((row : Row) → IsRow h k row → o ≡ Some row)
+        → ((row : Row) → IsRow h k row → p ≡ Some row) → o ≡ p
+    go None None found reads only again = refl
+    go None (Some row) found reads only again = only row reads
+    go (Some row) p found reads only again = sym (again row found)
+
+pub given_bit : (g v : ℕ) (r : Range) (octets : List ℕ) (k : ℕ) (o : Option Row) → AreOctets octets → g ≡ 1 → v ≡ 1
+    → IfSome o (IsBit (head_of 1 1 r octets) k) → ((row : Row) → IsBit (head_of 1 1 r octets) k row → o ≡ Some row)
+    → o ≡ row_in (head_of g v r octets) k
+given_bit g v r octets k o are group variation found only =
+    subst (λ (p : ℕ × ℕ). o ≡ row_in (head_of p.0 p.1 r octets) k) (λ i. (sym group i, sym variation i))
+    (given_row (head_of 1 1 r octets) k o are (row o found) (λ row is. only row (bit_only 1 1 r octets k row refl refl is)))
+  where
+    row : (o : Option Row) → IfSome o (IsBit (head_of 1 1 r octets) k) → IfSome o (IsRow (head_of 1 1 r octets) k)
+    row None is = tt
+    row (Some a) is = inl is
+
+pub given_object_row : (g v : ℕ) (r : Range) (octets : List ℕ) (k : ℕ) (o : Option Row) → AreOctets octets → (g ≡ 1 → v ≡ 1 → ⊥)
+    → IfSome o (IsObjectRow (head_of g v r octets) k) → ((row : Row) → IsObjectRow (head_of g v r octets) k row → o ≡ Some row)
+    → o ≡ row_in (head_of g v r octets) k
+given_object_row g v r octets k o are other found only =
+    given_row (head_of g v r octets) k o are (row o found) (λ row is. only row (sized_only g v r octets k row other is))
+  where
+    row : (o : Option Row) → IfSome o (IsObjectRow (head_of g v r octets) k) → IfSome o (IsRow (head_of g v r octets) k)
+    row None is = tt
+    row (Some a) is = inr is
+
+-- ---- a command
+
+pub command_reads_in : (h : Head) (k : ℕ) → AreOctets h.octets → IfSome (command_in h k) (IsCommand h k)
+command_reads_in h k are = go (content_of h.group h.variation) refl (content_sound h.group h.variation)
+  where
+    commands : (c : Content) → content_of h.group h.variation ≡ Some c → (x : ℕ × List ℕ) → IsObject h (content_size c) k x.0 x.1
+        → (o : Option (Command × ℕ)) → IfSome o (λ a. IsCommandOf c x.0 x.1 a.0 a.1) → IfSome o (IsCommand h k)
+    commands c is x object None reads = tt
+    commands c is x object (Some a) reads = record {
+      size = content_size c;
+      size_is = sized h.group h.variation c is;
+      index = x.0;
+      octets = x.1;
+      object = object;
+      reads = subst (λ (o : Option Content). IsSomeAnd o (λ c. IsCommandOf c x.0 x.1 a.0 a.1)) (sym is) reads;
+    }
+
+    at : (c : Content) → content_of h.group h.variation ≡ Some c → IsContent c → (o : Option (ℕ × List ℕ))
+        → object_at h.range h.octets (content_size c) k ≡ o
+        → IfSome (option_and_then (λ (x : ℕ × List ℕ). command_of c x.0 x.1) o) (IsCommand h k)
+    at c is sound None here = tt
+    at c is sound (Some x) here =
+        let object = object_is h (content_size c) k x are here in
+        commands c is x object (command_of c x.0 x.1)
+        (command_reads c x.0 x.1 sound (part_octets h (content_size c) k x.0 x.1 are object) object.sized)
+
+    go : (o : Option Content) → content_of h.group h.variation ≡ o → IfSome o IsContent
+        → IfSome (option_and_then (content_command_in h k) o) (IsCommand h k)
+    go None is sound = tt
+    go (Some c) is sound = at c is sound (object_at h.range h.octets (content_size c) k) refl
+
+pub command_in_again : (h : Head) (k : ℕ) (answer : Command × ℕ) → IsCommand h k answer → command_in h k ≡ Some answer
+command_in_again h k answer is = go (content_of h.group h.variation) refl is.reads
+  where
+    go : (o : Option Content) → content_of h.group h.variation ≡ o → IsSomeAnd o (λ c. IsCommandOf c is.index is.octets answer.0 answer.1)
+        → option_and_then (content_command_in h k) o ≡ Some answer
+    go None at reads = absurd reads
+    go (Some c) at reads =
+        let same : is.size ≡ content_size c = same_some (object_size h.group h.variation) is.size (content_size c) is.size_is (sized h.group h.variation c at) in
+        ap (λ (n : ℕ). option_and_then (λ (x : ℕ × List ℕ). command_of c x.0 x.1) (object_at h.range h.octets n k)) (sym same)
+        ∙ ap (option_and_then (λ (x : ℕ × List ℕ). command_of c x.0 x.1))
+        (object_again h.group h.variation h.range h.octets is.size k is.index is.octets is.object)
+        ∙ command_again c is.index is.octets answer.0 answer.1 reads
+
+pub given_command : (h : Head) (k : ℕ) (o : Option (Command × ℕ)) → AreOctets h.octets → IfSome o (IsCommand h k)
+    → ((answer : Command × ℕ) → IsCommand h k answer → o ≡ Some answer) → o ≡ command_in h k
+given_command h k o are found only = go o (command_in h k) found (command_reads_in h k are) only (command_in_again h k)
+  where
+    go : (o p : Option (Command × ℕ)) → IfSome o (IsCommand h k) → IfSome p (IsCommand h k) → ((answer : Command × ℕ) → IsCommand h k answer → o ≡ Some answer)
+        → ((answer : Command × ℕ) → IsCommand h k answer → p ≡ Some answer) → o ≡ p
+    go None None found reads only again = refl
+    go None (Some answer) found reads only again = only answer reads
+    go (Some answer) p found reads only again = sym (again answer found)
+
+pub no_command : (h : Head) (k : ℕ) → object_size h.group h.variation ≡ None → None ≡ command_in h k
+no_command h k is = go (content_of h.group h.variation) is
+  where
+    go : (o : Option Content) → option_map content_size o ≡ None → None ≡ option_and_then (content_command_in h k) o
+    go None is = refl
+    go (Some c) is = cc
+
+pub no_command_there : (h : Head) (k size : ℕ) → object_size h.group h.variation ≡ Some size → object_at h.range h.octets size k ≡ None → None ≡ command_in h k
+no_command_there h k size is none = go (content_of h.group h.variation) is
+  where
+    go : (o : Option Content) → option_map content_size o ≡ Some size → None ≡ option_and_then (content_command_in h k) o
+    go None is = refl
+    go (Some c) is =
+        let same : content_size c ≡ size = cc in
+        let at : object_at h.range h.octets (content_size c) k ≡ None = ap (λ (n : ℕ). object_at h.range h.octets n k) same ∙ none in
+        ap (option_and_then (λ (x : ℕ × List ℕ). command_of c x.0 x.1)) (sym at)
+
+-- ---- both ways
+
+pub row_says : (h : Head) (k : ℕ) (row : Row) → AreOctets h.octets → row_in h k ≡ Some row → IsRow h k row
+row_says h k row are is =
+    subst (λ (o : Option Row). IfSome o (IsRow h k)) is (row_reads h.group h.variation h.range h.octets k are)
+
+pub command_says : (h : Head) (k : ℕ) (answer : Command × ℕ) → AreOctets h.octets → command_in h k ≡ Some answer → IsCommand h k answer
+command_says h k answer are is = subst (λ (o : Option (Command × ℕ)). IfSome o (IsCommand h k)) is (command_reads_in h k are)
+
+-- ---- events
+
+pub row_is_event : (h : Head) (k : ℕ) (row : Row) → IsRow h k row → IsEvent row
+unfolding content_of objects bit_row
+row_is_event h k row (inl bit) =
+    let value = bit_at (slice_index h.octets (k / 8)) (k % 8) in
+    let small : nat_lt value 2 ≡ true = lt-ltb value 2 (bit_at-lt (slice_index h.octets (k / 8)) (k % 8)) in
+    subst IsEvent (sym bit.row_is) (and_from _ _ (and_from _ _ (and_from _ _ refl small) refl) refl)
+row_is_event h k row (inr is) = read_is_event h.group h.variation is.index is.octets row is.reads

@@ -1,0 +1,5 @@
+use Rattle.dnp_appfragment.proofs.ObjectValues.{row_is_event}
+use Rattle.dnp_appfragment.proofs.laws.read.rows_are_events.Goals as goal
+
+pub returns : goal.returns
+returns c = row_is_event

@@ -1,0 +1,66 @@
+-- The rows that are left while a header's are gone through: each is cut off the front of the octets. What they are
+-- altogether is said by `row_in` of Meaning.antt.
+use Rattle.std.specs.Prelude.{ℕ, zero, suc, ◌+◌, ◌≤◌, nat_lt, ◌==◌, ◌&&◌, if◌then◌else◌, List, [], ◌∷◌, length, take, drop, Option, Some, None, ⊤}
+use Rattle.std.specs.Option.{option_map_or}
+use Rattle.std.specs.Borrow.{Bor}
+use Rattle.dnp_objects.specs.Objects.{shape_read, shape_size, IsShape}
+use Rattle.dnp_objects.specs.Parts.{row_of}
+use Rattle.dnp_objects.specs.declared.row.Row.{Row}
+use Rattle.dnp_objects.specs.declared.table.Shape.{Shape}
+use Rattle.dnp_appfragment.specs.declared.header.Range.{Range}
+use Rattle.dnp_appfragment.specs.declared.row_walk.Carried.{Carried}
+use Rattle.dnp_appfragment.specs.declared.row_walk.Carried.TheVariants as carried
+use Rattle.dnp_appfragment.specs.Headers.{count_of}
+use Rattle.dnp_appfragment.specs.Reading.{index_at}
+use Rattle.dnp_appfragment.specs.Meaning.{bit_in}
+use Rattle.dnp_appfragment.specs.Seen.{head_of}
+
+-- what a header of this object carries
+abbrev pub carried_by : ℕ → ℕ → Carried
+carried_by group variation =
+    if (group == 1) && (variation == 1) then carried.Bits
+    else option_map_or (λ shape. carried.Rows shape) (shape_read group variation) carried.Nothing
+
+-- an object at the front: its index, its octets, and those behind it
+pub record Cut : Type 0 where
+  pub index : ℕ
+  pub octets : List ℕ
+  pub rest : List ℕ
+
+abbrev pub cut_octets : ℕ → Option (ℕ × List ℕ) → Option Cut
+cut_octets size None = None
+cut_octets size (Some x) =
+    if nat_lt (length x.1) size then None else Some (record { index = x.0; octets = take size x.1; rest = drop size x.1 })
+
+-- object k, of so many octets, which stands at the front
+abbrev pub cut_at : Range → ℕ → ℕ → List ℕ → Option Cut
+cut_at range size k octets = cut_octets size (index_at range k octets)
+
+abbrev pub cut_of : ℕ × Bor (List ℕ) × Bor (List ℕ) → Cut
+cut_of x = record { index = x.0; octets = x.1.now; rest = x.2.now }
+
+-- at most so many rows from row k on, whose object stands at the front
+unfoldable pub shaped_left : Shape → Range → ℕ → ℕ → List ℕ → List Row
+shaped_left shape range zero k octets = []
+shaped_left shape range (suc n) k octets =
+    option_map_or (λ cut. row_of shape cut.index cut.octets ∷ shaped_left shape range n (k + 1) cut.rest) (cut_at range (shape_size shape) k octets) []
+
+-- at most so many packed bits from bit k on
+unfoldable pub bits_left : Range → List ℕ → ℕ → ℕ → List Row
+bits_left range octets zero k = []
+bits_left range octets (suc n) k = option_map_or (λ row. row ∷ bits_left range octets n (k + 1)) (bit_in (head_of 1 1 range octets) k) []
+
+abbrev pub rows_left : Carried → Range → List ℕ → ℕ → ℕ → List Row
+rows_left carried.Bits range octets k left = bits_left range octets left k
+rows_left (carried.Rows shape) range octets k left = shaped_left shape range left k octets
+rows_left carried.Nothing range octets k left = []
+
+-- what is so of each walk
+abbrev pub IsCarried : Carried → Type 0
+IsCarried carried.Bits = ⊤
+IsCarried (carried.Rows shape) = IsShape shape
+IsCarried carried.Nothing = ⊤
+
+pub record IsWalk (carried : Carried) (range : Range) (k left : ℕ) : Type 0 where
+  pub sound : IsCarried carried
+  pub within : k + left ≤ count_of range

@@ -1,0 +1,41 @@
+//! Laws of what is read: the functions of octets say what the grammar says.
+ghost use Rattle.std.specs.Prelude.{◌≡◌, ◌<◌, ◌^◌, ◌↔◌, ℕ, List, Ok, Err, Some};
+ghost use Rattle.std.specs.List.{All};
+ghost use Rattle.dnp_objects.specs.Events.{IsEvent};
+ghost use Rattle.dnp_objects.specs.declared.row.Row.{Row};
+ghost use Rattle.dnp_objects.specs.declared.command.Command.{Command};
+ghost use Rattle.dnp_appfragment.specs.declared.fault.AppFault.{AppFault};
+ghost use Rattle.dnp_appfragment.specs.Fragments.{Asked, Answered, IsRequest, IsResponse};
+ghost use Rattle.dnp_appfragment.specs.Faults.{IsRequestFault, IsResponseFault};
+ghost use Rattle.dnp_appfragment.specs.Headers.{Head};
+ghost use Rattle.dnp_appfragment.specs.Meaning.{request_at, response_at, row_in, command_in};
+ghost use Rattle.dnp_appfragment.specs.Objects.{IsRow, IsCommand};
+
+/// `request_at` gives the request that octets are, and the fault that they have.
+pub fn octets_say_a_request()
+    ensures request { (octets : List ℕ) (asked : Asked) → All (λ octet. octet < 2 ^ 8) octets
+        → (request_at octets ≡ Ok asked) ↔ IsRequest octets asked }
+    ensures fault { (octets : List ℕ) (fault : AppFault) → All (λ octet. octet < 2 ^ 8) octets
+        → (request_at octets ≡ Err fault) ↔ IsRequestFault octets fault }
+{}
+
+/// `response_at` gives the response that octets are, and the fault that they have.
+pub fn octets_say_a_response()
+    ensures response { (octets : List ℕ) (answered : Answered) → All (λ octet. octet < 2 ^ 8) octets
+        → (response_at octets ≡ Ok answered) ↔ IsResponse octets answered }
+    ensures fault { (octets : List ℕ) (fault : AppFault) → All (λ octet. octet < 2 ^ 8) octets
+        → (response_at octets ≡ Err fault) ↔ IsResponseFault octets fault }
+{}
+
+/// `row_in` and `command_in` give the row and the command that object k of a header is.
+pub fn objects_say_rows_and_commands()
+    ensures row { (header : Head) (k : ℕ) (row : Row) → All (λ octet. octet < 2 ^ 8) header.octets
+        → (row_in header k ≡ Some row) ↔ IsRow header k row }
+    ensures command { (header : Head) (k : ℕ) (answer : Command × ℕ) → All (λ octet. octet < 2 ^ 8) header.octets
+        → (command_in header k ≡ Some answer) ↔ IsCommand header k answer }
+{}
+
+/// A row of a header, of packed bits too, is one that an event object of its kind carries.
+pub fn rows_are_events()
+    ensures { (header : Head) (k : ℕ) (row : Row) → IsRow header k row → IsEvent row }
+{}

@@ -1,0 +1,124 @@
+// The rows of a header, one after the other.
+ghost use Rattle.std.specs.Prelude.{◌≡◌, ◌≤◌, ◌<◌, length, IfSome};
+ghost use Rattle.std.specs.Option.{option_map};
+ghost use Rattle.dnp_appfragment.specs.Headers.{count_of as count};
+ghost use Rattle.dnp_appfragment.specs.Walking as spec;
+
+use crate::header::{Header, Range};
+use crate::objects::{bit_at, index_at};
+use crate::range::count_of;
+use dnp_objects::{Row, Shape, row_shape};
+use std::marker::Model;
+
+/// The rows that the objects of a header carry.
+#[derive(Clone, Copy, Debug, PartialEq, Eq)]
+pub enum Carried {
+    /// Packed bits, 1.1.
+    Bits,
+    /// A row in each object.
+    Rows(Shape),
+    /// No rows that are read.
+    Nothing,
+}
+
+/// The rows that a header of this object carries.
+fn carried_by(group: u8, variation: u8) -> Carried
+    ensures value { result ≡ spec.carried_by group variation }
+    ensures sound { spec.IsCarried result }
+{
+    if group == 1 && variation == 1 {
+        return Carried::Bits;
+    }
+    match row_shape(group, variation) {
+        Some(shape) => Carried::Rows(shape),
+        None => Carried::Nothing,
+    }
+}
+
+/// Object k, of so many octets, which stands at the front: its index, its octets, and those behind
+/// it.
+#[inline]
+fn cut_at(range: Range, size: usize, k: usize, octets: &[u8]) -> Option<(u16, &[u8], &[u8])>
+    requires { k < count range }
+    ensures value { option_map spec.cut_of result ≡ spec.cut_at range size k octets.now }
+    ensures sized { IfSome result (λ cut. length cut.1.now ≡ size) }
+{
+    let (index, rest) = index_at(range, k, octets)?;
+    if rest.len() < size {
+        return None;
+    }
+    Some((index, &rest[..size], &rest[size..]))
+}
+
+/// The rows of a header that are left, in order: `Header::rows` begins one. The shape of a row is
+/// looked up once, and each object is cut off the front of the octets that are left.
+#[derive(Debug, Drop)]
+pub struct RowWalk<'a> {
+    carried: Carried,
+    range: Range,
+    /// The octets of the objects that are left; of packed bits those of all.
+    octets: &'a [u8],
+    /// How many rows were given.
+    k: usize,
+    /// How many more the range names.
+    left: usize,
+}
+
+impl<'a> Model for RowWalk<'a> {
+    ghost use Rattle.std.specs.Prelude.{List};
+    ghost use Rattle.dnp_objects.specs.declared.row.Row.{Row as RowValue};
+    ghost use Rattle.dnp_appfragment.specs.Walking.{rows_left, IsWalk};
+
+    ghost Value = { List RowValue };
+
+    ghost view = { λ w. rows_left w.carried w.range w.octets.now w.k w.left };
+
+    ghost invariant = { λ w. IsWalk w.carried w.range w.k w.left };
+}
+
+impl<'a> RowWalk<'a> {
+    ghost use Rattle.std.specs.Prelude.{◌≡◌, ℕ, slice_get};
+    ghost use Rattle.dnp_appfragment.specs.Meaning.{row_in};
+    ghost use Rattle.dnp_appfragment.specs.Seen.{head};
+
+    /// The rows of this header.
+    pub(crate) fn new(header: &Header<'a>) -> RowWalk<'a>
+        ensures { (k : ℕ) → slice_get result k ≡ row_in (head header.now) k }
+    {
+        RowWalk {
+            carried: carried_by(header.group, header.variation),
+            range: header.range,
+            octets: header.octets,
+            k: 0,
+            left: count_of(header.range),
+        }
+    }
+}
+
+impl<'a> Iterator for RowWalk<'a> {
+    ghost use Rattle.std.specs.Iterator.{YieldsFirst, item_count};
+
+    type Item = Row;
+
+    ghost next_gives = { YieldsFirst (λ rows. rows) };
+
+    ghost remaining = { item_count (λ rows. rows) };
+
+    fn next(&mut self) -> Option<Row> {
+        if self.left == 0 {
+            return None;
+        }
+        let row = match self.carried {
+            Carried::Rows(shape) => {
+                let (index, octets, rest) = cut_at(self.range, shape.size(), self.k, self.octets)?;
+                self.octets = rest;
+                shape.row(index, octets)
+            }
+            Carried::Bits => bit_at(self.range, self.octets, self.k)?,
+            Carried::Nothing => return None,
+        };
+        self.k += 1;
+        self.left -= 1;
+        Some(row)
+    }
+}
