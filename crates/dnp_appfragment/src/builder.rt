@@ -5,9 +5,9 @@ use crate::iin::Iin;
 use crate::putting::{MAX_FRAGMENT, header_size, push_header, whole_request, whole_response};
 use crate::run::{Run, longer};
 use crate::table::{Form, form_of};
-use crate::written::{behind_index, point_variation, row_octets};
+use crate::written::{behind_index, point_variation};
 use arrayvec::ArrayVec;
-use dnp_objects::{Command, Row, Status, event_object, write_command};
+use dnp_objects::{Command, Row, Status, event_object, event_octets, object_octets, write_command};
 use std::marker::Model;
 use thiserror::Error;
 
@@ -79,6 +79,14 @@ impl Builder {
         }
     }
 
+    /// How many octets still fit into the fragment's 2,048, of which its front has 2, or in a response
+    /// 4.
+    pub fn left(&self) -> usize
+        ensures { result + built.size self.now ≡ 2048 }
+    {
+        MAX_FRAGMENT - self.size()
+    }
+
     /// Ends the last header: the next object begins a new one.
     pub fn break_run(&mut self)
         ensures { self.new ≡ built.broken self.old }
@@ -98,7 +106,7 @@ impl Builder {
         ensures err { OnErr result (self.new ≡ self.old) }
         ensures function { self.new.function ≡ self.old.function }
     {
-        if MAX_FRAGMENT - self.size() < header_size(header) {
+        if self.left() < header_size(header) {
             return Err(Full);
         }
         self.break_run();
@@ -208,7 +216,7 @@ impl Builder {
         ensures function { self.new.function ≡ self.old.function }
     {
         let (group, variation) = event_object(row);
-        let octets = row_octets(group, variation, row);
+        let octets = event_octets(row);
         self.put_indexed(group, variation, row.index, &octets)
     }
 
@@ -227,7 +235,7 @@ impl Builder {
         ensures function { self.new.function ≡ self.old.function }
     {
         let variation = point_variation(group);
-        let octets = row_octets(group, variation, row);
+        let octets = object_octets(group, variation, row);
         self.put_spanned(group, variation, row.index, &octets)
     }
 
