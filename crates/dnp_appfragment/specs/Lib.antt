@@ -9,6 +9,7 @@ pub mod Items
 pub mod Joining
 pub mod Left
 pub mod Objects
+pub mod Overwriting
 pub mod Places
 pub mod Reading
 pub mod Seen
