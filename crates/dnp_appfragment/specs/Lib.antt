@@ -8,6 +8,7 @@ pub mod Indications
 pub mod Items
 pub mod Joining
 pub mod Left
+pub mod Lending
 pub mod Objects
 pub mod Overwriting
 pub mod Places

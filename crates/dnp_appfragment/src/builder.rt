@@ -50,7 +50,9 @@ impl Builder {
     ghost use Rattle.dnp_appfragment.specs.Table as table;
     ghost use Rattle.dnp_appfragment.specs.Headers.{IsHeader, header_octets};
     ghost use Rattle.dnp_appfragment.specs.Seen.{head};
+    ghost use Rattle.std.specs.Borrow.{sem};
     ghost use Rattle.dnp_appfragment.specs.Built as built;
+    ghost use Rattle.dnp_appfragment.specs.Lending.{StaysAsItWas};
     ghost use Rattle.dnp_appfragment.specs.Written as written;
     ghost use Rattle.dnp_appfragment.specs.Fragments.{IsRequest, IsResponse, request_octets, response_octets};
 
@@ -275,6 +277,7 @@ impl Builder {
 
     /// Lends the fragment with this control octet and, in a response, these internal indications.
     pub fn fragment(&mut self, control: Control, iin: Iin) -> &[u8]
+        ensures* stays { sem 𝓛 (StaysAsItWas self.entry) }
         ensures request { table.is_response self.old.function ≡ false → IsRequest result.now (built.asked self.old control) }
         ensures request_octets { table.is_response self.old.function ≡ false
             → result.now ≡ request_octets (built.asked self.old control) }
