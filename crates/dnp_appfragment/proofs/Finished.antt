@@ -1,15 +1,15 @@
 -- What is finished reads back.
-use Rattle.std.proofs.Common.{◌≡◌, Bool, true, false, cond, refl, sym, ◌∙◌, ap, subst, ℕ, List, [], ◌∷◌, ◌++◌, length, drop, Option}
+use Rattle.std.proofs.Common.{◌≡◌, Bool, true, false, cond, refl, sym, ◌∙◌, ap, subst, ℕ, List, [], ◌∷◌, drop, Option}
 use Rattle.dnp_appfragment.specs.declared.function.Function.{Function}
 use Rattle.dnp_appfragment.specs.declared.iin.Iin.{Iin}
 use Rattle.dnp_appfragment.specs.declared.run.Run.{Run}
 use Rattle.dnp_appfragment.specs.declared.table.Form.{Form}
 use Rattle.dnp_appfragment.specs.Control.{ControlBits, IsControl, control_octet}
 use Rattle.dnp_appfragment.specs.Table.{function_octet, form_of, is_response}
-use Rattle.dnp_appfragment.specs.Headers.{Head, spelled, Divide}
+use Rattle.dnp_appfragment.specs.Headers.{Divide}
 use Rattle.dnp_appfragment.specs.Fragments.{IsRequest, IsResponse, request_octets, response_octets}
 use Rattle.dnp_appfragment.specs.Built.{Built, front_size, heads, asked, answered}
-use Rattle.dnp_appfragment.specs.Building.{built, IsBuilt, ended_in, objects_in, built_in, IsLaid}
+use Rattle.dnp_appfragment.specs.Building.{ended_in, objects_in, built_in, IsLaid}
 use Rattle.dnp_appfragment.proofs.ObjectHeaders.{response_form, looked_at_divides}
 use Rattle.dnp_appfragment.proofs.Building.{is_heads}
 use Rattle.dnp_appfragment.proofs.Laid.{body_is, front_laid}
