@@ -45,12 +45,12 @@ impl Model for Builder {
 
 impl Builder {
     ghost use Rattle.std.specs.Prelude.{◌≡◌, ◌≤◌, ◌<◌, ◌↔◌, ◌+◌, ◌^◌, [], length, IsErr, IsSome, IsTrue, true, false, OnOk, OnErr, None};
+    ghost use Rattle.std.specs.Borrow.{sem};
     ghost use Rattle.dnp_objects.specs.Objects.{object_size};
     ghost use Rattle.dnp_objects.specs.Events.{IsEvent};
     ghost use Rattle.dnp_appfragment.specs.Table as table;
     ghost use Rattle.dnp_appfragment.specs.Headers.{IsHeader, header_octets};
     ghost use Rattle.dnp_appfragment.specs.Seen.{head};
-    ghost use Rattle.std.specs.Borrow.{sem};
     ghost use Rattle.dnp_appfragment.specs.Built as built;
     ghost use Rattle.dnp_appfragment.specs.Lending.{StaysAsItWas};
     ghost use Rattle.dnp_appfragment.specs.Written as written;
@@ -275,7 +275,8 @@ impl Builder {
         self.octets
     }
 
-    /// Lends the fragment with this control octet and, in a response, these internal indications.
+    /// Lends the fragment with this control octet and, in a response, these internal indications. The
+    /// builder stays as it was: more may be put into it, or it is started over.
     pub fn fragment(&mut self, control: Control, iin: Iin) -> &[u8]
         ensures* stays { sem 𝓛 (StaysAsItWas self.entry) }
         ensures request { table.is_response self.old.function ≡ false → IsRequest result.now (built.asked self.old control) }
