@@ -14,12 +14,12 @@ uint64_t dnp_bench_read_frame(const uint8_t *unit, size_t size, size_t pick);
 uint64_t dnp_bench_write_frames(const uint8_t *user, size_t size, uint64_t count);
 uint64_t dnp_bench_feed(const uint8_t *stream, size_t size, size_t piece);
 uint64_t dnp_bench_walk(const uint8_t *fragment, size_t size);
-uint64_t dnp_bench_build(uint64_t turn);
+uint64_t dnp_bench_build(uint64_t count, uint16_t most);
 
 // The same in plain Rust: plain_rust/.
 uint64_t plain_feed(const uint8_t *stream, size_t size, size_t piece);
 uint64_t plain_walk(const uint8_t *fragment, size_t size);
-uint64_t plain_build(uint64_t turn);
+uint64_t plain_build(uint64_t count, uint16_t most);
 
 enum { WAYS = 4, UNITS = 64, MOST_OCTETS = 4096 };
 
@@ -182,12 +182,17 @@ static void stream_rows(void) {
 static uint8_t fragment[2048];
 static size_t fragment_size;
 
-static uint64_t walked(int way, uint64_t turn) {
-    (void)turn;
-    return (way ? plain_walk : dnp_bench_walk)(fragment, fragment_size);
+static uint64_t walked(int way, uint64_t count) {
+    uint64_t sum = 0;
+    for (uint64_t turn = 0; turn < count; turn++)
+        sum = sum * 31 + (way ? plain_walk : dnp_bench_walk)(fragment, fragment_size);
+    return sum;
 }
 
-static uint64_t built(int way, uint64_t turn) { return (way ? plain_build : dnp_bench_build)(turn % 65536); }
+// As many events as fit, and none.
+static uint64_t built(int way, uint64_t count) { return (way ? plain_build : dnp_bench_build)(count, 2048); }
+
+static uint64_t built_empty(int way, uint64_t count) { return (way ? plain_build : dnp_bench_build)(count, 0); }
 
 static void fragment_row(const char *what, uint64_t (*work)(int, uint64_t), uint64_t count) {
     double best[2] = {0};
@@ -196,9 +201,7 @@ static void fragment_row(const char *what, uint64_t (*work)(int, uint64_t), uint
     for (int round = 0; round < rounds; round++)
         for (int way = 0; way < 2; way++) {
             double start = seconds();
-            sums[way] = 0;
-            for (uint64_t turn = 0; turn < count; turn++)
-                sums[way] = sums[way] * 31 + work(way, turn);
+            sums[way] = work(way, count);
             double took = seconds() - start;
             if (!round || took < best[way]) best[way] = took;
         }
@@ -233,6 +236,7 @@ static void fragment_rows(void) {
     }
     fragment_row("read: a READ of 682 headers", walked, 40000);
     fragment_row("built: 156 analog events", built, 40000);
+    fragment_row("built: an empty response", built_empty, 2000000);
 }
 
 int main(int argc, char **argv) {

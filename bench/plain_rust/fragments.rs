@@ -288,15 +288,21 @@ impl Builder {
     }
 }
 
-/// Builds a response of events, as many as fit in one, and makes a number of it; `turn` makes each one
-/// another.
+/// Builds `count` responses, each of `most` events or as many as fit in one, and makes a number of them;
+/// the turn makes each one another.
 #[no_mangle]
-pub extern "C" fn plain_build(turn: u64) -> u64 {
-    let mut builder = Builder { octets: Vec::with_capacity(2_048), run: None };
-    let mut index = 0u16;
-    while builder.event(index, 1, turn as i32 & 0xFFFF, 1_000 + turn).is_ok() {
-        index += 1;
+pub extern "C" fn plain_build(count: u64, most: u16) -> u64 {
+    let mut sum = 0u64;
+    for turn in 0..count {
+        let turn = turn % 65_536;
+        let mut builder = Builder { octets: Vec::with_capacity(2_048), run: None };
+        let mut index = 0u16;
+        while index < most && builder.event(index, 1, turn as i32 & 0xFFFF, 1_000 + turn).is_ok() {
+            index += 1;
+        }
+        let fragment = builder.finish(0xE0 | turn as u8 & 15);
+        let number = fragment.iter().step_by(97).fold(fragment.len() as u64, |sum, octet| sum.wrapping_mul(31).wrapping_add(u64::from(*octet)));
+        sum = sum.wrapping_mul(31).wrapping_add(number);
     }
-    let fragment = builder.finish(0xE0 | turn as u8 & 15);
-    fragment.iter().step_by(97).fold(fragment.len() as u64, |sum, octet| sum.wrapping_mul(31).wrapping_add(u64::from(*octet)))
+    sum
 }

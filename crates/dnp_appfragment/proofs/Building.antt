@@ -1,5 +1,6 @@
 -- What is built reads back: the octets of the ended headers divide into them, whatever is put.
 use Rattle.std.proofs.Common.{◌≡◌, Bool, true, false, cond, sym, ◌∙◌, ap, subst, ℕ, ◌+◌, ◌≤◌, List, [], ◌∷◌, ◌++◌, length, arith, Option, Some, None, IfSome, Result}
+use Rattle.std.specs.Prelude.{option_to_list}
 use Rattle.std.specs.Option.{option_map}
 use Rattle.std.specs.Result.{result_unwrap_or}
 use Rattle.std.proofs.lemmas.List.{append-nil, length-append}
@@ -56,6 +57,18 @@ is_built f octets run objects hs divide run_is room = record {
   run_is = run_is;
   room = subst (λ (b : Built). size b ≤ 2048) (sym (built_is f octets run objects hs divide)) room;
 }
+
+run_each : (f : Form) (run : Option Run) (objects : List ℕ) → IfSome run (λ r. IsHeader f (run_head objects r))
+    → AllByRecursion (IsHeader f) (option_to_list (option_map (run_head objects) run))
+run_each f None objects is = tt
+run_each f (Some run) objects is = (is, tt)
+
+-- each header put is one of its function
+pub is_heads : (f : Function) (octets : List ℕ) (run : Option Run) (objects : List ℕ) → IsBuilt f octets run objects
+    → AllByRecursion (IsHeader (form_of f)) (heads (built f octets run objects))
+is_heads f octets run objects is =
+    each-append (form_of f) (headers_of (form_of f) octets) (option_to_list (option_map (run_head objects) run)) is.divides.each
+    (run_each (form_of f) run objects is.run_is)
 
 -- ---- nothing yet
 

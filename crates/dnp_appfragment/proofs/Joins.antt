@@ -204,11 +204,6 @@ with_begun f octets run objects object is =
     ap (λ (o : Option Head). with_run (built f octets run objects) o object)
     (joined_or_not objects run object ∙ ap (option_map (run_head (objects ++ object.octets))) is)
 
-pub size-begun : (f : Function) (octets : List ℕ) (run : Option Run) (objects : List ℕ) (object : Head) → longer run object ≡ None
-    → size (with_object (built f octets run objects) object) ≡ size (built f octets run objects) + length (header_octets object)
-size-begun f octets run objects object is =
-    ap size (with_begun f octets run objects object is) ∙ size-run f (heads (built f octets run objects)) object
-
 -- the octets now are those of the ended headers, and the run that is begun is the object
 pub object_begins : (old : Built) (f : Function) (octets now : List ℕ) (run : Option Run) (objects : List ℕ) (begun : Run) (object : Head)
     → built f octets run objects ≡ broken old → IsBuilt f octets run objects → run_head object.octets begun ≡ object
@@ -266,12 +261,3 @@ pub begun_size : (old : Built) (f : Function) (octets : List ℕ) (run : Option 
     → size (with_object old object) ≡ size old + length (header_octets object)
 begun_size old f octets run objects object seen none =
     ap size (begun_with old f octets run objects object seen none) ∙ size-run old.function (heads old) object
-
--- the function stays
-pub function-with_object : (b : Built) (object : Head) → (with_object b object).function ≡ b.function
-unfolding with_object
-function-with_object b object = go (option_and_then (λ (run : Head). joined run object) b.run)
-  where
-    go : (o : Option Head) → (with_run b o object).function ≡ b.function
-    go (Some run) = refl
-    go None = refl

@@ -8,6 +8,7 @@ pub mod Grammar
 pub mod HeaderObjects
 pub mod Held
 pub mod Joins
+pub mod Laid
 pub mod Numbers
 pub mod ObjectHeaders
 pub mod ObjectValues

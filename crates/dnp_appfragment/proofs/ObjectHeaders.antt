@@ -2,7 +2,7 @@
 use Rattle.std.proofs.Common.{◌≡◌, Bool, true, false, IsTrue, refl, sym, ◌∙◌, ap, subst, ℕ, ◌+◌, ◌-◌, ◌*◌, ◌^◌, ◌<◌, ◌==◌, ◌||◌, List, [], ◌∷◌, length, arith, Option, Some, None, IsSome, ◌⊎◌, inl, inr, eqb-true}
 use Rattle.std.specs.Option.{option_map, option_map_or, option_and_then, IsSomeAnd}
 use Rattle.dnp_objects.specs.Objects.{objects, content_of, object_size, content_size, writable, shape_size}
-use Rattle.dnp_objects.specs.Rows.{row_fits, row_octets}
+use Rattle.dnp_objects.specs.Rows.{row_fits, row_octets, written}
 use Rattle.dnp_objects.specs.Commands.{object_of, index_of, command_octets}
 use Rattle.dnp_objects.specs.declared.command.Command.{Command}
 use Rattle.dnp_objects.specs.declared.command.Command.TheVariants as command
@@ -22,7 +22,7 @@ use Rattle.dnp_appfragment.specs.Fragments.{looked_at}
 use Rattle.dnp_appfragment.specs.Built.{carries_commands}
 use Rattle.dnp_objects.specs.Rows.{Fits}
 use Rattle.dnp_objects.specs.Events.{IsEvent, event_object}
-use Rattle.dnp_appfragment.specs.Written.{indexed, spanned, written, FitsPoint, is_point_group, point_variation}
+use Rattle.dnp_appfragment.specs.Written.{indexed, spanned, FitsPoint, is_point_group, point_variation}
 
 -- ---- forms
 
@@ -171,12 +171,11 @@ command_header f c octets carries sized = go (command_form (form_of f) carries)
 -- ---- the same of what a call has found: the object, and its octets as they are shown
 
 pub event_put : (f : Function) (row : Row) (object : ℕ × ℕ) (items shown : List ℕ) → object ≡ event_object row.kind row.time
-    → items ≡ written object.0 object.1 row → shown ≡ items → IsTrue (is_response f) → IsEvent row
+    → items ≡ written (event_object row.kind row.time).0 (event_object row.kind row.time).1 row → shown ≡ items → IsTrue (is_response f) → IsEvent row
     → IsHeader (form_of f) (indexed object.0 object.1 row.index shown)
 event_put f row object items shown same own seen response fits =
     let o = event_object row.kind row.time in
-    let octets : shown ≡ written o.0 o.1 row = seen ∙ own ∙ ap (λ (p : ℕ × ℕ). written p.0 p.1 row) same in
-    let sized : IsSized o.0 o.1 shown = subst (λ (t : List ℕ). IsSized o.0 o.1 t) (sym octets) (written_sized o.0 o.1 row fits) in
+    let sized : IsSized o.0 o.1 shown = subst (λ (t : List ℕ). IsSized o.0 o.1 t) (sym (seen ∙ own)) (written_sized o.0 o.1 row fits) in
     subst (λ (p : ℕ × ℕ). IsHeader (form_of f) (indexed p.0 p.1 row.index shown)) (sym same)
     (event_header f row.kind row.time row.index shown response sized)
 

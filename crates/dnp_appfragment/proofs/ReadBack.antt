@@ -2,7 +2,7 @@
 use Rattle.std.proofs.Common.{◌≡◌, Bool, true, false, IsTrue, refl, sym, subst, ℕ, ◌<◌, ◌==◌, ◌||◌, ◌≢◌, List, length, Option, Some, None, inr, eqb-true}
 use Rattle.std.specs.Prelude.{slice_get}
 use Rattle.dnp_objects.specs.Objects.{objects, content_of}
-use Rattle.dnp_objects.specs.Rows.{Reads}
+use Rattle.dnp_objects.specs.Rows.{Reads, written}
 use Rattle.dnp_objects.specs.Commands.{IsInRange, ReadsCommand}
 use Rattle.dnp_objects.specs.declared.command.Command.{Command}
 use Rattle.dnp_objects.specs.declared.row.Kind.{Kind}
@@ -13,7 +13,7 @@ use Rattle.dnp_appfragment.specs.Headers.{Head}
 use Rattle.dnp_appfragment.specs.Objects.{IsRow, IsCommand}
 use Rattle.dnp_objects.specs.Rows.{Fits}
 use Rattle.dnp_objects.specs.Events.{IsEvent, event_object}
-use Rattle.dnp_appfragment.specs.Written.{FitsPoint, is_point_group, point_variation, written}
+use Rattle.dnp_appfragment.specs.Written.{FitsPoint, is_point_group, point_variation}
 use Rattle.dnp_appfragment.specs.Items.{Item, Holds, event_item, point_item, command_item}
 use Rattle.dnp_appfragment.proofs.Held.{HasObject, has_object}
 

@@ -9,7 +9,8 @@ use Rattle.dnp_appfragment.specs.declared.header.Range.{Range}
 use Rattle.dnp_appfragment.specs.Headers.{Head, IsForward, count_of}
 use Rattle.dnp_appfragment.specs.Objects.{IsIndex, prefix_octets}
 use Rattle.dnp_objects.specs.Events.{event_object}
-use Rattle.dnp_appfragment.specs.Written.{point_variation, written}
+use Rattle.dnp_objects.specs.Rows.{written}
+use Rattle.dnp_appfragment.specs.Written.{point_variation}
 
 -- an object: what it is, whose it is, and its octets
 pub record Item : Type 0 where

@@ -9,7 +9,9 @@ pub mod Items
 pub mod Joining
 pub mod Left
 pub mod Meaning
+pub mod Lending
 pub mod Objects
+pub mod Overwriting
 pub mod Places
 pub mod Reading
 pub mod Seen

@@ -1,10 +1,8 @@
 -- What rows and commands are written as in a fragment, each as a header of its own (IEEE Std 1815-2012,
 -- application layer: object headers; object library).
 use Rattle.std.specs.Prelude.{ℕ, Bool, true, IsTrue, ◌==◌, ◌||◌, if◌then◌else◌, List, [], ◌∷◌, ◌++◌}
-use Rattle.std.specs.Option.{option_map_or}
 use Rattle.std.specs.List.{list_any}
-use Rattle.dnp_objects.specs.Objects.{shape_written}
-use Rattle.dnp_objects.specs.Rows.{Fits, row_octets}
+use Rattle.dnp_objects.specs.Rows.{Fits, written}
 use Rattle.dnp_objects.specs.Events.{event_object}
 use Rattle.dnp_objects.specs.Commands.{object_of, index_of, command_octets}
 use Rattle.dnp_objects.specs.declared.command.Command.{Command}
@@ -25,10 +23,6 @@ spanned group variation index octets =
     record { group = group; variation = variation; range = range.Span true index index; octets = octets }
 
 -- ---- rows
-
--- the octets of a row that can be written as this object
-abbrev pub written : ℕ → ℕ → Row → List ℕ
-written group variation row = option_map_or (λ shape. row_octets shape row) (shape_written group variation) []
 
 -- an event, with a time or without as the row has it
 abbrev pub event : Row → Head

@@ -2,12 +2,14 @@ use crate::control::Control;
 use crate::function::Function;
 use crate::header::{Header, Range};
 use crate::iin::Iin;
-use crate::putting::{MAX_FRAGMENT, header_size, push_header, whole_request, whole_response};
+use crate::putting::{
+    MAX_FRAGMENT, header_size, push_front, push_header, write_front, write_number,
+};
 use crate::run::{Run, longer};
 use crate::table::{Form, form_of};
-use crate::written::{behind_index, point_variation, row_octets};
+use crate::written::{behind_index, point_variation};
 use arrayvec::ArrayVec;
-use dnp_objects::{Command, Row, Status, event_object, write_command};
+use dnp_objects::{Command, Row, Status, event_object, event_octets, object_octets, write_command};
 use std::marker::Model;
 use thiserror::Error;
 
@@ -23,32 +25,34 @@ pub struct Full;
 #[derive(Debug, Drop)]
 pub struct Builder {
     function: Function,
-    /// The ended headers, as they stand in the fragment.
-    ended: ArrayVec<u8, MAX_FRAGMENT>,
+    /// The fragment so far: room for its front, and the headers with their objects as they are sent.
+    octets: ArrayVec<u8, MAX_FRAGMENT>,
+    /// How many octets the front and the ended headers have: there the run's header begins.
+    ended: usize,
     run: Option<Run>,
-    /// The octets of the run's objects, if there is a run.
-    objects: ArrayVec<u8, MAX_FRAGMENT>,
 }
 
 impl Model for Builder {
     ghost use Rattle.dnp_appfragment.specs.Built.{Built};
-    ghost use Rattle.dnp_appfragment.specs.Building.{built, IsBuilt};
+    ghost use Rattle.dnp_appfragment.specs.Building.{built_in, IsLaid};
 
     ghost Value = { Built };
 
-    ghost view = { λ b. built b.function b.ended.items b.run b.objects.items };
+    ghost view = { λ b. built_in b.function b.octets.items b.ended b.run };
 
-    ghost invariant = { λ b. IsBuilt b.function b.ended.items b.run b.objects.items };
+    ghost invariant = { λ b. IsLaid b.function b.octets.items b.ended b.run };
 }
 
 impl Builder {
     ghost use Rattle.std.specs.Prelude.{◌≡◌, ◌≤◌, ◌<◌, ◌↔◌, ◌+◌, ◌^◌, [], length, IsErr, IsSome, IsTrue, true, false, OnOk, OnErr, None};
+    ghost use Rattle.std.specs.Borrow.{sem};
     ghost use Rattle.dnp_objects.specs.Objects.{object_size};
     ghost use Rattle.dnp_objects.specs.Events.{IsEvent};
     ghost use Rattle.dnp_appfragment.specs.Table as table;
     ghost use Rattle.dnp_appfragment.specs.Headers.{IsHeader, header_octets};
     ghost use Rattle.dnp_appfragment.specs.Seen.{head};
     ghost use Rattle.dnp_appfragment.specs.Built as built;
+    ghost use Rattle.dnp_appfragment.specs.Lending.{StaysAsItWas};
     ghost use Rattle.dnp_appfragment.specs.Written as written;
     ghost use Rattle.dnp_appfragment.specs.Fragments.{IsRequest, IsResponse, request_octets, response_octets};
 
@@ -58,35 +62,42 @@ impl Builder {
         requires { table.is_response function ≡ is_response }
         ensures { result ≡ record { function = function; ended = []; run = None } }
     {
-        let _ = is_response;
+        let mut octets = ArrayVec::new();
+        let ended = push_front(&mut octets, is_response);
         Builder {
             function,
-            ended: ArrayVec::new(),
+            octets,
+            ended,
             run: None,
-            objects: ArrayVec::new(),
         }
     }
 
-    /// How many octets the fragment has so far.
-    fn size(&self) -> usize
-        ensures value { result ≡ built.size self.now }
-        ensures small { result ≤ 2048 }
+    /// Starts over, with a fragment of this function without headers, as `new` makes one: so that one
+    /// builder serves for many fragments.
+    pub fn restart(&mut self, function: Function, is_response: bool)
+        requires { table.is_response function ≡ is_response }
+        ensures { self.new ≡ record { function = function; ended = []; run = None } }
     {
-        let front = if self.function.is_response() { 4 } else { 2 };
-        match self.run {
-            None => front + self.ended.len(),
-            Some(run) => front + self.ended.len() + header_size(&run.header(&self.objects)),
-        }
+        self.break_run();
+        self.function = function;
+        self.octets.clear();
+        self.ended = push_front(&mut self.octets, is_response);
+    }
+
+    /// How many octets still fit into the fragment's 2,048, of which its front has 2, or in a response
+    /// 4.
+    pub fn left(&self) -> usize
+        ensures { result + built.size self.now ≡ 2048 }
+    {
+        MAX_FRAGMENT - self.octets.len()
     }
 
     /// Ends the last header: the next object begins a new one.
     pub fn break_run(&mut self)
         ensures { self.new ≡ built.broken self.old }
     {
-        if let Some(run) = self.run {
-            push_header(&mut self.ended, &run.header(&self.objects));
-            self.run = None;
-        }
+        self.ended = self.octets.len();
+        self.run = None;
     }
 
     /// Puts a header with its objects, which no object joins. `Header::fits` is the test of what is
@@ -98,11 +109,13 @@ impl Builder {
         ensures err { OnErr result (self.new ≡ self.old) }
         ensures function { self.new.function ≡ self.old.function }
     {
-        if MAX_FRAGMENT - self.size() < header_size(header) {
+        let size = header_size(header);
+        if self.left() < size {
             return Err(Full);
         }
         self.break_run();
-        push_header(&mut self.ended, header);
+        push_header(&mut self.octets, header);
+        self.ended += size;
         Ok(())
     }
 
@@ -115,23 +128,23 @@ impl Builder {
         ensures err { OnErr result (self.new ≡ self.old) }
         ensures function { self.new.function ≡ self.old.function }
     {
-        let room = MAX_FRAGMENT - self.size();
         match longer(self.run, object) {
             Some(longer) => {
-                if room < object.octets.len() {
+                if self.left() < object.octets.len() {
                     return Err(Full);
                 }
-                self.objects.try_extend_from_slice(object.octets).unwrap();
+                self.octets.try_extend_from_slice(object.octets).unwrap();
+                let (place, number) = longer.end();
+                write_number(&mut self.octets, self.ended + 3 + place, number);
                 self.run = Some(longer);
                 Ok(())
             }
             None => {
-                if room < header_size(object) {
+                if self.left() < header_size(object) {
                     return Err(Full);
                 }
                 self.break_run();
-                self.objects.clear();
-                self.objects.try_extend_from_slice(object.octets).unwrap();
+                push_header(&mut self.octets, object);
                 self.run = Some(Run::of(object));
                 Ok(())
             }
@@ -208,7 +221,7 @@ impl Builder {
         ensures function { self.new.function ≡ self.old.function }
     {
         let (group, variation) = event_object(row);
-        let octets = row_octets(group, variation, row);
+        let octets = event_octets(row);
         self.put_indexed(group, variation, row.index, &octets)
     }
 
@@ -227,7 +240,7 @@ impl Builder {
         ensures function { self.new.function ≡ self.old.function }
     {
         let variation = point_variation(group);
-        let octets = row_octets(group, variation, row);
+        let octets = object_octets(group, variation, row);
         self.put_spanned(group, variation, row.index, &octets)
     }
 
@@ -258,12 +271,24 @@ impl Builder {
         ensures response_octets { table.is_response self.function ≡ true
             → result.items ≡ response_octets (built.answered self control iin) }
     {
-        self.break_run();
-        if self.function.is_response() {
-            whole_response(control, self.function, iin, &self.ended)
-        } else {
-            whole_request(control, self.function, &self.ended)
-        }
+        write_front(&mut self.octets, control, self.function, iin);
+        self.octets
+    }
+
+    /// Lends the fragment with this control octet and, in a response, these internal indications. The
+    /// builder stays as it was: more may be put into it, or it is started over.
+    pub fn fragment(&mut self, control: Control, iin: Iin) -> &[u8]
+        ensures* stays { sem 𝓛 (StaysAsItWas self.entry) }
+        ensures request { table.is_response self.old.function ≡ false → IsRequest result.now (built.asked self.old control) }
+        ensures request_octets { table.is_response self.old.function ≡ false
+            → result.now ≡ request_octets (built.asked self.old control) }
+        ensures response { table.is_response self.old.function ≡ true
+            → IsResponse result.now (built.answered self.old control iin) }
+        ensures response_octets { table.is_response self.old.function ≡ true
+            → result.now ≡ response_octets (built.answered self.old control iin) }
+    {
+        write_front(&mut self.octets, control, self.function, iin);
+        &self.octets
     }
 }
 

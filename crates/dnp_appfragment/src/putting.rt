@@ -1,9 +1,11 @@
-ghost use Rattle.std.specs.Prelude.{◌≡◌, ◌+◌, ◌≤◌, ◌<◌, ◌∷◌, ◌++◌, length};
+ghost use Rattle.std.specs.Prelude.{◌≡◌, ◌+◌, ◌≤◌, ◌<◌, true, false, if◌then◌else◌, [], ◌∷◌, ◌++◌, length, drop};
 ghost use Rattle.arrayvec.specs.ArrayVec.{array_vec_len};
 ghost use Rattle.dnp_appfragment.specs.Headers as spec;
 ghost use Rattle.dnp_appfragment.specs.Seen.{head};
 ghost use Rattle.dnp_appfragment.specs.Control.{IsControl, control_octet};
-ghost use Rattle.dnp_appfragment.specs.Table.{function_octet};
+ghost use Rattle.dnp_appfragment.specs.Table.{function_octet, is_response};
+ghost use Rattle.dnp_appfragment.specs.Built.{front_size};
+ghost use Rattle.dnp_appfragment.specs.Overwriting.{written_over};
 
 use crate::control::Control;
 use crate::function::Function;
@@ -81,39 +83,48 @@ pub(crate) fn push_header(octets: &mut ArrayVec<u8, MAX_FRAGMENT>, header: &Head
     octets.try_extend_from_slice(header.octets).unwrap();
 }
 
-/// A request with these headers.
-pub(crate) fn whole_request(
-    control: Control,
-    function: Function,
-    headers: &[u8],
-) -> ArrayVec<u8, MAX_FRAGMENT>
-    requires { 2 + length headers.now ≤ 2048 }
-    ensures octets { result.items ≡ control_octet control ∷ function_octet function ∷ headers.now }
-    ensures control { IsControl control }
+/// Writes a number over the two octets at `at`, the low one first.
+pub(crate) fn write_number(octets: &mut ArrayVec<u8, MAX_FRAGMENT>, at: usize, number: u16)
+    requires { at + 2 ≤ array_vec_len octets.old }
+    ensures { octets.new.items ≡ written_over octets.old.items at (spec.number true number) }
 {
-    let mut octets = ArrayVec::new();
-    octets.push(control.octet());
-    octets.push(function.octet());
-    octets.try_extend_from_slice(headers).unwrap();
-    octets
+    octets[at] = (number % 256) as u8;
+    octets[at + 1] = (number / 256) as u8;
 }
 
-/// A response with these headers.
-pub(crate) fn whole_response(
+/// Appends room for the front of a fragment, 2 octets and in a response 4, and answers how many.
+pub(crate) fn push_front(octets: &mut ArrayVec<u8, MAX_FRAGMENT>, is_response: bool) -> usize
+    requires { octets.old.items ≡ [] }
+    ensures size { result ≡ (if is_response then 4 else 2) }
+    ensures room { array_vec_len octets.new ≡ result }
+{
+    octets.push(0);
+    octets.push(0);
+    if is_response {
+        octets.push(0);
+        octets.push(0);
+    }
+    octets.len()
+}
+
+/// Writes the front of a fragment over the room for it.
+pub(crate) fn write_front(
+    octets: &mut ArrayVec<u8, MAX_FRAGMENT>,
     control: Control,
     function: Function,
     iin: Iin,
-    headers: &[u8],
-) -> ArrayVec<u8, MAX_FRAGMENT>
-    requires { 4 + length headers.now ≤ 2048 }
-    ensures octets { result.items ≡ control_octet control ∷ function_octet function ∷ iin.one ∷ iin.two ∷ headers.now }
+)
+    requires { front_size function ≤ array_vec_len octets.old }
+    ensures request { is_response function ≡ false
+        → octets.new.items ≡ control_octet control ∷ function_octet function ∷ drop 2 octets.old.items }
+    ensures response { is_response function ≡ true
+        → octets.new.items ≡ control_octet control ∷ function_octet function ∷ iin.one ∷ iin.two ∷ drop 4 octets.old.items }
     ensures control { IsControl control }
 {
-    let mut octets = ArrayVec::new();
-    octets.push(control.octet());
-    octets.push(function.octet());
-    octets.push(iin.one);
-    octets.push(iin.two);
-    octets.try_extend_from_slice(headers).unwrap();
-    octets
+    octets[0] = control.octet();
+    octets[1] = function.octet();
+    if function.is_response() {
+        octets[2] = iin.one;
+        octets[3] = iin.two;
+    }
 }

@@ -51,18 +51,18 @@ fn joined_range(first: Range, second: Range) -> Option<Range>
 }
 
 impl Run {
-    ghost use Rattle.dnp_appfragment.specs.Building.{run_head, joined_run};
+    ghost use Rattle.dnp_appfragment.specs.Building.{run_head, joined_run, range_end};
     ghost use Rattle.dnp_appfragment.specs.Seen.{head};
 
-    /// The header with the octets of its objects.
-    pub(crate) fn header<'a>(&self, objects: &'a [u8]) -> Header<'a>
-        ensures { head result ≡ run_head objects.now self.now }
+    /// The number that grows with the run, the count or the last index, and where its two octets lie
+    /// behind the header's qualifier.
+    pub(crate) fn end(&self) -> (usize, u16)
+        ensures { result ≡ range_end self.now.range }
     {
-        Header {
-            group: self.group,
-            variation: self.variation,
-            range: self.range,
-            octets: objects,
+        match self.range {
+            Range::All => (0, 0),
+            Range::Span { last, .. } => (2, last),
+            Range::Count { n, .. } | Range::Indexed { n, .. } => (0, n),
         }
     }
 

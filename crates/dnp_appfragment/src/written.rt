@@ -1,11 +1,10 @@
 //! What rows are written as in a fragment.
 ghost use Rattle.std.specs.Prelude.{◌≡◌, ◌≤◌, ◌↔◌, ◌++◌, IsTrue, length, true};
-ghost use Rattle.dnp_objects.specs.Rows.{Fits};
 ghost use Rattle.dnp_appfragment.specs.Headers.{number};
 ghost use Rattle.dnp_appfragment.specs.Written as spec;
 
 use arrayvec::ArrayVec;
-use dnp_objects::{Row, fits_object, write_row};
+use dnp_objects::{Row, fits_object};
 
 /// The variation of the present values of a group.
 pub(crate) fn point_variation(group: u8) -> u8
@@ -22,17 +21,6 @@ pub fn fits_point(group: u8, row: &Row) -> bool
     ensures { IsTrue result ↔ spec.FitsPoint group row.now }
 {
     matches!(group, 1 | 10 | 20 | 30) && fits_object(group, point_variation(group), row)
-}
-
-/// The octets of a row that fits.
-pub(crate) fn row_octets(group: u8, variation: u8, row: &Row) -> ArrayVec<u8, 11>
-    requires { Fits group variation row.now }
-    ensures { result.items ≡ spec.written group variation row.now }
-{
-    match write_row(group, variation, row) {
-        Ok(octets) => octets,
-        Err(_) => unreachable!(),
-    }
 }
 
 /// An object behind its index.

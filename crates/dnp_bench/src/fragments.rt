@@ -43,11 +43,11 @@ pub extern "C" fn dnp_bench_walk(fragment: &[u8]) -> u64 {
     sum
 }
 
-/// Puts events of analogs with this value and time into a response, as many as fit.
-fn put_events(builder: &mut Builder, value: u16, time: u64)
+/// Puts events of analogs with this value and time into a response: `most`, or as many as fit.
+fn put_events(builder: &mut Builder, most: u16, value: u16, time: u64)
     requires { IsTrue (is_response builder.old.function) }
 {
-    for index in 0..2_048 {
+    for index in 0..most {
         let row = Row {
             kind: Kind::Analog,
             index,
@@ -61,18 +61,28 @@ fn put_events(builder: &mut Builder, value: u16, time: u64)
     }
 }
 
-/// Builds a response of events, as many as fit in one, and makes a number of it; `turn`, below
-/// 65,536, makes each one another.
-#[unsafe(no_mangle)]
-pub extern "C" fn dnp_bench_build(turn: u64) -> u64 {
-    let turn = turn % 65_536;
-    let mut builder = Builder::new(Function::Response, true);
-    put_events(&mut builder, turn as u16, 1_000 + turn);
-    let control = Control::read(0xE0 | (turn % 16) as u8);
-    let fragment = builder.finish(control, Iin { one: 0, two: 0 });
+/// A fragment in one number.
+fn fragment_number(fragment: &[u8]) -> u64 {
     let mut sum = fragment.len() as u64;
     for part in fragment.chunks(97) {
         sum = sum.wrapping_mul(31).wrapping_add(u64::from(part[0]));
+    }
+    sum
+}
+
+/// Builds `count` responses, each of `most` events or as many as fit in one, with one builder that is
+/// kept for all, and makes a number of them; the turn makes each one another.
+#[unsafe(no_mangle)]
+pub extern "C" fn dnp_bench_build(count: u64, most: u16) -> u64 {
+    let mut builder = Builder::new(Function::Response, true);
+    let mut sum = 0u64;
+    for turn in 0..count {
+        let turn = turn % 65_536;
+        builder.restart(Function::Response, true);
+        put_events(&mut builder, most, turn as u16, 1_000 + turn);
+        let control = Control::read(0xE0 | (turn % 16) as u8);
+        let fragment = builder.fragment(control, Iin { one: 0, two: 0 });
+        sum = sum.wrapping_mul(31).wrapping_add(fragment_number(fragment));
     }
     sum
 }

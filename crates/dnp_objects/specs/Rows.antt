@@ -2,7 +2,7 @@
 -- library): its flags, its value, its time, low octets first. Reading and writing are this one
 -- relation, gone through either way.
 use Rattle.std.specs.Prelude.{◌≡◌, ◌≢◌, ℕ, ◌+◌, ◌-◌, ◌*◌, ◌^◌, ℤ, pos, negsuc, Bool, true, false, IsTrue, nat_lt, ◌==◌, ◌&&◌, if◌then◌else◌, List, [], ◌∷◌, ◌++◌, length, Option, Some, None}
-use Rattle.std.specs.Option.{IsSomeAnd}
+use Rattle.std.specs.Option.{option_map_or, IsSomeAnd}
 use Rattle.std.specs.Int.{w64, cast_unsigned}
 use Rattle.byteorder.specs.Endian.{little_bytes}
 use Rattle.dnp_objects.specs.declared.row.Kind.{Kind}
@@ -78,6 +78,10 @@ pub record IsRowOf (shape : Shape) (row : Row) (octets : List ℕ) : Type 0 wher
 -- the row can be written as this object
 abbrev pub Fits : ℕ → ℕ → Row → Type 0
 Fits group variation row = IsSomeAnd (shape_written group variation) (λ shape. IsTrue (row_fits shape row))
+
+-- the octets of a row that can be written as this object
+abbrev pub written : ℕ → ℕ → Row → List ℕ
+written group variation row = option_map_or (λ shape. row_octets shape row) (shape_written group variation) []
 
 -- the row is written so as this object
 abbrev pub Writes : ℕ → ℕ → Row → List ℕ → Type 0

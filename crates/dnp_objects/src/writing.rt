@@ -48,7 +48,7 @@ fn time_fits(shape: Shape, time: Option<u64>) -> bool
 }
 
 /// Whether the row can stand in an object of this shape.
-fn row_fits(shape: Shape, row: &Row) -> bool
+pub(crate) fn row_fits(shape: Shape, row: &Row) -> bool
     requires { IsShape shape }
     ensures { result ≡ spec.row_fits shape row.now }
 {
@@ -83,7 +83,8 @@ fn flags_octet(shape: Shape, row: &Row) -> u8
 }
 
 /// The octets of a row that fits.
-fn octets_of(shape: Shape, row: &Row) -> ArrayVec<u8, 11>
+#[inline]
+pub(crate) fn octets_of(shape: Shape, row: &Row) -> ArrayVec<u8, 11>
     requires shape { IsShape shape }
     requires fits { IsTrue (spec.row_fits shape row.now) }
     ensures { result.items ≡ spec.row_octets shape row.now }
@@ -113,6 +114,15 @@ pub fn fits_object(group: u8, variation: u8, row: &Row) -> bool
     ensures { IsTrue result ↔ spec.Fits group variation row.now }
 {
     written_shape(group, variation).is_some_and(|shape| row_fits(shape, row))
+}
+
+/// The octets of the row as one object of this group and variation (IEEE Std 1815-2012, object
+/// library), as `write_row` gives them. `fits_object` is the test of what is required.
+pub fn object_octets(group: u8, variation: u8, row: &Row) -> ArrayVec<u8, 11>
+    requires { spec.Fits group variation row.now }
+    ensures { result.items ≡ spec.written group variation row.now }
+{
+    octets_of(written_shape(group, variation).unwrap(), row)
 }
 
 /// The octets, or the first cause of a refusal.

@@ -1,8 +1,13 @@
-use Rattle.dnp_appfragment.proofs.Building.{empty}
+use Rattle.std.proofs.Common.{[], None, refl, sym, ◌∙◌}
+use Rattle.dnp_appfragment.proofs.Laid.{fresh}
 use Rattle.dnp_appfragment.proofs.builder.Builder.new.Goals as goal
 
 pub invariant_of-result : goal.invariant_of-result
-invariant_of-result c = (empty c.args.function c.new.result.items c.new-2.result.items c.new.ensures).0
+invariant_of-result c =
+    (fresh c.args.function c.args.is_response c.push_front-ended.new.octets.items [] c.push_front-ended.result None c.requires (c.push_front-ended.ensures.room ∙ c.push_front-ended.ensures.size)
+    (sym c.push_front-ended.ensures.room) refl).0
 
 pub returns : goal.returns
-returns c = (empty c.args.function c.new.result.items c.new-2.result.items c.new.ensures).1
+returns c =
+    (fresh c.args.function c.args.is_response c.push_front-ended.new.octets.items [] c.push_front-ended.result None c.requires (c.push_front-ended.ensures.room ∙ c.push_front-ended.ensures.size)
+    (sym c.push_front-ended.ensures.room) refl).1

@@ -1,6 +1,7 @@
 use Rattle.dnp_objects.specs.Commands.{object_of, index_of, command_octets}
 use Rattle.dnp_objects.specs.Events.{event_object}
-use Rattle.dnp_appfragment.specs.Written.{point_variation, written}
+use Rattle.dnp_objects.specs.Rows.{written}
+use Rattle.dnp_appfragment.specs.Written.{point_variation}
 use Rattle.dnp_appfragment.proofs.ObjectHeaders.{written_sized, command_sized}
 use Rattle.dnp_appfragment.proofs.Held.{indexed_holds, spanned_holds}
 use Rattle.dnp_appfragment.proofs.laws.built.a_header_holds_what_was_put.Goals as goal
