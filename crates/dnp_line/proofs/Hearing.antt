@@ -35,7 +35,7 @@ up_after e heard f for_it unconfirmed =
     ∙ ap (λ (p : PrimaryFunction). answer_to e p (expected e heard) (frame_count_bit f.control)) unconfirmed)
 
 -- what the sender's port sends goes up at the receiver's, whatever that heard before
-goes_up : GoesUp → (s r : PortState) (x : List ℕ) (heard : List Frame) → AreFacing s r → (answer (ends r.link) heard (data_frame s x)).up ≡ true
+pub goes_up : GoesUp → (s r : PortState) (x : List ℕ) (heard : List Frame) → AreFacing s r → (answer (ends r.link) heard (data_frame s x)).up ≡ true
 goes_up to_peer s r x heard facing =
     subst (λ (e : Ends). (answer e heard (data_frame s x)).up ≡ true) (sym facing)
     (up_after (opposite (ends s.link)) heard (data_frame s x) (to_peer (ends s.link) x).0 (to_peer (ends s.link) x).1)

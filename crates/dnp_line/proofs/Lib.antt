@@ -7,3 +7,4 @@ pub mod OnLine
 pub mod Hearing
 pub mod Flowing
 pub mod Sending
+pub mod Delivering

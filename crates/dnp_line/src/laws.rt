@@ -1,13 +1,20 @@
 //! What is true of every way of a link, and of every list that came of another: each function is a law about the words
 //! of its clauses, and its body changes nothing when it runs.
 
-ghost use Rattle.std.specs.Prelude.{◌≡◌, ℕ, ◌↔◌, Bool, IsTrue, List, [], ◌∷◌, ◌++◌, drop, slice_get, All, Contains};
+ghost use Rattle.std.specs.Prelude.{◌≡◌, ℕ, ◌↔◌, Bool, IsTrue, List, [], ◌∷◌, ◌++◌, drop, slice_get, All, Contains, length, replicate, false};
+ghost use Rattle.dnp_linkframe.specs.declared.frame.Frame.{Frame};
+ghost use Rattle.dnp_linkstation.specs.Station.{Stands as Answers};
+ghost use Rattle.dnp_transport.specs.Assembly.{Stands};
+ghost use Rattle.dnp_transport.specs.Cuts.{cut_count};
+ghost use Rattle.dnp_line.specs.Lines.{is_broken, quiet_line};
 ghost use Rattle.dnp_line.specs.Comes.{Comes, ComesTo, comes};
 ghost use Rattle.dnp_line.specs.Flows.{AreFacing, Flows, RestMoves};
 ghost use Rattle.dnp_line.specs.Ways.{Way, new_way, opened_on, WayEvent, Happens, Runs};
+ghost use Rattle.dnp_line.specs.Ways as WayEvent;
 
 use dnp_linkframe::laws::a_unit_spells_one_frame;
 use dnp_linkstation::laws::what_is_sent_is_for_the_peer;
+use dnp_transport::laws::cuts_give_whole;
 
 /// The law of a line between two ports: the fragments that the receiver's port gave came of those that were handed to
 /// the sender's port, after every run of sends, deliveries, repeats, losses, damage and clearings since the link was
@@ -102,3 +109,16 @@ pub fn one_came<T>()
     ensures { (came sent rest : List T) (n : ℕ) (member : T) → ComesTo came sent rest →
         slice_get rest n ≡ Some member → ComesTo (came ++ member ∷ []) sent (drop n rest) }
 {}
+
+/// What is sent on a way that is clear comes out, whatever the receiver's port had half built: after as many deliveries as
+/// the fragment has segments the line is empty, and the port has given this fragment and nothing else.
+pub fn a_clear_way_delivers()
+    ensures { (old sent new : Way) (fragment : List ℕ) → AreFacing old.sender old.receiver → old.mute ≡ false → old.line.units ≡ [] → is_broken old.line ≡ false
+        → (heard : List Frame) → Answers heard old.receiver.link → (pushed : List (List ℕ)) → Stands pushed old.receiver.assembly
+        → Happens old (WayEvent.Send fragment) sent → Runs sent (replicate (cut_count (length fragment)) WayEvent.Deliver) new
+        → (new.given ≡ old.given ++ fragment ∷ []) × (new.line ≡ quiet_line) × AreFacing new.sender new.receiver × (new.mute ≡ false) }
+{
+    a_unit_spells_one_frame();
+    what_is_sent_is_for_the_peer();
+    cuts_give_whole();
+}
