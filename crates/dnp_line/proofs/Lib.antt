@@ -1,7 +1,6 @@
 pub mod Coming
-pub mod Headers
+pub mod Lower
 pub mod Splits
-pub mod Pushes
 pub mod Arrivals
 pub mod OnLine
 pub mod Hearing

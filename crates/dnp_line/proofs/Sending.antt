@@ -2,10 +2,9 @@
 use Rattle.std.proofs.Common.{◌≡◌, ℕ, ◌+◌, ◌<◌, ◌≤◌, inl, inr, List, [], ◌∷◌, ◌++◌, length, take, refl, sym, ap, ◌∙◌, subst, arith, length-append}
 use Rattle.std.proofs.lemmas.Bool.{cases_Bool, cond-true, cond-false}
 use Rattle.std.proofs.lemmas.List.{take_all}
-use Rattle.std.proofs.lemmas.List.FromFn.{take-map-range_with_len, map-range_with_len_more}
+use Rattle.std.proofs.lemmas.List.FromFn.{take-map-range_with_len, map-range_with_len_more, length-map-range_with_len}
 use Rattle.dnp_linkframe.specs.Frames.{Spells}
 use Rattle.dnp_transport.specs.Cuts.{cut_count, cut, cuts}
-use Rattle.dnp_transport.proofs.InOrder.{length-cuts}
 use Rattle.dnp_line.specs.Lines.{LineState, HeldLine, line_of, is_broken, sent_on, room_of}
 use Rattle.dnp_line.specs.Ports.{PortState, data_frame}
 use Rattle.dnp_line.specs.Ways.{AreSpelled, all_sent_on}
@@ -28,7 +27,7 @@ first_more f n k h =
     ∙ ap (λ (l : List (List ℕ)). l ++ cut f n k ∷ []) (sym (take-map-range_with_len (cut f n) 0 (cut_count (length f)) k (omega (arith, h))))
 
 pub first_all : (f : List ℕ) (n : ℕ) → take (cut_count (length f)) (cuts f n) ≡ cuts f n
-first_all f n = take_all (cut_count (length f)) (cuts f n) (omega (arith, length-cuts f n))
+first_all f n = take_all (cut_count (length f)) (cuts f n) (omega (arith, length-map-range_with_len (cut f n) 0 (cut_count (length f))))
 
 -- so many units were sent on what the line was
 pub record IsSending (start : LineState) (port : PortState) (f : List ℕ) (k : ℕ) (line : HeldLine) : Type 0 where

@@ -5,11 +5,12 @@ ghost use Rattle.dnp_transport.specs.Assembly.{Stands};
 ghost use Rattle.dnp_transport.specs.Cuts.{cut_count, cut};
 ghost use Rattle.dnp_transport.specs.Series.{IsWhole};
 ghost use Rattle.dnp_linkstation.specs.Station.{Stands as Answers};
-ghost use Rattle.dnp_line.specs.Ports.{new_port, data_frame, moved_on, Takes, IsShown, reset_of};
+ghost use Rattle.dnp_line.specs.Ports.{new_port, data_frame, moved_on, HasHistory, Takes, IsShown, reset_of};
 
 use arrayvec::ArrayVec;
 use dnp_linkframe::{Frame, MAX_FRAME, write_frame};
 use dnp_linkstation::LinkStation;
+use dnp_linkstation::laws::each_station_has_a_history;
 use dnp_transport::{Assembler, Pushed, segment};
 use std::marker::Model;
 
@@ -85,7 +86,7 @@ impl Port {
     }
 
     /// Takes a frame that came. The station's end of the link answers it, and user data that go up are joined to those
-    /// before them.
+    /// before them. A frame that goes up with no user data leaves what was joined as it is.
     ///
     /// The reply, if there is one, is the link layer's: an acknowledgment or refusal of confirmed user data, of a test
     /// or of a reset, the link's status, or that a function is not supported (IEEE Std 1815-2012, data link layer).
@@ -93,7 +94,7 @@ impl Port {
         ensures takes { Takes self.old frame.now self.new result }
     {
         let answer = self.link.receive(frame);
-        let whole = answer.up && self.joins(frame.user.as_slice());
+        let whole = answer.up && !frame.user.is_empty() && self.joins(frame.user.as_slice());
         Taken {
             whole,
             reply: answer.reply,
@@ -116,6 +117,15 @@ impl Port {
         ensures fits { length result.now ≤ 2048 }
     {
         self.assembler.fragment()
+    }
+
+    /// Some frames, taken one after the other, make a port what this one is, up to the number of the next segment: each
+    /// port has a history. It does nothing when it runs.
+    pub fn has_a_history(&self)
+        ensures { HasHistory self.now }
+    {
+        each_station_has_a_history();
+        self.assembler.has_a_history();
     }
 
     /// A port in the same state.
