@@ -7,3 +7,4 @@ pub mod Hearing
 pub mod Flowing
 pub mod Sending
 pub mod Delivering
+pub mod One

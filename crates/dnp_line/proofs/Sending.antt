@@ -30,9 +30,10 @@ pub first_all : (f : List ℕ) (n : ℕ) → take (cut_count (length f)) (cuts f
 first_all f n = take_all (cut_count (length f)) (cuts f n) (omega (arith, length-map-range_with_len (cut f n) 0 (cut_count (length f))))
 
 -- so many units were sent on what the line was
-pub record IsSending (start : LineState) (port : PortState) (f : List ℕ) (k : ℕ) (line : HeldLine) : Type 0 where
+pub record IsSending (start : HeldLine) (port : PortState) (f : List ℕ) (k : ℕ) (line : HeldLine) : Type 0 where
   pub units : List (List ℕ)
-  pub line_is : line.state ≡ all_sent_on units start
+  pub line_is : line.state ≡ all_sent_on units start.state
+  pub capacity : line.capacity ≡ start.capacity
   pub spelled : AreSpelled port (take k (cuts f port.number)) units
   pub room : cut_count (length f) ≤ room_of line + k
 
@@ -46,16 +47,13 @@ sent_length u l =
           (arith, ap (λ (m : LineState). length m.units) (cond-false (is_broken l) l (line_of (l.units ++ u ∷ []) l.lost) whole), length-append l.units (u ∷ []))
     ]
 
-pub sending_none : (start : LineState) (port : PortState) (f : List ℕ) (line : HeldLine) → line.state ≡ start → cut_count (length f) ≤ room_of line → IsSending start port f 0 line
-sending_none start port f line e room =
-    record { units = []; line_is = e; spelled = refl; room = omega (arith, room) }
-
-pub sending_more : (start : LineState) (port : PortState) (f : List ℕ) (k : ℕ) (line new : HeldLine) (u : List ℕ) → k < cut_count (length f) → IsSending start port f k line → Spells u (data_frame port (cut f port.number k)) → new ≡ record line { state = sent_on u line.state } → IsSending start port f (k + 1) new
+pub sending_more : (start : HeldLine) (port : PortState) (f : List ℕ) (k : ℕ) (line new : HeldLine) (u : List ℕ) → k < cut_count (length f) → IsSending start port f k line → Spells u (data_frame port (cut f port.number k)) → new ≡ record line { state = sent_on u line.state } → IsSending start port f (k + 1) new
 sending_more start port f k line new u h i spells e =
     subst (λ (l : HeldLine). IsSending start port f (k + 1) l) (sym e)
     record {
       units = i.units ++ u ∷ [];
-      line_is = ap (λ (l : LineState). sent_on u l) i.line_is ∙ sym (all_sent_more i.units u start);
+      line_is = ap (λ (l : LineState). sent_on u l) i.line_is ∙ sym (all_sent_more i.units u start.state);
+      capacity = i.capacity;
       spelled =
           subst (λ (ss : List (List ℕ)). AreSpelled port ss (i.units ++ u ∷ [])) (sym (first_more f port.number k h))
           (spelled_more port (take k (cuts f port.number)) i.units (cut f port.number k) u i.spelled spells);

@@ -1,5 +1,6 @@
 //! A station's port to a line.
-ghost use Rattle.std.specs.Prelude.{◌≡◌, ℕ, ◌<◌, ◌≤◌, ◌↔◌, List, [], ◌∷◌, length, IsTrue};
+ghost use Rattle.std.specs.Prelude.{◌≡◌, ℕ, ◌<◌, ◌≤◌, ◌↔◌, List, [], ◌∷◌, length, IsTrue, IfSome, IfNone};
+ghost use Rattle.dnp_linkframe.specs.declared.frame.Frame.{Frame as FrameValue};
 ghost use Rattle.dnp_linkframe.specs.Frames.{Spells};
 ghost use Rattle.dnp_transport.specs.Assembly.{Stands};
 ghost use Rattle.dnp_transport.specs.Cuts.{cut_count, cut};
@@ -25,6 +26,19 @@ pub struct Taken {
 
     /// The link frame to answer with.
     pub reply: Option<Frame>,
+}
+
+impl Taken {
+    /// The unit to answer with: the spelling of the reply. So a reply is put on a line as user data are, by its unit.
+    pub fn reply_unit(&self) -> Option<ArrayVec<u8, MAX_FRAME>>
+        ensures spells { IfSome result (λ unit. (reply : FrameValue) × (self.now.reply ≡ Some reply) × Spells unit.items reply) }
+        ensures none { IfNone result (self.now.reply ≡ None) }
+    {
+        match &self.reply {
+            Some(reply) => Some(write_frame(reply)),
+            None => None,
+        }
+    }
 }
 
 /// A station's port: cuts the station's fragments into link frames to its peer, and joins those that come from the peer
