@@ -48,7 +48,7 @@ pub fn repeat(line: &mut Line, receiver: &mut Port) -> bool
     ensures capacity { line.new.capacity ≡ line.old.capacity }
 {
     match line.repeat() {
-        Some(unit) => hear(receiver, unit.as_slice()),
+        Some(copy) => hear(receiver, copy.as_slice()),
         None => false,
     }
 }

@@ -82,7 +82,7 @@ pub returns-in-Some-clause-sent : goal.returns-in-Some-clause-sent
 returns-in-Some-clause-sent c =
     let h : HasTaken c.args.own c.args.peer c.args.frame.now c.take-taken.new.self c.take-taken.result =
     has_taken c.args.own c.args.peer c.new-port.result c.take-taken.new.self c.args.frame.now c.take-taken.result c.new-port.ensures.port c.new-port.ensures.answers c.new-port.ensures.stands c.take-taken.ensures.takes in
-    (c.in-Some.reply, Reply (sym h.reply ∙ c.in-Some.is), c.write_frame.ensures.spells)
+    let reply = c.in-Some.ensures.spells in (reply.0, Reply (sym h.reply ∙ reply.1), reply.2)
 
 pub returns-then-not-taken-clause-silent : goal.returns-then-not-taken-clause-silent
 returns-then-not-taken-clause-silent c =
@@ -90,7 +90,7 @@ returns-then-not-taken-clause-silent c =
     has_taken c.args.own c.args.peer c.new-port.result c.take-taken.new.self c.args.frame.now c.take-taken.result c.new-port.ensures.port c.new-port.ensures.answers c.new-port.ensures.stands c.take-taken.ensures.takes in
     λ back b.
     elim b [
-      | Reply r ↦ no_reply c.take-taken.result.reply back c.in_default.is (h.reply ∙ r)
+      | Reply r ↦ no_reply c.take-taken.result.reply back c.in_default.ensures.none (h.reply ∙ r)
       | Response sequence asks e ↦ both_ways c.take-taken.result.whole c.if-not-taken.true (h.whole sequence asks)
     ]
 
@@ -101,7 +101,7 @@ returns-in_err-sequence-clause-silent c =
     rw c.from_residual.ensures
     (λ back b.
     elim b [
-      | Reply r ↦ no_reply c.take-taken.result.reply back c.in_default.is (h.reply ∙ r)
+      | Reply r ↦ no_reply c.take-taken.result.reply back c.in_default.ensures.none (h.reply ∙ r)
       | Response sequence asks e ↦
           (c.in_err-sequence.ensures).none sequence (h.asked c.fragment.result.now c.fragment.ensures.shown sequence asks)
     ])

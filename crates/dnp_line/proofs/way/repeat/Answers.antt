@@ -9,7 +9,7 @@ use Rattle.dnp_line.proofs.way.repeat.Goals as goal
 pub returns-in-Some-clause-happens : goal.returns-in-Some-clause-happens
 returns-in-Some-clause-happens c =
     λ way fragment e f shown.
-    let unit : List ℕ = c.in-Some.unit.items in
+    let unit : List ℕ = c.in-Some.copy.items in
     let given : List (List ℕ) = if c.hear.result then way.given ++ fragment ∷ [] else way.given in
     let front : front_of way.line ≡ Some unit = ap (λ (l : LineState). front_of l) e ∙ sym c.in-Some.ensures.unit in
     let line_is : c.repeat.new.self.state ≡ repeated_on way.line =
