@@ -88,7 +88,8 @@ up_to_first low sent gone x i first =
     }
 
 -- the next segment after those of a series that is begun
-up_to_next : Lower → (sent : List (List ℕ)) (gone lost : ℕ) (x : List ℕ) (s : List (List ℕ)) → lost < 32 → IsSegment sent gone x → IsRecent sent gone lost s → Follows (newest s) x → IsUpTo sent gone x s
+up_to_next : Lower → (sent : List (List ℕ)) (gone lost : ℕ) (x : List ℕ) (s : List (List ℕ)) → lost < 32 → IsSegment sent gone x
+    → IsRecent sent gone lost s → Follows (newest s) x → IsUpTo sent gone x s
 up_to_next low sent gone lost x s few i r follows =
     let b : IsBegun sent r.place s = r.is_begun in
     let turn : gone % 64 ≡ (r.place % 64 + 1) % 64 =
@@ -115,7 +116,8 @@ up_to_next low sent gone lost x s few i r follows =
     }
 
 -- without FIN the series waits
-begun_up_to : Lower → (sent : List (List ℕ)) (gone : ℕ) (x : List ℕ) (s t : List (List ℕ)) → IsUpTo sent gone x s → is_last x ≡ false → t ≡ x ∷ s → IsBegun sent gone t
+begun_up_to : Lower → (sent : List (List ℕ)) (gone : ℕ) (x : List ℕ) (s t : List (List ℕ)) → IsUpTo sent gone x s → is_last x ≡ false → t ≡ x ∷ s
+    → IsBegun sent gone t
 begun_up_to low sent gone x s t u unended e =
     let first : ℕ = segment_total u.before in
     record {
@@ -130,7 +132,8 @@ begun_up_to low sent gone x s t u unended e =
     }
 
 -- what is open after the segment has it as its newest
-pub open_after : Lower → (sent : List (List ℕ)) (gone lost : ℕ) (x : List ℕ) (before t : List (List ℕ)) → lost < 32 → IsSegment sent gone x → ((s : List (List ℕ)) → IsOpen before s → IsRecent sent gone lost s) → IsOpen (x ∷ before) t → IsBegun sent gone t
+pub open_after : Lower → (sent : List (List ℕ)) (gone lost : ℕ) (x : List ℕ) (before t : List (List ℕ)) → lost < 32 → IsSegment sent gone x
+    → ((s : List (List ℕ)) → IsOpen before s → IsRecent sent gone lost s) → IsOpen (x ∷ before) t → IsBegun sent gone t
 open_after low sent gone lost x before t few i recent o =
     elim (low.opens before t x o) [
       | LeftOut out opened ↦
@@ -154,7 +157,8 @@ pub record IsWholeAt (sent : List (List ℕ)) (gone : ℕ) (fragment : List ℕ)
   pub low : segment_total before ≤ gone
   pub high : gone < segment_total before + cut_count (length fragment)
 
-whole_up_to : Lower → (sent : List (List ℕ)) (gone : ℕ) (x : List ℕ) (s : List (List ℕ)) (f : List ℕ) → IsUpTo sent gone x s → is_last x ≡ true → f ≡ joined (x ∷ s) → IsWholeAt sent gone f
+whole_up_to : Lower → (sent : List (List ℕ)) (gone : ℕ) (x : List ℕ) (s : List (List ℕ)) (f : List ℕ) → IsUpTo sent gone x s → is_last x ≡ true
+    → f ≡ joined (x ∷ s) → IsWholeAt sent gone f
 whole_up_to low sent gone x s f u ended e =
     let first : ℕ = segment_total u.before in
     let all : u.k + 1 ≡ cut_count (length u.fragment) =
@@ -169,7 +173,8 @@ whole_up_to low sent gone x s f u ended e =
       high = omega (arith, u.at.place_is, u.at.within);
     }
 
-pub whole_after : Lower → (sent : List (List ℕ)) (gone lost : ℕ) (x : List ℕ) (before : List (List ℕ)) (f : List ℕ) → lost < 32 → IsSegment sent gone x → ((s : List (List ℕ)) → IsOpen before s → IsRecent sent gone lost s) → IsWhole (x ∷ before) f → IsWholeAt sent gone f
+pub whole_after : Lower → (sent : List (List ℕ)) (gone lost : ℕ) (x : List ℕ) (before : List (List ℕ)) (f : List ℕ) → lost < 32
+    → IsSegment sent gone x → ((s : List (List ℕ)) → IsOpen before s → IsRecent sent gone lost s) → IsWhole (x ∷ before) f → IsWholeAt sent gone f
 whole_after low sent gone lost x before f few i recent w =
     elim (low.completes before x f w) [
       | Alone first ended e ↦ whole_up_to low sent gone x [] f (up_to_first low sent gone x i first) ended e

@@ -31,7 +31,9 @@ record HasTaken (s new : PortState) (x : List ℕ) (pushed given given' : List (
   none : ((g : List ℕ) → IsWhole (x ∷ pushed) g → ⊥) → given' ≡ given
   one : (g : List ℕ) → IsWhole (x ∷ pushed) g → given' ≡ given ++ g ∷ []
 
-has_taken : Lower → (s old new : PortState) (u x : List ℕ) (heard : List Frame) (pushed given given' : List (List ℕ)) → has_data x ≡ true → AreFacing s old → Answers heard old.link → Stands pushed old.assembly → Spells u (data_frame s x) → Hears u old new given given' → HasTaken s new x pushed given given'
+has_taken : Lower → (s old new : PortState) (u x : List ℕ) (heard : List Frame) (pushed given given' : List (List ℕ)) → has_data x ≡ true
+    → AreFacing s old → Answers heard old.link → Stands pushed old.assembly → Spells u (data_frame s x) → Hears u old new given given'
+    → HasTaken s new x pushed given given'
 has_taken low s old new u x heard pushed given given' some facing answers stands spells hears =
     elim hears [
       | NoFrame none same e ↦ absurd (none (data_frame s x, spells))
@@ -62,7 +64,8 @@ has_taken low s old new u x heard pushed given given' some facing answers stands
 delivered_from : (l : LineState) (u : List ℕ) (us : List (List ℕ)) → l.units ≡ u ∷ us → delivered_on l ≡ line_of us 0
 delivered_from l u us e = subst (λ (xs : List (List ℕ)). delivered_on (line_of xs l.lost) ≡ line_of us 0) (sym e) refl
 
-heard_front : (l : LineState) (u : List ℕ) (us : List (List ℕ)) (old new : PortState) (given given' : List (List ℕ)) → l.units ≡ u ∷ us → HearsIfAny (front_of l) old new given given' → Hears u old new given given'
+heard_front : (l : LineState) (u : List ℕ) (us : List (List ℕ)) (old new : PortState) (given given' : List (List ℕ)) → l.units ≡ u ∷ us
+    → HearsIfAny (front_of l) old new given given' → Hears u old new given given'
 heard_front l u us old new given given' e h =
     subst (λ (xs : List (List ℕ)). HearsIfAny (slice_get xs 0) old new given given') e h
 
@@ -90,7 +93,9 @@ record HasCome (s : PortState) (x : List ℕ) (pushed us : List (List ℕ)) (w n
   sender : new.sender ≡ w.sender
   mute : new.mute ≡ w.mute
 
-one_comes : Lower → (s : PortState) (u x : List ℕ) (us : List (List ℕ)) (w new : Way) (heard : List Frame) (pushed : List (List ℕ)) → has_data x ≡ true → w.line.units ≡ u ∷ us → Spells u (data_frame s x) → AreFacing s w.receiver → Answers heard w.receiver.link → Stands pushed w.receiver.assembly → Happens w Deliver new → HasCome s x pushed us w new
+one_comes : Lower → (s : PortState) (u x : List ℕ) (us : List (List ℕ)) (w new : Way) (heard : List Frame) (pushed : List (List ℕ))
+    → has_data x ≡ true → w.line.units ≡ u ∷ us → Spells u (data_frame s x) → AreFacing s w.receiver → Answers heard w.receiver.link
+    → Stands pushed w.receiver.assembly → Happens w Deliver new → HasCome s x pushed us w new
 one_comes low s u x us w new heard pushed some units spells facing answers stands b =
     let is : new ≡ record w { line = delivered_on w.line; receiver = b.receiver; given = b.given } = b.after in
     record {
@@ -112,7 +117,9 @@ record HasDelivered (s : PortState) (f : List ℕ) (tail : List (List ℕ)) (w n
   sender : new.sender ≡ w.sender
   mute : new.mute ≡ w.mute
 
-delivers : Lower → (s : PortState) (f : List ℕ) (first : ℕ) (before : List (List ℕ)) → IsCarried before f first → length (cuts f first) ≡ cut_count (length f) → (done : List (List ℕ)) (x : List ℕ) (segs units tail : List (List ℕ)) (w new : Way) (heard : List Frame)
+delivers : Lower → (s : PortState) (f : List ℕ) (first : ℕ) (before : List (List ℕ)) → IsCarried before f first
+    → length (cuts f first) ≡ cut_count (length f)
+    → (done : List (List ℕ)) (x : List ℕ) (segs units tail : List (List ℕ)) (w new : Way) (heard : List Frame)
     → cuts f first ≡ done ++ x ∷ segs → HaveData (x ∷ segs) → w.line.units ≡ units ++ tail → AreSpelled s (x ∷ segs) units → AreFacing s w.receiver → Answers heard w.receiver.link → Stands (pushed_after before done) w.receiver.assembly
     → Runs w (replicate (suc (length segs)) Deliver) new → HasDelivered s f tail w new
 delivers low s f first before carried as_many done x [] units tail w new heard cut_is have line spelled facing answers stands runs =
@@ -163,7 +170,9 @@ delivers low s f first before carried as_many done x (y ∷ segs) units tail w n
     }
 
 -- the units of one fragment, in front of others
-fragment_comes : Lower → (s : PortState) (f : List ℕ) (units tail : List (List ℕ)) (w new : Way) → 0 < length f → length f ≤ 2048 → AreSpelled s (cuts f s.number) units → w.line.units ≡ units ++ tail → AreFacing s w.receiver → HasHistory w.receiver → Runs w (replicate (cut_count (length f)) Deliver) new → HasDelivered s f tail w new
+fragment_comes : Lower → (s : PortState) (f : List ℕ) (units tail : List (List ℕ)) (w new : Way) → 0 < length f → length f ≤ 2048
+    → AreSpelled s (cuts f s.number) units → w.line.units ≡ units ++ tail → AreFacing s w.receiver → HasHistory w.receiver
+    → Runs w (replicate (cut_count (length f)) Deliver) new → HasDelivered s f tail w new
 fragment_comes low s f units tail w new some fits spelled line facing history runs =
     from (cuts f s.number) refl (cuts_have_data f s.number (range_with_len 0 (cut_count (length f))))
   where
@@ -241,7 +250,8 @@ loads w sent (f ∷ fs) mute few runs =
     }
 
 -- deliveries of two fragments' units
-runs_two : (m n : ℕ) (w new : Way) → Runs w (replicate (m + n) Deliver) new → (mid : Way) × Runs w (replicate m Deliver) mid × Runs mid (replicate n Deliver) new
+runs_two : (m n : ℕ) (w new : Way) → Runs w (replicate (m + n) Deliver) new
+    → (mid : Way) × Runs w (replicate m Deliver) mid × Runs mid (replicate n Deliver) new
 runs_two zero n w new runs = (w, refl, subst (λ (k : ℕ). Runs w (replicate k Deliver) new) (omega arith) runs)
 runs_two (suc m) n w new runs =
     let more : suc m + n ≡ suc (m + n) = omega arith in
@@ -258,7 +268,8 @@ record HaveCome (s : PortState) (fs : List (List ℕ)) (w new : Way) : Type 0 wh
   sender : new.sender ≡ w.sender
   mute : new.mute ≡ w.mute
 
-come : Lower → (s : PortState) (fs units : List (List ℕ)) (w new : Way) → AreLoaded s fs units → w.line.units ≡ units → AreFacing s w.receiver → HasHistory w.receiver → Runs w (all_delivered fs) new → HaveCome s fs w new
+come : Lower → (s : PortState) (fs units : List (List ℕ)) (w new : Way) → AreLoaded s fs units → w.line.units ≡ units → AreFacing s w.receiver
+    → HasHistory w.receiver → Runs w (all_delivered fs) new → HaveCome s fs w new
 come low s [] units w new loaded line facing history runs =
     subst (λ (v : Way). HaveCome s [] w v) (sym runs)
     record {
@@ -300,7 +311,8 @@ pub record ComesOut (fs : List (List ℕ)) (old new : Way) : Type 0 where
   pub line : (new.line ≡ quiet_line) ⊎ (fs ≡ [])
   pub clear : IsClear new
 
-pub comes_out : Lower → (old sent new : Way) (fs : List (List ℕ)) → IsClear old → Runs old (all_sent fs) sent → Runs sent (all_delivered fs) new → ComesOut fs old new
+pub comes_out : Lower → (old sent new : Way) (fs : List (List ℕ)) → IsClear old → Runs old (all_sent fs) sent → Runs sent (all_delivered fs) new
+    → ComesOut fs old new
 comes_out low old sent new fs clear sends delivers =
     let few : old.line.lost < 32 = unbroken_few old.line.lost clear.unbroken in
     let l : IsLoaded old sent fs = loads old sent fs clear.audible few sends in

@@ -18,7 +18,7 @@ use Rattle.dnp_line.proofs.OnLine.{last_from, last_more, fresh_last, all_sent, a
 use Rattle.dnp_line.proofs.Hearing.{HasHeard, has_heard}
 use Rattle.dnp_line.proofs.Lower.{Lower}
 
--- a link that is opened anew
+-- a link that is opened again
 pub opened_flows : Lower → (w : Way) → AreFacing w.sender w.receiver → Flows (opened_on w) []
 opened_flows low w facing =
     record {
@@ -44,7 +44,9 @@ new_flows low own peer m =
     opened_flows low (new_way own peer m) refl
 
 -- a send, which leaves the line so
-send_flows : (w : Way) (rest : List (List ℕ)) (f : List ℕ) (line : LineState) → w.mute ≡ false → (fl : Flows w rest) → line.lost ≡ w.line.lost → (line.lost < 32 → AreLast (moved_on (cut_count (length f)) w.sender) (w.sent ++ f ∷ []) fl.gone line.units) → (32 ≤ line.lost → line.units ≡ []) → Flows (record w { line = line; sender = moved_on (cut_count (length f)) w.sender; sent = w.sent ++ f ∷ [] }) (rest ++ f ∷ [])
+send_flows : (w : Way) (rest : List (List ℕ)) (f : List ℕ) (line : LineState) → w.mute ≡ false → (fl : Flows w rest) → line.lost ≡ w.line.lost
+    → (line.lost < 32 → AreLast (moved_on (cut_count (length f)) w.sender) (w.sent ++ f ∷ []) fl.gone line.units) → (32 ≤ line.lost → line.units ≡ [])
+    → Flows (record w { line = line; sender = moved_on (cut_count (length f)) w.sender; sent = w.sent ++ f ∷ [] }) (rest ++ f ∷ [])
 send_flows w rest f line audible fl lost_is on_line broken =
     record {
       facing = fl.facing;
@@ -95,14 +97,16 @@ pub record Goes (event : WayEvent) (old new : Way) (rest : List (List ℕ)) : Ty
   pub moves : RestMoves old event new rest left
   pub flows : Flows new left
 
-send_goes : (w w' : Way) (rest : List (List ℕ)) (f : List ℕ) (mute : Bool) → w.mute ≡ mute → Flows w rest → SendsUnlessMute mute f w w' → Goes (Send f) w w' rest
+send_goes : (w w' : Way) (rest : List (List ℕ)) (f : List ℕ) (mute : Bool) → w.mute ≡ mute → Flows w rest → SendsUnlessMute mute f w w'
+    → Goes (Send f) w w' rest
 send_goes w w' rest f true e fl h =
     record { left = rest; moves = sym (cond-true w.mute rest (rest ++ f ∷ []) e); flows = subst (λ (v : Way). Flows v rest) (sym h) fl }
 send_goes w w' rest f false e fl h =
     record { left = rest ++ f ∷ []; moves = sym (cond-false w.mute rest (rest ++ f ∷ []) e); flows = sends_flow w w' rest f e fl h }
 
 -- a loss
-lost_flows : (w : Way) (rest units : List (List ℕ)) (lost : ℕ) → Flows (record w { line = line_of units lost }) rest → Flows (record w { line = lost_on (line_of units lost) }) rest
+lost_flows : (w : Way) (rest units : List (List ℕ)) (lost : ℕ) → Flows (record w { line = line_of units lost }) rest
+    → Flows (record w { line = lost_on (line_of units lost) }) rest
 lost_flows w rest [] lost fl = fl
 lost_flows w rest (u ∷ units) lost fl =
     let left : List (List ℕ) = if nat_le 32 (lost + 1) then [] else units in
@@ -145,7 +149,8 @@ pub record Brought (w : Way) (line : LineState) (rest : List (List ℕ)) (receiv
   pub gives : MayGive rest w.given left given
   pub flows : Flows (record w { line = line; receiver = receiver; given = given }) left
 
-brought_nothing : (w : Way) (rest : List (List ℕ)) (receiver : PortState) (given : List (List ℕ)) → Flows w rest → receiver ≡ w.receiver → given ≡ w.given → Brought w w.line rest receiver given
+brought_nothing : (w : Way) (rest : List (List ℕ)) (receiver : PortState) (given : List (List ℕ)) → Flows w rest → receiver ≡ w.receiver
+    → given ≡ w.given → Brought w w.line rest receiver given
 brought_nothing w rest receiver given fl r g =
     record {
       left = rest;
@@ -155,7 +160,9 @@ brought_nothing w rest receiver given fl r g =
           (subst (λ (l : List (List ℕ)). Flows (record w { given = l }) rest) (sym g) fl);
     }
 
-delivered : Lower → (w : Way) (rest units : List (List ℕ)) (lost : ℕ) (receiver : PortState) (given : List (List ℕ)) → Flows (record w { line = line_of units lost }) rest → HearsIfAny (slice_get units 0) w.receiver receiver w.given given → Brought (record w { line = line_of units lost }) (delivered_on (line_of units lost)) rest receiver given
+delivered : Lower → (w : Way) (rest units : List (List ℕ)) (lost : ℕ) (receiver : PortState) (given : List (List ℕ))
+    → Flows (record w { line = line_of units lost }) rest → HearsIfAny (slice_get units 0) w.receiver receiver w.given given
+    → Brought (record w { line = line_of units lost }) (delivered_on (line_of units lost)) rest receiver given
 delivered low w rest [] lost receiver given fl h =
     brought_nothing (record w { line = line_of [] lost }) rest receiver given fl h.0 h.1
 delivered low w rest (u ∷ units) lost receiver given fl h =
@@ -188,7 +195,9 @@ delivered low w rest (u ∷ units) lost receiver given fl h =
     }
 
 -- a unit that comes, by a repeat
-repeated : Lower → (w : Way) (rest units : List (List ℕ)) (lost : ℕ) (receiver : PortState) (given : List (List ℕ)) → Flows (record w { line = line_of units lost }) rest → HearsIfAny (slice_get units 0) w.receiver receiver w.given given → Brought (record w { line = line_of units lost }) (repeated_on (line_of units lost)) rest receiver given
+repeated : Lower → (w : Way) (rest units : List (List ℕ)) (lost : ℕ) (receiver : PortState) (given : List (List ℕ))
+    → Flows (record w { line = line_of units lost }) rest → HearsIfAny (slice_get units 0) w.receiver receiver w.given given
+    → Brought (record w { line = line_of units lost }) (repeated_on (line_of units lost)) rest receiver given
 repeated low w rest [] lost receiver given fl h =
     brought_nothing (record w { line = line_of [] lost }) rest receiver given fl h.0 h.1
 repeated low w rest (u ∷ units) lost receiver given fl h =
@@ -261,7 +270,8 @@ reset_flows w rest fl =
     }
 
 -- what happens on the way back
-back_flows : (w : Way) (rest : List (List ℕ)) (link : LinkStation) (a : Assembly) (n : ℕ) → ends link ≡ ends w.sender.link → Flows w rest → Flows (record w { sender = record w.sender { link = link; assembly = a }; receiver = record w.receiver { number = n } }) rest
+back_flows : (w : Way) (rest : List (List ℕ)) (link : LinkStation) (a : Assembly) (n : ℕ) → ends link ≡ ends w.sender.link → Flows w rest
+    → Flows (record w { sender = record w.sender { link = link; assembly = a }; receiver = record w.receiver { number = n } }) rest
 back_flows w rest link a n same fl =
     let sender : PortState = record w.sender { link = link; assembly = a } in
     let frames : (x : List ℕ) → data_frame w.sender x ≡ data_frame sender x = λ x. ap (λ (e : Ends). sent e x) (sym same) in
@@ -323,7 +333,8 @@ goes low w w' WayBack rest fl h =
     }
 
 -- many events
-pub keeps_flowing : Lower → (w w' : Way) (events : List WayEvent) (rest : List (List ℕ)) → Flows w rest → Runs w events w' → (left : List (List ℕ)) × Flows w' left
+pub keeps_flowing : Lower → (w w' : Way) (events : List WayEvent) (rest : List (List ℕ)) → Flows w rest → Runs w events w'
+    → (left : List (List ℕ)) × Flows w' left
 keeps_flowing low w w' [] rest fl h = (rest, subst (λ (v : Way). Flows v rest) (sym h) fl)
 keeps_flowing low w w' (event ∷ events) rest fl h =
     let g : Goes event w h.0 rest = goes low w h.0 event rest fl h.1 in

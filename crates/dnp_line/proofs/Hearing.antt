@@ -21,21 +21,24 @@ use Rattle.dnp_line.proofs.Splits.{IsAmong, among_rest, at_length, drop_length}
 use Rattle.dnp_line.proofs.Arrivals.{open_after, IsWholeAt, whole_after}
 
 -- the user data of such a frame go up
-up_after : (e : Ends) (heard : List Frame) (f : Frame) → is_for e f ≡ true → primary_function f.control ≡ UnconfirmedUserData → (answer e heard f).up ≡ true
+up_after : (e : Ends) (heard : List Frame) (f : Frame) → is_for e f ≡ true → primary_function f.control ≡ UnconfirmedUserData
+    → (answer e heard f).up ≡ true
 up_after e heard f for_it unconfirmed =
     ap (λ (a : LinkAnswer). a.up)
     (cond-true (is_for e f) (answer_to e (primary_function f.control) (expected e heard) (frame_count_bit f.control)) dropped for_it
     ∙ ap (λ (p : PrimaryFunction). answer_to e p (expected e heard) (frame_count_bit f.control)) unconfirmed)
 
 -- what the sender's port sends is joined at the receiver's, whatever that heard before
-pub sent_joins : Lower → (s r : PortState) (x : List ℕ) (heard : List Frame) → AreFacing s r → has_data x ≡ true → is_joined (ends r.link) heard (data_frame s x) ≡ true
+pub sent_joins : Lower → (s r : PortState) (x : List ℕ) (heard : List Frame) → AreFacing s r → has_data x ≡ true
+    → is_joined (ends r.link) heard (data_frame s x) ≡ true
 sent_joins low s r x heard facing some =
     subst (λ (e : Ends). is_joined e heard (data_frame s x) ≡ true) (sym facing)
     (and_from (answer (opposite (ends s.link)) heard (data_frame s x)).up (has_data x)
     (up_after (opposite (ends s.link)) heard (data_frame s x) (low.to_peer (ends s.link) x).0 (low.to_peer (ends s.link) x).1) some)
 
 -- so the push is as `TakesAfter` says
-pub has_joined : (b : Bool) (pushed : List (List ℕ)) (user : List ℕ) (old new : Assembly) (whole : Bool) → b ≡ true → Joins b pushed user old new whole → Joins true pushed user old new whole
+pub has_joined : (b : Bool) (pushed : List (List ℕ)) (user : List ℕ) (old new : Assembly) (whole : Bool) → b ≡ true
+    → Joins b pushed user old new whole → Joins true pushed user old new whole
 has_joined b pushed user old new whole e j = subst (λ (d : Bool). Joins d pushed user old new whole) e j
 
 -- what came of it, where so many segments were gone before
@@ -54,7 +57,9 @@ pub record HasHeard (w : Way) (rest : List (List ℕ)) (gone : ℕ) (receiver : 
   pub newest : (s : List (List ℕ)) → IsOpen pushed s → IsBegun w.sent gone s
 
 -- no fragment was completed
-heard_nothing : (w : Way) (rest : List (List ℕ)) (fl : Flows w rest) (receiver : PortState) (given : List (List ℕ)) (heard : List Frame) (pushed : List (List ℕ)) → AreFacing w.sender receiver → Answers heard receiver.link → Stands pushed receiver.assembly → ((s : List (List ℕ)) → IsOpen pushed s → IsBegun w.sent fl.gone s) → given ≡ w.given → HasHeard w rest fl.gone receiver given
+heard_nothing : (w : Way) (rest : List (List ℕ)) (fl : Flows w rest) (receiver : PortState) (given : List (List ℕ)) (heard : List Frame) (pushed : List (List ℕ))
+    → AreFacing w.sender receiver → Answers heard receiver.link → Stands pushed receiver.assembly
+    → ((s : List (List ℕ)) → IsOpen pushed s → IsBegun w.sent fl.gone s) → given ≡ w.given → HasHeard w rest fl.gone receiver given
 heard_nothing w rest fl receiver given heard pushed facing answers stands newest e =
     record {
       left = rest;
@@ -72,7 +77,10 @@ heard_nothing w rest fl receiver given heard pushed facing answers stands newest
     }
 
 -- this fragment was completed
-heard_one : (w : Way) (rest : List (List ℕ)) (fl : Flows w rest) (receiver : PortState) (given : List (List ℕ)) (heard : List Frame) (pushed : List (List ℕ)) (f : List ℕ) → AreFacing w.sender receiver → Answers heard receiver.link → Stands pushed receiver.assembly → ((s : List (List ℕ)) → IsOpen pushed s → IsBegun w.sent fl.gone s) → IsWholeAt w.sent fl.gone f → given ≡ w.given ++ f ∷ [] → HasHeard w rest fl.gone receiver given
+heard_one : (w : Way) (rest : List (List ℕ)) (fl : Flows w rest) (receiver : PortState) (given : List (List ℕ)) (heard : List Frame) (pushed : List (List ℕ)) (f : List ℕ)
+    → AreFacing w.sender receiver → Answers heard receiver.link → Stands pushed receiver.assembly
+    → ((s : List (List ℕ)) → IsOpen pushed s → IsBegun w.sent fl.gone s) → IsWholeAt w.sent fl.gone f → given ≡ w.given ++ f ∷ []
+    → HasHeard w rest fl.gone receiver given
 heard_one w rest fl receiver given heard pushed f facing answers stands newest at e =
     let among : IsAmong fl.past rest at.before f at.after =
     among_rest fl.past rest at.before f at.after (sym fl.split ∙ at.split) (omega (arith, fl.reached, at.high)) in
@@ -98,7 +106,9 @@ heard_one w rest fl receiver given heard pushed f facing answers stands newest a
       newest = newest;
     }
 
-pub has_heard : Lower → (w : Way) (rest : List (List ℕ)) (fl : Flows w rest) (u x : List ℕ) (receiver : PortState) (given : List (List ℕ)) → w.line.lost < 32 → IsSegment w.sent fl.gone x → Spells u (data_frame w.sender x) → Hears u w.receiver receiver w.given given → HasHeard w rest fl.gone receiver given
+pub has_heard : Lower → (w : Way) (rest : List (List ℕ)) (fl : Flows w rest) (u x : List ℕ) (receiver : PortState) (given : List (List ℕ))
+    → w.line.lost < 32 → IsSegment w.sent fl.gone x → Spells u (data_frame w.sender x) → Hears u w.receiver receiver w.given given
+    → HasHeard w rest fl.gone receiver given
 has_heard low w rest fl u x receiver given few i spells heard =
     elim heard [
       | NoFrame none same e ↦ absurd (none (data_frame w.sender x, spells))

@@ -36,7 +36,8 @@ record AreOne (new other : Assembly) (whole whole' : Bool) : Type 0 where
   assemblies : new ≡ other
   wholes : whole ≡ whole'
 
-one_joins : OneAssembly → (b : Bool) (pushed : List (List ℕ)) (user : List ℕ) (old new other : Assembly) (whole whole' : Bool) → Joins b pushed user old new whole → Joins b pushed user old other whole' → AreOne new other whole whole'
+one_joins : OneAssembly → (b : Bool) (pushed : List (List ℕ)) (user : List ℕ) (old new other : Assembly) (whole whole' : Bool)
+    → Joins b pushed user old new whole → Joins b pushed user old other whole' → AreOne new other whole whole'
 one_joins one true pushed user old new other whole whole' h k =
     record {
       assemblies = one (user ∷ pushed) new other h.0 k.0;
@@ -45,7 +46,8 @@ one_joins one true pushed user old new other whole whole' h k =
 one_joins one false pushed user old new other whole whole' h k =
     record { assemblies = h.0 ∙ sym k.0; wholes = h.1 ∙ sym k.1 }
 
-pub one_take : OneStation → OneAssembly → (old new other : PortState) (frame : Frame) (taken taken' : Taken) → HasHistory old → Takes old frame new taken → Takes old frame other taken' → (new ≡ other) × (taken ≡ taken')
+pub one_take : OneStation → OneAssembly → (old new other : PortState) (frame : Frame) (taken taken' : Taken) → HasHistory old
+    → Takes old frame new taken → Takes old frame other taken' → (new ≡ other) × (taken ≡ taken')
 one_take station assembler old new other frame taken taken' h t u =
     let a : TakesAfter h.heard h.pushed old frame new taken = t.after h.heard h.answers h.pushed h.stands in
     let b : TakesAfter h.heard h.pushed old frame other taken' = u.after h.heard h.answers h.pushed h.stands in
@@ -67,7 +69,8 @@ one_shown shown p octets octets' h s t =
     shown p.assembly h.pushed h.pushed octets octets' h.stands h.stands (s h.pushed h.stands) (t h.pushed h.stands)
 
 -- the history after a frame
-joined_history : (b : Bool) (pushed : List (List ℕ)) (user : List ℕ) (old new : Assembly) (whole : Bool) → Stands pushed old → Joins b pushed user old new whole → (later : List (List ℕ)) × Stands later new
+joined_history : (b : Bool) (pushed : List (List ℕ)) (user : List ℕ) (old new : Assembly) (whole : Bool) → Stands pushed old
+    → Joins b pushed user old new whole → (later : List (List ℕ)) × Stands later new
 joined_history true pushed user old new whole h j = (user ∷ pushed, j.0)
 joined_history false pushed user old new whole h j = (pushed, subst (λ (a : Assembly). Stands pushed a) (sym j.0) h)
 

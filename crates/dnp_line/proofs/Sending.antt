@@ -13,7 +13,8 @@ pub all_sent_more : (us : List (List ℕ)) (u : List ℕ) (l : LineState) → al
 all_sent_more [] u l = refl
 all_sent_more (v ∷ us) u l = all_sent_more us u (sent_on v l)
 
-pub spelled_more : (p : PortState) (ss us : List (List ℕ)) (s u : List ℕ) → AreSpelled p ss us → Spells u (data_frame p s) → AreSpelled p (ss ++ s ∷ []) (us ++ u ∷ [])
+pub spelled_more : (p : PortState) (ss us : List (List ℕ)) (s u : List ℕ) → AreSpelled p ss us → Spells u (data_frame p s)
+    → AreSpelled p (ss ++ s ∷ []) (us ++ u ∷ [])
 spelled_more p [] us s u h spells =
     (u, [], spells, refl, ap (λ (l : List (List ℕ)). l ++ u ∷ []) h)
 spelled_more p (t ∷ ss) us s u h spells =
@@ -47,7 +48,9 @@ sent_length u l =
           (arith, ap (λ (m : LineState). length m.units) (cond-false (is_broken l) l (line_of (l.units ++ u ∷ []) l.lost) whole), length-append l.units (u ∷ []))
     ]
 
-pub sending_more : (start : HeldLine) (port : PortState) (f : List ℕ) (k : ℕ) (line new : HeldLine) (u : List ℕ) → k < cut_count (length f) → IsSending start port f k line → Spells u (data_frame port (cut f port.number k)) → new ≡ record line { state = sent_on u line.state } → IsSending start port f (k + 1) new
+pub sending_more : (start : HeldLine) (port : PortState) (f : List ℕ) (k : ℕ) (line new : HeldLine) (u : List ℕ) → k < cut_count (length f)
+    → IsSending start port f k line → Spells u (data_frame port (cut f port.number k)) → new ≡ record line { state = sent_on u line.state }
+    → IsSending start port f (k + 1) new
 sending_more start port f k line new u h i spells e =
     subst (λ (l : HeldLine). IsSending start port f (k + 1) l) (sym e)
     record {

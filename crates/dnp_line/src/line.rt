@@ -53,7 +53,7 @@ impl Line {
         }
     }
 
-    /// Sees to memory for `n` more units. It fails only where there was too little, and then changes nothing.
+    /// Makes room for `n` more units. It fails only where there was too little, and then changes nothing.
     pub fn reserve(&mut self, n: usize) -> Result<(), AllocError>
         ensures ok { OnOk result (self.new ≡ reserved_on n self.old) }
         ensures room { OnOk result (n ≤ room_of self.new) }

@@ -31,13 +31,15 @@ after_reset : (own peer : ℕ) (m : Bool) → expected (record { own = own; peer
 after_reset own peer true = cond-true _ _ _ (reset_is_for own peer true)
 after_reset own peer false = cond-true _ _ _ (reset_is_for own peer false)
 
-after_test : (own peer : ℕ) (m : Bool) (before : List Frame) → expected (record { own = own; peer = peer; is_master = m }) before ≡ Some true → expected (record { own = own; peer = peer; is_master = m }) (asks own peer m 34 ∷ before) ≡ Some false
+after_test : (own peer : ℕ) (m : Bool) (before : List Frame) → expected (record { own = own; peer = peer; is_master = m }) before ≡ Some true
+    → expected (record { own = own; peer = peer; is_master = m }) (asks own peer m 34 ∷ before) ≡ Some false
 after_test own peer true before e =
     cond-true _ _ _ (test_is_for own peer true) ∙ ap (λ (o : Option Bool). expected_next (primary_function 98) (frame_count_bit 98) o) e
 after_test own peer false before e =
     cond-true _ _ _ (test_is_for own peer false) ∙ ap (λ (o : Option Bool). expected_next (primary_function 226) (frame_count_bit 226) o) e
 
-made_of : (own peer : ℕ) (m : Bool) (awaited : Option Bool) → (frames : List Frame) × (awaited ≡ expected (record { own = own; peer = peer; is_master = m }) frames)
+made_of : (own peer : ℕ) (m : Bool) (awaited : Option Bool)
+    → (frames : List Frame) × (awaited ≡ expected (record { own = own; peer = peer; is_master = m }) frames)
 made_of own peer m None = ([], refl)
 made_of own peer m (Some true) = (asks own peer m 0 ∷ [], sym (after_reset own peer m))
 made_of own peer m (Some false) =
@@ -55,7 +57,8 @@ one_station heard a b same h k =
     ap (λ (e : Ends). station_of e a.expected) same
     ∙ ap (λ (o : Option Bool). station_of (ends b) o) (h ∙ ap (λ (e : Ends). expected e heard) same ∙ sym k)
 
-pub same_answer : (station : LinkStation) (before other : List Frame) (frame : Frame) → Stands before station → Stands other station → answer (ends station) before frame ≡ answer (ends station) other frame
+pub same_answer : (station : LinkStation) (before other : List Frame) (frame : Frame) → Stands before station → Stands other station
+    → answer (ends station) before frame ≡ answer (ends station) other frame
 same_answer station before other frame h k =
     ap
     (λ (o : Option Bool).
@@ -64,7 +67,8 @@ same_answer station before other frame h k =
     else dropped)
     (sym h ∙ k)
 
-pub same_next : (station : LinkStation) (before other : List Frame) (frame : Frame) → Stands before station → Stands other station → expected (ends station) (frame ∷ before) ≡ expected (ends station) (frame ∷ other)
+pub same_next : (station : LinkStation) (before other : List Frame) (frame : Frame) → Stands before station → Stands other station
+    → expected (ends station) (frame ∷ before) ≡ expected (ends station) (frame ∷ other)
 same_next station before other frame h k =
     ap
     (λ (o : Option Bool).
@@ -73,7 +77,8 @@ same_next station before other frame h k =
     else o)
     (sym h ∙ k)
 
-pub next_station : (station new new' : LinkStation) (before other : List Frame) (frame : Frame) → Stands before station → Stands other station → ends new ≡ ends station → ends new' ≡ ends station → Stands (frame ∷ before) new → Stands (frame ∷ other) new' → new ≡ new'
+pub next_station : (station new new' : LinkStation) (before other : List Frame) (frame : Frame) → Stands before station → Stands other station
+    → ends new ≡ ends station → ends new' ≡ ends station → Stands (frame ∷ before) new → Stands (frame ∷ other) new' → new ≡ new'
 next_station station new new' before other frame h k e e' x y =
     let there : Stands (frame ∷ before) new' =
     y ∙ ap (λ (d : Ends). expected d (frame ∷ other)) e'

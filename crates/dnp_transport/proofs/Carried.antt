@@ -161,7 +161,8 @@ is_sent f first (suc k) h =
     }
 
 -- a series waits until the last cut
-sent_open : (f : List ℕ) (first k : ℕ) (before : List (List ℕ)) → length f ≤ 2048 → k + 1 < cut_count (length f) → IsOpen (begun_cuts f first (suc k) ++ before) (begun_cuts f first (suc k))
+sent_open : (f : List ℕ) (first k : ℕ) (before : List (List ℕ)) → length f ≤ 2048 → k + 1 < cut_count (length f)
+    → IsOpen (begun_cuts f first (suc k) ++ before) (begun_cuts f first (suc k))
 sent_open f first k before most h =
     let i : IsSent f first k = is_sent f first k (omega (arith, h)) in
     record {
@@ -175,7 +176,8 @@ sent_open f first k before most h =
     }
 
 -- the last cut completes the fragment
-sent_whole : (f : List ℕ) (first k : ℕ) (before : List (List ℕ)) → length f ≤ 2048 → k + 1 ≡ cut_count (length f) → IsWhole (begun_cuts f first (suc k) ++ before) f
+sent_whole : (f : List ℕ) (first k : ℕ) (before : List (List ℕ)) → length f ≤ 2048 → k + 1 ≡ cut_count (length f)
+    → IsWhole (begun_cuts f first (suc k) ++ before) f
 sent_whole f first k before most h =
     let i : IsSent f first k = is_sent f first k (omega (arith, h)) in
     let back : begun_cuts f first k ≡ kept (begun_cuts f first k) = sym i.earlier_kept in
@@ -207,12 +209,14 @@ sent_reversed f first (suc k) =
     ∙ ap (λ (l : List (List ℕ)). cut f first k ∷ l) (sent_reversed f first k)
 
 -- the pushes after the first k cuts
-after_cuts : (f : List ℕ) (first k : ℕ) (before : List (List ℕ)) → k ≤ cut_count (length f) → pushed_after before (take k (cuts f first)) ≡ begun_cuts f first k ++ before
+after_cuts : (f : List ℕ) (first k : ℕ) (before : List (List ℕ)) → k ≤ cut_count (length f)
+    → pushed_after before (take k (cuts f first)) ≡ begun_cuts f first k ++ before
 after_cuts f first k before h =
     ap (λ (l : List (List ℕ)). reverse l ++ before) (take-map-range_with_len (cut f first) 0 (cut_count (length f)) k h)
     ∙ ap (λ (l : List (List ℕ)). l ++ before) (sent_reversed f first k)
 
-earlier_nothing : (before : List (List ℕ)) (f : List ℕ) (first k : ℕ) → length f ≤ 2048 → 0 < k → k < cut_count (length f) → IsNothing (pushed_after before (take k (cuts f first)))
+earlier_nothing : (before : List (List ℕ)) (f : List ℕ) (first k : ℕ) → length f ≤ 2048 → 0 < k → k < cut_count (length f)
+    → IsNothing (pushed_after before (take k (cuts f first)))
 earlier_nothing before f first zero most some h = absurd (omega (arith, some))
 earlier_nothing before f first (suc k) most some h =
     let o : IsOpen (begun_cuts f first (suc k) ++ before) (begun_cuts f first (suc k)) = sent_open f first k before most (omega (arith, h)) in
@@ -223,7 +227,8 @@ earlier_nothing before f first (suc k) most some h =
     } in
     subst (λ (l : List (List ℕ)). IsNothing l) (sym (after_cuts f first (suc k) before (omega (arith, h)))) n
 
-last_whole : (before : List (List ℕ)) (f : List ℕ) (first count : ℕ) → length f ≤ 2048 → 0 < count → count ≡ cut_count (length f) → IsWhole (pushed_after before (cuts f first)) f
+last_whole : (before : List (List ℕ)) (f : List ℕ) (first count : ℕ) → length f ≤ 2048 → 0 < count → count ≡ cut_count (length f)
+    → IsWhole (pushed_after before (cuts f first)) f
 last_whole before f first zero most some e = absurd (omega (arith, some))
 last_whole before f first (suc k) most some e =
     let w : IsWhole (begun_cuts f first (suc k) ++ before) f = sent_whole f first k before most (omega (arith, e)) in

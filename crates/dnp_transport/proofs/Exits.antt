@@ -45,7 +45,8 @@ NoSeries pushed = (series : List (List ℕ)) → IsOpen pushed series → ⊥
 
 -- what the stage says of the pushes
 
-pub no_series : (s : Stage) (last octets : List ℕ) (a : Assembly) (pushed : List (List ℕ)) (joining : Bool) → assembly s last octets ≡ a → (joining ≡ true) ↔ (s ≡ stage.Joining) → joining ≡ false → Stands pushed a → NoSeries pushed
+pub no_series : (s : Stage) (last octets : List ℕ) (a : Assembly) (pushed : List (List ℕ)) (joining : Bool) → assembly s last octets ≡ a
+    → (joining ≡ true) ↔ (s ≡ stage.Joining) → joining ≡ false → Stands pushed a → NoSeries pushed
 unfolding Stands
 no_series stage.Idle last octets a pushed joining e n f h =
     let i : IsIdle pushed = subst (λ (x : Assembly). Stands pushed x) (sym e) h in i.no_series
@@ -54,16 +55,19 @@ no_series stage.Complete last octets a pushed joining e n f h =
     let w : IsWhole pushed octets = subst (λ (x : Assembly). Stands pushed x) (sym e) h in
     λ series o. open_not_whole pushed series octets o w
 
-pub is_joining : (s : Stage) (last octets : List ℕ) (a : Assembly) (pushed : List (List ℕ)) (joining : Bool) → assembly s last octets ≡ a → (joining ≡ true) ↔ (s ≡ stage.Joining) → joining ≡ true → Stands pushed a → IsJoining pushed last octets
+pub is_joining : (s : Stage) (last octets : List ℕ) (a : Assembly) (pushed : List (List ℕ)) (joining : Bool) → assembly s last octets ≡ a
+    → (joining ≡ true) ↔ (s ≡ stage.Joining) → joining ≡ true → Stands pushed a → IsJoining pushed last octets
 unfolding Stands
 is_joining s last octets a pushed joining e j t h =
     let is : Joining last octets ≡ a = ap (λ (u : Stage). assembly u last octets) (sym (j.0 t)) ∙ e in
     subst (λ (x : Assembly). Stands pushed x) (sym is) h
 
-pub joining_is : (s : Stage) (last octets : List ℕ) (a : Assembly) (joining : Bool) → assembly s last octets ≡ a → (joining ≡ true) ↔ (s ≡ stage.Joining) → joining ≡ true → a ≡ Joining last octets
+pub joining_is : (s : Stage) (last octets : List ℕ) (a : Assembly) (joining : Bool) → assembly s last octets ≡ a
+    → (joining ≡ true) ↔ (s ≡ stage.Joining) → joining ≡ true → a ≡ Joining last octets
 joining_is s last octets a joining e j t = sym e ∙ ap (λ (u : Stage). assembly u last octets) (j.0 t)
 
-pub joining_stands : (s : Stage) (last octets : List ℕ) (a : Assembly) (pushed : List (List ℕ)) (joining : Bool) → assembly s last octets ≡ a → (joining ≡ true) ↔ (s ≡ stage.Joining) → joining ≡ true → IsJoining pushed last octets → Stands pushed a
+pub joining_stands : (s : Stage) (last octets : List ℕ) (a : Assembly) (pushed : List (List ℕ)) (joining : Bool) → assembly s last octets ≡ a
+    → (joining ≡ true) ↔ (s ≡ stage.Joining) → joining ≡ true → IsJoining pushed last octets → Stands pushed a
 unfolding Stands
 joining_stands s last octets a pushed joining e j t h =
     let is : Joining last octets ≡ a = ap (λ (u : Stage). assembly u last octets) (sym (j.0 t)) ∙ e in
@@ -91,7 +95,8 @@ joining_nothing pushed last octets j =
 
 -- with no series open, what is no segment, or no first one, changes nothing
 
-not_begun : (before : List (List ℕ)) (s : List ℕ) → NoSeries before → (is_first s ≡ false) ⊎ (has_no_size s ≡ true) → ((is_first s ≡ true) × (has_no_size s ≡ false)) ⊎ Continues before s → ⊥
+not_begun : (before : List (List ℕ)) (s : List ℕ) → NoSeries before → (is_first s ≡ false) ⊎ (has_no_size s ≡ true)
+    → ((is_first s ≡ true) × (has_no_size s ≡ false)) ⊎ Continues before s → ⊥
 not_begun before s n h start =
     elim start [
       | inl first ↦
@@ -125,7 +130,8 @@ idle_nothing before s n h =
 
 -- what is left out of an open series leaves it as it is
 
-pub left_out_joining : (before : List (List ℕ)) (s last octets : List ℕ) (j : IsJoining before last octets) → is_left_out j.series s ≡ true → IsJoining (s ∷ before) last octets
+pub left_out_joining : (before : List (List ℕ)) (s last octets : List ℕ) (j : IsJoining before last octets) → is_left_out j.series s ≡ true
+    → IsJoining (s ∷ before) last octets
 left_out_joining before s last octets j out =
     let o : IsOpen before j.series = j.opened in
     let out' : is_left_out (kept o.recent) s ≡ true =
@@ -152,11 +158,13 @@ repeat_left_out (last ∷ earlier) s h n e =
     or_right (has_no_size s) (not (is_first s) && bytes_eq s last)
     (and_from (not (is_first s)) (bytes_eq s last) (not_from_false (is_first s) n) ((bytes_eq-Decides s last).1 e))
 
-pub repeat_joining : (before : List (List ℕ)) (s last octets : List ℕ) → IsJoining before last octets → is_first s ≡ false → s ≡ last → IsJoining (s ∷ before) last octets
+pub repeat_joining : (before : List (List ℕ)) (s last octets : List ℕ) → IsJoining before last octets → is_first s ≡ false → s ≡ last
+    → IsJoining (s ∷ before) last octets
 repeat_joining before s last octets j n e =
     left_out_joining before s last octets j (repeat_left_out j.series s j.opened.in_series n (e ∙ j.last_is))
 
-pub unsized_joining : (before : List (List ℕ)) (s last octets : List ℕ) → IsJoining before last octets → has_no_size s ≡ true → IsJoining (s ∷ before) last octets
+pub unsized_joining : (before : List (List ℕ)) (s last octets : List ℕ) → IsJoining before last octets → has_no_size s ≡ true
+    → IsJoining (s ∷ before) last octets
 unsized_joining before s last octets j h =
     left_out_joining before s last octets j (or_left (has_no_size s) (repeats j.series s) h)
 
@@ -170,7 +178,8 @@ fresh_stays (last ∷ earlier) s h z n =
 
 -- a series ends without a fragment
 
-pub drops_series : (before : List (List ℕ)) (s last octets : List ℕ) → IsJoining before last octets → has_no_size s ≡ false → is_first s ≡ false → (s ≡ last → ⊥) → (number s ≡ (number last + 1) % 64 → 2048 < length (octets ++ carried s)) → IsDropped (s ∷ before)
+pub drops_series : (before : List (List ℕ)) (s last octets : List ℕ) → IsJoining before last octets → has_no_size s ≡ false → is_first s ≡ false
+    → (s ≡ last → ⊥) → (number s ≡ (number last + 1) % 64 → 2048 < length (octets ++ carried s)) → IsDropped (s ∷ before)
 drops_series before s last octets j z n fresh unfit =
     record {
       segment = s;
@@ -209,7 +218,8 @@ one_fits s z =
     ltb-false 250 (length s) (or_parts (nat_lt (length s) 2) (nat_lt 250 (length s)) z).1 in
     omega (arith, length-drop 1 s)
 
-pub accepts_first : (before : List (List ℕ)) (s octets : List ℕ) → is_first s ≡ true → has_no_size s ≡ false → octets ≡ carried s → Accepted before s octets
+pub accepts_first : (before : List (List ℕ)) (s octets : List ℕ) → is_first s ≡ true → has_no_size s ≡ false → octets ≡ carried s
+    → Accepted before s octets
 accepts_first before s octets h z e =
     record {
       recent = [];
@@ -225,7 +235,9 @@ follows_series : (series : List (List ℕ)) (s : List ℕ) → IsSeries series �
 follows_series [] s h f = absurd h
 follows_series (last ∷ earlier) s h f = (f, h)
 
-pub accepts_next : (before : List (List ℕ)) (s last before_octets octets : List ℕ) → IsJoining before last before_octets → has_no_size s ≡ false → is_first s ≡ false → (s ≡ last → ⊥) → number s ≡ (number last + 1) % 64 → octets ≡ before_octets ++ carried s → length octets ≤ 2048 → Accepted before s octets
+pub accepts_next : (before : List (List ℕ)) (s last before_octets octets : List ℕ) → IsJoining before last before_octets → has_no_size s ≡ false
+    → is_first s ≡ false → (s ≡ last → ⊥) → number s ≡ (number last + 1) % 64 → octets ≡ before_octets ++ carried s → length octets ≤ 2048
+    → Accepted before s octets
 accepts_next before s last before_octets octets j z n fresh turn e fits =
     let o : IsOpen before j.series = j.opened in
     let back : j.series ≡ kept o.recent = sym o.kept_are in
@@ -257,7 +269,8 @@ accepted_whole before s octets a h =
       fits = a.fits;
     }
 
-pub accepted_joining : (before : List (List ℕ)) (s octets last : List ℕ) → Accepted before s octets → is_last s ≡ false → last ≡ s → IsJoining (s ∷ before) last octets
+pub accepted_joining : (before : List (List ℕ)) (s octets last : List ℕ) → Accepted before s octets → is_last s ≡ false → last ≡ s
+    → IsJoining (s ∷ before) last octets
 accepted_joining before s octets last a h e =
     let split : before ≡ a.recent ++ a.older = a.split in
     record {
@@ -287,7 +300,8 @@ next_first before s h z =
       dropped = λ long. absurd (omega (arith, long, one_fits s z));
     }
 
-pub next_after : (before : List (List ℕ)) (s last so_far : List ℕ) → IsJoining before last so_far → has_no_size s ≡ false → is_first s ≡ false → (s ≡ last → ⊥) → number s ≡ (number last + 1) % 64 → IsNext before s so_far
+pub next_after : (before : List (List ℕ)) (s last so_far : List ℕ) → IsJoining before last so_far → has_no_size s ≡ false → is_first s ≡ false
+    → (s ≡ last → ⊥) → number s ≡ (number last + 1) % 64 → IsNext before s so_far
 next_after before s last so_far j z n fresh turn =
     record {
       accepted = λ octets e fits. accepts_next before s last so_far octets j z n fresh turn e fits;
@@ -299,7 +313,8 @@ pub record IsAfter (before : List (List ℕ)) (s : List ℕ) (new : Assembly) (a
   pub stands : Stands (s ∷ before) new
   pub answers : Answers (s ∷ before) answer
 
-pub settled : (before : List (List ℕ)) (s so_far octets last : List ℕ) (answer : Pushed) → IsNext before s so_far → GoesOn so_far s octets answer → last ≡ s → IsAfter before s (assembly (stage_after answer) last octets) answer
+pub settled : (before : List (List ℕ)) (s so_far octets last : List ℕ) (answer : Pushed) → IsNext before s so_far → GoesOn so_far s octets answer
+    → last ≡ s → IsAfter before s (assembly (stage_after answer) last octets) answer
 settled before s so_far octets last answer next (Passes is long) e =
     let d : IsDropped (s ∷ before) = next.dropped long in
     subst (λ (r : Pushed). IsAfter before s (assembly (stage_after r) last octets) r) (sym is)
@@ -326,7 +341,8 @@ same_joining stage.Idle last octets last' octets' e = absurd (cc)
 same_joining stage.Joining last octets last' octets' e = (cc, cc)
 same_joining stage.Complete last octets last' octets' e = absurd (cc)
 
-next_of : (u : Stage) (last octets : List ℕ) (a : Assembly) (s so_far : List ℕ) (before : List (List ℕ)) → assembly u last octets ≡ a → has_no_size s ≡ false → MayGoOn a s → GoesOnWith s octets so_far → Stands before a → IsNext before s so_far
+next_of : (u : Stage) (last octets : List ℕ) (a : Assembly) (s so_far : List ℕ) (before : List (List ℕ)) → assembly u last octets ≡ a
+    → has_no_size s ≡ false → MayGoOn a s → GoesOnWith s octets so_far → Stands before a → IsNext before s so_far
 unfolding Stands
 next_of u last octets a s so_far before is z may (inl first) h =
     subst (λ (l : List ℕ). IsNext before s l) (sym first.1) (next_first before s first.0 z)
@@ -337,7 +353,9 @@ next_of u last octets a s so_far before is z (Next last' octets' joining no_firs
     subst (λ (l : List ℕ). IsNext before s l) (sym (later.1 ∙ same.1)) (next_after before s last' octets' j z no_first fresh turn)
 
 -- a segment that goes on with what the fields say
-pub went_on : (u : Stage) (last octets : List ℕ) (a : Assembly) (s so_far octets' last' : List ℕ) (answer : Pushed) → assembly u last octets ≡ a → has_no_size s ≡ false → MayGoOn a s → GoesOnWith s octets so_far → GoesOn so_far s octets' answer → last' ≡ s → (before : List (List ℕ)) → Stands before a → IsAfter before s (assembly (stage_after answer) last' octets') answer
+pub went_on : (u : Stage) (last octets : List ℕ) (a : Assembly) (s so_far octets' last' : List ℕ) (answer : Pushed) → assembly u last octets ≡ a
+    → has_no_size s ≡ false → MayGoOn a s → GoesOnWith s octets so_far → GoesOn so_far s octets' answer → last' ≡ s → (before : List (List ℕ))
+    → Stands before a → IsAfter before s (assembly (stage_after answer) last' octets') answer
 went_on u last octets a s so_far octets' last' answer is z may onto goes last_is before h =
     settled before s so_far octets' last' answer (next_of u last octets a s so_far before is z may onto h) goes last_is
 
@@ -351,7 +369,8 @@ shows_complete pushed f w =
 pub shows_none : (pushed : List (List ℕ)) → ((f : List ℕ) → IsWhole pushed f → ⊥) → Shows pushed []
 shows_none pushed n = record { whole = λ f w. absurd (n f w); none = λ _. refl }
 
-pub unfinished_shows_none : (s : Stage) (last octets : List ℕ) (a : Assembly) (pushed : List (List ℕ)) → assembly s last octets ≡ a → (s ≡ stage.Idle) ⊎ (s ≡ stage.Joining) → Stands pushed a → Shows pushed []
+pub unfinished_shows_none : (s : Stage) (last octets : List ℕ) (a : Assembly) (pushed : List (List ℕ)) → assembly s last octets ≡ a
+    → (s ≡ stage.Idle) ⊎ (s ≡ stage.Joining) → Stands pushed a → Shows pushed []
 unfolding Stands
 unfinished_shows_none stage.Idle last octets a pushed e k h =
     let i : IsIdle pushed = subst (λ (x : Assembly). Stands pushed x) (sym e) h in shows_none pushed i.no_whole

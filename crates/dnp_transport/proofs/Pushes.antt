@@ -6,7 +6,8 @@ use Rattle.dnp_transport.specs.Series.{is_left_out, kept, IsSeries, newest, join
 use Rattle.dnp_transport.specs.Laws.{OpenBy, LeftOut, Begins, GoesOn, WholeBy, Alone, Ends}
 use Rattle.dnp_transport.proofs.Histories.{kept_left_out, kept_stays, series_front}
 
-open_by_at : (before t r older : List (List ℕ)) (s : List ℕ) → s ∷ before ≡ r ++ older → kept r ≡ t → IsSeries t → is_last (newest t) ≡ false → length (joined t) ≤ 2048 → OpenBy before s t
+open_by_at : (before t r older : List (List ℕ)) (s : List ℕ) → s ∷ before ≡ r ++ older → kept r ≡ t → IsSeries t → is_last (newest t) ≡ false
+    → length (joined t) ≤ 2048 → OpenBy before s t
 open_by_at before t [] older s e k h u f = absurd (subst (λ (l : List (List ℕ)). IsSeries l) (sym k) h)
 open_by_at before t (x ∷ r) older s e k h u f =
     let heads : x ≡ s = cc in
@@ -35,7 +36,8 @@ open_by_at before t (x ∷ r) older s e k h u f =
 pub open_by : (before t : List (List ℕ)) (s : List ℕ) → IsOpen (s ∷ before) t → OpenBy before s t
 open_by before t s o = open_by_at before t o.recent o.older s o.split o.kept_are o.in_series o.unended o.fits
 
-whole_by_at : (before r older : List (List ℕ)) (s f : List ℕ) → before ≡ r ++ older → IsSeries (s ∷ kept r) → is_last s ≡ true → joined (s ∷ kept r) ≡ f → length f ≤ 2048 → WholeBy before s f
+whole_by_at : (before r older : List (List ℕ)) (s f : List ℕ) → before ≡ r ++ older → IsSeries (s ∷ kept r) → is_last s ≡ true
+    → joined (s ∷ kept r) ≡ f → length f ≤ 2048 → WholeBy before s f
 whole_by_at before r older s f e h u j fits =
     elim (series_front s (kept r) h) [
       | inl front ↦ Alone front.1 u (sym j ∙ ap (λ (l : List (List ℕ)). joined l ++ carried s) front.0)

@@ -67,7 +67,8 @@ taken a s so_far next =
 
 -- no series is in progress
 
-ignored : (a : Assembly) (s : List ℕ) → ((before : List (List ℕ)) → Stands before a → NoSeries before) → (is_first s ≡ false) ⊎ (has_no_size s ≡ true) → Steps a s
+ignored : (a : Assembly) (s : List ℕ) → ((before : List (List ℕ)) → Stands before a → NoSeries before) → (is_first s ≡ false) ⊎ (has_no_size s ≡ true)
+    → Steps a s
 ignored a s none no_start =
     record {
       next = Idle;
@@ -92,7 +93,8 @@ step_idle a s none =
 
 -- a series is in progress
 
-stays : (last octets s : List ℕ) → ((before : List (List ℕ)) → IsJoining before last octets → IsJoining (s ∷ before) last octets) → Steps (Joining last octets) s
+stays : (last octets s : List ℕ) → ((before : List (List ℕ)) → IsJoining before last octets → IsJoining (s ∷ before) last octets)
+    → Steps (Joining last octets) s
 unfolding Stands
 stays last octets s goes =
     record {
@@ -145,12 +147,14 @@ step (Complete f) s = step_idle (Complete f) s (λ before h series o. open_not_w
 
 -- which of the lists that made the assembler it was does not matter
 
-pub same_answer : (a : Assembly) (p q : List (List ℕ)) (s : List ℕ) (r t : Pushed) → Stands p a → Stands q a → Answers (s ∷ p) r → Answers (s ∷ q) t → r ≡ t
+pub same_answer : (a : Assembly) (p q : List (List ℕ)) (s : List ℕ) (r t : Pushed) → Stands p a → Stands q a → Answers (s ∷ p) r → Answers (s ∷ q) t
+    → r ≡ t
 same_answer a p q s r t h k x y =
     let i : Steps a s = step a s in
     one_answer (s ∷ p) r i.answer x (i.after p h).answers ∙ one_answer (s ∷ q) i.answer t (i.after q k).answers y
 
-pub same_next : (a : Assembly) (p q : List (List ℕ)) (s : List ℕ) (b c : Assembly) → Stands p a → Stands q a → Stands (s ∷ p) b → Stands (s ∷ q) c → b ≡ c
+pub same_next : (a : Assembly) (p q : List (List ℕ)) (s : List ℕ) (b c : Assembly) → Stands p a → Stands q a → Stands (s ∷ p) b → Stands (s ∷ q) c
+    → b ≡ c
 same_next a p q s b c h k x y =
     let i : Steps a s = step a s in
     one_assembly (s ∷ p) b i.next x (i.after p h).stands ∙ one_assembly (s ∷ q) i.next c (i.after q k).stands y
