@@ -8,7 +8,7 @@ ghost use Rattle.dnp_daemons.specs.Station.{IsClassHeader, AreClassHeaders, IsCl
 
 use arrayvec::ArrayVec;
 use dnp_line::Port;
-use dnp_linkframe::{Frame, MAX_FRAME, write_frame};
+use dnp_linkframe::{Frame, MAX_FRAME};
 
 /// Whether the octets are one object header 60.1 to 60.4 with qualifier 06.
 fn is_class_header(octets: &[u8]) -> bool
@@ -50,8 +50,8 @@ pub(crate) fn respond(frame: &Frame, own: u16, peer: u16) -> Option<ArrayVec<u8,
 {
     let mut port = Port::new(own, peer, false);
     let taken = port.take(frame);
-    if let Some(reply) = &taken.reply {
-        return Some(write_frame(reply));
+    if let Some(unit) = taken.reply_unit() {
+        return Some(unit);
     }
     if !taken.whole {
         return None;

@@ -7,8 +7,6 @@ use Rattle.dnp_linkstation.specs.Station.{Ends, ends, opposite, sent}
 use Rattle.dnp_linkstation.specs.declared.station.LinkStation.{LinkStation}
 use Rattle.dnp_transport.specs.Assembly.{Assembly}
 use Rattle.dnp_transport.specs.Cuts.{cut_count}
-use Rattle.dnp_transport.specs.Series.{IsOpen}
-use Rattle.dnp_transport.proofs.Exits.{idle_stands, nothing_pushed}
 use Rattle.dnp_line.specs.Lines.{LineState, line_of, quiet_line, delivered_on, repeated_on, lost_on, Nothing, Loss}
 use Rattle.dnp_line.specs.Ports.{PortState, data_frame, moved_on, reset_of}
 use Rattle.dnp_line.specs.Ways.{Way, new_way, WayEvent, Send, Deliver, Repeat, Lose, Damage, Clear, SenderReset, WayBack, opened_on, all_sent_on, Sends, SendsUnlessMute, HearsIfAny, IsDamaged, Happens, Runs}
@@ -17,14 +15,12 @@ use Rattle.dnp_line.specs.Flows.{Nothing as NothingGiven}
 use Rattle.dnp_line.proofs.Coming.{ComesTo-behind, ComesTo-clear}
 use Rattle.dnp_line.proofs.Splits.{total-append, recent_more}
 use Rattle.dnp_line.proofs.OnLine.{last_from, last_more, fresh_last, all_sent, all_dropped}
-use Rattle.dnp_line.proofs.Hearing.{OneFrame, GoesUp, HasHeard, has_heard}
+use Rattle.dnp_line.proofs.Hearing.{HasHeard, has_heard}
+use Rattle.dnp_line.proofs.Lower.{Lower}
 
-nothing_open : (s : List (List ℕ)) → IsOpen [] s → ⊥
-nothing_open s o = nothing_pushed.no_series s o
-
--- a link that is opened anew
-pub opened_flows : (w : Way) → AreFacing w.sender w.receiver → Flows (opened_on w) []
-opened_flows w facing =
+-- a link that is opened again
+pub opened_flows : Lower → (w : Way) → AreFacing w.sender w.receiver → Flows (opened_on w) []
+opened_flows low w facing =
     record {
       facing = facing;
       numbered = λ _. refl;
@@ -38,17 +34,19 @@ opened_flows w facing =
       heard = [];
       answers = refl;
       pushed = [];
-      stands = idle_stands [] nothing_pushed;
-      half_built = λ few s o. absurd (nothing_open s o);
+      stands = low.idle;
+      half_built = λ few s o. absurd (low.none_open s o);
     }
 
 -- a new way
-pub new_flows : (own peer : ℕ) (m : Bool) → Flows (new_way own peer m) []
-new_flows own peer m =
-    opened_flows (new_way own peer m) refl
+pub new_flows : Lower → (own peer : ℕ) (m : Bool) → Flows (new_way own peer m) []
+new_flows low own peer m =
+    opened_flows low (new_way own peer m) refl
 
 -- a send, which leaves the line so
-send_flows : (w : Way) (rest : List (List ℕ)) (f : List ℕ) (line : LineState) → w.mute ≡ false → (fl : Flows w rest) → line.lost ≡ w.line.lost → (line.lost < 32 → AreLast (moved_on (cut_count (length f)) w.sender) (w.sent ++ f ∷ []) fl.gone line.units) → (32 ≤ line.lost → line.units ≡ []) → Flows (record w { line = line; sender = moved_on (cut_count (length f)) w.sender; sent = w.sent ++ f ∷ [] }) (rest ++ f ∷ [])
+send_flows : (w : Way) (rest : List (List ℕ)) (f : List ℕ) (line : LineState) → w.mute ≡ false → (fl : Flows w rest) → line.lost ≡ w.line.lost
+    → (line.lost < 32 → AreLast (moved_on (cut_count (length f)) w.sender) (w.sent ++ f ∷ []) fl.gone line.units) → (32 ≤ line.lost → line.units ≡ [])
+    → Flows (record w { line = line; sender = moved_on (cut_count (length f)) w.sender; sent = w.sent ++ f ∷ [] }) (rest ++ f ∷ [])
 send_flows w rest f line audible fl lost_is on_line broken =
     record {
       facing = fl.facing;
@@ -99,14 +97,16 @@ pub record Goes (event : WayEvent) (old new : Way) (rest : List (List ℕ)) : Ty
   pub moves : RestMoves old event new rest left
   pub flows : Flows new left
 
-send_goes : (w w' : Way) (rest : List (List ℕ)) (f : List ℕ) (mute : Bool) → w.mute ≡ mute → Flows w rest → SendsUnlessMute mute f w w' → Goes (Send f) w w' rest
+send_goes : (w w' : Way) (rest : List (List ℕ)) (f : List ℕ) (mute : Bool) → w.mute ≡ mute → Flows w rest → SendsUnlessMute mute f w w'
+    → Goes (Send f) w w' rest
 send_goes w w' rest f true e fl h =
     record { left = rest; moves = sym (cond-true w.mute rest (rest ++ f ∷ []) e); flows = subst (λ (v : Way). Flows v rest) (sym h) fl }
 send_goes w w' rest f false e fl h =
     record { left = rest ++ f ∷ []; moves = sym (cond-false w.mute rest (rest ++ f ∷ []) e); flows = sends_flow w w' rest f e fl h }
 
 -- a loss
-lost_flows : (w : Way) (rest units : List (List ℕ)) (lost : ℕ) → Flows (record w { line = line_of units lost }) rest → Flows (record w { line = lost_on (line_of units lost) }) rest
+lost_flows : (w : Way) (rest units : List (List ℕ)) (lost : ℕ) → Flows (record w { line = line_of units lost }) rest
+    → Flows (record w { line = lost_on (line_of units lost) }) rest
 lost_flows w rest [] lost fl = fl
 lost_flows w rest (u ∷ units) lost fl =
     let left : List (List ℕ) = if nat_le 32 (lost + 1) then [] else units in
@@ -149,7 +149,8 @@ pub record Brought (w : Way) (line : LineState) (rest : List (List ℕ)) (receiv
   pub gives : MayGive rest w.given left given
   pub flows : Flows (record w { line = line; receiver = receiver; given = given }) left
 
-brought_nothing : (w : Way) (rest : List (List ℕ)) (receiver : PortState) (given : List (List ℕ)) → Flows w rest → receiver ≡ w.receiver → given ≡ w.given → Brought w w.line rest receiver given
+brought_nothing : (w : Way) (rest : List (List ℕ)) (receiver : PortState) (given : List (List ℕ)) → Flows w rest → receiver ≡ w.receiver
+    → given ≡ w.given → Brought w w.line rest receiver given
 brought_nothing w rest receiver given fl r g =
     record {
       left = rest;
@@ -159,15 +160,17 @@ brought_nothing w rest receiver given fl r g =
           (subst (λ (l : List (List ℕ)). Flows (record w { given = l }) rest) (sym g) fl);
     }
 
-delivered : OneFrame → GoesUp → (w : Way) (rest units : List (List ℕ)) (lost : ℕ) (receiver : PortState) (given : List (List ℕ)) → Flows (record w { line = line_of units lost }) rest → HearsIfAny (slice_get units 0) w.receiver receiver w.given given → Brought (record w { line = line_of units lost }) (delivered_on (line_of units lost)) rest receiver given
-delivered one to_peer w rest [] lost receiver given fl h =
+delivered : Lower → (w : Way) (rest units : List (List ℕ)) (lost : ℕ) (receiver : PortState) (given : List (List ℕ))
+    → Flows (record w { line = line_of units lost }) rest → HearsIfAny (slice_get units 0) w.receiver receiver w.given given
+    → Brought (record w { line = line_of units lost }) (delivered_on (line_of units lost)) rest receiver given
+delivered low w rest [] lost receiver given fl h =
     brought_nothing (record w { line = line_of [] lost }) rest receiver given fl h.0 h.1
-delivered one to_peer w rest (u ∷ units) lost receiver given fl h =
+delivered low w rest (u ∷ units) lost receiver given fl h =
     let v : Way = record w { line = line_of (u ∷ units) lost } in
     let few : lost < 32 =
     elim (cases_lt lost 32) [ inl few ↦ few | inr many ↦ let none : u ∷ units ≡ [] = fl.broken many in absurd (cc) ] in
     let on = fl.on_line few in
-    let heard : HasHeard v rest fl.gone receiver given = has_heard one to_peer v rest fl u on.0 receiver given few on.1 on.2 h in
+    let heard : HasHeard v rest fl.gone receiver given = has_heard low v rest fl u on.0 receiver given few on.1 on.2 h in
     record {
       left = heard.left;
       gives = heard.gives;
@@ -192,15 +195,17 @@ delivered one to_peer w rest (u ∷ units) lost receiver given fl h =
     }
 
 -- a unit that comes, by a repeat
-repeated : OneFrame → GoesUp → (w : Way) (rest units : List (List ℕ)) (lost : ℕ) (receiver : PortState) (given : List (List ℕ)) → Flows (record w { line = line_of units lost }) rest → HearsIfAny (slice_get units 0) w.receiver receiver w.given given → Brought (record w { line = line_of units lost }) (repeated_on (line_of units lost)) rest receiver given
-repeated one to_peer w rest [] lost receiver given fl h =
+repeated : Lower → (w : Way) (rest units : List (List ℕ)) (lost : ℕ) (receiver : PortState) (given : List (List ℕ))
+    → Flows (record w { line = line_of units lost }) rest → HearsIfAny (slice_get units 0) w.receiver receiver w.given given
+    → Brought (record w { line = line_of units lost }) (repeated_on (line_of units lost)) rest receiver given
+repeated low w rest [] lost receiver given fl h =
     brought_nothing (record w { line = line_of [] lost }) rest receiver given fl h.0 h.1
-repeated one to_peer w rest (u ∷ units) lost receiver given fl h =
+repeated low w rest (u ∷ units) lost receiver given fl h =
     let v : Way = record w { line = line_of (u ∷ units) lost } in
     let few : lost < 32 =
     elim (cases_lt lost 32) [ inl few ↦ few | inr many ↦ let none : u ∷ units ≡ [] = fl.broken many in absurd (cc) ] in
     let on = fl.on_line few in
-    let heard : HasHeard v rest fl.gone receiver given = has_heard one to_peer v rest fl u on.0 receiver given few on.1 on.2 h in
+    let heard : HasHeard v rest fl.gone receiver given = has_heard low v rest fl u on.0 receiver given few on.1 on.2 h in
     record {
       left = heard.left;
       gives = heard.gives;
@@ -225,8 +230,8 @@ repeated one to_peer w rest (u ∷ units) lost receiver given fl h =
     }
 
 -- a clearing
-cleared_flows : (w : Way) (rest : List (List ℕ)) → Flows w rest → Flows (record w { line = quiet_line; receiver = reset_of w.receiver }) []
-cleared_flows w rest fl =
+cleared_flows : Lower → (w : Way) (rest : List (List ℕ)) → Flows w rest → Flows (record w { line = quiet_line; receiver = reset_of w.receiver }) []
+cleared_flows low w rest fl =
     record {
       facing = fl.facing;
       numbered = fl.numbered;
@@ -240,8 +245,8 @@ cleared_flows w rest fl =
       heard = [];
       answers = refl;
       pushed = [];
-      stands = idle_stands [] nothing_pushed;
-      half_built = λ few s o. absurd (nothing_open s o);
+      stands = low.idle;
+      half_built = λ few s o. absurd (low.none_open s o);
     }
 
 -- a reset of the sender's port
@@ -265,7 +270,8 @@ reset_flows w rest fl =
     }
 
 -- what happens on the way back
-back_flows : (w : Way) (rest : List (List ℕ)) (link : LinkStation) (a : Assembly) (n : ℕ) → ends link ≡ ends w.sender.link → Flows w rest → Flows (record w { sender = record w.sender { link = link; assembly = a }; receiver = record w.receiver { number = n } }) rest
+back_flows : (w : Way) (rest : List (List ℕ)) (link : LinkStation) (a : Assembly) (n : ℕ) → ends link ≡ ends w.sender.link → Flows w rest
+    → Flows (record w { sender = record w.sender { link = link; assembly = a }; receiver = record w.receiver { number = n } }) rest
 back_flows w rest link a n same fl =
     let sender : PortState = record w.sender { link = link; assembly = a } in
     let frames : (x : List ℕ) → data_frame w.sender x ≡ data_frame sender x = λ x. ap (λ (e : Ends). sent e x) (sym same) in
@@ -287,37 +293,37 @@ back_flows w rest link a n same fl =
     }
 
 -- each event
-pub goes : OneFrame → GoesUp → (w w' : Way) (event : WayEvent) (rest : List (List ℕ)) → Flows w rest → Happens w event w' → Goes event w w' rest
-goes one to_peer w w' (Send f) rest fl h = send_goes w w' rest f w.mute refl fl h
-goes one to_peer w w' Deliver rest fl h =
+pub goes : Lower → (w w' : Way) (event : WayEvent) (rest : List (List ℕ)) → Flows w rest → Happens w event w' → Goes event w w' rest
+goes low w w' (Send f) rest fl h = send_goes w w' rest f w.mute refl fl h
+goes low w w' Deliver rest fl h =
     let b : Brought w (delivered_on w.line) rest h.receiver h.given =
-    delivered one to_peer w rest w.line.units w.line.lost h.receiver h.given fl h.heard in
+    delivered low w rest w.line.units w.line.lost h.receiver h.given fl h.heard in
     record {
       left = b.left;
       moves = subst (λ (v : Way). MayGive rest w.given b.left v.given) (sym h.after) b.gives;
       flows = subst (λ (v : Way). Flows v b.left) (sym h.after) b.flows;
     }
-goes one to_peer w w' Repeat rest fl h =
+goes low w w' Repeat rest fl h =
     let b : Brought w (repeated_on w.line) rest h.receiver h.given =
-    repeated one to_peer w rest w.line.units w.line.lost h.receiver h.given fl h.heard in
+    repeated low w rest w.line.units w.line.lost h.receiver h.given fl h.heard in
     record {
       left = b.left;
       moves = subst (λ (v : Way). MayGive rest w.given b.left v.given) (sym h.after) b.gives;
       flows = subst (λ (v : Way). Flows v b.left) (sym h.after) b.flows;
     }
-goes one to_peer w w' Lose rest fl h =
+goes low w w' Lose rest fl h =
     record {
       left = rest;
       moves = refl;
       flows = subst (λ (v : Way). Flows v rest) (sym h) (lost_flows w rest w.line.units w.line.lost fl);
     }
-goes one to_peer w w' (Damage octets) rest fl h =
+goes low w w' (Damage octets) rest fl h =
     record { left = rest; moves = refl; flows = damaged_flows w w' rest octets fl h }
-goes one to_peer w w' Clear rest fl h =
-    record { left = []; moves = refl; flows = subst (λ (v : Way). Flows v []) (sym h) (cleared_flows w rest fl) }
-goes one to_peer w w' SenderReset rest fl h =
+goes low w w' Clear rest fl h =
+    record { left = []; moves = refl; flows = subst (λ (v : Way). Flows v []) (sym h) (cleared_flows low w rest fl) }
+goes low w w' SenderReset rest fl h =
     record { left = rest; moves = refl; flows = subst (λ (v : Way). Flows v rest) (sym h) (reset_flows w rest fl) }
-goes one to_peer w w' WayBack rest fl h =
+goes low w w' WayBack rest fl h =
     record {
       left = rest;
       moves = refl;
@@ -327,8 +333,9 @@ goes one to_peer w w' WayBack rest fl h =
     }
 
 -- many events
-pub keeps_flowing : OneFrame → GoesUp → (w w' : Way) (events : List WayEvent) (rest : List (List ℕ)) → Flows w rest → Runs w events w' → (left : List (List ℕ)) × Flows w' left
-keeps_flowing one to_peer w w' [] rest fl h = (rest, subst (λ (v : Way). Flows v rest) (sym h) fl)
-keeps_flowing one to_peer w w' (event ∷ events) rest fl h =
-    let g : Goes event w h.0 rest = goes one to_peer w h.0 event rest fl h.1 in
-    keeps_flowing one to_peer h.0 w' events g.left g.flows h.2
+pub keeps_flowing : Lower → (w w' : Way) (events : List WayEvent) (rest : List (List ℕ)) → Flows w rest → Runs w events w'
+    → (left : List (List ℕ)) × Flows w' left
+keeps_flowing low w w' [] rest fl h = (rest, subst (λ (v : Way). Flows v rest) (sym h) fl)
+keeps_flowing low w w' (event ∷ events) rest fl h =
+    let g : Goes event w h.0 rest = goes low w h.0 event rest fl h.1 in
+    keeps_flowing low h.0 w' events g.left g.flows h.2

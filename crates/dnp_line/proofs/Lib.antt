@@ -1,9 +1,10 @@
 pub mod Coming
-pub mod Headers
+pub mod Lower
 pub mod Splits
-pub mod Pushes
 pub mod Arrivals
 pub mod OnLine
 pub mod Hearing
 pub mod Flowing
 pub mod Sending
+pub mod Delivering
+pub mod One

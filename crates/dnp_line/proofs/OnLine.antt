@@ -13,20 +13,23 @@ use Rattle.dnp_line.specs.Flows.{segment_total, IsSegment, AreLast}
 use Rattle.dnp_line.proofs.Splits.{total-append, segment_more, cut_from}
 
 -- only the port's frames matter
-pub last_from : (p p' : PortState) → ((s : List ℕ) → data_frame p s ≡ data_frame p' s) → (sent : List (List ℕ)) (place : ℕ) (units : List (List ℕ)) → AreLast p sent place units → AreLast p' sent place units
+pub last_from : (p p' : PortState) → ((s : List ℕ) → data_frame p s ≡ data_frame p' s) → (sent : List (List ℕ)) (place : ℕ) (units : List (List ℕ))
+    → AreLast p sent place units → AreLast p' sent place units
 last_from p p' same sent place [] h = h
 last_from p p' same sent place (u ∷ units) h =
     (h.0, h.1, subst (λ f. Spells u f) (same h.0) h.2, last_from p p' same sent (place + 1) units h.3)
 
 -- with the units of another fragment behind them
-pub last_more : (p : PortState) (sent : List (List ℕ)) (f : List ℕ) (place : ℕ) (units us : List (List ℕ)) → AreLast p sent place units → AreLast p (sent ++ f ∷ []) (segment_total sent) us → AreLast p (sent ++ f ∷ []) place (units ++ us)
+pub last_more : (p : PortState) (sent : List (List ℕ)) (f : List ℕ) (place : ℕ) (units us : List (List ℕ)) → AreLast p sent place units
+    → AreLast p (sent ++ f ∷ []) (segment_total sent) us → AreLast p (sent ++ f ∷ []) place (units ++ us)
 last_more p sent f place [] us h new =
     subst (λ (n : ℕ). AreLast p (sent ++ f ∷ []) n us) (sym h) new
 last_more p sent f place (u ∷ units) us h new =
     (h.0, segment_more sent (f ∷ []) place h.0 h.1, h.2, last_more p sent f (place + 1) units us h.3 new)
 
 -- the units of a fragment from its segment j on
-fresh_from : (p : PortState) (sent : List (List ℕ)) (f : List ℕ) (n j m : ℕ) (us : List (List ℕ)) → n ≡ segment_total sent % 64 → j + m ≡ cut_count (length f) → AreSpelled p (map (cut f n) (range_with_len j m)) us → AreLast p (sent ++ f ∷ []) (segment_total sent + j) us
+fresh_from : (p : PortState) (sent : List (List ℕ)) (f : List ℕ) (n j m : ℕ) (us : List (List ℕ)) → n ≡ segment_total sent % 64
+    → j + m ≡ cut_count (length f) → AreSpelled p (map (cut f n) (range_with_len j m)) us → AreLast p (sent ++ f ∷ []) (segment_total sent + j) us
 fresh_from p sent f n j zero us e count h =
     let all : segment_total sent + j ≡ segment_total (sent ++ f ∷ []) = omega (arith, count, total-append sent (f ∷ [])) in
     subst (λ (l : List (List ℕ)). AreLast p (sent ++ f ∷ []) (segment_total sent + j) l) (sym h) all
@@ -49,7 +52,8 @@ fresh_from p sent f n j (suc m) us e count h =
     (cut f n j, segment, h.2, subst (λ (q : ℕ). AreLast p (sent ++ f ∷ []) q h.1) next later)
 
 -- the units of a fragment that is sent are the last ones
-pub fresh_last : (p : PortState) (sent : List (List ℕ)) (f : List ℕ) (n : ℕ) (us : List (List ℕ)) → n ≡ segment_total sent % 64 → AreSpelled p (cuts f n) us → AreLast p (sent ++ f ∷ []) (segment_total sent) us
+pub fresh_last : (p : PortState) (sent : List (List ℕ)) (f : List ℕ) (n : ℕ) (us : List (List ℕ)) → n ≡ segment_total sent % 64
+    → AreSpelled p (cuts f n) us → AreLast p (sent ++ f ∷ []) (segment_total sent) us
 fresh_last p sent f n us e h =
     subst (λ (q : ℕ). AreLast p (sent ++ f ∷ []) q us) (omega arith)
     (fresh_from p sent f n 0 (cut_count (length f)) us e (omega arith) h)

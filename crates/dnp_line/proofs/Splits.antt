@@ -20,7 +20,8 @@ pub record AreSame (before before' : List (List ℕ)) (fragment fragment' : List
   pub fragments : fragment ≡ fragment'
   pub ks : k ≡ k'
 
-same_split : (b b' : List (List ℕ)) (f f' : List ℕ) (a a' : List (List ℕ)) (k k' : ℕ) → b ++ f ∷ a ≡ b' ++ f' ∷ a' → segment_total b + k ≡ segment_total b' + k' → k < cut_count (length f) → k' < cut_count (length f') → AreSame b b' f f' k k'
+same_split : (b b' : List (List ℕ)) (f f' : List ℕ) (a a' : List (List ℕ)) (k k' : ℕ) → b ++ f ∷ a ≡ b' ++ f' ∷ a'
+    → segment_total b + k ≡ segment_total b' + k' → k < cut_count (length f) → k' < cut_count (length f') → AreSame b b' f f' k k'
 same_split [] [] f f' a a' k k' e p h h' =
     let heads : f ≡ f' = cc in
     record { befores = refl; fragments = heads; ks = omega (arith, p) }
@@ -39,7 +40,8 @@ same_split (x ∷ b) (x' ∷ b') f f' a a' k k' e p h h' =
     record { befores = cc; fragments = s.fragments; ks = s.ks }
 
 -- one fragment at most is at a place
-pub same_place : (sent : List (List ℕ)) (p : ℕ) (b b' : List (List ℕ)) (f f' : List ℕ) (a a' : List (List ℕ)) (k k' : ℕ) → IsAt sent p b f a k → IsAt sent p b' f' a' k' → AreSame b b' f f' k k'
+pub same_place : (sent : List (List ℕ)) (p : ℕ) (b b' : List (List ℕ)) (f f' : List ℕ) (a a' : List (List ℕ)) (k k' : ℕ) → IsAt sent p b f a k
+    → IsAt sent p b' f' a' k' → AreSame b b' f f' k k'
 same_place sent p b b' f f' a a' k k' i i' =
     same_split b b' f f' a a' k k' (sym i.split ∙ i'.split) (sym i.place_is ∙ i'.place_is) i.within i'.within
 
@@ -90,7 +92,8 @@ pub record IsAmong (past rest before : List (List ℕ)) (fragment : List ℕ) (a
   pub rest_is : rest ≡ between ++ fragment ∷ after
 
 -- a fragment that has a segment behind all those of the past ones is among the rest
-pub among_rest : (past rest b : List (List ℕ)) (f : List ℕ) (a : List (List ℕ)) → past ++ rest ≡ b ++ f ∷ a → segment_total past < segment_total b + cut_count (length f) → IsAmong past rest b f a
+pub among_rest : (past rest b : List (List ℕ)) (f : List ℕ) (a : List (List ℕ)) → past ++ rest ≡ b ++ f ∷ a
+    → segment_total past < segment_total b + cut_count (length f) → IsAmong past rest b f a
 among_rest [] rest b f a e h = record { between = b; before_is = refl; rest_is = e }
 among_rest (x ∷ past) rest [] f a e h =
     let heads : x ≡ f = cc in

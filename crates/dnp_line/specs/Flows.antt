@@ -1,10 +1,11 @@
--- What holds of a way at every moment, and what each event does to the fragments that may still come.
-use Rattle.std.specs.Prelude.{◌≡◌, ℕ, zero, suc, ◌+◌, ◌%◌, ◌<◌, ◌≤◌, false, if◌then◌else◌, List, [], ◌∷◌, ◌++◌, length, drop, slice_get, Some}
+-- What holds of a way at every moment, and what each event does to the fragments that may still come. The promise of a
+-- line is said by `Way`, `Happens`, `Runs` and `Comes`; `Flows` and `RestMoves` carry it on from any moment.
+use Rattle.std.specs.Prelude.{◌≡◌, ℕ, suc, ◌+◌, ◌%◌, ◌<◌, ◌≤◌, false, if◌then◌else◌, List, [], ◌∷◌, ◌++◌, length, drop, slice_get, Some}
 use Rattle.dnp_linkframe.specs.Frames.{Spells}
 use Rattle.dnp_linkframe.specs.declared.frame.Frame.{Frame}
 use Rattle.dnp_linkstation.specs.Station.{ends, opposite, Stands as Answers}
 use Rattle.dnp_transport.specs.Assembly.{Stands}
-use Rattle.dnp_transport.specs.Cuts.{cut_count, cut}
+use Rattle.dnp_transport.specs.Cuts.{cut_count, cut, begun_cuts}
 use Rattle.dnp_transport.specs.Series.{IsOpen}
 use Rattle.dnp_line.specs.Comes.{ComesTo}
 use Rattle.dnp_line.specs.Lines.{broken_losses}
@@ -38,11 +39,6 @@ AreLast port sent place (unit ∷ units) =
     (segment : List ℕ) × IsSegment sent place segment × Spells unit (data_frame port segment)
     × AreLast port sent (place + 1) units
 
--- a fragment's segments up to k, newest first
-abbrev pub begun : List ℕ → ℕ → ℕ → List (List ℕ)
-begun fragment first zero = cut fragment first 0 ∷ []
-begun fragment first (suc k) = cut fragment first (suc k) ∷ begun fragment first k
-
 -- the series is of the first segments of a fragment, its newest at the place, and waits for more
 pub record IsBegun (sent : List (List ℕ)) (place : ℕ) (series : List (List ℕ)) : Type 0 where
   pub before : List (List ℕ)
@@ -52,7 +48,7 @@ pub record IsBegun (sent : List (List ℕ)) (place : ℕ) (series : List (List �
   pub split : sent ≡ before ++ fragment ∷ after
   pub place_is : place ≡ segment_total before + k
   pub waits : k + 1 < cut_count (length fragment)
-  pub series_is : series ≡ begun fragment (segment_total before) k
+  pub series_is : series ≡ begun_cuts fragment (segment_total before) (suc k)
 
 -- the same, and no more segments than those that were lost since can have gone by after its newest
 pub record IsRecent (sent : List (List ℕ)) (gone lost : ℕ) (series : List (List ℕ)) : Type 0 where

@@ -4,3 +4,4 @@ pub mod Ports
 pub mod Comes
 pub mod Ways
 pub mod Flows
+pub mod Clear

@@ -9,7 +9,7 @@ use Rattle.dnp_line.specs.Lines.{LineState, quiet_line, front_of, sent_on, deliv
 use Rattle.dnp_line.specs.declared.port.Taken.{Taken}
 use Rattle.dnp_line.specs.Ports.{PortState, new_port, data_frame, moved_on, Takes, IsShown, reset_of}
 
--- the line and the ports at its ends; whether the sender hands over nothing more until the link is opened anew; the
+-- the line and the ports at its ends; whether the sender hands over nothing more until the link is opened again; the
 -- fragments that were handed to the sender's port, and those that the receiver's port gave, each oldest first
 pub record Way : Type 0 where
   pub line : LineState
@@ -31,7 +31,7 @@ new_way own peer from_master =
       given = [];
     }
 
--- the link is opened anew: the line is cleared, and both ports are reset
+-- the link is opened again: the line is cleared, and both ports are reset
 abbrev pub opened_on : Way → Way
 opened_on w =
     record {

@@ -1,13 +1,23 @@
 //! What is true of every way of a link, and of every list that came of another: each function is a law about the words
 //! of its clauses, and its body changes nothing when it runs.
 
-ghost use Rattle.std.specs.Prelude.{◌≡◌, ℕ, ◌↔◌, Bool, IsTrue, List, [], ◌∷◌, ◌++◌, drop, slice_get, All, Contains};
+ghost use Rattle.std.specs.Prelude.{◌≡◌, ℕ, ◌↔◌, Bool, IsTrue, List, [], ◌∷◌, ◌++◌, drop, slice_get, All, Contains, length, replicate};
+ghost use Rattle.dnp_transport.specs.Cuts.{cut_count};
+ghost use Rattle.dnp_line.specs.Lines.{quiet_line};
+ghost use Rattle.dnp_line.specs.Clear.{IsClear, all_sent, all_delivered};
+ghost use Rattle.dnp_linkframe.specs.declared.frame.Frame.{Frame as FrameValue};
+ghost use Rattle.dnp_line.specs.Ports.{PortState, HasHistory, Takes, IsShown};
+ghost use Rattle.dnp_line.specs.declared.port.Taken.{Taken as TakenValue};
 ghost use Rattle.dnp_line.specs.Comes.{Comes, ComesTo, comes};
 ghost use Rattle.dnp_line.specs.Flows.{AreFacing, Flows, RestMoves};
 ghost use Rattle.dnp_line.specs.Ways.{Way, new_way, opened_on, WayEvent, Happens, Runs};
+ghost use Rattle.dnp_line.specs.Ways as WayEvent;
 
 use dnp_linkframe::laws::a_unit_spells_one_frame;
+use dnp_linkstation::laws as stations;
 use dnp_linkstation::laws::what_is_sent_is_for_the_peer;
+use dnp_transport::laws as assemblers;
+use dnp_transport::laws::{a_push_goes_on, cuts_give_whole, segments_say_their_places};
 
 /// The law of a line between two ports: the fragments that the receiver's port gave came of those that were handed to
 /// the sender's port, after every run of sends, deliveries, repeats, losses, damage and clearings since the link was
@@ -28,6 +38,9 @@ pub fn line_law()
 {
     a_unit_spells_one_frame();
     what_is_sent_is_for_the_peer();
+    cuts_give_whole();
+    segments_say_their_places();
+    a_push_goes_on();
 }
 
 /// Each list came of itself.
@@ -102,3 +115,31 @@ pub fn one_came<T>()
     ensures { (came sent rest : List T) (n : ℕ) (member : T) → ComesTo came sent rest →
         slice_get rest n ≡ Some member → ComesTo (came ++ member ∷ []) sent (drop n rest) }
 {}
+
+/// What is sent on a clear way comes out, whatever the receiver's port had half built: after as many deliveries as the
+/// fragments have segments the port has given these fragments and nothing else. The way is clear again then.
+pub fn a_clear_way_delivers()
+    ensures one { (old sent new : Way) (fragment : List ℕ) → IsClear old → Happens old (WayEvent.Send fragment) sent →
+        Runs sent (replicate (cut_count (length fragment)) WayEvent.Deliver) new →
+        (new.given ≡ old.given ++ fragment ∷ []) × (new.line ≡ quiet_line) × IsClear new }
+    ensures many { (old sent new : Way) (fragments : List (List ℕ)) → IsClear old → Runs old (all_sent fragments) sent →
+        Runs sent (all_delivered fragments) new → (new.given ≡ old.given ++ fragments) × IsClear new }
+{
+    a_unit_spells_one_frame();
+    what_is_sent_is_for_the_peer();
+    cuts_give_whole();
+    segments_say_their_places();
+    a_push_goes_on();
+}
+
+/// A port takes each frame in one way, and shows one fragment: what it does is a function of the port, whatever made it
+/// what it is. After a frame it has a history still.
+pub fn a_port_takes_in_one_way()
+    ensures takes { (old new other : PortState) (frame : FrameValue) (taken taken' : TakenValue) → HasHistory old →
+        Takes old frame new taken → Takes old frame other taken' → (new ≡ other) × (taken ≡ taken') }
+    ensures shows { (port : PortState) (octets octets' : List ℕ) → HasHistory port → IsShown port octets → IsShown port octets' → octets ≡ octets' }
+    ensures goes_on { (old new : PortState) (frame : FrameValue) (taken : TakenValue) → HasHistory old → Takes old frame new taken → HasHistory new }
+{
+    stations::history_does_not_matter();
+    assemblers::history_does_not_matter();
+}

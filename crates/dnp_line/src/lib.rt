@@ -8,8 +8,7 @@ mod line;
 mod port;
 #[cfg(test)]
 mod tests;
-#[cfg(test)]
-mod way;
+pub mod way;
 
 pub use line::{BROKEN_LOSSES, Line};
 pub use port::{Port, Taken};

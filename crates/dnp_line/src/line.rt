@@ -1,5 +1,5 @@
 //! A line that carries units of octets one way.
-ghost use Rattle.std.specs.Prelude.{◌≡◌, ℕ, ◌<◌, ◌≤◌, [], length, option_copied, IsTrue, IsOk, OnOk, OnErr};
+ghost use Rattle.std.specs.Prelude.{◌≡◌, ℕ, ◌<◌, ◌≤◌, ◌↔◌, [], length, option_copied, IsTrue, IsOk, OnOk, OnErr};
 ghost use Rattle.std.specs.Option.{option_map};
 ghost use Rattle.dnp_line.specs.Lines.{quiet_line, front_of, is_broken, sent_on, delivered_on, repeated_on, lost_on, Damages, cleared_on, room_of, reserved_on};
 
@@ -53,7 +53,7 @@ impl Line {
         }
     }
 
-    /// Sees to memory for `n` more units. It fails only where there was too little, and then changes nothing.
+    /// Makes room for `n` more units. It fails only where there was too little, and then changes nothing.
     pub fn reserve(&mut self, n: usize) -> Result<(), AllocError>
         ensures ok { OnOk result (self.new ≡ reserved_on n self.old) }
         ensures room { OnOk result (n ≤ room_of self.new) }
@@ -74,6 +74,20 @@ impl Line {
         ensures { result ≡ room_of self.now }
     {
         self.capacity - self.units.len()
+    }
+
+    /// The number of units on the line.
+    pub fn len(&self) -> usize
+        ensures { result ≡ length self.now.state.units }
+    {
+        self.units.len()
+    }
+
+    /// Whether no unit is on the line.
+    pub fn is_empty(&self) -> bool
+        ensures { IsTrue result ↔ (self.now.state.units ≡ []) }
+    {
+        self.units.is_empty()
     }
 
     /// Puts a unit of at most 292 octets behind those on the line. A broken line drops it.

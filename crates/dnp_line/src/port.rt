@@ -1,15 +1,17 @@
 //! A station's port to a line.
-ghost use Rattle.std.specs.Prelude.{◌≡◌, ℕ, ◌<◌, ◌≤◌, ◌↔◌, List, [], ◌∷◌, length, IsTrue};
+ghost use Rattle.std.specs.Prelude.{◌≡◌, ℕ, ◌<◌, ◌≤◌, ◌↔◌, List, [], ◌∷◌, length, IsTrue, IfSome, IfNone};
+ghost use Rattle.dnp_linkframe.specs.declared.frame.Frame.{Frame as FrameValue};
 ghost use Rattle.dnp_linkframe.specs.Frames.{Spells};
 ghost use Rattle.dnp_transport.specs.Assembly.{Stands};
 ghost use Rattle.dnp_transport.specs.Cuts.{cut_count, cut};
 ghost use Rattle.dnp_transport.specs.Series.{IsWhole};
 ghost use Rattle.dnp_linkstation.specs.Station.{Stands as Answers};
-ghost use Rattle.dnp_line.specs.Ports.{new_port, data_frame, moved_on, Takes, IsShown, reset_of};
+ghost use Rattle.dnp_line.specs.Ports.{new_port, data_frame, moved_on, HasHistory, Takes, IsShown, reset_of};
 
 use arrayvec::ArrayVec;
 use dnp_linkframe::{Frame, MAX_FRAME, write_frame};
 use dnp_linkstation::LinkStation;
+use dnp_linkstation::laws::each_station_has_a_history;
 use dnp_transport::{Assembler, Pushed, segment};
 use std::marker::Model;
 
@@ -24,6 +26,19 @@ pub struct Taken {
 
     /// The link frame to answer with.
     pub reply: Option<Frame>,
+}
+
+impl Taken {
+    /// The unit to answer with: the spelling of the reply. So a reply is put on a line as user data are, by its unit.
+    pub fn reply_unit(&self) -> Option<ArrayVec<u8, MAX_FRAME>>
+        ensures spells { IfSome result (λ unit. (reply : FrameValue) × (self.now.reply ≡ Some reply) × Spells unit.items reply) }
+        ensures none { IfNone result (self.now.reply ≡ None) }
+    {
+        match &self.reply {
+            Some(reply) => Some(write_frame(reply)),
+            None => None,
+        }
+    }
 }
 
 /// A station's port: cuts the station's fragments into link frames to its peer, and joins those that come from the peer
@@ -85,7 +100,7 @@ impl Port {
     }
 
     /// Takes a frame that came. The station's end of the link answers it, and user data that go up are joined to those
-    /// before them.
+    /// before them. A frame that goes up with no user data leaves what was joined as it is.
     ///
     /// The reply, if there is one, is the link layer's: an acknowledgment or refusal of confirmed user data, of a test
     /// or of a reset, the link's status, or that a function is not supported (IEEE Std 1815-2012, data link layer).
@@ -93,7 +108,7 @@ impl Port {
         ensures takes { Takes self.old frame.now self.new result }
     {
         let answer = self.link.receive(frame);
-        let whole = answer.up && self.joins(frame.user.as_slice());
+        let whole = answer.up && !frame.user.is_empty() && self.joins(frame.user.as_slice());
         Taken {
             whole,
             reply: answer.reply,
@@ -116,6 +131,15 @@ impl Port {
         ensures fits { length result.now ≤ 2048 }
     {
         self.assembler.fragment()
+    }
+
+    /// Some frames, taken one after the other, make a port what this one is, up to the number of the next segment: each
+    /// port has a history. It does nothing when it runs.
+    pub fn has_a_history(&self)
+        ensures { HasHistory self.now }
+    {
+        each_station_has_a_history();
+        self.assembler.has_a_history();
     }
 
     /// A port in the same state.

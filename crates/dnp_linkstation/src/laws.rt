@@ -2,7 +2,8 @@
 ghost use Rattle.std.specs.Prelude.{◌≡◌, ℕ, List, ◌∷◌, Bool, true, false, not, if◌then◌else◌, Some};
 ghost use Rattle.dnp_linkframe.specs.declared.frame.Frame.{Frame as FrameValue};
 ghost use Rattle.dnp_linkstation.specs.Control.{primary_function, frame_count_bit};
-ghost use Rattle.dnp_linkstation.specs.Station.{Ends, opposite, is_for, counts, expected, is_same, sent, answer};
+ghost use Rattle.dnp_linkstation.specs.Station.{Ends, ends, opposite, is_for, counts, expected, is_same, sent, answer, Stands};
+ghost use Rattle.dnp_linkstation.specs.declared.station.LinkStation.{LinkStation as StationValue};
 ghost use Rattle.dnp_linkstation.specs.declared.function.PrimaryFunction.TheVariants.{ConfirmedUserData, UnconfirmedUserData};
 
 /// A frame of CONFIRMED_USER_DATA that comes twice in a row does not go up the second time, whatever came
@@ -20,4 +21,20 @@ pub fn the_expected_bit_toggles_the_expectation()
 /// The frame in which a station sends user data is for its peer, and is one of UNCONFIRMED_USER_DATA.
 pub fn what_is_sent_is_for_the_peer()
     ensures { (e : Ends) (user : List ℕ) → (is_for (opposite e) (sent e user) ≡ true) × (primary_function (sent e user).control ≡ UnconfirmedUserData) }
+{}
+
+/// Some frames, heard one after the other, make a station what it is, whatever it is: each station has a history.
+pub fn each_station_has_a_history()
+    ensures { (station : StationValue) → (heard : List FrameValue) × Stands heard station }
+{}
+
+/// Some frames make one station at the ends of a link. Which of the lists of frames that make the same station was
+/// heard does not matter: the answer to the next frame, and the station after it, are the same after each.
+pub fn history_does_not_matter()
+    ensures one { (heard : List FrameValue) (a b : StationValue) → ends a ≡ ends b → Stands heard a → Stands heard b → a ≡ b }
+    ensures answers { (station : StationValue) (before other : List FrameValue) (frame : FrameValue) →
+        Stands before station → Stands other station → answer (ends station) before frame ≡ answer (ends station) other frame }
+    ensures next { (station new new' : StationValue) (before other : List FrameValue) (frame : FrameValue) →
+        Stands before station → Stands other station → ends new ≡ ends station → ends new' ≡ ends station →
+        Stands (frame ∷ before) new → Stands (frame ∷ other) new' → new ≡ new' }
 {}

@@ -1,16 +1,16 @@
 -- A fragment's segments, pushed in order, complete it.
-use Rattle.std.proofs.Common.{◌≡◌, ℕ, zero, suc, ◌+◌, ◌-◌, ◌*◌, ◌%◌, ◌<◌, ◌≤◌, min, Bool, true, false, cond, not, nat_lt, ◌==◌, List, [], ◌∷◌, ◌++◌, length, take, drop, map, reverse, refl, sym, ap, ◌∙◌, subst, arith, length-take, length-drop, add-one}
-use Rattle.std.proofs.lemmas.Bool.{or_from, and_right, false_from_ne_true, le-ltb, eq-eqb, ne_eqb, cond-true, cond-false}
+use Rattle.std.proofs.Common.{◌≡◌, ℕ, zero, suc, ◌+◌, ◌-◌, ◌*◌, ◌%◌, ◌<◌, ◌≤◌, min, Bool, true, false, cond, not, nat_lt, ◌==◌, List, [], ◌∷◌, ◌++◌, length, take, drop, map, reverse, refl, sym, ap, ◌∙◌, subst, arith, length-take, length-drop, add-one, inl, inr}
+use Rattle.std.proofs.lemmas.Bool.{cases_eq, both_ways, or_from, and_right, false_from_ne_true, le-ltb, eq-eqb, ne_eqb, cond-true, cond-false}
 use Rattle.std.proofs.lemmas.List.{reverse-append, drop-take, take-append-drop, take-take, take_all}
-use Rattle.std.proofs.lemmas.List.FromFn.{take-map-range_with_len, map-range_with_len_more}
+use Rattle.std.proofs.lemmas.List.FromFn.{take-map-range_with_len, map-range_with_len_more, length-map-range_with_len}
 use Rattle.std.proofs.lemmas.Slice.Eq.{bytes_eq-Decides}
 use Rattle.std.specs.Int.{bit_at}
 use Rattle.std.specs.List.{range_with_len}
 use Rattle.std.specs.Str.{bytes_eq}
 use Rattle.dnp_transport.specs.Segments.{is_first, is_last, number, has_no_size}
-use Rattle.dnp_transport.specs.Cuts.{cut_count, cut_header, cut, cuts}
+use Rattle.dnp_transport.specs.Cuts.{cut_count, cut_header, cut, cuts, begun_cuts}
 use Rattle.dnp_transport.specs.Series.{repeats, is_left_out, kept, IsSeries, joined, IsOpen, IsWhole, IsNothing}
-use Rattle.dnp_transport.specs.Laws.{pushed_after, IsCarried}
+use Rattle.dnp_transport.specs.Laws.{pushed_after, IsCarried, SaysItsPlace}
 use Rattle.dnp_transport.proofs.Histories.{kept_stays, open_not_whole, dropped_not_open}
 
 -- the bits and the number of a header
@@ -69,14 +69,17 @@ cut_is_last f first k e =
     eq-eqb (bit_at (cut_header (cut_count (length f)) first k) 7) 1
     (subst (λ (x : ℕ). bit_at (cond (k == 0) 64 0 + x + n) 7 ≡ 1) (sym a) (fin_set (k == 0) n (number_fits (first + k))))
 
-cut_is_not_last : (f : List ℕ) (first k : ℕ) → k + 1 < cut_count (length f) → is_last (cut f first k) ≡ false
-cut_is_not_last f first k h =
+cut_is_other : (f : List ℕ) (first k : ℕ) → (k + 1 ≡ cut_count (length f) → ⊥) → is_last (cut f first k) ≡ false
+cut_is_other f first k other =
     let n : ℕ = (first + k) % 64 in
     let a : cond (k + 1 == cut_count (length f)) 128 0 ≡ 0 =
-    cond-false (k + 1 == cut_count (length f)) 128 0 (ne_eqb (k + 1) (cut_count (length f)) (λ e. omega (arith, h, e))) in
+    cond-false (k + 1 == cut_count (length f)) 128 0 (ne_eqb (k + 1) (cut_count (length f)) other) in
     let clear : bit_at (cut_header (cut_count (length f)) first k) 7 ≡ 0 =
     subst (λ (x : ℕ). bit_at (cond (k == 0) 64 0 + x + n) 7 ≡ 0) (sym a) (fin_clear (k == 0) n (number_fits (first + k))) in
     clear_bit (bit_at (cut_header (cut_count (length f)) first k) 7) clear
+
+cut_is_not_last : (f : List ℕ) (first k : ℕ) → k + 1 < cut_count (length f) → is_last (cut f first k) ≡ false
+cut_is_not_last f first k h = cut_is_other f first k (λ e. omega (arith, h, e))
 
 number_of_cut : (f : List ℕ) (first k : ℕ) → number (cut f first k) ≡ (first + k) % 64
 number_of_cut f first k =
@@ -88,6 +91,11 @@ next_number a k = omega arith
 other_number : (a k : ℕ) → (a + suc k) % 64 ≡ (a + k) % 64 → ⊥
 other_number a k e = omega arith
 
+first_says : (f : List ℕ) (first k : ℕ) → is_first (cut f first k) ≡ true → k ≡ 0
+first_says f first zero h = refl
+first_says f first (suc k) h =
+    absurd (both_ways (is_first (cut f first (suc k))) (cut_is_not_first f first (suc k) (omega arith)) h)
+
 -- each cut is of a segment's size
 cut_sized : (f : List ℕ) (first k : ℕ) → k < cut_count (length f) → has_no_size (cut f first k) ≡ false
 cut_sized f first k h =
@@ -97,21 +105,16 @@ cut_sized f first k h =
     (le-ltb (length (cut f first k)) 2 (omega (arith, n, h)))
     (le-ltb 250 (length (cut f first k)) (omega (arith, n, h)))
 
--- the first k cuts, newest first
-abbrev sent : List ℕ → ℕ → ℕ → List (List ℕ)
-sent f first zero = []
-sent f first (suc k) = cut f first k ∷ sent f first k
-
 -- what the first k + 1 cuts make
 record IsSent (f : List ℕ) (first k : ℕ) : Type 0 where
-  earlier_kept : kept (sent f first k) ≡ sent f first k
-  stays : is_left_out (sent f first k) (cut f first k) ≡ false
-  in_series : IsSeries (sent f first (suc k))
-  joined_are : joined (sent f first (suc k)) ≡ take (249 * (k + 1)) f
+  earlier_kept : kept (begun_cuts f first k) ≡ begun_cuts f first k
+  stays : is_left_out (begun_cuts f first k) (cut f first k) ≡ false
+  in_series : IsSeries (begun_cuts f first (suc k))
+  joined_are : joined (begun_cuts f first (suc k)) ≡ take (249 * (k + 1)) f
 
-all_kept : (f : List ℕ) (first k : ℕ) → IsSent f first k → kept (sent f first (suc k)) ≡ sent f first (suc k)
+all_kept : (f : List ℕ) (first k : ℕ) → IsSent f first k → kept (begun_cuts f first (suc k)) ≡ begun_cuts f first (suc k)
 all_kept f first k i =
-    kept_stays (cut f first k) (sent f first k)
+    kept_stays (cut f first k) (begun_cuts f first k)
     (subst (λ (l : List (List ℕ)). is_left_out l (cut f first k) ≡ false) (sym i.earlier_kept) i.stays)
     ∙ ap (λ (l : List (List ℕ)). cut f first k ∷ l) i.earlier_kept
 
@@ -143,7 +146,7 @@ is_sent f first (suc k) h =
     record {
       earlier_kept = all_kept f first k i;
       stays =
-          or_from (has_no_size (cut f first (suc k))) (repeats (sent f first (suc k)) (cut f first (suc k)))
+          or_from (has_no_size (cut f first (suc k))) (repeats (begun_cuts f first (suc k)) (cut f first (suc k)))
           (cut_sized f first (suc k) h)
           (and_right (not (is_first (cut f first (suc k)))) (bytes_eq (cut f first (suc k)) (cut f first k))
           (false_from_ne_true (bytes_eq (cut f first (suc k)) (cut f first k))
@@ -158,11 +161,12 @@ is_sent f first (suc k) h =
     }
 
 -- a series waits until the last cut
-sent_open : (f : List ℕ) (first k : ℕ) (before : List (List ℕ)) → length f ≤ 2048 → k + 1 < cut_count (length f) → IsOpen (sent f first (suc k) ++ before) (sent f first (suc k))
+sent_open : (f : List ℕ) (first k : ℕ) (before : List (List ℕ)) → length f ≤ 2048 → k + 1 < cut_count (length f)
+    → IsOpen (begun_cuts f first (suc k) ++ before) (begun_cuts f first (suc k))
 sent_open f first k before most h =
     let i : IsSent f first k = is_sent f first k (omega (arith, h)) in
     record {
-      recent = sent f first (suc k);
+      recent = begun_cuts f first (suc k);
       older = before;
       split = refl;
       kept_are = all_kept f first k i;
@@ -172,13 +176,14 @@ sent_open f first k before most h =
     }
 
 -- the last cut completes the fragment
-sent_whole : (f : List ℕ) (first k : ℕ) (before : List (List ℕ)) → length f ≤ 2048 → k + 1 ≡ cut_count (length f) → IsWhole (sent f first (suc k) ++ before) f
+sent_whole : (f : List ℕ) (first k : ℕ) (before : List (List ℕ)) → length f ≤ 2048 → k + 1 ≡ cut_count (length f)
+    → IsWhole (begun_cuts f first (suc k) ++ before) f
 sent_whole f first k before most h =
     let i : IsSent f first k = is_sent f first k (omega (arith, h)) in
-    let back : sent f first k ≡ kept (sent f first k) = sym i.earlier_kept in
+    let back : begun_cuts f first k ≡ kept (begun_cuts f first k) = sym i.earlier_kept in
     record {
       segment = cut f first k;
-      recent = sent f first k;
+      recent = begun_cuts f first k;
       older = before;
       split = refl;
       stays = subst (λ (l : List (List ℕ)). is_left_out l (cut f first k) ≡ false) back i.stays;
@@ -193,7 +198,7 @@ sent_whole f first k before most h =
 
 -- the cuts as a list in order
 
-sent_reversed : (f : List ℕ) (first k : ℕ) → reverse (map (cut f first) (range_with_len 0 k)) ≡ sent f first k
+sent_reversed : (f : List ℕ) (first k : ℕ) → reverse (map (cut f first) (range_with_len 0 k)) ≡ begun_cuts f first k
 sent_reversed f first zero = refl
 sent_reversed f first (suc k) =
     let more : map (cut f first) (range_with_len 0 (suc k)) ≡ map (cut f first) (range_with_len 0 k) ++ cut f first k ∷ [] =
@@ -204,27 +209,30 @@ sent_reversed f first (suc k) =
     ∙ ap (λ (l : List (List ℕ)). cut f first k ∷ l) (sent_reversed f first k)
 
 -- the pushes after the first k cuts
-pub after_cuts : (f : List ℕ) (first k : ℕ) (before : List (List ℕ)) → k ≤ cut_count (length f) → pushed_after before (take k (cuts f first)) ≡ sent f first k ++ before
+after_cuts : (f : List ℕ) (first k : ℕ) (before : List (List ℕ)) → k ≤ cut_count (length f)
+    → pushed_after before (take k (cuts f first)) ≡ begun_cuts f first k ++ before
 after_cuts f first k before h =
     ap (λ (l : List (List ℕ)). reverse l ++ before) (take-map-range_with_len (cut f first) 0 (cut_count (length f)) k h)
     ∙ ap (λ (l : List (List ℕ)). l ++ before) (sent_reversed f first k)
 
-earlier_nothing : (before : List (List ℕ)) (f : List ℕ) (first k : ℕ) → length f ≤ 2048 → 0 < k → k < cut_count (length f) → IsNothing (pushed_after before (take k (cuts f first)))
+earlier_nothing : (before : List (List ℕ)) (f : List ℕ) (first k : ℕ) → length f ≤ 2048 → 0 < k → k < cut_count (length f)
+    → IsNothing (pushed_after before (take k (cuts f first)))
 earlier_nothing before f first zero most some h = absurd (omega (arith, some))
 earlier_nothing before f first (suc k) most some h =
-    let o : IsOpen (sent f first (suc k) ++ before) (sent f first (suc k)) = sent_open f first k before most (omega (arith, h)) in
-    let n : IsNothing (sent f first (suc k) ++ before) =
+    let o : IsOpen (begun_cuts f first (suc k) ++ before) (begun_cuts f first (suc k)) = sent_open f first k before most (omega (arith, h)) in
+    let n : IsNothing (begun_cuts f first (suc k) ++ before) =
     record {
-      no_whole = λ g w. open_not_whole (sent f first (suc k) ++ before) (sent f first (suc k)) g o w;
-      no_drop = λ d. dropped_not_open (sent f first (suc k) ++ before) (sent f first (suc k)) d o;
+      no_whole = λ g w. open_not_whole (begun_cuts f first (suc k) ++ before) (begun_cuts f first (suc k)) g o w;
+      no_drop = λ d. dropped_not_open (begun_cuts f first (suc k) ++ before) (begun_cuts f first (suc k)) d o;
     } in
     subst (λ (l : List (List ℕ)). IsNothing l) (sym (after_cuts f first (suc k) before (omega (arith, h)))) n
 
-last_whole : (before : List (List ℕ)) (f : List ℕ) (first count : ℕ) → length f ≤ 2048 → 0 < count → count ≡ cut_count (length f) → IsWhole (pushed_after before (cuts f first)) f
+last_whole : (before : List (List ℕ)) (f : List ℕ) (first count : ℕ) → length f ≤ 2048 → 0 < count → count ≡ cut_count (length f)
+    → IsWhole (pushed_after before (cuts f first)) f
 last_whole before f first zero most some e = absurd (omega (arith, some))
 last_whole before f first (suc k) most some e =
-    let w : IsWhole (sent f first (suc k) ++ before) f = sent_whole f first k before most (omega (arith, e)) in
-    let all : pushed_after before (cuts f first) ≡ sent f first (suc k) ++ before =
+    let w : IsWhole (begun_cuts f first (suc k) ++ before) f = sent_whole f first k before most (omega (arith, e)) in
+    let all : pushed_after before (cuts f first) ≡ begun_cuts f first (suc k) ++ before =
     ap (λ (l : List (List ℕ)). reverse l ++ before)
     (ap (λ (n : ℕ). map (cut f first) (range_with_len 0 n)) (sym e))
     ∙ ap (λ (l : List (List ℕ)). l ++ before) (sent_reversed f first (suc k)) in
@@ -237,3 +245,29 @@ carries before f first some most =
       earlier = λ k h l. earlier_nothing before f first k most h l;
       last = last_whole before f first (cut_count (length f)) most (omega (arith, some)) refl;
     }
+
+-- what a cut says
+last_says : (f : List ℕ) (first k : ℕ) → is_last (cut f first k) ≡ true → k + 1 ≡ cut_count (length f)
+last_says f first k h =
+    elim (cases_eq (k + 1) (cut_count (length f))) [
+      | inl last ↦ last
+      | inr other ↦ absurd (both_ways (is_last (cut f first k)) (cut_is_other f first k other) h)
+    ]
+
+pub says_its_place : (f : List ℕ) (first k : ℕ) → SaysItsPlace f first k
+says_its_place f first k =
+    record {
+      first_says = (first_says f first k, cut_is_first f first k);
+      last_says = (last_says f first k, cut_is_last f first k);
+      number_is = number_of_cut f first k;
+      carries = refl;
+      sized = cut_sized f first k;
+    }
+
+pub length-cuts : (f : List ℕ) (first : ℕ) → length (cuts f first) ≡ cut_count (length f)
+length-cuts f first = length-map-range_with_len (cut f first) 0 (cut_count (length f))
+
+pub joined_all : (f : List ℕ) (first k : ℕ) → k ≡ cut_count (length f) → joined (begun_cuts f first k) ≡ f
+joined_all f first zero e = take_all 0 f (omega (arith, e))
+joined_all f first (suc k) e =
+    (is_sent f first k (omega (arith, e))).joined_are ∙ take_all (249 * (k + 1)) f (omega (arith, e))

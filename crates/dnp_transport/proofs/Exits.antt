@@ -6,9 +6,10 @@ use Rattle.std.specs.Str.{bytes_eq}
 use Rattle.dnp_transport.specs.Segments.{is_first, is_last, number, carried, has_no_size}
 use Rattle.dnp_transport.specs.Series.{repeats, is_left_out, kept, Follows, IsSeries, newest, joined, IsOpen, IsWhole, IsDropped, IsNothing}
 use Rattle.dnp_transport.specs.Assembly.{Assembly, Idle, Joining, Complete, IsJoining, IsIdle, Stands, Answers, Shows}
-use Rattle.dnp_transport.specs.Stages.{assembly}
+use Rattle.dnp_transport.specs.Stages.{assembly, HasHistory, MayGoOn, First, Next, GoesOn, Passes, Completes, Waits, stage_after}
 use Rattle.dnp_transport.specs.declared.assembler.Stage.{Stage}
 use Rattle.dnp_transport.specs.declared.assembler.Stage.TheVariants as stage
+use Rattle.dnp_transport.specs.declared.assembler.Pushed.{Pushed}
 use Rattle.dnp_transport.specs.declared.assembler.Pushed.TheVariants.{Nothing, Whole, Dropped}
 use Rattle.dnp_transport.proofs.Histories.{kept_left_out, kept_stays, first_stays, one_whole, open_not_whole, Continues, whole_back, open_back, dropped_not_open, whole_not_dropped}
 
@@ -44,7 +45,8 @@ NoSeries pushed = (series : List (List ℕ)) → IsOpen pushed series → ⊥
 
 -- what the stage says of the pushes
 
-pub no_series : (s : Stage) (last octets : List ℕ) (a : Assembly) (pushed : List (List ℕ)) (joining : Bool) → assembly s last octets ≡ a → (joining ≡ true) ↔ (s ≡ stage.Joining) → joining ≡ false → Stands pushed a → NoSeries pushed
+pub no_series : (s : Stage) (last octets : List ℕ) (a : Assembly) (pushed : List (List ℕ)) (joining : Bool) → assembly s last octets ≡ a
+    → (joining ≡ true) ↔ (s ≡ stage.Joining) → joining ≡ false → Stands pushed a → NoSeries pushed
 unfolding Stands
 no_series stage.Idle last octets a pushed joining e n f h =
     let i : IsIdle pushed = subst (λ (x : Assembly). Stands pushed x) (sym e) h in i.no_series
@@ -53,13 +55,19 @@ no_series stage.Complete last octets a pushed joining e n f h =
     let w : IsWhole pushed octets = subst (λ (x : Assembly). Stands pushed x) (sym e) h in
     λ series o. open_not_whole pushed series octets o w
 
-pub is_joining : (s : Stage) (last octets : List ℕ) (a : Assembly) (pushed : List (List ℕ)) (joining : Bool) → assembly s last octets ≡ a → (joining ≡ true) ↔ (s ≡ stage.Joining) → joining ≡ true → Stands pushed a → IsJoining pushed last octets
+pub is_joining : (s : Stage) (last octets : List ℕ) (a : Assembly) (pushed : List (List ℕ)) (joining : Bool) → assembly s last octets ≡ a
+    → (joining ≡ true) ↔ (s ≡ stage.Joining) → joining ≡ true → Stands pushed a → IsJoining pushed last octets
 unfolding Stands
 is_joining s last octets a pushed joining e j t h =
     let is : Joining last octets ≡ a = ap (λ (u : Stage). assembly u last octets) (sym (j.0 t)) ∙ e in
     subst (λ (x : Assembly). Stands pushed x) (sym is) h
 
-pub joining_stands : (s : Stage) (last octets : List ℕ) (a : Assembly) (pushed : List (List ℕ)) (joining : Bool) → assembly s last octets ≡ a → (joining ≡ true) ↔ (s ≡ stage.Joining) → joining ≡ true → IsJoining pushed last octets → Stands pushed a
+pub joining_is : (s : Stage) (last octets : List ℕ) (a : Assembly) (joining : Bool) → assembly s last octets ≡ a
+    → (joining ≡ true) ↔ (s ≡ stage.Joining) → joining ≡ true → a ≡ Joining last octets
+joining_is s last octets a joining e j t = sym e ∙ ap (λ (u : Stage). assembly u last octets) (j.0 t)
+
+pub joining_stands : (s : Stage) (last octets : List ℕ) (a : Assembly) (pushed : List (List ℕ)) (joining : Bool) → assembly s last octets ≡ a
+    → (joining ≡ true) ↔ (s ≡ stage.Joining) → joining ≡ true → IsJoining pushed last octets → Stands pushed a
 unfolding Stands
 joining_stands s last octets a pushed joining e j t h =
     let is : Joining last octets ≡ a = ap (λ (u : Stage). assembly u last octets) (sym (j.0 t)) ∙ e in
@@ -87,7 +95,8 @@ joining_nothing pushed last octets j =
 
 -- with no series open, what is no segment, or no first one, changes nothing
 
-not_begun : (before : List (List ℕ)) (s : List ℕ) → NoSeries before → (is_first s ≡ false) ⊎ (has_no_size s ≡ true) → ((is_first s ≡ true) × (has_no_size s ≡ false)) ⊎ Continues before s → ⊥
+not_begun : (before : List (List ℕ)) (s : List ℕ) → NoSeries before → (is_first s ≡ false) ⊎ (has_no_size s ≡ true)
+    → ((is_first s ≡ true) × (has_no_size s ≡ false)) ⊎ Continues before s → ⊥
 not_begun before s n h start =
     elim start [
       | inl first ↦
@@ -121,7 +130,8 @@ idle_nothing before s n h =
 
 -- what is left out of an open series leaves it as it is
 
-pub left_out_joining : (before : List (List ℕ)) (s last octets : List ℕ) (j : IsJoining before last octets) → is_left_out j.series s ≡ true → IsJoining (s ∷ before) last octets
+pub left_out_joining : (before : List (List ℕ)) (s last octets : List ℕ) (j : IsJoining before last octets) → is_left_out j.series s ≡ true
+    → IsJoining (s ∷ before) last octets
 left_out_joining before s last octets j out =
     let o : IsOpen before j.series = j.opened in
     let out' : is_left_out (kept o.recent) s ≡ true =
@@ -148,11 +158,13 @@ repeat_left_out (last ∷ earlier) s h n e =
     or_right (has_no_size s) (not (is_first s) && bytes_eq s last)
     (and_from (not (is_first s)) (bytes_eq s last) (not_from_false (is_first s) n) ((bytes_eq-Decides s last).1 e))
 
-pub repeat_joining : (before : List (List ℕ)) (s last octets : List ℕ) → IsJoining before last octets → is_first s ≡ false → s ≡ last → IsJoining (s ∷ before) last octets
+pub repeat_joining : (before : List (List ℕ)) (s last octets : List ℕ) → IsJoining before last octets → is_first s ≡ false → s ≡ last
+    → IsJoining (s ∷ before) last octets
 repeat_joining before s last octets j n e =
     left_out_joining before s last octets j (repeat_left_out j.series s j.opened.in_series n (e ∙ j.last_is))
 
-pub unsized_joining : (before : List (List ℕ)) (s last octets : List ℕ) → IsJoining before last octets → has_no_size s ≡ true → IsJoining (s ∷ before) last octets
+pub unsized_joining : (before : List (List ℕ)) (s last octets : List ℕ) → IsJoining before last octets → has_no_size s ≡ true
+    → IsJoining (s ∷ before) last octets
 unsized_joining before s last octets j h =
     left_out_joining before s last octets j (or_left (has_no_size s) (repeats j.series s) h)
 
@@ -166,7 +178,8 @@ fresh_stays (last ∷ earlier) s h z n =
 
 -- a series ends without a fragment
 
-pub drops_series : (before : List (List ℕ)) (s last octets : List ℕ) → IsJoining before last octets → has_no_size s ≡ false → is_first s ≡ false → (s ≡ last → ⊥) → (number s ≡ (number last + 1) % 64 → 2048 < length (octets ++ carried s)) → IsDropped (s ∷ before)
+pub drops_series : (before : List (List ℕ)) (s last octets : List ℕ) → IsJoining before last octets → has_no_size s ≡ false → is_first s ≡ false
+    → (s ≡ last → ⊥) → (number s ≡ (number last + 1) % 64 → 2048 < length (octets ++ carried s)) → IsDropped (s ∷ before)
 drops_series before s last octets j z n fresh unfit =
     record {
       segment = s;
@@ -205,7 +218,8 @@ one_fits s z =
     ltb-false 250 (length s) (or_parts (nat_lt (length s) 2) (nat_lt 250 (length s)) z).1 in
     omega (arith, length-drop 1 s)
 
-pub accepts_first : (before : List (List ℕ)) (s octets : List ℕ) → is_first s ≡ true → has_no_size s ≡ false → octets ≡ carried s → Accepted before s octets
+pub accepts_first : (before : List (List ℕ)) (s octets : List ℕ) → is_first s ≡ true → has_no_size s ≡ false → octets ≡ carried s
+    → Accepted before s octets
 accepts_first before s octets h z e =
     record {
       recent = [];
@@ -221,7 +235,9 @@ follows_series : (series : List (List ℕ)) (s : List ℕ) → IsSeries series �
 follows_series [] s h f = absurd h
 follows_series (last ∷ earlier) s h f = (f, h)
 
-pub accepts_next : (before : List (List ℕ)) (s last before_octets octets : List ℕ) → IsJoining before last before_octets → has_no_size s ≡ false → is_first s ≡ false → (s ≡ last → ⊥) → number s ≡ (number last + 1) % 64 → octets ≡ before_octets ++ carried s → length octets ≤ 2048 → Accepted before s octets
+pub accepts_next : (before : List (List ℕ)) (s last before_octets octets : List ℕ) → IsJoining before last before_octets → has_no_size s ≡ false
+    → is_first s ≡ false → (s ≡ last → ⊥) → number s ≡ (number last + 1) % 64 → octets ≡ before_octets ++ carried s → length octets ≤ 2048
+    → Accepted before s octets
 accepts_next before s last before_octets octets j z n fresh turn e fits =
     let o : IsOpen before j.series = j.opened in
     let back : j.series ≡ kept o.recent = sym o.kept_are in
@@ -253,7 +269,8 @@ accepted_whole before s octets a h =
       fits = a.fits;
     }
 
-pub accepted_joining : (before : List (List ℕ)) (s octets last : List ℕ) → Accepted before s octets → is_last s ≡ false → last ≡ s → IsJoining (s ∷ before) last octets
+pub accepted_joining : (before : List (List ℕ)) (s octets last : List ℕ) → Accepted before s octets → is_last s ≡ false → last ≡ s
+    → IsJoining (s ∷ before) last octets
 accepted_joining before s octets last a h e =
     let split : before ≡ a.recent ++ a.older = a.split in
     record {
@@ -271,6 +288,77 @@ accepted_joining before s octets last a h e =
       octets_are = a.octets_are;
     }
 
+-- the newest pushes are a series of these data, and the segment is its next; or there are none, and it is a first one
+pub record IsNext (before : List (List ℕ)) (s so_far : List ℕ) : Type 0 where
+  pub accepted : (octets : List ℕ) → octets ≡ so_far ++ carried s → length octets ≤ 2048 → Accepted before s octets
+  pub dropped : 2048 < length (so_far ++ carried s) → IsDropped (s ∷ before)
+
+pub next_first : (before : List (List ℕ)) (s : List ℕ) → is_first s ≡ true → has_no_size s ≡ false → IsNext before s []
+next_first before s h z =
+    record {
+      accepted = λ octets e fits. accepts_first before s octets h z e;
+      dropped = λ long. absurd (omega (arith, long, one_fits s z));
+    }
+
+pub next_after : (before : List (List ℕ)) (s last so_far : List ℕ) → IsJoining before last so_far → has_no_size s ≡ false → is_first s ≡ false
+    → (s ≡ last → ⊥) → number s ≡ (number last + 1) % 64 → IsNext before s so_far
+next_after before s last so_far j z n fresh turn =
+    record {
+      accepted = λ octets e fits. accepts_next before s last so_far octets j z n fresh turn e fits;
+      dropped = λ long. drops_series before s last so_far j z n fresh (λ _. long);
+    }
+
+-- how the assembler is after the push, and what it answers
+pub record IsAfter (before : List (List ℕ)) (s : List ℕ) (new : Assembly) (answer : Pushed) : Type 0 where
+  pub stands : Stands (s ∷ before) new
+  pub answers : Answers (s ∷ before) answer
+
+pub settled : (before : List (List ℕ)) (s so_far octets last : List ℕ) (answer : Pushed) → IsNext before s so_far → GoesOn so_far s octets answer
+    → last ≡ s → IsAfter before s (assembly (stage_after answer) last octets) answer
+settled before s so_far octets last answer next (Passes is long) e =
+    let d : IsDropped (s ∷ before) = next.dropped long in
+    subst (λ (r : Pushed). IsAfter before s (assembly (stage_after r) last octets) r) (sym is)
+    record { stands = idle_stands (s ∷ before) (dropped_idle (s ∷ before) d); answers = answers_dropped (s ∷ before) d }
+settled before s so_far octets last answer next (Completes is grown fits ended) e =
+    let w : IsWhole (s ∷ before) octets = accepted_whole before s octets (next.accepted octets grown fits) ended in
+    subst (λ (r : Pushed). IsAfter before s (assembly (stage_after r) last octets) r) (sym is)
+    record { stands = complete_stands (s ∷ before) octets w; answers = answers_whole (s ∷ before) octets w }
+settled before s so_far octets last answer next (Waits is grown fits unended) e =
+    let j : IsJoining (s ∷ before) last octets =
+    accepted_joining before s octets last (next.accepted octets grown fits) unended e in
+    subst (λ (r : Pushed). IsAfter before s (assembly (stage_after r) last octets) r) (sym is)
+    record {
+      stands = at_joining (s ∷ before) last octets j;
+      answers = answers_nothing (s ∷ before) (joining_nothing (s ∷ before) last octets j);
+    }
+
+-- the data that the segment goes on with: none where it is a first one, and else those of the series
+abbrev pub GoesOnWith : (s octets so_far : List ℕ) → Type 0
+GoesOnWith s octets so_far = ((is_first s ≡ true) × (so_far ≡ [])) ⊎ ((is_first s ≡ false) × (so_far ≡ octets))
+
+same_joining : (u : Stage) (last octets last' octets' : List ℕ) → assembly u last octets ≡ Joining last' octets' → (last ≡ last') × (octets ≡ octets')
+same_joining stage.Idle last octets last' octets' e = absurd (cc)
+same_joining stage.Joining last octets last' octets' e = (cc, cc)
+same_joining stage.Complete last octets last' octets' e = absurd (cc)
+
+next_of : (u : Stage) (last octets : List ℕ) (a : Assembly) (s so_far : List ℕ) (before : List (List ℕ)) → assembly u last octets ≡ a
+    → has_no_size s ≡ false → MayGoOn a s → GoesOnWith s octets so_far → Stands before a → IsNext before s so_far
+unfolding Stands
+next_of u last octets a s so_far before is z may (inl first) h =
+    subst (λ (l : List ℕ). IsNext before s l) (sym first.1) (next_first before s first.0 z)
+next_of u last octets a s so_far before is z (First first) (inr later) h = absurd (both_ways (is_first s) later.0 first)
+next_of u last octets a s so_far before is z (Next last' octets' joining no_first fresh turn) (inr later) h =
+    let same : (last ≡ last') × (octets ≡ octets') = same_joining u last octets last' octets' (is ∙ joining) in
+    let j : IsJoining before last' octets' = subst (λ (x : Assembly). Stands before x) joining h in
+    subst (λ (l : List ℕ). IsNext before s l) (sym (later.1 ∙ same.1)) (next_after before s last' octets' j z no_first fresh turn)
+
+-- a segment that goes on with what the fields say
+pub went_on : (u : Stage) (last octets : List ℕ) (a : Assembly) (s so_far octets' last' : List ℕ) (answer : Pushed) → assembly u last octets ≡ a
+    → has_no_size s ≡ false → MayGoOn a s → GoesOnWith s octets so_far → GoesOn so_far s octets' answer → last' ≡ s → (before : List (List ℕ))
+    → Stands before a → IsAfter before s (assembly (stage_after answer) last' octets') answer
+went_on u last octets a s so_far octets' last' answer is z may onto goes last_is before h =
+    settled before s so_far octets' last' answer (next_of u last octets a s so_far before is z may onto h) goes last_is
+
 -- what `fragment` gives
 
 pub shows_complete : (pushed : List (List ℕ)) (f : List ℕ) → Stands pushed (Complete f) → Shows pushed f
@@ -281,7 +369,8 @@ shows_complete pushed f w =
 pub shows_none : (pushed : List (List ℕ)) → ((f : List ℕ) → IsWhole pushed f → ⊥) → Shows pushed []
 shows_none pushed n = record { whole = λ f w. absurd (n f w); none = λ _. refl }
 
-pub unfinished_shows_none : (s : Stage) (last octets : List ℕ) (a : Assembly) (pushed : List (List ℕ)) → assembly s last octets ≡ a → (s ≡ stage.Idle) ⊎ (s ≡ stage.Joining) → Stands pushed a → Shows pushed []
+pub unfinished_shows_none : (s : Stage) (last octets : List ℕ) (a : Assembly) (pushed : List (List ℕ)) → assembly s last octets ≡ a
+    → (s ≡ stage.Idle) ⊎ (s ≡ stage.Joining) → Stands pushed a → Shows pushed []
 unfolding Stands
 unfinished_shows_none stage.Idle last octets a pushed e k h =
     let i : IsIdle pushed = subst (λ (x : Assembly). Stands pushed x) (sym e) h in shows_none pushed i.no_whole
@@ -302,3 +391,7 @@ nothing_pushed =
     nothing_open : (t recent older : List (List ℕ)) → [] ≡ recent ++ older → kept recent ≡ t → IsSeries t → ⊥
     nothing_open t [] older e k h = subst (λ (l : List (List ℕ)). IsSeries l) (sym k) h
     nothing_open t (x ∷ recent) older e k h = cc
+
+-- a new assembler has a history
+pub nothing_made_it : HasHistory Idle
+nothing_made_it = ([], idle_stands [] nothing_pushed)

@@ -170,7 +170,8 @@ pub record Continues (before : List (List ℕ)) (s : List ℕ) : Type 0 where
   pub fits : length (joined (s ∷ series)) ≤ 2048
 
 -- the newest segment of a series begins it or goes on with it
-pub begins_or_goes_on : (before r older : List (List ℕ)) (s : List ℕ) → before ≡ r ++ older → is_left_out (kept r) s ≡ false → IsSeries (s ∷ kept r) → length (joined (s ∷ kept r)) ≤ 2048 → ((is_first s ≡ true) × (has_no_size s ≡ false)) ⊎ Continues before s
+pub begins_or_goes_on : (before r older : List (List ℕ)) (s : List ℕ) → before ≡ r ++ older → is_left_out (kept r) s ≡ false → IsSeries (s ∷ kept r)
+    → length (joined (s ∷ kept r)) ≤ 2048 → ((is_first s ≡ true) × (has_no_size s ≡ false)) ⊎ Continues before s
 begins_or_goes_on before r older s e stays h fits =
     elim (series_front s (kept r) h) [
       | inl front ↦ inl (front.1, stays_sized (kept r) s stays)
@@ -186,7 +187,8 @@ begins_or_goes_on before r older s e stays h fits =
     ]
 
 -- where a push completes a fragment
-pub whole_back : (before : List (List ℕ)) (s f : List ℕ) → IsWhole (s ∷ before) f → ((is_first s ≡ true) × (has_no_size s ≡ false)) ⊎ Continues before s
+pub whole_back : (before : List (List ℕ)) (s f : List ℕ) → IsWhole (s ∷ before) f
+    → ((is_first s ≡ true) × (has_no_size s ≡ false)) ⊎ Continues before s
 whole_back before s f w =
     let split : s ∷ before ≡ w.segment ∷ (w.recent ++ w.older) = w.split in
     let heads : w.segment ≡ s = cc in
@@ -197,7 +199,8 @@ whole_back before s f w =
     (subst (λ (x : List ℕ). IsSeries (x ∷ kept w.recent)) heads w.in_series)
     (subst (λ (x : List ℕ). length (joined (x ∷ kept w.recent)) ≤ 2048) heads fits)
 
-open_back_at : (before t r older : List (List ℕ)) (s : List ℕ) → s ∷ before ≡ r ++ older → kept r ≡ t → IsSeries t → is_last (newest t) ≡ false → length (joined t) ≤ 2048 → ((is_left_out t s ≡ true) × IsOpen before t) ⊎ (((is_first s ≡ true) × (has_no_size s ≡ false)) ⊎ Continues before s)
+open_back_at : (before t r older : List (List ℕ)) (s : List ℕ) → s ∷ before ≡ r ++ older → kept r ≡ t → IsSeries t → is_last (newest t) ≡ false
+    → length (joined t) ≤ 2048 → ((is_left_out t s ≡ true) × IsOpen before t) ⊎ (((is_first s ≡ true) × (has_no_size s ≡ false)) ⊎ Continues before s)
 open_back_at before t [] older s e k h u f = absurd (subst (λ (l : List (List ℕ)). IsSeries l) (sym k) h)
 open_back_at before t (x ∷ r) older s e k h u f =
     let heads : x ≡ s = cc in
@@ -219,11 +222,13 @@ open_back_at before t (x ∷ r) older s e k h u f =
     ]
 
 -- where a series is open after a push
-pub open_back : (before t : List (List ℕ)) (s : List ℕ) → IsOpen (s ∷ before) t → ((is_left_out t s ≡ true) × IsOpen before t) ⊎ (((is_first s ≡ true) × (has_no_size s ≡ false)) ⊎ Continues before s)
+pub open_back : (before t : List (List ℕ)) (s : List ℕ) → IsOpen (s ∷ before) t
+    → ((is_left_out t s ≡ true) × IsOpen before t) ⊎ (((is_first s ≡ true) × (has_no_size s ≡ false)) ⊎ Continues before s)
 open_back before t s o = open_back_at before t o.recent o.older s o.split o.kept_are o.in_series o.unended o.fits
 
 -- a push that ends a series does not continue it
-dropped_not_continues : (before series : List (List ℕ)) (s : List ℕ) → IsOpen before series → (number s ≡ (number (newest series) + 1) % 64 → 2048 < length (joined (s ∷ series))) → Continues before s → ⊥
+dropped_not_continues : (before series : List (List ℕ)) (s : List ℕ) → IsOpen before series
+    → (number s ≡ (number (newest series) + 1) % 64 → 2048 < length (joined (s ∷ series))) → Continues before s → ⊥
 dropped_not_continues before series s o unfit c =
     let same : c.series ≡ series = one_open before c.series series c.opened o in
     let turn : number s ≡ (number (newest series) + 1) % 64 =

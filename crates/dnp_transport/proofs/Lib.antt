@@ -2,4 +2,5 @@ pub mod Calls
 pub mod Carried
 pub mod Exits
 pub mod Histories
-pub mod InOrder
+pub mod Steps
+pub mod Pushes

@@ -1,5 +1,5 @@
 -- How a fragment is cut into segments (IEEE Std 1815-2012, transport function).
-use Rattle.std.specs.Prelude.{ℕ, ◌+◌, ◌*◌, ◌/◌, ◌%◌, ◌==◌, if◌then◌else◌, List, ◌∷◌, length, take, drop, map}
+use Rattle.std.specs.Prelude.{ℕ, zero, suc, ◌+◌, ◌*◌, ◌/◌, ◌%◌, ◌==◌, if◌then◌else◌, List, [], ◌∷◌, length, take, drop, map}
 use Rattle.std.specs.List.{range_with_len}
 
 -- how many segments carry a fragment of n octets: each carries 249, and the last one the 1 to 249 that are left
@@ -18,3 +18,8 @@ cut fragment first k = cut_header (cut_count (length fragment)) first k ∷ take
 -- the segments of a fragment, in the order in which they are sent
 abbrev pub cuts : List ℕ → ℕ → List (List ℕ)
 cuts fragment first = map (cut fragment first) (range_with_len 0 (cut_count (length fragment)))
+
+-- the first k segments of a fragment, newest first
+abbrev pub begun_cuts : List ℕ → ℕ → ℕ → List (List ℕ)
+begun_cuts fragment first zero = []
+begun_cuts fragment first (suc k) = cut fragment first k ∷ begun_cuts fragment first k

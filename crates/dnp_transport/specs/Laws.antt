@@ -1,7 +1,8 @@
--- What follows from the definitions for whole fragments.
-use Rattle.std.specs.Prelude.{◌≡◌, ℕ, ◌<◌, ◌≤◌, List, ◌++◌, length, take, reverse}
-use Rattle.dnp_transport.specs.Cuts.{cut_count, cuts}
-use Rattle.dnp_transport.specs.Series.{IsWhole, IsDropped, IsNothing}
+-- What follows from the definitions, for segments and for whole fragments.
+use Rattle.std.specs.Prelude.{◌≡◌, ℕ, ◌+◌, ◌*◌, ◌%◌, ◌<◌, ◌≤◌, ◌↔◌, true, false, IsTrue, List, [], ◌∷◌, ◌++◌, length, take, drop, reverse}
+use Rattle.dnp_transport.specs.Segments.{is_first, is_last, number, carried, has_no_size}
+use Rattle.dnp_transport.specs.Cuts.{cut_count, cut, cuts}
+use Rattle.dnp_transport.specs.Series.{is_left_out, newest, joined, Follows, IsOpen, IsWhole, IsDropped, IsNothing}
 
 -- the pushed strings, newest first, once these were pushed in order after the ones before
 abbrev pub pushed_after : List (List ℕ) → List (List ℕ) → List (List ℕ)
@@ -24,3 +25,26 @@ OneFragment = (pushed : List (List ℕ)) (f g : List ℕ) → IsWhole pushed f �
 -- no push both completes a fragment and ends a series without one
 abbrev pub WholeOrDropped : Type 0
 WholeOrDropped = (pushed : List (List ℕ)) (f : List ℕ) → IsWhole pushed f → IsDropped pushed → ⊥
+
+-- what a fragment's segment k says: FIR exactly if it is the first, FIN exactly if it is the last, and a number that
+-- follows modulo 64; it carries the fragment's octets from 249 k on, at least one and at most 249
+pub record SaysItsPlace (fragment : List ℕ) (first k : ℕ) : Type 0 where
+  pub first_says : IsTrue (is_first (cut fragment first k)) ↔ (k ≡ 0)
+  pub last_says : IsTrue (is_last (cut fragment first k)) ↔ (k + 1 ≡ cut_count (length fragment))
+  pub number_is : number (cut fragment first k) ≡ (first + k) % 64
+  pub carries : carried (cut fragment first k) ≡ take 249 (drop (249 * k) fragment)
+  pub sized : k < cut_count (length fragment) → has_no_size (cut fragment first k) ≡ false
+
+-- a series that is open after a push was open before it, and the push is left out of it; or the push begins the series,
+-- or goes on with one that was open
+pub data OpenBy (before : List (List ℕ)) (segment : List ℕ) (series : List (List ℕ)) : Type 0 where
+  LeftOut : is_left_out series segment ≡ true → IsOpen before series → OpenBy before segment series
+  Begins : is_first segment ≡ true → is_last segment ≡ false → series ≡ segment ∷ [] → OpenBy before segment series
+  GoesOn : (earlier : List (List ℕ)) → IsOpen before earlier → Follows (newest earlier) segment → is_last segment ≡ false →
+      series ≡ segment ∷ earlier → OpenBy before segment series
+
+-- a fragment that a push completes is that of the one segment, or of a series that was open before the push
+pub data WholeBy (before : List (List ℕ)) (segment fragment : List ℕ) : Type 0 where
+  Alone : is_first segment ≡ true → is_last segment ≡ true → fragment ≡ carried segment → WholeBy before segment fragment
+  Ends : (earlier : List (List ℕ)) → IsOpen before earlier → Follows (newest earlier) segment → is_last segment ≡ true →
+      fragment ≡ joined (segment ∷ earlier) → WholeBy before segment fragment

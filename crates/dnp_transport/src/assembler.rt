@@ -1,6 +1,8 @@
 //! Joins segments to fragments.
-ghost use Rattle.std.specs.Prelude.{◌≡◌, ◌≤◌, ◌↔◌, IsTrue, ℕ, List, [], ◌∷◌, length};
+ghost use Rattle.std.specs.Prelude.{◌≡◌, ◌≤◌, ◌↔◌, IsTrue, ℕ, List, [], ◌∷◌, length, false};
 ghost use Rattle.dnp_transport.specs.Assembly.{Idle, Stands, Answers, Shows};
+ghost use Rattle.dnp_transport.specs.Segments.{has_no_size as no_size_of};
+ghost use Rattle.dnp_transport.specs.Stages.{MayGoOn, GoesOn, stage_after};
 
 use crate::header::{NUMBERS, has_no_size, is_first, is_last, number};
 use arrayvec::ArrayVec;
@@ -37,6 +39,17 @@ impl Stage {
     {
         matches!(self, Stage::Joining)
     }
+
+    // Where the answer to a segment that went on with a series leaves the assembler.
+    fn after(pushed: Pushed) -> Stage
+        ensures { result ≡ stage_after pushed }
+    {
+        match pushed {
+            Pushed::Nothing => Stage::Joining,
+            Pushed::Whole => Stage::Complete,
+            Pushed::Dropped => Stage::Idle,
+        }
+    }
 }
 
 /// Joins segments to fragments of 1 to 2,048 octets (IEEE Std 1815-2012, transport function).
@@ -60,9 +73,11 @@ impl Model for Assembler {
 
     ghost Value = { Assembly };
 
-    ghost use Rattle.dnp_transport.specs.Stages.{assembly};
+    ghost use Rattle.dnp_transport.specs.Stages.{assembly, HasHistory};
 
     ghost view = { λ a. assembly a.stage a.last.items a.octets.items };
+
+    ghost invariant = { λ a. HasHistory (assembly a.stage a.last.items a.octets.items) };
 }
 
 impl Assembler {
@@ -99,29 +114,36 @@ impl Assembler {
 
         // A first segment begins a series, also within another. Any other one goes on with a series or is nothing.
         if is_first(segment) {
-            self.octets.clear();
-        } else if !joining {
+            return self.go_on(segment);
+        }
+        if !joining {
             self.stage = Stage::Idle;
             return Pushed::Nothing;
-        } else if segment == self.last.as_slice() {
+        }
+        if segment == self.last.as_slice() {
             return Pushed::Nothing;
-        } else if number(segment) != (number(&self.last) + 1) % NUMBERS {
+        }
+        if number(segment) != (number(&self.last) + 1) % NUMBERS {
             self.stage = Stage::Idle;
             return Pushed::Dropped;
         }
+        self.go_on(segment)
+    }
 
-        // No room: the series would pass the longest fragment.
-        if self.octets.try_extend_from_slice(&segment[1..]).is_err() {
-            self.stage = Stage::Idle;
-            return Pushed::Dropped;
+    // Takes in a segment that begins a series or is the next of the one in progress.
+    fn go_on(&mut self, segment: &[u8]) -> Pushed
+        requires sized { no_size_of segment.now ≡ false }
+        requires goes_on { MayGoOn self.old segment.now }
+        ensures stands { (before : List (List ℕ)) → Stands before self.old → Stands (segment.now ∷ before) self.new }
+        ensures answers { (before : List (List ℕ)) → Stands before self.old → Answers (segment.now ∷ before) result }
+    {
+        if is_first(segment) {
+            self.octets.clear();
         }
-        if is_last(segment) {
-            self.stage = Stage::Complete;
-            return Pushed::Whole;
-        }
-        self.stage = Stage::Joining;
+        let pushed = join(&mut self.octets, segment);
+        self.stage = Stage::after(pushed);
         self.last = copied(segment);
-        Pushed::Nothing
+        pushed
     }
 
     /// The fragment that the last push completed, until the next push, and else no octets.
@@ -146,6 +168,14 @@ impl Assembler {
         }
     }
 
+    /// Some strings, pushed one after the other, make an assembler what this one is: each assembler has a history. It
+    /// does nothing when it runs.
+    pub fn has_a_history(&self)
+        ensures { (pushed : List (List ℕ)) × Stands pushed self.now }
+    {
+        let _stage = &self.stage;
+    }
+
     /// Forgets all that was pushed.
     pub fn reset(&mut self)
         ensures empty { self.new ≡ Idle }
@@ -161,6 +191,20 @@ impl Default for Assembler {
     fn default() -> Self {
         Self::new()
     }
+}
+
+// Puts the data of a segment behind those of the series so far, if they fit the longest fragment.
+fn join(octets: &mut ArrayVec<u8, 2048>, segment: &[u8]) -> Pushed
+    requires { no_size_of segment.now ≡ false }
+    ensures { GoesOn octets.old.items segment.now octets.new.items result }
+{
+    if octets.try_extend_from_slice(&segment[1..]).is_err() {
+        return Pushed::Dropped;
+    }
+    if is_last(segment) {
+        return Pushed::Whole;
+    }
+    Pushed::Nothing
 }
 
 // A vector of these octets, for which it has room.

@@ -1,5 +1,10 @@
 //! Laws of the definitions: a function here does nothing, and its contract is the theorem.
-ghost use Rattle.dnp_transport.specs.Laws.{CutsGiveWhole, OneFragment, WholeOrDropped};
+ghost use Rattle.std.specs.Prelude.{◌≡◌, ℕ, List, [], ◌∷◌, length};
+ghost use Rattle.dnp_transport.specs.Assembly.{Assembly, Idle, Stands, Answers, Shows};
+ghost use Rattle.dnp_transport.specs.Cuts.{cut_count, cuts, begun_cuts};
+ghost use Rattle.dnp_transport.specs.Laws.{CutsGiveWhole, OneFragment, WholeOrDropped, SaysItsPlace, OpenBy, WholeBy};
+ghost use Rattle.dnp_transport.specs.Series.{joined, IsOpen, IsWhole};
+ghost use Rattle.dnp_transport.specs.declared.assembler.Pushed.{Pushed as PushedValue};
 
 /// Whatever was pushed before: where the segments of a fragment of 1 to 2,048 octets are pushed in order, the last push
 /// completes that fragment, and each earlier one gives nothing.
@@ -15,4 +20,32 @@ pub fn one_fragment()
 /// No push both completes a fragment and drops a series.
 pub fn whole_or_dropped()
     ensures { WholeOrDropped }
+{}
+
+/// What the segments of a fragment are: how many, what each one's header says and which octets it carries, and that
+/// they join to the fragment.
+pub fn segments_say_their_places()
+    ensures places { (fragment : List ℕ) (first k : ℕ) → SaysItsPlace fragment first k }
+    ensures count { (fragment : List ℕ) (first : ℕ) → length (cuts fragment first) ≡ cut_count (length fragment) }
+    ensures joined { (fragment : List ℕ) (first : ℕ) → joined (begun_cuts fragment first (cut_count (length fragment))) ≡ fragment }
+{}
+
+/// What a push does to the series that was open before it. Before the first push none is, and the assembler is idle.
+pub fn a_push_goes_on()
+    ensures opens { (before series : List (List ℕ)) (segment : List ℕ) → IsOpen (segment ∷ before) series → OpenBy before segment series }
+    ensures completes { (before : List (List ℕ)) (segment fragment : List ℕ) → IsWhole (segment ∷ before) fragment → WholeBy before segment fragment }
+    ensures none_open { (series : List (List ℕ)) → IsOpen [] series → ⊥ }
+    ensures idle { Stands [] Idle }
+{}
+
+/// Some pushes make one assembler. Which of the lists of pushes that make the same assembler was pushed does not matter:
+/// the next push does the same after each, and the fragment that is shown is the same.
+pub fn history_does_not_matter()
+    ensures one { (pushed : List (List ℕ)) (a b : Assembly) → Stands pushed a → Stands pushed b → a ≡ b }
+    ensures answers { (a : Assembly) (before other : List (List ℕ)) (segment : List ℕ) (answer answer' : PushedValue) →
+        Stands before a → Stands other a → Answers (segment ∷ before) answer → Answers (segment ∷ other) answer' → answer ≡ answer' }
+    ensures next { (a : Assembly) (before other : List (List ℕ)) (segment : List ℕ) (new new' : Assembly) →
+        Stands before a → Stands other a → Stands (segment ∷ before) new → Stands (segment ∷ other) new' → new ≡ new' }
+    ensures shown { (a : Assembly) (pushed other : List (List ℕ)) (octets octets' : List ℕ) →
+        Stands pushed a → Stands other a → Shows pushed octets → Shows other octets' → octets ≡ octets' }
 {}

@@ -3,30 +3,33 @@ use Rattle.std.proofs.Common.{ℕ, List, []}
 use Rattle.dnp_line.specs.Ways.{new_way}
 use Rattle.dnp_line.specs.Flows.{Flows}
 use Rattle.dnp_line.proofs.Coming.{ComesTo-comes}
+use Rattle.dnp_line.proofs.Lower.{Lower}
 use Rattle.dnp_line.proofs.Flowing.{Goes, new_flows, opened_flows, goes, keeps_flowing}
 use Rattle.dnp_line.proofs.laws.line_law.Goals as goal
 
-pub returns-clause-opened : goal.returns-clause-opened
-returns-clause-opened c = new_flows
-
-pub returns-clause-reopened : goal.returns-clause-reopened
-returns-clause-reopened c = opened_flows
-
-pub returns-clause-kept : goal.returns-clause-kept
-returns-clause-kept c =
-    λ old new event rest fl h.
-    let g : Goes event old new rest = goes c.a_unit_spells_one_frame.ensures c.what_is_sent_is_for_the_peer.ensures old new event rest fl h in
-    (g.left, g.moves, g.flows)
-
-pub returns-clause-came : goal.returns-clause-came
-returns-clause-came c = λ way rest fl. fl.came
-
-pub returns-clause-runs : goal.returns-clause-runs
-returns-clause-runs c =
-    λ own peer m events way h.
-    let end : (left : List (List ℕ)) × Flows way left =
-    keeps_flowing c.a_unit_spells_one_frame.ensures c.what_is_sent_is_for_the_peer.ensures (new_way own peer m) way events [] (new_flows own peer m) h in
-    ComesTo-comes way.given way.sent end.0 end.1.came
-
-pub returns-clause-goes_on : goal.returns-clause-goes_on
-returns-clause-goes_on c = λ old new events rest fl h. keeps_flowing c.a_unit_spells_one_frame.ensures c.what_is_sent_is_for_the_peer.ensures old new events rest fl h
+pub returns : goal.returns
+returns c =
+    let low : Lower =
+    record {
+      one_frame = c.a_unit_spells_one_frame.ensures;
+      to_peer = c.what_is_sent_is_for_the_peer.ensures;
+      gives = c.cuts_give_whole.ensures;
+      places = c.segments_say_their_places.ensures.places;
+      joins = c.segments_say_their_places.ensures.joined;
+      opens = c.a_push_goes_on.ensures.opens;
+      completes = c.a_push_goes_on.ensures.completes;
+      none_open = c.a_push_goes_on.ensures.none_open;
+      idle = c.a_push_goes_on.ensures.idle;
+    } in
+    record {
+      opened = new_flows low;
+      reopened = opened_flows low;
+      kept = λ old new event rest fl h.
+          let g : Goes event old new rest = goes low old new event rest fl h in (g.left, g.moves, g.flows);
+      came = λ way rest fl. fl.came;
+      runs = λ own peer m events way h.
+          let end : (left : List (List ℕ)) × Flows way left =
+          keeps_flowing low (new_way own peer m) way events [] (new_flows low own peer m) h in
+          ComesTo-comes way.given way.sent end.0 end.1.came;
+      goes_on = λ old new events rest fl h. keeps_flowing low old new events rest fl h;
+    }

@@ -11,20 +11,20 @@ use Rattle.dnp_line.proofs.way.send.Goals as goal
 pub loop-k-preserved : goal.loop-k-preserved
 loop-k-preserved c =
     let unit_is : c.as_slice.result.now ≡ c.unit.result.items = c.as_slice.ensures.value in
-    sending_more c.args.line.now.state c.args.port.now c.args.fragment.now c.loop-k.k c.loop-k.line c.send.new.self
+    sending_more c.args.line.now c.args.sender.now c.args.fragment.now c.loop-k.k c.loop-k.line c.send.new.self
     c.as_slice.result.now
     (omega (arith, c.loop-k-test.true, c.segment_count-count.ensures))
     c.loop-k.invariant
     (subst
-    (λ (u : List ℕ). Spells u (data_frame c.args.port.now (cut c.args.fragment.now c.args.port.now.number c.loop-k.k)))
+    (λ (u : List ℕ). Spells u (data_frame c.args.sender.now (cut c.args.fragment.now c.args.sender.now.number c.loop-k.k)))
     (sym unit_is) c.unit.ensures.spells)
     c.send.ensures
 
-pub returns : goal.returns
-returns c =
+pub returns-clause-happens : goal.returns-clause-happens
+returns-clause-happens c =
     λ way e f audible.
     let fragment : List ℕ = c.args.fragment.now in
-    let port : PortState = c.args.port.now in
+    let port : PortState = c.args.sender.now in
     let units : List (List ℕ) = c.loop-k.invariant.units in
     let count : c.loop-k.k ≡ cut_count (length fragment) =
     omega (arith, c.loop-k-test.false, c.loop-k.auto.k-end, c.segment_count-count.ensures) in
@@ -49,3 +49,6 @@ returns c =
           ap (λ (l : LineState). after l c.sent.new.self) line_is
           ∙ ap (λ (p : PortState). after (all_sent_on units way.line) p) sender_is;
     }
+
+pub returns-clause-capacity : goal.returns-clause-capacity
+returns-clause-capacity c = c.loop-k.invariant.capacity

@@ -1,22 +1,13 @@
 -- How the last push left a series open, or completed a fragment.
-use Rattle.std.proofs.Common.{◌≡◌, ℕ, ◌≤◌, true, false, ◌⊎◌, inl, inr, List, [], ◌∷◌, ◌++◌, length, refl, sym, ap, ◌∙◌, subst, arith, length-append}
+use Rattle.std.proofs.Common.{◌≡◌, ℕ, ◌≤◌, true, false, inl, inr, List, [], ◌∷◌, ◌++◌, length, refl, sym, ap, ◌∙◌, subst, arith, length-append}
 use Rattle.std.proofs.lemmas.Bool.{cases_Bool}
-use Rattle.dnp_transport.specs.Segments.{is_first, is_last, carried}
-use Rattle.dnp_transport.specs.Series.{is_left_out, kept, Follows, IsSeries, newest, joined, IsOpen, IsWhole}
-use Rattle.dnp_transport.proofs.Histories.{kept_left_out, kept_stays}
+use Rattle.dnp_transport.specs.Segments.{is_last, carried}
+use Rattle.dnp_transport.specs.Series.{is_left_out, kept, IsSeries, newest, joined, IsOpen, IsWhole}
+use Rattle.dnp_transport.specs.Laws.{OpenBy, LeftOut, Begins, GoesOn, WholeBy, Alone, Ends}
+use Rattle.dnp_transport.proofs.Histories.{kept_left_out, kept_stays, series_front}
 
--- a series goes on from a series, or begins
-pub series_front : (s : List ℕ) (k : List (List ℕ)) → IsSeries (s ∷ k) → ((k ≡ []) × (is_first s ≡ true)) ⊎ (Follows (newest k) s × IsSeries k)
-series_front s [] h = inl (refl, h)
-series_front s (l ∷ k) h = inr (h.0, h.1)
-
--- the open series was open before the push, which was left out; or the push begins it, or goes on with one that was open
-pub data OpenBy (before : List (List ℕ)) (segment : List ℕ) (series : List (List ℕ)) : Type 0 where
-  LeftOut : is_left_out series segment ≡ true → IsOpen before series → OpenBy before segment series
-  Begins : is_first segment ≡ true → is_last segment ≡ false → series ≡ segment ∷ [] → OpenBy before segment series
-  GoesOn : (earlier : List (List ℕ)) → IsOpen before earlier → Follows (newest earlier) segment → is_last segment ≡ false → series ≡ segment ∷ earlier → OpenBy before segment series
-
-open_by_at : (before t r older : List (List ℕ)) (s : List ℕ) → s ∷ before ≡ r ++ older → kept r ≡ t → IsSeries t → is_last (newest t) ≡ false → length (joined t) ≤ 2048 → OpenBy before s t
+open_by_at : (before t r older : List (List ℕ)) (s : List ℕ) → s ∷ before ≡ r ++ older → kept r ≡ t → IsSeries t → is_last (newest t) ≡ false
+    → length (joined t) ≤ 2048 → OpenBy before s t
 open_by_at before t [] older s e k h u f = absurd (subst (λ (l : List (List ℕ)). IsSeries l) (sym k) h)
 open_by_at before t (x ∷ r) older s e k h u f =
     let heads : x ≡ s = cc in
@@ -45,12 +36,8 @@ open_by_at before t (x ∷ r) older s e k h u f =
 pub open_by : (before t : List (List ℕ)) (s : List ℕ) → IsOpen (s ∷ before) t → OpenBy before s t
 open_by before t s o = open_by_at before t o.recent o.older s o.split o.kept_are o.in_series o.unended o.fits
 
--- the fragment is that of the one segment, or ends a series that was open before the push
-pub data WholeBy (before : List (List ℕ)) (segment fragment : List ℕ) : Type 0 where
-  Alone : is_first segment ≡ true → is_last segment ≡ true → fragment ≡ carried segment → WholeBy before segment fragment
-  Ends : (earlier : List (List ℕ)) → IsOpen before earlier → Follows (newest earlier) segment → is_last segment ≡ true → fragment ≡ joined (segment ∷ earlier) → WholeBy before segment fragment
-
-whole_by_at : (before r older : List (List ℕ)) (s f : List ℕ) → before ≡ r ++ older → IsSeries (s ∷ kept r) → is_last s ≡ true → joined (s ∷ kept r) ≡ f → length f ≤ 2048 → WholeBy before s f
+whole_by_at : (before r older : List (List ℕ)) (s f : List ℕ) → before ≡ r ++ older → IsSeries (s ∷ kept r) → is_last s ≡ true
+    → joined (s ∷ kept r) ≡ f → length f ≤ 2048 → WholeBy before s f
 whole_by_at before r older s f e h u j fits =
     elim (series_front s (kept r) h) [
       | inl front ↦ Alone front.1 u (sym j ∙ ap (λ (l : List (List ℕ)). joined l ++ carried s) front.0)
