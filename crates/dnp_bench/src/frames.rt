@@ -3,7 +3,7 @@
 ghost use Rattle.dnp_linkframe.specs.CheckWord.{IsCheckWord};
 
 use arrayvec::ArrayVec;
-use dnp_linkframe::{Frame, FrameReader, check_word, read_frame, write_frame};
+use dnp_linkframe::{Frame, FrameReader, MAX_FRAME, check_word, read_frame, write_frame_into};
 use std::alloc::Global;
 
 /// The check word of the octets.
@@ -35,11 +35,12 @@ pub extern "C" fn dnp_bench_write_frames(user: &[u8], count: u64) -> u64 {
         user: ArrayVec::new(),
     };
     let _ = frame.user.try_extend_from_slice(user);
+    let mut unit: ArrayVec<u8, MAX_FRAME> = ArrayVec::new();
     let mut sum = 0u64;
     let mut pick = 0usize;
     for turn in 0..count {
         frame.control = (turn & 0xff) as u8;
-        let unit = write_frame(&frame);
+        write_frame_into(&frame, &mut unit);
         let picked = unit.as_slice().get(pick).copied();
         sum = sum.wrapping_add(u64::from(picked.unwrap_or(0)));
         pick = if picked.is_some() {

@@ -20,4 +20,4 @@ pub use check::check_word;
 pub use frame::{Frame, FrameFault, MAX_FRAME, MAX_USER};
 pub use reader::FrameReader;
 pub use reading::read_frame;
-pub use writing::write_frame;
+pub use writing::{write_frame, write_frame_into};

@@ -88,6 +88,9 @@ fn read_on(
     let first = piece.len().min(MAX_FRAME);
     waiting.try_extend_from_slice(&piece[..first]).unwrap();
     let done = take_frames(waiting, out)?;
+    if done == 0 {
+        return Ok(());
+    }
     // Else fewer than 292 octets wait behind those that are done with, so the whole piece stands here.
     // Where octets are moved fewer than ten waited before the piece: a longer beginning of a frame goes
     // whole or not at all. So each octet is moved ten times at most.

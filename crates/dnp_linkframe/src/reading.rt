@@ -1,4 +1,4 @@
-ghost use Rattle.std.specs.Prelude.{◌≡◌, ℕ, ◌+◌, ◌*◌, ◌≤◌, ◌<◌, List, [], ◌++◌, length, IfOk, IfErr, IsTrue, ◌↔◌, Ok, Err};
+ghost use Rattle.std.specs.Prelude.{◌≡◌, ℕ, ◌+◌, ◌*◌, ◌≤◌, ◌<◌, List, [], ◌++◌, length, OnOk, IfOk, IfErr, IsTrue, ◌↔◌, Ok, Err};
 ghost use Rattle.dnp_linkframe.specs.Frames.{Spells, AreChecked, IsChecked, IsFirstFault, IsFirstUnchecked, blocks, block_count};
 ghost use Rattle.dnp_linkframe.specs.declared.frame.Frame.{Frame as FrameValue};
 ghost use Rattle.dnp_linkframe.specs.declared.frame.FrameFault.{FrameFault as FaultValue};
@@ -20,16 +20,16 @@ fn is_checked(octets: &[u8]) -> bool
     }
 }
 
-/// The user data of the blocks, each with its check word behind it, that take `size` octets without
-/// them; or the number of the first block whose check word is wrong.
+/// Appends the user data of the blocks, each with its check word behind it, that take `size` octets
+/// without them; or gives the number of the first block whose check word is wrong.
 #[inline(always)]
-fn read_blocks(octets: &[u8], size: usize) -> Result<ArrayVec<u8, MAX_USER>, usize>
+fn read_blocks(octets: &[u8], size: usize, user: &mut ArrayVec<u8, MAX_USER>) -> Result<(), usize>
     requires fits { size ≤ 250 }
     requires sized { length octets.now ≡ size + 2 * block_count size }
-    ensures found { IfOk result (λ user. (length user.items ≡ size) × AreChecked (blocks user.items) octets.now) }
+    requires empty { user.old.items ≡ [] }
+    ensures found { OnOk result ((length user.new.items ≡ size) × AreChecked (blocks user.new.items) octets.now) }
     ensures fault { IfErr result (IsFirstUnchecked octets.now) }
 {
-    let mut user = ArrayVec::new();
     for (number, block) in octets.chunks(CHECKED_BLOCK).enumerate() {
         if !is_checked(block) {
             return Err(number);
@@ -37,7 +37,7 @@ fn read_blocks(octets: &[u8], size: usize) -> Result<ArrayVec<u8, MAX_USER>, usi
         user.try_extend_from_slice(&block[..block.len() - 2])
             .unwrap();
     }
-    Ok(user)
+    Ok(())
 }
 
 /// The frame that the unit spells, or the first fault of the order.
@@ -62,13 +62,14 @@ fn read(unit: &[u8]) -> Result<Frame, FrameFault>
     if unit.len() != CHECKED_HEADER + size + 2 * size.div_ceil(BLOCK) {
         return Err(FrameFault::Size);
     }
-    match read_blocks(&unit[CHECKED_HEADER..], size) {
-        Ok(user) => Ok(Frame {
-            control: unit[3],
-            dest: u16::from_le_bytes([unit[4], unit[5]]),
-            source: u16::from_le_bytes([unit[6], unit[7]]),
-            user,
-        }),
+    let mut frame = Frame {
+        control: unit[3],
+        dest: u16::from_le_bytes([unit[4], unit[5]]),
+        source: u16::from_le_bytes([unit[6], unit[7]]),
+        user: ArrayVec::new(),
+    };
+    match read_blocks(&unit[CHECKED_HEADER..], size, &mut frame.user) {
+        Ok(()) => Ok(frame),
         Err(number) => Err(FrameFault::BlockCheck(number)),
     }
 }

@@ -1,12 +1,12 @@
 //! Frames in a stream of octets that stands there as one list.
 
-ghost use Rattle.std.specs.Prelude.{◌≡◌, ℕ, ◌<◌, ◌≤◌, List, ◌++◌, length, drop, slice_index, IsTrue, ◌↔◌, OnOk, OnErr, IfOk, Ok, ◌+◌, vec_len, vec_capacity};
+ghost use Rattle.std.specs.Prelude.{◌≡◌, ◌⊎◌, ℕ, ◌<◌, ◌≤◌, List, [], ◌∷◌, ◌++◌, length, drop, slice_index, IsTrue, ◌↔◌, OnOk, OnErr, IfOk, Ok, ◌+◌, vec_len, vec_capacity};
 ghost use Rattle.dnp_linkframe.specs.Frames.{Spells};
 ghost use Rattle.dnp_linkframe.specs.Stream.{HasHeader, said_size, Gives};
 ghost use Rattle.dnp_linkframe.specs.declared.frame.Frame.{Frame as FrameValue};
 
 use crate::check::check_word;
-use crate::frame::{BLOCK, CHECKED_HEADER, Frame, FrameFault, LENGTH_OF_NONE};
+use crate::frame::{BLOCK, CHECKED_HEADER, Frame, LENGTH_OF_NONE};
 use crate::reading::read_frame;
 use std::alloc::AllocError;
 
@@ -33,13 +33,19 @@ fn size_of_frame(stream: &[u8]) -> usize
     CHECKED_HEADER + user + 2 * user.div_ceil(BLOCK)
 }
 
-/// `read_frame` as a call of its own: the loop over noise was measured slower with its body inside.
+/// Appends the frame that the unit spells, if it spells one. It is a call of its own: the room of a frame
+/// is cleared where a function begins that has one, and noise never comes here.
 #[inline(never)]
-fn read_apart(unit: &[u8]) -> Result<Frame, FrameFault>
-    ensures found { IfOk result (Spells unit.now) }
-    ensures only { (frame : FrameValue) → Spells unit.now frame → result ≡ Ok frame }
+fn push_frame(unit: &[u8], out: &mut Vec<Frame>) -> Result<(), AllocError>
+    ensures given { OnOk result (((frame : FrameValue) × Spells unit.now frame × (out.new.items ≡ out.old.items ++ frame ∷ [])) ⊎ (((frame : FrameValue) → Spells unit.now frame → ⊥) × (out.new.items ≡ out.old.items))) }
+    ensures full { OnErr result ((frame : FrameValue) × Spells unit.now frame × (vec_capacity out.old ≤ vec_len out.old)) }
+    ensures refused { OnErr result (out.new.items ≡ out.old.items) }
+    ensures capacity { vec_capacity out.old ≤ vec_capacity out.new }
 {
-    read_frame(unit)
+    if let Ok(frame) = read_frame(unit) {
+        out.push(frame)?;
+    }
+    Ok(())
 }
 
 /// Appends the frames that the stream gives, and answers how many of its octets are done with: the
@@ -67,9 +73,7 @@ pub(crate) fn take_frames(stream: &[u8], out: &mut Vec<Frame>) -> Result<usize, 
         if rest.len() < size {
             break;
         }
-        if let Ok(frame) = read_apart(&rest[..size]) {
-            out.push(frame)?;
-        }
+        push_frame(&rest[..size], out)?;
         done += size;
     }
     Ok(done)

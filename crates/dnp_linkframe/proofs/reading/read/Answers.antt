@@ -10,11 +10,11 @@ returns-in-Ok-clause-found c =
     let found = (c.in-Ok.ensures).found in
     let size = c.from-size.ensures in
     let long = c.if-unit-lt-LENGTH_OF_NONE.false in
-    let blocks_here : AreChecked (blocks c.in-Ok.user.items) (drop 10 c.args.unit.now) =
-    subst (λ (t : List ℕ). AreChecked (blocks c.in-Ok.user.items) t) (take_rest c.args.unit.now 10) found.1 in
+    let blocks_here : AreChecked (blocks c.read_blocks.new.user.items) (drop 10 c.args.unit.now) =
+    subst (λ (t : List ℕ). AreChecked (blocks c.read_blocks.new.user.items) t) (take_rest c.args.unit.now 10) found.1 in
     spells_from c.args.unit.now _ c.if-unit-lt-CHECKED_HEADER.false (λ i. let fits = c.type_inv.unit i in omega arith)
     c.if-unit-ne5.false c.if-unit-ne100.false (c.is_checked.ensures.0 c.if-not-is_checked.false)
-    (omega (arith, found.0)) refl c.from_le_bytes.ensures c.from_le_bytes-in-Ok.ensures blocks_here
+    (omega (arith, found.0)) refl c.from_le_bytes.ensures c.from_le_bytes-2.ensures blocks_here
 
 pub returns-in-Err-clause-fault : goal.returns-in-Err-clause-fault
 returns-in-Err-clause-fault c =
