@@ -3,7 +3,7 @@
 ghost use Rattle.dnp_linkframe.specs.CheckWord.{IsCheckWord};
 
 use arrayvec::ArrayVec;
-use dnp_linkframe::{Frame, FrameReader, MAX_FRAME, check_word, read_frame, write_frame_into};
+use dnp_linkframe::{Frame, FrameReader, MAX_FRAME, check_word, read_frame_into, write_frame_into};
 use std::alloc::Global;
 
 /// The check word of the octets.
@@ -18,8 +18,9 @@ pub extern "C" fn dnp_bench_check_word(octets: &[u8]) -> u16
 /// the octets are no frame.
 #[unsafe(no_mangle)]
 pub extern "C" fn dnp_bench_read_frame(unit: &[u8], pick: usize) -> u64 {
-    match read_frame(unit) {
-        Ok(frame) => number_of(&frame, pick),
+    let mut frame = Frame::blank();
+    match read_frame_into(unit, &mut frame) {
+        Ok(()) => number_of(&frame, pick),
         Err(_) => u64::MAX,
     }
 }
@@ -28,12 +29,9 @@ pub extern "C" fn dnp_bench_read_frame(unit: &[u8], pick: usize) -> u64 {
 /// control octets in turn, and adds up one octet of each, at an index that goes up from 0.
 #[unsafe(no_mangle)]
 pub extern "C" fn dnp_bench_write_frames(user: &[u8], count: u64) -> u64 {
-    let mut frame = Frame {
-        control: 0,
-        dest: 10,
-        source: 1,
-        user: ArrayVec::new(),
-    };
+    let mut frame = Frame::blank();
+    frame.dest = 10;
+    frame.source = 1;
     let _ = frame.user.try_extend_from_slice(user);
     let mut unit: ArrayVec<u8, MAX_FRAME> = ArrayVec::new();
     let mut sum = 0u64;

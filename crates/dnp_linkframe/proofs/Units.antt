@@ -68,12 +68,18 @@ spells_from unit f ten bytes five hundred good size control dest source more =
     } in
     (frame, (take 10 unit, drop 10 unit, subst (λ (t : List ℕ). HasCheck t (take 10 unit)) whole good.has, more, sym (take-append-drop 10 unit)))
 
-start_is : (unit : List ℕ) → 2 ≤ length unit → get_or unit 0 0 ≡ 5 → get_or unit 1 0 ≡ 100 → take 2 unit ≡ 5 ∷ 100 ∷ []
+pub start_is : (unit : List ℕ) → 2 ≤ length unit → get_or unit 0 0 ≡ 5 → get_or unit 1 0 ≡ 100 → take 2 unit ≡ 5 ∷ 100 ∷ []
 start_is unit two five hundred =
     let d0 : unit ≡ get_or unit 0 0 ∷ drop 1 unit = drop_more unit 0 0 (omega arith) in
     let d1 : drop 1 unit ≡ get_or unit 1 0 ∷ drop 2 unit = drop_more unit 1 0 (omega arith) in
     let cells : unit ≡ 5 ∷ 100 ∷ drop 2 unit = cc in
     ap (λ (t : List ℕ). take 2 t) cells
+
+pub first_octet : (unit : List ℕ) → take 2 unit ≡ 5 ∷ 100 ∷ [] → get_or unit 0 0 ≡ 5
+first_octet unit start = sym (get_or-take 2 unit 0 0 (omega arith)) ∙ ap (λ (t : List ℕ). get_or t 0 0) start
+
+pub second_octet : (unit : List ℕ) → take 2 unit ≡ 5 ∷ 100 ∷ [] → get_or unit 1 0 ≡ 100
+second_octet unit start = sym (get_or-take 2 unit 1 0 (omega arith)) ∙ ap (λ (t : List ℕ). get_or t 1 0) start
 
 -- a good header before bad blocks has no fault of its own
 header_fault : (unit : List ℕ) (n : ℕ) → 10 ≤ length unit → get_or unit 0 0 ≡ 5 → get_or unit 1 0 ≡ 100 → IsChecked (take 10 unit)
