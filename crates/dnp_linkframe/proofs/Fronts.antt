@@ -2,11 +2,11 @@
 use Rattle.std.proofs.Common.{◌≡◌, ℕ, ◌+◌, ◌*◌, ◌-◌, ◌<◌, ◌≤◌, List, [], ◌∷◌, ◌++◌, length, take, drop, get_or, refl, sym, ◌∙◌, ap, subst, arith, min, inl, inr}
 use Rattle.std.proofs.lemmas.Bool.{cases_lt, cases_order}
 use Rattle.std.specs.Int.{w16, to_le_bytes}
-use Rattle.std.proofs.lemmas.List.{length-append, length-take, take-take, take-append-le, get_or-take, get_or_append_left, get_or_past, drop_more}
+use Rattle.std.proofs.lemmas.List.{length-append, length-take, take-take, take-append-le, get_or-take, get_or_append_left, get_or_past, drop_more, take-append-drop}
 use Rattle.dnp_linkframe.specs.declared.frame.Frame.{Frame}
 use Rattle.dnp_linkframe.specs.CheckWord.{IsCheckWord}
 use Rattle.dnp_linkframe.specs.Frames.{IsChecked, Spells, frame_size, header}
-use Rattle.dnp_linkframe.specs.Stream.{Front, Waits, NoHeader, NoLength, Damaged, Whole, HasHeader, said_size, BeginsFrame, IsFront, used}
+use Rattle.dnp_linkframe.specs.Stream.{Front, Waits, NoHeader, NoLength, Damaged, Whole, HasHeader, said_size, BeginsFrame, IsFront, Awaits, used}
 use Rattle.dnp_linkframe.proofs.LastTwo.{checked_from, checked_word}
 use Rattle.dnp_linkframe.proofs.Blocks.{length-spelled}
 use Rattle.dnp_linkframe.proofs.Units.{one_frame}
@@ -95,6 +95,35 @@ begins_more stream more b = record {
 
 said_more : (stream more : List ℕ) → HasHeader stream → said_size (stream ++ more) ≡ said_size stream
 said_more stream more h = ap (λ (n : ℕ). frame_size (n - 5)) (length_more stream more h)
+
+-- the octets of the frame alone begin it too
+pub begins_less : (stream : List ℕ) (size : ℕ) → 10 ≤ size → size ≤ length stream → BeginsFrame stream → BeginsFrame (take size stream)
+begins_less stream size ten there b =
+    let whole : take size stream ++ drop size stream ≡ stream = take-append-drop size stream in
+    let length_octet : get_or (take size stream) 2 0 ≡ get_or stream 2 0 = get_or-take size stream 2 0 (omega arith) in
+    record {
+      header =
+          header_less (take size stream) (drop size stream) (omega (arith, length-take size stream))
+          (subst (λ (t : List ℕ). HasHeader t) (sym whole) b.header);
+      long = let long : 5 ≤ get_or stream 2 0 = b.long in omega arith;
+    }
+
+pub said_less : (stream : List ℕ) (size : ℕ) → 10 ≤ size → said_size (take size stream) ≡ said_size stream
+said_less stream size ten = ap (λ (n : ℕ). frame_size (n - 5)) (get_or-take size stream 2 0 (omega arith))
+
+-- what waits is looked at again once there are as many octets as its LENGTH says
+pub awaits_header : (stream : List ℕ) → length stream < 10 → Awaits stream 10
+awaits_header stream few = record { fewer = few; most = omega arith; waits = λ more less ten. absurd (omega arith) }
+
+pub awaits_frame : (stream : List ℕ) → ((i : ℕ) → get_or stream i 0 < 256) → 10 ≤ length stream → IsFront stream Waits
+    → Awaits stream (said_size stream)
+awaits_frame stream bytes ten waits =
+    let begins : BeginsFrame stream = (waits ten).0 in
+    record {
+      fewer = (waits ten).1;
+      most = let octet : get_or stream 2 0 < 256 = bytes 2 in omega arith;
+      waits = λ (more : List ℕ) less enough. (begins_more stream more begins, omega (arith, said_more stream more begins.header));
+    }
 
 -- what is decided at the front stays so, whatever comes behind
 pub front_more : (stream more : List ℕ) (front : Front) → IsFront stream front → 0 < used front → IsFront (stream ++ more) front

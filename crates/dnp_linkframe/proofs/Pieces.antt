@@ -108,6 +108,10 @@ spellings (unit ∷ units) (frame ∷ frames) (s, more) =
       waits = later.waits;
     }
 
+-- a stream that only waits gives nothing
+pub gives_nothing : (stream rest : List ℕ) → rest ≡ stream → IsFront stream Waits → Gives stream [] rest
+gives_nothing stream rest is waits = record { decisions = 0; after = (refl, is); waits = subst (λ (t : List ℕ). IsFront t Waits) (sym is) waits }
+
 -- what has been taken from the stream: so many octets are done with, and their frames stand behind those before
 pub record Took (stream : List ℕ) (done : ℕ) (before out : List Frame) : Type 0 where
   pub within : done ≤ length stream

@@ -1,5 +1,5 @@
 -- Units of octets: one frame, or faults, and never both.
-use Rattle.std.proofs.Common.{◌≡◌, ℕ, zero, suc, ◌+◌, ◌*◌, ◌-◌, ◌<◌, ◌≤◌, List, [], ◌∷◌, ◌++◌, length, take, drop, get_or, refl, sym, ◌∙◌, ap, subst, arith, min, inl, inr, Result, Ok, Err, IfOk, IfErr}
+use Rattle.std.proofs.Common.{◌≡◌, ℕ, zero, suc, ◌+◌, ◌*◌, ◌-◌, ◌<◌, ◌≤◌, List, [], ◌∷◌, ◌++◌, length, take, drop, get_or, refl, sym, ◌∙◌, ap, subst, arith, min, inl, inr, Result, Ok, Err, IfOk, IfErr, is_err, true}
 use Rattle.std.proofs.lemmas.Bool.{cases_order}
 use Rattle.std.specs.Int.{w16, to_le_bytes, from_le_bytes}
 use Rattle.std.proofs.lemmas.List.{length-append, length-take, length-drop, take_at, drop_at, take-take, take-append-drop, drop-drop, drop_more, drop_all, get_or-take, get_or_append_left, nil_from_length}
@@ -209,6 +209,11 @@ no_fault unit f s Size fault = fault (length f.user.items) (length_octet unit f 
 no_fault unit f s (BlockCheck n) fault =
     fault.unchecked (block_checked (block_count (length f.user.items)) n f.user.items (drop 10 unit) (blocks_spelled unit f s)
     (omega arith) (omega arith) fault.stands)
+
+-- a unit with a bad block spells no frame
+pub bad_block : (unit : List ℕ) (r : Result Unit ℕ) → is_err r ≡ true → IfErr r (IsFirstUnchecked (drop 10 unit)) → (f : Frame) → Spells unit f → ⊥
+bad_block unit (Ok u) bad fault f s = cc
+bad_block unit (Err n) bad fault f s = no_fault unit f s (BlockCheck n) fault.here
 
 -- the fault at a place of the order
 fault_at : ℕ → FrameFault

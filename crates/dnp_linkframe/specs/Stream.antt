@@ -47,6 +47,12 @@ IsFront stream (Damaged size) =
     × ((frame : Frame) → Spells (take size stream) frame → ⊥)
 IsFront stream (Whole frame size) = (size ≤ length stream) × Spells (take size stream) frame
 
+-- too few octets stand there to tell what they are, and so it stays as long as they are fewer than needed
+pub record Awaits (stream : List ℕ) (needed : ℕ) : Type 0 where
+  pub fewer : length stream < needed
+  pub most : needed ≤ 292
+  pub waits : (more : List ℕ) → length (stream ++ more) < needed → IsFront (stream ++ more) Waits
+
 -- how many octets are done with: none while they wait, one where no header stands, the header alone where
 -- its LENGTH is too small, else the whole frame, good or damaged
 abbrev pub used : Front → ℕ

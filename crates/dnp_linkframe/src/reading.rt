@@ -23,7 +23,7 @@ fn is_checked(octets: &[u8]) -> bool
 
 /// Whether each block ends in its check word; if not, the number of the first that doesn't.
 #[inline(always)]
-fn check_blocks(octets: &[u8]) -> Result<(), usize>
+pub(crate) fn check_blocks(octets: &[u8]) -> Result<(), usize>
     ensures checked { OnOk result (EachChecked octets.now) }
     ensures fault { IfErr result (IsFirstUnchecked octets.now) }
 {

@@ -2,12 +2,12 @@
 
 ghost use Rattle.std.specs.Prelude.{◌≡◌, ◌⊎◌, ℕ, ◌<◌, ◌≤◌, List, [], ◌∷◌, ◌++◌, length, drop, slice_index, IsTrue, ◌↔◌, OnOk, OnErr, IfOk, Ok, ◌+◌, vec_len, vec_capacity};
 ghost use Rattle.dnp_linkframe.specs.Frames.{Spells};
-ghost use Rattle.dnp_linkframe.specs.Stream.{HasHeader, said_size, Gives};
+ghost use Rattle.dnp_linkframe.specs.Stream.{Waits, IsFront, Awaits, HasHeader, BeginsFrame, said_size, Gives};
 ghost use Rattle.dnp_linkframe.specs.declared.frame.Frame.{Frame as FrameValue};
 
 use crate::check::check_word;
 use crate::frame::{BLOCK, CHECKED_HEADER, Frame, LENGTH_OF_NONE};
-use crate::reading::read_frame;
+use crate::reading::{check_blocks, fill};
 use std::alloc::AllocError;
 
 /// Whether a header stands at the front: 05 64, and a check word that is right.
@@ -33,18 +33,37 @@ fn size_of_frame(stream: &[u8]) -> usize
     CHECKED_HEADER + user + 2 * user.div_ceil(BLOCK)
 }
 
-/// Appends the frame that the unit spells, if it spells one. It is a call of its own: the room of a frame
-/// is cleared where a function begins that has one, and noise never comes here.
+/// How many octets have to stand at the front before it is decided what they are, where those that stand
+/// there wait.
+#[inline]
+pub(crate) fn needed(waiting: &[u8]) -> usize
+    requires { IsFront waiting.now Waits }
+    ensures { Awaits waiting.now result }
+{
+    if waiting.len() < CHECKED_HEADER {
+        return CHECKED_HEADER;
+    }
+    size_of_frame(waiting)
+}
+
+/// Appends the frame of the unit, whose header is good and which has all the octets that its LENGTH says,
+/// unless a block's check word is wrong. It is a call of its own: the room of a frame is cleared where a
+/// function begins that has one, and noise never comes here.
 #[inline(never)]
 fn push_frame(unit: &[u8], out: &mut Vec<Frame>) -> Result<(), AllocError>
+    requires begins { BeginsFrame unit.now }
+    requires sized { length unit.now ≡ said_size unit.now }
     ensures given { OnOk result (((frame : FrameValue) × Spells unit.now frame × (out.new.items ≡ out.old.items ++ frame ∷ [])) ⊎ (((frame : FrameValue) → Spells unit.now frame → ⊥) × (out.new.items ≡ out.old.items))) }
     ensures full { OnErr result ((frame : FrameValue) × Spells unit.now frame × (vec_capacity out.old ≤ vec_len out.old)) }
     ensures refused { OnErr result (out.new.items ≡ out.old.items) }
     ensures capacity { vec_capacity out.old ≤ vec_capacity out.new }
 {
-    if let Ok(frame) = read_frame(unit) {
-        out.push(frame)?;
+    if check_blocks(&unit[CHECKED_HEADER..]).is_err() {
+        return Ok(());
     }
+    let mut frame = Frame::blank();
+    fill(unit, &mut frame);
+    out.push(frame)?;
     Ok(())
 }
 

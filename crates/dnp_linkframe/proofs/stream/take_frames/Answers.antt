@@ -1,9 +1,9 @@
 -- Each turn decides what stands at the front of the rest, and is done with its octets.
-use Rattle.std.proofs.Common.{ℕ, ◌+◌, ◌-◌, ◌<◌, ◌≤◌, ◌++◌, List, inl, inr, length, take, drop, refl, subst, sym, arith, vec_len, vec_capacity}
-use Rattle.std.proofs.lemmas.List.{take_rest, length-drop}
+use Rattle.std.proofs.Common.{◌≡◌, ℕ, ◌+◌, ◌-◌, ◌<◌, ◌≤◌, ◌++◌, List, inl, inr, length, take, drop, refl, subst, sym, arith, vec_len, vec_capacity}
+use Rattle.std.proofs.lemmas.List.{take_rest, length-take, length-drop}
 use Rattle.dnp_linkframe.specs.declared.frame.Frame.{Frame}
-use Rattle.dnp_linkframe.specs.Stream.{NoHeader, NoLength, Damaged, Whole, HasHeader, IsFront, Gives}
-use Rattle.dnp_linkframe.proofs.Fronts.{damaged_some, whole_some}
+use Rattle.dnp_linkframe.specs.Stream.{NoHeader, NoLength, Damaged, Whole, HasHeader, BeginsFrame, said_size, IsFront, Gives}
+use Rattle.dnp_linkframe.proofs.Fronts.{begins_less, said_less, damaged_some, whole_some}
 use Rattle.dnp_linkframe.proofs.Pieces.{Took, took_none, took_more, took_past, took_short}
 use Rattle.dnp_linkframe.proofs.Refused.{on_err}
 use Rattle.dnp_linkframe.proofs.stream.take_frames.Goals as goal
@@ -94,3 +94,16 @@ loop-done-preserved c =
             room = omega arith;
           }
     ]
+
+pub push_frame-requires : goal.push_frame-requires
+push_frame-requires c =
+    let size = c.size_of_frame-size.result in
+    let rest = take (length c.args.stream.now - c.loop-done.done) (drop c.loop-done.done c.args.stream.now) in
+    let said : size ≡ said_size rest = c.size_of_frame-size.ensures in
+    let there : size ≤ length rest = c.if-rest-size.false in
+    let begins : BeginsFrame rest =
+    record { header = c.has_header.ensures.0 c.if-not-has_header.false; long = c.if-rest-lt-LENGTH_OF_NONE.false } in
+    record {
+      begins = begins_less rest size (omega arith) there begins;
+      sized = omega (arith, length-take size rest, said, there, said_less rest size (omega arith));
+    }
