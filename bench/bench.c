@@ -255,6 +255,7 @@ static void fragment_rows(void) {
 
 int main(int argc, char **argv) {
     if (argc > 1 && !strcmp(argv[1], "--quick")) rounds = 2, scale = 10;
+    if (argc > 2 && !strcmp(argv[1], "--rounds")) rounds = atoi(argv[2]), scale = 20;
     plain_start();
     printf("%-34s %12s   proved beside plain C (above 1: faster than it)\n", "", "proved");
     printf("%-34s %12s   %10s %10s %10s\n", "", "", "bit by bit", "table", "16 tables");

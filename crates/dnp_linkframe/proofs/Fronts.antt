@@ -6,7 +6,7 @@ use Rattle.std.proofs.lemmas.List.{length-append, length-take, take-take, take-a
 use Rattle.dnp_linkframe.specs.declared.frame.Frame.{Frame}
 use Rattle.dnp_linkframe.specs.CheckWord.{IsCheckWord}
 use Rattle.dnp_linkframe.specs.Frames.{IsChecked, Spells, frame_size, header}
-use Rattle.dnp_linkframe.specs.Stream.{Front, Waits, NoHeader, NoLength, Damaged, Whole, HasHeader, said_size, BeginsFrame, IsFront, Awaits, used}
+use Rattle.dnp_linkframe.specs.Stream.{Front, Waits, NoHeader, NoLength, Damaged, Whole, HasHeader, said_size, BeginsFrame, IsFront, used}
 use Rattle.dnp_linkframe.proofs.LastTwo.{checked_from, checked_word}
 use Rattle.dnp_linkframe.proofs.Blocks.{length-spelled}
 use Rattle.dnp_linkframe.proofs.Units.{one_frame}
@@ -111,20 +111,6 @@ begins_less stream size ten there b =
 pub said_less : (stream : List ℕ) (size : ℕ) → 10 ≤ size → said_size (take size stream) ≡ said_size stream
 said_less stream size ten = ap (λ (n : ℕ). frame_size (n - 5)) (get_or-take size stream 2 0 (omega arith))
 
--- what waits is looked at again once there are as many octets as its LENGTH says
-pub awaits_header : (stream : List ℕ) → length stream < 10 → Awaits stream 10
-awaits_header stream few = record { fewer = few; most = omega arith; waits = λ more less ten. absurd (omega arith) }
-
-pub awaits_frame : (stream : List ℕ) → ((i : ℕ) → get_or stream i 0 < 256) → 10 ≤ length stream → IsFront stream Waits
-    → Awaits stream (said_size stream)
-awaits_frame stream bytes ten waits =
-    let begins : BeginsFrame stream = (waits ten).0 in
-    record {
-      fewer = (waits ten).1;
-      most = let octet : get_or stream 2 0 < 256 = bytes 2 in omega arith;
-      waits = λ (more : List ℕ) less enough. (begins_more stream more begins, omega (arith, said_more stream more begins.header));
-    }
-
 -- what is decided at the front stays so, whatever comes behind
 pub front_more : (stream more : List ℕ) (front : Front) → IsFront stream front → 0 < used front → IsFront (stream ++ more) front
 front_more stream more Waits here some = absurd (omega arith)
@@ -150,17 +136,6 @@ used_within stream NoHeader (ten, none) = omega arith
 used_within stream NoLength (h, short) = h.ten
 used_within stream (Damaged size) (begins, is, there, bad) = there
 used_within stream (Whole frame size) (there, s) = there
-
--- fewer octets than a frame can have wait
-pub waits_short : (stream : List ℕ) → ((i : ℕ) → get_or stream i 0 < 256) → IsFront stream Waits → length stream < 292
-waits_short stream bytes waits =
-    elim (cases_lt (length stream) 10) [
-      | inl short ↦ omega arith
-      | inr ten ↦
-          let less : length stream < said_size stream = (waits ten).1 in
-          let octet : get_or stream 2 0 < 256 = bytes 2 in
-          omega arith
-    ]
 
 -- a spelling begins with the frame's header
 header_spelled : (unit : List ℕ) (f : Frame) → Spells unit f → take 8 unit ≡ header f

@@ -157,10 +157,6 @@ took_past stream done before out front silent t here some =
     subst (λ (x : List Frame). Took stream (done + used front) before x) (ap (λ (x : List Frame). out ++ x) silent ∙ append-nil out)
     (took_more stream done before out front t here some)
 
-pub took_all : (stream : List ℕ) (done : ℕ) (before out : List Frame) (t : Took stream done before out) → IsFront (drop done stream) Waits
-    → Gives stream t.frames (drop done stream)
-took_all stream done before out t waits = record { decisions = t.decisions; after = t.after; waits = waits }
-
 drop_past : (held piece : List ℕ) (done : ℕ) → length held ≤ done → drop done (held ++ piece) ≡ drop (done - length held) piece
 drop_past held piece done past =
     let parts : done ≡ length held + (done - length held) = omega arith in

@@ -246,12 +246,6 @@ one_first_fault unit e d first other =
       ]
     ]
 
--- a result that is right where it is Ok and where it is Err is the only right one
-pub only_frame : (unit : List ℕ) (r : Result Frame FrameFault) → IfOk r (Spells unit) → IfErr r (IsFirstFault unit)
-    → (f : Frame) → Spells unit f → r ≡ Ok f
-only_frame unit (Ok g) found fault f s = ap Ok (one_frame unit g f found s)
-only_frame unit (Err e) found fault f s = absurd (no_fault unit f s e fault.0)
-
 pub only_fault : (unit : List ℕ) (r : Result Frame FrameFault) → IfOk r (Spells unit) → IfErr r (IsFirstFault unit)
     → (d : FrameFault) → IsFirstFault unit d → r ≡ Err d
 only_fault unit (Ok g) found fault d first = absurd (no_fault unit g found d first.0)

@@ -1,6 +1,7 @@
 -- What waits and the first octets of the piece give their frames, and then the rest of the piece gives its own.
-use Rattle.std.proofs.Common.{rules, ◌≡◌, ℕ, ◌<◌, ◌≤◌, List, [], ◌++◌, length, take, drop, ◌+◌, ◌-◌, arith, vec_len, vec_capacity, subst, sym, ap, ◌∙◌}
-use Rattle.std.proofs.lemmas.List.{take_rest, take_all, append_assoc, append-nil, length-append, length-take, length-drop, take-append-drop, drop-append-le, drop-drop}
+use Rattle.std.proofs.Common.{rules, ◌≡◌, ℕ, ◌<◌, ◌≤◌, List, [], ◌++◌, length, take, drop, min, ◌+◌, ◌-◌, arith, vec_len, vec_capacity, subst, sym, ap, ◌∙◌}
+use Rattle.std.proofs.lemmas.List.{take_rest, take_all, append_assoc, append-nil, length-append, length-take, length-drop}
+use Rattle.std.proofs.lemmas.List.{take-append-drop, drop-append-le, drop-drop}
 use Rattle.dnp_linkframe.specs.declared.frame.Frame.{Frame}
 use Rattle.dnp_linkframe.specs.Stream.{Gives}
 use Rattle.dnp_linkframe.proofs.Pieces.{gives_both, rest_gives, GoesOn}
@@ -12,6 +13,22 @@ looked_at : (octets piece all : List ℕ) (start first : ℕ) → start ≤ leng
     → take (length all - start) (drop start all) ≡ drop start octets ++ take first piece
 looked_at octets piece all start first begun is =
     take_rest all start ∙ ap (λ (t : List ℕ). drop start t) is ∙ drop-append-le start octets (take first piece) begun
+
+-- a longer piece is past what waited
+passed : (held piece : List ℕ) (first done : ℕ) → first ≡ min (length piece) 292 → 292 < length piece
+    → length (drop done (held ++ take first piece)) < 292 → length held ≤ done
+passed held piece first done is long fewer =
+    omega (
+      arith,
+      length-take first piece,
+      length-append held (take first piece),
+      length-drop done (held ++ take first piece),
+    )
+
+-- what is left of it
+rest_here : (held piece : List ℕ) (before done : ℕ) → before ≡ length held
+    → take (length piece - (done - before)) (drop (done - before) piece) ≡ drop (done - length held) piece
+rest_here held piece before done size = take_rest piece (done - before) ∙ ap (λ (n : ℕ). drop (done - n) piece) size
 
 pub returns-then-piece-le-MAX_FRAME-clause-given : goal.returns-then-piece-le-MAX_FRAME-clause-given
 returns-then-piece-le-MAX_FRAME-clause-given c =
@@ -59,13 +76,12 @@ returns-clause-given c =
     let fewer : length (drop done (held ++ take first piece)) < 292 =
     subst (λ (t : List ℕ). length (drop done t) < 292) looked c.in_ok-done.ensures.fewer in
     let past : length held ≤ done =
-    omega (arith, c.if-piece-le-MAX_FRAME.false, c.min-first.ensures, length-take first piece, length-append held (take first piece), length-drop done (held ++ take first piece)) in
+    passed held piece first done c.min-first.ensures c.if-piece-le-MAX_FRAME.false fewer in
     let p : Gives (held ++ take first piece) g.0 (drop done (held ++ take first piece)) =
     subst (λ (t : List ℕ). Gives t g.0 (drop done t)) looked g.2 in
     let waits : Gives rest h.0 c.try_extend_from_slice-2.new.self.items =
     subst (λ (t : List ℕ). Gives rest h.0 t) (sym (left ∙ take_rest rest again)) h.2 in
-    let here : rest ≡ drop (done - length held) piece =
-    take_rest piece (done - before) ∙ ap (λ (n : ℕ). drop (done - n) piece) size in
+    let here : rest ≡ drop (done - length held) piece = rest_here held piece before done size in
     let q : Gives (drop (done - length held) piece) h.0 c.try_extend_from_slice-2.new.self.items =
     subst (λ (t : List ℕ). Gives t h.0 c.try_extend_from_slice-2.new.self.items) here waits in (
       g.0 ++ h.0,
@@ -109,12 +125,12 @@ returns-in_err-done-2-clause-full c =
     let fewer : length (drop done (held ++ take first piece)) < 292 =
     subst (λ (t : List ℕ). length (drop done t) < 292) looked c.in_ok-done.ensures.fewer in
     let past : length held ≤ done =
-    omega (arith, c.if-piece-le-MAX_FRAME.false, c.min-first.ensures, length-take first piece, length-append held (take first piece), length-drop done (held ++ take first piece)) in
+    passed held piece first done c.min-first.ensures c.if-piece-le-MAX_FRAME.false fewer in
     let given = c.in_ok-done.ensures.given in
     let p : Gives (held ++ take first piece) given.0 (drop done (held ++ take first piece)) =
     subst (λ (t : List ℕ). Gives t given.0 (drop done t)) looked given.2 in
     let here : rest ++ [] ≡ drop (done - length held) piece =
-    append-nil rest ∙ take_rest piece (done - before) ∙ ap (λ (n : ℕ). drop (done - n) piece) size in
+    append-nil rest ∙ rest_here held piece before done size in
     on_err c.from_residual-in_err-done-2.result _ (λ (frames : List Frame) (left : List ℕ) (g : Gives (held ++ piece) frames left).
     let on : GoesOn (drop (done - length held) piece) left given.0 frames = rest_gives held piece left first done given.0 frames past within p g in
     let full : vec_capacity c.take_frames.new.out < vec_len c.take_frames.new.out + length on.later =

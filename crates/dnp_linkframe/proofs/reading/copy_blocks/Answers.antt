@@ -20,11 +20,13 @@ unwrap-requires c =
     let good : IsChecked c.in-Some.block.now =
     next_good c.args.octets.now c.loop-block.user.items c.loop-block.block-iterator.rest.now c.in-Some.block.now c.next.new.self.rest.now invariant.0
     c.requires.checked invariant.3 steps.1.2 steps.1.0 chunk in
-    let leaves : Leaves c.loop-block.user.items (take (length c.in-Some.block.now - 2) c.in-Some.block.now) c.in-Some.block.now c.next.new.self.rest.now invariant.0 =
+    let leaves : Leaves c.loop-block.user.items (take (length c.in-Some.block.now - 2) c.in-Some.block.now) c.in-Some.block.now
+    c.next.new.self.rest.now invariant.0 =
     leaves_now c.loop-block.user.items c.loop-block.block-iterator.rest.now c.in-Some.block.now c.next.new.self.rest.now invariant.0
     invariant.3.left steps.1.2 steps.1.0 chunk good in
     let here = leaves.left.here in
-    c.try_extend_from_slice.ensures.variant.1 (omega (arith, invariant.1, length-append c.loop-block.user.items (take (length c.in-Some.block.now - 2) c.in-Some.block.now)))
+    c.try_extend_from_slice.ensures.variant.1
+    (omega (arith, invariant.1, length-append c.loop-block.user.items (take (length c.in-Some.block.now - 2) c.in-Some.block.now)))
 
 pub loop-block-preserved : goal.loop-block-preserved
 loop-block-preserved c =
