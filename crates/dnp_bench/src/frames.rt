@@ -14,19 +14,9 @@ pub extern "C" fn dnp_bench_check_word(octets: &[u8]) -> u16
     check_word(octets)
 }
 
-/// Reads a link frame into a new one. Gives its fields and the user octet at `pick` in one number, and
-/// all ones where the octets are no frame.
-#[unsafe(no_mangle)]
-pub extern "C" fn dnp_bench_read_frame(unit: &[u8], pick: usize) -> u64 {
-    let mut frame = Frame::blank();
-    match read_frame_into(unit, &mut frame) {
-        Ok(()) => number_of(&frame, pick),
-        Err(_) => u64::MAX,
-    }
-}
-
 /// Reads the link frame of `size` octets that begins each run of `stride` octets into one frame that is
-/// kept, and adds up the numbers of what is read, with `pick` going up from 0.
+/// kept, and adds up the numbers of what is read, with `pick` going up from 0; all ones stand for octets
+/// that are no frame.
 #[unsafe(no_mangle)]
 pub extern "C" fn dnp_bench_read_frames(units: &[u8], stride: usize, size: usize) -> u64 {
     let mut frame = Frame::blank();
@@ -35,6 +25,28 @@ pub extern "C" fn dnp_bench_read_frames(units: &[u8], stride: usize, size: usize
         let number = match read_frame_into(&run[..size.min(run.len())], &mut frame) {
             Ok(()) => number_of(&frame, pick),
             Err(_) => u64::MAX,
+        };
+        sum = sum.wrapping_add(number);
+    }
+    sum
+}
+
+/// `read_frame_into` as a call of its own, of which the caller sees nothing.
+#[inline(never)]
+fn read_apart(unit: &[u8], frame: &mut Frame) -> bool {
+    read_frame_into(unit, frame).is_ok()
+}
+
+/// As `dnp_bench_read_frames`, with a call of its own for each frame.
+#[unsafe(no_mangle)]
+pub extern "C" fn dnp_bench_read_frames_apart(units: &[u8], stride: usize, size: usize) -> u64 {
+    let mut frame = Frame::blank();
+    let mut sum = 0u64;
+    for (pick, run) in units.chunks(stride.max(1)).enumerate() {
+        let number = if read_apart(&run[..size.min(run.len())], &mut frame) {
+            number_of(&frame, pick)
+        } else {
+            u64::MAX
         };
         sum = sum.wrapping_add(number);
     }

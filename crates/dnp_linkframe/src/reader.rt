@@ -103,7 +103,9 @@ fn make_room(octets: &mut ArrayVec<u8, ROOM>, start: usize, more: usize) -> usiz
     if octets.len() + more <= ROOM {
         return start;
     }
-    octets.drain(..start);
+    let waiting = octets.len() - start;
+    octets.copy_within(start.., 0);
+    octets.truncate(waiting);
     0
 }
 

@@ -1,4 +1,4 @@
-ghost use Rattle.std.specs.Prelude.{◌≡◌, ℕ, ◌+◌, ◌*◌, ◌≤◌, ◌<◌, List, [], ◌++◌, length, OnOk, OnErr, IfOk, IfErr, IsOk, IsTrue, ◌↔◌, Ok, Err};
+ghost use Rattle.std.specs.Prelude.{◌≡◌, ℕ, ◌+◌, ◌-◌, ◌*◌, ◌≤◌, ◌<◌, List, [], ◌++◌, length, take, OnOk, OnErr, IfOk, IfErr, IsOk, IsTrue, ◌↔◌, Ok, Err};
 ghost use Rattle.dnp_linkframe.specs.Frames.{Spells, AreChecked, EachChecked, IsChecked, IsFirstFault, IsFirstUnchecked, blocks, block_count};
 ghost use Rattle.dnp_linkframe.specs.Stream.{IsWhole};
 ghost use Rattle.dnp_linkframe.specs.declared.frame.Frame.{Frame as FrameValue};
@@ -63,6 +63,22 @@ fn check_unit(unit: &[u8]) -> Result<(), FrameFault>
     }
 }
 
+/// Appends what stands before the last two octets of a block. A whole block is copied apart from others:
+/// the compiler knows its length then, and the copy is a single move.
+#[inline(always)]
+fn copy_block(block: &[u8], user: &mut ArrayVec<u8, MAX_USER>)
+    requires two { 2 ≤ length block.now }
+    requires room { length user.old.items + (length block.now - 2) ≤ 250 }
+    ensures { user.new.items ≡ user.old.items ++ take (length block.now - 2) block.now }
+{
+    if block.len() == CHECKED_BLOCK {
+        user.try_extend_from_slice(&block[..BLOCK]).unwrap();
+    } else {
+        user.try_extend_from_slice(&block[..block.len() - 2])
+            .unwrap();
+    }
+}
+
 /// Appends the user data of the blocks, each with its check word behind it.
 #[inline(always)]
 fn copy_blocks(octets: &[u8], user: &mut ArrayVec<u8, MAX_USER>)
@@ -72,8 +88,7 @@ fn copy_blocks(octets: &[u8], user: &mut ArrayVec<u8, MAX_USER>)
     ensures { AreChecked (blocks user.new.items) octets.now }
 {
     for block in octets.chunks(CHECKED_BLOCK) {
-        user.try_extend_from_slice(&block[..block.len() - 2])
-            .unwrap();
+        copy_block(block, user);
     }
 }
 
