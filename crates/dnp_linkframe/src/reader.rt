@@ -69,6 +69,8 @@ impl FrameReader {
     {
         self.start = make_room(&mut self.octets, self.start, piece.len().min(MAX_FRAME));
         let held = self.octets.len();
+        // What waits was looked at when it came: until as many stand there as are needed, it can't be told
+        // what they are.
         if piece.len() < self.needed - (held - self.start) {
             self.octets.try_extend_from_slice(piece).unwrap();
             return Ok(());
@@ -130,6 +132,7 @@ fn read_on(
     octets.try_extend_from_slice(&piece[..first]).unwrap();
     let done = take_frames(&octets[start..], out)?;
     if piece.len() <= MAX_FRAME {
+        // The whole piece stands there.
         return Ok(start + done);
     }
     // A frame that begins among the octets that waited ends in the first 292 of the piece: no more of it
