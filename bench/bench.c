@@ -10,8 +10,10 @@
 
 // The proved library: exports of crates/dnp_bench. A slice is a pointer and a length.
 uint16_t dnp_bench_check_word(const uint8_t *octets, size_t count);
-uint64_t dnp_bench_read_frame(const uint8_t *unit, size_t size, size_t pick);
+uint64_t dnp_bench_read_frames(const uint8_t *units, size_t octets, size_t stride, size_t size);
+uint64_t dnp_bench_read_frames_apart(const uint8_t *units, size_t octets, size_t stride, size_t size);
 uint64_t dnp_bench_write_frames(const uint8_t *user, size_t size, uint64_t count);
+uint64_t dnp_bench_write_frames_apart(const uint8_t *user, size_t size, uint64_t count);
 uint64_t dnp_bench_feed(const uint8_t *stream, size_t size, size_t piece);
 uint64_t dnp_bench_walk(const uint8_t *fragment, size_t size);
 uint64_t dnp_bench_build(uint64_t count, uint16_t most);
@@ -29,15 +31,13 @@ static struct {
     uint8_t octets[UNITS][MOST_OCTETS];
 } data;
 
-static uint64_t frame_number(const struct frame *frame, size_t pick) {
-    uint64_t picked = pick < frame->count ? frame->user[pick] : 0;
-    return frame->control | (uint64_t)frame->dest << 8 | (uint64_t)frame->source << 24 | (uint64_t)frame->count << 40 | picked << 48;
-}
-
 #define WAY_OF(WAY)                                                                      \
-    static uint64_t read_##WAY(const uint8_t *unit, size_t size, size_t pick) {          \
+    static uint64_t read_##WAY(const uint8_t *units, size_t runs, size_t stride, size_t size) { \
         struct frame frame;                                                              \
-        return read_by_##WAY(unit, size, &frame) ? UINT64_MAX : frame_number(&frame, pick); \
+        uint64_t sum = 0;                                                                \
+        for (size_t run = 0; run < runs; run++)                                          \
+            sum += read_by_##WAY(units + run * stride, size, &frame) ? UINT64_MAX : frame_number(&frame, run); \
+        return sum;                                                                      \
     }                                                                                    \
     static uint64_t write_##WAY(const uint8_t *user, size_t size, uint64_t count) {      \
         struct frame frame = {.dest = 10, .source = 1, .count = size};                   \
@@ -55,8 +55,20 @@ static uint64_t frame_number(const struct frame *frame, size_t pick) {
 IN_EACH_WAY(WAY_OF)
 
 static check_word *const words[WAYS] = {dnp_bench_check_word, word_by_bits, word_by_table, word_by_tables};
-static uint64_t (*const readers[WAYS])(const uint8_t *, size_t, size_t) = {dnp_bench_read_frame, read_bits, read_table, read_tables};
-static uint64_t (*const writers[WAYS])(const uint8_t *, size_t, uint64_t) = {dnp_bench_write_frames, write_bits, write_table, write_tables};
+
+static uint64_t read_proved(const uint8_t *units, size_t runs, size_t stride, size_t size) {
+    return dnp_bench_read_frames_apart(units, runs * stride, stride, size);
+}
+
+static uint64_t (*const readers[WAYS])(const uint8_t *, size_t, size_t, size_t) = {read_proved, read_bits, read_table, read_tables};
+static uint64_t (*const writers[WAYS])(const uint8_t *, size_t, uint64_t) = {dnp_bench_write_frames_apart, write_bits, write_table, write_tables};
+
+static uint64_t read_run_proved(const uint8_t *units, size_t runs, size_t stride, size_t size) {
+    return dnp_bench_read_frames(units, runs * stride, stride, size);
+}
+
+static uint64_t (*const read_runs[WAYS])(const uint8_t *, size_t, size_t, size_t) = {read_run_proved, read_run_by_bits, read_run_by_table, read_run_by_tables};
+static uint64_t (*const write_runs[WAYS])(const uint8_t *, size_t, uint64_t) = {dnp_bench_write_frames, write_run_by_bits, write_run_by_table, write_run_by_tables};
 
 static uint64_t words_of(int way, uint64_t count) {
     uint64_t sum = 0;
@@ -67,8 +79,15 @@ static uint64_t words_of(int way, uint64_t count) {
 
 static uint64_t frames_read(int way, uint64_t count) {
     uint64_t sum = 0;
-    for (uint64_t i = 0; i < count; i++)
-        sum += readers[way](data.octets[i % UNITS], data.size, i % MOST_USER);
+    for (uint64_t i = 0; i < count; i += UNITS)
+        sum += readers[way](data.octets[0], UNITS, MOST_OCTETS, data.size);
+    return sum;
+}
+
+static uint64_t frames_read_in_loop(int way, uint64_t count) {
+    uint64_t sum = 0;
+    for (uint64_t i = 0; i < count; i += UNITS)
+        sum += read_runs[way](data.octets[0], UNITS, MOST_OCTETS, data.size);
     return sum;
 }
 
@@ -76,6 +95,13 @@ static uint64_t frames_written(int way, uint64_t count) {
     uint64_t sum = 0;
     for (uint64_t i = 0; i < UNITS; i++)
         sum += writers[way](data.octets[i], data.size, count / UNITS);
+    return sum;
+}
+
+static uint64_t frames_written_in_loop(int way, uint64_t count) {
+    uint64_t sum = 0;
+    for (uint64_t i = 0; i < UNITS; i++)
+        sum += write_runs[way](data.octets[i], data.size, count / UNITS);
     return sum;
 }
 
@@ -241,6 +267,7 @@ static void fragment_rows(void) {
 
 int main(int argc, char **argv) {
     if (argc > 1 && !strcmp(argv[1], "--quick")) rounds = 2, scale = 10;
+    if (argc > 2 && !strcmp(argv[1], "--rounds")) rounds = atoi(argv[2]), scale = 20;
     plain_start();
     printf("%-34s %12s   proved beside plain C (above 1: faster than it)\n", "", "proved");
     printf("%-34s %12s   %10s %10s %10s\n", "", "", "bit by bit", "table", "16 tables");
@@ -255,11 +282,13 @@ int main(int argc, char **argv) {
         fill_frames(users[i]);
         snprintf(what, sizeof what, "read_frame, %zu user octets", users[i]);
         row(what, "frame", 1, frames_read, 12800000 / (users[i] + 10));
+        row("  in a loop", "frame", 1, frames_read_in_loop, 12800000 / (users[i] + 10));
     }
     for (int i = 0; i < 3; i++) {
         fill(users[i]);
         snprintf(what, sizeof what, "write_frame, %zu user octets", users[i]);
         row(what, "frame", 1, frames_written, 12800000 / (users[i] + 10));
+        row("  in a loop", "frame", 1, frames_written_in_loop, 12800000 / (users[i] + 10));
     }
     stream_rows();
     fragment_rows();

@@ -99,11 +99,39 @@ static inline size_t write_by(check_word *word_of, const struct frame *frame, ui
     return to - unit;
 }
 
+static inline uint64_t read_run(check_word *word_of, const uint8_t *units, size_t runs, size_t stride, size_t size) {
+    struct frame frame;
+    uint64_t sum = 0;
+    for (size_t run = 0; run < runs; run++)
+        sum += read_by(word_of, units + run * stride, size, &frame) ? UINT64_MAX : frame_number(&frame, run);
+    return sum;
+}
+
+static inline uint64_t write_run(check_word *word_of, const uint8_t *user, size_t size, uint64_t count) {
+    struct frame frame = {.dest = 10, .source = 1, .count = size};
+    uint8_t unit[MOST_UNIT];
+    uint64_t sum = 0;
+    memcpy(frame.user, user, size);
+    for (size_t turn = 0, pick = 0; turn < count; turn++) {
+        frame.control = turn & 0xFF;
+        size_t made = write_by(word_of, &frame, unit);
+        sum += pick < made ? unit[pick] : 0;
+        pick = pick < made ? pick + 1 : 0;
+    }
+    return sum;
+}
+
 #define DEFINE_FRAMES(WAY)                                                               \
     enum fault read_by_##WAY(const uint8_t *unit, size_t size, struct frame *frame) {    \
         return read_by(word_by_##WAY, unit, size, frame);                                \
     }                                                                                    \
     size_t write_by_##WAY(const struct frame *frame, uint8_t *unit) {                    \
         return write_by(word_by_##WAY, frame, unit);                                     \
+    }                                                                                    \
+    uint64_t read_run_by_##WAY(const uint8_t *units, size_t runs, size_t stride, size_t size) { \
+        return read_run(word_by_##WAY, units, runs, stride, size);                       \
+    }                                                                                    \
+    uint64_t write_run_by_##WAY(const uint8_t *user, size_t size, uint64_t count) {      \
+        return write_run(word_by_##WAY, user, size, count);                              \
     }
 IN_EACH_WAY(DEFINE_FRAMES)

@@ -25,11 +25,21 @@ void plain_start(void);
 typedef uint16_t check_word(const uint8_t *octets, size_t count);
 check_word word_by_bits, word_by_table, word_by_tables;
 
-// A frame is read and written with each of the three.
+// The fields of a frame and its user octet at `pick`, in one number.
+static inline uint64_t frame_number(const struct frame *frame, size_t pick) {
+    uint64_t picked = pick < frame->count ? frame->user[pick] : 0;
+    return frame->control | (uint64_t)frame->dest << 8 | (uint64_t)frame->source << 24 | (uint64_t)frame->count << 40 | picked << 48;
+}
+
+// A frame is read and written with each of the three: by a call for each frame, and in a loop that the
+// compiler sees with what it calls (`runs` frames, one at the beginning of each `stride` octets; or
+// `count` frames of the user octets with as many control octets in turn).
 #define IN_EACH_WAY(DECLARE) DECLARE(bits) DECLARE(table) DECLARE(tables)
 #define DECLARE_FRAMES(WAY)                                                              \
     enum fault read_by_##WAY(const uint8_t *unit, size_t size, struct frame *frame);     \
-    size_t write_by_##WAY(const struct frame *frame, uint8_t *unit);
+    size_t write_by_##WAY(const struct frame *frame, uint8_t *unit);                     \
+    uint64_t read_run_by_##WAY(const uint8_t *units, size_t runs, size_t stride, size_t size); \
+    uint64_t write_run_by_##WAY(const uint8_t *user, size_t size, uint64_t count);
 IN_EACH_WAY(DECLARE_FRAMES)
 
 #endif

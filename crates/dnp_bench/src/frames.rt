@@ -3,7 +3,7 @@
 ghost use Rattle.dnp_linkframe.specs.CheckWord.{IsCheckWord};
 
 use arrayvec::ArrayVec;
-use dnp_linkframe::{Frame, FrameReader, check_word, read_frame, write_frame};
+use dnp_linkframe::{Frame, FrameReader, MAX_FRAME, check_word, read_frame_into, write_frame_into};
 use std::alloc::Global;
 
 /// The check word of the octets.
@@ -14,13 +14,59 @@ pub extern "C" fn dnp_bench_check_word(octets: &[u8]) -> u16
     check_word(octets)
 }
 
-/// Reads a link frame. Gives its fields and the user octet at `pick` in one number, and all ones where
-/// the octets are no frame.
+/// Reads the link frame of `size` octets that begins each run of `stride` octets into one frame that is
+/// kept, and adds up the numbers of what is read, with `pick` going up from 0; all ones stand for octets
+/// that are no frame.
 #[unsafe(no_mangle)]
-pub extern "C" fn dnp_bench_read_frame(unit: &[u8], pick: usize) -> u64 {
-    match read_frame(unit) {
-        Ok(frame) => number_of(&frame, pick),
-        Err(_) => u64::MAX,
+pub extern "C" fn dnp_bench_read_frames(units: &[u8], stride: usize, size: usize) -> u64 {
+    let mut frame = Frame::blank();
+    let mut sum = 0u64;
+    for (pick, run) in units.chunks(stride.max(1)).enumerate() {
+        let number = match read_frame_into(&run[..size.min(run.len())], &mut frame) {
+            Ok(()) => number_of(&frame, pick),
+            Err(_) => u64::MAX,
+        };
+        sum = sum.wrapping_add(number);
+    }
+    sum
+}
+
+/// `read_frame_into` as a call of its own, of which the caller sees nothing.
+#[inline(never)]
+fn read_apart(unit: &[u8], frame: &mut Frame) -> bool {
+    read_frame_into(unit, frame).is_ok()
+}
+
+/// As `dnp_bench_read_frames`, with a call of its own for each frame.
+#[unsafe(no_mangle)]
+pub extern "C" fn dnp_bench_read_frames_apart(units: &[u8], stride: usize, size: usize) -> u64 {
+    let mut frame = Frame::blank();
+    let mut sum = 0u64;
+    for (pick, run) in units.chunks(stride.max(1)).enumerate() {
+        let number = if read_apart(&run[..size.min(run.len())], &mut frame) {
+            number_of(&frame, pick)
+        } else {
+            u64::MAX
+        };
+        sum = sum.wrapping_add(number);
+    }
+    sum
+}
+
+/// The frame to station 10 from station 1 with these user octets, of which there are 250 at most.
+fn frame_of(user: &[u8]) -> Frame {
+    let mut frame = Frame::blank();
+    frame.dest = 10;
+    frame.source = 1;
+    let _ = frame.user.try_extend_from_slice(user);
+    frame
+}
+
+/// The octet of the unit at `pick`, and the next `pick`: 0 past the end.
+fn pick_of(unit: &[u8], pick: usize) -> (u64, usize) {
+    match unit.get(pick) {
+        Some(octet) => (u64::from(*octet), pick.wrapping_add(1)),
+        None => (0, 0),
     }
 }
 
@@ -28,25 +74,39 @@ pub extern "C" fn dnp_bench_read_frame(unit: &[u8], pick: usize) -> u64 {
 /// control octets in turn, and adds up one octet of each, at an index that goes up from 0.
 #[unsafe(no_mangle)]
 pub extern "C" fn dnp_bench_write_frames(user: &[u8], count: u64) -> u64 {
-    let mut frame = Frame {
-        control: 0,
-        dest: 10,
-        source: 1,
-        user: ArrayVec::new(),
-    };
-    let _ = frame.user.try_extend_from_slice(user);
+    let mut frame = frame_of(user);
+    let mut unit: ArrayVec<u8, MAX_FRAME> = ArrayVec::new();
     let mut sum = 0u64;
     let mut pick = 0usize;
     for turn in 0..count {
         frame.control = (turn & 0xff) as u8;
-        let unit = write_frame(&frame);
-        let picked = unit.as_slice().get(pick).copied();
-        sum = sum.wrapping_add(u64::from(picked.unwrap_or(0)));
-        pick = if picked.is_some() {
-            pick.wrapping_add(1)
-        } else {
-            0
-        };
+        write_frame_into(&frame, &mut unit);
+        let (octet, next) = pick_of(&unit, pick);
+        sum = sum.wrapping_add(octet);
+        pick = next;
+    }
+    sum
+}
+
+/// `write_frame_into` as a call of its own, of which the caller sees nothing.
+#[inline(never)]
+fn write_apart(frame: &Frame, unit: &mut ArrayVec<u8, MAX_FRAME>) {
+    write_frame_into(frame, unit);
+}
+
+/// As `dnp_bench_write_frames`, with a call of its own for each frame.
+#[unsafe(no_mangle)]
+pub extern "C" fn dnp_bench_write_frames_apart(user: &[u8], count: u64) -> u64 {
+    let mut frame = frame_of(user);
+    let mut unit: ArrayVec<u8, MAX_FRAME> = ArrayVec::new();
+    let mut sum = 0u64;
+    let mut pick = 0usize;
+    for turn in 0..count {
+        frame.control = (turn & 0xff) as u8;
+        write_apart(&frame, &mut unit);
+        let (octet, next) = pick_of(&unit, pick);
+        sum = sum.wrapping_add(octet);
+        pick = next;
     }
     sum
 }

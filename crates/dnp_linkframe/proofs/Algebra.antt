@@ -45,9 +45,6 @@ pub plus_nil : (p : List Bool) → plus p [] ≡ p
 plus_nil [] = refl
 plus_nil (a ∷ p) = refl
 
-pub same_trans : (p q r : List Bool) → IsSame p q → IsSame q r → IsSame p r
-same_trans p q r h k i = h i ∙ k i
-
 pub same_sym : (p q : List Bool) → IsSame p q → IsSame q p
 same_sym p q h i = sym (h i)
 

@@ -2,7 +2,7 @@
 use Rattle.std.proofs.Common.{◌≡◌, ℕ, ◌+◌, ◌*◌, ◌-◌, ◌<◌, ◌≤◌, List, [], ◌∷◌, ◌++◌, length, take, drop, get_or, refl, sym, ◌∙◌, ap, subst, arith, min, inl, inr}
 use Rattle.std.proofs.lemmas.Bool.{cases_lt, cases_order}
 use Rattle.std.specs.Int.{w16, to_le_bytes}
-use Rattle.std.proofs.lemmas.List.{length-append, length-take, take-take, take-append-le, get_or-take, get_or_append_left, get_or_past, drop_more}
+use Rattle.std.proofs.lemmas.List.{length-append, length-take, take-take, take-append-le, get_or-take, get_or_append_left, get_or_past, drop_more, take-append-drop}
 use Rattle.dnp_linkframe.specs.declared.frame.Frame.{Frame}
 use Rattle.dnp_linkframe.specs.CheckWord.{IsCheckWord}
 use Rattle.dnp_linkframe.specs.Frames.{IsChecked, Spells, frame_size, header}
@@ -96,6 +96,21 @@ begins_more stream more b = record {
 said_more : (stream more : List ℕ) → HasHeader stream → said_size (stream ++ more) ≡ said_size stream
 said_more stream more h = ap (λ (n : ℕ). frame_size (n - 5)) (length_more stream more h)
 
+-- the octets of the frame alone begin it too
+pub begins_less : (stream : List ℕ) (size : ℕ) → 10 ≤ size → size ≤ length stream → BeginsFrame stream → BeginsFrame (take size stream)
+begins_less stream size ten there b =
+    let whole : take size stream ++ drop size stream ≡ stream = take-append-drop size stream in
+    let length_octet : get_or (take size stream) 2 0 ≡ get_or stream 2 0 = get_or-take size stream 2 0 (omega arith) in
+    record {
+      header =
+          header_less (take size stream) (drop size stream) (omega (arith, length-take size stream))
+          (subst (λ (t : List ℕ). HasHeader t) (sym whole) b.header);
+      long = let long : 5 ≤ get_or stream 2 0 = b.long in omega arith;
+    }
+
+pub said_less : (stream : List ℕ) (size : ℕ) → 10 ≤ size → said_size (take size stream) ≡ said_size stream
+said_less stream size ten = ap (λ (n : ℕ). frame_size (n - 5)) (get_or-take size stream 2 0 (omega arith))
+
 -- what is decided at the front stays so, whatever comes behind
 pub front_more : (stream more : List ℕ) (front : Front) → IsFront stream front → 0 < used front → IsFront (stream ++ more) front
 front_more stream more Waits here some = absurd (omega arith)
@@ -121,17 +136,6 @@ used_within stream NoHeader (ten, none) = omega arith
 used_within stream NoLength (h, short) = h.ten
 used_within stream (Damaged size) (begins, is, there, bad) = there
 used_within stream (Whole frame size) (there, s) = there
-
--- fewer octets than a frame can have wait
-pub waits_short : (stream : List ℕ) → ((i : ℕ) → get_or stream i 0 < 256) → IsFront stream Waits → length stream < 292
-waits_short stream bytes waits =
-    elim (cases_lt (length stream) 10) [
-      | inl short ↦ omega arith
-      | inr ten ↦
-          let less : length stream < said_size stream = (waits ten).1 in
-          let octet : get_or stream 2 0 < 256 = bytes 2 in
-          omega arith
-    ]
 
 -- a spelling begins with the frame's header
 header_spelled : (unit : List ℕ) (f : Frame) → Spells unit f → take 8 unit ≡ header f

@@ -108,6 +108,10 @@ spellings (unit ∷ units) (frame ∷ frames) (s, more) =
       waits = later.waits;
     }
 
+-- a stream that only waits gives nothing
+pub gives_nothing : (stream rest : List ℕ) → rest ≡ stream → IsFront stream Waits → Gives stream [] rest
+gives_nothing stream rest is waits = record { decisions = 0; after = (refl, is); waits = subst (λ (t : List ℕ). IsFront t Waits) (sym is) waits }
+
 -- what has been taken from the stream: so many octets are done with, and their frames stand behind those before
 pub record Took (stream : List ℕ) (done : ℕ) (before out : List Frame) : Type 0 where
   pub within : done ≤ length stream
@@ -152,10 +156,6 @@ pub took_past : (stream : List ℕ) (done : ℕ) (before out : List Frame) (fron
 took_past stream done before out front silent t here some =
     subst (λ (x : List Frame). Took stream (done + used front) before x) (ap (λ (x : List Frame). out ++ x) silent ∙ append-nil out)
     (took_more stream done before out front t here some)
-
-pub took_all : (stream : List ℕ) (done : ℕ) (before out : List Frame) (t : Took stream done before out) → IsFront (drop done stream) Waits
-    → Gives stream t.frames (drop done stream)
-took_all stream done before out t waits = record { decisions = t.decisions; after = t.after; waits = waits }
 
 drop_past : (held piece : List ℕ) (done : ℕ) → length held ≤ done → drop done (held ++ piece) ≡ drop (done - length held) piece
 drop_past held piece done past =

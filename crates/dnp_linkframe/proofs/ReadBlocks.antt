@@ -3,7 +3,7 @@ use Rattle.std.proofs.Common.{◌≡◌, ℕ, suc, ◌+◌, ◌*◌, ◌-◌, �
 use Rattle.std.proofs.lemmas.Bool.{cases_lt}
 use Rattle.std.specs.Int.{w16, to_le_bytes}
 use Rattle.std.proofs.lemmas.List.{append_assoc, length-append, length-drop, append-nil, take_at, drop-drop, nil_from_length}
-use Rattle.dnp_linkframe.specs.Frames.{HasCheck, IsChecked, AreChecked, IsFirstUnchecked, block_count, blocks}
+use Rattle.dnp_linkframe.specs.Frames.{HasCheck, IsChecked, AreChecked, EachChecked, IsFirstUnchecked, block_count, blocks}
 use Rattle.dnp_linkframe.proofs.Blocks.{length-joined, total-blocks, blocks-more, take-chunk, drop-chunk, length-checked}
 
 -- user data that begins with a whole block, or is one block
@@ -26,20 +26,75 @@ pub record Left (user rest : List ℕ) (size : ℕ) : Type 0 where
   pub here : length user + most ≡ size
   pub sized : length rest ≡ most + 2 * block_count most
 
--- `user` is read, `count` blocks are behind, and `rest` is still to be read
-pub record Reads (octets user rest : List ℕ) (size count : ℕ) : Type 0 where
-  pub joins : (more : List ℕ) → AreChecked (blocks more) rest → AreChecked (blocks (user ++ more)) octets
-  pub left : Left user rest size
+-- `count` blocks are behind and end in their check words, and `rest` is still to be checked
+pub record Checks (octets rest : List ℕ) (count : ℕ) : Type 0 where
   pub place : rest ≡ drop (18 * count) octets
   pub checked : (k : ℕ) → k < count → IsChecked (take 18 (drop (18 * k) octets))
 
-pub reads_none : (octets : List ℕ) (size : ℕ) → length octets ≡ size + 2 * block_count size → Reads octets [] octets size 0
+pub checks_none : (octets : List ℕ) → Checks octets octets 0
+checks_none octets = record { place = refl; checked = λ k h. absurd (omega arith) }
+
+-- what is cut from the rest is the next block, and the rest behind it stands a block further on
+cut_block : (octets rest block after : List ℕ) (count : ℕ) → rest ≡ drop (18 * count) octets → rest ≡ block ++ after
+    → length block ≡ min 18 (length rest) → (take 18 (drop (18 * count) octets) ≡ block) × (after ≡ drop (18 * suc count) octets)
+cut_block octets rest block after count place is chunk =
+    let chunk_here : length block ≡ min 18 (length (block ++ after)) = subst (λ (t : List ℕ). length block ≡ min 18 (length t)) is chunk in (
+      ap (λ (t : List ℕ). take 18 t) (sym place ∙ is) ∙ take-chunk 18 block after chunk_here,
+      sym (drop-chunk 18 block after chunk_here) ∙ ap (λ (t : List ℕ). drop 18 t) (sym is ∙ place) ∙ drop-drop 18 (18 * count) octets
+          ∙ ap (λ (n : ℕ). drop n octets) (omega arith),
+    )
+
+pub checks_more : (octets rest block after : List ℕ) (count : ℕ) → Checks octets rest count
+    → rest ≡ block ++ after → length block ≡ min 18 (length rest) → IsChecked block → Checks octets after (suc count)
+checks_more octets rest block after count c is chunk good =
+    let cut = cut_block octets rest block after count c.place is chunk in
+    record {
+      place = cut.1;
+      checked = λ (k : ℕ) h. elim (cases_lt k count) [
+        | inl before ↦ c.checked k before
+        | inr last ↦
+            let at : k ≡ count = omega arith in
+            let here : take 18 (drop (18 * k) octets) ≡ block = ap (λ (n : ℕ). take 18 (drop (18 * n) octets)) at ∙ cut.0 in
+            subst (λ (t : List ℕ). IsChecked t) (sym here) good
+      ];
+    }
+
+pub checks_all : (octets rest : List ℕ) (count : ℕ) → Checks octets rest count → length rest ≡ 0 → EachChecked octets
+checks_all octets rest count c none = λ n stands. c.checked n (omega (arith, ap length c.place, length-drop (18 * count) octets))
+
+pub checks_bad : (octets rest block after : List ℕ) (count : ℕ) → Checks octets rest count → 0 < length rest
+    → rest ≡ block ++ after → length block ≡ min 18 (length rest) → (IsChecked block → ⊥) → IsFirstUnchecked octets count
+checks_bad octets rest block after count c some is chunk bad =
+    let cut = cut_block octets rest block after count c.place is chunk in
+    record {
+      here = record {
+        stands = omega (arith, ap length c.place, length-drop (18 * count) octets);
+        unchecked = λ h. bad (subst (λ (t : List ℕ). IsChecked t) cut.0 h);
+      };
+      first = λ k h u. u.unchecked (c.checked k h);
+    }
+
+-- `user` is read, and `rest` is still to be read
+pub record Reads (octets user rest : List ℕ) (size : ℕ) : Type 0 where
+  pub joins : (more : List ℕ) → AreChecked (blocks more) rest → AreChecked (blocks (user ++ more)) octets
+  pub left : Left user rest size
+  pub count : ℕ
+  pub place : rest ≡ drop (18 * count) octets
+
+pub reads_none : (octets : List ℕ) (size : ℕ) → length octets ≡ size + 2 * block_count size → Reads octets [] octets size
 reads_none octets size sized = record {
   joins = λ more h. h;
   left = record { most = size; here = omega arith; sized = sized };
+  count = 0;
   place = refl;
-  checked = λ k h. absurd (omega arith);
 }
+
+-- the next block ends in its check word where each block does
+pub next_good : (octets user rest block after : List ℕ) (size : ℕ) → EachChecked octets → Reads octets user rest size → 0 < length rest
+    → rest ≡ block ++ after → length block ≡ min 18 (length rest) → IsChecked block
+next_good octets user rest block after size each r some is chunk =
+    subst (λ (t : List ℕ). IsChecked t) (cut_block octets rest block after r.count r.place is chunk).0
+    (each r.count (omega (arith, ap length r.place, length-drop (18 * r.count) octets)))
 
 -- the part of a block that is checked
 pub part_of : (block : List ℕ) → IsChecked block → HasCheck (take (length block - 2) block) block
@@ -89,16 +144,13 @@ joins_block part block after more has some most full h =
     elim full [ inl whole ↦ omega arith | inr none ↦ omega arith ] in
     subst (λ (ps : List (List ℕ)). AreChecked ps (block ++ after)) (sym (blocks-part part more some first)) (block, after, has, h, refl)
 
-pub reads_more : (octets user rest block after : List ℕ) (size count : ℕ) → Reads octets user rest size count → 0 < length rest
+pub reads_more : (octets user rest block after : List ℕ) (size : ℕ) → Reads octets user rest size → 0 < length rest
     → rest ≡ block ++ after → length block ≡ min 18 (length rest) → IsChecked block
-    → Reads octets (user ++ take (length block - 2) block) after size (suc count)
-reads_more octets user rest block after size count r some is chunk good =
-    let part : List ℕ = take (length block - 2) block in
+    → Reads octets (user ++ take (length block - 2) block) after size
+reads_more octets user rest block after size r some is chunk good =
     let has : HasCheck (take (length block - 2) block) block = part_of block good in
-    let chunk_here : length block ≡ min 18 (length (block ++ after)) = subst (λ (t : List ℕ). length block ≡ min 18 (length t)) is chunk in
     let leaves : Leaves user (take (length block - 2) block) block after size =
     leaves_now user rest block after size r.left some is chunk good in
-    let first : take 18 rest ≡ block = ap (λ (t : List ℕ). take 18 t) is ∙ take-chunk 18 block after chunk_here in
     record {
       joins = λ (more : List ℕ) h.
           let inner : AreChecked (blocks (take (length block - 2) block ++ more)) rest =
@@ -107,37 +159,16 @@ reads_more octets user rest block after size count r some is chunk good =
           subst (λ (t : List ℕ). AreChecked (blocks t) octets) (sym (append_assoc user (take (length block - 2) block) more))
           (r.joins (take (length block - 2) block ++ more) inner);
       left = leaves.left;
-      place =
-          sym (drop-chunk 18 block after chunk_here) ∙ ap (λ (t : List ℕ). drop 18 t) (sym is ∙ r.place) ∙ drop-drop 18 (18 * count) octets
-          ∙ ap (λ (n : ℕ). drop n octets) (omega arith);
-      checked = λ (k : ℕ) h. elim (cases_lt k count) [
-        | inl before ↦ r.checked k before
-        | inr last ↦
-            let at : k ≡ count = omega arith in
-            let here : take 18 (drop (18 * k) octets) ≡ block =
-            ap (λ (n : ℕ). take 18 (drop (18 * n) octets)) at ∙ ap (λ (t : List ℕ). take 18 t) (sym r.place) ∙ first in
-            subst (λ (t : List ℕ). IsChecked t) (sym here) good
-      ];
+      count = suc r.count;
+      place = (cut_block octets rest block after r.count r.place is chunk).1;
     }
 
-pub reads_all : (octets user rest : List ℕ) (size count : ℕ) → Reads octets user rest size count → length rest ≡ 0
-    → (length user ≡ size) × AreChecked (blocks user) octets
-reads_all octets user rest size count r none =
-    let here : length user + r.left.most ≡ size = r.left.here in
-    let sized : length rest ≡ r.left.most + 2 * block_count r.left.most = r.left.sized in
+pub reads_all : (octets user rest : List ℕ) (size : ℕ) → Reads octets user rest size → length rest ≡ 0 → AreChecked (blocks user) octets
+reads_all octets user rest size r none =
     let empty : rest ≡ [] = nil_from_length rest none in
-    (omega arith, subst (λ (t : List ℕ). AreChecked (blocks t) octets) (append-nil user) (r.joins [] empty))
+    subst (λ (t : List ℕ). AreChecked (blocks t) octets) (append-nil user) (r.joins [] empty)
 
-pub reads_bad : (octets user rest block after : List ℕ) (size count : ℕ) → Reads octets user rest size count → 0 < length rest
-    → rest ≡ block ++ after → length block ≡ min 18 (length rest) → (IsChecked block → ⊥) → IsFirstUnchecked octets count
-reads_bad octets user rest block after size count r some is chunk bad =
-    let chunk_here : length block ≡ min 18 (length (block ++ after)) = subst (λ (t : List ℕ). length block ≡ min 18 (length t)) is chunk in
-    let first : take 18 rest ≡ block = ap (λ (t : List ℕ). take 18 t) is ∙ take-chunk 18 block after chunk_here in
-    let here : take 18 (drop (18 * count) octets) ≡ block = ap (λ (t : List ℕ). take 18 t) (sym r.place) ∙ first in
-    record {
-      here = record {
-        stands = omega (arith, ap length r.place, length-drop (18 * count) octets);
-        unchecked = λ h. bad (subst (λ (t : List ℕ). IsChecked t) here h);
-      };
-      first = λ k h u. u.unchecked (r.checked k h);
-    }
+-- how much user data there is follows from the octets
+pub one_size : (user octets : List ℕ) (size : ℕ) → AreChecked (blocks user) octets → length octets ≡ size + 2 * block_count size
+    → length user ≡ size
+one_size user octets size h sized = omega (arith, length-blocks user octets h)

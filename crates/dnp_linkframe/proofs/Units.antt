@@ -1,5 +1,5 @@
 -- Units of octets: one frame, or faults, and never both.
-use Rattle.std.proofs.Common.{◌≡◌, ℕ, zero, suc, ◌+◌, ◌*◌, ◌-◌, ◌<◌, ◌≤◌, List, [], ◌∷◌, ◌++◌, length, take, drop, get_or, refl, sym, ◌∙◌, ap, subst, arith, min, inl, inr, Result, Ok, Err, IfOk, IfErr}
+use Rattle.std.proofs.Common.{◌≡◌, ℕ, zero, suc, ◌+◌, ◌*◌, ◌-◌, ◌<◌, ◌≤◌, List, [], ◌∷◌, ◌++◌, length, take, drop, get_or, refl, sym, ◌∙◌, ap, subst, arith, min, inl, inr, Result, Ok, Err, IfOk, IfErr, is_err, true}
 use Rattle.std.proofs.lemmas.Bool.{cases_order}
 use Rattle.std.specs.Int.{w16, to_le_bytes, from_le_bytes}
 use Rattle.std.proofs.lemmas.List.{length-append, length-take, length-drop, take_at, drop_at, take-take, take-append-drop, drop-drop, drop_more, drop_all, get_or-take, get_or_append_left, nil_from_length}
@@ -68,12 +68,18 @@ spells_from unit f ten bytes five hundred good size control dest source more =
     } in
     (frame, (take 10 unit, drop 10 unit, subst (λ (t : List ℕ). HasCheck t (take 10 unit)) whole good.has, more, sym (take-append-drop 10 unit)))
 
-start_is : (unit : List ℕ) → 2 ≤ length unit → get_or unit 0 0 ≡ 5 → get_or unit 1 0 ≡ 100 → take 2 unit ≡ 5 ∷ 100 ∷ []
+pub start_is : (unit : List ℕ) → 2 ≤ length unit → get_or unit 0 0 ≡ 5 → get_or unit 1 0 ≡ 100 → take 2 unit ≡ 5 ∷ 100 ∷ []
 start_is unit two five hundred =
     let d0 : unit ≡ get_or unit 0 0 ∷ drop 1 unit = drop_more unit 0 0 (omega arith) in
     let d1 : drop 1 unit ≡ get_or unit 1 0 ∷ drop 2 unit = drop_more unit 1 0 (omega arith) in
     let cells : unit ≡ 5 ∷ 100 ∷ drop 2 unit = cc in
     ap (λ (t : List ℕ). take 2 t) cells
+
+pub first_octet : (unit : List ℕ) → take 2 unit ≡ 5 ∷ 100 ∷ [] → get_or unit 0 0 ≡ 5
+first_octet unit start = sym (get_or-take 2 unit 0 0 (omega arith)) ∙ ap (λ (t : List ℕ). get_or t 0 0) start
+
+pub second_octet : (unit : List ℕ) → take 2 unit ≡ 5 ∷ 100 ∷ [] → get_or unit 1 0 ≡ 100
+second_octet unit start = sym (get_or-take 2 unit 1 0 (omega arith)) ∙ ap (λ (t : List ℕ). get_or t 1 0) start
 
 -- a good header before bad blocks has no fault of its own
 header_fault : (unit : List ℕ) (n : ℕ) → 10 ≤ length unit → get_or unit 0 0 ≡ 5 → get_or unit 1 0 ≡ 100 → IsChecked (take 10 unit)
@@ -204,6 +210,11 @@ no_fault unit f s (BlockCheck n) fault =
     fault.unchecked (block_checked (block_count (length f.user.items)) n f.user.items (drop 10 unit) (blocks_spelled unit f s)
     (omega arith) (omega arith) fault.stands)
 
+-- a unit with a bad block spells no frame
+pub bad_block : (unit : List ℕ) (r : Result Unit ℕ) → is_err r ≡ true → IfErr r (IsFirstUnchecked (drop 10 unit)) → (f : Frame) → Spells unit f → ⊥
+bad_block unit (Ok u) bad fault f s = cc
+bad_block unit (Err n) bad fault f s = no_fault unit f s (BlockCheck n) fault.here
+
 -- the fault at a place of the order
 fault_at : ℕ → FrameFault
 fault_at zero = Short
@@ -234,12 +245,6 @@ one_first_fault unit e d first other =
         | inr after ↦ absurd (first.1 d after other.0)
       ]
     ]
-
--- a result that is right where it is Ok and where it is Err is the only right one
-pub only_frame : (unit : List ℕ) (r : Result Frame FrameFault) → IfOk r (Spells unit) → IfErr r (IsFirstFault unit)
-    → (f : Frame) → Spells unit f → r ≡ Ok f
-only_frame unit (Ok g) found fault f s = ap Ok (one_frame unit g f found s)
-only_frame unit (Err e) found fault f s = absurd (no_fault unit f s e fault.0)
 
 pub only_fault : (unit : List ℕ) (r : Result Frame FrameFault) → IfOk r (Spells unit) → IfErr r (IsFirstFault unit)
     → (d : FrameFault) → IsFirstFault unit d → r ≡ Err d

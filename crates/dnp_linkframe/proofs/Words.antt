@@ -102,14 +102,6 @@ bit_of_low n i h =
 low_fits : (n : ℕ) → bit_and n 255 < 2 ^ 8
 low_fits n = omega (arith, and_mask n 8)
 
--- the lower octet of a number
-pub remainder-low : (n : ℕ) → remainder (bit_and n 255) ≡ times_x 8 (message (n ∷ []))
-remainder-low n =
-    cons (bit_above (bit_and n 255) 8 15 (low_fits n) (omega arith)) (cons (bit_above (bit_and n 255) 8 14 (low_fits n) (omega arith)) (cons (bit_above (bit_and n 255) 8 13 (low_fits n) (omega arith)) (cons (bit_above (bit_and n 255) 8 12 (low_fits n) (omega arith))
-    (cons (bit_above (bit_and n 255) 8 11 (low_fits n) (omega arith)) (cons (bit_above (bit_and n 255) 8 10 (low_fits n) (omega arith)) (cons (bit_above (bit_and n 255) 8 9 (low_fits n) (omega arith)) (cons (bit_above (bit_and n 255) 8 8 (low_fits n) (omega arith))
-    (cons (bit_of_low n 7 refl) (cons (bit_of_low n 6 refl) (cons (bit_of_low n 5 refl) (cons (bit_of_low n 4 refl)
-    (cons (bit_of_low n 3 refl) (cons (bit_of_low n 2 refl) (cons (bit_of_low n 1 refl) (cons (bit_of_low n 0 refl) refl)))))))))))))))
-
 -- the upper octet moves down by eight bits, and the lower one is still to be divided
 pub low_high : (n : ℕ) → n < 2 ^ 16 → times_x 8 (remainder n) ≡ plus (times_x 8 (remainder (bit_and n 255))) (remainder (n / 256))
 low_high n h =

@@ -1,3 +1,5 @@
+ghost use Rattle.std.specs.Prelude.{◌≡◌, []};
+
 use arrayvec::ArrayVec;
 use thiserror::Error;
 
@@ -31,6 +33,20 @@ pub struct Frame {
     pub source: u16,
     /// 0 to 250 octets of user data.
     pub user: ArrayVec<u8, MAX_USER>,
+}
+
+impl Frame {
+    /// A frame to be filled: all zeros, and no user data.
+    pub fn blank() -> Self
+        ensures { result.user.items ≡ [] }
+    {
+        Frame {
+            control: 0,
+            dest: 0,
+            source: 0,
+            user: ArrayVec::new(),
+        }
+    }
 }
 
 /// Why a unit of octets is no link frame. The variants stand in the order in which they are looked

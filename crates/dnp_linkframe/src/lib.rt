@@ -19,5 +19,5 @@ mod writing;
 pub use check::check_word;
 pub use frame::{Frame, FrameFault, MAX_FRAME, MAX_USER};
 pub use reader::FrameReader;
-pub use reading::read_frame;
-pub use writing::write_frame;
+pub use reading::{read_frame, read_frame_into};
+pub use writing::{write_frame, write_frame_into};

@@ -1,31 +1,39 @@
 //! Frames in a stream of octets that comes in pieces.
 
-ghost use Rattle.std.specs.Prelude.{◌≡◌, ℕ, ◌<◌, ◌≤◌, List, [], ◌++◌, length, drop, OnOk, OnErr, ◌+◌, vec_len, vec_capacity};
+ghost use Rattle.std.specs.Prelude.{◌≡◌, ℕ, ◌<◌, ◌≤◌, List, [], ◌++◌, length, drop, min, OnOk, OnErr, IfOk, ◌+◌, vec_len, vec_capacity};
 ghost use Rattle.dnp_linkframe.specs.Stream.{Gives};
 ghost use Rattle.dnp_linkframe.specs.declared.frame.Frame.{Frame as FrameValue};
 
-use crate::frame::{Frame, MAX_FRAME};
-use crate::stream::take_frames;
+use crate::frame::{CHECKED_HEADER, Frame, MAX_FRAME};
+use crate::stream::{needed, take_frames};
 use arrayvec::ArrayVec;
 use std::alloc::AllocError;
 use std::marker::Model;
 
-/// What waits, and behind it the part of a piece that a frame which begins there can need.
+/// The octets that wait at one time, and as many that a piece can bring before they are looked at.
 const ROOM: usize = 2 * MAX_FRAME;
 
 /// Reads link frames from a stream of octets that comes in pieces (IEEE Std 1815-2012, data link layer).
 /// Between two calls it holds the octets that wait.
 #[derive(Debug, Drop)]
 pub struct FrameReader {
-    waiting: ArrayVec<u8, ROOM>,
+    /// Octets that are done with, and behind them those that wait.
+    octets: ArrayVec<u8, ROOM>,
+    /// How many of `octets` are done with.
+    start: usize,
+    /// How many octets have to wait before it is worth looking at them again.
+    needed: usize,
 }
 
 impl Model for FrameReader {
+    ghost use Rattle.std.specs.Prelude.{ℕ, ◌≤◌, List, length, drop};
+    ghost use Rattle.dnp_linkframe.specs.Stream.{Awaits};
+
     ghost Value = { List ℕ };
 
-    ghost view = { λ reader. reader.waiting.items };
+    ghost view = { λ reader. drop reader.start reader.octets.items };
 
-    ghost invariant = { λ reader. length reader.waiting.items < 292 };
+    ghost invariant = { λ reader. (reader.start ≤ length reader.octets.items) × Awaits (drop reader.start reader.octets.items) reader.needed };
 }
 
 impl FrameReader {
@@ -35,7 +43,9 @@ impl FrameReader {
         ensures gives { Gives [] [] result }
     {
         FrameReader {
-            waiting: ArrayVec::new(),
+            octets: ArrayVec::new(),
+            start: 0,
+            needed: CHECKED_HEADER,
         }
     }
 
@@ -57,47 +67,79 @@ impl FrameReader {
         ensures full { OnErr result ((frames : List FrameValue) (rest : List ℕ) → Gives (self.old ++ piece.now) frames rest → vec_capacity out.old < vec_len out.old + length frames) }
         ensures fewer { length self.new < 292 }
     {
-        let held = self.waiting.len();
-        let before = out.len();
-        let result = read_on(&mut self.waiting, piece, out);
-        if result.is_err() {
-            self.waiting.truncate(held);
-            out.truncate(before);
+        self.start = make_room(&mut self.octets, self.start, piece.len().min(MAX_FRAME));
+        let held = self.octets.len();
+        // What waits was looked at when it came: until as many stand there as are needed, it can't be told
+        // what they are.
+        if piece.len() < self.needed - (held - self.start) {
+            self.octets.try_extend_from_slice(piece).unwrap();
+            return Ok(());
         }
-        result
+        let before = out.len();
+        match read_on(&mut self.octets, self.start, piece, out) {
+            Ok(start) => {
+                self.start = start;
+                self.needed = needed(&self.octets[start..]);
+                Ok(())
+            }
+            Err(error) => {
+                self.octets.truncate(held);
+                out.truncate(before);
+                Err(error)
+            }
+        }
     }
 }
 
-/// Appends the frames that the waiting octets and the piece behind them give, and leaves what waits
-/// then. Where memory is refused, octets and frames may have been appended.
+/// Brings what waits behind `start` to the front where there is no room for `more` octets, and answers
+/// where it begins then.
+#[inline]
+fn make_room(octets: &mut ArrayVec<u8, ROOM>, start: usize, more: usize) -> usize
+    requires begun { start ≤ length octets.old.items }
+    requires fewer { length (drop start octets.old.items) < 292 }
+    requires most { more ≤ 292 }
+    ensures same { drop result octets.new.items ≡ drop start octets.old.items }
+    ensures begun { result ≤ length octets.new.items }
+    ensures room { length octets.new.items + more ≤ 584 }
+{
+    if octets.len() + more <= ROOM {
+        return start;
+    }
+    let waiting = octets.len() - start;
+    octets.copy_within(start.., 0);
+    octets.truncate(waiting);
+    0
+}
+
+/// Appends the frames that the octets from `start` on and the piece behind them give, and answers where
+/// those begin that wait then. Where memory is refused, octets and frames may have been appended.
 fn read_on(
-    waiting: &mut ArrayVec<u8, ROOM>,
+    octets: &mut ArrayVec<u8, ROOM>,
+    start: usize,
     piece: &[u8],
     out: &mut Vec<Frame>,
-) -> Result<(), AllocError>
-    requires { length waiting.old.items < 292 }
-    ensures given { OnOk result ((frames : List FrameValue) × (out.new.items ≡ out.old.items ++ frames) × Gives (waiting.old.items ++ piece.now) frames waiting.new.items) }
-    ensures fewer { OnOk result (length waiting.new.items < 292) }
-    ensures full { OnErr result ((frames : List FrameValue) (rest : List ℕ) → Gives (waiting.old.items ++ piece.now) frames rest → vec_capacity out.old < vec_len out.old + length frames) }
+) -> Result<usize, AllocError>
+    requires begun { start ≤ length octets.old.items }
+    requires room { length octets.old.items + min (length piece.now) 292 ≤ 584 }
+    ensures given { IfOk result (λ begin. (frames : List FrameValue) × (out.new.items ≡ out.old.items ++ frames) × Gives (drop start octets.old.items ++ piece.now) frames (drop begin octets.new.items)) }
+    ensures within { IfOk result (λ begin. begin ≤ length octets.new.items) }
+    ensures full { OnErr result ((frames : List FrameValue) (rest : List ℕ) → Gives (drop start octets.old.items ++ piece.now) frames rest → vec_capacity out.old < vec_len out.old + length frames) }
     ensures frames_behind { OnErr result ((frames : List FrameValue) × (out.new.items ≡ out.old.items ++ frames)) }
-    ensures octets_behind { OnErr result ((octets : List ℕ) × (waiting.new.items ≡ waiting.old.items ++ octets)) }
+    ensures octets_behind { OnErr result ((more : List ℕ) × (octets.new.items ≡ octets.old.items ++ more)) }
 {
-    // A frame that begins among the waiting octets ends in the first 292 of the piece: no more of it is
-    // copied, and what comes behind is read where it stands.
-    let held = waiting.len();
+    let held = octets.len() - start;
     let first = piece.len().min(MAX_FRAME);
-    waiting.try_extend_from_slice(&piece[..first]).unwrap();
-    let done = take_frames(waiting, out)?;
-    // Else fewer than 292 octets wait behind those that are done with, so the whole piece stands here.
-    // Where octets are moved fewer than ten waited before the piece: a longer beginning of a frame goes
-    // whole or not at all. So each octet is moved ten times at most.
-    if done <= held {
-        waiting.drain(..done);
-        return Ok(());
+    octets.try_extend_from_slice(&piece[..first]).unwrap();
+    let done = take_frames(&octets[start..], out)?;
+    if piece.len() <= MAX_FRAME {
+        // The whole piece stands there.
+        return Ok(start + done);
     }
+    // A frame that begins among the octets that waited ends in the first 292 of the piece: no more of it
+    // is copied, and what comes behind is read where it stands.
     let rest = &piece[done - held..];
     let done = take_frames(rest, out)?;
-    waiting.clear();
-    waiting.try_extend_from_slice(&rest[done..]).unwrap();
-    Ok(())
+    octets.clear();
+    octets.try_extend_from_slice(&rest[done..]).unwrap();
+    Ok(0)
 }

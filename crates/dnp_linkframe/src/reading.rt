@@ -1,5 +1,6 @@
-ghost use Rattle.std.specs.Prelude.{◌≡◌, ℕ, ◌+◌, ◌*◌, ◌≤◌, ◌<◌, List, [], ◌++◌, length, IfOk, IfErr, IsTrue, ◌↔◌, Ok, Err};
-ghost use Rattle.dnp_linkframe.specs.Frames.{Spells, AreChecked, IsChecked, IsFirstFault, IsFirstUnchecked, blocks, block_count};
+ghost use Rattle.std.specs.Prelude.{◌≡◌, ℕ, ◌+◌, ◌-◌, ◌*◌, ◌≤◌, ◌<◌, List, [], ◌++◌, length, take, OnOk, OnErr, IfOk, IfErr, IsOk, IsTrue, ◌↔◌, Ok, Err};
+ghost use Rattle.dnp_linkframe.specs.Frames.{Spells, AreChecked, EachChecked, IsChecked, IsFirstFault, IsFirstUnchecked, blocks, block_count};
+ghost use Rattle.dnp_linkframe.specs.Stream.{IsWhole};
 ghost use Rattle.dnp_linkframe.specs.declared.frame.Frame.{Frame as FrameValue};
 ghost use Rattle.dnp_linkframe.specs.declared.frame.FrameFault.{FrameFault as FaultValue};
 
@@ -20,30 +21,24 @@ fn is_checked(octets: &[u8]) -> bool
     }
 }
 
-/// The user data of the blocks, each with its check word behind it, that take `size` octets without
-/// them; or the number of the first block whose check word is wrong.
+/// Whether each block ends in its check word; if not, the number of the first that doesn't.
 #[inline(always)]
-fn read_blocks(octets: &[u8], size: usize) -> Result<ArrayVec<u8, MAX_USER>, usize>
-    requires fits { size ≤ 250 }
-    requires sized { length octets.now ≡ size + 2 * block_count size }
-    ensures found { IfOk result (λ user. (length user.items ≡ size) × AreChecked (blocks user.items) octets.now) }
+pub(crate) fn check_blocks(octets: &[u8]) -> Result<(), usize>
+    ensures checked { OnOk result (EachChecked octets.now) }
     ensures fault { IfErr result (IsFirstUnchecked octets.now) }
 {
-    let mut user = ArrayVec::new();
     for (number, block) in octets.chunks(CHECKED_BLOCK).enumerate() {
         if !is_checked(block) {
             return Err(number);
         }
-        user.try_extend_from_slice(&block[..block.len() - 2])
-            .unwrap();
     }
-    Ok(user)
+    Ok(())
 }
 
-/// The frame that the unit spells, or the first fault of the order.
+/// Whether the unit spells a frame; if not, the first fault of the order.
 #[inline(always)]
-fn read(unit: &[u8]) -> Result<Frame, FrameFault>
-    ensures found { IfOk result (Spells unit.now) }
+fn check_unit(unit: &[u8]) -> Result<(), FrameFault>
+    ensures whole { OnOk result (IsWhole unit.now) }
     ensures fault { IfErr result (IsFirstFault unit.now) }
 {
     if unit.len() < CHECKED_HEADER {
@@ -62,15 +57,67 @@ fn read(unit: &[u8]) -> Result<Frame, FrameFault>
     if unit.len() != CHECKED_HEADER + size + 2 * size.div_ceil(BLOCK) {
         return Err(FrameFault::Size);
     }
-    match read_blocks(&unit[CHECKED_HEADER..], size) {
-        Ok(user) => Ok(Frame {
-            control: unit[3],
-            dest: u16::from_le_bytes([unit[4], unit[5]]),
-            source: u16::from_le_bytes([unit[6], unit[7]]),
-            user,
-        }),
+    match check_blocks(&unit[CHECKED_HEADER..]) {
+        Ok(()) => Ok(()),
         Err(number) => Err(FrameFault::BlockCheck(number)),
     }
+}
+
+/// Appends what stands before the last two octets of a block. A whole block is copied apart from others:
+/// the compiler knows its length then, and the copy is a single move.
+#[inline(always)]
+fn copy_block(block: &[u8], user: &mut ArrayVec<u8, MAX_USER>)
+    requires two { 2 ≤ length block.now }
+    requires room { length user.old.items + (length block.now - 2) ≤ 250 }
+    ensures { user.new.items ≡ user.old.items ++ take (length block.now - 2) block.now }
+{
+    if block.len() == CHECKED_BLOCK {
+        user.try_extend_from_slice(&block[..BLOCK]).unwrap();
+    } else {
+        user.try_extend_from_slice(&block[..block.len() - 2])
+            .unwrap();
+    }
+}
+
+/// Appends the user data of the blocks, each with its check word behind it.
+#[inline(always)]
+fn copy_blocks(octets: &[u8], user: &mut ArrayVec<u8, MAX_USER>)
+    requires sized { (size : ℕ) × (size ≤ 250) × (length octets.now ≡ size + 2 * block_count size) }
+    requires checked { EachChecked octets.now }
+    requires empty { user.old.items ≡ [] }
+    ensures { AreChecked (blocks user.new.items) octets.now }
+{
+    for block in octets.chunks(CHECKED_BLOCK) {
+        copy_block(block, user);
+    }
+}
+
+/// Makes the frame the one that the unit spells.
+#[inline(always)]
+pub(crate) fn fill(unit: &[u8], frame: &mut Frame)
+    requires { IsWhole unit.now }
+    ensures { Spells unit.now frame.new }
+{
+    frame.control = unit[3];
+    frame.dest = u16::from_le_bytes([unit[4], unit[5]]);
+    frame.source = u16::from_le_bytes([unit[6], unit[7]]);
+    frame.user.clear();
+    copy_blocks(&unit[CHECKED_HEADER..], &mut frame.user);
+}
+
+/// Makes `frame` the frame that the unit of octets spells. Where it spells none the answer is a fault,
+/// the first that fits in the order of [`FrameFault`], and `frame` stays as it was.
+#[inline]
+pub fn read_frame_into(unit: &[u8], frame: &mut Frame) -> Result<(), FrameFault>
+    ensures found { OnOk result (Spells unit.now frame.new) }
+    ensures only { (spelled : FrameValue) → Spells unit.now spelled → IsOk result × (frame.new ≡ spelled) }
+    ensures fault { IfErr result (IsFirstFault unit.now) }
+    ensures only_fault { (fault : FaultValue) → IsFirstFault unit.now fault → result ≡ Err fault }
+    ensures refused { OnErr result (frame.new ≡ frame.old) }
+{
+    check_unit(unit)?;
+    fill(unit, frame);
+    Ok(())
 }
 
 /// The frame that the unit of octets spells, and a fault where it spells none: the first that fits
@@ -83,5 +130,7 @@ pub fn read_frame(unit: &[u8]) -> Result<Frame, FrameFault>
     ensures fault { IfErr result (IsFirstFault unit.now) }
     ensures only_fault { (fault : FaultValue) → IsFirstFault unit.now fault → result ≡ Err fault }
 {
-    read(unit)
+    let mut frame = Frame::blank();
+    read_frame_into(unit, &mut frame)?;
+    Ok(frame)
 }

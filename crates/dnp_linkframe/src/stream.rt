@@ -1,13 +1,13 @@
 //! Frames in a stream of octets that stands there as one list.
 
-ghost use Rattle.std.specs.Prelude.{◌≡◌, ℕ, ◌<◌, ◌≤◌, List, ◌++◌, length, drop, slice_index, IsTrue, ◌↔◌, OnOk, OnErr, IfOk, Ok, ◌+◌, vec_len, vec_capacity};
+ghost use Rattle.std.specs.Prelude.{◌≡◌, ◌⊎◌, ℕ, ◌<◌, ◌≤◌, List, [], ◌∷◌, ◌++◌, length, drop, slice_index, IsTrue, ◌↔◌, OnOk, OnErr, IfOk, Ok, ◌+◌, vec_len, vec_capacity};
 ghost use Rattle.dnp_linkframe.specs.Frames.{Spells};
-ghost use Rattle.dnp_linkframe.specs.Stream.{HasHeader, said_size, Gives};
+ghost use Rattle.dnp_linkframe.specs.Stream.{Waits, IsFront, Awaits, HasHeader, BeginsFrame, said_size, Gives};
 ghost use Rattle.dnp_linkframe.specs.declared.frame.Frame.{Frame as FrameValue};
 
 use crate::check::check_word;
-use crate::frame::{BLOCK, CHECKED_HEADER, Frame, FrameFault, LENGTH_OF_NONE};
-use crate::reading::read_frame;
+use crate::frame::{BLOCK, CHECKED_HEADER, Frame, LENGTH_OF_NONE};
+use crate::reading::{check_blocks, fill};
 use std::alloc::AllocError;
 
 /// Whether a header stands at the front: 05 64, and a check word that is right.
@@ -33,13 +33,38 @@ fn size_of_frame(stream: &[u8]) -> usize
     CHECKED_HEADER + user + 2 * user.div_ceil(BLOCK)
 }
 
-/// `read_frame` as a call of its own: the loop over noise was measured slower with its body inside.
-#[inline(never)]
-fn read_apart(unit: &[u8]) -> Result<Frame, FrameFault>
-    ensures found { IfOk result (Spells unit.now) }
-    ensures only { (frame : FrameValue) → Spells unit.now frame → result ≡ Ok frame }
+/// How many octets have to stand at the front before it is decided what they are, where those that stand
+/// there wait.
+#[inline]
+pub(crate) fn needed(waiting: &[u8]) -> usize
+    requires { IsFront waiting.now Waits }
+    ensures { Awaits waiting.now result }
 {
-    read_frame(unit)
+    if waiting.len() < CHECKED_HEADER {
+        return CHECKED_HEADER;
+    }
+    size_of_frame(waiting)
+}
+
+/// Appends the frame of the unit, whose header is good and which has all the octets that its LENGTH says,
+/// unless a block's check word is wrong. It is a call of its own: the room of a frame is cleared where a
+/// function begins that has one, and noise never comes here.
+#[inline(never)]
+fn push_frame(unit: &[u8], out: &mut Vec<Frame>) -> Result<(), AllocError>
+    requires begins { BeginsFrame unit.now }
+    requires sized { length unit.now ≡ said_size unit.now }
+    ensures given { OnOk result (((frame : FrameValue) × Spells unit.now frame × (out.new.items ≡ out.old.items ++ frame ∷ [])) ⊎ (((frame : FrameValue) → Spells unit.now frame → ⊥) × (out.new.items ≡ out.old.items))) }
+    ensures full { OnErr result ((frame : FrameValue) × Spells unit.now frame × (vec_capacity out.old ≤ vec_len out.old)) }
+    ensures refused { OnErr result (out.new.items ≡ out.old.items) }
+    ensures capacity { vec_capacity out.old ≤ vec_capacity out.new }
+{
+    if check_blocks(&unit[CHECKED_HEADER..]).is_err() {
+        return Ok(());
+    }
+    let mut frame = Frame::blank();
+    fill(unit, &mut frame);
+    out.push(frame)?;
+    Ok(())
 }
 
 /// Appends the frames that the stream gives, and answers how many of its octets are done with: the
@@ -67,9 +92,7 @@ pub(crate) fn take_frames(stream: &[u8], out: &mut Vec<Frame>) -> Result<usize, 
         if rest.len() < size {
             break;
         }
-        if let Ok(frame) = read_apart(&rest[..size]) {
-            out.push(frame)?;
-        }
+        push_frame(&rest[..size], out)?;
         done += size;
     }
     Ok(done)

@@ -50,6 +50,19 @@ fn push_checked(unit: &mut ArrayVec<u8, MAX_FRAME>, part: &[u8])
         .unwrap();
 }
 
+/// Writes the octets that spell the frame, at most 292, in place of what stands in `unit`.
+#[inline]
+pub fn write_frame_into(frame: &Frame, unit: &mut ArrayVec<u8, MAX_FRAME>)
+    ensures spells { Spells unit.new.items frame.now }
+    ensures only { (other : List ℕ) → Spells other frame.now → other ≡ unit.new.items }
+{
+    unit.clear();
+    push_checked(unit, &header_of(frame));
+    for block in frame.user.chunks(BLOCK) {
+        push_checked(unit, block);
+    }
+}
+
 /// The octets that spell the frame: at most 292, and the only ones that do.
 #[inline]
 pub fn write_frame(frame: &Frame) -> ArrayVec<u8, MAX_FRAME>
@@ -57,9 +70,6 @@ pub fn write_frame(frame: &Frame) -> ArrayVec<u8, MAX_FRAME>
     ensures only { (unit : List ℕ) → Spells unit frame.now → unit ≡ result.items }
 {
     let mut unit = ArrayVec::new();
-    push_checked(&mut unit, &header_of(frame));
-    for block in frame.user.chunks(BLOCK) {
-        push_checked(&mut unit, block);
-    }
+    write_frame_into(frame, &mut unit);
     unit
 }

@@ -2,7 +2,7 @@
 use Rattle.std.proofs.Common.{◌≡◌, ℕ, List, ◌∷◌, length, arith, rules, refl, ◌∙◌, subst, min}
 use Rattle.dnp_linkframe.specs.Frames.{HasCheck, header, blocks}
 use Rattle.dnp_linkframe.proofs.Blocks.{writes_first, writes_more, writes_all, one_joined}
-use Rattle.dnp_linkframe.proofs.writing.write_frame.Goals as goal
+use Rattle.dnp_linkframe.proofs.writing.write_frame_into.Goals as goal
 
 pub loop-block-init : goal.loop-block-init
 loop-block-init c =

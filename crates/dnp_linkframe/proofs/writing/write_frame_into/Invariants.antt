@@ -1,7 +1,7 @@
 use Rattle.std.proofs.Common.{◌≡◌, ◌∷◌}
 use Rattle.dnp_linkframe.specs.Frames.{header, blocks}
 use Rattle.dnp_linkframe.proofs.Blocks.{Writes}
-use Rattle.dnp_linkframe.proofs.writing.write_frame.Given as goal
+use Rattle.dnp_linkframe.proofs.writing.write_frame_into.Given as goal
 
 abbrev pub invariant-loop-block : goal.invariant-loop-block
 invariant-loop-block l =
