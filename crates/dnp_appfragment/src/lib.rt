@@ -3,8 +3,6 @@
 #![tactic(auto)]
 
 mod builder;
-#[cfg(test)]
-mod builder_tests;
 mod control;
 mod fault;
 mod fragments;
@@ -21,8 +19,6 @@ mod request;
 mod response;
 mod run;
 mod table;
-#[cfg(test)]
-mod tests;
 mod written;
 
 pub use builder::{Builder, Full};

@@ -5,7 +5,5 @@ mod answer;
 pub mod laws;
 mod octets;
 mod station;
-#[cfg(test)]
-mod tests;
 
 pub use answer::{AnswerFault, answer_line};

@@ -7,8 +7,6 @@ pub mod laws;
 mod line;
 mod port;
 #[cfg(test)]
-mod tests;
-#[cfg(test)]
 mod way;
 
 pub use line::{BROKEN_LOSSES, Line};
