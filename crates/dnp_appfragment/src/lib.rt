@@ -3,8 +3,6 @@
 #![tactic(auto)]
 
 mod builder;
-#[cfg(test)]
-mod builder_tests;
 mod control;
 mod fault;
 mod fragments;
@@ -22,8 +20,6 @@ mod response;
 mod row_walk;
 mod run;
 mod table;
-#[cfg(test)]
-mod tests;
 mod written;
 
 pub use builder::{Builder, Full};

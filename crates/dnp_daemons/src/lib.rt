@@ -7,8 +7,6 @@ mod input;
 pub mod laws;
 mod octets;
 mod station;
-#[cfg(test)]
-mod tests;
 mod text;
 mod writing;
 

@@ -6,8 +6,6 @@
 pub mod laws;
 mod line;
 mod port;
-#[cfg(test)]
-mod tests;
 pub mod way;
 
 pub use line::{BROKEN_LOSSES, Line};

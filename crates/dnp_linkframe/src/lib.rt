@@ -3,8 +3,6 @@
 //! octets that comes in pieces.
 #![tactic(auto)]
 
-#[cfg(test)]
-mod by_bits;
 mod check;
 mod frame;
 pub mod laws;
@@ -12,8 +10,6 @@ mod reader;
 mod reading;
 mod stream;
 mod table;
-#[cfg(test)]
-mod tests;
 mod writing;
 
 pub use check::check_word;

@@ -5,8 +5,6 @@
 mod function;
 pub mod laws;
 mod station;
-#[cfg(test)]
-mod tests;
 
 pub use function::{PrimaryFunction, SecondaryFunction};
 pub use station::{LinkAnswer, LinkStation};

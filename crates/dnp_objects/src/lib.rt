@@ -14,8 +14,6 @@ pub mod row;
 pub mod status;
 mod store;
 mod table;
-#[cfg(test)]
-mod tests;
 mod words;
 mod writing;
 

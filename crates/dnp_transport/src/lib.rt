@@ -5,8 +5,6 @@ mod assembler;
 mod cutting;
 mod header;
 pub mod laws;
-#[cfg(test)]
-mod tests;
 
 pub use assembler::{Assembler, Pushed};
 pub use cutting::{segment, segment_count};

@@ -4,7 +4,7 @@ use Rattle.std.proofs.lemmas.Bool.{eqb-true, eqb-false, both_ways}
 use Rattle.std.proofs.lemmas.List.{take_rest}
 use Rattle.dnp_line.specs.Comes.{Comes}
 use Rattle.dnp_line.proofs.Coming.{Comes-drop, Comes-nil, came_later}
-use Rattle.dnp_line.proofs.tests.+came_of.Goals as goal
+use Rattle.dnp_wire_tests.proofs.lines.+came_of.Goals as goal
 
 -- where nothing was sent, nothing came
 nothing_of : (came sent : List ℕ) → 0 < length came → length sent ≡ 0 → Comes came sent → ⊥

@@ -1,0 +1,139 @@
+//! A line and two ports in use, and what may come of what was sent, by hand from the definition.
+ghost use Rattle.std.specs.Prelude.{◌↔◌, IsTrue};
+ghost use Rattle.dnp_line.specs.Comes.{Comes};
+
+use dnp_line::{Line, Port};
+use dnp_linkframe::{read_frame, write_frame};
+use dnp_transport::segment_count;
+
+/// A reset of the link states from master 1024 to station 1.
+const RESET: [u8; 10] = [0x05, 0x64, 0x05, 0xC0, 0x01, 0x00, 0x00, 0x04, 0xE9, 0x21];
+
+/// 32 losses in a row, by damage too, break a line until it is cleared. What reads as a frame is
+/// no damage.
+#[test]
+fn breaks_at_32_losses(rt: HostRuntime) {
+    let mut line = Line::new(rt.alloc());
+    assert!(rt; line.reserve(33).is_ok());
+    for octet in 0..33 {
+        assert!(rt; line.room() > 0);
+        line.send(&[octet]);
+    }
+    line.damage(&RESET);
+    for octet in 0..31 {
+        assert!(rt; line.front() == Some([octet].as_slice()));
+        line.lose();
+        assert!(rt; !line.broken());
+    }
+    line.damage(&RESET[1..]);
+    assert!(rt; line.broken() && line.deliver().is_none() && line.room() > 0);
+    line.send(&[40]);
+    assert!(rt; line.front().is_none());
+    line.clear();
+    assert!(rt; !line.broken() && line.room() > 0);
+    line.send(&[50]);
+    assert!(rt; line.repeat().is_some() && line.deliver().is_some() && line.deliver().is_none());
+}
+
+/// A master's fragment of two segments comes to its outstation.
+#[test]
+fn carries_a_fragment(rt: HostRuntime) {
+    let mut line = Line::new(rt.alloc());
+    let mut master = Port::new(1, 10, true);
+    let mut outstation = Port::new(10, 1, false);
+    let fragment = [0xA5; 300];
+    assert!(rt; line.reserve(2).is_ok() && segment_count(&fragment) == 2);
+    for (k, header) in [0x40, 0x81].into_iter().enumerate() {
+        assert!(rt; line.room() > 0);
+        line.send(master.unit(&fragment, k).as_slice());
+        let unit = line.deliver().expect(&rt, "a unit");
+        let frame = read_frame(&unit).expect(&rt, "a frame");
+        assert!(rt; frame.control == 0xC4 && frame.user.first() == Some(&header));
+        assert!(rt; outstation.copy().take(&frame).whole == (k == 1));
+        assert!(rt; outstation.take(&frame).whole == (k == 1));
+    }
+    assert!(rt; outstation.fragment() == fragment.as_slice());
+    master.sent(2);
+    let third = read_frame(&master.unit(&fragment, 0)).expect(&rt, "a frame");
+    assert!(rt; third.user.first() == Some(&0x42));
+}
+
+/// A READ of class 1 that master 1024 sends to station 1 as confirmed user data.
+#[rattlefmt::skip]
+const READ: [u8; 18] = [
+    0x05, 0x64, 0x0B, 0xF3, 0x01, 0x00, 0x00, 0x04, 0x29, 0x07,
+    0xC0, 0xC0, 0x01, 0x3C, 0x02, 0x06, 0x54, 0xE0,
+];
+
+const ACK: [u8; 10] = [0x05, 0x64, 0x05, 0x00, 0x00, 0x04, 0x01, 0x00, 0x19, 0xA6];
+
+const NACK: [u8; 10] = [0x05, 0x64, 0x05, 0x01, 0x00, 0x04, 0x01, 0x00, 0x1F, 0x85];
+
+/// A unit, whether it completes a fragment, and the reply.
+const UNITS: [(&[u8], bool, [u8; 10]); 4] = [
+    (&READ, false, NACK),
+    (&RESET, false, ACK),
+    (&READ, true, ACK),
+    (&READ, false, ACK),
+];
+
+/// Confirmed user data go up once, and a repeat gets its acknowledgment alone.
+#[test]
+fn takes_confirmed_data_once(rt: HostRuntime) {
+    let mut port = Port::new(1, 1024, false);
+    for (step, (unit, whole, reply)) in UNITS.into_iter().enumerate() {
+        let frame = read_frame(unit).expect(&rt, "a frame");
+        let taken = port.take(&frame);
+        assert!(rt; taken.whole == whole, "step {step}");
+        assert!(rt;
+            write_frame(&taken.reply.expect(&rt, "a reply")).as_slice() == reply.as_slice()
+        );
+    }
+    assert!(rt; port.fragment() == [0xC0, 0x01, 0x3C, 0x02, 0x06].as_slice());
+    port.reset();
+    let taken = port.take(&read_frame(&READ).expect(&rt, "a frame"));
+    assert!(rt; taken.reply == read_frame(&NACK).ok());
+}
+
+/// Whether `came` came of `sent`: the relation of the clause as a function that runs, so that a
+/// table of pairs made by hand can be held against it.
+fn came_of(came: &[u8], sent: &[u8]) -> bool
+    ensures { IsTrue result ↔ Comes came.now sent.now }
+{
+    if came.is_empty() {
+        return true;
+    }
+    if sent.is_empty() {
+        return false;
+    }
+    if came[0] == sent[0] {
+        came_of(&came[1..], sent)
+    } else {
+        came_of(came, &sent[1..])
+    }
+}
+
+/// What came, what was sent, and whether the one may come of the other, from what the relation
+/// means.
+#[rattlefmt::skip]
+const CAME: [(&[u8], &[u8], bool); 12] = [
+    (b"", b"", true),
+    (b"", b"a", true),
+    (b"a", b"", false),
+    (b"a", b"a", true),
+    (b"aa", b"a", true),
+    (b"ab", b"ba", false),
+    (b"aba", b"ab", false),
+    (b"bb", b"ab", true),
+    (b"ab", b"axb", true),
+    (b"aabb", b"axb", true),
+    (b"abab", b"aab", false),
+    (b"ba", b"aba", true),
+];
+
+#[test]
+fn came_as_defined(rt: HostRuntime) {
+    for (case, (came, sent, holds)) in CAME.into_iter().enumerate() {
+        assert!(rt; came_of(came, sent) == holds, "case {case}");
+    }
+}

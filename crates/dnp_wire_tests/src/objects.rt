@@ -1,0 +1,184 @@
+//! Rows and commands, their octets and their words, from worked examples.
+
+use dnp_objects::{
+    Command, Kind, Lane, ObjectFault, Row, Status, object_size, read_command, read_row,
+    write_command, write_row,
+};
+
+macro_rules! row {
+    ($kind:ident, $index:literal, $flags:literal, $value:literal, $time:expr) => {
+        Row { kind: Kind::$kind, index: $index, flags: $flags, value: $value, time: $time }
+    };
+}
+
+/// Rows and the octets of their objects, both ways.
+#[rattlefmt::skip]
+const ROWS: [(u8, u8, Row, &[u8]); 14] = [
+    (1, 2, row!(Binary, 0, 0x02, 0, None), &[0x02]),
+    (2, 1, row!(Binary, 0, 0x01, 1, None), &[0x81]),
+    (2, 2, row!(Binary, 3, 0x01, 1, Some(1_000)), &[0x81, 0xE8, 0x03, 0, 0, 0, 0]),
+    (2, 2, row!(Binary, 3, 0x01, 0, Some(2_000)), &[0x01, 0xD0, 0x07, 0, 0, 0, 0]),
+    (22, 1, row!(Counter, 0, 0x01, 7, None), &[0x01, 0x07, 0, 0, 0]),
+    (30, 2, row!(Analog, 7, 0x01, -2, None), &[0x01, 0xFE, 0xFF]),
+    (32, 1, row!(Analog, 2, 0x01, -5, None), &[0x01, 0xFB, 0xFF, 0xFF, 0xFF]),
+    (20, 2, row!(Counter, 0, 0x01, 65_535, None), &[0x01, 0xFF, 0xFF]),
+    (20, 5, row!(Counter, 0, 0x01, 4_294_967_295, None), &[0xFF, 0xFF, 0xFF, 0xFF]),
+    (30, 2, row!(Analog, 0, 0x01, 32_767, None), &[0x01, 0xFF, 0x7F]),
+    (30, 4, row!(Analog, 0, 0x01, -32_768, None), &[0x00, 0x80]),
+    (30, 3, row!(Analog, 0, 0x01, 2_147_483_647, None), &[0xFF, 0xFF, 0xFF, 0x7F]),
+    (30, 1, row!(Analog, 0, 0x41, -2_147_483_648, None), &[0x41, 0, 0, 0, 0x80]),
+    (22, 6, row!(Counter, 9, 0xFF, 0, Some(281_474_976_710_655)),
+        &[0xFF, 0, 0, 0xFF, 0xFF, 0xFF, 0xFF, 0xFF, 0xFF]),
+];
+
+/// Octets of objects that are not read as rows.
+#[rattlefmt::skip]
+const NOT_READ: [(u8, u8, &[u8], ObjectFault); 6] = [
+    (2, 2, &[0x81, 0xE8, 0x03, 0, 0, 0], ObjectFault::Cut),
+    (30, 2, &[], ObjectFault::Cut),
+    (10, 2, &[0x81], ObjectFault::ObjectUnknown),
+    (1, 1, &[0x01], ObjectFault::ObjectUnknown),
+    (40, 2, &[0x01, 0, 0], ObjectFault::ObjectUnknown),
+    (2, 3, &[0x81, 0, 0], ObjectFault::ObjectUnknown),
+];
+
+/// Rows that are not written as objects.
+#[rattlefmt::skip]
+const NOT_WRITTEN: [(u8, u8, Row, ObjectFault); 13] = [
+    (20, 2, row!(Counter, 0, 0x01, 65_536, None), ObjectFault::ValueRange),
+    (20, 1, row!(Counter, 0, 0x01, -1, None), ObjectFault::ValueRange),
+    (20, 5, row!(Counter, 0, 0x01, 4_294_967_296, None), ObjectFault::ValueRange),
+    (20, 6, row!(Counter, 0, 0x03, 1, None), ObjectFault::ValueRange),
+    (30, 2, row!(Analog, 0, 0x01, 32_768, None), ObjectFault::ValueRange),
+    (30, 1, row!(Analog, 0, 0x01, -2_147_483_649, None), ObjectFault::ValueRange),
+    (30, 1, row!(Counter, 0, 0x01, 1, None), ObjectFault::ValueRange),
+    (1, 2, row!(Binary, 0, 0x81, 1, None), ObjectFault::ValueRange),
+    (1, 2, row!(Binary, 0, 0x01, 2, None), ObjectFault::ValueRange),
+    (2, 2, row!(Binary, 0, 0x01, 1, None), ObjectFault::ValueRange),
+    (2, 2, row!(Binary, 0, 0x01, 1, Some(281_474_976_710_656)), ObjectFault::ValueRange),
+    (12, 1, row!(Binary, 0, 0x01, 2, None), ObjectFault::ObjectUnknown),
+    (50, 1, row!(Binary, 0, 0x01, 2, None), ObjectFault::ObjectUnknown),
+];
+
+#[test]
+fn rows(rt: HostRuntime) {
+    for (case, (group, variation, row, octets)) in ROWS.into_iter().enumerate() {
+        assert!(rt;
+            read_row(group, variation, row.index, octets) == Ok(row),
+            "case {case}"
+        );
+        let written = write_row(group, variation, &row).expect(&rt, "octets");
+        let size = object_size(group, variation);
+        assert!(rt;
+            written.as_slice() == octets && size == Some(octets.len()),
+            "case {case}"
+        );
+    }
+    for (case, (group, variation, octets, fault)) in NOT_READ.into_iter().enumerate() {
+        assert!(rt;
+            read_row(group, variation, 0, octets) == Err(fault),
+            "case {case}"
+        );
+    }
+    for (case, (group, variation, row, fault)) in NOT_WRITTEN.into_iter().enumerate() {
+        assert!(rt;
+            write_row(group, variation, &row).err() == Some(fault),
+            "case {case}"
+        );
+    }
+}
+
+macro_rules! block {
+    ($index:literal, $code:literal, $count:literal, $on_ms:literal, $off_ms:literal) => {
+        Command::Block { index: $index, code: $code, count: $count, on_ms: $on_ms, off_ms: $off_ms }
+    };
+}
+
+/// Commands and the octets of their objects with the status 8, both ways.
+#[rattlefmt::skip]
+const COMMANDS: [(u8, u8, Command, &[u8]); 5] = [
+    (12, 1, block!(5, 0x03, 1, 0x0403_0201, 4_294_967_295),
+        &[0x03, 0x01, 0x01, 0x02, 0x03, 0x04, 0xFF, 0xFF, 0xFF, 0xFF, 0x08]),
+    (41, 2, Command::Set16 { index: 5, value: -2 }, &[0xFE, 0xFF, 0x08]),
+    (41, 2, Command::Set16 { index: 5, value: 32_767 }, &[0xFF, 0x7F, 0x08]),
+    (41, 1, Command::Set32 { index: 5, value: -2_147_483_648 }, &[0, 0, 0, 0x80, 0x08]),
+    (41, 1, Command::Set32 { index: 5, value: 258 }, &[0x02, 0x01, 0, 0, 0x08]),
+];
+
+/// A block with bit 7 of its status octet set, and what is no command.
+#[rattlefmt::skip]
+const ASKED: [(u8, u8, &[u8], Result<(Command, Status), ObjectFault>); 4] = [
+    (12, 1, &[0x03, 0x01, 0, 0, 0, 0, 0, 0, 0, 0, 0x82],
+        Ok((block!(5, 3, 1, 0, 0), Status::NO_SELECT))),
+    (12, 2, &[0x03, 0x01, 0, 0, 0, 0, 0, 0, 0, 0, 0x82], Err(ObjectFault::ObjectUnknown)),
+    (30, 2, &[0x03, 0x01, 0, 0, 0, 0, 0, 0, 0, 0, 0x82], Err(ObjectFault::ObjectUnknown)),
+    (41, 2, &[0xFE, 0xFF], Err(ObjectFault::Cut)),
+];
+
+#[test]
+fn commands(rt: HostRuntime) {
+    for (case, (group, variation, command, octets)) in COMMANDS.into_iter().enumerate() {
+        let status = Status::TOO_MANY_OBJS;
+        let read = read_command(group, variation, 5, octets);
+        assert!(rt; read == Ok((command, status)), "case {case}");
+        let written = write_command(&command, status);
+        let size = object_size(group, variation);
+        assert!(rt;
+            written.as_slice() == octets && size == Some(octets.len()),
+            "case {case}"
+        );
+    }
+    for (group, variation, octets, answer) in ASKED {
+        assert!(rt;
+            read_command(group, variation, 5, octets) == answer,
+            "{group}.{variation}"
+        );
+    }
+}
+
+const ROW_WORDS: [(Row, &str); 3] = [
+    (row!(Binary, 0, 0x01, 1, Some(1_000)), "binary 0 1 01 1000"),
+    (
+        row!(Counter, 65_535, 0xAF, 4_294_967_295, None),
+        "counter 65535 4294967295 AF -",
+    ),
+    (row!(Analog, 2, 0x00, -5, Some(0)), "analog 2 -5 00 0"),
+];
+
+const COMMAND_WORDS: [(Command, &str); 3] = [
+    (block!(0, 3, 1, 10, 20), "block 0 3 1 10 20"),
+    (
+        Command::Set16 {
+            index: 7,
+            value: -1,
+        },
+        "set16 7 -1",
+    ),
+    (
+        Command::Set32 {
+            index: 8,
+            value: 65_536,
+        },
+        "set32 8 65536",
+    ),
+];
+
+/// The words of rows and commands, and the lanes by number.
+#[test]
+fn words(rt: HostRuntime) {
+    for (row, words) in ROW_WORDS {
+        assert!(rt; format!(in rt.alloc(); "{row}").expect(&rt, "text").as_str() == words);
+    }
+    for (command, words) in COMMAND_WORDS {
+        assert!(rt;
+            format!(in rt.alloc(); "{command}")
+                .expect(&rt, "text")
+                .as_str()
+                == words
+        );
+    }
+    assert!(rt; Lane::numbered(3) == Lane::new(2, Kind::Binary));
+    assert!(rt; Lane::numbered(8) == Lane::new(3, Kind::Analog));
+    assert!(rt; Lane::numbered(9).is_none());
+    assert!(rt; Lane::new(1, Kind::Analog).expect(&rt, "a lane").number() == 2);
+}

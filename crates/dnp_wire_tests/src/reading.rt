@@ -1,0 +1,236 @@
+//! Worked fragments that are read, and octets that are none.
+
+use dnp_appfragment::{
+    AppFault, Control, Function, Header, Iin, Range, confirm, read_request, read_response,
+};
+use dnp_objects::{Command, Kind, Row, Status};
+
+/// What is no request, its fault, and the fault's number.
+#[rattlefmt::skip]
+const NO_REQUESTS: [(&[u8], AppFault, u8); 13] = [
+    (&[], AppFault::Short, 1),
+    (&[0xC0], AppFault::Short, 1),
+    (&[0xC0, 0x07], AppFault::FunctionUnknown, 2),
+    (&[0xC0, 0x81], AppFault::FunctionUnknown, 2),
+    (&[0xC0, 0x01, 0x3C, 0x02], AppFault::HeaderCut, 3),
+    (&[0xC0, 0x01, 0x6E, 0x00, 0x06], AppFault::ObjectUnknown, 5),
+    (&[0xC0, 0x01, 0x3C, 0x02, 0, 0, 0], AppFault::QualifierUnknown, 4),
+    (&[0xC0, 0x01, 0x01, 0x02, 0x00, 0x05, 0x04], AppFault::RangeBackward, 6),
+    (&[0xC0, 0x01, 0x01, 0x02, 0x00, 0x05], AppFault::HeaderCut, 3),
+    (&[0xC0, 0x03, 0x0C, 0x01, 0x28, 1, 0, 5, 0], AppFault::ObjectsCut, 7),
+    // The first fault counts, whatever comes behind it.
+    (&[0xC0, 0x01, 0x6E, 0x00], AppFault::HeaderCut, 3),
+    (&[0xC0, 0x01, 0x3C, 0x02, 0x06, 0x6E, 0x00, 0x06, 0x3C], AppFault::ObjectUnknown, 5),
+    // 65,535 commands are claimed and none is there.
+    (&[0xC0, 0x03, 0x0C, 0x01, 0x28, 0xFF, 0xFF], AppFault::ObjectsCut, 7),
+];
+
+/// What is no response, and its fault.
+#[rattlefmt::skip]
+const NO_RESPONSES: [(&[u8], AppFault); 6] = [
+    (&[0xC0, 0x81, 0x80], AppFault::Short),
+    (&[0xC0, 0x01, 0x80, 0x00], AppFault::FunctionUnknown),
+    (&[0xC0, 0x01, 0x80], AppFault::Short),
+    // Packed bits take a start and a stop alone.
+    (&[0xC0, 0x81, 0, 0, 0x01, 0x01, 0x28, 0, 0], AppFault::QualifierUnknown),
+    // Nine bits are in two octets.
+    (&[0xC0, 0x81, 0, 0, 0x01, 0x01, 0x00, 0, 8, 0xFF], AppFault::ObjectsCut),
+    // 65,536 flags are claimed.
+    (&[0xC0, 0x81, 0, 0, 0x01, 0x02, 0x01, 0, 0, 0xFF, 0xFF, 0x01], AppFault::ObjectsCut),
+];
+
+#[test]
+fn faults(rt: HostRuntime) {
+    for (case, (octets, fault, number)) in NO_REQUESTS.into_iter().enumerate() {
+        assert!(rt;
+            read_request(octets).err() == Some(fault) && fault as u8 == number,
+            "case {case}"
+        );
+    }
+    for (case, (octets, fault)) in NO_RESPONSES.into_iter().enumerate() {
+        assert!(rt; read_response(octets).err() == Some(fault), "case {case}");
+    }
+}
+
+/// Control octets and what they say.
+#[rattlefmt::skip]
+const CONTROLS: [(u8, Control); 3] = [
+    (0xC1, Control { fir: true, fin: true, con: false, uns: false, seq: 1 }),
+    (0xF0, Control { fir: true, fin: true, con: true, uns: true, seq: 0 }),
+    (0xE7, Control { fir: true, fin: true, con: true, uns: false, seq: 7 }),
+];
+
+/// Control octets, confirmations, and internal indications.
+#[test]
+fn octets_of_a_front(rt: HostRuntime) {
+    for (octet, control) in CONTROLS {
+        assert!(rt; Control::read(octet) == control && control.octet() == octet);
+    }
+    assert!(rt; confirm(1, true) == [0xD1, 0x00] && confirm(15, false) == [0xCF, 0x00]);
+    let restart = Iin::DEVICE_RESTART;
+    let iin = restart
+        .with(Iin::CLASS_1_EVENTS)
+        .with(Iin::EVENT_BUFFER_OVERFLOW);
+    assert!(rt;
+        iin == Iin {
+            one: 0x82,
+            two: 0x08
+        } && iin.without(restart)
+            == Iin {
+                one: 0x02,
+                two: 0x08
+            }
+    );
+    assert!(rt;
+        iin.has(Iin::CLASS_1_EVENTS) && !iin.has(Iin::CLASS_1_EVENTS.with(Iin::OBJECT_UNKNOWN))
+    );
+}
+
+macro_rules! header {
+    ($group:literal, $variation:literal, $range:expr, $octets:expr) => {
+        Header { group: $group, variation: $variation, range: $range, octets: $octets }
+    };
+}
+
+/// A block that latches output 5 on.
+const BLOCK: Command = Command::Block {
+    index: 5,
+    code: 3,
+    count: 1,
+    on_ms: 0,
+    off_ms: 0,
+};
+
+type Asked = (Command, Status);
+
+/// One object behind its index of two octets, and one without.
+const INDEXED: Range = Range::Indexed { wide: true, n: 1 };
+
+const COUNTED: Range = Range::Count { wide: false, n: 1 };
+
+/// Requests with one header or none: a READ of class 1, a SELECT of a control relay output block,
+/// WRITEs of the restart bit and of the time, and a CONFIRM, whatever follows its function. Then
+/// their functions, sequence numbers, headers, and how many objects and which command these have.
+#[rattlefmt::skip]
+const REQUESTS: [(&[u8], Function, u8, Option<Header<'static>>, usize, Option<Asked>); 5] = [
+    (&[0xC1, 0x01, 0x3C, 0x02, 0x06], Function::Read, 1,
+        Some(header!(60, 2, Range::All, &[])), 0, None),
+    (&[0xC3, 0x03, 0x0C, 0x01, 0x28, 1, 0, 5, 0, 3, 1, 0, 0, 0, 0, 0, 0, 0, 0, 0],
+        Function::Select, 3,
+        Some(header!(12, 1, INDEXED, &[5, 0, 3, 1, 0, 0, 0, 0, 0, 0, 0, 0, 0])),
+        1, Some((BLOCK, Status::SUCCESS))),
+    (&[0xC0, 0x02, 0x50, 0x01, 0x00, 7, 7, 0], Function::Write, 0,
+        Some(header!(80, 1, Range::Span { wide: false, first: 7, last: 7 }, &[0])), 1, None),
+    (&[0xC2, 0x02, 0x32, 0x01, 0x07, 1, 0xE8, 0x03, 0, 0, 0, 0], Function::Write, 2,
+        Some(header!(50, 1, COUNTED, &[0xE8, 0x03, 0, 0, 0, 0])), 1, None),
+    (&[0xD1, 0x00, 0x6E, 0x6E, 0x6E], Function::Confirm, 1, None, 0, None),
+];
+
+#[test]
+fn requests(rt: HostRuntime) {
+    for (octets, function, seq, header, count, command) in REQUESTS {
+        let Ok(mut request) = read_request(octets) else {
+            assert!(rt; false, "{octets:?}");
+            return;
+        };
+        assert!(rt;
+            request.function == function && request.control.seq == seq,
+            "{octets:?}"
+        );
+        assert!(rt;
+            request.headers.next() == header && request.headers.next().is_none(),
+            "{octets:?}"
+        );
+        if let Some(header) = header {
+            assert!(rt;
+                header.fits(function) && header.row(0).is_none(),
+                "{octets:?}"
+            );
+            assert!(rt; header.count() == count, "{octets:?}");
+            assert!(rt;
+                header.command(0) == command && header.command(1).is_none(),
+                "{octets:?}"
+            );
+        }
+    }
+}
+
+/// A READ of 2,048 octets has 682 headers.
+#[test]
+fn the_longest_read(rt: HostRuntime) {
+    let mut octets = [0x06; 2_048];
+    octets[0] = 0xC0;
+    octets[1] = 0x01;
+    for k in 0..682 {
+        octets[2 + 3 * k] = 0x3C;
+        octets[3 + 3 * k] = 0x01;
+    }
+    let Ok(mut request) = read_request(&octets) else {
+        assert!(rt; false);
+        return;
+    };
+    for _ in 0..682 {
+        assert!(rt; request.headers.next() == Some(header!(60, 1, Range::All, &[])));
+    }
+    assert!(rt; request.headers.next().is_none());
+}
+
+macro_rules! row {
+    ($kind:ident, $index:literal, $flags:literal, $value:literal, $time:expr) => {
+        Row { kind: Kind::$kind, index: $index, flags: $flags, value: $value, time: $time }
+    };
+}
+
+/// Responses with one header of rows, the fourth of packed bits, and two without rows: an
+/// unsolicited one that is empty, and a delay. Then their functions, indications, the object and
+/// count of the header, and its rows.
+#[rattlefmt::skip]
+const RESPONSES: [(&[u8], Function, Iin, Option<(u8, u8, usize)>, &[Row]); 6] = [
+    (&[0xE1, 0x81, 0, 0, 0x02, 0x02, 0x28, 1, 0, 3, 0, 0x81, 0xE8, 0x03, 0, 0, 0, 0],
+        Function::Response, Iin::NONE, Some((2, 2, 1)),
+        &[row!(Binary, 3, 0x01, 1, Some(1_000))]),
+    (&[0xC1, 0x81, 0, 0, 0x20, 0x01, 0x28, 1, 0, 2, 0, 0x01, 0xFB, 0xFF, 0xFF, 0xFF],
+        Function::Response, Iin::NONE, Some((32, 1, 1)),
+        &[row!(Analog, 2, 0x01, -5, None)]),
+    (&[0xC0, 0x81, 0x80, 0, 0x01, 0x02, 0x01, 1, 0, 2, 0, 0x02, 0x02],
+        Function::Response, Iin::DEVICE_RESTART, Some((1, 2, 2)),
+        &[row!(Binary, 1, 0x02, 0, None), row!(Binary, 2, 0x02, 0, None)]),
+    // The first index in bit 0 of the first octet.
+    (&[0xC0, 0x81, 0, 0, 0x01, 0x01, 0x00, 5, 14, 0x02, 0x03],
+        Function::Response, Iin::NONE, Some((1, 1, 10)), &[
+            row!(Binary, 5, 0x01, 0, None), row!(Binary, 6, 0x01, 1, None),
+            row!(Binary, 7, 0x01, 0, None), row!(Binary, 8, 0x01, 0, None),
+            row!(Binary, 9, 0x01, 0, None), row!(Binary, 10, 0x01, 0, None),
+            row!(Binary, 11, 0x01, 0, None), row!(Binary, 12, 0x01, 0, None),
+            row!(Binary, 13, 0x01, 1, None), row!(Binary, 14, 0x01, 1, None),
+        ]),
+    (&[0xF0, 0x82, 0x80, 0x00], Function::UnsolicitedResponse, Iin::DEVICE_RESTART, None, &[]),
+    (&[0xC0, 0x81, 0x80, 0x01, 0x34, 0x02, 0x07, 0x01, 0, 0],
+        Function::Response, Iin { one: 0x80, two: 0x01 }, Some((52, 2, 1)), &[]),
+];
+
+#[test]
+fn responses(rt: HostRuntime) {
+    for (case, (octets, function, iin, object, rows)) in RESPONSES.into_iter().enumerate() {
+        let Ok(mut response) = read_response(octets) else {
+            assert!(rt; false, "case {case}");
+            return;
+        };
+        assert!(rt;
+            response.function == function && response.iin == iin,
+            "case {case}"
+        );
+        let header = response.headers.next();
+        let found = header.map(|header| (header.group, header.variation, header.count()));
+        assert!(rt;
+            found == object && response.headers.next().is_none(),
+            "case {case}"
+        );
+        if let Some(header) = header {
+            for (k, row) in rows.iter().enumerate() {
+                assert!(rt; header.row(k) == Some(*row), "row {k} of case {case}");
+            }
+            assert!(rt; header.row(rows.len()).is_none() && header.command(0).is_none());
+        }
+    }
+}
