@@ -6,8 +6,7 @@
 // FILE: how many requests there were, how many blocks were not given back, and how many octets of
 // OUTPUT, a file, were there when request N was refused, or -1 where none was.
 //
-// Only the program's own calls count: those of the C library and the loader, at its start and end and
-// within, are never refused.
+// Only the program's own calls count: those of the C library and the loader are never refused.
 #define _GNU_SOURCE
 #include <errno.h>
 #include <fcntl.h>

@@ -1,7 +1,7 @@
 //! Cases for tests/memory, which runs this program with each of its requests for memory refused in
 //! turn. Each case makes a number of what its calls answer. A call that was refused is made once
-//! more, and has to do then what it would have done: a refusal changes nothing. So what is printed is
-//! the same whichever request is refused, as `stdout` has it. Printing asks for no memory.
+//! more, and has to do then what it would have done: a refusal changes nothing. So what is printed
+//! is the same whichever request is refused, as `stdout` has it. Printing asks for no memory.
 #![tactic(auto)]
 
 mod controls;

@@ -8,12 +8,12 @@ use dnp_objects::{Kind, Row};
 use std::alloc::Global;
 use std::test::Fail;
 
-/// A call on lanes, and what it answers. Rows are told apart by their index, and a lane is known by its
-/// number.
+/// A call on lanes, and what it answers. A lane is known by its number, and rows are told apart by
+/// their index.
 #[derive(Clone, Copy)]
 enum Step<'a> {
-    /// Rows are put into a lane, and these are dropped from it.
-    Append(usize, &'a [u16], &'a [u16]),
+    /// Rows are put into lanes, and these are dropped.
+    Append(&'a [(usize, u16)], &'a [u16]),
     /// The rows of a lane with an id over this one, at most so many: their ids and indices.
     Offer(usize, u64, usize, &'a [(u64, u16)]),
     /// The rows up to these ids are taken out.
@@ -51,12 +51,12 @@ fn are(rows: &[Row], indices: &[u16]) -> bool {
 /// Whether the lanes do the step as it says.
 fn does<L: Lanes>(lanes: &mut L, alloc: Global, step: Step<'_>) -> Result<bool, StoreFault> {
     match step {
-        Step::Append(number, indices, dropped) => {
-            let Some(lane) = Lane::numbered(number) else {
-                return Ok(false);
-            };
+        Step::Append(events, dropped) => {
             let mut rows = Vec::new(alloc);
-            for index in indices {
+            for (number, index) in events {
+                let Some(lane) = Lane::numbered(*number) else {
+                    return Ok(false);
+                };
                 if rows.push(event(lane, *index)).is_err() {
                     return Err(StoreFault::Memory);
                 }
@@ -99,52 +99,50 @@ fn lanes_step_by_step(rt: HostRuntime) -> Result<(), Fail> {
     let steps = [
         Counts(0, 0, 0, 0, false),
         // A lane of two rows takes three.
-        Append(0, &[1], &[]),
-        Append(0, &[2], &[]),
+        Append(&[(0, 101)], &[]),
+        Append(&[(0, 102)], &[]),
         Counts(0, 2, 2, 0, false),
-        Append(0, &[3], &[1]),
+        Append(&[(0, 103)], &[101]),
         Counts(0, 2, 3, 1, true),
-        Offer(0, 0, 9, &[(2, 2), (3, 3)]),
+        Offer(0, 0, 9, &[(2, 102), (3, 103)]),
         // By ids, not by the number of rows: up to 2 is one row now.
-        Release([2, 0, 0, 0, 0, 0, 0, 0, 0], &[2]),
+        Release([2, 0, 0, 0, 0, 0, 0, 0, 0], &[102]),
         Counts(0, 1, 3, 1, false),
-        Offer(0, 0, 9, &[(3, 3)]),
+        Offer(0, 0, 9, &[(3, 103)]),
         // It takes five in one call, of which three are dropped again.
-        Release([3, 0, 0, 0, 0, 0, 0, 0, 0], &[3]),
-        Append(0, &[4, 5, 6, 7, 8], &[4, 5, 6]),
+        Release([3, 0, 0, 0, 0, 0, 0, 0, 0], &[103]),
+        Append(&[(0, 104), (0, 105), (0, 106), (0, 107), (0, 108)], &[104, 105, 106]),
         Counts(0, 2, 8, 4, true),
         // The overflow stays while any of the nine lanes is full, also one that dropped nothing.
-        Append(8, &[9], &[]),
-        Release([8, 0, 0, 0, 0, 0, 0, 0, 0], &[7, 8]),
+        Append(&[(8, 109)], &[]),
+        Release([8, 0, 0, 0, 0, 0, 0, 0, 0], &[107, 108]),
         Counts(0, 0, 0, 4, true),
-        Release([0, 0, 0, 0, 0, 0, 0, 0, 9], &[9]),
+        Release([0, 0, 0, 0, 0, 0, 0, 0, 9], &[109]),
         Counts(8, 0, 0, 0, false),
         // Lanes share one series of ids, and no id comes again after its row has left.
-        Append(0, &[10], &[]),
-        Append(5, &[11], &[]),
-        Append(0, &[12], &[]),
-        Offer(0, 0, 9, &[(10, 10), (12, 12)]),
-        Offer(5, 0, 9, &[(11, 11)]),
-        Release([12, 0, 0, 0, 0, 11, 0, 0, 0], &[10, 12, 11]),
-        Append(5, &[13], &[]),
-        Offer(5, 0, 9, &[(13, 13)]),
+        Append(&[(0, 110), (5, 111), (0, 112)], &[]),
+        Offer(0, 0, 9, &[(10, 110), (12, 112)]),
+        Offer(5, 0, 9, &[(11, 111)]),
+        Release([12, 0, 0, 0, 0, 11, 0, 0, 0], &[110, 112, 111]),
+        Append(&[(5, 113)], &[]),
+        Offer(5, 0, 9, &[(13, 113)]),
         // Emptied lanes keep their counts of lost rows, and the overflow ends.
-        Append(8, &[14], &[]),
-        Append(0, &[15, 16, 17], &[15]),
-        Empty(&[16, 17, 13, 14]),
+        Append(&[(8, 114), (0, 115), (0, 116), (0, 117)], &[115]),
+        Empty(&[116, 117, 113, 114]),
         Counts(0, 0, 0, 5, false),
-        Append(0, &[18], &[]),
-        Offer(0, 0, 9, &[(18, 18)]),
+        Append(&[(0, 118)], &[]),
+        Offer(0, 0, 9, &[(18, 118)]),
         // An offer begins behind an id, and ends at its limit.
-        Append(1, &[19, 20, 21, 22], &[]),
-        Offer(1, 19, 2, &[(20, 20), (21, 21)]),
+        Append(&[(1, 119), (1, 120), (1, 121), (1, 122)], &[]),
+        Offer(1, 19, 2, &[(20, 120), (21, 121)]),
         Offer(1, 22, 9, &[]),
         Offer(1, 0, 0, &[]),
         // Of the rows that were offered one is dropped before they are released, and the row that
         // dropped it stays.
-        Append(1, &[23], &[19]),
-        Release([0, 22, 0, 0, 0, 0, 0, 0, 0], &[20, 21, 22]),
-        Offer(1, 0, 9, &[(23, 23)]),
+        Offer(1, 0, 9, &[(19, 119), (20, 120), (21, 121), (22, 122)]),
+        Append(&[(1, 123)], &[119]),
+        Release([0, 22, 0, 0, 0, 0, 0, 0, 0], &[120, 121, 122]),
+        Offer(1, 0, 9, &[(23, 123)]),
     ];
     let alloc = rt.alloc();
     let mut lanes = PlainLanes::new(alloc, [2, 4, 4, 4, 4, 4, 4, 4, 1])?;

@@ -1,8 +1,9 @@
-//! Tests of a station's parts: `dnp_pointdb`, `dnp_eventbuf` and `dnp_controls`. They stand apart from
-//! those crates, since a crate with tests is proved twice.
+//! Tests of a station's parts: `dnp_pointdb`, `dnp_eventbuf` and `dnp_controls`. They stand apart
+//! from those crates, since a crate with tests is proved twice.
 //!
-//! They are few: worked values that no clause has, each call once where there is memory, and each
-//! generic call once at a type of its own. What a clause says of every argument has no test.
+//! They are few: worked values that no clause has, each call that asks for memory once where there
+//! is some, and each trait once through its bound, at a type that has it. What a clause says of every
+//! argument has no test.
 #![tactic(auto)]
 
 #[cfg(test)]

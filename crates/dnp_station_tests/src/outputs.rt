@@ -16,7 +16,8 @@ pub fn block(index: u16, code: u8, count: u8) -> Command {
     }
 }
 
-/// Whether a request of these commands is checked and answered so; no statuses where they are too many.
+/// Whether a request of these commands is checked and answered so; no statuses where they are too
+/// many.
 fn answers<O: Outputs>(
     outputs: &mut O,
     alloc: Global,

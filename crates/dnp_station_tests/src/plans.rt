@@ -47,7 +47,8 @@ fn what_is_no_plan(rt: HostRuntime) -> Result<(), Fail> {
     use Kind::{Analog, Binary, Counter};
     use PlanFault::{Class, Overlap, TooMany, TooWide};
 
-    // Two blocks, each by kind, first index, points, class and deadband, and what is wrong with them.
+    // Two blocks, each by kind, first index, points, class and deadband, and what is wrong with
+    // them.
     #[rattlefmt::skip]
     let cases = [
         ((Analog, 0, 6, 1, 0), (Analog, 5, 6, 1, 0), Some(Overlap)),

@@ -43,8 +43,8 @@ fn reading(value: i64, flags: u8) -> Reading {
     }
 }
 
-/// Whether a change is answered the event of this class, or none where the class is 0, and `would` had
-/// told so.
+/// Whether a change is answered the event of this class, or none where the class is 0, and `would`
+/// had told so.
 fn makes(points: &mut PointDb, class: u8, kind: Kind, index: u16, value: i64, flags: u8) -> bool {
     let row = Row {
         kind,
@@ -116,6 +116,8 @@ fn a_station_step_by_step(rt: HostRuntime) -> Result<(), Fail> {
         Refused(ValueRange, Counter, 10, 4_294_967_296, 0x01),
         Refused(ValueRange, Analog, 1, 2_147_483_648, 0x01),
         Refused(ValueRange, Analog, 1, -2_147_483_649, 0x01),
+        // Nothing was read yet.
+        Reads(Counter, 10, 0, 0x02),
         // The deadband is measured from the last report, and flags report at once.
         Quiet(Analog, 1, 0, 0x02),
         Quiet(Analog, 1, 10, 0x02),

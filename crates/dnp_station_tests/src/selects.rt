@@ -15,8 +15,8 @@ const LATCH_ON_4: [u8; 18] = [
     0x00, 0x00,
 ];
 
-/// What happens to selects whose timer runs for ten seconds: a select or an OPERATE at a moment under a
-/// number, with the status that the OPERATE gets.
+/// What happens to selects whose timer runs for ten seconds: a select or an OPERATE at a moment under
+/// a number, with the status that the OPERATE gets.
 #[derive(Clone, Copy)]
 enum Step {
     Select(u64, u8),
