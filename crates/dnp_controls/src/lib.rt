@@ -11,8 +11,6 @@ mod performed;
 mod plain_book;
 mod plain_outputs;
 mod select;
-#[cfg(test)]
-mod tests;
 
 pub use book::{Book, BookFault, Entry, State};
 pub use code::{Operation, obeys_code_rule};

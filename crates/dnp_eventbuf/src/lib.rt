@@ -9,8 +9,6 @@ mod numbered;
 mod plain;
 mod plain_lane;
 mod tally;
-#[cfg(test)]
-mod tests;
 
 pub use carried::is_carried;
 pub use dnp_objects::{Lane, LaneRow, StoreFault};

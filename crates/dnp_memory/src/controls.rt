@@ -13,52 +13,40 @@ const LATCH_ON: Command = Command::Block {
     off_ms: 0,
 };
 
-/// Adds five controls, reads them, spends and finishes the first.
-#[unsafe(no_mangle)]
-pub extern "C" fn dnp_memory_book(alloc: Global) -> u64 {
+/// Adds five controls, spends and finishes the first, and lists those after it. The digits of the
+/// number: the ids of those that were added, and of those that are listed.
+pub fn add_and_list(alloc: Global) -> Option<u64> {
     let mut book = PlainBook::new(alloc);
-    let mut sum = 0u64;
+    let mut number = 0u64;
     for _ in 0..5 {
-        let mut added = book.add(alloc, 4, &LATCH_ON);
-        if added.is_err() {
-            added = book.add(alloc, 4, &LATCH_ON);
-        }
-        let Ok(id) = added else {
-            return u64::MAX;
+        let id = match book.add(alloc, 4, &LATCH_ON) {
+            Ok(id) => id,
+            Err(_) => book.add(alloc, 4, &LATCH_ON).ok()?,
         };
-        sum = sum.wrapping_mul(31).wrapping_add(id);
+        number = number.wrapping_mul(10).wrapping_add(id);
     }
-    if book.spend(alloc, 1).is_err() || book.finish(alloc, 1, Status::SUCCESS).is_err() {
-        return u64::MAX;
-    }
-    let mut rows = book.rows(alloc, 1, 9);
-    if rows.is_err() {
-        rows = book.rows(alloc, 1, 9);
-    }
-    let Ok(rows) = rows else {
-        return u64::MAX;
+    book.spend(alloc, 1).ok()?;
+    book.finish(alloc, 1, Status::SUCCESS).ok()?;
+    let rows = match book.rows(alloc, 1, 9) {
+        Ok(rows) => rows,
+        Err(_) => book.rows(alloc, 1, 9).ok()?,
     };
     for entry in rows.iter() {
-        sum = sum.wrapping_mul(31).wrapping_add(entry.id);
+        number = number.wrapping_mul(10).wrapping_add(entry.id);
     }
-    sum
+    Some(number)
 }
 
-/// Operates three requests of two commands each.
-#[unsafe(no_mangle)]
-pub extern "C" fn dnp_memory_outputs(alloc: Global) -> u64 {
+/// Operates three requests of two commands each, and counts the commands that were performed.
+pub fn operate(alloc: Global) -> Option<u64> {
     let mut outputs = PlainOutputs::new(alloc, 6, 0);
     for turn in 0..3usize {
-        let mut statuses = outputs.operate(alloc, &[LATCH_ON, LATCH_ON]);
-        if statuses.is_err() {
+        if outputs.operate(alloc, &[LATCH_ON, LATCH_ON]).is_err() {
             if outputs.operated().len() != 2 * turn {
-                return u64::MAX;
+                return None;
             }
-            statuses = outputs.operate(alloc, &[LATCH_ON, LATCH_ON]);
-        }
-        if statuses.is_err() {
-            return u64::MAX;
+            outputs.operate(alloc, &[LATCH_ON, LATCH_ON]).ok()?;
         }
     }
-    outputs.operated().len() as u64
+    Some(outputs.operated().len() as u64)
 }

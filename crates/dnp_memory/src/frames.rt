@@ -6,9 +6,8 @@ use std::alloc::Global;
 /// The reset of an outstation's link states by its master.
 const RESET: [u8; 10] = [0x05, 0x64, 0x05, 0xC0, 0x01, 0x00, 0x00, 0x04, 0xE9, 0x21];
 
-/// Feeds 40 frames octet by octet.
-#[unsafe(no_mangle)]
-pub extern "C" fn dnp_memory_feed(alloc: Global) -> u64 {
+/// Feeds 40 frames octet by octet, and counts those that come.
+pub fn feed(alloc: Global) -> Option<u64> {
     let mut reader = FrameReader::new();
     let mut frames: Vec<Frame> = Vec::new(alloc);
     for turn in 0..400usize {
@@ -16,12 +15,10 @@ pub extern "C" fn dnp_memory_feed(alloc: Global) -> u64 {
         let before = frames.len();
         if reader.feed(&[octet], &mut frames).is_err() {
             if frames.len() != before {
-                return u64::MAX;
+                return None;
             }
-            if reader.feed(&[octet], &mut frames).is_err() {
-                return u64::MAX;
-            }
+            reader.feed(&[octet], &mut frames).ok()?;
         }
     }
-    frames.len() as u64
+    Some(frames.len() as u64)
 }

@@ -3,24 +3,32 @@
 use dnp_line::Line;
 use std::alloc::Global;
 
-/// Makes room for more units on a line that has some, and takes all of them off again.
-#[unsafe(no_mangle)]
-pub extern "C" fn dnp_memory_reserve(alloc: Global) -> u64 {
+/// Sends 12 units on a line, with room for three more before each, takes them off again, and counts
+/// those that come in their order.
+pub fn reserve(alloc: Global) -> Option<u64> {
     let mut line = Line::new(alloc);
     for turn in 0..12u8 {
         let room = line.room();
-        if line.reserve(3).is_err() && (line.room() != room || line.reserve(3).is_err()) {
-            return u64::MAX;
+        if line.reserve(3).is_err() {
+            if line.room() != room {
+                return None;
+            }
+            line.reserve(3).ok()?;
         }
         if line.room() > 0 {
             line.send(&[turn]);
         }
     }
-    let mut sum = 0u64;
-    for _ in 0..12 {
-        let unit = line.deliver().unwrap_or_default();
-        let octet = unit.first().copied().unwrap_or(0);
-        sum = sum.wrapping_mul(31).wrapping_add(u64::from(octet));
+    let mut count = 0u64;
+    for turn in 0..12u8 {
+        let unit = line.deliver()?;
+        if unit.as_slice() == [turn].as_slice() {
+            count = count.wrapping_add(1);
+        }
     }
-    sum
+    if line.deliver().is_some() {
+        None
+    } else {
+        Some(count)
+    }
 }

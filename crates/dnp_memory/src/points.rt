@@ -34,30 +34,31 @@ fn database(alloc: Global, plan: &PointPlan) -> Option<PointDb> {
     PointDb::new(alloc, copy).ok()
 }
 
-/// Makes a plan, copies it, makes a database of the copy, and changes a point.
-#[unsafe(no_mangle)]
-pub extern "C" fn dnp_memory_points(alloc: Global) -> u64 {
-    let mut first = plan(alloc);
-    if first.is_none() {
-        first = plan(alloc);
+/// Makes a plan, copies it, makes a database of the copy, changes the point of each index up to 11,
+/// and counts the events: those of the six points.
+pub fn change_all(alloc: Global) -> Option<u64> {
+    let mut made = plan(alloc);
+    if made.is_none() {
+        made = plan(alloc);
     }
-    let Some(plan) = first else {
-        return u64::MAX;
-    };
+    let plan = made?;
     let mut made = database(alloc, &plan);
     if made.is_none() {
         made = database(alloc, &plan);
     }
-    let Some(mut points) = made else {
-        return u64::MAX;
-    };
+    let mut points = made?;
     let reading = Reading {
         value: 1,
         flags: 1,
         time: None,
     };
-    match points.change(Kind::Binary, 9, reading) {
-        Ok(Some(event)) => u64::from(event.row.index),
-        _ => u64::MAX,
+    let mut count = 0u64;
+    for index in 0..12u16 {
+        if let Ok(Some(event)) = points.change(Kind::Binary, index, reading)
+            && event.row.index == index
+        {
+            count = count.wrapping_add(1);
+        }
     }
+    Some(count)
 }

@@ -14,8 +14,6 @@ mod point;
 mod reading;
 mod state;
 mod taken;
-#[cfg(test)]
-mod tests;
 mod times;
 
 pub use database::PointDb;

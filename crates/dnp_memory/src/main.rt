@@ -1,0 +1,31 @@
+//! Cases for tests/memory, which runs this program with each of its requests for memory refused in
+//! turn. Each case makes a number of what its calls answer. A call that was refused is made once
+//! more, and has to do then what it would have done: a refusal changes nothing. So what is printed
+//! is the same whichever request is refused, as `stdout` has it. Printing asks for no memory.
+#![tactic(auto)]
+
+mod controls;
+mod frames;
+mod lanes;
+mod lines;
+mod points;
+
+use std::io;
+
+fn main(rt: HostRuntime) -> io::Result<()> {
+    let alloc = rt.alloc();
+    print(&rt, "feed", frames::feed(alloc))?;
+    print(&rt, "reserve", lines::reserve(alloc))?;
+    print(&rt, "points", points::change_all(alloc))?;
+    print(&rt, "lanes", lanes::fill_and_empty(alloc))?;
+    print(&rt, "book", controls::add_and_list(alloc))?;
+    print(&rt, "outputs", controls::operate(alloc))
+}
+
+/// Prints a case's name and its number, or that it took a wrong turn.
+fn print(rt: &impl Print, name: &str, number: Option<u64>) -> io::Result<()> {
+    match number {
+        Some(number) => println!(rt; "{name} {number}"),
+        None => println!(rt; "{name} wrong"),
+    }
+}

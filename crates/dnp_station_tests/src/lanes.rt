@@ -1,0 +1,189 @@
+//! Event lanes that overflow, step by step, and the rows that they carry.
+
+ghost use Rattle.std.specs.Prelude.{◌≡◌, true, All};
+ghost use Rattle.dnp_eventbuf.specs.Carried.{IsCarried};
+
+use dnp_eventbuf::{Lane, LaneRow, Lanes, PlainLanes, StoreFault, Upto, is_carried};
+use dnp_objects::{Kind, Row};
+use std::alloc::Global;
+use std::test::Fail;
+
+/// A call on lanes, and what it answers. A lane is known by its number, and rows are told apart by
+/// their index.
+#[derive(Clone, Copy)]
+enum Step<'a> {
+    /// Rows are put into lanes, and these are dropped.
+    Append(&'a [(usize, u16)], &'a [u16]),
+    /// The rows of a lane with an id over this one, at most so many: their ids and indices.
+    Offer(usize, u64, usize, &'a [(u64, u16)]),
+    /// The rows up to these ids are taken out.
+    Release(Upto, &'a [u16]),
+    /// All rows are taken out.
+    Empty(&'a [u16]),
+    /// A lane holds so many rows, its last id is this one, and it has lost so many; whether the
+    /// overflow is raised.
+    Counts(usize, u32, u64, u64, bool),
+}
+
+/// An event with this index for this lane.
+fn event(lane: Lane, index: u16) -> LaneRow {
+    let row = Row {
+        kind: lane.kind,
+        index,
+        flags: 1,
+        value: 1,
+        time: Some(1_000),
+    };
+    LaneRow { lane, row }
+}
+
+fn all_carried(rows: &[LaneRow]) -> bool
+    ensures { result ≡ true → All IsCarried rows.now }
+{
+    rows.iter().all(|row| is_carried(row))
+}
+
+/// Whether the rows have these indices, in this order.
+fn are(rows: &[Row], indices: &[u16]) -> bool {
+    rows.iter().map(|row| row.index).eq(indices.iter().copied())
+}
+
+/// Whether the lanes do the step as it says.
+fn does<L: Lanes>(lanes: &mut L, alloc: Global, step: Step<'_>) -> Result<bool, StoreFault> {
+    match step {
+        Step::Append(events, dropped) => {
+            let mut rows = Vec::new(alloc);
+            for (number, index) in events {
+                let Some(lane) = Lane::numbered(*number) else {
+                    return Ok(false);
+                };
+                if rows.push(event(lane, *index)).is_err() {
+                    return Err(StoreFault::Memory);
+                }
+            }
+            Ok(all_carried(&rows) && are(&lanes.append(alloc, &rows)?, dropped))
+        }
+        Step::Offer(number, after, most, offered) => {
+            let Some(lane) = Lane::numbered(number) else {
+                return Ok(false);
+            };
+            let rows = lanes.offer(alloc, lane, after, most)?;
+            Ok(
+                rows.iter()
+                    .map(|x| (x.id, x.row.index))
+                    .eq(offered.iter().copied()),
+            )
+        }
+        Step::Release(upto, released) => Ok(are(&lanes.release(alloc, &upto)?, released)),
+        Step::Empty(emptied) => Ok(are(&lanes.empty(alloc)?, emptied)),
+        Step::Counts(number, len, last, lost, raised) => {
+            let Some(lane) = Lane::numbered(number) else {
+                return Ok(false);
+            };
+            Ok(
+                lanes.len(lane) == len
+                    && lanes.last(lane) == last
+                    && lanes.lost(lane) == lost
+                    && lanes.raised() == raised,
+            )
+        }
+    }
+}
+
+#[test]
+fn lanes_step_by_step(rt: HostRuntime) -> Result<(), Fail> {
+    use Step::{Append, Counts, Empty, Offer, Release};
+
+    // Lane 0 takes two rows, lane 8 one, and the others four.
+    #[rattlefmt::skip]
+    let steps = [
+        Counts(0, 0, 0, 0, false),
+        // A lane of two rows takes three.
+        Append(&[(0, 101)], &[]),
+        Append(&[(0, 102)], &[]),
+        Counts(0, 2, 2, 0, false),
+        Append(&[(0, 103)], &[101]),
+        Counts(0, 2, 3, 1, true),
+        Offer(0, 0, 9, &[(2, 102), (3, 103)]),
+        // By ids, not by the number of rows: up to 2 is one row now.
+        Release([2, 0, 0, 0, 0, 0, 0, 0, 0], &[102]),
+        Counts(0, 1, 3, 1, false),
+        Offer(0, 0, 9, &[(3, 103)]),
+        // It takes five in one call, of which three are dropped again.
+        Release([3, 0, 0, 0, 0, 0, 0, 0, 0], &[103]),
+        Append(&[(0, 104), (0, 105), (0, 106), (0, 107), (0, 108)], &[104, 105, 106]),
+        Counts(0, 2, 8, 4, true),
+        // The overflow stays while any of the nine lanes is full, also one that dropped nothing.
+        Append(&[(8, 109)], &[]),
+        Release([8, 0, 0, 0, 0, 0, 0, 0, 0], &[107, 108]),
+        Counts(0, 0, 0, 4, true),
+        Release([0, 0, 0, 0, 0, 0, 0, 0, 9], &[109]),
+        Counts(8, 0, 0, 0, false),
+        // Lanes share one series of ids, and no id comes again after its row has left.
+        Append(&[(0, 110), (5, 111), (0, 112)], &[]),
+        Offer(0, 0, 9, &[(10, 110), (12, 112)]),
+        Offer(5, 0, 9, &[(11, 111)]),
+        Release([12, 0, 0, 0, 0, 11, 0, 0, 0], &[110, 112, 111]),
+        Append(&[(5, 113)], &[]),
+        Offer(5, 0, 9, &[(13, 113)]),
+        // Emptied lanes keep their counts of lost rows, and the overflow ends.
+        Append(&[(8, 114), (0, 115), (0, 116), (0, 117)], &[115]),
+        Empty(&[116, 117, 113, 114]),
+        Counts(0, 0, 0, 5, false),
+        Append(&[(0, 118)], &[]),
+        Offer(0, 0, 9, &[(18, 118)]),
+        // An offer begins behind an id, and ends at its limit.
+        Append(&[(1, 119), (1, 120), (1, 121), (1, 122)], &[]),
+        Offer(1, 19, 2, &[(20, 120), (21, 121)]),
+        Offer(1, 22, 9, &[]),
+        Offer(1, 0, 0, &[]),
+        // Of the rows that were offered one is dropped before they are released, and the row that
+        // dropped it stays.
+        Offer(1, 0, 9, &[(19, 119), (20, 120), (21, 121), (22, 122)]),
+        Append(&[(1, 123)], &[119]),
+        Release([0, 22, 0, 0, 0, 0, 0, 0, 0], &[120, 121, 122]),
+        Offer(1, 0, 9, &[(23, 123)]),
+    ];
+    let alloc = rt.alloc();
+    let mut lanes = PlainLanes::new(alloc, [2, 4, 4, 4, 4, 4, 4, 4, 1])?;
+    for (number, step) in steps.iter().enumerate() {
+        assert!(rt; does(&mut lanes, alloc, *step)?, "step {number}");
+    }
+    Ok(())
+}
+
+/// The ranges of event objects, and the lane's kind.
+#[test]
+fn rows_that_lanes_carry(rt: HostRuntime) {
+    use Kind::{Analog, Binary, Counter};
+
+    // The lane's number, the row's kind, flags, value and time, and whether it is carried.
+    #[rattlefmt::skip]
+    let cases = [
+        (0, Binary, 0x01, 1, Some(1_000), true),
+        (0, Binary, 0x01, 2, Some(1_000), false),
+        (0, Binary, 0x81, 1, Some(1_000), false),
+        (0, Binary, 0x01, 1, Some(281_474_976_710_656), false),
+        (3, Binary, 0x01, 1, None, true),
+        (1, Counter, 0xFF, 4_294_967_295, Some(281_474_976_710_655), true),
+        (1, Counter, 0xFF, 4_294_967_296, None, false),
+        (7, Counter, 0xFF, -1, None, false),
+        (8, Analog, 0x01, -2_147_483_648, None, true),
+        (2, Analog, 0x01, 2_147_483_648, Some(0), false),
+        (0, Analog, 0x01, -5, None, false),
+    ];
+    for (number, kind, flags, value, time, carried) in cases {
+        let row = Row {
+            kind,
+            index: 1,
+            flags,
+            value,
+            time,
+        };
+        let lane = Lane::numbered(number).expect(&rt, "a lane");
+        assert!(rt;
+            is_carried(&LaneRow { lane, row }) == carried,
+            "{row} in lane {number}"
+        );
+    }
+}

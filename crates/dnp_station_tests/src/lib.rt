@@ -1,0 +1,22 @@
+//! Tests of a station's parts: `dnp_pointdb`, `dnp_eventbuf` and `dnp_controls`. They stand apart
+//! from those crates, since a crate with tests is proved twice.
+//!
+//! They are few: worked values that no clause has, each call that asks for memory once where there
+//! is some, and each trait once through its bound, at a type that has it. What a clause says of every
+//! argument has no test.
+#![tactic(auto)]
+
+#[cfg(test)]
+mod books;
+#[cfg(test)]
+mod lanes;
+#[cfg(test)]
+mod outputs;
+#[cfg(test)]
+mod plans;
+#[cfg(test)]
+mod points;
+#[cfg(test)]
+mod selects;
+#[cfg(test)]
+mod texts;
