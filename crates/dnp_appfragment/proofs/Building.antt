@@ -59,13 +59,13 @@ is_built f octets run objects hs divide run_is room = record {
 }
 
 run_each : (f : Form) (run : Option Run) (objects : List ℕ) → IfSome run (λ r. IsHeader f (run_head objects r))
-    → AllByRecursion (IsHeader f) (option_to_list (option_map (run_head objects) run))
+    → AreHeaders f begin (option_to_list (option_map (run_head objects) run))
 run_each f None objects is = tt
 run_each f (Some run) objects is = (is, tt)
 
 -- each header put is one of its function
 pub is_heads : (f : Function) (octets : List ℕ) (run : Option Run) (objects : List ℕ) → IsBuilt f octets run objects
-    → AllByRecursion (IsHeader (form_of f)) (heads (built f octets run objects))
+    → AreHeaders (form_of f) begin (heads (built f octets run objects))
 is_heads f octets run objects is =
     each-append (form_of f) (headers_of (form_of f) octets) (option_to_list (option_map (run_head objects) run)) is.divides.each
     (run_each (form_of f) run objects is.run_is)

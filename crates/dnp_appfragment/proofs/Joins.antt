@@ -148,9 +148,6 @@ with_longer f octets run objects object long is =
     ap (λ (o : Option Head). with_run (built f octets run objects) o object)
     (joined_or_not objects run object ∙ ap (option_map (run_head (objects ++ object.octets))) is)
 
-some_head : (h g : Head) → Some h ≡ Some g → h ≡ g
-some_head h g is = cc
-
 run_longer : (f : Form) (run : Run) (objects : List ℕ) (object : Head) (long : Run) → longer (Some run) object ≡ Some long
     → IsHeader f (run_head objects run) → IsHeader f object → IsSome (object_size object.group object.variation)
     → IsJoined f (run_head objects run) object (run_head (objects ++ object.octets) long)

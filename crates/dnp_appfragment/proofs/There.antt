@@ -191,10 +191,6 @@ indexed f g v q r same gives is = go (takes_of f g v) refl is
     go None found is = absurd is
     go (Some t) found is = has_indexes t r (gives t found) (subst (λ (n : ℕ). allows t n ≡ true) same is)
 
-some_of : {A : Type 0} (o : Option A) → is_some o ≡ true → (a : A) × (o ≡ Some a)
-some_of None is = cc
-some_of (Some a) is = (a, refl)
-
 row_sized : (g v : ℕ) → is_some (shape_read g v) ≡ true → (size : ℕ) × (object_size g v ≡ Some size)
 row_sized g v is = go (content_of g v) is
   where

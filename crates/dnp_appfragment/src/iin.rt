@@ -35,7 +35,7 @@ impl Iin {
     pub const OBJECT_UNKNOWN: Iin = Iin { one: 0, two: 0x02 };
     /// A qualifier or a range is not the object's.
     pub const PARAMETER_ERROR: Iin = Iin { one: 0, two: 0x04 };
-    /// Events were lost for want of room.
+    /// Events were lost, since a lane was full.
     pub const EVENT_BUFFER_OVERFLOW: Iin = Iin { one: 0, two: 0x08 };
     /// The operation is already in progress.
     pub const ALREADY_EXECUTING: Iin = Iin { one: 0, two: 0x10 };

@@ -55,7 +55,7 @@ Has entries id test = IsSomeAnd (entry_of entries id) (λ entry. IsTrue (test en
 abbrev pub next_of : List Entry → ℕ → Option Entry
 next_of entries target = find (λ entry. is_pending entry.state && entry.target == target) entries
 
--- the first entries, so many at most, whose ids are over a number
+-- the first entries whose ids are over a number, at most that many
 abbrev pub rows_of : List Entry → ℕ → ℕ → List Entry
 rows_of entries from most = take most (filter (λ entry. nat_lt from entry.id) entries)
 

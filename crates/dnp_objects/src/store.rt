@@ -6,7 +6,7 @@ pub enum StoreFault {
     /// The store has given out all its numbers.
     #[error("the store has no number left")]
     Exhausted,
-    /// Memory is wanting.
+    /// Memory ran out.
     #[error("out of memory")]
     Memory,
     /// The device under the store failed.
