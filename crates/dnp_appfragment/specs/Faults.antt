@@ -55,7 +55,7 @@ range_size qualifier =
     if qualifier == 0x00 then 2 else (if qualifier == 0x01 then 4 else (if qualifier == 0x07 then 1
     else (if qualifier == 0x08 then 2 else (if qualifier == 0x17 then 1 else (if qualifier == 0x28 then 2 else 0)))))
 
--- it does take it, but the range's octets are wanting
+-- it does take it, but octets of the range are missing
 pub record LacksRange (f : Form) (octets : List ℕ) : Type 0 where
   pub group : ℕ
   pub variation : ℕ
@@ -76,7 +76,7 @@ pub record IsBackward (f : Form) (octets : List ℕ) : Type 0 where
   pub fits : NumbersFit range
   pub backward : IsForward range → ⊥
 
--- the range is a range, and octets of the objects are wanting
+-- the range is a range, and octets of the objects are missing
 pub record LacksObjects (f : Form) (octets : List ℕ) : Type 0 where
   pub group : ℕ
   pub variation : ℕ

@@ -15,7 +15,7 @@ pub enum AppFault {
     /// No function of such a fragment has this octet.
     #[error("unknown function")]
     FunctionUnknown = 2,
-    /// The octets end in the midst of a header.
+    /// The octets end within a header.
     #[error("an object header that is cut")]
     HeaderCut = 3,
     /// The object takes other qualifiers under this function.
