@@ -1,6 +1,6 @@
 -- The functions of object k of a header, `row_in` and `command_in`, give what the relations say, on octets.
 use Rattle.std.proofs.Common.{◌≡◌, refl, sym, ◌∙◌, ap, subst, ℕ, zero, suc, ◌+◌, ◌/◌, ◌<◌, Bool, true, false, cond, List, [], ◌∷◌, ◌++◌, length, arith, Option, Some, None, IfSome, nat_lt, ◌==◌, ◌&&◌, inl, inr, eqb-true}
-use Rattle.std.specs.Prelude.{pos, ◌%◌, slice_index}
+use Rattle.std.specs.Prelude.{is_some, IsSome, pos, ◌%◌, slice_index}
 use Rattle.std.specs.Int.{bit_at}
 use Rattle.std.specs.Option.{option_map, option_and_then, IsSomeAnd}
 use Rattle.std.proofs.lemmas.Nat.Bits.{bit_at-lt}
@@ -14,7 +14,7 @@ use Rattle.dnp_objects.specs.declared.table.Shape.{Shape}
 use Rattle.dnp_objects.specs.Objects.{objects, content_of, content_size, object_size, readable, shape_read, shape_size, IsShape, IsContent}
 use Rattle.dnp_objects.specs.Rows.{IsReading}
 use Rattle.dnp_objects.specs.Parts.{row_of, command_of}
-use Rattle.dnp_objects.specs.Commands.{IsCommandOf}
+use Rattle.dnp_objects.specs.Commands.{size_read, IsCommandOf}
 use Rattle.dnp_objects.proofs.Values.{AreOctets as AreBytes}
 use Rattle.dnp_objects.proofs.Lines.{content_sound}
 use Rattle.dnp_objects.proofs.Spelling.{is_reading, only_reading}
@@ -25,11 +25,12 @@ use Rattle.dnp_objects.proofs.CommandsBack.{command_again, command_reads}
 use Rattle.dnp_appfragment.specs.declared.header.Range.{Range}
 use Rattle.dnp_appfragment.specs.declared.header.Range.TheVariants as range
 use Rattle.dnp_appfragment.specs.Headers.{Head, count_of}
-use Rattle.dnp_appfragment.specs.Objects.{IsObject, IsBit, IsObjectRow, IsRow, IsCommand, IsSpan, IsIndex, prefix_octets}
+use Rattle.dnp_appfragment.specs.Objects.{HasCommands, IsObject, IsBit, IsObjectRow, IsRow, IsCommand, IsSpan, IsIndex, prefix_octets}
 use Rattle.dnp_appfragment.specs.Reading.{object_at}
 use Rattle.dnp_appfragment.specs.Meaning.{start_of, bit_in, shaped_row_in, row_in, content_command_in, command_in}
 use Rattle.dnp_appfragment.specs.Seen.{head_of}
 use Rattle.dnp_appfragment.proofs.Numbers.{AreOctets}
+use Rattle.dnp_appfragment.proofs.There.{commands_of}
 use Rattle.dnp_appfragment.proofs.HeaderObjects.{object_reads, object_again, packed_unsized, bit_only, sized_only}
 
 -- ---- the octets of an object
@@ -320,6 +321,31 @@ row_says h k row are is =
 
 pub command_says : (h : Head) (k : ℕ) (answer : Command × ℕ) → AreOctets h.octets → command_in h k ≡ Some answer → IsCommand h k answer
 command_says h k answer are is = subst (λ (o : Option (Command × ℕ)). IfSome o (IsCommand h k)) is (command_reads_in h k are)
+
+-- ---- in a fragment each command is there
+
+pub command_there_in : (h : Head) (k : ℕ) → HasCommands h → k < count_of h.range → IsSome (command_in h k)
+command_there_in h k has here =
+    let commands = commands_of h.group h.variation h.range h.octets k has here in
+    go (content_of h.group h.variation) commands.0 commands.1
+  where
+    command : (c : Content) (x : ℕ × List ℕ) → is_some (size_read c) ≡ true → is_some (command_of c x.0 x.1) ≡ true
+    command (content.Row s) x is = cc
+    command (content.WrittenRow s) x is = cc
+    command content.Block x is = refl
+    command (content.Setpoint w) x is = refl
+    command (content.Other n) x is = cc
+
+    at : (c : Content) → is_some (size_read c) ≡ true → (o : Option (ℕ × List ℕ)) → is_some o ≡ true
+        → is_some (option_and_then (λ (x : ℕ × List ℕ). command_of c x.0 x.1) o) ≡ true
+    at c is None there = cc
+    at c is (Some x) there = command c x is
+
+    go : (o : Option Content) → is_some (option_and_then size_read o) ≡ true
+        → IsSomeAnd (option_map content_size o) (λ size. IsSome (object_at h.range h.octets size k))
+        → is_some (option_and_then (content_command_in h k) o) ≡ true
+    go None is there = cc
+    go (Some c) is there = at c is (object_at h.range h.octets (content_size c) k) there
 
 -- ---- events
 

@@ -40,7 +40,7 @@ impl<'a> Header<'a> {
     ghost use Rattle.dnp_appfragment.specs.Seen.{head};
 
     /// How many objects the range names, 0 to 65,536; all is none. In a READ a count is the most
-    /// that are wanted.
+    /// that are asked for.
     pub fn count(&self) -> usize
         ensures value { result ≡ count_of self.now.range }
         ensures small { result ≤ 65536 }

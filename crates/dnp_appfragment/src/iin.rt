@@ -21,7 +21,7 @@ impl Iin {
     pub const CLASS_2_EVENTS: Iin = Iin { one: 0x04, two: 0 };
     /// Events of class 3 wait.
     pub const CLASS_3_EVENTS: Iin = Iin { one: 0x08, two: 0 };
-    /// The station's clock wants to be set.
+    /// The station's clock needs to be set.
     pub const NEED_TIME: Iin = Iin { one: 0x10, two: 0 };
     /// An output is switched to local control.
     pub const LOCAL_CONTROL: Iin = Iin { one: 0x20, two: 0 };
@@ -35,7 +35,7 @@ impl Iin {
     pub const OBJECT_UNKNOWN: Iin = Iin { one: 0, two: 0x02 };
     /// A qualifier or a range is not the object's.
     pub const PARAMETER_ERROR: Iin = Iin { one: 0, two: 0x04 };
-    /// Events were lost, since a lane was full.
+    /// Events were lost since there was no room.
     pub const EVENT_BUFFER_OVERFLOW: Iin = Iin { one: 0, two: 0x08 };
     /// The operation is already in progress.
     pub const ALREADY_EXECUTING: Iin = Iin { one: 0, two: 0x10 };

@@ -1,5 +1,5 @@
 //! Laws of what is read: the functions of octets say what the grammar says.
-ghost use Rattle.std.specs.Prelude.{◌≡◌, ◌<◌, ◌^◌, ◌↔◌, ℕ, List, Ok, Err, Some};
+ghost use Rattle.std.specs.Prelude.{◌≡◌, ◌<◌, ◌^◌, ◌↔◌, ℕ, List, Ok, Err, Some, IsSome};
 ghost use Rattle.std.specs.List.{All};
 ghost use Rattle.dnp_objects.specs.Events.{IsEvent};
 ghost use Rattle.dnp_objects.specs.declared.row.Row.{Row};
@@ -7,9 +7,9 @@ ghost use Rattle.dnp_objects.specs.declared.command.Command.{Command};
 ghost use Rattle.dnp_appfragment.specs.declared.fault.AppFault.{AppFault};
 ghost use Rattle.dnp_appfragment.specs.Fragments.{Asked, Answered, IsRequest, IsResponse};
 ghost use Rattle.dnp_appfragment.specs.Faults.{IsRequestFault, IsResponseFault};
-ghost use Rattle.dnp_appfragment.specs.Headers.{Head};
+ghost use Rattle.dnp_appfragment.specs.Headers.{Head, count_of};
 ghost use Rattle.dnp_appfragment.specs.Meaning.{request_at, response_at, row_in, command_in};
-ghost use Rattle.dnp_appfragment.specs.Objects.{IsRow, IsCommand};
+ghost use Rattle.dnp_appfragment.specs.Objects.{IsRow, IsCommand, HasRows, HasCommands};
 
 /// `request_at` gives the request that octets are, and the fault that they have.
 pub fn octets_say_a_request()
@@ -27,12 +27,15 @@ pub fn octets_say_a_response()
         → (response_at octets ≡ Err fault) ↔ IsResponseFault octets fault }
 {}
 
-/// `row_in` and `command_in` give the row and the command that object k of a header is.
+/// `row_in` and `command_in` give the row and the command that object k of a header is. In a
+/// response each row is there that the range names, and in any fragment each such command.
 pub fn objects_say_rows_and_commands()
     ensures row { (header : Head) (k : ℕ) (row : Row) → All (λ octet. octet < 2 ^ 8) header.octets
         → (row_in header k ≡ Some row) ↔ IsRow header k row }
     ensures command { (header : Head) (k : ℕ) (answer : Command × ℕ) → All (λ octet. octet < 2 ^ 8) header.octets
         → (command_in header k ≡ Some answer) ↔ IsCommand header k answer }
+    ensures row_there { (header : Head) (k : ℕ) → HasRows header → k < count_of header.range → IsSome (row_in header k) }
+    ensures command_there { (header : Head) (k : ℕ) → HasCommands header → k < count_of header.range → IsSome (command_in header k) }
 {}
 
 /// A row of a header, of packed bits too, is one that an event object of its kind carries.
