@@ -9,7 +9,7 @@ ghost use Rattle.dnp_linkstation.specs.Station.{Stands as Answers};
 ghost use Rattle.dnp_line.specs.Ports.{new_port, data_frame, moved_on, HasHistory, Takes, IsShown, reset_of};
 
 use arrayvec::ArrayVec;
-use dnp_linkframe::{Frame, MAX_FRAME, write_frame};
+use dnp_linkframe::{Frame, MAX_FRAME, write_frame, write_frame_into};
 use dnp_linkstation::LinkStation;
 use dnp_linkstation::laws::each_station_has_a_history;
 use dnp_transport::{Assembler, Pushed, segment};
@@ -88,8 +88,21 @@ impl Port {
         ensures spells { Spells result.items (data_frame self.now (cut fragment.now self.now.number k)) }
         ensures only { (unit : List ℕ) → Spells unit (data_frame self.now (cut fragment.now self.now.number k)) → unit ≡ result.items }
     {
+        let mut unit = ArrayVec::new();
+        self.unit_into(fragment, k, &mut unit);
+        unit
+    }
+
+    /// The same unit in place of what stood in the caller's, so that a loop over the units of a fragment moves none.
+    pub fn unit_into(&self, fragment: &[u8], k: usize, unit: &mut ArrayVec<u8, MAX_FRAME>)
+        requires some { 0 < length fragment.now }
+        requires fits { length fragment.now ≤ 2048 }
+        requires within { k < cut_count (length fragment.now) }
+        ensures spells { Spells unit.new.items (data_frame self.now (cut fragment.now self.now.number k)) }
+        ensures only { (other : List ℕ) → Spells other (data_frame self.now (cut fragment.now self.now.number k)) → other ≡ unit.new.items }
+    {
         let segment = segment(fragment, k, self.number);
-        write_frame(&self.link.send(segment.as_slice()))
+        write_frame_into(&self.link.send(segment.as_slice()), unit);
     }
 
     /// Moves the number of the next segment on by `n`, once so many were sent.

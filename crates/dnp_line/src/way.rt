@@ -7,6 +7,7 @@ ghost use Rattle.dnp_line.specs.Ports.{IsShown};
 ghost use Rattle.dnp_line.specs.Ways.{Way, Send, Deliver, Repeat, Lose, Damage, Clear, SenderReset, Hears, Happens};
 
 use crate::{Line, Port};
+use arrayvec::ArrayVec;
 use dnp_linkframe::read_frame;
 use dnp_transport::segment_count;
 
@@ -21,8 +22,10 @@ pub fn send(line: &mut Line, sender: &mut Port, fragment: &[u8])
     ensures capacity { line.new.capacity ≡ line.old.capacity }
 {
     let count = segment_count(fragment);
+    let mut unit = ArrayVec::new();
     for k in 0..count {
-        line.send(sender.unit(fragment, k).as_slice());
+        sender.unit_into(fragment, k, &mut unit);
+        line.send(unit.as_slice());
     }
     sender.sent(count);
 }

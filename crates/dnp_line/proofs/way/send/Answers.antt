@@ -10,14 +10,14 @@ use Rattle.dnp_line.proofs.way.send.Goals as goal
 
 pub loop-k-preserved : goal.loop-k-preserved
 loop-k-preserved c =
-    let unit_is : c.as_slice.result.now ≡ c.unit.result.items = c.as_slice.ensures.value in
+    let unit_is : c.as_slice.result.now ≡ c.unit_into.new.unit.items = c.as_slice.ensures.value in
     sending_more c.args.line.now c.args.sender.now c.args.fragment.now c.loop-k.k c.loop-k.line c.send.new.self
     c.as_slice.result.now
     (omega (arith, c.loop-k-test.true, c.segment_count-count.ensures))
     c.loop-k.invariant
     (subst
     (λ (u : List ℕ). Spells u (data_frame c.args.sender.now (cut c.args.fragment.now c.args.sender.now.number c.loop-k.k)))
-    (sym unit_is) c.unit.ensures.spells)
+    (sym unit_is) c.unit_into.ensures.spells)
     c.send.ensures
 
 pub returns-clause-happens : goal.returns-clause-happens
