@@ -13,7 +13,9 @@ use Rattle.dnp_linkframe.proofs.Octets.{leaves_xor, message_joined, octets_more,
 use Rattle.dnp_linkframe.proofs.Words.{message-xor, remainder-octet, remainder-octets}
 
 -- one more octet in front
-pub octet_in_front : (octet left : ℕ) (behind : List ℕ) (rest : ℕ) → octet < 2 ^ 8 → Leaves (times_x (8 * (length behind + 1)) (remainder octet)) (remainder left) → Leaves (times_x 16 (message behind)) (remainder rest) → Leaves (times_x 16 (message (octet ∷ behind))) (remainder (bit_xor rest left))
+pub octet_in_front : (octet left : ℕ) (behind : List ℕ) (rest : ℕ) → octet < 2 ^ 8
+    → Leaves (times_x (8 * (length behind + 1)) (remainder octet)) (remainder left) → Leaves (times_x 16 (message behind)) (remainder rest)
+    → Leaves (times_x 16 (message (octet ∷ behind))) (remainder (bit_xor rest left))
 octet_in_front octet left behind rest h k l =
     let n : ℕ = 8 * length behind in
     let b : List Bool = times_x 16 (message behind) in
@@ -38,7 +40,8 @@ last_octet octet left h k =
     subst (λ (p : List Bool). Leaves (times_x 8 p) (remainder left)) (remainder-octet octet h) k
 
 -- what is left of the octets before is added to the first two octets
-pub word_added : (word a b : ℕ) (behind : List ℕ) → IsSame (plus (times_x (8 * length (a ∷ b ∷ behind)) (remainder word)) (times_x 16 (message (a ∷ b ∷ behind)))) (times_x 16 (message (bit_xor (bit_and word 255) a ∷ bit_xor (word / 256) b ∷ behind)))
+pub word_added : (word a b : ℕ) (behind : List ℕ)
+    → IsSame (plus (times_x (8 * length (a ∷ b ∷ behind)) (remainder word)) (times_x 16 (message (a ∷ b ∷ behind)))) (times_x 16 (message (bit_xor (bit_and word 255) a ∷ bit_xor (word / 256) b ∷ behind)))
 word_added word a b behind i =
     let n : ℕ = 8 * length behind in
     let x : ℕ = bit_xor (bit_and word 255) a in
@@ -117,7 +120,8 @@ take_block n xs =
     ∙ ap (λ (s : List ℕ). take n (take (n + 8) xs) ++ s) (sym (drop-take n 8 xs))
     ∙ take-append-drop n (take (n + 8) xs)
 
-pub block_more : (xs : List ℕ) (n i old new : ℕ) → i < n → Leaves (times_x 16 (message (take (8 * i) xs))) (remainder old) → Continues (get_or (first_chunks 8 n xs) i []) old new → Leaves (times_x 16 (message (take (8 * (i + 1)) xs))) (remainder new)
+pub block_more : (xs : List ℕ) (n i old new : ℕ) → i < n → Leaves (times_x 16 (message (take (8 * i) xs))) (remainder old)
+    → Continues (get_or (first_chunks 8 n xs) i []) old new → Leaves (times_x 16 (message (take (8 * (i + 1)) xs))) (remainder new)
 block_more xs n i old new h k l =
     let count : 8 * i + 8 ≡ 8 * (i + 1) = omega arith in
     let joined : take (8 * i) xs ++ get_or (first_chunks 8 n xs) i [] ≡ take (8 * (i + 1)) xs =
@@ -126,7 +130,8 @@ block_more xs n i old new h k l =
     (octets_more (take (8 * i) xs) (get_or (first_chunks 8 n xs) i []) old new k l)
 
 -- ---- the octets behind the blocks, of which m octets are
-pub octet_more : (xs : List ℕ) (m i old new : ℕ) → m + i < length xs → Leaves (times_x 16 (message (take (m + i) xs))) (remainder old) → Continues (get_or (drop m xs) i 0 ∷ []) old new → Leaves (times_x 16 (message (take (m + (i + 1)) xs))) (remainder new)
+pub octet_more : (xs : List ℕ) (m i old new : ℕ) → m + i < length xs → Leaves (times_x 16 (message (take (m + i) xs))) (remainder old)
+    → Continues (get_or (drop m xs) i 0 ∷ []) old new → Leaves (times_x 16 (message (take (m + (i + 1)) xs))) (remainder new)
 octet_more xs m i old new h k l =
     let count : (m + i) + 1 ≡ m + (i + 1) = omega arith in
     let joined : take (m + i) xs ++ get_or (drop m xs) i 0 ∷ [] ≡ take (m + (i + 1)) xs =

@@ -15,7 +15,7 @@ const LATCH_ON: Command = Command::Block {
 
 /// Adds five controls, spends and finishes the first, and lists those after it. The digits of the
 /// number: the ids of those that were added, and of those that are listed.
-pub fn add_and_list(alloc: Global) -> Option<u64> {
+pub(crate) fn add_and_list(alloc: Global) -> Option<u64> {
     let mut book = PlainBook::new(alloc);
     let mut number = 0u64;
     for _ in 0..5 {
@@ -38,7 +38,7 @@ pub fn add_and_list(alloc: Global) -> Option<u64> {
 }
 
 /// Operates three requests of two commands each, and counts the commands that were performed.
-pub fn operate(alloc: Global) -> Option<u64> {
+pub(crate) fn operate(alloc: Global) -> Option<u64> {
     let mut outputs = PlainOutputs::new(alloc, 6, 0);
     for turn in 0..3usize {
         if outputs.operate(alloc, &[LATCH_ON, LATCH_ON]).is_err() {

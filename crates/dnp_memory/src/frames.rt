@@ -7,7 +7,7 @@ use std::alloc::Global;
 const RESET: [u8; 10] = [0x05, 0x64, 0x05, 0xC0, 0x01, 0x00, 0x00, 0x04, 0xE9, 0x21];
 
 /// Feeds 40 frames octet by octet, and counts those that come.
-pub fn feed(alloc: Global) -> Option<u64> {
+pub(crate) fn feed(alloc: Global) -> Option<u64> {
     let mut reader = FrameReader::new();
     let mut frames: Vec<Frame> = Vec::new(alloc);
     for turn in 0..400usize {

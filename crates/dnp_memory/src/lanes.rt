@@ -76,7 +76,7 @@ fn empty(alloc: Global, lanes: &mut PlainLanes, lane: Lane) -> Option<u64> {
 /// Appends six events, two at a time, to a lane of two rows, offers it, releases up to id 5 and
 /// empties it. The digits of the number: how many rows each append drops, the ids that are offered,
 /// how many rows the release and the emptying take, and how many the lane has lost.
-pub fn fill_and_empty(alloc: Global) -> Option<u64> {
+pub(crate) fn fill_and_empty(alloc: Global) -> Option<u64> {
     let mut lanes = small_lanes(alloc)?;
     let lane = Lane::new(1, Kind::Binary)?;
     let row = Row {

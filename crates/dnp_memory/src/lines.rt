@@ -5,7 +5,7 @@ use std::alloc::Global;
 
 /// Sends 12 units on a line, with room for three more before each, takes them off again, and counts
 /// those that come in their order.
-pub fn reserve(alloc: Global) -> Option<u64> {
+pub(crate) fn reserve(alloc: Global) -> Option<u64> {
     let mut line = Line::new(alloc);
     for turn in 0..12u8 {
         let room = line.room();

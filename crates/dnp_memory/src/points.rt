@@ -36,7 +36,7 @@ fn database(alloc: Global, plan: &PointPlan) -> Option<PointDb> {
 
 /// Makes a plan, copies it, makes a database of the copy, changes the point of each index up to 11,
 /// and counts the events: those of the six points.
-pub fn change_all(alloc: Global) -> Option<u64> {
+pub(crate) fn change_all(alloc: Global) -> Option<u64> {
     let mut made = plan(alloc);
     if made.is_none() {
         made = plan(alloc);

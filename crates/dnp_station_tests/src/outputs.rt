@@ -6,7 +6,7 @@ use std::alloc::Global;
 use std::test::Fail;
 
 /// A control relay output block with this code and count for an output.
-pub fn block(index: u16, code: u8, count: u8) -> Command {
+pub(crate) fn block(index: u16, code: u8, count: u8) -> Command {
     Command::Block {
         index,
         code,

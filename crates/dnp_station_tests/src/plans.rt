@@ -16,7 +16,7 @@ pub struct Alike {
 }
 
 /// The plan of these blocks, or why they are none.
-pub fn plan_of(
+pub(crate) fn plan_of(
     alloc: Global,
     blocks: &[Alike],
 ) -> Result<Result<PointPlan, PlanFault>, AllocError> {

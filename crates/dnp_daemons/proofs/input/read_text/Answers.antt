@@ -4,8 +4,14 @@ use Rattle.std.specs.declared.io.traits.Take.{Take}
 use Rattle.dnp_daemons.proofs.input.read_text.Goals as goal
 
 -- What a reader of at most 2,002 octets appends to nothing.
-appended : {R : Type 0} (remaining : R → Option (List ℕ)) (t : Take R) (reader : R) (start items octets : List ℕ) → start ≡ [] → take_inner t ≡ reader → take_limit t ≡ 2002 → IfSome (take_remaining remaining t) (λ xs. items ≡ start ++ xs) → remaining reader ≡ Some octets → items ≡ take 2002 octets
+appended : {R : Type 0} (remaining : R → Option (List ℕ)) (t : Take R) (reader : R) (start items octets : List ℕ) → start ≡ [] → take_inner t ≡ reader
+    → take_limit t ≡ 2002 → IfSome (take_remaining remaining t) (λ xs. items ≡ start ++ xs) → remaining reader ≡ Some octets
+    → items ≡ take 2002 octets
 appended remaining t reader start items octets e i l h known = rw e at (rw known at (rw l at (rw i at h)))
 
 pub returns : goal.returns
-returns g c = record { exact = λ octets known. appended g.R.Read.remaining c.take.result c.args.reader c.new-text.result.items c.read_to_end.new.buf.items octets c.new-text.ensures.items c.take.ensures.inner c.take.ensures.limit (c.in_ok-read_to_end.ensures.bytes) known }
+returns g c = record {
+  exact = λ octets known.
+      appended g.R.Read.remaining c.take.result c.args.reader c.new-text.result.items c.read_to_end.new.buf.items octets
+      c.new-text.ensures.items c.take.ensures.inner c.take.ensures.limit (c.in_ok-read_to_end.ensures.bytes) known;
+}
