@@ -56,7 +56,9 @@ pub fn is_event(row: &Row) -> bool
 #[inline]
 pub fn event_size(row: &Row) -> usize
     requires { spec.IsEvent row.now }
-    ensures { let object = spec.event_object row.now.kind row.now.time in result ≡ length (written object.0 object.1 row.now) }
+    ensures value { let object = spec.event_object row.now.kind row.now.time in
+        result ≡ length (written object.0 object.1 row.now) }
+    ensures small { result ≤ 11 }
 {
     event_shape(row).size()
 }
