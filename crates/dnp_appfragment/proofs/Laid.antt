@@ -201,6 +201,23 @@ header_laid old f octets now ended end None h inside is fits whole at room =
 
 -- ---- an object begins a run
 
+-- an object's header, with the object behind it
+pub header_behind : (octets now : List ℕ) (begun : Run) (object : Head) → run_head object.octets begun ≡ object
+    → now ≡ (octets ++ header_octets (run_head [] begun)) ++ object.octets → now ≡ octets ++ header_octets object
+header_behind octets now begun object same whole =
+    let top : List ℕ = begun.group ∷ begun.variation ∷ qualifier_of begun.range ∷ [] in
+    whole ∙ append_assoc octets (header_octets (run_head [] begun)) object.octets
+    ∙ ap (λ (l : List ℕ). octets ++ (top ++ l)) (ap (λ (l : List ℕ). l ++ object.octets) (append-nil (range_octets begun.range)))
+    ∙ ap (λ (h : Head). octets ++ header_octets h) same
+
+pub size-header : (begun : Run) (object : Head) → run_head object.octets begun ≡ object
+    → length (header_octets object) ≡ 3 + length (range_octets begun.range) + length object.octets
+size-header begun object same =
+    let sizes : length (range_octets begun.range ++ object.octets) ≡ length (range_octets begun.range) + length object.octets =
+    length-append (range_octets begun.range) object.octets in
+    let whole : length (header_octets object) ≡ length (header_octets (run_head object.octets begun)) = ap (λ (h : Head). length (header_octets h)) (sym same) in
+    omega arith
+
 pub object_laid : (old : Built) (f : Function) (octets now : List ℕ) (ended : ℕ) (run : Option Run) (begun : Run) (object : Head)
     → built_in f octets ended run ≡ broken old → IsLaid f octets ended run → run_head object.octets begun ≡ object
     → IsHeader (form_of old.function) object → now ≡ octets ++ header_octets object → size old + length (header_octets object) ≤ 2048

@@ -1,15 +1,16 @@
 use crate::control::Control;
 use crate::function::Function;
-use crate::header::{Header, Range};
+use crate::header::Header;
 use crate::iin::Iin;
 use crate::putting::{
-    MAX_FRAGMENT, header_size, push_front, push_header, write_front, write_number,
+    MAX_FRAGMENT, header_size, push_front, push_header, push_run, range_size, write_front,
+    write_number,
 };
 use crate::run::{Run, longer};
 use crate::table::{Form, form_of};
-use crate::written::{behind_index, point_variation};
+use crate::written::{Event, Indexed, Object, Point};
 use arrayvec::ArrayVec;
-use dnp_objects::{Command, Row, Status, event_object, event_octets, object_octets, write_command};
+use dnp_objects::{Command, Row, Status, write_command};
 use std::marker::Model;
 use thiserror::Error;
 
@@ -49,7 +50,7 @@ impl Builder {
     ghost use Rattle.dnp_objects.specs.Objects.{object_size};
     ghost use Rattle.dnp_objects.specs.Events.{IsEvent};
     ghost use Rattle.dnp_appfragment.specs.Table as table;
-    ghost use Rattle.dnp_appfragment.specs.Headers.{IsHeader, header_octets};
+    ghost use Rattle.dnp_appfragment.specs.Headers.{IsHeader, NumbersFit, header_octets};
     ghost use Rattle.dnp_appfragment.specs.Seen.{head};
     ghost use Rattle.dnp_appfragment.specs.Built as built;
     ghost use Rattle.dnp_appfragment.specs.Lending.{StaysAsItWas};
@@ -119,91 +120,40 @@ impl Builder {
         Ok(())
     }
 
-    /// Puts an object, which comes as a header of its own.
-    fn put(&mut self, object: &Header<'_>) -> Result<(), Full>
-        requires fits { IsHeader (table.form_of self.old.function) (head object.now) }
-        requires sized { IsSome (object_size object.now.group object.now.variation) }
-        ensures ok { OnOk result (self.new ≡ built.with_object self.old (head object.now)) }
-        ensures full { IsErr result ↔ (2048 < built.size (built.with_object self.old (head object.now))) }
+    /// Puts an object, which comes as a header of its own. Its octets are written where they stay.
+    fn put<O: Object>(&mut self, object: &O) -> Result<(), Full>
+        requires can { O.can_put object.now }
+        requires fits { NumbersFit (O.head object.now).range → IsHeader (table.form_of self.old.function) (O.head object.now) }
+        requires sized { IsSome (object_size (O.head object.now).group (O.head object.now).variation) }
+        ensures ok { OnOk result (self.new ≡ built.with_object self.old (O.head object.now)) }
+        ensures full { IsErr result ↔ (2048 < built.size (built.with_object self.old (O.head object.now))) }
         ensures err { OnErr result (self.new ≡ self.old) }
         ensures function { self.new.function ≡ self.old.function }
     {
-        match longer(self.run, object) {
+        let begun = object.run();
+        let size = object.size();
+        match longer(self.run, begun) {
             Some(longer) => {
-                if self.left() < object.octets.len() {
+                if self.left() < size {
                     return Err(Full);
                 }
-                self.octets.try_extend_from_slice(object.octets).unwrap();
+                object.append(&mut self.octets);
                 let (place, number) = longer.end();
                 write_number(&mut self.octets, self.ended + 3 + place, number);
                 self.run = Some(longer);
                 Ok(())
             }
             None => {
-                if self.left() < header_size(object) {
+                if self.left() < 3 + range_size(begun.range) + size {
                     return Err(Full);
                 }
                 self.break_run();
-                push_header(&mut self.octets, object);
-                self.run = Some(Run::of(object));
+                push_run(&mut self.octets, begun);
+                object.append(&mut self.octets);
+                self.run = Some(begun);
                 Ok(())
             }
         }
-    }
-
-    /// Puts an object behind its index: qualifier 28.
-    fn put_indexed(
-        &mut self,
-        group: u8,
-        variation: u8,
-        index: u16,
-        octets: &[u8],
-    ) -> Result<(), Full>
-        requires small { length octets.now ≤ 11 }
-        requires fits { IsHeader (table.form_of self.old.function) (written.indexed group variation index octets.now) }
-        requires sized { IsSome (object_size group variation) }
-        ensures ok { OnOk result (self.new ≡ built.with_object self.old (written.indexed group variation index octets.now)) }
-        ensures full { IsErr result
-            ↔ (2048 < built.size (built.with_object self.old (written.indexed group variation index octets.now))) }
-        ensures err { OnErr result (self.new ≡ self.old) }
-        ensures function { self.new.function ≡ self.old.function }
-    {
-        let object = behind_index(index, octets);
-        self.put(&Header {
-            group,
-            variation,
-            range: Range::Indexed { wide: true, n: 1 },
-            octets: &object,
-        })
-    }
-
-    /// Puts an object of this index as a range of one: qualifier 01.
-    fn put_spanned(
-        &mut self,
-        group: u8,
-        variation: u8,
-        index: u16,
-        octets: &[u8],
-    ) -> Result<(), Full>
-        requires fits { index < 2 ^ 16
-            → IsHeader (table.form_of self.old.function) (written.spanned group variation index octets.now) }
-        requires sized { IsSome (object_size group variation) }
-        ensures ok { OnOk result (self.new ≡ built.with_object self.old (written.spanned group variation index octets.now)) }
-        ensures full { IsErr result
-            ↔ (2048 < built.size (built.with_object self.old (written.spanned group variation index octets.now))) }
-        ensures err { OnErr result (self.new ≡ self.old) }
-        ensures function { self.new.function ≡ self.old.function }
-    {
-        self.put(&Header {
-            group,
-            variation,
-            range: Range::Span {
-                wide: true,
-                first: index,
-                last: index,
-            },
-            octets,
-        })
     }
 
     /// Puts a row into a response as an event: with a time as 2.2, 22.5 or 32.3, and else as 2.1,
@@ -220,9 +170,7 @@ impl Builder {
         ensures err { OnErr result (self.new ≡ self.old) }
         ensures function { self.new.function ≡ self.old.function }
     {
-        let (group, variation) = event_object(row);
-        let octets = event_octets(row);
-        self.put_indexed(group, variation, row.index, &octets)
+        self.put(&Event { row })
     }
 
     /// Puts a row into a response as a present value of this group: 1.2, 10.2, 20.1 or 30.1, in a
@@ -239,9 +187,7 @@ impl Builder {
         ensures err { OnErr result (self.new ≡ self.old) }
         ensures function { self.new.function ≡ self.old.function }
     {
-        let variation = point_variation(group);
-        let octets = object_octets(group, variation, row);
-        self.put_spanned(group, variation, row.index, &octets)
+        self.put(&Point { group, row })
     }
 
     /// Puts a command with its status, behind its index, into a fragment that carries commands:
@@ -259,7 +205,12 @@ impl Builder {
     {
         let (group, variation) = command.object();
         let octets = write_command(command, status);
-        self.put_indexed(group, variation, command.index(), &octets)
+        self.put(&Indexed {
+            group,
+            variation,
+            index: command.index(),
+            octets: &octets,
+        })
     }
 
     /// The fragment with this control octet and, in a response, these internal indications.

@@ -6,23 +6,26 @@ ghost use Rattle.dnp_appfragment.specs.Control.{IsControl, control_octet};
 ghost use Rattle.dnp_appfragment.specs.Table.{function_octet, is_response};
 ghost use Rattle.dnp_appfragment.specs.Built.{front_size};
 ghost use Rattle.dnp_appfragment.specs.Overwriting.{written_over};
+ghost use Rattle.dnp_appfragment.specs.Building.{run_head};
 
 use crate::control::Control;
 use crate::function::Function;
 use crate::header::{Header, Range};
 use crate::iin::Iin;
 use crate::range::qualifier_of;
+use crate::run::Run;
 use arrayvec::ArrayVec;
 
 /// The most octets that a fragment has.
 pub(crate) const MAX_FRAGMENT: usize = 2048;
 
 /// Appends a number in one octet, or in two, the low one first.
-fn push_number(octets: &mut ArrayVec<u8, 4>, wide: bool, number: u16)
+#[inline]
+pub(crate) fn push_number(octets: &mut ArrayVec<u8, MAX_FRAGMENT>, wide: bool, number: u16)
     requires fits { number < spec.limit wide }
-    requires room { array_vec_len octets.old ≤ 2 }
+    requires room { array_vec_len octets.old + length (spec.number wide number) ≤ 2048 }
     ensures items { octets.new.items ≡ octets.old.items ++ spec.number wide number }
-    ensures len { array_vec_len octets.new ≤ array_vec_len octets.old + 2 }
+    ensures len { array_vec_len octets.new ≡ array_vec_len octets.old + length (spec.number wide number) }
 {
     if wide {
         octets.push((number % 256) as u8);
@@ -32,25 +35,24 @@ fn push_number(octets: &mut ArrayVec<u8, 4>, wide: bool, number: u16)
     }
 }
 
-/// The octets of a range.
-fn range_octets(range: Range) -> ArrayVec<u8, 4>
-    requires { spec.NumbersFit range }
-    ensures { result.items ≡ spec.range_octets range }
+/// Appends the octets of a range.
+fn push_range(octets: &mut ArrayVec<u8, MAX_FRAGMENT>, range: Range)
+    requires fits { spec.NumbersFit range }
+    requires room { array_vec_len octets.old + length (spec.range_octets range) ≤ 2048 }
+    ensures { octets.new.items ≡ octets.old.items ++ spec.range_octets range }
 {
-    let mut octets = ArrayVec::new();
     match range {
         Range::All => {}
         Range::Span { wide, first, last } => {
-            push_number(&mut octets, wide, first);
-            push_number(&mut octets, wide, last);
+            push_number(octets, wide, first);
+            push_number(octets, wide, last);
         }
-        Range::Count { wide, n } | Range::Indexed { wide, n } => push_number(&mut octets, wide, n),
+        Range::Count { wide, n } | Range::Indexed { wide, n } => push_number(octets, wide, n),
     }
-    octets
 }
 
 /// How many octets a range has.
-fn range_size(range: Range) -> usize
+pub(crate) fn range_size(range: Range) -> usize
     ensures size { result ≡ length (spec.range_octets range) }
     ensures small { result ≤ 4 }
 {
@@ -68,6 +70,18 @@ pub(crate) fn header_size(header: &Header<'_>) -> usize
     3 + range_size(header.range) + header.octets.len()
 }
 
+/// Appends a header, whose objects are to follow.
+pub(crate) fn push_run(octets: &mut ArrayVec<u8, MAX_FRAGMENT>, run: Run)
+    requires fits { spec.NumbersFit run.range }
+    requires room { array_vec_len octets.old + length (spec.header_octets (run_head [] run)) ≤ 2048 }
+    ensures { octets.new.items ≡ octets.old.items ++ spec.header_octets (run_head [] run) }
+{
+    octets.push(run.group);
+    octets.push(run.variation);
+    octets.push(qualifier_of(run.range));
+    push_range(octets, run.range);
+}
+
 /// Appends a header with its objects.
 pub(crate) fn push_header(octets: &mut ArrayVec<u8, MAX_FRAGMENT>, header: &Header<'_>)
     requires fits { spec.NumbersFit header.now.range }
@@ -77,9 +91,7 @@ pub(crate) fn push_header(octets: &mut ArrayVec<u8, MAX_FRAGMENT>, header: &Head
     octets.push(header.group);
     octets.push(header.variation);
     octets.push(qualifier_of(header.range));
-    octets
-        .try_extend_from_slice(&range_octets(header.range))
-        .unwrap();
+    push_range(octets, header.range);
     octets.try_extend_from_slice(header.octets).unwrap();
 }
 

@@ -1,9 +1,8 @@
-ghost use Rattle.std.specs.Prelude.{◌≡◌};
+ghost use Rattle.std.specs.Prelude.{◌≡◌, []};
 ghost use Rattle.dnp_appfragment.specs.Joining.{joined_range};
 ghost use Rattle.dnp_appfragment.specs.Building as spec;
-ghost use Rattle.dnp_appfragment.specs.Seen.{head};
 
-use crate::header::{Header, Range};
+use crate::header::Range;
 
 /// The header that the next object may join: its object and its range so far.
 #[derive(Clone, Copy, Debug)]
@@ -52,7 +51,6 @@ fn joined_range(first: Range, second: Range) -> Option<Range>
 
 impl Run {
     ghost use Rattle.dnp_appfragment.specs.Building.{run_head, joined_run, range_end};
-    ghost use Rattle.dnp_appfragment.specs.Seen.{head};
 
     /// The number that grows with the run, the count or the last index, and where its two octets lie
     /// behind the header's qualifier.
@@ -67,8 +65,8 @@ impl Run {
     }
 
     /// The run with this object, where it joins the run.
-    fn joined(self, object: &Header<'_>) -> Option<Run>
-        ensures { result ≡ joined_run (head object.now) self }
+    fn joined(self, object: Run) -> Option<Run>
+        ensures { result ≡ joined_run (run_head [] object) self }
     {
         if self.group != object.group || self.variation != object.variation {
             return None;
@@ -76,22 +74,11 @@ impl Run {
         let range = joined_range(self.range, object.range)?;
         Some(Run { range, ..self })
     }
-
-    /// A run of these objects.
-    pub(crate) fn of(object: &Header<'_>) -> Run
-        ensures { run_head object.now.octets.now result ≡ head object.now }
-    {
-        Run {
-            group: object.group,
-            variation: object.variation,
-            range: object.range,
-        }
-    }
 }
 
 /// The run with this object, if there is a run and the object joins it.
-pub(crate) fn longer(run: Option<Run>, object: &Header<'_>) -> Option<Run>
-    ensures { result ≡ spec.longer run (head object.now) }
+pub(crate) fn longer(run: Option<Run>, object: Run) -> Option<Run>
+    ensures { result ≡ spec.longer run (spec.run_head [] object) }
 {
     run?.joined(object)
 }

@@ -1,10 +1,20 @@
 //! What rows are written as in a fragment.
-ghost use Rattle.std.specs.Prelude.{◌≡◌, ◌≤◌, ◌↔◌, ◌++◌, IsTrue, length, true};
-ghost use Rattle.dnp_appfragment.specs.Headers.{number};
+ghost use Rattle.std.specs.Prelude.{◌≡◌, ◌+◌, ◌≤◌, ◌↔◌, ◌++◌, IsTrue, length, true};
+ghost use Rattle.arrayvec.specs.ArrayVec.{array_vec_len};
+ghost use Rattle.dnp_objects.specs.Events.{IsEvent};
+ghost use Rattle.dnp_objects.specs.Rows.{written};
+ghost use Rattle.dnp_appfragment.specs.declared.header.Range.TheVariants as range;
+ghost use Rattle.dnp_appfragment.specs.Headers.{Head, NumbersFit};
+ghost use Rattle.dnp_appfragment.specs.Building.{run_head};
 ghost use Rattle.dnp_appfragment.specs.Written as spec;
 
+use crate::header::Range;
+use crate::putting::{MAX_FRAGMENT, push_number};
+use crate::run::Run;
 use arrayvec::ArrayVec;
-use dnp_objects::{Row, fits_object};
+use dnp_objects::{
+    Row, append_event, append_object, event_object, event_size, fits_object, object_size,
+};
 
 /// The variation of the present values of a group.
 pub(crate) fn point_variation(group: u8) -> u8
@@ -23,14 +33,153 @@ pub fn fits_point(group: u8, row: &Row) -> bool
     matches!(group, 1 | 10 | 20 | 30) && fits_object(group, point_variation(group), row)
 }
 
-/// An object behind its index.
-pub(crate) fn behind_index(index: u16, octets: &[u8]) -> ArrayVec<u8, 13>
-    requires { length octets.now ≤ 11 }
-    ensures { result.items ≡ number true index ++ octets.now }
+/// How many octets a present value of this group has.
+fn point_size(group: u8, row: &Row) -> usize
+    requires { spec.FitsPoint group row.now }
+    ensures value { result ≡ length (written group (spec.point_variation group) row.now) }
+    ensures small { result ≤ 11 }
 {
-    let mut object = ArrayVec::new();
-    object.push((index % 256) as u8);
-    object.push((index / 256) as u8);
-    object.try_extend_from_slice(octets).unwrap();
-    object
+    object_size(group, point_variation(group)).unwrap()
+}
+
+/// An object that is put into a fragment, as a header of its own or behind others.
+pub(crate) trait Object {
+    /// What is required of it.
+    ghost can_put: { Self → Type 0 };
+
+    /// The header of its own.
+    ghost head: { Self → Head };
+
+    /// The header's object and range.
+    fn run(&self) -> Run
+        ensures value { run_head (head self.now).octets result ≡ head self.now }
+        ensures fits { NumbersFit result.range };
+
+    /// How many octets it has, with the index before it.
+    fn size(&self) -> usize
+        requires { can_put self.now }
+        ensures value { result ≡ length (head self.now).octets }
+        ensures small { result ≤ 13 };
+
+    /// Appends its octets.
+    fn append(&self, octets: &mut ArrayVec<u8, MAX_FRAGMENT>)
+        requires can { can_put self.now }
+        requires room { array_vec_len octets.old + length (head self.now).octets ≤ 2048 }
+        ensures { octets.new.items ≡ octets.old.items ++ (head self.now).octets };
+}
+
+/// The range of one object behind its index: qualifier 28.
+const BEHIND_INDEX: Range = Range::Indexed { wide: true, n: 1 };
+
+/// A row as an event, behind its index: qualifier 28.
+#[derive(Clone, Copy)]
+pub(crate) struct Event<'a> {
+    pub row: &'a Row,
+}
+
+impl<'a> Object for Event<'a> {
+    ghost can_put = { λ e. IsEvent e.row.now };
+
+    ghost head = { λ e. spec.event e.row.now };
+
+    #[inline]
+    fn run(&self) -> Run {
+        let (group, variation) = event_object(self.row);
+        Run {
+            group,
+            variation,
+            range: BEHIND_INDEX,
+        }
+    }
+
+    #[inline]
+    fn size(&self) -> usize {
+        2 + event_size(self.row)
+    }
+
+    #[inline]
+    fn append(&self, octets: &mut ArrayVec<u8, MAX_FRAGMENT>) {
+        push_number(octets, true, self.row.index);
+        append_event(self.row, octets);
+    }
+}
+
+/// The range of this index alone: qualifier 01.
+#[inline]
+fn span_of(index: u16) -> Range
+    ensures value { result ≡ range.Span true index index }
+    ensures fits { NumbersFit result }
+{
+    Range::Span {
+        wide: true,
+        first: index,
+        last: index,
+    }
+}
+
+/// A row as a present value of a group, in a range of its index: qualifier 01.
+#[derive(Clone, Copy)]
+pub(crate) struct Point<'a> {
+    pub group: u8,
+    pub row: &'a Row,
+}
+
+impl<'a> Object for Point<'a> {
+    ghost can_put = { λ p. spec.FitsPoint p.group p.row.now };
+
+    ghost head = { λ p. spec.point p.group p.row.now };
+
+    #[inline]
+    fn run(&self) -> Run {
+        Run {
+            group: self.group,
+            variation: point_variation(self.group),
+            range: span_of(self.row.index),
+        }
+    }
+
+    #[inline]
+    fn size(&self) -> usize {
+        point_size(self.group, self.row)
+    }
+
+    #[inline]
+    fn append(&self, octets: &mut ArrayVec<u8, MAX_FRAGMENT>) {
+        append_object(self.group, point_variation(self.group), self.row, octets);
+    }
+}
+
+/// An object of these octets behind its index: qualifier 28.
+#[derive(Clone, Copy)]
+pub(crate) struct Indexed<'a> {
+    pub group: u8,
+    pub variation: u8,
+    pub index: u16,
+    pub octets: &'a [u8],
+}
+
+impl<'a> Object for Indexed<'a> {
+    ghost can_put = { λ o. length o.octets.now ≤ 11 };
+
+    ghost head = { λ o. spec.indexed o.group o.variation o.index o.octets.now };
+
+    #[inline]
+    fn run(&self) -> Run {
+        Run {
+            group: self.group,
+            variation: self.variation,
+            range: BEHIND_INDEX,
+        }
+    }
+
+    #[inline]
+    fn size(&self) -> usize {
+        2 + self.octets.len()
+    }
+
+    #[inline]
+    fn append(&self, octets: &mut ArrayVec<u8, MAX_FRAGMENT>) {
+        push_number(octets, true, self.index);
+        octets.try_extend_from_slice(self.octets).unwrap();
+    }
 }

@@ -1,11 +1,12 @@
-ghost use Rattle.std.specs.Prelude.{◌≡◌, ◌↔◌, IsTrue, Some};
+ghost use Rattle.std.specs.Prelude.{◌≡◌, ◌↔◌, ◌+◌, ◌≤◌, ◌++◌, IsTrue, Some, length};
+ghost use Rattle.arrayvec.specs.ArrayVec.{array_vec_len};
 ghost use Rattle.dnp_objects.specs.Events as spec;
 ghost use Rattle.dnp_objects.specs.Objects.{IsShape, shape_written};
 ghost use Rattle.dnp_objects.specs.Rows.{written};
 
 use crate::row::{Kind, Row};
 use crate::table::Shape;
-use crate::writing::{octets_of, row_fits};
+use crate::writing::{append_row, row_fits};
 use arrayvec::ArrayVec;
 
 /// The group and the variation of the object that a row is reported as in an event (IEEE Std
@@ -51,6 +52,31 @@ pub fn is_event(row: &Row) -> bool
     row_fits(event_shape(row), row)
 }
 
+/// How many octets a row has as an event, 1 to 11.
+#[inline]
+pub fn event_size(row: &Row) -> usize
+    requires { spec.IsEvent row.now }
+    ensures value { let object = spec.event_object row.now.kind row.now.time in
+        result ≡ length (written object.0 object.1 row.now) }
+    ensures small { result ≤ 11 }
+{
+    event_shape(row).size()
+}
+
+/// Appends the octets of a row as an event, as one object of the group and the variation that
+/// `event_object` gives: those that `write_row` gives. `is_event` is the test of what is required, and
+/// `event_size` tells how many there are.
+#[inline]
+pub fn append_event<const N: usize>(row: &Row, octets: &mut ArrayVec<u8, N>)
+    requires fits { spec.IsEvent row.now }
+    requires room { let object = spec.event_object row.now.kind row.now.time in
+        array_vec_len octets.old + length (written object.0 object.1 row.now) ≤ N }
+    ensures { let object = spec.event_object row.now.kind row.now.time in
+        octets.new.items ≡ octets.old.items ++ written object.0 object.1 row.now }
+{
+    append_row(event_shape(row), row, octets);
+}
+
 /// The octets of a row as an event, as one object of the group and the variation that `event_object`
 /// gives: those that `write_row` gives. `is_event` is the test of what is required.
 #[inline]
@@ -58,5 +84,7 @@ pub fn event_octets(row: &Row) -> ArrayVec<u8, 11>
     requires { spec.IsEvent row.now }
     ensures { let object = spec.event_object row.now.kind row.now.time in result.items ≡ written object.0 object.1 row.now }
 {
-    octets_of(event_shape(row), row)
+    let mut octets = ArrayVec::new();
+    append_row(event_shape(row), row, &mut octets);
+    octets
 }

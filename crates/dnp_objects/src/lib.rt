@@ -19,7 +19,7 @@ mod writing;
 
 pub use command::Command;
 pub use controls::{read_command, write_command};
-pub use event::{event_object, event_octets, is_event};
+pub use event::{append_event, event_object, event_octets, event_size, is_event};
 pub use fault::ObjectFault;
 pub use lane::{LANES, Lane, LaneRow};
 pub use reading::read_row;
@@ -27,4 +27,4 @@ pub use row::{Kind, Row};
 pub use status::Status;
 pub use store::StoreFault;
 pub use table::{Shape, object_size, row_shape};
-pub use writing::{fits_object, object_octets, write_row};
+pub use writing::{append_object, fits_object, object_octets, write_row};

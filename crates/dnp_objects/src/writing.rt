@@ -1,10 +1,10 @@
-ghost use Rattle.std.specs.Prelude.{◌≡◌, ◌↔◌, ◌+◌, ◌≤◌, ◌++◌, IfOk, IfErr, IsTrue, List, ℕ};
+ghost use Rattle.std.specs.Prelude.{◌≡◌, ◌↔◌, ◌+◌, ◌≤◌, ◌++◌, IfOk, IfErr, IsTrue, List, length, ℕ};
 ghost use Rattle.std.specs.Option.{IsSomeAnd};
 ghost use Rattle.std.specs.Result.{IsOkAnd};
 ghost use Rattle.arrayvec.specs.ArrayVec.{array_vec_len};
 ghost use Rattle.byteorder.specs.Endian.{little_bytes};
 ghost use Rattle.dnp_objects.specs.declared.fault.ObjectFault.{ObjectFault as FaultValue};
-ghost use Rattle.dnp_objects.specs.Objects.{IsNumber, IsShape};
+ghost use Rattle.dnp_objects.specs.Objects.{IsNumber, IsShape, shape_size};
 ghost use Rattle.dnp_objects.specs.Faults.{IsFirst};
 ghost use Rattle.dnp_objects.specs.Rows as spec;
 
@@ -58,10 +58,12 @@ pub(crate) fn row_fits(shape: Shape, row: &Row) -> bool
         && time_fits(shape, row.time)
 }
 
-/// Appends the lowest octets of the number, the lowest first.
-fn push_number(octets: &mut ArrayVec<u8, 11>, number: u64, width: usize)
+/// Appends the lowest octets of the number, the lowest first. It stands in its callers, where the width
+/// is a constant.
+#[inline(always)]
+fn push_number<const N: usize>(octets: &mut ArrayVec<u8, N>, number: u64, width: usize)
     requires width { width ≤ 8 }
-    requires room { array_vec_len octets.old + width ≤ 11 }
+    requires room { array_vec_len octets.old + width ≤ N }
     ensures items { octets.new.items ≡ octets.old.items ++ little_bytes width number }
     ensures len { array_vec_len octets.new ≡ array_vec_len octets.old + width }
 {
@@ -82,28 +84,39 @@ fn flags_octet(shape: Shape, row: &Row) -> u8
     }
 }
 
-/// The octets of a row that fits.
+/// Appends the octets of a row that fits, of which there are `shape.size()`.
 #[inline]
-pub(crate) fn octets_of(shape: Shape, row: &Row) -> ArrayVec<u8, 11>
+pub(crate) fn append_row<const N: usize>(shape: Shape, row: &Row, octets: &mut ArrayVec<u8, N>)
     requires shape { IsShape shape }
     requires fits { IsTrue (spec.row_fits shape row.now) }
-    ensures { result.items ≡ spec.row_octets shape row.now }
+    requires room { array_vec_len octets.old + shape_size shape ≤ N }
+    ensures { octets.new.items ≡ octets.old.items ++ spec.row_octets shape row.now }
 {
-    let mut octets = ArrayVec::new();
     if shape.flags {
         octets.push(flags_octet(shape, row));
     }
     let value = row.value.cast_unsigned();
     match shape.width {
         0 => {}
-        2 => push_number(&mut octets, value, 2),
-        _ => push_number(&mut octets, value, 4),
+        2 => push_number(octets, value, 2),
+        _ => push_number(octets, value, 4),
     }
     if shape.time
         && let Some(time) = row.time
     {
-        push_number(&mut octets, time, 6);
+        push_number(octets, time, 6);
     }
+}
+
+/// The octets of a row that fits.
+#[inline]
+fn octets_of(shape: Shape, row: &Row) -> ArrayVec<u8, 11>
+    requires shape { IsShape shape }
+    requires fits { IsTrue (spec.row_fits shape row.now) }
+    ensures { result.items ≡ spec.row_octets shape row.now }
+{
+    let mut octets = ArrayVec::new();
+    append_row(shape, row, &mut octets);
     octets
 }
 
@@ -114,6 +127,23 @@ pub fn fits_object(group: u8, variation: u8, row: &Row) -> bool
     ensures { IsTrue result ↔ spec.Fits group variation row.now }
 {
     written_shape(group, variation).is_some_and(|shape| row_fits(shape, row))
+}
+
+/// Appends the octets of the row as one object of this group and variation (IEEE Std 1815-2012, object
+/// library), as `write_row` gives them. `fits_object` is the test of what is required, and there are as
+/// many octets as `object_size` says, 11 at most.
+#[inline]
+pub fn append_object<const N: usize>(
+    group: u8,
+    variation: u8,
+    row: &Row,
+    octets: &mut ArrayVec<u8, N>,
+)
+    requires fits { spec.Fits group variation row.now }
+    requires room { array_vec_len octets.old + length (spec.written group variation row.now) ≤ N }
+    ensures { octets.new.items ≡ octets.old.items ++ spec.written group variation row.now }
+{
+    append_row(written_shape(group, variation).unwrap(), row, octets);
 }
 
 /// The octets of the row as one object of this group and variation (IEEE Std 1815-2012, object

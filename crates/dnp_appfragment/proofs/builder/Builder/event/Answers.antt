@@ -1,7 +1,7 @@
+use Rattle.std.proofs.Common.{refl}
 use Rattle.dnp_appfragment.proofs.ObjectHeaders.{event_put}
 use Rattle.dnp_appfragment.proofs.builder.Builder.event.Goals as goal
 
-pub put_indexed-requires-clause-fits : goal.put_indexed-requires-clause-fits
-put_indexed-requires-clause-fits c =
-    event_put c.args.self.now.function c.args.row.now c.event_object-group.result c.event_octets-octets.result.items c.deref.result.now
-    c.event_object-group.ensures c.event_octets-octets.ensures c.deref.ensures.0 c.requires.response c.requires.fits
+pub put-requires-clause-fits : goal.put-requires-clause-fits
+put-requires-clause-fits c = λ _.
+    event_put c.args.self.now.function c.args.row.now _ _ _ refl refl refl c.requires.response c.requires.fits
