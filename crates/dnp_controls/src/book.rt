@@ -1,6 +1,6 @@
 //! What a book of controls is.
 
-ghost use Rattle.std.specs.Prelude.{◌≡◌, ◌≢◌, ◌≤◌, ◌<◌, ◌+◌, ◌^◌, Bool, IsTrue, not, OnOk, IfOk, IfErr};
+ghost use Rattle.std.specs.Prelude.{◌≡◌, ◌≢◌, ◌≤◌, ◌<◌, ◌+◌, ◌^◌, Bool, false, IsTrue, [], not, OnOk, IfOk, IfErr};
 ghost use Rattle.dnp_controls.specs.Book.{Ledger, entry_of, Has, is_pending, is_finished, next_of, rows_of, added, spent, finished};
 ghost use Rattle.dnp_controls.specs.Calls.{IsBookCall};
 
@@ -87,7 +87,8 @@ pub trait Book {
     /// It has answered Device.
     ghost is_stopped: { Self → Bool };
 
-    /// The calls that put nothing behind the others may want memory, as those of a database do.
+    /// Calls that need no memory here, since they put nothing behind the others and answer no entry, may want it, as
+    /// those of a database do.
     ghost asks_memory: { Bool };
 
     /// Adds a command for a target, 0 to 15, as pending, and answers its id. Exhausted where the id would
@@ -137,11 +138,12 @@ pub trait Book {
         ensures memory { result ≡ Err BookFault.Memory → IsTrue asks_memory };
 
     /// The first entries whose ids are over `from`, by id, at most `most` of them; `from` 0 begins at the
-    /// first entry. Memory or Device.
+    /// first entry. Memory, though in memory not where there is no such entry, or Device.
     fn rows(&mut self, alloc: Global, from: u64, most: usize) -> Result<Vec<Entry>, BookFault>
         ensures call { IsBookCall honest is_stopped contents self.old self.new result }
 
         ensures rows { honest self.new → IfOk result (λ rows. rows.items ≡ rows_of (contents self.old).entries from most) }
         ensures same { honest self.new → OnOk result (contents self.new ≡ contents self.old) }
-        ensures named { IfErr result (λ e. (e ≢ BookFault.NoControl) × (e ≢ BookFault.NotPending) × (e ≢ BookFault.Exhausted)) };
+        ensures named { IfErr result (λ e. (e ≢ BookFault.NoControl) × (e ≢ BookFault.NotPending) × (e ≢ BookFault.Exhausted)) }
+        ensures memory { result ≡ Err BookFault.Memory → asks_memory ≡ false → rows_of (contents self.old).entries from most ≢ [] };
 }

@@ -172,6 +172,9 @@ impl Book for PlainBook {
     fn rows(&mut self, alloc: Global, from: u64, most: usize) -> Result<Vec<Entry>, BookFault> {
         let rest = over(&self.entries, from);
         let count = most.min(rest.len());
+        if count == 0 {
+            return Ok(Vec::new(alloc));
+        }
         match Vec::from_slice(alloc, rest.split_at(count).0) {
             Ok(rows) => Ok(rows),
             Err(_) => Err(BookFault::Memory),

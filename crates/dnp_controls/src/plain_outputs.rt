@@ -2,6 +2,7 @@
 
 ghost use Rattle.std.specs.Prelude.{◌≡◌, ◌≤◌, ◌+◌, ◌<◌, [], ◌++◌, OnErr, length, map};
 ghost use Rattle.dnp_controls.specs.Latches.{PlainState, can_perform, plain_check, plain_panel};
+ghost use Rattle.dnp_controls.specs.Panel.{accepted};
 
 use crate::code::obeys_code_rule;
 use crate::outputs::{MAX_COMMANDS, Outputs};
@@ -73,9 +74,22 @@ fn can_perform(outputs: u16, setpoints: u16, command: &Command) -> bool
     }
 }
 
+// How many of the commands are performed.
+fn count_performed(outputs: u16, setpoints: u16, commands: &[Command]) -> usize
+    ensures { result ≡ length (accepted (plain_check outputs setpoints) commands.now) }
+{
+    let mut count = 0;
+    for command in commands {
+        if can_perform(outputs, setpoints, command) {
+            count += 1;
+        }
+    }
+    count
+}
+
 /// At most 8 commands at a time. A block is answered SUCCESS where its output is there and it obeys the
 /// code rule, a setpoint command where its setpoint is there, and any other NOT_SUPPORTED. All room for
-/// the commands of a request is taken before the first one is performed.
+/// the commands that are performed is taken before the first one is.
 ///
 /// A binary output shows ONLINE, and STATE beside it from a performed LATCH_ON until a performed
 /// LATCH_OFF.
@@ -120,7 +134,8 @@ impl Outputs for PlainOutputs {
         _alloc: Global,
         commands: &[Command],
     ) -> Result<ArrayVec<Status, MAX_COMMANDS>, StoreFault> {
-        if self.performed.reserve(commands.len()).is_err() {
+        let count = count_performed(self.outputs, self.setpoints, commands);
+        if self.performed.reserve(count).is_err() {
             return Err(StoreFault::Memory);
         }
         let mut statuses = ArrayVec::new();

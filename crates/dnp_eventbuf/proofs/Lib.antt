@@ -6,6 +6,7 @@ pub mod LaneNumbers
 pub mod LatestRows
 pub mod Limits
 pub mod Offers
+pub mod Over
 pub mod Released
 pub mod Remaining
 pub mod Soundness

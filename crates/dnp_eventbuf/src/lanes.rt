@@ -32,7 +32,7 @@ pub trait Lanes {
     /// It has answered Device.
     ghost is_stopped: { Self → Bool };
 
-    /// Calls may be out of memory also where they drop or take no row, as those of a database may.
+    /// Calls may be out of memory also where they drop, take or offer no row, as those of a database may.
     ghost asks_memory: { Bool };
 
     /// Puts the rows into their lanes, as if one by one, all or none, and answers the rows that full
@@ -51,7 +51,7 @@ pub trait Lanes {
         ensures memory { result ≡ Err StoreFault.Memory → asks_memory ≡ false → dropped_by (contents self.old) rows.now ≢ [] };
 
     /// The first rows of the lane with an id over `after`, at most `most`; `after` 0 begins at the
-    /// oldest. Each is an event. Memory or Device.
+    /// oldest. Each is an event. Memory, though in memory not where there is no such row, or Device.
     fn offer(
         &mut self,
         alloc: Global,
@@ -64,6 +64,7 @@ pub trait Lanes {
         ensures rows { honest self.new → IfOk result (λ rows. rows.items ≡ offered (contents self.old) (lane_number lane) after most) }
         ensures same { honest self.new → OnOk result (contents self.new ≡ contents self.old) }
         ensures carried { IfOk result (λ rows. All (λ x. IsEvent x.row) rows.items) }
+        ensures memory { result ≡ Err StoreFault.Memory → asks_memory ≡ false → offered (contents self.old) (lane_number lane) after most ≢ [] }
         ensures named { IfErr result (λ e. e ≢ StoreFault.Exhausted) };
 
     /// Takes out, lane by lane, the rows with ids up to the lane's number in `upto`, and answers them.

@@ -1,4 +1,5 @@
 ghost use Rattle.std.specs.Prelude.{◌≡◌, ◌≢◌, ◌^◌, ◌<◌, ◌≤◌, ◌++◌, IfOk, OnOk, OnErr, [], length, map, nat_le, nat_lt, vec_len, vec_capacity, filter, take};
+ghost use Rattle.std.specs.List.{list_any};
 ghost use Rattle.std.specs.Option.{option_to_list};
 ghost use Rattle.std.specs.VecDeque.{deque_len, deque_capacity};
 ghost use Rattle.dnp_eventbuf.specs.Stock.{is_full, put_in, dropped_from, empty_lane, emptied, above, up_to, last_of, row_of};
@@ -68,14 +69,25 @@ impl PlainLane {
 
     /// The first rows with an id over `after`, at most `most`.
     pub fn offer(&self, alloc: Global, after: u64, most: usize) -> Result<Vec<Numbered>, AllocError>
-        ensures { IfOk result (λ rows. rows.items ≡ take most (filter (λ x. nat_lt after x.id) self.now.rows)) }
+        ensures rows { IfOk result (λ rows. rows.items ≡ take most (filter (λ x. nat_lt after x.id) self.now.rows)) }
+        ensures memory { OnErr result (take most (filter (λ x. nat_lt after x.id) self.now.rows) ≢ []) }
     {
+        if most == 0 || !self.has_over(after) {
+            return Ok(Vec::new(alloc));
+        }
         self.rows
             .iter()
             .copied()
             .filter(|x| after < x.id)
             .take(most)
             .collect(alloc)
+    }
+
+    /// Whether a row has an id over this.
+    fn has_over(&self, after: u64) -> bool
+        ensures { result ≡ list_any (λ x. nat_lt after x.id) self.now.rows }
+    {
+        self.rows.iter().any(|x| after < x.id)
     }
 
     /// Adds the rows with ids up to this.

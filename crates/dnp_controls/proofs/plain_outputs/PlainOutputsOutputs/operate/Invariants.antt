@@ -1,5 +1,5 @@
 -- The commands so far were answered by their checks, and those that were let through were performed.
-use Rattle.std.proofs.Common.{◌≡◌, ◌≤◌, ◌+◌, ◌++◌, length, map, take}
+use Rattle.std.proofs.Common.{◌≡◌, ◌≤◌, ◌+◌, ◌++◌, length, map, take, drop}
 use Rattle.dnp_controls.specs.Latches.{plain_check}
 use Rattle.dnp_controls.specs.Panel.{accepted}
 use Rattle.dnp_controls.proofs.plain_outputs.PlainOutputsOutputs.operate.Given as goal
@@ -13,5 +13,5 @@ invariant-loop-command l = record {
   statuses : l.statuses.items ≡ map (plain_check l.fn.self.outputs l.fn.self.setpoints) (take l.command-index l.commands);
   count : length l.statuses.items ≡ l.command-index;
   performed : l.self-inside.performed.commands ≡ l.fn.self.performed ++ accepted (plain_check l.fn.self.outputs l.fn.self.setpoints) (take l.command-index l.commands);
-  room : length l.commands ≤ l.self-inside.performed.room + l.command-index;
+  room : length (accepted (plain_check l.fn.self.outputs l.fn.self.setpoints) (drop l.command-index l.commands)) ≤ l.self-inside.performed.room;
 }
