@@ -1,16 +1,18 @@
 -- What calls make of a book, one after another.
-use Rattle.std.proofs.Common.{◌≡◌, ℕ, ◌+◌, ◌≤◌, Bool, true, false, not, List, [], ◌∷◌, length, refl, ap, sym, ◌∙◌, arith, subst}
-use Rattle.std.specs.Prelude.{Option, Some, None, eqb, cond, IsTrue, MatchOption, ◌&&◌, count_by, option_map, All}
+use Rattle.std.proofs.Common.{◌≡◌, ℕ, zero, suc, ◌+◌, ◌<◌, ◌≤◌, Bool, true, false, not, List, [], ◌∷◌, ◌++◌, length, length-append, get_or, refl, ap, sym, ◌∙◌, arith, subst}
+use Rattle.std.specs.Prelude.{Option, Some, None, eqb, cond, IsTrue, MatchOption, ◌&&◌, count_by, option_map, All, AllPairs}
 use Rattle.std.specs.Option.{option_or, IsSomeAnd}
 use Rattle.std.proofs.lemmas.List.Folds.{find-append}
-use Rattle.std.proofs.lemmas.List.Elements.{All-cons, All-nil, All-weaker, Contains-append_left, Contains-append_right, Contains-get_or}
+use Rattle.std.proofs.lemmas.List.Elements.{All-cons, All-nil, All-push, All-weaker, Contains-append_left, Contains-append_right, Contains-get_or}
+use Rattle.std.proofs.lemmas.List.{length-map}
+use Rattle.std.proofs.lemmas.List.Quantifiers.{all_pairs_push}
 use Rattle.std.proofs.lemmas.List.Sums.{sum_by-cons}
 use Rattle.std.proofs.lemmas.Bool.Decides.{Decides-eqb}
 use Rattle.dnp_objects.specs.declared.command.Command.{Command}
 use Rattle.dnp_controls.specs.declared.book.Entry.{Entry}
 use Rattle.dnp_controls.specs.declared.book.State.{State}
 use Rattle.dnp_controls.specs.declared.book.State.TheVariants.{Pending, Spent, Finished}
-use Rattle.dnp_controls.specs.Book.{AreNumberedFrom, IsSound, Has, entry_of, next_of, added, in_state, spent, finished, is_pending, is_finished}
+use Rattle.dnp_controls.specs.Book.{Ledger, AreNumberedFrom, IsSound, Has, entry_of, next_of, added, in_state, spent, finished, is_pending, is_finished}
 use Rattle.dnp_controls.specs.Moves.{Move, Add, Spend, Finish, IsGranted, moved, AreGranted, after, is_spend_of, IsNext, HasNoNext}
 use Rattle.dnp_controls.proofs.Numbered.{with_state, numbered-push, in_state-numbered}
 
@@ -46,11 +48,8 @@ entry_of-in_state-other (entry ∷ entries) other id state ne =
     go false true is_other is_id rest = refl
     go false false is_other is_id rest = rest
 
-entry_of-added : (entries : List Entry) (target : ℕ) (command : Command) (id : ℕ)
-    → entry_of (added entries target command) id
-    ≡ option_or (entry_of entries id) (entry_of (record { id = length entries + 1; target = target; command = command; state = Pending } ∷ []) id)
-entry_of-added entries target command id =
-    find-append (λ entry. eqb entry.id id) entries (record { id = length entries + 1; target = target; command = command; state = Pending } ∷ [])
+entry_of-push : (entries : List Entry) (new : Entry) (id : ℕ) → entry_of (entries ++ new ∷ []) id ≡ option_or (entry_of entries id) (entry_of (new ∷ []) id)
+entry_of-push entries new id = find-append (λ entry. eqb entry.id id) entries (new ∷ [])
 
 -- ---- what holds of an entry's state
 
@@ -58,10 +57,10 @@ entry_of-added entries target command id =
 abbrev Passes : Option Entry → (State → Bool) → Type 0
 Passes o test = IsSomeAnd o (λ entry. IsTrue (test entry.state))
 
-has-added : (entries : List Entry) (target : ℕ) (command : Command) (id : ℕ) (test : State → Bool) → Has entries id test → Has (added entries target command) id test
-has-added entries target command id test has =
+has-push : (entries : List Entry) (new : Entry) (id : ℕ) (test : State → Bool) → Has entries id test → Has (entries ++ new ∷ []) id test
+has-push entries new id test has =
     let P : Option Entry → Type 0 = λ o. Passes o test in
-    subst P (sym (entry_of-added entries target command id)) (go (entry_of entries id) _ has)
+    subst P (sym (entry_of-push entries new id)) (go (entry_of entries id) _ has)
   where
     go : (o p : Option Entry) → Passes o test → Passes (option_or o p) test
     go None p has = absurd has
@@ -107,109 +106,162 @@ past-in_state entries other id state before done has past = go (eqb other id) (D
         subst P (decides.0 refl) (has-set entries other state before (λ s. not (is_pending s)) has (ap not done))
     go false decides = has-other entries other id state (λ s. not (is_pending s)) (λ e. let h : false ≡ true = decides.1 e in cc) past
 
-past-moved : (entries : List Entry) (move : Move) (id : ℕ) → IsGranted entries move → IsPast entries id → IsPast (moved entries move) id
-past-moved entries (Add target command) id granted past = has-added entries target command id (λ s. not (is_pending s)) past
-past-moved entries (Spend other) id granted past = past-in_state entries other id Spent is_pending refl granted past
-past-moved entries (Finish other status) id granted past = past-in_state entries other id (Finished status) (λ s. not (is_finished s)) refl granted past
+past-moved : (book : Ledger) (move : Move) (id : ℕ) → IsGranted book move → IsPast book.entries id → IsPast (moved book move).entries id
+past-moved book (Add target command) id granted past = has-push book.entries _ id (λ s. not (is_pending s)) past
+past-moved book (Spend other) id granted past = past-in_state book.entries other id Spent is_pending refl granted past
+past-moved book (Finish other status) id granted past = past-in_state book.entries other id (Finished status) (λ s. not (is_finished s)) refl granted past
 
 -- how often an entry is spent by one call and those behind it
 spends-cons : (id : ℕ) (move : Move) (moves : List Move) → count_by (is_spend_of id) (move ∷ moves) ≡ cond (is_spend_of id move) 1 0 + count_by (is_spend_of id) moves
 spends-cons id move moves = sum_by-cons (λ m. cond (is_spend_of id m) 1 0) move moves
 
 -- it is spent by none of the calls
-spends-none : (entries : List Entry) (moves : List Move) (id : ℕ) → AreGranted entries moves → IsPast entries id → count_by (is_spend_of id) moves ≡ 0
-spends-none entries [] id granted past = refl
-spends-none entries (move ∷ moves) id granted past =
-    let rest : count_by (is_spend_of id) moves ≡ 0 = spends-none (moved entries move) moves id granted.1 (past-moved entries move id granted.0 past) in
-    let this : is_spend_of id move ≡ false = not-this entries move id granted.0 past in
+spends-none : (book : Ledger) (moves : List Move) (id : ℕ) → AreGranted book moves → IsPast book.entries id → count_by (is_spend_of id) moves ≡ 0
+spends-none book [] id granted past = refl
+spends-none book (move ∷ moves) id granted past =
+    let rest : count_by (is_spend_of id) moves ≡ 0 = spends-none (moved book move) moves id granted.1 (past-moved book move id granted.0 past) in
+    let this : is_spend_of id move ≡ false = not-this book move id granted.0 past in
     spends-cons id move moves ∙ ap (λ b. cond b 1 0 + count_by (is_spend_of id) moves) this ∙ (let h : 0 + count_by (is_spend_of id) moves ≡ 0 = omega arith in h)
   where
-    not-this : (entries : List Entry) (move : Move) (id : ℕ) → IsGranted entries move → IsPast entries id → is_spend_of id move ≡ false
-    not-this entries (Add target command) id granted past = refl
-    not-this entries (Finish other status) id granted past = refl
-    not-this entries (Spend other) id granted past = go (eqb other id) (Decides-eqb other id).0
+    not-this : (book : Ledger) (move : Move) (id : ℕ) → IsGranted book move → IsPast book.entries id → is_spend_of id move ≡ false
+    not-this book (Add target command) id granted past = refl
+    not-this book (Finish other status) id granted past = refl
+    not-this book (Spend other) id granted past = go (eqb other id) (Decides-eqb other id).0
       where
         go : (b : Bool) → (b ≡ true → other ≡ id) → b ≡ false
-        go true same = let P : ℕ → Type 0 = λ k. Has entries k is_pending in absurd (has-both entries id is_pending (subst P (same refl) granted) past)
+        go true same = let P : ℕ → Type 0 = λ k. Has book.entries k is_pending in absurd (has-both book.entries id is_pending (subst P (same refl) granted) past)
         go false same = refl
 
 -- an entry is spent by at most one of the calls
-pub spends-once : (entries : List Entry) (moves : List Move) (id : ℕ) → AreGranted entries moves → count_by (is_spend_of id) moves ≤ 1
-spends-once entries [] id granted = omega arith
-spends-once entries (Add target command ∷ moves) id granted =
-    let rest = spends-once (added entries target command) moves id granted.1 in omega (arith, rest, spends-cons id (Add target command) moves)
-spends-once entries (Finish other status ∷ moves) id granted =
-    let rest = spends-once (finished entries other status) moves id granted.1 in omega (arith, rest, spends-cons id (Finish other status) moves)
-spends-once entries (Spend other ∷ moves) id granted =
+pub spends-once : (book : Ledger) (moves : List Move) (id : ℕ) → AreGranted book moves → count_by (is_spend_of id) moves ≤ 1
+spends-once book [] id granted = omega arith
+spends-once book (Add target command ∷ moves) id granted =
+    let rest = spends-once (added book target command) moves id granted.1 in omega (arith, rest, spends-cons id (Add target command) moves)
+spends-once book (Finish other status ∷ moves) id granted =
+    let rest = spends-once (finished book other status) moves id granted.1 in omega (arith, rest, spends-cons id (Finish other status) moves)
+spends-once book (Spend other ∷ moves) id granted =
     let here : cond (eqb other id) 1 0 + count_by (is_spend_of id) moves ≤ 1 =
-    go (eqb other id) (Decides-eqb other id).0 (spends-once (spent entries other) moves id granted.1) in
+    go (eqb other id) (Decides-eqb other id).0 (spends-once (spent book other) moves id granted.1) in
     let P : ℕ → Type 0 = λ n. n ≤ 1 in
     subst P (sym (spends-cons id (Spend other) moves)) here
   where
     go : (b : Bool) → (b ≡ true → other ≡ id) → count_by (is_spend_of id) moves ≤ 1 → cond b 1 0 + count_by (is_spend_of id) moves ≤ 1
     go true same rest =
-        let P : ℕ → Type 0 = λ k. Has (spent entries other) k (λ s. not (is_pending s)) in
+        let P : ℕ → Type 0 = λ k. Has (spent book other).entries k (λ s. not (is_pending s)) in
         let none : count_by (is_spend_of id) moves ≡ 0 =
-        spends-none (spent entries other) moves id granted.1 (subst P (same refl) (has-set entries other Spent is_pending (λ s. not (is_pending s)) granted.0 refl)) in
+        spends-none (spent book other) moves id granted.1 (subst P (same refl) (has-set book.entries other Spent is_pending (λ s. not (is_pending s)) granted.0 refl)) in
         omega (arith, none)
     go false same rest = omega (arith, rest)
 
 -- ---- an entry that is finished
 
-finished-moved : (entries : List Entry) (move : Move) (id : ℕ) (entry : Entry) → IsGranted entries move → entry_of entries id ≡ Some entry → is_finished entry.state ≡ true
-    → entry_of (moved entries move) id ≡ Some entry
-finished-moved entries (Add target command) id entry granted is done =
-    entry_of-added entries target command id
-    ∙ ap (λ o. option_or o (entry_of (record { id = length entries + 1; target = target; command = command; state = Pending } ∷ []) id)) is
-finished-moved entries (Spend other) id entry granted is done = go (eqb other id) (Decides-eqb other id)
+finished-moved : (book : Ledger) (move : Move) (id : ℕ) (entry : Entry) → IsGranted book move → entry_of book.entries id ≡ Some entry → is_finished entry.state ≡ true
+    → entry_of (moved book move).entries id ≡ Some entry
+finished-moved book (Add target command) id entry granted is done =
+    entry_of-push book.entries _ id ∙ ap (λ o. option_or o (entry_of (record { id = book.last_id + 1; target = target; command = command; state = Pending } ∷ []) id)) is
+finished-moved book (Spend other) id entry granted is done = go (eqb other id) (Decides-eqb other id)
   where
     pending-not : (state : State) → is_pending state ≡ true → is_finished state ≡ true → ⊥
     pending-not Pending p q = cc
     pending-not Spent p q = cc
     pending-not (Finished status) p q = cc
 
-    go : (b : Bool) → (b ≡ true → other ≡ id) × (other ≡ id → b ≡ true) → entry_of (spent entries other) id ≡ Some entry
+    go : (b : Bool) → (b ≡ true → other ≡ id) × (other ≡ id → b ≡ true) → entry_of (spent book other).entries id ≡ Some entry
     go true decides =
-        let P : ℕ → Type 0 = λ k. Has entries k is_pending in
+        let P : ℕ → Type 0 = λ k. Has book.entries k is_pending in
         let Q : Option Entry → Type 0 = λ o. Passes o is_pending in
         absurd (pending-not entry.state (subst Q is (subst P (decides.0 refl) granted)) done)
-    go false decides = entry_of-in_state-other entries other id Spent (λ e. let h : false ≡ true = decides.1 e in cc) ∙ is
-finished-moved entries (Finish other status) id entry granted is done = go (eqb other id) (Decides-eqb other id)
+    go false decides = entry_of-in_state-other book.entries other id Spent (λ e. let h : false ≡ true = decides.1 e in cc) ∙ is
+finished-moved book (Finish other status) id entry granted is done = go (eqb other id) (Decides-eqb other id)
   where
     not-both : (b : Bool) → not b ≡ true → b ≡ true → ⊥
     not-both true p q = cc
     not-both false p q = cc
 
-    go : (b : Bool) → (b ≡ true → other ≡ id) × (other ≡ id → b ≡ true) → entry_of (finished entries other status) id ≡ Some entry
+    go : (b : Bool) → (b ≡ true → other ≡ id) × (other ≡ id → b ≡ true) → entry_of (finished book other status).entries id ≡ Some entry
     go true decides =
-        let P : ℕ → Type 0 = λ k. Has entries k (λ s. not (is_finished s)) in
+        let P : ℕ → Type 0 = λ k. Has book.entries k (λ s. not (is_finished s)) in
         let Q : Option Entry → Type 0 = λ o. Passes o (λ s. not (is_finished s)) in
         absurd (not-both (is_finished entry.state) (subst Q is (subst P (decides.0 refl) granted)) done)
-    go false decides = entry_of-in_state-other entries other id (Finished status) (λ e. let h : false ≡ true = decides.1 e in cc) ∙ is
+    go false decides = entry_of-in_state-other book.entries other id (Finished status) (λ e. let h : false ≡ true = decides.1 e in cc) ∙ is
 
 -- a finished entry stays as it is
-pub finished-stays : (entries : List Entry) (moves : List Move) (id : ℕ) (entry : Entry) → AreGranted entries moves → entry_of entries id ≡ Some entry → is_finished entry.state ≡ true
-    → entry_of (after entries moves) id ≡ Some entry
-finished-stays entries [] id entry granted is done = is
-finished-stays entries (move ∷ moves) id entry granted is done =
-    finished-stays (moved entries move) moves id entry granted.1 (finished-moved entries move id entry granted.0 is done) done
+pub finished-stays : (book : Ledger) (moves : List Move) (id : ℕ) (entry : Entry) → AreGranted book moves → entry_of book.entries id ≡ Some entry → is_finished entry.state ≡ true
+    → entry_of (after book moves).entries id ≡ Some entry
+finished-stays book [] id entry granted is done = is
+finished-stays book (move ∷ moves) id entry granted is done =
+    finished-stays (moved book move) moves id entry granted.1 (finished-moved book move id entry granted.0 is done) done
 
 -- ---- the ids
 
-pub sound-after : (entries : List Entry) (moves : List Move) → IsSound entries → IsSound (after entries moves)
-sound-after entries [] sound = sound
-sound-after entries (Add target command ∷ moves) sound = sound-after (added entries target command) moves (numbered-push entries 1 _ sound (omega arith))
-sound-after entries (Spend id ∷ moves) sound = sound-after (spent entries id) moves (in_state-numbered entries 1 id Spent sound)
-sound-after entries (Finish id status ∷ moves) sound = sound-after (finished entries id status) moves (in_state-numbered entries 1 id (Finished status) sound)
+in_state-at : (entries : List Entry) (id : ℕ) (state : State) (k : ℕ) (d : Entry) → k < length (in_state entries id state) → (get_or (in_state entries id state) k d).id ≡ (get_or entries k d).id
+in_state-at [] id state k d low = absurd (omega arith)
+in_state-at (entry ∷ entries) id state zero d low = head-id (eqb entry.id id) entry state
+in_state-at (entry ∷ entries) id state (suc k) d low = in_state-at entries id state k d (omega arith)
+
+sound-in_state : (book : Ledger) (id : ℕ) (state : State) → IsSound book → IsSound (record book { entries = in_state book.entries id state })
+sound-in_state book id state sound =
+    let same : length (in_state book.entries id state) ≡ length book.entries = simp length-map refl in
+    let at = in_state-at book.entries id state in
+    record {
+      rising = λ i j d before low. let h = sound.rising i j d before (omega arith) in let e = at i d (omega arith) in let f = at j d low in omega arith;
+      from_1 = λ i d low. let h = sound.from_1 i d (omega arith) in let e = at i d low in omega arith;
+      up_to_last = λ i d low. let h = sound.up_to_last i d (omega arith) in let e = at i d low in omega arith;
+    }
+
+sound-added : (book : Ledger) (target : ℕ) (command : Command) → IsSound book → IsSound (added book target command)
+sound-added book target command sound =
+    let new : Entry = record { id = book.last_id + 1; target = target; command = command; state = Pending } in
+    record {
+      rising = all_pairs_push (λ x y. x.id < y.id) book.entries new sound.rising (λ k d low. let h = sound.up_to_last k d low in omega arith);
+      from_1 = All-push (λ x. 1 ≤ x.id) book.entries new sound.from_1 (omega arith);
+      up_to_last = All-push (λ x. x.id ≤ book.last_id + 1) book.entries new (All-weaker (λ x. x.id ≤ book.last_id) (λ x. x.id ≤ book.last_id + 1) (λ x h. omega arith) book.entries sound.up_to_last) (omega arith);
+    }
+
+pub sound-after : (book : Ledger) (moves : List Move) → IsSound book → IsSound (after book moves)
+sound-after book [] sound = sound
+sound-after book (Add target command ∷ moves) sound = sound-after (added book target command) moves (sound-added book target command sound)
+sound-after book (Spend id ∷ moves) sound = sound-after (spent book id) moves (sound-in_state book id Spent sound)
+sound-after book (Finish id status ∷ moves) sound = sound-after (finished book id status) moves (sound-in_state book id (Finished status) sound)
+
+-- ids without a gap: 1, 2, 3 and so on up to the last one used
+pub record IsWithoutGap (book : Ledger) : Type 0 where
+  pub numbered : AreNumberedFrom 1 book.entries
+  pub counted : book.last_id ≡ length book.entries
+
+pub without_gap-after : (book : Ledger) (moves : List Move) → IsWithoutGap book → IsWithoutGap (after book moves)
+without_gap-after book [] h = h
+without_gap-after book (Add target command ∷ moves) h =
+    let new : Entry = record { id = book.last_id + 1; target = target; command = command; state = Pending } in
+    let counted = h.counted in
+    without_gap-after (added book target command) moves (record {
+      numbered = numbered-push book.entries 1 new h.numbered (omega arith);
+      counted = omega (arith, length-append book.entries (new ∷ []));
+    })
+without_gap-after book (Spend id ∷ moves) h =
+    without_gap-after (spent book id) moves (record { numbered = in_state-numbered book.entries 1 id Spent h.numbered; counted = simp length-map h.counted })
+without_gap-after book (Finish id status ∷ moves) h =
+    without_gap-after (finished book id status) moves (record { numbered = in_state-numbered book.entries 1 id (Finished status) h.numbered; counted = simp length-map h.counted })
+
+-- ids that are 1, 2, 3 and so on rise
+id_at : (entries : List Entry) (first i : ℕ) (d : Entry) → AreNumberedFrom first entries → i < length entries → (get_or entries i d).id ≡ first + i
+id_at [] first i d numbered low = absurd (omega arith)
+id_at (e ∷ es) first zero d numbered low = let h : e.id ≡ first = numbered.0 in omega (arith, h)
+id_at (e ∷ es) first (suc i) d numbered low = let h = id_at es (first + 1) i d numbered.1 (omega arith) in omega (arith, h)
+
+pub sound_numbered : (entries : List Entry) → AreNumberedFrom 1 entries → IsSound (record { entries = entries; last_id = length entries })
+sound_numbered entries numbered = record {
+  rising = λ i j d before low. omega (arith, id_at entries 1 i d numbered (omega arith), id_at entries 1 j d numbered low);
+  from_1 = λ i d low. omega (arith, id_at entries 1 i d numbered low);
+  up_to_last = λ i d low. omega (arith, id_at entries 1 i d numbered low);
+}
 
 -- ---- the next entry
 
--- the ids are at least the first one
-ids-from : (entries : List Entry) (first : ℕ) → AreNumberedFrom first entries → All (λ entry. first ≤ entry.id) entries
-ids-from [] first numbered = All-nil (λ entry. first ≤ entry.id)
-ids-from (entry ∷ entries) first numbered =
-    All-cons (λ e. first ≤ e.id) entry entries (let h : entry.id ≡ first = numbered.0 in omega arith)
-    (All-weaker (λ e. first + 1 ≤ e.id) (λ e. first ≤ e.id) (λ e h. omega arith) entries (ids-from entries (first + 1) numbered.1))
+-- the first id is the least one
+ids-from : (entry : Entry) (entries : List Entry) → AllPairs (λ x y. x.id < y.id) (entry ∷ entries) → All (λ e. entry.id ≤ e.id) (entry ∷ entries)
+ids-from entry entries rising zero d low = omega arith
+ids-from entry entries rising (suc k) d low = let h : entry.id < (get_or entries k d).id = rising zero (suc k) d (omega arith) low in omega arith
 
 -- no pending entry is for the target but perhaps behind the first one
 behind : (entry : Entry) (entries : List Entry) (target : ℕ) (o : Option Entry) → (is_pending entry.state ≡ true → entry.target ≡ target → ⊥)
@@ -223,11 +275,11 @@ behind entry entries target (Some e) not_this rest = record {
 }
 
 -- the next entry is the pending one of the least id for the target
-pub next-is-least : (entries : List Entry) (first target : ℕ) → AreNumberedFrom first entries
+pub next-is-least : (entries : List Entry) (target : ℕ) → AllPairs (λ x y. x.id < y.id) entries
     → MatchOption (next_of entries target) (HasNoNext entries target) (IsNext entries target)
-next-is-least [] first target numbered = All-nil (λ other. is_pending other.state ≡ true → other.target ≡ target → ⊥)
-next-is-least (entry ∷ entries) first target numbered =
-    go (is_pending entry.state) (eqb entry.target target) refl (Decides-eqb entry.target target) (next-is-least entries (first + 1) target numbered.1)
+next-is-least [] target rising = All-nil (λ other. is_pending other.state ≡ true → other.target ≡ target → ⊥)
+next-is-least (entry ∷ entries) target rising =
+    go (is_pending entry.state) (eqb entry.target target) refl (Decides-eqb entry.target target) (next-is-least entries target (λ i j d before low. rising (suc i) (suc j) d (omega arith) (omega arith)))
   where
     go : (a b : Bool) → is_pending entry.state ≡ a → (b ≡ true → entry.target ≡ target) × (entry.target ≡ target → b ≡ true)
         → MatchOption (next_of entries target) (HasNoNext entries target) (IsNext entries target)
@@ -236,8 +288,8 @@ next-is-least (entry ∷ entries) first target numbered =
       contained = Contains-append_left (entry ∷ []) entries entry (Contains-get_or (entry ∷ []) 0 entry (omega arith));
       pending = pending;
       target_is = decides.0 refl;
-      least = All-weaker (λ other. first ≤ other.id) (λ other. is_pending other.state ≡ true → other.target ≡ target → entry.id ≤ other.id)
-          (λ other h _ _. let e : entry.id ≡ first = numbered.0 in omega arith) (entry ∷ entries) (ids-from (entry ∷ entries) first numbered);
+      least = All-weaker (λ other. entry.id ≤ other.id) (λ other. is_pending other.state ≡ true → other.target ≡ target → entry.id ≤ other.id)
+          (λ other h _ _. h) (entry ∷ entries) (ids-from entry entries rising);
     }
     go true false pending decides rest = behind entry entries target (next_of entries target) (λ _ t. let h : false ≡ true = decides.1 t in cc) rest
     go false b not_pending decides rest = behind entry entries target (next_of entries target) (λ p _. cc) rest

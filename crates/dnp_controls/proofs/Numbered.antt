@@ -180,14 +180,14 @@ refilled new old len is same =
 
 pub IsKept-in_state : (entries : List Entry) (first id : ℕ) (state : State) → is_pending state ≡ false → IsKept entries first → IsKept (in_state entries id state) first
 IsKept-in_state entries first id state done kept = record {
-  sound = in_state-numbered entries 1 id state kept.sound;
+  numbered = in_state-numbered entries 1 id state kept.numbered;
   within = simp length-map kept.within;
   past = past-in_state entries first id state done kept.past;
 }
 
 pub IsKept-push : (entries : List Entry) (first : ℕ) (entry : Entry) → entry.id ≡ length entries + 1 → IsKept entries first → IsKept (entries ++ entry ∷ []) first
 IsKept-push entries first entry is kept = record {
-  sound = numbered-push entries 1 entry kept.sound (omega arith);
+  numbered = numbered-push entries 1 entry kept.numbered (omega arith);
   within = (let h : first ≤ length entries = kept.within in omega (arith, length-append entries (entry ∷ [])));
   past = (let P : List Entry → Type 0 = λ es. All (λ entry. is_pending entry.state ≡ false) es in
       subst P (sym (take-append-le first entries (entry ∷ []) kept.within)) kept.past);

@@ -1,10 +1,12 @@
--- Performed commands stay performed.
+-- The commands that requests performed, one after another.
 use Rattle.std.proofs.Common.{◌≡◌, List, [], ◌∷◌, ◌++◌, sym, ◌∙◌, append_assoc, append-nil}
+use Rattle.std.specs.List.{flat_map}
 use Rattle.dnp_objects.specs.declared.command.Command.{Command}
 use Rattle.dnp_controls.specs.Panel.{Request, accepted, performed_after}
 
-pub performed-grows : (performed : List Command) (requests : List Request) → (more : List Command) × (performed_after performed requests ≡ performed ++ more)
-performed-grows performed [] = ([], sym (append-nil performed))
-performed-grows performed (request ∷ requests) =
-    let rest = performed-grows (performed ++ accepted request.check request.commands) requests in
-    (accepted request.check request.commands ++ rest.0, rest.1 ∙ append_assoc performed (accepted request.check request.commands) rest.0)
+pub performed-are_accepted : (performed : List Command) (requests : List Request)
+    → performed_after performed requests ≡ performed ++ flat_map (λ request. accepted request.check request.commands) requests
+performed-are_accepted performed [] = sym (append-nil performed)
+performed-are_accepted performed (request ∷ requests) =
+    performed-are_accepted (performed ++ accepted request.check request.commands) requests
+    ∙ append_assoc performed (accepted request.check request.commands) (flat_map (λ request. accepted request.check request.commands) requests)

@@ -1,6 +1,6 @@
 -- The book of controls: the commands that are to be sent on, each with its target and its state. A
 -- breaker must not operate twice, so an entry is spent before its command is sent, and spent once.
-use Rattle.std.specs.Prelude.{◌≡◌, ℕ, ◌+◌, Bool, true, false, ◌&&◌, ◌==◌, nat_lt, if◌then◌else◌, IsTrue, List, [], ◌∷◌, ◌++◌, length, map, filter, find, take, Option}
+use Rattle.std.specs.Prelude.{◌≡◌, ℕ, ◌+◌, Bool, true, false, ◌&&◌, ◌==◌, nat_lt, if◌then◌else◌, IsTrue, List, [], ◌∷◌, ◌++◌, length, map, filter, find, take, Option, All, AllPairs, ◌<◌, ◌≤◌}
 use Rattle.std.specs.Option.{IsSomeAnd}
 use Rattle.dnp_objects.specs.declared.command.Command.{Command}
 use Rattle.dnp_controls.specs.declared.book.Entry.{Entry}
@@ -19,16 +19,29 @@ is_finished Pending = false
 is_finished Spent = false
 is_finished (Finished status) = true
 
--- ---- the entries of a book, in the order in which they were added
+-- ---- what a book holds
+
+pub record Ledger : Type 0 where
+  -- its entries, in the order in which they were added
+  pub entries : List Entry
+  -- the last id used
+  pub last_id : ℕ
+
+abbrev pub empty_ledger : Ledger
+empty_ledger = record { entries = []; last_id = 0 }
+
+-- ids rise, from 1 on, and are at most the last one used
+pub record IsSound (book : Ledger) : Type 0 where
+  pub rising : AllPairs (λ x y. x.id < y.id) book.entries
+  pub from_1 : All (λ x. 1 ≤ x.id) book.entries
+  pub up_to_last : All (λ x. x.id ≤ book.last_id) book.entries
 
 -- the ids are the numbers from this one on, one after another
 abbrev pub AreNumberedFrom : ℕ → List Entry → Type 0
 AreNumberedFrom first [] = Unit {0}
 AreNumberedFrom first (entry ∷ entries) = (entry.id ≡ first) × AreNumberedFrom (first + 1) entries
 
--- the ids are 1, 2, 3 and so on
-abbrev pub IsSound : List Entry → Type 0
-IsSound entries = AreNumberedFrom 1 entries
+-- ---- what is read of the entries
 
 -- the entry of this id
 abbrev pub entry_of : List Entry → ℕ → Option Entry
@@ -48,10 +61,12 @@ rows_of entries from most = take most (filter (λ entry. nat_lt from entry.id) e
 
 -- ---- what calls make of them
 
--- a command for a target is put behind them, pending under the next id
-abbrev pub added : List Entry → ℕ → Command → List Entry
-added entries target command =
-    entries ++ record { id = length entries + 1; target = target; command = command; state = Pending } ∷ []
+-- a command for a target is put behind the entries, pending under the next id
+abbrev pub added : Ledger → ℕ → Command → Ledger
+added book target command = record {
+  entries = book.entries ++ record { id = book.last_id + 1; target = target; command = command; state = Pending } ∷ [];
+  last_id = book.last_id + 1;
+}
 
 -- the entry of this id comes into a state
 abbrev pub in_state : List Entry → ℕ → State → List Entry
@@ -60,8 +75,8 @@ in_state entries id state =
     then record { id = entry.id; target = entry.target; command = entry.command; state = state }
     else entry) entries
 
-abbrev pub spent : List Entry → ℕ → List Entry
-spent entries id = in_state entries id Spent
+abbrev pub spent : Ledger → ℕ → Ledger
+spent book id = record book { entries = in_state book.entries id Spent }
 
-abbrev pub finished : List Entry → ℕ → ℕ → List Entry
-finished entries id status = in_state entries id (Finished status)
+abbrev pub finished : Ledger → ℕ → ℕ → Ledger
+finished book id status = record book { entries = in_state book.entries id (Finished status) }

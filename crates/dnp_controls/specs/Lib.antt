@@ -1,4 +1,5 @@
 pub mod Book
+pub mod Calls
 pub mod Code
 pub mod History
 pub mod Keeping

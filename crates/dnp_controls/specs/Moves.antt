@@ -3,7 +3,7 @@
 use Rattle.std.specs.Prelude.{◌≡◌, ℕ, ◌^◌, ◌<◌, ◌≤◌, Bool, true, false, not, ◌==◌, List, [], ◌∷◌, length, Contains, All}
 use Rattle.dnp_objects.specs.declared.command.Command.{Command}
 use Rattle.dnp_controls.specs.declared.book.Entry.{Entry}
-use Rattle.dnp_controls.specs.Book.{Has, is_pending, is_finished, added, spent, finished}
+use Rattle.dnp_controls.specs.Book.{Ledger, Has, is_pending, is_finished, added, spent, finished}
 
 -- the calls that change a book
 pub data Move : Type 0 where
@@ -12,26 +12,26 @@ pub data Move : Type 0 where
   Finish : (id status : ℕ) → Move
 
 -- when a book grants the call
-abbrev pub IsGranted : List Entry → Move → Type 0
-IsGranted entries (Add target command) = length entries < 2 ^ 62
-IsGranted entries (Spend id) = Has entries id is_pending
-IsGranted entries (Finish id status) = Has entries id (λ state. not (is_finished state))
+abbrev pub IsGranted : Ledger → Move → Type 0
+IsGranted book (Add target command) = book.last_id < 2 ^ 62
+IsGranted book (Spend id) = Has book.entries id is_pending
+IsGranted book (Finish id status) = Has book.entries id (λ state. not (is_finished state))
 
--- what it makes of the entries then
-abbrev pub moved : List Entry → Move → List Entry
-moved entries (Add target command) = added entries target command
-moved entries (Spend id) = spent entries id
-moved entries (Finish id status) = finished entries id status
+-- what it makes of the book then
+abbrev pub moved : Ledger → Move → Ledger
+moved book (Add target command) = added book target command
+moved book (Spend id) = spent book id
+moved book (Finish id status) = finished book id status
 
 -- each of the calls is granted, after those before it
-abbrev pub AreGranted : List Entry → List Move → Type 0
-AreGranted entries [] = Unit {0}
-AreGranted entries (move ∷ moves) = IsGranted entries move × AreGranted (moved entries move) moves
+abbrev pub AreGranted : Ledger → List Move → Type 0
+AreGranted book [] = Unit {0}
+AreGranted book (move ∷ moves) = IsGranted book move × AreGranted (moved book move) moves
 
--- what they make of the entries
-abbrev pub after : List Entry → List Move → List Entry
-after entries [] = entries
-after entries (move ∷ moves) = after (moved entries move) moves
+-- what they make of the book
+abbrev pub after : Ledger → List Move → Ledger
+after book [] = book
+after book (move ∷ moves) = after (moved book move) moves
 
 -- the call spends this entry
 abbrev pub is_spend_of : ℕ → Move → Bool

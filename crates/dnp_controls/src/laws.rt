@@ -1,11 +1,12 @@
 //! Laws of the words of `specs/`: each function does nothing, and its contract is a law.
 
-ghost use Rattle.std.specs.Prelude.{◌≡◌, ◌≤◌, ◌↔◌, ℕ, true, List, [], ◌∷◌, ◌++◌, Some, None, MatchOption, count_by};
+ghost use Rattle.std.specs.Prelude.{◌≡◌, ◌≤◌, ◌↔◌, ℕ, true, List, [], ◌∷◌, ◌++◌, Some, None, MatchOption, count_by, length};
+ghost use Rattle.std.specs.List.{flat_map};
 ghost use Rattle.dnp_objects.specs.declared.command.Command.{Command};
 ghost use Rattle.dnp_objects.specs.Status as status;
-ghost use Rattle.dnp_controls.specs.Book.{IsSound, entry_of, next_of, is_finished};
+ghost use Rattle.dnp_controls.specs.Book.{Ledger, IsSound, AreNumberedFrom, empty_ledger, entry_of, next_of, is_finished};
 ghost use Rattle.dnp_controls.specs.Moves.{Move, AreGranted, after, is_spend_of, IsNext, HasNoNext};
-ghost use Rattle.dnp_controls.specs.Panel.{Request, performed_after};
+ghost use Rattle.dnp_controls.specs.Panel.{Request, accepted, performed_after};
 ghost use Rattle.dnp_controls.specs.Selecting.{Select, SelectCall, Operating, Forgetting, standing, MakesNoSelect, GoesWith, IsRunning, HasEnded, answer};
 ghost use Rattle.dnp_controls.specs.declared.book.Entry.{Entry};
 
@@ -29,28 +30,33 @@ pub fn a_select_serves_once()
     ensures forgotten { (calls more : List SelectCall) → MakesNoSelect more → standing (more ++ Forgetting ∷ calls) ≡ None }
 {}
 
-/// Performed commands stay performed: those after some requests are those before them, and more.
-pub fn performed_commands_only_grow()
-    ensures { (performed : List Command) (requests : List Request) → (more : List Command) × (performed_after performed requests ≡ performed ++ more) }
+/// The commands that are performed after some requests are those that were performed before them, and
+/// then those of each request that were accepted, request by request.
+pub fn performed_commands_are_the_accepted_ones()
+    ensures { (performed : List Command) (requests : List Request) → performed_after performed requests
+        ≡ performed ++ flat_map (λ request. accepted request.check request.commands) requests }
 {}
 
 /// The next entry for a target is the pending one of the least id, where there is one.
 pub fn the_next_entry_is_the_least()
-    ensures { (entries : List Entry) (target : ℕ) → IsSound entries → MatchOption (next_of entries target) (HasNoNext entries target) (IsNext entries target) }
+    ensures { (book : Ledger) (target : ℕ) → IsSound book → MatchOption (next_of book.entries target) (HasNoNext book.entries target) (IsNext book.entries target) }
 {}
 
 /// An entry is spent by at most one call, over every list of calls that a book grants.
 pub fn an_entry_is_spent_once()
-    ensures { (entries : List Entry) (moves : List Move) (id : ℕ) → AreGranted entries moves → count_by (is_spend_of id) moves ≤ 1 }
+    ensures { (book : Ledger) (moves : List Move) (id : ℕ) → AreGranted book moves → count_by (is_spend_of id) moves ≤ 1 }
 {}
 
 /// A finished entry never changes again.
 pub fn a_finished_entry_stays()
-    ensures { (entries : List Entry) (moves : List Move) (id : ℕ) (entry : Entry) → AreGranted entries moves
-        → entry_of entries id ≡ Some entry → is_finished entry.state ≡ true → entry_of (after entries moves) id ≡ Some entry }
+    ensures { (book : Ledger) (moves : List Move) (id : ℕ) (entry : Entry) → AreGranted book moves
+        → entry_of book.entries id ≡ Some entry → is_finished entry.state ≡ true → entry_of (after book moves).entries id ≡ Some entry }
 {}
 
-/// The ids stay 1, 2, 3 and so on.
+/// A book stays sound. One that began empty has the ids 1, 2, 3 and so on, and its last id is the number
+/// of its entries.
 pub fn ids_go_on()
-    ensures { (entries : List Entry) (moves : List Move) → IsSound entries → IsSound (after entries moves) }
+    ensures sound { (book : Ledger) (moves : List Move) → IsSound book → IsSound (after book moves) }
+    ensures numbered { (moves : List Move) → AreNumberedFrom 1 (after empty_ledger moves).entries }
+    ensures counted { (moves : List Move) → (after empty_ledger moves).last_id ≡ length (after empty_ledger moves).entries }
 {}

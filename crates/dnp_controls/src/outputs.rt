@@ -1,6 +1,7 @@
 //! What outputs are.
 
-ghost use Rattle.std.specs.Prelude.{◌≡◌, ◌≢◌, ◌≤◌, Bool, IsTrue, OnOk, IfOk, IfErr, [], ◌++◌, length, map};
+ghost use Rattle.std.specs.Prelude.{◌≡◌, ◌≢◌, ◌≤◌, Bool, IsTrue, OnOk, IfOk, IfErr, List, [], ◌++◌, length, map};
+ghost use Rattle.dnp_controls.specs.Calls.{IsOutputsCall};
 ghost use Rattle.dnp_controls.specs.Panel.{Panel, accepted};
 
 use arrayvec::ArrayVec;
@@ -14,15 +15,22 @@ pub const MAX_COMMANDS: usize = 8;
 /// and 41).
 ///
 /// Where performing a command means that a store keeps it, what a call promises of the performed commands
-/// holds where the store is honest as the call ends.
+/// holds where the store is honest as the call ends. After Device nothing is promised of them.
 pub trait Outputs {
+    ghost use Rattle.dnp_objects.specs.declared.command.Command.{Command};
     ghost use Rattle.dnp_objects.specs.declared.store.StoreFault.{StoreFault};
 
     /// What the outputs answer, what they show, and which commands they have performed.
     ghost panel: { Self → Panel };
 
-    /// So far the store under the outputs has given back what was written to it, and nobody else has
-    /// written. Outputs without a store are always honest.
+    /// From the first value the second comes by performing these commands, in order, and by nothing else.
+    ghost performs: { Self → List Command → Self → Type 0 };
+
+    /// The store under the outputs has not the numbers that performing these commands takes.
+    ghost exhausts: { Self → List Command → Type 0 };
+
+    /// So far the store under the outputs has given back what was written to it, nobody else has
+    /// written, and it has not answered Device. Outputs without a store are always honest.
     ghost honest: { Self → Type 0 };
 
     /// The store under the outputs has answered Device.
@@ -53,23 +61,24 @@ pub trait Outputs {
     /// checks of all, in order.
     ///
     /// At a fault none was performed; only after Device, when a store was to keep them, that is not known.
+    /// Exhausted only where the store has not the numbers, and no Memory where there is no command.
     fn operate(
         &mut self,
         alloc: Global,
         commands: &[Command],
     ) -> Result<ArrayVec<Status, MAX_COMMANDS>, StoreFault>
         requires { length commands.now ≤ (panel self.old).most }
-        ensures held { honest self.new → honest self.old }
+        ensures call { IsOutputsCall honest is_stopped panel performs (accepted (panel self.old).check commands.now ≢ []) self.old self.new result }
         ensures same_most { (panel self.new).most ≡ (panel self.old).most }
         ensures same_outputs { (panel self.new).outputs ≡ (panel self.old).outputs }
 
         ensures statuses { IfOk result (λ statuses. statuses.items ≡ map (panel self.old).check commands.now) }
-        ensures performed { honest self.new → OnOk result ((panel self.new).performed ≡ (panel self.old).performed ++ accepted (panel self.old).check commands.now) }
-        ensures none_performed { honest self.new → IfErr result (λ e. e ≢ StoreFault.Device → panel self.new ≡ panel self.old) }
-
+        ensures performed { honest self.new → OnOk result (performs self.old (accepted (panel self.old).check commands.now) self.new) }
+        ensures listed { honest self.new → OnOk result ((panel self.new).performed ≡ (panel self.old).performed ++ accepted (panel self.old).check commands.now) }
+        ensures not_exhausted { honest self.new → OnOk result (exhausts self.old (accepted (panel self.old).check commands.now) → ⊥) }
+        ensures exhausted { honest self.new → IfErr result (λ e. e ≡ StoreFault.Exhausted → exhausts self.old (accepted (panel self.old).check commands.now)) }
         ensures named { IfErr result (λ e. IsTrue (may_fault e)) }
-        ensures device { IfErr result (λ e. e ≡ StoreFault.Device → IsTrue (is_stopped self.new)) }
-        ensures stays { IsTrue (is_stopped self.old) → accepted (panel self.old).check commands.now ≢ [] → result ≡ Err StoreFault.Device };
+        ensures memory { result ≡ Err StoreFault.Memory → commands.now ≢ [] };
 }
 
 /// No outputs at all.
@@ -83,6 +92,10 @@ impl Outputs for NoOutputs {
     ghost use Rattle.dnp_controls.specs.Latches.{no_panel};
 
     ghost panel = { λ _. no_panel };
+
+    ghost performs = { λ _ commands _. commands ≡ [] };
+
+    ghost exhausts = { λ _ _. ⊥ };
 
     ghost honest = { λ _. ⊤ };
 

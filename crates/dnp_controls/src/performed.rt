@@ -71,6 +71,7 @@ impl Performed {
     pub fn reserve(&mut self, count: usize) -> Result<(), AllocError>
         ensures same { self.new.commands ≡ self.old.commands }
         ensures room { OnOk result (count ≤ self.new.room) }
+        ensures full { OnErr result (self.old.room < count) }
     {
         self.commands.reserve(count)
     }

@@ -1,7 +1,7 @@
 //! A book of controls in memory.
 
 ghost use Rattle.std.specs.Prelude.{◌≡◌, ◌≤◌, ◌+◌, ℕ, [], length, take, filter, nat_lt, false, IsSome, option_map, All};
-ghost use Rattle.dnp_controls.specs.Book.{IsSound, entry_of, in_state, is_pending, next_of};
+ghost use Rattle.dnp_controls.specs.Book.{AreNumberedFrom, entry_of, in_state, is_pending, next_of};
 ghost use Rattle.dnp_controls.specs.Places.{IsKept};
 
 use crate::book::{Book, BookFault, Entry, State};
@@ -9,9 +9,9 @@ use dnp_objects::{Command, Status};
 use std::alloc::Global;
 use std::marker::Model;
 
-/// A book of controls in memory.
+/// A book of controls in memory, whose ids are 1, 2, 3 and so on.
 ///
-/// A clause sees its entries, in the order in which they were added.
+/// A clause sees its entries, in the order in which they were added. The last id used is their number.
 #[derive(Debug, Drop)]
 pub struct PlainBook {
     entries: Vec<Entry>,
@@ -46,7 +46,7 @@ impl PlainBook {
 
 // The state of the entry of an id, if there is one.
 fn state_of(entries: &[Entry], id: u64) -> Option<State>
-    requires { IsSound entries.now }
+    requires { AreNumberedFrom 1 entries.now }
     ensures { result ≡ option_map (λ entry. entry.state) (entry_of entries.now id) }
 {
     if id == 0 {
@@ -62,7 +62,7 @@ fn state_of(entries: &[Entry], id: u64) -> Option<State>
 
 // Puts the entry of an id, which is there, into a state.
 fn set_state(entries: &mut [Entry], id: u64, state: State)
-    requires sound { IsSound entries.old }
+    requires numbered { AreNumberedFrom 1 entries.old }
     requires there { IsSome (entry_of entries.old id) }
     ensures set { entries.new ≡ in_state entries.old id state }
     ensures kept { (first : ℕ) → is_pending state ≡ false → IsKept entries.old first → IsKept entries.new first }
@@ -74,7 +74,7 @@ fn set_state(entries: &mut [Entry], id: u64, state: State)
 
 // The entries whose ids are over `from`.
 fn over(entries: &[Entry], from: u64) -> &[Entry]
-    requires { IsSound entries.now }
+    requires { AreNumberedFrom 1 entries.now }
     ensures { result.now ≡ filter (λ entry. nat_lt from entry.id) entries.now }
 {
     if from < entries.len() as u64 {
@@ -112,7 +112,7 @@ fn count_past(entries: &[Entry]) -> usize
 impl Book for PlainBook {
     ghost use Rattle.std.specs.Prelude.{⊤, false};
 
-    ghost entries = { λ entries. entries };
+    ghost contents = { λ entries. record { entries = entries; last_id = length entries } };
 
     ghost honest = { λ _. ⊤ };
 
@@ -120,6 +120,7 @@ impl Book for PlainBook {
 
     ghost asks_memory = { false };
 
+    #[tactic(auto, using(crate::proofs::Moving::sound_numbered))]
     fn add(&mut self, _alloc: Global, target: u8, command: &Command) -> Result<u64, BookFault> {
         // No id passes 2^62: memory ends before that, so this book is never exhausted.
         let count = self.entries.len() as u64;
@@ -135,6 +136,7 @@ impl Book for PlainBook {
         Ok(count + 1)
     }
 
+    #[tactic(auto, using(crate::proofs::Moving::sound_numbered))]
     fn next(&mut self, _alloc: Global, target: u8) -> Result<Option<Entry>, BookFault> {
         let rest = self.entries.split_at(self.first).1;
         let past = count_past(rest);
@@ -142,6 +144,7 @@ impl Book for PlainBook {
         Ok(first_pending(rest.split_at(past).1, target))
     }
 
+    #[tactic(auto, using(crate::proofs::Moving::sound_numbered))]
     fn spend(&mut self, _alloc: Global, id: u64) -> Result<(), BookFault> {
         match state_of(&self.entries, id) {
             None => Err(BookFault::NoControl),
@@ -153,6 +156,7 @@ impl Book for PlainBook {
         }
     }
 
+    #[tactic(auto, using(crate::proofs::Moving::sound_numbered))]
     fn finish(&mut self, _alloc: Global, id: u64, status: Status) -> Result<(), BookFault> {
         match state_of(&self.entries, id) {
             None => Err(BookFault::NoControl),
@@ -164,6 +168,7 @@ impl Book for PlainBook {
         }
     }
 
+    #[tactic(auto, using(crate::proofs::Moving::sound_numbered))]
     fn rows(&mut self, alloc: Global, from: u64, most: usize) -> Result<Vec<Entry>, BookFault> {
         let rest = over(&self.entries, from);
         let count = most.min(rest.len());

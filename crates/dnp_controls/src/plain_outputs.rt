@@ -85,6 +85,10 @@ impl Outputs for PlainOutputs {
 
     ghost panel = { plain_panel };
 
+    ghost performs = { λ old commands new. new ≡ record old { performed = old.performed ++ commands } };
+
+    ghost exhausts = { λ _ _. ⊥ };
+
     ghost honest = { λ _. ⊤ };
 
     ghost is_stopped = { λ _. false };

@@ -6,4 +6,5 @@ pub mod LaneNumbers
 pub mod LatestRows
 pub mod Limits
 pub mod Offers
+pub mod Released
 pub mod Soundness

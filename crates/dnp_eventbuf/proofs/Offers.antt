@@ -4,11 +4,14 @@ use Rattle.std.specs.List.{All, AllPairs, Contains, filter}
 use Rattle.std.specs.Option.{option_map, unwrap_or}
 use Rattle.std.proofs.lemmas.Bool.{cases_lt, leb-true, lt-ltb, le-leb}
 use Rattle.std.proofs.lemmas.List.{map-append, get_or-take, length-take}
-use Rattle.std.proofs.lemmas.List.Elements.{All-filter, filter_passes, All-contains_itself, All-take, Contains-append_left, Contains-append_right}
+use Rattle.std.proofs.lemmas.List.Elements.{All-head, All-tail, All-filter, filter_passes, All-contains_itself, All-take, All-weaker, Contains-append_left, Contains-append_right}
 use Rattle.std.proofs.lemmas.List.Kept.{AllPairs-filter}
 use Rattle.std.proofs.lemmas.Option.{slice_get-get_or}
 use Rattle.dnp_objects.specs.Counts.{IsCoveredBy, HasNoRepeat}
 use Rattle.dnp_objects.proofs.Covered.{IsCoveredBy-from_members, IsCoveredBy-map, HasNoRepeat-by}
+use Rattle.dnp_objects.specs.Events.{IsEvent}
+use Rattle.dnp_objects.specs.Lanes.{lane_number}
+use Rattle.dnp_objects.specs.declared.lane.Lane.{Lane}
 use Rattle.dnp_objects.specs.declared.row.Row.{Row}
 use Rattle.dnp_objects.specs.declared.lane.LaneRow.{LaneRow}
 use Rattle.dnp_eventbuf.specs.declared.numbered.Numbered.{Numbered}
@@ -18,7 +21,7 @@ use Rattle.dnp_eventbuf.specs.Stock.{Stock, lane_at, row_of, with_rows, exhausts
 use Rattle.dnp_eventbuf.proofs.Ids.{new_ids}
 use Rattle.dnp_eventbuf.proofs.Soundness.{IsSound-with_rows}
 
-abbrev Rises : List Numbered → Type 0
+abbrev pub Rises : List Numbered → Type 0
 Rises rows = AllPairs (λ x y. x.id < y.id) rows
 
 -- ---- members of a filtered list
@@ -36,7 +39,7 @@ Contains-filter p (y ∷ ys) x (suc k) low is passes = contains_later (p y) y x 
 
 -- ---- the last id of a list
 
-last_of-some : (rows : List Numbered) (d : Numbered) → 0 < length rows → last_of rows ≡ (get_or rows (length rows - 1) d).id
+pub last_of-some : (rows : List Numbered) (d : Numbered) → 0 < length rows → last_of rows ≡ (get_or rows (length rows - 1) d).id
 last_of-some rows d some = ap (λ (o : Option Numbered). unwrap_or (option_map (λ x. x.id) o) 0) (slice_get-get_or rows (length rows - 1) d (omega arith))
 
 last_of-none : (rows : List Numbered) → length rows ≡ 0 → last_of rows ≡ 0
@@ -55,7 +58,7 @@ last_of-take (suc m) rows d k low beyond rising from_1 =
     let below : (get_or rows m d).id < (get_or rows k d).id = rising m k d (omega arith) low in
     omega arith
 
-last_of-most : (rows : List Numbered) (last : ℕ) → All (λ x. x.id ≤ last) rows → last_of rows ≤ last
+pub last_of-most : (rows : List Numbered) (last : ℕ) → All (λ x. x.id ≤ last) rows → last_of rows ≤ last
 last_of-most [] last all = omega arith
 last_of-most (x ∷ rows) last all =
     let at = last_of-some (x ∷ rows) x (omega arith) in
@@ -120,3 +123,34 @@ release_takes_offered s xs number after most sound carried within low =
     in
     subst (λ (ys : List Row). IsCoveredBy (map row_of taken) ys) (map-append row_of before shown)
     (IsCoveredBy-map row_of taken (before ++ shown) (IsCoveredBy-from_members taken (before ++ shown) apart each))
+
+-- no row has the id 0
+none_at_0 : (rows : List Numbered) → All (λ x. 1 ≤ x.id) rows → filter (λ x. nat_le x.id 0) rows ≡ []
+none_at_0 [] from_1 = refl
+none_at_0 (x ∷ rows) from_1 =
+    let h : 1 ≤ x.id = All-head (λ (y : Numbered). 1 ≤ y.id) x rows from_1 in
+    ap (λ (b : Bool). cond b (x ∷ filter (λ y. nat_le y.id 0) rows) (filter (λ y. nat_le y.id 0) rows)) (go (nat_le x.id 0) (leb-true x.id 0) h)
+    ∙ none_at_0 rows (All-tail (λ (y : Numbered). 1 ≤ y.id) x rows from_1)
+  where
+    go : (b : Bool) → (b ≡ true → x.id ≤ 0) → 1 ≤ x.id → b ≡ false
+    go true low h = absurd (let l : x.id ≤ 0 = low refl in omega arith)
+    go false low h = refl
+
+-- from the oldest row on, nothing else is taken
+pub release_takes_offered_alone : (s : Stock) (xs : List LaneRow) (number most : ℕ) → IsSound s → All IsCarried xs → exhausts s xs ≡ false → number < 9
+    → IsCoveredBy (up_to (last_of (offered s number 0 most)) (lane_at (with_rows s xs) number)) (map row_of (offered s number 0 most))
+release_takes_offered_alone s xs number most sound carried within low =
+    let now = lane_at (with_rows s xs) number in
+    let none : up_to 0 now ≡ [] = ap (map row_of) (none_at_0 now.rows ((IsSound-with_rows s xs sound carried within).each number low).from_1) in
+    subst (λ (before : List Row). IsCoveredBy (up_to (last_of (offered s number 0 most)) now) (before ++ map row_of (offered s number 0 most))) none
+    (release_takes_offered s xs number 0 most sound carried within low)
+
+-- ---- what is offered is an event
+
+pub offered_events : (s : Stock) (of : Lane) (after most : ℕ) → IsSound s → lane_number of < 9 → All (λ x. IsEvent x.row) (offered s (lane_number of) after most)
+offered_events s of after most sound low =
+    let rows = (lane_at s (lane_number of)).rows in
+    let Fits : Numbered → Type 0 = λ x. IsEvent x.row in
+    let carried : All (λ (x : Numbered). IsCarried (record { lane = of; row = x.row })) rows = (sound.each (lane_number of) low).carried of refl in
+    let events : All Fits rows = All-weaker (λ (x : Numbered). IsCarried (record { lane = of; row = x.row })) Fits (λ x h. h.fits) rows carried in
+    All-take Fits most (filter (λ x. nat_lt after x.id) rows) (All-filter (λ x. nat_lt after x.id) Fits rows events)

@@ -1,3 +1,4 @@
+pub mod Calls
 pub mod Carried
 pub mod Latest
 pub mod Sound

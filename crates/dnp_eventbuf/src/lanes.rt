@@ -1,5 +1,7 @@
-ghost use Rattle.std.specs.Prelude.{◌≡◌, ◌≢◌, Bool, false, IsTrue, OnOk, IfOk, IfErr, length, All};
+ghost use Rattle.std.specs.Prelude.{◌≡◌, ◌≢◌, Bool, false, IsTrue, OnOk, IfOk, IfErr, List, [], length, All};
+ghost use Rattle.dnp_objects.specs.Events.{IsEvent};
 ghost use Rattle.dnp_objects.specs.Lanes.{lane_number};
+ghost use Rattle.dnp_eventbuf.specs.Calls.{IsLanesCall};
 ghost use Rattle.dnp_eventbuf.specs.Carried.{IsCarried};
 ghost use Rattle.dnp_eventbuf.specs.Sound.{IsSound};
 ghost use Rattle.dnp_eventbuf.specs.Stock.{Stock, lane_at, with_rows, dropped_by, exhausts, offered, without, all_up_to, without_all, rows_in, last_of};
@@ -11,18 +13,27 @@ use std::alloc::Global;
 /// Nine lanes of rows, however they are kept (IEEE Std 1815-2012, application layer: event classes,
 /// event buffers and their overflow).
 ///
-/// A call that answers a fault other than Device changes nothing. After Device each call that can
-/// fail answers Device again. What a call promises of the rows holds where the store is honest as
-/// the call ends; which refusals it may give holds for every store.
+/// What a call promises of the rows holds where the store is honest as the call ends: a refusal
+/// changes nothing, and what is beside the lanes stays. Which refusals a call may give, and that the
+/// rows it offers are events, holds for every store. After Device each call that can fail answers
+/// Device again, and no call promises anything of the rows.
 pub trait Lanes {
     /// What the lanes hold.
     ghost contents: { Self → Stock };
 
-    /// So far the store has given back what was written to it, and nobody else has written.
+    /// The lanes of others that the same store keeps, and that no call here touches: none where it keeps
+    /// these nine alone.
+    ghost beside: { Self → List Stock };
+
+    /// So far the store has given back what was written to it, nobody else has written, and it has not
+    /// answered Device. Lanes in memory are always honest.
     ghost honest: { Self → Type 0 };
 
     /// It has answered Device.
     ghost is_stopped: { Self → Bool };
+
+    /// An append may be out of memory also where it drops no row, as one of a database may.
+    ghost asks_memory: { Bool };
 
     /// Puts the rows into their lanes, as if one by one, all or none, and answers the rows that full
     /// lanes dropped for them. A full lane drops its oldest row first, and counts it.
@@ -30,21 +41,17 @@ pub trait Lanes {
     /// Exhausted exactly where an id or a count of lost rows would pass 2^62, else Memory or Device.
     fn append(&mut self, alloc: Global, rows: &[LaneRow]) -> Result<Vec<Row>, StoreFault>
         requires { All IsCarried rows.now }
-        ensures held { honest self.new → honest self.old }
-        ensures sound { honest self.new → IsSound (contents self.new) }
+        ensures call { IsLanesCall honest is_stopped contents beside self.old self.new result }
 
         ensures appended { honest self.new → OnOk result (contents self.new ≡ with_rows (contents self.old) rows.now) }
         ensures dropped { honest self.new → IfOk result (λ dropped. dropped.items ≡ dropped_by (contents self.old) rows.now) }
-        ensures unchanged { honest self.new → IfErr result (λ e. e ≢ StoreFault.Device → contents self.new ≡ contents self.old) }
-
         ensures not_exhausted { honest self.new → OnOk result (exhausts (contents self.old) rows.now ≡ false) }
         ensures exhausted { honest self.new → IfErr result (λ e. e ≡ StoreFault.Exhausted → IsTrue (exhausts (contents self.old) rows.now)) }
         ensures exhausted_first { honest self.new → IfErr result (λ e. e ≡ StoreFault.Memory → exhausts (contents self.old) rows.now ≡ false) }
-        ensures device { IfErr result (λ e. e ≡ StoreFault.Device → IsTrue (is_stopped self.new)) }
-        ensures stays { IsTrue (is_stopped self.old) → result ≡ Err StoreFault.Device };
+        ensures memory { result ≡ Err StoreFault.Memory → asks_memory ≡ false → dropped_by (contents self.old) rows.now ≢ [] };
 
     /// The first rows of the lane with an id over `after`, at most `most`; `after` 0 begins at the
-    /// oldest. Memory or Device.
+    /// oldest. Each is an event. Memory or Device.
     fn offer(
         &mut self,
         alloc: Global,
@@ -52,44 +59,30 @@ pub trait Lanes {
         after: u64,
         most: usize,
     ) -> Result<Vec<Numbered>, StoreFault>
-        ensures held { honest self.new → honest self.old }
-        ensures sound { honest self.new → IsSound (contents self.new) }
+        ensures call { IsLanesCall honest is_stopped contents beside self.old self.new result }
 
         ensures rows { honest self.new → IfOk result (λ rows. rows.items ≡ offered (contents self.old) (lane_number lane) after most) }
         ensures same { honest self.new → OnOk result (contents self.new ≡ contents self.old) }
-        ensures unchanged { honest self.new → IfErr result (λ e. e ≢ StoreFault.Device → contents self.new ≡ contents self.old) }
-
-        ensures named { IfErr result (λ e. e ≢ StoreFault.Exhausted) }
-        ensures device { IfErr result (λ e. e ≡ StoreFault.Device → IsTrue (is_stopped self.new)) }
-        ensures stays { IsTrue (is_stopped self.old) → result ≡ Err StoreFault.Device };
+        ensures carried { IfOk result (λ rows. All (λ x. IsEvent x.row) rows.items) }
+        ensures named { IfErr result (λ e. e ≢ StoreFault.Exhausted) };
 
     /// Takes out, lane by lane, the rows with ids up to the lane's number in `upto`, and answers them.
     /// The overflow ends if no lane is full then. Memory or Device.
     fn release(&mut self, alloc: Global, upto: &Upto) -> Result<Vec<Row>, StoreFault>
-        ensures held { honest self.new → honest self.old }
-        ensures sound { honest self.new → IsSound (contents self.new) }
+        ensures call { IsLanesCall honest is_stopped contents beside self.old self.new result }
 
         ensures released { honest self.new → OnOk result (contents self.new ≡ without (contents self.old) upto.now) }
         ensures taken { honest self.new → IfOk result (λ rows. rows.items ≡ all_up_to (contents self.old) upto.now) }
-        ensures unchanged { honest self.new → IfErr result (λ e. e ≢ StoreFault.Device → contents self.new ≡ contents self.old) }
-
-        ensures named { IfErr result (λ e. e ≢ StoreFault.Exhausted) }
-        ensures device { IfErr result (λ e. e ≡ StoreFault.Device → IsTrue (is_stopped self.new)) }
-        ensures stays { IsTrue (is_stopped self.old) → result ≡ Err StoreFault.Device };
+        ensures named { IfErr result (λ e. e ≢ StoreFault.Exhausted) };
 
     /// Takes all rows out, and answers them, lane by lane. The overflow ends; the counts of lost rows
     /// and the last id used stay. Memory or Device.
     fn empty(&mut self, alloc: Global) -> Result<Vec<Row>, StoreFault>
-        ensures held { honest self.new → honest self.old }
-        ensures sound { honest self.new → IsSound (contents self.new) }
+        ensures call { IsLanesCall honest is_stopped contents beside self.old self.new result }
 
         ensures emptied { honest self.new → OnOk result (contents self.new ≡ without_all (contents self.old)) }
         ensures taken { honest self.new → IfOk result (λ rows. rows.items ≡ rows_in (contents self.old)) }
-        ensures unchanged { honest self.new → IfErr result (λ e. e ≢ StoreFault.Device → contents self.new ≡ contents self.old) }
-
-        ensures named { IfErr result (λ e. e ≢ StoreFault.Exhausted) }
-        ensures device { IfErr result (λ e. e ≡ StoreFault.Device → IsTrue (is_stopped self.new)) }
-        ensures stays { IsTrue (is_stopped self.old) → result ≡ Err StoreFault.Device };
+        ensures named { IfErr result (λ e. e ≢ StoreFault.Exhausted) };
 
     /// How many rows the lane holds.
     fn len(&mut self, lane: Lane) -> u32

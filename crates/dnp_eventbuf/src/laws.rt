@@ -1,5 +1,6 @@
 //! Laws of the words of `specs/`: each function does nothing, and its contract is a law.
-ghost use Rattle.std.specs.Prelude.{◌≡◌, ◌⊎◌, ◌≤◌, ◌<◌, ◌+◌, ℕ, Bool, false, List, [], ◌++◌, length, map, sum_by, count_by, All, Contains};
+ghost use Rattle.std.specs.Prelude.{◌≡◌, ◌⊎◌, ◌≤◌, ◌<◌, ◌+◌, ℕ, Bool, false, List, [], ◌++◌, length, map, sum_by, count_by, All, Contains, max, nat_lt, slice_index_or};
+ghost use Rattle.std.specs.List.{list_any};
 ghost use Rattle.std.specs.List.Sorted.{IsPermutation};
 ghost use Rattle.dnp_objects.specs.declared.row.Row.{Row};
 ghost use Rattle.dnp_objects.specs.declared.lane.LaneRow.{LaneRow};
@@ -73,11 +74,31 @@ pub fn a_lane_keeps_its_latest_rows()
         → KeepsLatest (lane_at s number) (numbered_for number s.last_id rows) (lane_at (with_rows s rows) number) }
 {}
 
-/// What a release takes up to the last id of an offer was offered, or has an id up to that behind which
-/// the offer began, whatever was appended since the offer.
+/// What a release takes up to the last id of an offer was offered, whatever was appended since the
+/// offer. If the offer began behind an id, rows with ids up to that one may stand there still, and go too.
 pub fn a_release_takes_what_was_offered()
-    ensures { (s : Stock) (rows : List LaneRow) (number after most : ℕ) → IsSound s → All IsCarried rows
+    ensures from_the_oldest { (s : Stock) (rows : List LaneRow) (number most : ℕ) → IsSound s → All IsCarried rows
+        → exhausts s rows ≡ false → number < 9
+        → IsCoveredBy (up_to (last_of (offered s number 0 most)) (lane_at (with_rows s rows) number))
+        (map row_of (offered s number 0 most)) }
+    ensures from_an_id { (s : Stock) (rows : List LaneRow) (number after most : ℕ) → IsSound s → All IsCarried rows
         → exhausts s rows ≡ false → number < 9
         → IsCoveredBy (up_to (last_of (offered s number after most)) (lane_at (with_rows s rows) number))
         (up_to after (lane_at (with_rows s rows) number) ++ map row_of (offered s number after most)) }
+{}
+
+/// What is offered after a release was offered before it, from behind the id up to which the lane's rows
+/// are released, where that is the larger one.
+pub fn an_offer_after_a_release()
+    ensures { (s : Stock) (upto : List ℕ) (number after most : ℕ) → length upto ≡ length s.lanes → number < length s.lanes
+        → offered (without s upto) number after most ≡ offered s number (max after (slice_index_or upto number 0)) most }
+{}
+
+/// A lane has a row with an id over a number exactly where its last id is over it, and none of its rows,
+/// nor its last id, is over the last one used.
+pub fn the_last_id_tells_of_rows()
+    ensures over { (s : Stock) (number id : ℕ) → IsSound s → number < 9
+        → list_any (λ x. nat_lt id x.id) (lane_at s number).rows ≡ nat_lt id (last_of (lane_at s number).rows) }
+    ensures rows { (s : Stock) (number : ℕ) → IsSound s → number < 9 → All (λ x. x.id ≤ s.last_id) (lane_at s number).rows }
+    ensures last { (s : Stock) (number : ℕ) → IsSound s → number < 9 → last_of (lane_at s number).rows ≤ s.last_id }
 {}

@@ -1,4 +1,4 @@
-ghost use Rattle.std.specs.Prelude.{◌≡◌, ◌≢◌, ◌^◌, ◌<◌, ◌≤◌, ◌+◌, Bool, true, false, IfOk, IfErr, IfSome, IfNone, OnOk, IsTrue, All, length, map, ◌++◌, vec_len, vec_capacity, ⊤};
+ghost use Rattle.std.specs.Prelude.{◌≡◌, ◌≢◌, ◌^◌, ◌<◌, ◌≤◌, ◌+◌, Bool, true, false, IfOk, IfErr, IfSome, IfNone, OnOk, IsTrue, All, length, map, [], ◌++◌, vec_len, vec_capacity, ⊤};
 ghost use Rattle.std.specs.List.{list_any};
 ghost use Rattle.std.specs.Option.{option_to_list};
 ghost use Rattle.dnp_objects.specs.Lanes.{lane_number};
@@ -50,7 +50,7 @@ impl PlainLanes {
 
     /// How many rows the lanes would drop for these, or `None` where an id or a count of lost rows
     /// would pass the limit.
-    fn drops(&self, rows: &[LaneRow]) -> Option<usize>
+    pub fn drops(&self, rows: &[LaneRow]) -> Option<usize>
         ensures sound { IsSound self.now }
         ensures some { IfSome result (λ dropped. (dropped ≡ length (dropped_by self.now rows.now)) × (exhausts self.now rows.now ≡ false)) }
         ensures none { IfNone result (IsTrue (exhausts self.now rows.now)) }
@@ -79,10 +79,11 @@ impl PlainLanes {
     }
 
     /// Puts the rows one by one. There is room for those that are dropped.
-    fn put_all(&mut self, rows: &[LaneRow], dropped: &mut Vec<Row>)
+    pub fn put_all(&mut self, rows: &[LaneRow], dropped: &mut Vec<Row>)
         requires carried { All IsCarried rows.now }
         requires fits { exhausts self.old rows.now ≡ false }
         requires room { vec_len dropped.old + length (dropped_by self.old rows.now) ≤ vec_capacity dropped.old }
+        ensures sound { IsSound self.new }
         ensures with { self.new ≡ with_rows self.old rows.now }
         ensures dropped { dropped.new.items ≡ dropped.old.items ++ dropped_by self.old rows.now }
     {
@@ -91,6 +92,46 @@ impl PlainLanes {
                 let _ = dropped.push(row);
             }
         }
+        // To read the last id is to know that the lanes are sound.
+        prove!(self.last_id <= LIMIT);
+    }
+
+    /// The rows that a release takes: of each lane those with ids up to its number.
+    pub fn rows_up_to(&self, alloc: Global, upto: &Upto) -> Result<Vec<Row>, AllocError>
+        ensures sound { IsSound self.now }
+        ensures rows { IfOk result (λ rows. rows.items ≡ all_up_to self.now upto.now) }
+    {
+        let mut taken = Vec::new(alloc);
+        push_all_up_to(&self.lanes, upto, &mut taken)?;
+        Ok(taken)
+    }
+
+    /// Takes those rows out. The overflow ends if no lane is full then.
+    pub fn cut(&mut self, upto: &Upto)
+        ensures sound { IsSound self.new }
+        ensures without { self.new ≡ without self.old upto.now }
+    {
+        cut_all(&mut self.lanes, upto);
+        self.overflow &= any_full(&self.lanes);
+    }
+
+    /// All rows, lane by lane.
+    pub fn all_rows(&self, alloc: Global) -> Result<Vec<Row>, AllocError>
+        ensures sound { IsSound self.now }
+        ensures rows { IfOk result (λ rows. rows.items ≡ rows_in self.now) }
+    {
+        let mut taken = Vec::new(alloc);
+        push_all(&self.lanes, &mut taken)?;
+        Ok(taken)
+    }
+
+    /// Takes all rows out. The overflow ends; the counts of lost rows and the last id used stay.
+    pub fn clear(&mut self)
+        ensures sound { IsSound self.new }
+        ensures without { self.new ≡ without_all self.old }
+    {
+        clear_all(&mut self.lanes);
+        self.overflow = false;
     }
 }
 
@@ -152,7 +193,7 @@ fn clear_all(lanes: &mut [PlainLane; LANES])
     }
 }
 
-/// Want of memory, as a store names it.
+/// Out of memory, as a store names it.
 fn memory(_: AllocError) -> StoreFault
     ensures { result ≡ StoreFault.Memory }
 {
@@ -162,9 +203,13 @@ fn memory(_: AllocError) -> StoreFault
 impl Lanes for PlainLanes {
     ghost contents = { λ s. s };
 
+    ghost beside = { λ _. [] };
+
     ghost honest = { λ _. ⊤ };
 
     ghost is_stopped = { λ _. false };
+
+    ghost asks_memory = { false };
 
     fn append(&mut self, alloc: Global, rows: &[LaneRow]) -> Result<Vec<Row>, StoreFault> {
         let count = self.drops(rows).ok_or(StoreFault::Exhausted)?;
@@ -186,18 +231,14 @@ impl Lanes for PlainLanes {
     }
 
     fn release(&mut self, alloc: Global, upto: &Upto) -> Result<Vec<Row>, StoreFault> {
-        let mut taken = Vec::new(alloc);
-        push_all_up_to(&self.lanes, upto, &mut taken).map_err(memory)?;
-        cut_all(&mut self.lanes, upto);
-        self.overflow &= any_full(&self.lanes);
+        let taken = self.rows_up_to(alloc, upto).map_err(memory)?;
+        self.cut(upto);
         Ok(taken)
     }
 
     fn empty(&mut self, alloc: Global) -> Result<Vec<Row>, StoreFault> {
-        let mut taken = Vec::new(alloc);
-        push_all(&self.lanes, &mut taken).map_err(memory)?;
-        clear_all(&mut self.lanes);
-        self.overflow = false;
+        let taken = self.all_rows(alloc).map_err(memory)?;
+        self.clear();
         Ok(taken)
     }
 

@@ -8,4 +8,5 @@ pub mod Objects
 pub mod Parts
 pub mod Rows
 pub mod Status
+pub mod Stores
 pub mod Words

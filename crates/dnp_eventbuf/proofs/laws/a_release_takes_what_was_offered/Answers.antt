@@ -1,5 +1,8 @@
-use Rattle.dnp_eventbuf.proofs.Offers.{release_takes_offered}
+use Rattle.dnp_eventbuf.proofs.Offers.{release_takes_offered, release_takes_offered_alone}
 use Rattle.dnp_eventbuf.proofs.laws.a_release_takes_what_was_offered.Goals as goal
 
-pub returns : goal.returns
-returns c = release_takes_offered
+pub returns-clause-from_the_oldest : goal.returns-clause-from_the_oldest
+returns-clause-from_the_oldest c = release_takes_offered_alone
+
+pub returns-clause-from_an_id : goal.returns-clause-from_an_id
+returns-clause-from_an_id c = release_takes_offered

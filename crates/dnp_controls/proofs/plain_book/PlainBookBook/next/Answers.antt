@@ -10,7 +10,7 @@ invariant_of-self c =
     let rest : c.split_at.result.1.now ≡ drop c.self.inside.first c.self.inside.entries.items = cc in
     let P : List Entry → Type 0 = λ es. All (λ entry. is_pending entry.state ≡ false) (take c.count_past-past.result es) in
     record {
-      sound = c.self.invariant.sound;
+      numbered = c.self.invariant.numbered;
       within = (let bound : c.count_past-past.result ≤ length c.split_at.result.1.now = c.count_past-past.ensures.bound in
           let within = c.self.invariant.within in
           omega (arith, ap length rest, length-drop c.self.inside.first c.self.inside.entries.items));

@@ -1,7 +1,7 @@
 use Rattle.std.proofs.Common.{refl}
 use Rattle.dnp_eventbuf.specs.Stock.{Stock, without_all}
 use Rattle.dnp_eventbuf.proofs.Soundness.{IsSound-without_all, IsSound-same_lanes}
-use Rattle.dnp_eventbuf.proofs.plain.PlainLanesLanes.empty.Goals as goal
+use Rattle.dnp_eventbuf.proofs.plain.PlainLanes.clear.Goals as goal
 
 pub invariant_of-self : goal.invariant_of-self
 invariant_of-self c =
@@ -9,4 +9,4 @@ invariant_of-self c =
     IsSound-same_lanes _ (without_all s) c.clear_all.ensures refl (IsSound-without_all s c.self.invariant)
 
 pub returns-clause-sound : goal.returns-clause-sound
-returns-clause-sound c = λ h. invariant_of-self c
+returns-clause-sound c = invariant_of-self c

@@ -1,7 +1,7 @@
 use Rattle.std.proofs.Common.{◌≡◌, length, rules, refl}
 use Rattle.dnp_eventbuf.specs.Stock.{Stock, without}
 use Rattle.dnp_eventbuf.proofs.Soundness.{IsSound-without, IsSound-same_lanes}
-use Rattle.dnp_eventbuf.proofs.plain.PlainLanesLanes.release.Goals as goal
+use Rattle.dnp_eventbuf.proofs.plain.PlainLanes.cut.Goals as goal
 
 pub invariant_of-self : goal.invariant_of-self
 invariant_of-self c =
@@ -10,4 +10,4 @@ invariant_of-self c =
     IsSound-same_lanes _ (without s c.args.upto.now) c.cut_all.ensures refl (IsSound-without s c.args.upto.now nine c.self.invariant)
 
 pub returns-clause-sound : goal.returns-clause-sound
-returns-clause-sound c = λ h. invariant_of-self c
+returns-clause-sound c = invariant_of-self c

@@ -1,0 +1,13 @@
+-- What a call of lanes leaves, whatever the call is for.
+use Rattle.std.specs.Prelude.{◌≡◌, Bool, List, Result, ⊤}
+use Rattle.dnp_objects.specs.declared.store.StoreFault.{StoreFault}
+use Rattle.dnp_objects.specs.declared.store.StoreFault.TheVariants.{Device}
+use Rattle.dnp_objects.specs.Stores.{IsStoreCall}
+use Rattle.dnp_eventbuf.specs.Sound.{IsSound}
+use Rattle.dnp_eventbuf.specs.Stock.{Stock}
+
+-- a call that may fail, of lanes that hold one stock and leave others alone
+abbrev pub IsLanesCall : {Store Answer : Type 0} → (Store → Type 0) → (Store → Bool) → (Store → Stock) → (Store → List Stock)
+    → Store → Store → Result Answer StoreFault → Type 0
+IsLanesCall honest is_stopped contents beside old new answer =
+    IsStoreCall honest is_stopped (λ s. IsSound (contents s)) (λ s t. contents t ≡ contents s) (λ s t. beside t ≡ beside s) Device ⊤ old new answer
