@@ -1,0 +1,5 @@
+pub mod Lists
+pub mod Octets
+pub mod Link
+pub mod Moves
+pub mod Standing
