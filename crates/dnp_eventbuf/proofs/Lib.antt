@@ -1,3 +1,5 @@
+pub mod BufferedCalls
+pub mod BufferedOnce
 pub mod Conserved
 pub mod Drops
 pub mod Ids
