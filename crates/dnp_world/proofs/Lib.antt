@@ -10,3 +10,4 @@ pub mod EventLaw
 pub mod Connections
 pub mod Answering
 pub mod Keeping
+pub mod LaneMoves

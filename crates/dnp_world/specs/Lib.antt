@@ -3,3 +3,4 @@ pub mod Octets
 pub mod Link
 pub mod Moves
 pub mod Standing
+pub mod Lanes
