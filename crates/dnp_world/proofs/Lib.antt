@@ -11,3 +11,4 @@ pub mod Connections
 pub mod Answering
 pub mod Keeping
 pub mod LaneMoves
+pub mod Round

@@ -1,10 +1,10 @@
 -- The lanes of `dnp_eventbuf` as the law of the link sees them, and what each of their calls is to the link.
-use Rattle.std.specs.Prelude.{◌≡◌, ℕ, false, List, [], ◌∷◌, None}
+use Rattle.std.specs.Prelude.{◌≡◌, false, List, [], ◌∷◌, None}
 use Rattle.dnp_objects.specs.declared.lane.LaneRow.{LaneRow}
 use Rattle.dnp_objects.specs.Lanes.{lane_number}
 use Rattle.dnp_eventbuf.specs.Stock.{Stock, lane_at, with_rows}
 use Rattle.dnp_eventbuf.specs.Buffered.{Buffered, buffered_in, buffered_next, buffered_dropped}
-use Rattle.dnp_world.specs.Link.{Outstation, Master, Link, Idle, Confirms}
+use Rattle.dnp_world.specs.Link.{Link, Idle, Confirms}
 use Rattle.dnp_world.specs.Moves.{appended, dropped, nothing_sent, nothing_reported}
 
 -- the link's lanes are these

@@ -4,3 +4,4 @@ pub mod Link
 pub mod Moves
 pub mod Standing
 pub mod Lanes
+pub mod Round

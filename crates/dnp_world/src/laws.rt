@@ -9,6 +9,7 @@ ghost use Rattle.dnp_eventbuf.specs.Stock.{Stock, with_rows, without, without_al
 ghost use Rattle.dnp_world.specs.Lanes.{HasLanes, fresh_link, lane_appended, lanes_emptied};
 ghost use Rattle.dnp_world.specs.Link.{Link};
 ghost use Rattle.dnp_world.specs.Moves.{Move, Moves, released};
+ghost use Rattle.dnp_world.specs.Round.{Round};
 ghost use Rattle.dnp_world.specs.Standing.{Stands, IsFresh};
 
 use dnp_eventbuf::link_laws::{a_release_is_by_ids, an_append_is_of_one_row, each_row_stands_once};
@@ -53,3 +54,9 @@ pub fn lanes_are_moved()
     an_append_is_of_one_row();
     each_row_stands_once();
 }
+
+/// The moves can be made: from a fresh link an event comes, is polled, taken, confirmed and released, and a direct
+/// operate is asked for and performed, with the very octets that go over the line.
+pub fn a_link_can_move()
+    ensures { Round }
+{}
