@@ -20,6 +20,10 @@ buffered_row x = x.row
 abbrev pub is_named : ℕ → ℕ → Buffered → Bool
 is_named id lane x = (x.id == id) && (x.lane == lane)
 
+-- it waits in this lane
+abbrev pub in_lane : ℕ → Buffered → Bool
+in_lane lane x = x.lane == lane
+
 -- ---- of lanes
 
 abbrev pub buffered_as : ℕ → Numbered → Buffered

@@ -1,11 +1,11 @@
 //! Laws of the rows of all lanes as one list, in which a row is named by its lane and its id: what each call does to
 //! them, for whoever tells from outside which rows were there, were reported and were released. Each function does
 //! nothing, and its contract is a law.
-ghost use Rattle.std.specs.Prelude.{◌≡◌, ◌≤◌, ◌+◌, ℕ, not, List, [], ◌∷◌, ◌++◌, length, map, filter, count_by, All};
+ghost use Rattle.std.specs.Prelude.{◌≡◌, ◌≤◌, ◌<◌, ◌+◌, ℕ, not, List, [], ◌∷◌, ◌++◌, length, map, filter, count_by, All};
 ghost use Rattle.std.specs.List.Sorted.{IsPermutation};
 ghost use Rattle.dnp_objects.specs.Lanes.{lane_number};
 ghost use Rattle.dnp_objects.specs.declared.lane.LaneRow.{LaneRow};
-ghost use Rattle.dnp_eventbuf.specs.Buffered.{buffered_in, buffered_row, buffered_next, buffered_dropped, is_named, is_upto};
+ghost use Rattle.dnp_eventbuf.specs.Buffered.{Buffered, in_lane, buffered_in, buffered_row, buffered_next, buffered_dropped, is_named, is_upto};
 ghost use Rattle.dnp_eventbuf.specs.Sound.{IsSound};
 ghost use Rattle.dnp_eventbuf.specs.Stock.{Stock, lane_at, with_rows, dropped_by, without, without_all, all_up_to};
 
@@ -33,4 +33,10 @@ pub fn each_row_stands_once()
     ensures once { (s : Stock) (id lane : ℕ) → IsSound s → count_by (is_named id lane) (buffered_in s) ≤ 1 }
     ensures ids { (s : Stock) → IsSound s → All (λ x. (1 ≤ x.id) × (x.id ≤ s.last_id)) (buffered_in s) }
     ensures emptied { (s : Stock) → buffered_in (without_all s) ≡ [] }
+{}
+
+/// Lists of rows of nine lanes that are the same lane by lane are the same but for order.
+pub fn rows_are_the_same_by_lanes()
+    ensures { (xs ys : List Buffered) → All (λ x. x.lane < 9) xs → All (λ x. x.lane < 9) ys
+        → ((lane : ℕ) → lane < 9 → filter (in_lane lane) xs ≡ filter (in_lane lane) ys) → IsPermutation xs ys }
 {}
