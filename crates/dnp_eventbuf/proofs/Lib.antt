@@ -1,3 +1,6 @@
+pub mod BufferedCalls
+pub mod BufferedOnce
+pub mod ByLanes
 pub mod Conserved
 pub mod Drops
 pub mod Ids

@@ -1,3 +1,4 @@
+pub mod Buffered
 pub mod Calls
 pub mod Carried
 pub mod Latest

@@ -5,6 +5,7 @@
 mod carried;
 mod lanes;
 pub mod laws;
+pub mod link_laws;
 mod numbered;
 mod plain;
 mod plain_lane;

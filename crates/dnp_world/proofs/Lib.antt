@@ -1,0 +1,14 @@
+pub mod Lists
+pub mod Counting
+pub mod Beginning
+pub mod Exchanges
+pub mod Responses
+pub mod ReportMoves
+pub mod Offers
+pub mod EventMoves
+pub mod EventLaw
+pub mod Connections
+pub mod Answering
+pub mod Keeping
+pub mod LaneMoves
+pub mod Round
