@@ -17,11 +17,13 @@ uint64_t dnp_bench_write_frames_apart(const uint8_t *user, size_t size, uint64_t
 uint64_t dnp_bench_feed(const uint8_t *stream, size_t size, size_t piece);
 uint64_t dnp_bench_walk(const uint8_t *fragment, size_t size);
 uint64_t dnp_bench_build(uint64_t count, uint16_t most);
+uint64_t dnp_bench_build_apart(uint64_t count, uint16_t most);
 
 // The same in plain Rust: plain_rust/.
 uint64_t plain_feed(const uint8_t *stream, size_t size, size_t piece);
 uint64_t plain_walk(const uint8_t *fragment, size_t size);
 uint64_t plain_build(uint64_t count, uint16_t most);
+uint64_t plain_build_apart(uint64_t count, uint16_t most);
 
 enum { WAYS = 4, UNITS = 64, MOST_OCTETS = 4096 };
 
@@ -218,6 +220,8 @@ static uint64_t walked(int way, uint64_t count) {
 // As many events as fit, and none.
 static uint64_t built(int way, uint64_t count) { return (way ? plain_build : dnp_bench_build)(count, 2048); }
 
+static uint64_t built_apart(int way, uint64_t count) { return (way ? plain_build_apart : dnp_bench_build_apart)(count, 2048); }
+
 static uint64_t built_empty(int way, uint64_t count) { return (way ? plain_build : dnp_bench_build)(count, 0); }
 
 static void fragment_row(const char *what, uint64_t (*work)(int, uint64_t), uint64_t count) {
@@ -262,6 +266,7 @@ static void fragment_rows(void) {
     }
     fragment_row("read: a READ of 682 headers", walked, 40000);
     fragment_row("built: 156 analog events", built, 40000);
+    fragment_row("  each by a call", built_apart, 40000);
     fragment_row("built: an empty response", built_empty, 2000000);
 }
 

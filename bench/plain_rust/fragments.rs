@@ -288,21 +288,40 @@ impl Builder {
     }
 }
 
+/// An event, by a call that stays one.
+#[inline(never)]
+fn event_apart(builder: &mut Builder, index: u16, flags: u8, value: i32, time: u64) -> Result<(), Full> {
+    builder.event(index, flags, value, time)
+}
+
 /// Builds `count` responses, each of `most` events or as many as fit in one, and makes a number of them;
-/// the turn makes each one another.
-#[no_mangle]
-pub extern "C" fn plain_build(count: u64, most: u16) -> u64 {
+/// the turn makes each one another. Each event is a call apart, or stands in the loop.
+#[inline(always)]
+fn build<const APART: bool>(count: u64, most: u16) -> u64 {
     let mut sum = 0u64;
     for turn in 0..count {
         let turn = turn % 65_536;
         let mut builder = Builder { octets: Vec::with_capacity(2_048), run: None };
-        let mut index = 0u16;
-        while index < most && builder.event(index, 1, turn as i32 & 0xFFFF, 1_000 + turn).is_ok() {
-            index += 1;
+        let (value, time) = (turn as i32 & 0xFFFF, 1_000 + turn);
+        for index in 0..most {
+            let put = if APART { event_apart(&mut builder, index, 1, value, time) } else { builder.event(index, 1, value, time) };
+            if put.is_err() {
+                break;
+            }
         }
         let fragment = builder.finish(0xE0 | turn as u8 & 15);
         let number = fragment.iter().step_by(97).fold(fragment.len() as u64, |sum, octet| sum.wrapping_mul(31).wrapping_add(u64::from(*octet)));
         sum = sum.wrapping_mul(31).wrapping_add(number);
     }
     sum
+}
+
+#[no_mangle]
+pub extern "C" fn plain_build(count: u64, most: u16) -> u64 {
+    build::<false>(count, most)
+}
+
+#[no_mangle]
+pub extern "C" fn plain_build_apart(count: u64, most: u16) -> u64 {
+    build::<true>(count, most)
 }

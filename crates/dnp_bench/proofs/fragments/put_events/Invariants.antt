@@ -3,4 +3,4 @@ use Rattle.dnp_appfragment.specs.Table.{is_response}
 use Rattle.dnp_bench.proofs.fragments.put_events.Given as goal
 
 abbrev pub invariant-loop-index : goal.invariant-loop-index
-invariant-loop-index l = IsTrue (is_response l.builder.function)
+invariant-loop-index g l = IsTrue (is_response l.builder.function)
