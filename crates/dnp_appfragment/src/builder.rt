@@ -120,7 +120,9 @@ impl Builder {
         Ok(())
     }
 
-    /// Puts an object, which comes as a header of its own. Its octets are written where they stay.
+    /// Puts an object, which comes as a header of its own. Its octets are written where they stay. It
+    /// stands in its callers, since each puts another object.
+    #[inline(always)]
     fn put<O: Object>(&mut self, object: &O) -> Result<(), Full>
         requires can { O.can_put object.now }
         requires fits { NumbersFit (O.head object.now).range → IsHeader (table.form_of self.old.function) (O.head object.now) }
@@ -162,6 +164,7 @@ impl Builder {
     /// be.
     ///
     /// Full, where the fragment would pass 2,048 octets; nothing is put then.
+    #[inline(always)]
     pub fn event(&mut self, row: &Row) -> Result<(), Full>
         requires response { IsTrue (table.is_response self.old.function) }
         requires fits { IsEvent row.now }

@@ -16,6 +16,9 @@ use dnp_objects::{
     Row, append_event, append_object, event_object, event_size, fits_object, object_size,
 };
 
+/// The range of one object behind its index: qualifier 28.
+const BEHIND_INDEX: Range = Range::Indexed { wide: true, n: 1 };
+
 /// The variation of the present values of a group.
 pub(crate) fn point_variation(group: u8) -> u8
     ensures { result ≡ spec.point_variation group }
@@ -67,9 +70,6 @@ pub(crate) trait Object {
         requires room { array_vec_len octets.old + length (head self.now).octets ≤ 2048 }
         ensures { octets.new.items ≡ octets.old.items ++ (head self.now).octets };
 }
-
-/// The range of one object behind its index: qualifier 28.
-const BEHIND_INDEX: Range = Range::Indexed { wide: true, n: 1 };
 
 /// A row as an event, behind its index: qualifier 28.
 #[derive(Clone, Copy)]
