@@ -384,3 +384,16 @@ row_there_in g v r octets k has here = go ((g == 1) && (v == 1)) refl
         let is : ((g == 1) && (v == 1)) ≡ true = λ i. (group i == 1) && (variation i == 1) in cc in
         let rows = rows_of g v r octets k apart has here in
         shaped (shape_read g v) refl rows.0 rows.1
+
+no_rows_left : (c : Carried) (r : Range) (octets : List ℕ) → rows_left c r octets 0 0 ≡ []
+unfolding shaped_left bits_left
+no_rows_left carried.Bits r octets = refl
+no_rows_left (carried.Rows shape) r octets = refl
+no_rows_left carried.Nothing r octets = refl
+
+-- where the range names none, nothing has to be known of the object
+pub no_walk_is : (g v : ℕ) (r : Range) (octets : List ℕ) (left : ℕ) → left ≡ count_of r → left ≡ 0 → (i : ℕ)
+    → slice_get (rows_left carried.Nothing r octets 0 left) i ≡ row_in (head_of g v r octets) i
+no_walk_is g v r octets left counts none i =
+    ap (λ (rows : List Row). slice_get rows i) (sym (no_rows_left (carried_by g v) r octets))
+    ∙ walk_is g v r octets (carried_by g v) 0 refl (sym none ∙ counts) i

@@ -85,12 +85,19 @@ impl<'a> RowWalk<'a> {
     pub(crate) fn new(header: &Header<'a>) -> RowWalk<'a>
         ensures { (k : ℕ) → slice_get result k ≡ row_in (head header.now) k }
     {
+        let left = count_of(header.range);
+        // (the header of a READ by class needs no look-up)
+        let carried = if left == 0 {
+            Carried::Nothing
+        } else {
+            carried_by(header.group, header.variation)
+        };
         RowWalk {
-            carried: carried_by(header.group, header.variation),
+            carried,
             range: header.range,
             octets: header.octets,
             k: 0,
-            left: count_of(header.range),
+            left,
         }
     }
 }
