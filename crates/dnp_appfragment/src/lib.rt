@@ -24,6 +24,7 @@ mod written;
 
 pub use builder::{Builder, Full};
 pub use control::Control;
+pub use dnp_objects::MAX_FRAGMENT;
 pub use fault::AppFault;
 pub use fragments::{confirm, read_request, read_response};
 pub use function::Function;

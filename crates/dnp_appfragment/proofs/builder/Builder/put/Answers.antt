@@ -1,4 +1,5 @@
 use Rattle.std.proofs.Common.{◌≡◌, ◌∙◌, ap, subst, refl, sym, true, ℕ, ◌+◌, ◌≤◌, List, length, ◌++◌, Some, None, arith}
+use Rattle.dnp_objects.specs.declared.limits.TheConstants.{MAX_FRAGMENT}
 use Rattle.dnp_appfragment.specs.Headers.{Head, NumbersFit, IsHeader, number, header_octets}
 use Rattle.dnp_appfragment.specs.Table.{form_of}
 use Rattle.dnp_appfragment.specs.Overwriting.{written_over}
@@ -27,7 +28,7 @@ invariant_of-self g c =
     c.requires.fits (subst (λ (h : Head). NumbersFit h.range) c.run-begun.ensures.value c.run-begun.ensures.fits) in
     let join : longer c.self.inside.run (g.O.Object.head c.args.object.now) ≡ Some c.in-Some.longer =
     sym (ap (longer c.self.inside.run) c.run-begun.ensures.value) ∙ sym c.longer.ensures ∙ c.in-Some.is in
-    let room : size c.args.self.now + length (g.O.Object.head c.args.object.now).octets ≤ 2048 =
+    let room : size c.args.self.now + length (g.O.Object.head c.args.object.now).octets ≤ MAX_FRAGMENT =
     omega (arith, c.left.ensures, c.if-left-size.false, c.size-size.ensures.value) in
     let place : c.self.inside.ended + 3 + c.end-place.result.0 ≡ c.self.inside.ended + 3 + (range_end c.in-Some.longer.range).0 =
     ap (λ (p : ℕ × ℕ). c.self.inside.ended + 3 + p.0) c.end-place.ensures in
@@ -45,7 +46,7 @@ returns-else-left-size-clause-ok g c =
     c.requires.fits (subst (λ (h : Head). NumbersFit h.range) c.run-begun.ensures.value c.run-begun.ensures.fits) in
     let join : longer c.self.inside.run (g.O.Object.head c.args.object.now) ≡ Some c.in-Some.longer =
     sym (ap (longer c.self.inside.run) c.run-begun.ensures.value) ∙ sym c.longer.ensures ∙ c.in-Some.is in
-    let room : size c.args.self.now + length (g.O.Object.head c.args.object.now).octets ≤ 2048 =
+    let room : size c.args.self.now + length (g.O.Object.head c.args.object.now).octets ≤ MAX_FRAGMENT =
     omega (arith, c.left.ensures, c.if-left-size.false, c.size-size.ensures.value) in
     let place : c.self.inside.ended + 3 + c.end-place.result.0 ≡ c.self.inside.ended + 3 + (range_end c.in-Some.longer.range).0 =
     ap (λ (p : ℕ × ℕ). c.self.inside.ended + 3 + p.0) c.end-place.ensures in
@@ -84,7 +85,7 @@ invariant_of-self-in-None g c =
     let fits : IsHeader (form_of c.args.self.now.function) (g.O.Object.head c.args.object.now) =
     c.requires.fits (subst (λ (h : Head). NumbersFit h.range) c.run-begun.ensures.value c.run-begun.ensures.fits) in
     let sizes = size-header c.run-begun.result (g.O.Object.head c.args.object.now) c.run-begun.ensures.value in
-    let room : size c.args.self.now + length (header_octets (g.O.Object.head c.args.object.now)) ≤ 2048 =
+    let room : size c.args.self.now + length (header_octets (g.O.Object.head c.args.object.now)) ≤ MAX_FRAGMENT =
     omega (arith, sizes, c.left-in-None.ensures, c.if-left-range_size.false, c.range_size.ensures.size, c.size-size.ensures.value) in
     let whole = header_behind c.self-in-None.inside.octets.items c.append-in-None.new.octets.items c.run-begun.result (g.O.Object.head c.args.object.now) c.run-begun.ensures.value
     (c.append-in-None.ensures ∙ ap (λ (l : List ℕ). l ++ (g.O.Object.head c.args.object.now).octets) c.push_run.ensures) in
@@ -99,7 +100,7 @@ returns-else-left-range_size-clause-ok g c =
     let none : longer c.self.inside.run (g.O.Object.head c.args.object.now) ≡ None =
     sym (ap (longer c.self.inside.run) c.run-begun.ensures.value) ∙ sym c.longer.ensures ∙ c.in-None.is in
     let sizes = size-header c.run-begun.result (g.O.Object.head c.args.object.now) c.run-begun.ensures.value in
-    let room : size c.args.self.now + length (header_octets (g.O.Object.head c.args.object.now)) ≤ 2048 =
+    let room : size c.args.self.now + length (header_octets (g.O.Object.head c.args.object.now)) ≤ MAX_FRAGMENT =
     omega (arith, sizes, c.left-in-None.ensures, c.if-left-range_size.false, c.range_size.ensures.size, c.size-size.ensures.value) in
     let whole = header_behind c.self-in-None.inside.octets.items c.append-in-None.new.octets.items c.run-begun.result (g.O.Object.head c.args.object.now) c.run-begun.ensures.value
     (c.append-in-None.ensures ∙ ap (λ (l : List ℕ). l ++ (g.O.Object.head c.args.object.now).octets) c.push_run.ensures) in
