@@ -144,17 +144,31 @@ impl Builder {
                 self.run = Some(longer);
                 Ok(())
             }
-            None => {
-                if self.left() < 3 + range_size(begun.range) + size {
-                    return Err(Full);
-                }
-                self.break_run();
-                push_run(&mut self.octets, begun);
-                object.append(&mut self.octets);
-                self.run = Some(begun);
-                Ok(())
-            }
+            None => self.begin(object),
         }
+    }
+
+    /// Puts an object as a header of its own, which the next one may join. It stands apart from `put`,
+    /// since most objects join.
+    #[inline(never)]
+    fn begin<O: Object>(&mut self, object: &O) -> Result<(), Full>
+        requires can { O.can_put object.now }
+        requires fits { NumbersFit (O.head object.now).range → IsHeader (table.form_of self.old.function) (O.head object.now) }
+        ensures ok { OnOk result (self.new ≡ built.with_run self.old None (O.head object.now)) }
+        ensures full { IsErr result ↔ (MAX_FRAGMENT < built.size self.old + length (header_octets (O.head object.now))) }
+        ensures err { OnErr result (self.new ≡ self.old) }
+        ensures function { self.new.function ≡ self.old.function }
+    {
+        let begun = object.run();
+        let size = object.size();
+        if self.left() < 3 + range_size(begun.range) + size {
+            return Err(Full);
+        }
+        self.break_run();
+        push_run(&mut self.octets, begun);
+        object.append(&mut self.octets);
+        self.run = Some(begun);
+        Ok(())
     }
 
     /// Puts a row into a response as an event: with a time as 2.2, 22.5 or 32.3, and else as 2.1,

@@ -3,6 +3,7 @@
 #![tactic(auto)]
 
 mod builder;
+mod checked;
 mod control;
 mod fault;
 mod fragments;

@@ -100,8 +100,10 @@ impl<'a> Object for Event<'a> {
 
     #[inline]
     fn append(&self, octets: &mut ArrayVec<u8, MAX_FRAGMENT>) {
-        push_number(octets, true, self.row.index);
-        append_event(self.row, octets);
+        // (all of the row is read before anything is written)
+        let (index, row) = (self.row.index, *self.row);
+        push_number(octets, true, index);
+        append_event(&row, octets);
     }
 }
 
