@@ -4,6 +4,7 @@
 #![tactic(auto)]
 
 mod bank;
+mod blocks;
 mod database;
 mod event;
 mod fault;
