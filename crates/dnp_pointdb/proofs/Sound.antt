@@ -6,6 +6,8 @@ use Rattle.std.proofs.lemmas.Bool.{cases_lt}
 use Rattle.std.proofs.lemmas.List.{get_or-map, get_or_default, length-map}
 use Rattle.std.proofs.lemmas.List.Elements.{All-cons, All-map}
 use Rattle.std.proofs.lemmas.Nat.{and_le_l, or_lt}
+use Rattle.dnp_objects.specs.declared.limits.TheConstants.{CLASSES}
+use Rattle.dnp_pointdb.specs.declared.limits.TheConstants.{INDICES, MAX_POINTS}
 use Rattle.dnp_objects.specs.declared.row.Kind.{Kind}
 use Rattle.dnp_objects.specs.declared.row.Kind.TheVariants.{Binary, Counter, Analog}
 use Rattle.dnp_objects.specs.Rows.{value_fits, flags_fit}
@@ -31,7 +33,7 @@ use Rattle.dnp_pointdb.proofs.Histories.{length-updated, with_points, updated_in
 
 -- ---- a point
 
-new_point : (kind : Kind) (point : Point) → point.class ≤ 3 → IsSoundPoint kind (new_state point)
+new_point : (kind : Kind) (point : Point) → point.class ≤ CLASSES → IsSoundPoint kind (new_state point)
 new_point Binary point class = record { class = class; carried = refl; in_time = refl }
 new_point Counter point class = record { class = class; carried = refl; in_time = refl }
 new_point Analog point class = record { class = class; carried = refl; in_time = refl }
@@ -42,7 +44,7 @@ read_point : (kind : Kind) (reading : Reading) (before after : PointState) → i
 read_point kind reading before after in_range same_point is s =
     let parts = both (is_carried kind reading) (is_in_time reading.time) in_range in
     record {
-      class = subst (λ (p : Point). p.class ≤ 3) (sym same_point) s.class;
+      class = subst (λ (p : Point). p.class ≤ CLASSES) (sym same_point) s.class;
       carried = subst (λ (r : Reading). is_carried kind r ≡ true) (sym is) parts.0;
       in_time = subst (λ (r : Reading). is_in_time r.time ≡ true) (sym is) parts.1;
     }
@@ -219,33 +221,33 @@ restarted_sound kind bs s = record {
 at_most : (most n : ℕ) → (most < n → ⊥) → n ≤ most
 at_most most n not_over = elim (cases_lt most n) [ inl over ↦ absurd (not_over over) | inr within ↦ within ]
 
-right_class : (kind : Kind) (point : Point) → (IsWrong kind point → ⊥) → point.class ≤ 3
-right_class Binary point right = at_most 3 point.class (λ over. right (inl over))
-right_class Counter point right = at_most 3 point.class (λ over. right (inl over))
-right_class Analog point right = at_most 3 point.class right
+right_class : (kind : Kind) (point : Point) → (IsWrong kind point → ⊥) → point.class ≤ CLASSES
+right_class Binary point right = at_most CLASSES point.class (λ over. right (inl over))
+right_class Counter point right = at_most CLASSES point.class (λ over. right (inl over))
+right_class Analog point right = at_most CLASSES point.class right
 
 -- what of a plan's block makes its points sound
 record IsRight (block : Block) : Type 0 where
-  pub few : length block.points ≤ 1024
-  pub narrow : block.base + length block.points ≤ 2 ^ 16
-  pub classes : All (λ (point : Point). point.class ≤ 3) block.points
+  pub few : length block.points ≤ MAX_POINTS
+  pub narrow : block.base + length block.points ≤ INDICES
+  pub classes : All (λ (point : Point). point.class ≤ CLASSES) block.points
 
 right_block : (kind : Kind) (block : Block) → IsRight block → IsSoundBlock kind (new_block block)
 right_block kind block right = record {
   few = omega (arith, right.few, length-map block.points new_state);
   narrow = omega (arith, right.narrow, length-map block.points new_state);
-  points = all_mapped (λ (point : Point). point.class ≤ 3) (IsSoundPoint kind) new_state (new_point kind) block.points right.classes;
+  points = all_mapped (λ (point : Point). point.class ≤ CLASSES) (IsSoundPoint kind) new_state (new_point kind) block.points right.classes;
 }
 
 all_right : (kind : Kind) (blocks : List Block) → (Any (HasWrongPoint kind) blocks → ⊥) → (Any HasTooMany blocks → ⊥) → (Any IsTooWide blocks → ⊥)
     → All IsRight blocks
 all_right kind blocks classes few narrow k d lt =
-    let class = all_from_none (HasWrongPoint kind) (λ (b : Block). All (λ (point : Point). point.class ≤ 3) b.points)
-    (λ b none. all_from_none (IsWrong kind) (λ (point : Point). point.class ≤ 3) (right_class kind) b.points none) blocks classes k d lt in
+    let class = all_from_none (HasWrongPoint kind) (λ (b : Block). All (λ (point : Point). point.class ≤ CLASSES) b.points)
+    (λ b none. all_from_none (IsWrong kind) (λ (point : Point). point.class ≤ CLASSES) (right_class kind) b.points none) blocks classes k d lt in
     record {
-      few = all_from_none HasTooMany (λ (b : Block). length b.points ≤ 1024) (λ b not_over. at_most 1024 (length b.points) not_over) blocks few k d lt;
-      narrow = all_from_none IsTooWide (λ (b : Block). b.base + length b.points ≤ 2 ^ 16)
-          (λ b not_over. at_most (2 ^ 16) (b.base + length b.points) not_over) blocks narrow k d lt;
+      few = all_from_none HasTooMany (λ (b : Block). length b.points ≤ MAX_POINTS) (λ b not_over. at_most MAX_POINTS (length b.points) not_over) blocks few k d lt;
+      narrow = all_from_none IsTooWide (λ (b : Block). b.base + length b.points ≤ INDICES)
+          (λ b not_over. at_most INDICES (b.base + length b.points) not_over) blocks narrow k d lt;
       classes = class;
     }
 

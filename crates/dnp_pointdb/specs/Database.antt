@@ -1,4 +1,4 @@
--- The points of a station with their readings and last reports, and what each call does to them. Each
+-- Definition: the points of a station with their readings and last reports, and what each call does to them. Each
 -- call is one function here: the contracts of the calls and the laws are stated by it.
 use Rattle.std.specs.Prelude.{◌≡◌, ℕ, zero, suc, ◌+◌, ◌-◌, Bool, false, ◌&&◌, nat_lt, nat_le, if◌then◌else◌, List, [], ◌∷◌, map, length, Option, Some, None, Result, Ok, Err, slice_get, slice_set, slice_index_or, bit_and, bit_or, ⊤}
 use Rattle.dnp_objects.specs.Faults.{IsFirstOf}

@@ -1,6 +1,8 @@
--- The plan of a station's points, and what is no plan. Blocks of different kinds have nothing to do
+-- Definition: the plan of a station's points, and what is no plan. Blocks of different kinds have nothing to do
 -- with one another; within a kind each index belongs to one point at most.
-use Rattle.std.specs.Prelude.{ℕ, ◌+◌, ◌<◌, ◌^◌, ◌⊎◌, List, [], ◌∷◌, length, Any, slice_index_or}
+use Rattle.std.specs.Prelude.{ℕ, ◌+◌, ◌<◌, ◌⊎◌, List, [], ◌∷◌, length, Any, slice_index_or}
+use Rattle.dnp_objects.specs.declared.limits.TheConstants.{CLASSES}
+use Rattle.dnp_pointdb.specs.declared.limits.TheConstants.{INDICES, MAX_POINTS}
 use Rattle.dnp_objects.specs.Faults.{IsFirstOf}
 use Rattle.dnp_objects.specs.Lanes.{kind_number}
 use Rattle.dnp_objects.specs.declared.row.Kind.{Kind}
@@ -29,9 +31,9 @@ blocks_of plan kind = slice_index_or plan.blocks (kind_number kind) []
 
 -- a class over 3, or a deadband on a binary or a counter
 abbrev pub IsWrong : Kind → Point → Type 0
-IsWrong Binary point = (3 < point.class) ⊎ (0 < point.deadband)
-IsWrong Counter point = (3 < point.class) ⊎ (0 < point.deadband)
-IsWrong Analog point = 3 < point.class
+IsWrong Binary point = (CLASSES < point.class) ⊎ (0 < point.deadband)
+IsWrong Counter point = (CLASSES < point.class) ⊎ (0 < point.deadband)
+IsWrong Analog point = CLASSES < point.class
 
 -- why one block is refused
 abbrev pub HasWrongPoint : Kind → Block → Type 0
@@ -39,11 +41,11 @@ HasWrongPoint kind block = Any (IsWrong kind) block.points
 
 -- a block has at most 1,024 points
 abbrev pub HasTooMany : Block → Type 0
-HasTooMany block = 1024 < length block.points
+HasTooMany block = MAX_POINTS < length block.points
 
 -- indices end at 65,535
 abbrev pub IsTooWide : Block → Type 0
-IsTooWide block = 2 ^ 16 < block.base + length block.points
+IsTooWide block = INDICES < block.base + length block.points
 
 -- why blocks are no plan
 abbrev pub IsPlanFault : Plan → PlanFault → Type 0

@@ -14,7 +14,7 @@ use crate::fault::ChangeFault;
 use crate::plan::PointPlan;
 use crate::reading::Reading;
 use crate::state::{BlockState, PointState};
-use dnp_objects::{KINDS, Kind, LaneRow};
+use dnp_objects::{CLASSES, KINDS, Kind, LaneRow};
 use std::alloc::{AllocError, Global};
 use std::marker::Model;
 
@@ -100,7 +100,7 @@ impl PointDb {
     pub fn class_of(&self, kind: Kind, index: u16) -> Option<u8>
         ensures value { result
             ≡ option_map (λ state. state.point.class) (spec.state_at self.now kind index) }
-        ensures highest { IfSome result (λ class. class ≤ 3) }
+        ensures highest { IfSome result (λ class. class ≤ CLASSES) }
     {
         self.state(kind, index).map(|state| state.point.class)
     }

@@ -9,6 +9,7 @@ mod database;
 mod event;
 mod fault;
 pub mod laws;
+mod limits;
 mod order;
 mod plan;
 mod point;
@@ -19,6 +20,7 @@ mod times;
 
 pub use database::PointDb;
 pub use fault::{ChangeFault, PlanFault};
+pub use limits::{INDICES, MAX_POINTS};
 pub use plan::PointPlan;
 pub use point::{Block, Point, Points};
 pub use reading::{Reading, Report};

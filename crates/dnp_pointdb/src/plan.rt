@@ -8,20 +8,12 @@ ghost use Rattle.dnp_pointdb.specs.Plan.{plan_of, blocks_of, IsPlanFault, IsFirs
 
 use crate::blocks::Blocks;
 use crate::fault::PlanFault;
+use crate::limits::{INDICES, MAX_POINTS};
 use crate::point::{Block, Point};
 use crate::taken::share_index;
-use dnp_objects::Kind;
+use dnp_objects::{CLASSES, Kind};
 use std::alloc::{AllocError, Global};
 use std::marker::Model;
-
-/// The highest class of a point.
-const HIGHEST_CLASS: u8 = 3;
-
-/// The most points of a block.
-const MOST_POINTS: usize = 1_024;
-
-/// The number after the highest index.
-const INDICES: usize = 65_536;
 
 /// The points of a station by kind and index (IEEE Std 1815-2012, object library): for each kind a
 /// list of blocks, in any order, of which no two share an index. A block is known by its number in
@@ -30,6 +22,7 @@ const INDICES: usize = 65_536;
 /// A clause sees the three lists.
 #[derive(Debug, Drop)]
 pub struct PointPlan {
+    /// The blocks of each kind, in the plan's order.
     blocks: Blocks,
 }
 
@@ -43,7 +36,7 @@ impl Model for PointPlan {
     ghost invariant = { λ plan. IsSound plan.blocks };
 }
 
-/// Whether a point of this kind has a class over 3, or a deadband that is none of its kind's.
+/// Whether a point of this kind has a class over `CLASSES`, or a deadband that is none of its kind's.
 fn is_wrong(kind: Kind, point: &Point) -> bool
     ensures { IsTrue result ↔ IsWrong kind point.now }
 {
@@ -51,7 +44,7 @@ fn is_wrong(kind: Kind, point: &Point) -> bool
         Kind::Binary | Kind::Counter => point.deadband > 0,
         Kind::Analog => false,
     };
-    point.class > HIGHEST_CLASS || has_deadband
+    point.class > CLASSES || has_deadband
 }
 
 /// Whether a point of the block, which is of this kind, has a wrong class or deadband.
@@ -82,7 +75,7 @@ fn some_too_many(blocks: &Blocks, kind: Kind) -> bool
     blocks
         .of(kind)
         .iter()
-        .any(|block| block.points.as_slice().len() > MOST_POINTS)
+        .any(|block| block.points.as_slice().len() > MAX_POINTS)
 }
 
 /// Whether a block of this kind has an index over the highest.
@@ -93,7 +86,7 @@ fn some_too_wide(blocks: &Blocks, kind: Kind) -> bool
         > INDICES)
 }
 
-/// Whether two blocks of this kind, whose indices are below 65,536, share an index.
+/// Whether two blocks of this kind, whose indices are below `INDICES`, share an index.
 fn some_overlap(blocks: &Blocks, kind: Kind) -> bool
     requires { Any IsTooWide (blocks_of blocks.now kind) → ⊥ }
     ensures { IsTrue result ↔ ShareIndex (blocks_of blocks.now kind) }
