@@ -1,7 +1,9 @@
+-- Definitions, by which contracts promise.
 pub mod Buffered
 pub mod Calls
 pub mod Carried
 pub mod Latest
 pub mod Sound
 pub mod Stock
+-- Words of private steps.
 pub mod Tallies

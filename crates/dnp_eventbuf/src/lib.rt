@@ -15,4 +15,4 @@ pub use carried::is_carried;
 pub use dnp_objects::{Lane, LaneRow, StoreFault};
 pub use lanes::Lanes;
 pub use numbered::{Numbered, Upto};
-pub use plain::PlainLanes;
+pub use plain::{MAX_CAPACITY, PlainLanes};

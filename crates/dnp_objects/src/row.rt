@@ -18,6 +18,9 @@ impl Kind {
     ghost use Rattle.std.specs.Prelude.{◌≡◌, ◌<◌, ◌↔◌, IsSome, IfSome};
     ghost use Rattle.dnp_objects.specs.Lanes.{kind_number};
 
+    /// The kinds, each at the place of its number.
+    pub const ALL: [Kind; KINDS] = [Kind::Binary, Kind::Counter, Kind::Analog];
+
     /// The kind's number, from 0: Binary, Counter, Analog.
     pub fn number(self) -> usize
         ensures value { result ≡ kind_number self }
