@@ -6,7 +6,7 @@ use crate::octets::{MAX_LINE, line_of_octets, read_octets};
 use crate::station::respond;
 use crate::writing::write_out;
 use arrayvec::ArrayVec;
-use dnp_linkframe::{FrameFault, MAX_FRAME, read_frame};
+use dnp_linkframe::{FrameFault, MAX_UNIT, read_frame};
 use itoa::Buffer;
 use std::io::Write;
 use thiserror::Error;
@@ -32,7 +32,7 @@ enum Answer {
     /// The station doesn't answer the frame.
     Silent,
     /// The octets of the frame that the station sends.
-    Sent(ArrayVec<u8, MAX_FRAME>),
+    Sent(ArrayVec<u8, MAX_UNIT>),
 }
 
 /// A line of these words, which are at most 100 characters.

@@ -4,7 +4,7 @@ ghost use Rattle.std.specs.Option.{option_map};
 ghost use Rattle.dnp_line.specs.Lines.{quiet_line, front_of, is_broken, sent_on, delivered_on, repeated_on, lost_on, Damages, cleared_on, room_of, reserved_on};
 
 use arrayvec::ArrayVec;
-use dnp_linkframe::{MAX_FRAME, read_frame};
+use dnp_linkframe::{MAX_UNIT, read_frame};
 use std::alloc::{AllocError, Global};
 use std::collections::VecDeque;
 use std::marker::Model;
@@ -19,7 +19,7 @@ pub const BROKEN_LOSSES: u8 = 32;
 #[derive(Debug, Drop)]
 pub struct Line {
     // The units on the line, the front first.
-    units: VecDeque<ArrayVec<u8, MAX_FRAME>>,
+    units: VecDeque<ArrayVec<u8, MAX_UNIT>>,
 
     // How many units there is memory for.
     capacity: usize,
@@ -113,7 +113,7 @@ impl Line {
     }
 
     /// Takes the front unit off and gives it. That ends the losses in a row.
-    pub fn deliver(&mut self) -> Option<ArrayVec<u8, MAX_FRAME>>
+    pub fn deliver(&mut self) -> Option<ArrayVec<u8, MAX_UNIT>>
         ensures unit { option_map (λ u. u.items) result ≡ front_of self.old.state }
         ensures line { self.new ≡ record self.old { state = delivered_on self.old.state } }
     {
@@ -123,7 +123,7 @@ impl Line {
     }
 
     /// Gives the front unit and keeps it. That ends the losses in a row.
-    pub fn repeat(&mut self) -> Option<ArrayVec<u8, MAX_FRAME>>
+    pub fn repeat(&mut self) -> Option<ArrayVec<u8, MAX_UNIT>>
         ensures unit { option_map (λ u. u.items) result ≡ front_of self.old.state }
         ensures line { self.new ≡ record self.old { state = repeated_on self.old.state } }
     {
@@ -175,7 +175,7 @@ impl Line {
 }
 
 // The octets as a unit.
-fn copied(octets: &[u8]) -> ArrayVec<u8, MAX_FRAME>
+fn copied(octets: &[u8]) -> ArrayVec<u8, MAX_UNIT>
     requires { length octets.now ≤ 292 }
     ensures { result.items ≡ octets.now }
 {

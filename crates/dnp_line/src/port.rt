@@ -9,7 +9,7 @@ ghost use Rattle.dnp_linkstation.specs.Station.{Stands as Answers};
 ghost use Rattle.dnp_line.specs.Ports.{new_port, data_frame, moved_on, HasHistory, Takes, IsShown, reset_of};
 
 use arrayvec::ArrayVec;
-use dnp_linkframe::{Frame, MAX_FRAME, write_frame, write_frame_into};
+use dnp_linkframe::{Frame, MAX_UNIT, write_frame, write_frame_into};
 use dnp_linkstation::LinkStation;
 use dnp_linkstation::laws::each_station_has_a_history;
 use dnp_transport::{Assembler, Pushed, segment};
@@ -30,7 +30,7 @@ pub struct Taken {
 
 impl Taken {
     /// The unit to answer with: the spelling of the reply. So a reply is put on a line as user data are, by its unit.
-    pub fn reply_unit(&self) -> Option<ArrayVec<u8, MAX_FRAME>>
+    pub fn reply_unit(&self) -> Option<ArrayVec<u8, MAX_UNIT>>
         ensures spells { IfSome result (λ unit. (reply : FrameValue) × (self.now.reply ≡ Some reply) × Spells unit.items reply) }
         ensures none { IfNone result (self.now.reply ≡ None) }
     {
@@ -81,7 +81,7 @@ impl Port {
     /// fragment's segment `k`.
     ///
     /// The fragment has 1 to 2,048 octets, and `k` is below `segment_count(fragment)`.
-    pub fn unit(&self, fragment: &[u8], k: usize) -> ArrayVec<u8, MAX_FRAME>
+    pub fn unit(&self, fragment: &[u8], k: usize) -> ArrayVec<u8, MAX_UNIT>
         requires some { 0 < length fragment.now }
         requires fits { length fragment.now ≤ 2048 }
         requires within { k < cut_count (length fragment.now) }
@@ -94,7 +94,7 @@ impl Port {
     }
 
     /// The same unit in place of what stood in the caller's, so that a loop over the units of a fragment moves none.
-    pub fn unit_into(&self, fragment: &[u8], k: usize, unit: &mut ArrayVec<u8, MAX_FRAME>)
+    pub fn unit_into(&self, fragment: &[u8], k: usize, unit: &mut ArrayVec<u8, MAX_UNIT>)
         requires some { 0 < length fragment.now }
         requires fits { length fragment.now ≤ 2048 }
         requires within { k < cut_count (length fragment.now) }

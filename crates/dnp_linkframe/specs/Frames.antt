@@ -5,6 +5,7 @@ use Rattle.dnp_linkframe.specs.CheckWord.{IsCheckWord}
 use Rattle.dnp_linkframe.specs.declared.frame.Frame.{Frame}
 use Rattle.dnp_linkframe.specs.declared.frame.FrameFault.{FrameFault}
 use Rattle.dnp_linkframe.specs.declared.frame.FrameFault.TheVariants.{Short, Start, HeaderCheck, Length, Size, BlockCheck}
+use Rattle.dnp_linkframe.specs.declared.frame.TheConstants.{MAX_USER_DATA}
 
 -- the part with its check word behind it, low octet first
 pub record HasCheck (part octets : List ℕ) : Type 0 where
@@ -45,11 +46,11 @@ frame_size n = 10 + n + 2 * block_count n
 abbrev pub header : Frame → List ℕ
 header f = 5 ∷ 100 ∷ (length f.user.items + 5) ∷ f.control ∷ (to_le_bytes w16 f.dest ++ to_le_bytes w16 f.source)
 
--- addresses of 16 bits, at most 250 octets of user data
+-- addresses of 16 bits, at most MAX_USER_DATA octets of user data
 pub record IsFrame (f : Frame) : Type 0 where
   pub dest : f.dest < 2 ^ 16
   pub source : f.source < 2 ^ 16
-  pub user : length f.user.items ≤ 250
+  pub user : length f.user.items ≤ MAX_USER_DATA
 
 -- the unit of octets is the frame's header and its blocks, each with its check word behind it
 abbrev pub Spells : List ℕ → Frame → Type 0

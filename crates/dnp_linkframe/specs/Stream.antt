@@ -3,6 +3,7 @@
 use Rattle.std.specs.Prelude.{◌≡◌, ℕ, zero, suc, ◌-◌, ◌<◌, ◌≤◌, List, [], ◌∷◌, ◌++◌, length, take, drop, slice_index}
 use Rattle.dnp_linkframe.specs.Frames.{IsChecked, EachChecked, Spells, frame_size}
 use Rattle.dnp_linkframe.specs.declared.frame.Frame.{Frame}
+use Rattle.dnp_linkframe.specs.declared.frame.TheConstants.{MAX_UNIT}
 
 -- the stream begins with a header: 05 64, and a check word that is right
 pub record HasHeader (stream : List ℕ) : Type 0 where
@@ -50,7 +51,7 @@ IsFront stream (Whole frame size) = (size ≤ length stream) × Spells (take siz
 -- too few octets stand there to tell what they are, and so it stays as long as they are fewer than needed
 pub record Awaits (stream : List ℕ) (needed : ℕ) : Type 0 where
   pub fewer : length stream < needed
-  pub most : needed ≤ 292
+  pub most : needed ≤ MAX_UNIT
   pub waits : (more : List ℕ) → length (stream ++ more) < needed → IsFront (stream ++ more) Waits
 
 -- how many octets are done with: none while they wait, one where no header stands, the header alone where

@@ -6,7 +6,7 @@ ghost use Rattle.dnp_linkframe.specs.declared.frame.FrameFault.{FrameFault as Fa
 
 use crate::check::check_word;
 use crate::frame::{
-    BLOCK, CHECKED_BLOCK, CHECKED_HEADER, Frame, FrameFault, LENGTH_OF_NONE, MAX_USER,
+    BLOCK, CHECKED_BLOCK, CHECKED_HEADER, Frame, FrameFault, LENGTH_OF_NONE, MAX_USER_DATA,
 };
 use arrayvec::ArrayVec;
 
@@ -66,9 +66,9 @@ fn check_unit(unit: &[u8]) -> Result<(), FrameFault>
 /// Appends what stands before the last two octets of a block. A whole block is copied apart from others:
 /// the compiler knows its length then, and the copy is a single move.
 #[inline(always)]
-fn copy_block(block: &[u8], user: &mut ArrayVec<u8, MAX_USER>)
+fn copy_block(block: &[u8], user: &mut ArrayVec<u8, MAX_USER_DATA>)
     requires two { 2 ≤ length block.now }
-    requires room { length user.old.items + (length block.now - 2) ≤ 250 }
+    requires room { length user.old.items + (length block.now - 2) ≤ MAX_USER_DATA }
     ensures { user.new.items ≡ user.old.items ++ take (length block.now - 2) block.now }
 {
     if block.len() == CHECKED_BLOCK {
@@ -81,8 +81,8 @@ fn copy_block(block: &[u8], user: &mut ArrayVec<u8, MAX_USER>)
 
 /// Appends the user data of the blocks, each with its check word behind it.
 #[inline(always)]
-fn copy_blocks(octets: &[u8], user: &mut ArrayVec<u8, MAX_USER>)
-    requires sized { (size : ℕ) × (size ≤ 250) × (length octets.now ≡ size + 2 * block_count size) }
+fn copy_blocks(octets: &[u8], user: &mut ArrayVec<u8, MAX_USER_DATA>)
+    requires sized { (size : ℕ) × (size ≤ MAX_USER_DATA) × (length octets.now ≡ size + 2 * block_count size) }
     requires checked { EachChecked octets.now }
     requires empty { user.old.items ≡ [] }
     ensures { AreChecked (blocks user.new.items) octets.now }

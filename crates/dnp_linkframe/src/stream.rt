@@ -6,7 +6,7 @@ ghost use Rattle.dnp_linkframe.specs.Stream.{Waits, IsFront, Awaits, HasHeader, 
 ghost use Rattle.dnp_linkframe.specs.declared.frame.Frame.{Frame as FrameValue};
 
 use crate::check::check_word;
-use crate::frame::{BLOCK, CHECKED_HEADER, Frame, LENGTH_OF_NONE};
+use crate::frame::{BLOCK, CHECKED_HEADER, Frame, LENGTH_OF_NONE, MAX_UNIT};
 use crate::reading::{check_blocks, fill};
 use std::alloc::AllocError;
 
@@ -72,7 +72,7 @@ fn push_frame(unit: &[u8], out: &mut Vec<Frame>) -> Result<(), AllocError>
 pub(crate) fn take_frames(stream: &[u8], out: &mut Vec<Frame>) -> Result<usize, AllocError>
     ensures given { IfOk result (λ done. (frames : List FrameValue) × (out.new.items ≡ out.old.items ++ frames) × Gives stream.now frames (drop done stream.now)) }
     ensures within { IfOk result (λ done. done ≤ length stream.now) }
-    ensures fewer { IfOk result (λ done. length (drop done stream.now) < 292) }
+    ensures fewer { IfOk result (λ done. length (drop done stream.now) < MAX_UNIT) }
     ensures refused { OnErr result ((frames : List FrameValue) × (out.new.items ≡ out.old.items ++ frames)) }
     ensures full { OnErr result ((more : List ℕ) (frames : List FrameValue) (rest : List ℕ) → Gives (stream.now ++ more) frames rest → vec_capacity out.old < vec_len out.old + length frames) }
     ensures capacity { vec_capacity out.old ≤ vec_capacity out.new }
