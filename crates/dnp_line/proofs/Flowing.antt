@@ -17,6 +17,7 @@ use Rattle.dnp_line.proofs.Splits.{total-append, recent_more}
 use Rattle.dnp_line.proofs.OnLine.{last_from, last_more, fresh_last, all_sent, all_dropped}
 use Rattle.dnp_line.proofs.Hearing.{HasHeard, has_heard}
 use Rattle.dnp_line.proofs.Lower.{Lower}
+use Rattle.dnp_line.specs.declared.line.TheConstants.{BROKEN_LOSSES}
 
 -- a link that is opened again
 pub opened_flows : Lower → (w : Way) → AreFacing w.sender w.receiver → Flows (opened_on w) []
@@ -45,7 +46,7 @@ new_flows low own peer m =
 
 -- a send, which leaves the line so
 send_flows : (w : Way) (rest : List (List ℕ)) (f : List ℕ) (line : LineState) → w.mute ≡ false → (fl : Flows w rest) → line.lost ≡ w.line.lost
-    → (line.lost < 32 → AreLast (moved_on (cut_count (length f)) w.sender) (w.sent ++ f ∷ []) fl.gone line.units) → (32 ≤ line.lost → line.units ≡ [])
+    → (line.lost < BROKEN_LOSSES → AreLast (moved_on (cut_count (length f)) w.sender) (w.sent ++ f ∷ []) fl.gone line.units) → (BROKEN_LOSSES ≤ line.lost → line.units ≡ [])
     → Flows (record w { line = line; sender = moved_on (cut_count (length f)) w.sender; sent = w.sent ++ f ∷ [] }) (rest ++ f ∷ [])
 send_flows w rest f line audible fl lost_is on_line broken =
     record {
@@ -63,7 +64,7 @@ send_flows w rest f line audible fl lost_is on_line broken =
       pushed = fl.pushed;
       stands = fl.stands;
       half_built = λ few s o.
-          let few' : w.line.lost < 32 = omega (arith, few, lost_is) in
+          let few' : w.line.lost < BROKEN_LOSSES = omega (arith, few, lost_is) in
           recent_more w.sent (f ∷ []) fl.gone line.lost s
           (subst (λ (n : ℕ). IsRecent w.sent fl.gone n s) (sym lost_is) (fl.half_built few' s o));
     }
@@ -73,7 +74,7 @@ sends_flow w w' rest f audible fl s =
     let moved : PortState = moved_on (cut_count (length f)) w.sender in
     let after : LineState → Way = λ line. record w { line = line; sender = moved; sent = w.sent ++ f ∷ [] } in
     let flows : Flows (after (all_sent_on s.units w.line)) (rest ++ f ∷ []) =
-    elim (cases_lt w.line.lost 32) [
+    elim (cases_lt w.line.lost BROKEN_LOSSES) [
       | inl few ↦
           let line_is : all_sent_on s.units w.line ≡ line_of (w.line.units ++ s.units) w.line.lost =
           all_sent s.units w.line.units w.line.lost few in
@@ -109,7 +110,7 @@ lost_flows : (w : Way) (rest units : List (List ℕ)) (lost : ℕ) → Flows (re
     → Flows (record w { line = lost_on (line_of units lost) }) rest
 lost_flows w rest [] lost fl = fl
 lost_flows w rest (u ∷ units) lost fl =
-    let left : List (List ℕ) = if nat_le 32 (lost + 1) then [] else units in
+    let left : List (List ℕ) = if nat_le BROKEN_LOSSES (lost + 1) then [] else units in
     record {
       facing = fl.facing;
       numbered = fl.numbered;
@@ -120,9 +121,9 @@ lost_flows w rest (u ∷ units) lost fl =
       reached = omega (arith, fl.reached);
       on_line = λ few.
           subst (λ (l : List (List ℕ)). AreLast w.sender w.sent (fl.gone + 1) l)
-          (sym (cond-false (nat_le 32 (lost + 1)) [] units (lt-leb 32 (lost + 1) few)))
+          (sym (cond-false (nat_le BROKEN_LOSSES (lost + 1)) [] units (lt-leb BROKEN_LOSSES (lost + 1) few)))
           ((fl.on_line (omega (arith, few))).3);
-      broken = λ many. cond-true (nat_le 32 (lost + 1)) [] units (le-leb 32 (lost + 1) many);
+      broken = λ many. cond-true (nat_le BROKEN_LOSSES (lost + 1)) [] units (le-leb BROKEN_LOSSES (lost + 1) many);
       heard = fl.heard;
       answers = fl.answers;
       pushed = fl.pushed;
@@ -167,8 +168,8 @@ delivered low w rest [] lost receiver given fl h =
     brought_nothing (record w { line = line_of [] lost }) rest receiver given fl h.0 h.1
 delivered low w rest (u ∷ units) lost receiver given fl h =
     let v : Way = record w { line = line_of (u ∷ units) lost } in
-    let few : lost < 32 =
-    elim (cases_lt lost 32) [ inl few ↦ few | inr many ↦ let none : u ∷ units ≡ [] = fl.broken many in absurd (cc) ] in
+    let few : lost < BROKEN_LOSSES =
+    elim (cases_lt lost BROKEN_LOSSES) [ inl few ↦ few | inr many ↦ let none : u ∷ units ≡ [] = fl.broken many in absurd (cc) ] in
     let on = fl.on_line few in
     let heard : HasHeard v rest fl.gone receiver given = has_heard low v rest fl u on.0 receiver given few on.1 on.2 h in
     record {
@@ -202,8 +203,8 @@ repeated low w rest [] lost receiver given fl h =
     brought_nothing (record w { line = line_of [] lost }) rest receiver given fl h.0 h.1
 repeated low w rest (u ∷ units) lost receiver given fl h =
     let v : Way = record w { line = line_of (u ∷ units) lost } in
-    let few : lost < 32 =
-    elim (cases_lt lost 32) [ inl few ↦ few | inr many ↦ let none : u ∷ units ≡ [] = fl.broken many in absurd (cc) ] in
+    let few : lost < BROKEN_LOSSES =
+    elim (cases_lt lost BROKEN_LOSSES) [ inl few ↦ few | inr many ↦ let none : u ∷ units ≡ [] = fl.broken many in absurd (cc) ] in
     let on = fl.on_line few in
     let heard : HasHeard v rest fl.gone receiver given = has_heard low v rest fl u on.0 receiver given few on.1 on.2 h in
     record {

@@ -19,6 +19,7 @@ use Rattle.dnp_line.proofs.Lower.{Lower}
 use Rattle.dnp_line.proofs.Coming.{ComesTo-push}
 use Rattle.dnp_line.proofs.Splits.{IsAmong, among_rest, at_length, drop_length}
 use Rattle.dnp_line.proofs.Arrivals.{open_after, IsWholeAt, whole_after}
+use Rattle.dnp_line.specs.declared.line.TheConstants.{BROKEN_LOSSES}
 
 -- the user data of such a frame go up
 up_after : (e : Ends) (heard : List Frame) (f : Frame) → is_for e f ≡ true → primary_function f.control ≡ UnconfirmedUserData
@@ -107,7 +108,7 @@ heard_one w rest fl receiver given heard pushed f facing answers stands newest a
     }
 
 pub has_heard : Lower → (w : Way) (rest : List (List ℕ)) (fl : Flows w rest) (u x : List ℕ) (receiver : PortState) (given : List (List ℕ))
-    → w.line.lost < 32 → IsSegment w.sent fl.gone x → Spells u (data_frame w.sender x) → Hears u w.receiver receiver w.given given
+    → w.line.lost < BROKEN_LOSSES → IsSegment w.sent fl.gone x → Spells u (data_frame w.sender x) → Hears u w.receiver receiver w.given given
     → HasHeard w rest fl.gone receiver given
 has_heard low w rest fl u x receiver given few i spells heard =
     elim heard [

@@ -1,8 +1,9 @@
 -- Where a segment stands among those that fragments were cut into.
-use Rattle.std.proofs.Common.{◌≡◌, ℕ, ◌+◌, ◌%◌, ◌<◌, ◌*◌, ◌==◌, if◌then◌else◌, List, [], ◌∷◌, ◌++◌, length, take, drop, refl, sym, ap, ◌∙◌, arith, append_assoc}
+use Rattle.std.proofs.Common.{◌≡◌, ℕ, ◌+◌, ◌%◌, ◌<◌, ◌*◌, List, [], ◌∷◌, ◌++◌, length, take, drop, refl, sym, ap, ◌∙◌, arith, append_assoc}
 use Rattle.std.specs.Prelude.{slice_get, Some}
-use Rattle.dnp_transport.specs.Cuts.{cut_count, cut}
+use Rattle.dnp_transport.specs.Cuts.{cut_header, cut_count, cut}
 use Rattle.dnp_line.specs.Flows.{segment_total, IsSegment, IsBegun, IsRecent}
+use Rattle.dnp_transport.specs.declared.limits.TheConstants.{SEGMENT_DATA, SEGMENT_NUMBERS}
 
 pub total-append : (xs ys : List (List ℕ)) → segment_total (xs ++ ys) ≡ segment_total xs + segment_total ys
 total-append [] ys = omega arith
@@ -79,11 +80,12 @@ pub recent_more : (sent more : List (List ℕ)) (gone lost : ℕ) (s : List (Lis
 recent_more sent more gone lost s i =
     record { place = i.place; is_begun = begun_more sent more i.place s i.is_begun; low = i.low; high = i.high }
 
--- a number modulo 64 numbers the segments alike
-pub cut_from : (f : List ℕ) (m n k : ℕ) → m ≡ n % 64 → cut f m k ≡ cut f n k
+-- a number modulo SEGMENT_NUMBERS numbers the segments alike
+pub cut_from : (f : List ℕ) (m n k : ℕ) → m ≡ n % SEGMENT_NUMBERS → cut f m k ≡ cut f n k
 cut_from f m n k e =
-    let same : (m + k) % 64 ≡ (n + k) % 64 = omega (arith, e) in
-    ap (λ (x : ℕ). ((if k == 0 then 64 else 0) + (if k + 1 == cut_count (length f) then 128 else 0) + x) ∷ take 249 (drop (249 * k) f)) same
+    let count : ℕ = cut_count (length f) in
+    let same : cut_header count m k ≡ cut_header count n k = omega (arith, e) in
+    ap (λ (h : ℕ). h ∷ take SEGMENT_DATA (drop (SEGMENT_DATA * k) f)) same
 
 -- the fragments that may still come, where the one at a place is among them
 pub record IsAmong (past rest before : List (List ℕ)) (fragment : List ℕ) (after : List (List ℕ)) : Type 0 where

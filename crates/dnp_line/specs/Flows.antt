@@ -1,4 +1,4 @@
--- What holds of a way at every moment, and what each event does to the fragments that may still come. The promise of a
+-- Definition: what holds of a way at every moment, and what each event does to the fragments that may still come. The promise of a
 -- line is said by `Way`, `Happens`, `Runs` and `Comes`; `Flows` and `RestMoves` carry it on from any moment.
 use Rattle.std.specs.Prelude.{◌≡◌, ℕ, suc, ◌+◌, ◌%◌, ◌<◌, ◌≤◌, false, if◌then◌else◌, List, [], ◌∷◌, ◌++◌, length, drop, slice_get, Some}
 use Rattle.dnp_linkframe.specs.Frames.{Spells}
@@ -8,9 +8,10 @@ use Rattle.dnp_transport.specs.Assembly.{Stands}
 use Rattle.dnp_transport.specs.Cuts.{cut_count, cut, begun_cuts}
 use Rattle.dnp_transport.specs.Series.{IsOpen}
 use Rattle.dnp_line.specs.Comes.{ComesTo}
-use Rattle.dnp_line.specs.Lines.{broken_losses}
 use Rattle.dnp_line.specs.Ports.{PortState, data_frame}
 use Rattle.dnp_line.specs.Ways.{Way, WayEvent, Send, Deliver, Repeat, Clear}
+use Rattle.dnp_line.specs.declared.line.TheConstants.{BROKEN_LOSSES}
+use Rattle.dnp_transport.specs.declared.limits.TheConstants.{SEGMENT_NUMBERS}
 
 -- the two ends of one link: each port's station is the other's peer, and one of them is the master
 abbrev pub AreFacing : PortState → PortState → Type 0
@@ -63,19 +64,19 @@ pub record IsRecent (sent : List (List ℕ)) (gone lost : ℕ) (series : List (L
 -- newest first, leaves at most the beginning of one fragment.
 pub record Flows (w : Way) (rest : List (List ℕ)) : Type 0 where
   pub facing : AreFacing w.sender w.receiver
-  pub numbered : w.mute ≡ false → w.sender.number ≡ segment_total w.sent % 64
+  pub numbered : w.mute ≡ false → w.sender.number ≡ segment_total w.sent % SEGMENT_NUMBERS
   pub past : List (List ℕ)
   pub split : w.sent ≡ past ++ rest
   pub came : ComesTo w.given w.sent rest
   pub gone : ℕ
   pub reached : segment_total past ≤ gone
-  pub on_line : w.line.lost < broken_losses → AreLast w.sender w.sent gone w.line.units
-  pub broken : broken_losses ≤ w.line.lost → w.line.units ≡ []
+  pub on_line : w.line.lost < BROKEN_LOSSES → AreLast w.sender w.sent gone w.line.units
+  pub broken : BROKEN_LOSSES ≤ w.line.lost → w.line.units ≡ []
   pub heard : List Frame
   pub answers : Answers heard w.receiver.link
   pub pushed : List (List ℕ)
   pub stands : Stands pushed w.receiver.assembly
-  pub half_built : w.line.lost < broken_losses → (series : List (List ℕ)) → IsOpen pushed series →
+  pub half_built : w.line.lost < BROKEN_LOSSES → (series : List (List ℕ)) → IsOpen pushed series →
       IsRecent w.sent gone w.line.lost series
 
 -- what a unit that comes does: nothing is given, or one of the fragments that may still come, and then those before it

@@ -13,11 +13,12 @@ ghost use Rattle.dnp_line.specs.Flows.{AreFacing, Flows, RestMoves};
 ghost use Rattle.dnp_line.specs.Ways.{Way, new_way, opened_on, WayEvent, Happens, Runs};
 ghost use Rattle.dnp_line.specs.Ways as WayEvent;
 
+use dnp_linkframe::MAX_USER_DATA;
 use dnp_linkframe::laws::a_unit_spells_one_frame;
 use dnp_linkstation::laws as stations;
 use dnp_linkstation::laws::what_is_sent_is_for_the_peer;
-use dnp_transport::laws as assemblers;
 use dnp_transport::laws::{a_push_goes_on, cuts_give_whole, segments_say_their_places};
+use dnp_transport::{MAX_SEGMENT, laws as assemblers};
 
 /// The law of a line between two ports: the fragments that the receiver's port gave came of those that were handed to
 /// the sender's port, after every run of sends, deliveries, repeats, losses, damage and clearings since the link was
@@ -42,6 +43,12 @@ pub fn line_law()
     segments_say_their_places();
     a_push_goes_on();
 }
+
+/// The longest segment is the longest user data of a link frame: each segment has a frame, and each frame of user data
+/// has room for no more than one.
+pub fn a_segment_fills_a_frame()
+    ensures { MAX_SEGMENT ≡ MAX_USER_DATA }
+{}
 
 /// Each list came of itself.
 pub fn comes_of_itself<T>()
