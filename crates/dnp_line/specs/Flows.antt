@@ -4,10 +4,12 @@ use Rattle.std.specs.Prelude.{◌≡◌, ℕ, suc, ◌+◌, ◌%◌, ◌<◌, �
 use Rattle.dnp_linkframe.specs.Frames.{Spells}
 use Rattle.dnp_linkframe.specs.declared.frame.Frame.{Frame}
 use Rattle.dnp_linkstation.specs.Station.{ends, opposite, Stands as Answers}
-use Rattle.dnp_transport.specs.Assembly.{Stands}
+use Rattle.dnp_linkstation.specs.declared.station.LinkStation.{LinkStation}
+use Rattle.dnp_transport.specs.Assembly.{Assembly, Stands}
 use Rattle.dnp_transport.specs.Cuts.{cut_count, cut, begun_cuts}
 use Rattle.dnp_transport.specs.Series.{IsOpen}
 use Rattle.dnp_line.specs.Comes.{ComesTo}
+use Rattle.dnp_line.specs.Lines.{LineState}
 use Rattle.dnp_line.specs.Ports.{PortState, data_frame}
 use Rattle.dnp_line.specs.Ways.{Way, WayEvent, Send, Deliver, Repeat, Clear}
 use Rattle.dnp_line.specs.declared.line.TheConstants.{BROKEN_LOSSES}
@@ -58,26 +60,37 @@ pub record IsRecent (sent : List (List ℕ)) (gone lost : ℕ) (series : List (L
   pub low : place ≤ gone
   pub high : gone ≤ place + 1 + lost
 
+-- the fragments: what was given came of what was sent, `rest` may still come, and the segments of those before `rest`
+-- are among the ones that are gone from the line
+pub record AreGiven (given sent rest : List (List ℕ)) (gone : ℕ) : Type 0 where
+  pub past : List (List ℕ)
+  pub split : sent ≡ past ++ rest
+  pub came : ComesTo given sent rest
+  pub reached : segment_total past ≤ gone
+
+-- the line: the segments from the place on are on it, unless it is broken, and then nothing is
+pub record CarriesFrom (gone : ℕ) (sender : PortState) (sent : List (List ℕ)) (line : LineState) : Type 0 where
+  pub on_line : line.lost < BROKEN_LOSSES → AreLast sender sent gone line.units
+  pub broken : BROKEN_LOSSES ≤ line.lost → line.units ≡ []
+
+-- the receiver's port: it heard some frames, newest first; what was pushed into what it joins, newest first, leaves at
+-- most the beginning of one fragment
+pub record HasHalfBuilt (link : LinkStation) (assembly : Assembly) (sent : List (List ℕ)) (gone lost : ℕ) : Type 0 where
+  pub heard : List Frame
+  pub answers : Answers heard link
+  pub pushed : List (List ℕ)
+  pub stands : Stands pushed assembly
+  pub half_built : lost < BROKEN_LOSSES → (series : List (List ℕ)) → IsOpen pushed series → IsRecent sent gone lost series
+
 -- what holds of a way: what the receiver's port gave came of what was handed to the sender's port, and `rest` may
--- still come. So many segments are gone from the line; those that are left are on it, unless it is broken, and belong
--- to the fragments of `rest`. The receiver's port heard some frames, newest first; what was pushed into what it joins,
--- newest first, leaves at most the beginning of one fragment.
+-- still come. `gone` segments are gone from the line.
 pub record Flows (w : Way) (rest : List (List ℕ)) : Type 0 where
   pub facing : AreFacing w.sender w.receiver
   pub numbered : w.mute ≡ false → w.sender.number ≡ segment_total w.sent % SEGMENT_NUMBERS
-  pub past : List (List ℕ)
-  pub split : w.sent ≡ past ++ rest
-  pub came : ComesTo w.given w.sent rest
   pub gone : ℕ
-  pub reached : segment_total past ≤ gone
-  pub on_line : w.line.lost < BROKEN_LOSSES → AreLast w.sender w.sent gone w.line.units
-  pub broken : BROKEN_LOSSES ≤ w.line.lost → w.line.units ≡ []
-  pub heard : List Frame
-  pub answers : Answers heard w.receiver.link
-  pub pushed : List (List ℕ)
-  pub stands : Stands pushed w.receiver.assembly
-  pub half_built : w.line.lost < BROKEN_LOSSES → (series : List (List ℕ)) → IsOpen pushed series →
-      IsRecent w.sent gone w.line.lost series
+  pub fragments : AreGiven w.given w.sent rest gone
+  pub units : CarriesFrom gone w.sender w.sent w.line
+  pub port : HasHalfBuilt w.receiver.link w.receiver.assembly w.sent gone w.line.lost
 
 -- what a unit that comes does: nothing is given, or one of the fragments that may still come, and then those before it
 -- come no more

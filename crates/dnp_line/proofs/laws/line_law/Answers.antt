@@ -26,10 +26,10 @@ returns c =
       reopened = opened_flows low;
       kept = λ old new event rest fl h.
           let g : Goes event old new rest = goes low old new event rest fl h in (g.left, g.moves, g.flows);
-      came = λ way rest fl. fl.came;
+      came = λ way rest fl. fl.fragments.came;
       runs = λ own peer m events way h.
           let end : (left : List (List ℕ)) × Flows way left =
           keeps_flowing low (new_way own peer m) way events [] (new_flows low own peer m) h in
-          ComesTo-comes way.given way.sent end.0 end.1.came;
+          ComesTo-comes way.given way.sent end.0 end.1.fragments.came;
       goes_on = λ old new events rest fl h. keeps_flowing low old new events rest fl h;
     }
