@@ -8,7 +8,7 @@ use Rattle.dnp_transport.specs.Laws.{LeftOut, Begins, GoesOn, Alone, Ends}
 use Rattle.dnp_transport.specs.Segments.{is_first, is_last, number, has_no_size}
 use Rattle.dnp_transport.specs.Series.{is_left_out, repeats, newest, joined, Follows, IsOpen, IsWhole}
 use Rattle.dnp_line.specs.Flows.{segment_total, IsSegment, IsBegun, IsRecent}
-use Rattle.dnp_line.proofs.Lower.{Lower}
+use Rattle.dnp_line.specs.steps.Lower.{Lower}
 use Rattle.dnp_line.proofs.Splits.{IsAt, AreSame, same_place, segment_at}
 use Rattle.dnp_line.specs.declared.line.TheConstants.{BROKEN_LOSSES}
 use Rattle.dnp_transport.specs.declared.limits.TheConstants.{SEGMENT_NUMBERS}

@@ -18,7 +18,7 @@ use Rattle.dnp_line.specs.Flows.{AreFacing, segment_total}
 use Rattle.dnp_line.specs.Lines.{LineState, line_of, quiet_line, is_broken, front_of, delivered_on}
 use Rattle.dnp_line.specs.Ports.{PortState, data_frame, moved_on, HasHistory, has_data, is_joined, Joins, TakesAfter, Takes}
 use Rattle.dnp_line.specs.Ways.{Way, Hears, AFrame, NoFrame, HearsIfAny, AreSpelled, Sends, SendsUnlessMute, Deliver, Happens, Runs}
-use Rattle.dnp_line.proofs.Lower.{Lower}
+use Rattle.dnp_line.specs.steps.Lower.{Lower}
 use Rattle.dnp_line.proofs.OnLine.{all_sent as all_sent_line}
 use Rattle.dnp_line.proofs.Hearing.{sent_joins, has_joined}
 use Rattle.dnp_line.specs.declared.line.TheConstants.{BROKEN_LOSSES}

@@ -16,7 +16,7 @@ use Rattle.dnp_line.proofs.Coming.{ComesTo-behind, ComesTo-clear}
 use Rattle.dnp_line.proofs.Splits.{total-append, recent_more}
 use Rattle.dnp_line.proofs.OnLine.{last_from, last_more, fresh_last, all_sent, all_dropped}
 use Rattle.dnp_line.proofs.Hearing.{HasHeard, has_heard}
-use Rattle.dnp_line.proofs.Lower.{Lower}
+use Rattle.dnp_line.specs.steps.Lower.{Lower}
 use Rattle.dnp_line.specs.declared.line.TheConstants.{BROKEN_LOSSES}
 
 -- a port that was reset has half built nothing

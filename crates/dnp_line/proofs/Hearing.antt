@@ -15,7 +15,7 @@ use Rattle.dnp_line.specs.Comes.{ComesTo}
 use Rattle.dnp_line.specs.Ports.{PortState, data_frame, has_data, is_joined, Joins, TakesAfter, Takes}
 use Rattle.dnp_line.specs.Ways.{Way, Hears, AFrame, NoFrame}
 use Rattle.dnp_line.specs.Flows.{AreFacing, IsSegment, IsBegun, AreGiven, HasHalfBuilt, Flows, MayGive, Nothing, One}
-use Rattle.dnp_line.proofs.Lower.{Lower}
+use Rattle.dnp_line.specs.steps.Lower.{Lower}
 use Rattle.dnp_line.proofs.Coming.{ComesTo-push}
 use Rattle.dnp_line.proofs.Splits.{IsAmong, among_rest, at_length, drop_length}
 use Rattle.dnp_line.proofs.Arrivals.{open_after, IsWholeAt, whole_after}

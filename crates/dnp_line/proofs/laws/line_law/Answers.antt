@@ -3,24 +3,13 @@ use Rattle.std.proofs.Common.{ℕ, List, []}
 use Rattle.dnp_line.specs.Ways.{new_way}
 use Rattle.dnp_line.specs.Flows.{Flows}
 use Rattle.dnp_line.proofs.Coming.{ComesTo-comes}
-use Rattle.dnp_line.proofs.Lower.{Lower}
+use Rattle.dnp_line.specs.steps.Lower.{Lower}
 use Rattle.dnp_line.proofs.Flowing.{Goes, new_flows, opened_flows, goes, keeps_flowing}
 use Rattle.dnp_line.proofs.laws.line_law.Goals as goal
 
 pub returns : goal.returns
 returns c =
-    let low : Lower =
-    record {
-      one_frame = c.a_unit_spells_one_frame.ensures;
-      to_peer = c.what_is_sent_is_for_the_peer.ensures;
-      gives = c.cuts_give_whole.ensures;
-      places = c.segments_say_their_places.ensures.places;
-      joins = c.segments_say_their_places.ensures.joined;
-      opens = c.a_push_goes_on.ensures.opens;
-      completes = c.a_push_goes_on.ensures.completes;
-      none_open = c.a_push_goes_on.ensures.none_open;
-      idle = c.a_push_goes_on.ensures.idle;
-    } in
+    let low : Lower = c.what_lies_below.ensures in
     record {
       opened = new_flows low;
       reopened = opened_flows low;
