@@ -1,3 +1,5 @@
+//! One line of octets, answered.
+
 ghost use Rattle.std.specs.Prelude.{◌≡◌, ℕ, ◌≤◌, Bool, List, [], ◌∷◌, ◌++◌, length, codes, IfOk, IfErr, OnErr};
 ghost use Rattle.std.specs.Io.KnownBytes.{Appends};
 ghost use Rattle.dnp_daemons.specs.AnswerLine.{IsAnswer, IsPrinted, answer_text, fault_text, is_frame};

@@ -1,5 +1,4 @@
-//! What is true of every way of a link, and of every list that came of another: each function is a law about the words
-//! of its clauses, and its body changes nothing when it runs.
+//! Laws of ways of a link and of lists that came of others, each the contract of a function that does nothing.
 
 ghost use Rattle.std.specs.Prelude.{◌≡◌, ℕ, ◌↔◌, Bool, IsTrue, List, [], ◌∷◌, ◌++◌, drop, slice_get, All, Contains, length, replicate};
 ghost use Rattle.dnp_transport.specs.Cuts.{cut_count};

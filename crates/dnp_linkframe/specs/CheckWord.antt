@@ -1,4 +1,4 @@
--- The check word that the data link layer of IEEE Std 1815-2012 puts behind the header and behind each
+-- Definition: the check word that the data link layer of IEEE Std 1815-2012 puts after the header and after each
 -- block of a frame: a cyclic redundancy check of 16 bits, by its meaning as a division of polynomials.
 use Rattle.std.specs.Prelude.{ℕ, ◌*◌, ◌<◌, ◌^◌, Bool, true, false, List, [], ◌∷◌, length, map, reverse, ◌==◌}
 use Rattle.std.specs.Int.{bit_at, bit_not, w16}
@@ -37,7 +37,7 @@ pub record Leaves (p rest : List Bool) : Type 0 where
   pub same : IsSame p (plus rest (times quotient generator))
 
 -- What one step of the division owes: with `old` left of the octets before, `new` is left of them and
--- `octets` behind them.
+-- `octets` after them.
 abbrev pub Continues : List ℕ → ℕ → ℕ → Type 0
 Continues octets old new =
     Leaves (plus (times_x (8 * length octets) (remainder old)) (times_x 16 (message octets))) (remainder new)

@@ -1,4 +1,4 @@
--- The grammar of a link frame (IEEE Std 1815-2012, data link layer): which octets spell which frame.
+-- Definition: the grammar of a link frame (IEEE Std 1815-2012, data link layer): which octets spell which frame.
 use Rattle.std.specs.Prelude.{◌≡◌, ◌≢◌, ℕ, zero, suc, ◌+◌, ◌*◌, ◌/◌, ◌<◌, ◌≤◌, ◌^◌, List, [], ◌∷◌, ◌++◌, length, take, drop, slice_index}
 use Rattle.std.specs.Int.{w16, to_le_bytes}
 use Rattle.dnp_linkframe.specs.CheckWord.{IsCheckWord}
@@ -7,7 +7,7 @@ use Rattle.dnp_linkframe.specs.declared.frame.FrameFault.{FrameFault}
 use Rattle.dnp_linkframe.specs.declared.frame.FrameFault.TheVariants.{Short, Start, HeaderCheck, Length, Size, BlockCheck}
 use Rattle.dnp_linkframe.specs.declared.frame.TheConstants.{MAX_USER_DATA}
 
--- the part with its check word behind it, low octet first
+-- the part with its check word after it, low octet first
 pub record HasCheck (part octets : List ℕ) : Type 0 where
   pub word : ℕ
   pub checks : IsCheckWord part word
@@ -18,7 +18,7 @@ pub record IsChecked (octets : List ℕ) : Type 0 where
   pub part : List ℕ
   pub has : HasCheck part octets
 
--- each of the parts with its check word behind it, one after the other
+-- each of the parts with its check word after it, one after the other
 abbrev pub AreChecked : List (List ℕ) → List ℕ → Type 0
 AreChecked [] octets = octets ≡ []
 AreChecked (part ∷ parts) octets =
@@ -52,11 +52,11 @@ pub record IsFrame (f : Frame) : Type 0 where
   pub source : f.source < 2 ^ 16
   pub user : length f.user.items ≤ MAX_USER_DATA
 
--- the unit of octets is the frame's header and its blocks, each with its check word behind it
+-- the unit of octets is the frame's header and its blocks, each with its check word after it
 abbrev pub Spells : List ℕ → Frame → Type 0
 Spells unit f = IsFrame f × AreChecked (header f ∷ blocks f.user.items) unit
 
--- block n of the octets, counted from 0, stands there and doesn't end in its check word
+-- block n of the octets, counted from 0, is there and doesn't end in its check word
 pub record IsUnchecked (octets : List ℕ) (n : ℕ) : Type 0 where
   pub stands : 18 * n < length octets
   pub unchecked : IsChecked (take 18 (drop (18 * n) octets)) → ⊥
@@ -79,7 +79,7 @@ IsFault unit Length = slice_index unit 2 < 5
 IsFault unit Size = (n : ℕ) → slice_index unit 2 ≡ n + 5 → length unit ≢ frame_size n
 IsFault unit (BlockCheck n) = IsUnchecked (drop 10 unit) n
 
--- the order in which faults are looked for
+-- the order in which faults are checked
 abbrev pub place : FrameFault → ℕ
 place Short = 0
 place Start = 1

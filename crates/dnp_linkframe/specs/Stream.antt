@@ -1,4 +1,4 @@
--- Link frames in a stream of octets (IEEE Std 1815-2012, data link layer): which frames a whole stream
+-- Definition: link frames in a stream of octets (IEEE Std 1815-2012, data link layer): which frames a whole stream
 -- gives, and which of its octets still wait. Nothing here knows in what pieces the octets came.
 use Rattle.std.specs.Prelude.{◌≡◌, ℕ, zero, suc, ◌-◌, ◌<◌, ◌≤◌, List, [], ◌∷◌, ◌++◌, length, take, drop, slice_index}
 use Rattle.dnp_linkframe.specs.Frames.{IsChecked, EachChecked, Spells, frame_size}
@@ -27,7 +27,7 @@ pub record IsWhole (unit : List ℕ) : Type 0 where
   pub sized : length unit ≡ said_size unit
   pub checked : EachChecked (drop 10 unit)
 
--- What can stand at the front of a stream.
+-- What can be at the front of a stream.
 -- Waits: it can't be told yet. Fewer than 10 octets, or a header and not yet all that its LENGTH says.
 -- NoHeader: 10 octets that are no header. NoLength: a header with a LENGTH under 5.
 -- Damaged: all the octets that the LENGTH says, which spell no frame. Whole: those that spell the frame.
@@ -38,7 +38,7 @@ pub data Front : Type 0 where
   Damaged : (size : ℕ) → Front
   Whole : (frame : Frame) (size : ℕ) → Front
 
--- that is what stands at the front of this stream
+-- that is what is at the front of this stream
 abbrev pub IsFront : List ℕ → Front → Type 0
 IsFront stream Waits = 10 ≤ length stream → BeginsFrame stream × (length stream < said_size stream)
 IsFront stream NoHeader = (10 ≤ length stream) × (HasHeader stream → ⊥)
@@ -48,13 +48,13 @@ IsFront stream (Damaged size) =
     × ((frame : Frame) → Spells (take size stream) frame → ⊥)
 IsFront stream (Whole frame size) = (size ≤ length stream) × Spells (take size stream) frame
 
--- too few octets stand there to tell what they are, and so it stays as long as they are fewer than needed
+-- there are too few octets to tell what they are, and so it stays as long as they are fewer than needed
 pub record Awaits (stream : List ℕ) (needed : ℕ) : Type 0 where
   pub fewer : length stream < needed
   pub most : needed ≤ MAX_UNIT
   pub waits : (more : List ℕ) → length (stream ++ more) < needed → IsFront (stream ++ more) Waits
 
--- how many octets are done with: none while they wait, one where no header stands, the header alone where
+-- how many octets are done with: none while they wait, one where there is no header, the header alone where
 -- its LENGTH is too small, else the whole frame, good or damaged
 abbrev pub used : Front → ℕ
 used Waits = 0
@@ -68,7 +68,7 @@ abbrev pub frame_in : Front → List Frame
 frame_in (Whole frame size) = frame ∷ []
 frame_in _ = []
 
--- after so many decisions at the front, each of which is done with some octets, the stream has given
+-- after this number of decisions at the front, each of which is done with some octets, the stream has given
 -- these frames, and the rest is left of it
 abbrev pub After : ℕ → List ℕ → List Frame → List ℕ → Type 0
 After zero stream frames rest = (frames ≡ []) × (rest ≡ stream)

@@ -1,4 +1,4 @@
-//! Frames in a stream of octets that stands there as one list.
+//! Frames in a stream of octets that is one list.
 
 ghost use Rattle.std.specs.Prelude.{◌≡◌, ◌⊎◌, ℕ, ◌<◌, ◌≤◌, List, [], ◌∷◌, ◌++◌, length, drop, slice_index, IsTrue, ◌↔◌, OnOk, OnErr, IfOk, Ok, ◌+◌, vec_len, vec_capacity};
 ghost use Rattle.dnp_linkframe.specs.Frames.{Spells};
@@ -10,7 +10,7 @@ use crate::frame::{BLOCK, CHECKED_HEADER, Frame, LENGTH_OF_NONE, MAX_UNIT};
 use crate::reading::{check_blocks, fill};
 use std::alloc::AllocError;
 
-/// Whether a header stands at the front: 05 64, and a check word that is right.
+/// Whether a header is at the front: 05 64, and a check word that is right.
 #[inline]
 fn has_header(stream: &[u8]) -> bool
     requires { 10 ≤ length stream.now }
@@ -33,8 +33,8 @@ fn size_of_frame(stream: &[u8]) -> usize
     CHECKED_HEADER + user + 2 * user.div_ceil(BLOCK)
 }
 
-/// How many octets have to stand at the front before it is decided what they are, where those that stand
-/// there wait.
+/// How many octets have to be at the front before it is decided what they are, where those that are there
+/// wait.
 #[inline]
 pub(crate) fn needed(waiting: &[u8]) -> usize
     requires { IsFront waiting.now Waits }

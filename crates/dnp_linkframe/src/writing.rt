@@ -1,3 +1,5 @@
+//! Frames written as units of octets.
+
 ghost use Rattle.std.specs.Prelude.{◌≡◌, ℕ, ◌+◌, ◌≤◌, ◌<◌, ◌^◌, List, ◌++◌, length};
 ghost use Rattle.std.specs.Int.{w16, to_le_bytes};
 ghost use Rattle.dnp_linkframe.specs.Frames.{Spells, HasCheck, IsFrame, header};

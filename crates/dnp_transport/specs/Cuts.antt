@@ -8,7 +8,7 @@ use Rattle.dnp_transport.specs.declared.header.TheConstants.{FINAL, FIRST}
 abbrev pub cut_count : ℕ → ℕ
 cut_count n = (n + (SEGMENT_DATA - 1)) / SEGMENT_DATA
 
--- the header of the segment k of so many: FIR on the first alone, FIN on the last alone, and numbers that follow
+-- the header of the segment k of `count`: FIR on the first alone, FIN on the last alone, and numbers that follow
 -- modulo SEGMENT_NUMBERS from `first` on
 abbrev pub cut_header : ℕ → ℕ → ℕ → ℕ
 cut_header count first k = (if k == 0 then FIRST else 0) + (if k + 1 == count then FINAL else 0) + (first + k) % SEGMENT_NUMBERS

@@ -1,4 +1,4 @@
-//! Laws of the definitions: a function here does nothing, and its contract is the theorem.
+//! Laws of pushes and cuts, each the contract of a function that does nothing.
 ghost use Rattle.std.specs.Prelude.{◌≡◌, ℕ, List, [], ◌∷◌, length};
 ghost use Rattle.dnp_transport.specs.Assembly.{Assembly, Idle, Stands, Answers, Shows};
 ghost use Rattle.dnp_transport.specs.Cuts.{cut_count, cuts, begun_cuts};
