@@ -17,12 +17,6 @@ octet_text octet = digit (octet / 16) ∷ digit (octet % 16) ∷ []
 abbrev pub line_of : List ℕ → List ℕ
 line_of octets = join_with_byte 32 (map octet_text octets)
 
--- a part of a line begins with this octet: its two digits, of either case, and a space after them
--- unless the part ends there (so three characters of the part with a space after it are compared)
-abbrev pub BeginsWith : List ℕ → ℕ → Type 0
-BeginsWith part octet =
-    take 3 (str_to_ascii_uppercase part ++ 32 ∷ []) ≡ octet_text octet ++ 32 ∷ []
-
 -- the text without the line feed, 10, that may end it; only one is taken off
 abbrev pub without_line_feed : List ℕ → List ℕ
 without_line_feed text =

@@ -3,7 +3,8 @@
 ghost use Rattle.std.specs.Prelude.{ℕ, ◌≡◌, ◌<◌, ◌≤◌, List, [], ◌∷◌, length, IfSome, IfNone};
 ghost use Rattle.std.specs.Char.{to_ascii_uppercase};
 ghost use Rattle.std.specs.Str.{str_to_ascii_uppercase};
-ghost use Rattle.dnp_daemons.specs.OctetLines.{digit, octet_text, line_of, BeginsWith, without_line_feed, IsLineOf};
+ghost use Rattle.dnp_daemons.specs.OctetLines.{digit, octet_text, line_of, without_line_feed, IsLineOf};
+ghost use Rattle.dnp_daemons.specs.steps.Pieces.{BeginsWith};
 
 use arrayvec::ArrayVec;
 use dnp_linkframe::MAX_UNIT;

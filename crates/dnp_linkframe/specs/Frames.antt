@@ -61,15 +61,6 @@ pub record IsUnchecked (octets : List ℕ) (n : ℕ) : Type 0 where
   pub stands : 18 * n < length octets
   pub unchecked : IsChecked (take 18 (drop (18 * n) octets)) → ⊥
 
--- and none before it is so
-pub record IsFirstUnchecked (octets : List ℕ) (n : ℕ) : Type 0 where
-  pub here : IsUnchecked octets n
-  pub first : (k : ℕ) → k < n → IsUnchecked octets k → ⊥
-
--- each block of the octets ends in its check word
-abbrev pub EachChecked : List ℕ → Type 0
-EachChecked octets = (n : ℕ) → 18 * n < length octets → IsChecked (take 18 (drop (18 * n) octets))
-
 -- what is wrong with a unit of octets, whatever else is wrong with it
 abbrev pub IsFault : List ℕ → FrameFault → Type 0
 IsFault unit Short = length unit < 10

@@ -1,9 +1,8 @@
 -- Definition: link frames in a stream of octets (IEEE Std 1815-2012, data link layer): which frames a whole stream
 -- gives, and which of its octets still wait. Nothing here knows in what pieces the octets came.
 use Rattle.std.specs.Prelude.{◌≡◌, ℕ, zero, suc, ◌-◌, ◌<◌, ◌≤◌, List, [], ◌∷◌, ◌++◌, length, take, drop, slice_index}
-use Rattle.dnp_linkframe.specs.Frames.{IsChecked, EachChecked, Spells, frame_size}
+use Rattle.dnp_linkframe.specs.Frames.{IsChecked, Spells, frame_size}
 use Rattle.dnp_linkframe.specs.declared.frame.Frame.{Frame}
-use Rattle.dnp_linkframe.specs.declared.frame.TheConstants.{MAX_UNIT}
 
 -- the stream begins with a header: 05 64, and a check word that is right
 pub record HasHeader (stream : List ℕ) : Type 0 where
@@ -19,13 +18,6 @@ said_size stream = frame_size (slice_index stream 2 - 5)
 pub record BeginsFrame (stream : List ℕ) : Type 0 where
   pub header : HasHeader stream
   pub long : 5 ≤ slice_index stream 2
-
--- what is tested of a unit before it is read: a header, all the octets that its LENGTH says, and blocks
--- that end in their check words
-pub record IsWhole (unit : List ℕ) : Type 0 where
-  pub begins : BeginsFrame unit
-  pub sized : length unit ≡ said_size unit
-  pub checked : EachChecked (drop 10 unit)
 
 -- What can be at the front of a stream.
 -- Waits: it can't be told yet. Fewer than 10 octets, or a header and not yet all that its LENGTH says.
@@ -47,12 +39,6 @@ IsFront stream (Damaged size) =
     BeginsFrame stream × (size ≡ said_size stream) × (size ≤ length stream)
     × ((frame : Frame) → Spells (take size stream) frame → ⊥)
 IsFront stream (Whole frame size) = (size ≤ length stream) × Spells (take size stream) frame
-
--- there are too few octets to tell what they are, and so it stays as long as they are fewer than needed
-pub record Awaits (stream : List ℕ) (needed : ℕ) : Type 0 where
-  pub fewer : length stream < needed
-  pub most : needed ≤ MAX_UNIT
-  pub waits : (more : List ℕ) → length (stream ++ more) < needed → IsFront (stream ++ more) Waits
 
 -- how many octets are done with: none while they wait, one where there is no header, the header alone where
 -- its LENGTH is too small, else the whole frame, good or damaged

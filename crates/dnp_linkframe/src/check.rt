@@ -1,7 +1,8 @@
 //! The check word of the data link layer.
 
 ghost use Rattle.std.specs.Prelude.{◌≡◌, ℕ, ◌+◌, ◌*◌, ◌<◌, List, [], ◌∷◌};
-ghost use Rattle.dnp_linkframe.specs.CheckWord.{IsCheckWord, Continues, Leaves, remainder};
+ghost use Rattle.dnp_linkframe.specs.CheckWord.{IsCheckWord, remainder};
+ghost use Rattle.dnp_linkframe.specs.steps.Division.{Continues, Leaves};
 ghost use Rattle.dnp_linkframe.specs.Polynomials.{times_x};
 
 use crate::table::LEFT_OF_OCTET;

@@ -27,7 +27,7 @@ pub struct FrameReader {
 
 impl Model for FrameReader {
     ghost use Rattle.std.specs.Prelude.{ℕ, ◌≤◌, List, length, drop};
-    ghost use Rattle.dnp_linkframe.specs.Stream.{Awaits};
+    ghost use Rattle.dnp_linkframe.specs.steps.Checks.{Awaits};
 
     ghost Value = { List ℕ };
 

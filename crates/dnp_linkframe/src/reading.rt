@@ -1,8 +1,9 @@
 //! Units of octets read as frames.
 
 ghost use Rattle.std.specs.Prelude.{◌≡◌, ℕ, ◌+◌, ◌-◌, ◌*◌, ◌≤◌, ◌<◌, List, [], ◌++◌, length, take, OnOk, OnErr, IfOk, IfErr, IsOk, IsTrue, ◌↔◌, Ok, Err};
-ghost use Rattle.dnp_linkframe.specs.Frames.{Spells, AreChecked, EachChecked, IsChecked, IsFirstFault, IsFirstUnchecked, blocks, block_count};
-ghost use Rattle.dnp_linkframe.specs.Stream.{IsWhole};
+ghost use Rattle.dnp_linkframe.specs.Frames.{Spells, AreChecked, IsChecked, IsFirstFault, blocks, block_count};
+ghost use Rattle.dnp_linkframe.specs.steps.Checks.{EachChecked, IsFirstUnchecked};
+ghost use Rattle.dnp_linkframe.specs.steps.Checks.{IsWhole};
 ghost use Rattle.dnp_linkframe.specs.declared.frame.Frame.{Frame as FrameValue};
 ghost use Rattle.dnp_linkframe.specs.declared.frame.FrameFault.{FrameFault as FaultValue};
 

@@ -2,7 +2,8 @@
 
 ghost use Rattle.std.specs.Prelude.{◌≡◌, ◌⊎◌, ℕ, ◌<◌, ◌≤◌, List, [], ◌∷◌, ◌++◌, length, drop, slice_index, IsTrue, ◌↔◌, OnOk, OnErr, IfOk, Ok, ◌+◌, vec_len, vec_capacity};
 ghost use Rattle.dnp_linkframe.specs.Frames.{Spells};
-ghost use Rattle.dnp_linkframe.specs.Stream.{Waits, IsFront, Awaits, HasHeader, BeginsFrame, said_size, Gives};
+ghost use Rattle.dnp_linkframe.specs.Stream.{Waits, IsFront, HasHeader, BeginsFrame, said_size, Gives};
+ghost use Rattle.dnp_linkframe.specs.steps.Checks.{Awaits};
 ghost use Rattle.dnp_linkframe.specs.declared.frame.Frame.{Frame as FrameValue};
 
 use crate::check::check_word;
