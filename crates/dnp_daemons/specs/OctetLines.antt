@@ -1,6 +1,6 @@
 -- Definition: lines of hexadecimal octets, the text form in which units travel: each octet is two hexadecimal
 -- digits, and one space is between each two octets.
-use Rattle.std.specs.Prelude.{◌≡◌, ℕ, ◌+◌, ◌-◌, ◌/◌, ◌%◌, ◌<◌, ◌≤◌, ◌==◌, nat_lt, if◌then◌else◌, List, [], ◌∷◌, ◌++◌, length, map, take, slice_index, All}
+use Rattle.std.specs.Prelude.{◌≡◌, ℕ, ◌+◌, ◌-◌, ◌/◌, ◌%◌, ◌<◌, ◌≤◌, ◌==◌, nat_lt, if◌then◌else◌, List, [], ◌∷◌, length, map, take, slice_index, All}
 use Rattle.std.specs.List.{join_with_byte}
 use Rattle.std.specs.Str.{str_to_ascii_uppercase}
 use Rattle.dnp_daemons.specs.declared.octets.TheConstants.{MAX_CHARACTERS}

@@ -281,25 +281,34 @@ back_flows w rest link a n same fl =
       port = fl.port;
     }
 
+-- the way after a unit that came
+record HasGone (old new : Way) (rest : List (List ℕ)) : Type 0 where
+  left : List (List ℕ)
+  gives : MayGive rest old.given left new.given
+  flows : Flows new left
+
+brought_gone : (w w' : Way) (rest : List (List ℕ)) (line : LineState) (receiver : PortState) (given : List (List ℕ))
+    → Brought w line rest receiver given → w' ≡ record w { line = line; receiver = receiver; given = given } → HasGone w w' rest
+brought_gone w w' rest line receiver given b e =
+    record {
+      left = b.left;
+      gives = subst (λ (v : Way). MayGive rest w.given b.left v.given) (sym e) b.gives;
+      flows = subst (λ (v : Way). Flows v b.left) (sym e) b.flows;
+    }
+
 -- each event
 pub goes : Lower → (w w' : Way) (event : WayEvent) (rest : List (List ℕ)) → Flows w rest → Happens w event w' → Goes event w w' rest
 goes low w w' (Send f) rest fl h = send_goes w w' rest f w.mute refl fl h
 goes low w w' Deliver rest fl h =
-    let b : Brought w (delivered_on w.line) rest h.receiver h.given =
-    delivered low w rest w.line.units w.line.lost h.receiver h.given fl h.heard in
-    record {
-      left = b.left;
-      moves = subst (λ (v : Way). MayGive rest w.given b.left v.given) (sym h.after) b.gives;
-      flows = subst (λ (v : Way). Flows v b.left) (sym h.after) b.flows;
-    }
+    let b : HasGone w w' rest =
+    brought_gone w w' rest (delivered_on w.line) h.receiver h.given
+    (delivered low w rest w.line.units w.line.lost h.receiver h.given fl h.heard) h.after in
+    record { left = b.left; moves = b.gives; flows = b.flows }
 goes low w w' Repeat rest fl h =
-    let b : Brought w (repeated_on w.line) rest h.receiver h.given =
-    repeated low w rest w.line.units w.line.lost h.receiver h.given fl h.heard in
-    record {
-      left = b.left;
-      moves = subst (λ (v : Way). MayGive rest w.given b.left v.given) (sym h.after) b.gives;
-      flows = subst (λ (v : Way). Flows v b.left) (sym h.after) b.flows;
-    }
+    let b : HasGone w w' rest =
+    brought_gone w w' rest (repeated_on w.line) h.receiver h.given
+    (repeated low w rest w.line.units w.line.lost h.receiver h.given fl h.heard) h.after in
+    record { left = b.left; moves = b.gives; flows = b.flows }
 goes low w w' Lose rest fl h =
     record {
       left = rest;

@@ -45,9 +45,7 @@ fresh_from p sent f n j (suc m) us e count h =
       fragment = f;
       after = [];
       k = j;
-      split = refl;
-      place_is = refl;
-      within = omega (arith, count);
+      at = record { split = refl; place_is = refl; within = omega (arith, count) };
       segment_is = cut_from f n (segment_total sent) j e;
     } in
     subst (λ (l : List (List ℕ)). AreLast p (sent ++ f ∷ []) (segment_total sent + j) l) (sym h.4)

@@ -24,15 +24,19 @@ abbrev pub segment_total : List (List ℕ) → ℕ
 segment_total [] = 0
 segment_total (fragment ∷ others) = cut_count (length fragment) + segment_total others
 
--- this is the segment at the place, counted from 0, of all those that the fragments were cut into
+-- at the place, counted from 0, of all the segments that the fragments were cut into is segment k of this fragment
+pub record IsAt (sent : List (List ℕ)) (place : ℕ) (before : List (List ℕ)) (fragment : List ℕ) (after : List (List ℕ)) (k : ℕ) : Type 0 where
+  pub split : sent ≡ before ++ fragment ∷ after
+  pub place_is : place ≡ segment_total before + k
+  pub within : k < cut_count (length fragment)
+
+-- this is the segment at the place
 pub record IsSegment (sent : List (List ℕ)) (place : ℕ) (segment : List ℕ) : Type 0 where
   pub before : List (List ℕ)
   pub fragment : List ℕ
   pub after : List (List ℕ)
   pub k : ℕ
-  pub split : sent ≡ before ++ fragment ∷ after
-  pub place_is : place ≡ segment_total before + k
-  pub within : k < cut_count (length fragment)
+  pub at : IsAt sent place before fragment after k
   pub segment_is : segment ≡ cut fragment (segment_total before) k
 
 -- the units on the line are those of the last segments, from the place on
@@ -48,8 +52,7 @@ pub record IsBegun (sent : List (List ℕ)) (place : ℕ) (series : List (List �
   pub fragment : List ℕ
   pub after : List (List ℕ)
   pub k : ℕ
-  pub split : sent ≡ before ++ fragment ∷ after
-  pub place_is : place ≡ segment_total before + k
+  pub at : IsAt sent place before fragment after k
   pub waits : k + 1 < cut_count (length fragment)
   pub series_is : series ≡ begun_cuts fragment (segment_total before) (suc k)
 
