@@ -1,7 +1,9 @@
+pub mod Archive
 pub mod Buffered
 pub mod Calls
 pub mod Carried
 pub mod Latest
+pub mod SinkCalls
 pub mod Sound
 pub mod Stock
 pub mod Tallies
