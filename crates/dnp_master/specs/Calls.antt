@@ -1,6 +1,6 @@
 -- What contracts promise of `ask` and `receive`: a function of the master and of what came, case by case (IEEE Std
 -- 1815-2012, application layer: the master's side of a transaction, unsolicited responses, confirmation).
-use Rattle.std.specs.Prelude.{◌≡◌, ℕ, Bool, true, false, not, ◌&&◌, ◌||◌, ◌==◌, if◌then◌else◌, List, [], ◌∷◌, length, Option, Some, None, is_some, Result, Ok, Err, ⊤}
+use Rattle.std.specs.Prelude.{ℕ, Bool, true, false, not, ◌&&◌, ◌||◌, ◌==◌, if◌then◌else◌, List, [], ◌∷◌, length, Option, Some, None, is_some, Result, Ok, Err}
 use Rattle.std.specs.Int.{bit_at}
 use Rattle.dnp_objects.specs.Equality.{command_eq}
 use Rattle.dnp_objects.specs.declared.row.Row.{Row}

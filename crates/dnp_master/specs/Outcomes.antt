@@ -1,6 +1,6 @@
 -- What contracts promise of the outcome of a task (IEEE Std 1815-2012, application layer: select, operate and their
 -- responses, which repeat the objects of the request with a status put in).
-use Rattle.std.specs.Prelude.{ℕ, Bool, true, false, ◌&&◌, ◌==◌, if◌then◌else◌, List, [], ◌∷◌, Option, Some, None}
+use Rattle.std.specs.Prelude.{ℕ, ◌==◌, if◌then◌else◌, List, [], ◌∷◌, Option, Some, None}
 use Rattle.dnp_objects.specs.Equality.{command_eq}
 use Rattle.dnp_objects.specs.declared.command.Command.{Command}
 use Rattle.dnp_appfragment.specs.declared.iin.Iin.{Iin}

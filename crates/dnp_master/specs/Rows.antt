@@ -1,6 +1,6 @@
 -- What contracts promise of the rows of a response (IEEE Std 1815-2012, application layer: event classes; object
 -- library: groups 1 to 32): all of them, in order, as whole lists.
-use Rattle.std.specs.Prelude.{ℕ, Bool, true, false, nat_lt, ◌||◌, ◌==◌, if◌then◌else◌, List, [], filter, option_to_list, Option, is_some}
+use Rattle.std.specs.Prelude.{Bool, false, nat_lt, ◌||◌, ◌==◌, if◌then◌else◌, List, [], filter, option_to_list, is_some}
 use Rattle.std.specs.List.{flat_map, list_all, range_with_len}
 use Rattle.std.specs.Option.{option_map_or}
 use Rattle.dnp_objects.specs.declared.row.Row.{Row}

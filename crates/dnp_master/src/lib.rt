@@ -4,16 +4,15 @@
 
 mod actions;
 mod fault;
-
+mod master;
 mod outcome;
-
 mod request;
 mod requesting;
 mod task;
 
 pub use actions::{MasterActions, Rows};
 pub use fault::{AskFault, MasterFault};
-
+pub use master::Master;
 pub use outcome::Outcome;
 pub use requesting::Fragment;
 pub use task::{Classes, Task};

@@ -1,4 +1,5 @@
 ghost use Rattle.std.specs.Prelude.{◌≡◌};
+ghost use Rattle.dnp_appfragment.specs.Seen.{head};
 ghost use Rattle.dnp_master.specs.Outcomes as spec;
 
 use dnp_appfragment::{Header, Headers, Iin};
@@ -33,9 +34,13 @@ fn echo_by(command: &Command, header: &Header<'_>) -> Echo
     if header.count() != 1 {
         return Echo::Other;
     }
-    match header.command(0) {
-        Some((repeated, status)) if repeated == *command => Echo::Same(status),
-        _ => Echo::Other,
+    let Some((repeated, status)) = header.command(0) else {
+        return Echo::Other;
+    };
+    if repeated == *command {
+        Echo::Same(status)
+    } else {
+        Echo::Other
     }
 }
 
@@ -57,10 +62,13 @@ impl Echo {
     fn with(self, second: Echo) -> Echo
         ensures { result ≡ spec.echo_with self second }
     {
-        match (self, second) {
-            (Echo::Nothing, second) => second,
-            (Echo::Same(status), Echo::Nothing) => Echo::Same(status),
-            _ => Echo::Other,
+        match self {
+            Echo::Nothing => second,
+            Echo::Same(status) => match second {
+                Echo::Nothing => Echo::Same(status),
+                _ => Echo::Other,
+            },
+            Echo::Other => Echo::Other,
         }
     }
 
