@@ -1,4 +1,5 @@
 pub mod Blocks
+pub mod Classes
 pub mod Database
 pub mod Events
 pub mod Order
