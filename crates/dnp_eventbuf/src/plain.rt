@@ -209,7 +209,7 @@ fn clear_all(lanes: &mut [PlainLane; LANES])
 }
 
 /// Out of memory, as a store names it.
-fn memory(_: AllocError) -> StoreFault
+pub(crate) fn memory(_: AllocError) -> StoreFault
     ensures { result ≡ StoreFault.Memory }
 {
     StoreFault::Memory

@@ -1,5 +1,6 @@
 -- Definitions, by which contracts promise.
 pub mod Blocks
+pub mod Classes
 pub mod Database
 pub mod Events
 pub mod Plan

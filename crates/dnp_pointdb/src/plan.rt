@@ -4,6 +4,7 @@ ghost use Rattle.std.specs.Prelude.{◌≡◌, ◌↔◌, List, MatchOption, IfO
 ghost use Rattle.dnp_pointdb.specs.declared.point.Block.{Block as BlockValue};
 ghost use Rattle.dnp_pointdb.specs.declared.fault.PlanFault.{PlanFault as FaultValue};
 ghost use Rattle.dnp_pointdb.specs.Blocks.{ShareIndex};
+ghost use Rattle.dnp_pointdb.specs.Classes as classes;
 ghost use Rattle.dnp_pointdb.specs.Plan.{plan_of, blocks_of, IsPlanFault, IsFirst, IsSound, HasWrongPoint, HasTooMany, IsTooWide, IsWrong};
 
 use crate::blocks::Blocks;
@@ -143,6 +144,21 @@ fn first_fault(blocks: &Blocks) -> Option<PlanFault>
     None
 }
 
+/// The point of this index, if one of the blocks has it.
+fn point_in(blocks: &[Block], index: u16) -> Option<Point>
+    ensures { result ≡ classes.point_in blocks.now index }
+{
+    for block in blocks {
+        if block.base <= index {
+            let place = usize::from(index - block.base);
+            if let Some(point) = block.points.as_slice().get(place) {
+                return Some(*point);
+            }
+        }
+    }
+    None
+}
+
 impl PointPlan {
     ghost use Rattle.dnp_pointdb.specs.Plan.{plan_of, blocks_of, IsFirst, IsSound};
 
@@ -177,6 +193,13 @@ impl PointPlan {
         ensures sound { IsSound self.now }
     {
         self.blocks.of(kind)
+    }
+
+    /// The class of the point, 0 to 3, if the plan has it.
+    pub fn class_of(&self, kind: Kind, index: u16) -> Option<u8>
+        ensures { result ≡ classes.class_at self.now kind index }
+    {
+        point_in(self.blocks(kind), index).map(|point| point.class)
     }
 
     /// The same plan again. An error says that it ran out of memory.
