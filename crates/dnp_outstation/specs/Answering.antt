@@ -7,7 +7,7 @@ use Rattle.dnp_outstation.specs.State.{State, Step, still, with_session, sending
 use Rattle.dnp_outstation.specs.Content.{Content, Executed, answered}
 use Rattle.dnp_outstation.specs.Connection.{responds_further}
 use Rattle.dnp_outstation.specs.declared.answer.Answer.{Answer}
-use Rattle.dnp_outstation.specs.declared.writer.Writer.{Writer}
+use Rattle.dnp_outstation.specs.declared.offer.writer.Writer.{Writer}
 
 -- the content of the fragment
 abbrev pub content_by : Writer → Answer → Content

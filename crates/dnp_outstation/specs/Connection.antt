@@ -14,8 +14,8 @@ use Rattle.dnp_controls.specs.Panel.{Panel}
 use Rattle.dnp_controls.specs.Selecting.{deadline}
 use Rattle.dnp_eventbuf.specs.Stock.{Stock, lane_at, without, all_up_to}
 use Rattle.dnp_outstation.specs.Stage.{is_unsolicited}
-use Rattle.dnp_outstation.specs.State.{Core, State, Step, Actions, no_ids, nothing, sending, still, new_session, with_session, holds_read, is_free}
-use Rattle.dnp_outstation.specs.declared.place.Place.{Place}
+use Rattle.dnp_outstation.specs.State.{Core, State, Step, Actions, nothing, sending, still, new_session, with_session, holds_read, is_free}
+use Rattle.dnp_outstation.specs.declared.offer.place.Place.{Place}
 use Rattle.dnp_outstation.specs.declared.case.Case.{Case}
 use Rattle.dnp_outstation.specs.declared.case.Case.TheVariants.{PassedOver, Confirms, ConfirmsUnsolicited, Stray, Again, Waits, Asks}
 use Rattle.dnp_outstation.specs.declared.session.FirstFragment.{FirstFragment}
@@ -25,7 +25,8 @@ use Rattle.dnp_outstation.specs.declared.session.LastRequest.{LastRequest}
 use Rattle.dnp_outstation.specs.declared.session.Awaited.{Awaited}
 use Rattle.dnp_outstation.specs.declared.session.Unsolicited.{Unsolicited}
 use Rattle.dnp_outstation.specs.declared.session.Session.{Session}
-use Rattle.dnp_outstation.specs.Offer.{last_in, pushed, enabled_lanes}
+use Rattle.dnp_outstation.specs.Items.{last_in, enabled_lanes}
+use Rattle.dnp_outstation.specs.Offer.{pushed}
 use Rattle.dnp_outstation.specs.Content.{Content, Executed, content_from, content_of, read_content, indications}
 
 -- ---- what came

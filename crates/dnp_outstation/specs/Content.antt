@@ -15,9 +15,10 @@ use Rattle.dnp_appfragment.specs.Headers.{Head}
 use Rattle.dnp_appfragment.specs.Meaning.{request_at}
 use Rattle.dnp_eventbuf.specs.Stock.{Stock, lane_at, last_of}
 use Rattle.dnp_controls.specs.Panel.{Panel}
-use Rattle.dnp_outstation.specs.State.{State, no_ids}
-use Rattle.dnp_outstation.specs.declared.place.Place.{Place}
-use Rattle.dnp_outstation.specs.Offer.{Source, Filled, first_place, last_in, is_inside, offered}
+use Rattle.dnp_outstation.specs.State.{State}
+use Rattle.dnp_outstation.specs.declared.offer.place.Place.{Place}
+use Rattle.dnp_outstation.specs.Items.{Source, no_ids, first_place, last_in, is_inside}
+use Rattle.dnp_outstation.specs.Offer.{Filled, offered}
 
 -- ---- the content of a fragment
 

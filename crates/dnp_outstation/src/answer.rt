@@ -1,6 +1,6 @@
 //! What a fragment of a response says beside its headers.
 
-use crate::place::Place;
+use crate::offer::place::Place;
 
 /// What a fragment of a response says, or is sent with, beside what stands in its writer.
 #[derive(Clone, Copy)]

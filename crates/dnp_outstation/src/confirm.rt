@@ -19,7 +19,7 @@ use crate::reading_stub::put_parts;
 use crate::rows::Rows;
 use crate::sending::respond_further;
 use crate::session::Session;
-use crate::writer::Writer;
+use crate::offer::writer::Writer;
 use dnp_appfragment::read_request;
 use dnp_controls::Outputs;
 use dnp_eventbuf::{Lanes, StoreFault, Upto};

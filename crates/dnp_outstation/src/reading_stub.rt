@@ -2,11 +2,12 @@
 
 ghost use Rattle.std.specs.Prelude.{◌≡◌, ◌≢◌, IfOk, IfErr, IsTrue, Err};
 ghost use Rattle.dnp_appfragment.specs.declared.function.Function.TheVariants as function;
-ghost use Rattle.dnp_outstation.specs.Offer.{empty_from, offered, ended, after_release};
-ghost use Rattle.dnp_outstation.specs.declared.place.Place.{Place as PlaceValue};
+ghost use Rattle.dnp_outstation.specs.Offer.{offered};
+ghost use Rattle.dnp_outstation.specs.Filling.{empty_from, ended, after_release};
+ghost use Rattle.dnp_outstation.specs.declared.offer.place.Place.{Place as PlaceValue};
 
-use crate::place::Place;
-use crate::writer::{Run, Writer};
+use crate::offer::place::Place;
+use crate::offer::writer::{Run, Writer};
 use dnp_appfragment::{Builder, Function, Headers};
 use dnp_controls::Outputs;
 use dnp_eventbuf::{Lanes, StoreFault, Upto};

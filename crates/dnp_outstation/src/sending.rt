@@ -14,7 +14,7 @@ use crate::indications::indications;
 use crate::kept::Fragment;
 use crate::sequence::SequenceNumber;
 use crate::session::{Awaited, FirstFragment, LastRequest, Reply, Session};
-use crate::writer::Writer;
+use crate::offer::writer::Writer;
 use dnp_appfragment::{Builder, Control, Iin};
 use dnp_eventbuf::{Lanes, Upto};
 

@@ -1,7 +1,7 @@
 use Rattle.std.proofs.Common.{rules, ◌≡◌, true, List, refl, ap, sym, ◌∙◌}
 use Rattle.std.specs.List.{list_all}
 use Rattle.dnp_appfragment.specs.Headers.{Head}
-use Rattle.dnp_outstation.specs.Offer.{Source, first_place, is_inside}
+use Rattle.dnp_outstation.specs.Items.{Source, first_place, is_inside}
 use Rattle.dnp_outstation.specs.declared.answer.Answer.{Answer}
 use Rattle.dnp_outstation.proofs.Steps.{read-answered}
 use Rattle.dnp_outstation.proofs.execute.read.Goals as goal
