@@ -1,9 +1,9 @@
 //! The confirm of a fragment: its rows leave, and the response goes on.
 
-ghost use Rattle.std.specs.Prelude.{◌≡◌, ◌≢◌, ℕ, IfOk, IfErr, IfSome, OnErr, IsTrue, Err};
+ghost use Rattle.std.specs.Prelude.{◌≡◌, ◌≢◌, ℕ, [], false, IfOk, IfErr, IfSome, OnErr, IsTrue, Err};
 ghost use Rattle.dnp_appfragment.specs.declared.function.Function.TheVariants as function;
 ghost use Rattle.dnp_controls.specs.Panel.{Panel};
-ghost use Rattle.dnp_eventbuf.specs.Stock.{without};
+ghost use Rattle.dnp_eventbuf.specs.Stock.{without, rows_in};
 ghost use Rattle.dnp_outstation.specs.Answering.{goes_on_by};
 ghost use Rattle.dnp_outstation.specs.Calls.{with_that};
 ghost use Rattle.dnp_outstation.specs.Connection.{goes_on, on_confirm};
@@ -14,12 +14,12 @@ use crate::actions::Actions;
 use crate::answer::Answer;
 use crate::connection::deadline;
 use crate::execute::left;
+use crate::offer::writer::Writer;
 use crate::outstation_core::OutstationCore;
 use crate::reading_stub::put_parts;
 use crate::rows::Rows;
 use crate::sending::respond_further;
 use crate::session::Session;
-use crate::offer::writer::Writer;
 use dnp_appfragment::read_request;
 use dnp_controls::Outputs;
 use dnp_eventbuf::{Lanes, StoreFault, Upto};
@@ -48,6 +48,7 @@ fn write_next<L: Lanes, O: Outputs>(
     ensures response { IfOk result (λ next. IfSome next (λ a. writer.new.builder.function ≡ function.Response)) }
     ensures device { result ≡ Err StoreFault.Device → IsTrue (L.is_stopped lanes.new) }
     ensures runs_on { result ≢ Err StoreFault.Device → L.is_stopped lanes.new ≡ L.is_stopped lanes.old }
+    ensures memory { L.honest lanes.new → result ≡ Err StoreFault.Memory → L.asks_memory ≡ false → rows_in (L.contents lanes.old) ≢ [] }
     ensures named { result ≢ Err StoreFault.Exhausted }
 {
     let Some(last) = &session.last else {
@@ -80,6 +81,7 @@ fn write_next<L: Lanes, O: Outputs>(
 
 impl OutstationCore {
     /// The awaited fragment is confirmed: its rows leave, and the next fragment goes out, if there is one.
+    #[tactic(auto, using(crate::proofs::NoRows::released_is_there))]
     pub(crate) fn confirm<L: Lanes, O: Outputs>(
         &mut self,
         alloc: Global,
@@ -96,6 +98,7 @@ impl OutstationCore {
         ensures lanes_unchanged { L.honest lanes.new → OnErr result (L.contents lanes.new ≡ L.contents lanes.old) }
         ensures device { result ≡ Err StoreFault.Device → IsTrue (L.is_stopped lanes.new) }
         ensures runs_on { result ≢ Err StoreFault.Device → L.is_stopped lanes.new ≡ L.is_stopped lanes.old }
+        ensures memory { L.honest lanes.new → result ≡ Err StoreFault.Memory → L.asks_memory ≡ false → rows_in (L.contents lanes.old) ≢ [] }
         ensures named { result ≢ Err StoreFault.Exhausted }
     {
         let Some(awaited) = self.session.awaited else {

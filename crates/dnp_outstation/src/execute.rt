@@ -1,9 +1,10 @@
 //! Executes requests, and writes what they are answered.
 
-ghost use Rattle.std.specs.Prelude.{◌≡◌, ◌≢◌, ◌<◌, ◌&&◌, not, if◌then◌else◌, None, Some, IfOk, IfErr, IsTrue, Err};
+ghost use Rattle.std.specs.Prelude.{◌≡◌, ◌≢◌, ◌<◌, ◌&&◌, [], false, not, if◌then◌else◌, None, Some, IfOk, IfErr, IsTrue, Err};
 ghost use Rattle.std.specs.List.{list_all, list_any};
 ghost use Rattle.dnp_appfragment.specs.declared.function.Function.TheVariants as function;
 ghost use Rattle.dnp_appfragment.specs.Seen.{head};
+ghost use Rattle.dnp_eventbuf.specs.Stock.{rows_in};
 ghost use Rattle.dnp_outstation.specs.Answering.{executed_by};
 ghost use Rattle.dnp_outstation.specs.Items.{last_in as last_in_stock, first_place};
 ghost use Rattle.dnp_outstation.specs.Filling.{empty_from};
@@ -14,9 +15,9 @@ ghost use Rattle.dnp_outstation.specs.Content.{content_of, bits_of, clears_resta
 use crate::answer::Answer;
 use crate::indications::last_in;
 use crate::offer::place::Place;
+use crate::offer::writer::Writer;
 use crate::reading_stub::put_parts;
 use crate::wanting::are_inside;
-use crate::offer::writer::Writer;
 use dnp_appfragment::{AppFault, Function, Header, Headers, Range, read_request};
 use dnp_controls::Outputs;
 use dnp_eventbuf::{Lanes, StoreFault};
@@ -119,6 +120,7 @@ fn read<L: Lanes, O: Outputs>(
     ensures response { writer.new.builder.function ≡ function.Response }
     ensures device { result ≡ Err StoreFault.Device → IsTrue (L.is_stopped lanes.new) }
     ensures runs_on { result ≢ Err StoreFault.Device → L.is_stopped lanes.new ≡ L.is_stopped lanes.old }
+    ensures memory { L.honest lanes.new → result ≡ Err StoreFault.Memory → L.asks_memory ≡ false → rows_in (L.contents lanes.old) ≢ [] }
     ensures named { result ≢ Err StoreFault.Exhausted }
 {
     let stood = last_in(lanes);
@@ -178,6 +180,7 @@ pub(crate) fn execute<L: Lanes, O: Outputs>(
     ensures response { writer.new.builder.function ≡ function.Response }
     ensures device { result ≡ Err StoreFault.Device → IsTrue (L.is_stopped lanes.new) }
     ensures runs_on { result ≢ Err StoreFault.Device → L.is_stopped lanes.new ≡ L.is_stopped lanes.old }
+    ensures memory { L.honest lanes.new → result ≡ Err StoreFault.Memory → L.asks_memory ≡ false → rows_in (L.contents lanes.old) ≢ [] }
     ensures named { result ≢ Err StoreFault.Exhausted }
 {
     writer.restart(FIRST_PLACE);

@@ -1,7 +1,8 @@
 //! Stands for what `offer` writes.
 
-ghost use Rattle.std.specs.Prelude.{◌≡◌, ◌≢◌, IfOk, IfErr, IsTrue, Err};
+ghost use Rattle.std.specs.Prelude.{false, [], ◌≡◌, ◌≢◌, IfOk, IfErr, IsTrue, Err};
 ghost use Rattle.dnp_appfragment.specs.declared.function.Function.TheVariants as function;
+ghost use Rattle.dnp_eventbuf.specs.Stock.{rows_in};
 ghost use Rattle.dnp_outstation.specs.Offer.{offered};
 ghost use Rattle.dnp_outstation.specs.Filling.{empty_from, ended, after_release};
 ghost use Rattle.dnp_outstation.specs.declared.offer.place.Place.{Place as PlaceValue};
@@ -59,6 +60,7 @@ pub(crate) fn put_parts<L: Lanes, O: Outputs>(
     ensures response { writer.new.builder.function ≡ writer.old.builder.function }
     ensures device { IfErr result (λ e. e ≡ StoreFault.Device → IsTrue (L.is_stopped lanes.new)) }
     ensures runs_on { result ≢ Err StoreFault.Device → L.is_stopped lanes.new ≡ L.is_stopped lanes.old }
+    ensures memory { L.honest lanes.new → result ≡ Err StoreFault.Memory → L.asks_memory ≡ false → rows_in (L.contents lanes.old) ≢ [] }
     ensures named { IfErr result (λ e. e ≢ StoreFault.Exhausted) }
 {
     Ok(true)

@@ -1,9 +1,9 @@
 //! Requests of the master, and the confirms of their responses.
 
-ghost use Rattle.std.specs.Prelude.{◌≡◌, ◌≢◌, ◌≤◌, ℕ, IfOk, IfErr, OnErr, IsTrue, Err, length};
+ghost use Rattle.std.specs.Prelude.{◌≡◌, ◌≢◌, ◌≤◌, ℕ, [], false, IfOk, IfErr, OnErr, IsTrue, Err, length};
 ghost use Rattle.dnp_appfragment.specs.declared.function.Function.TheVariants as function;
 ghost use Rattle.dnp_controls.specs.Panel.{Panel};
-ghost use Rattle.dnp_eventbuf.specs.Stock.{Stock};
+ghost use Rattle.dnp_eventbuf.specs.Stock.{Stock, rows_in};
 ghost use Rattle.dnp_outstation.specs.Calls.{with_that};
 ghost use Rattle.dnp_outstation.specs.Connection.{waiting, on_request, on_again};
 ghost use Rattle.dnp_outstation.specs.Station.{state_of, actions_of};
@@ -41,6 +41,7 @@ impl OutstationCore {
         ensures same { L.honest lanes.new → L.contents lanes.new ≡ L.contents lanes.old }
         ensures device { result ≡ Err StoreFault.Device → IsTrue (L.is_stopped lanes.new) }
         ensures runs_on { result ≢ Err StoreFault.Device → L.is_stopped lanes.new ≡ L.is_stopped lanes.old }
+        ensures memory { L.honest lanes.new → result ≡ Err StoreFault.Memory → L.asks_memory ≡ false → rows_in (L.contents lanes.old) ≢ [] }
         ensures named { result ≢ Err StoreFault.Exhausted }
     {
         let answer = execute(

@@ -12,9 +12,9 @@ ghost use Rattle.dnp_outstation.specs.Connection.{has_rows, asks_confirm, fragme
 use crate::answer::Answer;
 use crate::indications::indications;
 use crate::kept::Fragment;
+use crate::offer::writer::Writer;
 use crate::sequence::SequenceNumber;
 use crate::session::{Awaited, FirstFragment, LastRequest, Reply, Session};
-use crate::offer::writer::Writer;
 use dnp_appfragment::{Builder, Control, Iin};
 use dnp_eventbuf::{Lanes, Upto};
 

@@ -151,6 +151,7 @@ impl Writer {
         }
         true
     }
+
     #[tactic(auto, using(crate::proofs::OfferPresent::next_output))]
     /// Puts the statuses of the outputs from one index on to before another, as far as they fit; answers
     /// whether all do.
