@@ -134,11 +134,18 @@ clears_restart h = clears h.range
 abbrev pub written : State → List Head → State
 written s headers = record s { core = record s.core { restart = s.core.restart && not (list_any clears_restart headers) } }
 
+-- the bit that a header of a WRITE is answered, if it is in error. The time (50.1) isn't written yet: it is unknown
+abbrev pub header_bits : Head → ℕ
+header_bits h = if h.group == 80 then (if clears_restart h then 0 else parameter_error) else object_unknown
+
+-- the first header in error decides
+abbrev pub write_bits : List Head → ℕ
+write_bits [] = 0
+write_bits (h ∷ hs) = if header_bits h == 0 then write_bits hs else header_bits h
+
 abbrev pub write_executed : State → List Head → Executed
 write_executed s headers =
-    if list_all clears_restart headers
-    then answered (written s headers) (plain 0 [])
-    else refused s parameter_error
+    if write_bits headers == 0 then answered (written s headers) (plain 0 []) else refused s (write_bits headers)
 
 -- ---- one request
 

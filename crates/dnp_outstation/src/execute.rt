@@ -1,7 +1,7 @@
 //! Executes requests, and writes what they are answered.
 
-ghost use Rattle.std.specs.Prelude.{◌≡◌, ◌≢◌, ◌<◌, ◌&&◌, [], false, not, if◌then◌else◌, None, Some, IfOk, IfErr, IsTrue, Err};
-ghost use Rattle.std.specs.List.{list_all, list_any};
+ghost use Rattle.std.specs.Prelude.{◌≡◌, ◌==◌, true, Ok, ◌≢◌, ◌<◌, ◌&&◌, [], false, not, if◌then◌else◌, None, Some, IfOk, IfErr, IsTrue, Err};
+ghost use Rattle.std.specs.List.{list_any};
 ghost use Rattle.dnp_appfragment.specs.declared.function.Function.TheVariants as function;
 ghost use Rattle.dnp_appfragment.specs.Seen.{head};
 ghost use Rattle.dnp_eventbuf.specs.Stock.{rows_in};
@@ -10,7 +10,7 @@ ghost use Rattle.dnp_outstation.specs.Items.{last_in as last_in_stock, first_pla
 ghost use Rattle.dnp_outstation.specs.Filling.{empty_from};
 ghost use Rattle.dnp_outstation.specs.declared.offer.writer.Writer.{Writer as WriterValue};
 ghost use Rattle.dnp_outstation.specs.State.{State};
-ghost use Rattle.dnp_outstation.specs.Content.{content_of, bits_of, clears_restart, read_executed, write_executed};
+ghost use Rattle.dnp_outstation.specs.Content.{content_of, bits_of, clears_restart, header_bits, write_bits, read_executed, write_executed};
 
 use crate::answer::Answer;
 use crate::indications::last_in;
@@ -64,20 +64,37 @@ fn clears_restart(header: &Header<'_>) -> bool
     }
 }
 
-/// Whether DEVICE_RESTART is still set after a WRITE of these headers, or none, where one of them is in
-/// error.
-fn restart_after(headers: Headers<'_>, restart: bool) -> Option<bool>
-    ensures { result ≡ (if list_all clears_restart headers.entry.headers
-        then Some (restart && not (list_any clears_restart headers.entry.headers)) else None) }
+/// The bit that a header of a WRITE is answered, or 0.
+fn header_bits(header: &Header<'_>) -> u8
+    ensures value { result ≡ header_bits (head header.now) }
+    ensures small { result < 8 }
+    ensures clears { result ≡ 0 → clears_restart (head header.now) ≡ true }
+{
+    if header.group != 80 {
+        2
+    } else if clears_restart(header) {
+        0
+    } else {
+        4
+    }
+}
+
+/// Whether DEVICE_RESTART is still set after a WRITE of these headers, or the bit that tells of the first one
+/// in error.
+fn restart_after(headers: Headers<'_>, restart: bool) -> Result<bool, u8>
+    ensures value { result ≡ (if write_bits headers.entry.headers == 0
+        then Ok (restart && not (list_any clears_restart headers.entry.headers)) else Err (write_bits headers.entry.headers)) }
+    ensures small { IfErr result (λ bits. bits < 8) }
 {
     let mut restart = restart;
     for header in headers {
-        if !clears_restart(&header) {
-            return None;
+        let bits = header_bits(&header);
+        if bits != 0 {
+            return Err(bits);
         }
         restart = false;
     }
-    Some(restart)
+    Ok(restart)
 }
 
 /// An answer without objects.
@@ -155,8 +172,8 @@ fn write<L: Lanes>(lanes: &mut L, restart: bool, headers: Headers<'_>) -> Answer
 {
     let stood = last_in(lanes);
     match restart_after(headers, restart) {
-        Some(restart) => plain(0, restart, stood),
-        None => plain(4, restart, stood),
+        Ok(restart) => plain(0, restart, stood),
+        Err(bits) => plain(bits, restart, stood),
     }
 }
 

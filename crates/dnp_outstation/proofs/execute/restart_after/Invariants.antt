@@ -1,10 +1,12 @@
-use Rattle.std.proofs.Common.{◌≡◌, ◌&&◌, not, cond, None, Some}
-use Rattle.std.specs.List.{list_all, list_any}
-use Rattle.dnp_outstation.specs.Content.{clears_restart}
+use Rattle.std.proofs.Common.{◌≡◌, ◌==◌, ◌&&◌, not, cond, Ok, Err}
+use Rattle.std.specs.List.{list_any}
+use Rattle.dnp_outstation.specs.Content.{clears_restart, write_bits}
 use Rattle.dnp_outstation.proofs.execute.restart_after.Given as goal
 
 -- what is left decides
 abbrev pub invariant-loop-header : goal.invariant-loop-header
-invariant-loop-header l =
-    cond (list_all clears_restart l.header-iterator.headers) (Some (l.restart && not (list_any clears_restart l.header-iterator.headers))) None
-    ≡ cond (list_all clears_restart l.initial.header-iterator.headers) (Some (l.fn.restart && not (list_any clears_restart l.initial.header-iterator.headers))) None
+invariant-loop-header l = record {
+  bits : write_bits l.header-iterator.headers ≡ write_bits l.initial.header-iterator.headers;
+  restart : (l.restart && not (list_any clears_restart l.header-iterator.headers))
+      ≡ (l.fn.restart && not (list_any clears_restart l.initial.header-iterator.headers));
+}
