@@ -1,6 +1,6 @@
 //! The confirm of a fragment: its rows leave, and the response goes on.
 
-ghost use Rattle.std.specs.Prelude.{◌≡◌, ◌≢◌, ℕ, [], false, IfOk, IfErr, IfSome, OnErr, IsTrue, Err};
+ghost use Rattle.std.specs.Prelude.{All, ◌≤◌, length, ◌≡◌, ◌≢◌, ℕ, [], false, IfOk, IfErr, IfSome, OnErr, IsTrue, Err};
 ghost use Rattle.dnp_appfragment.specs.declared.function.Function.TheVariants as function;
 ghost use Rattle.dnp_controls.specs.Panel.{Panel};
 ghost use Rattle.dnp_eventbuf.specs.Stock.{without, rows_in};
@@ -94,6 +94,7 @@ impl OutstationCore {
         ensures confirmed { L.honest lanes.new → IfOk result (λ a. (p : Panel) → let s = state_of self.old (L.contents lanes.old) p in
             with_that s s.core.session.awaited (on_confirm s (O.panel outputs.now) now)
             ≡ record { state = state_of self.new (L.contents lanes.new) p; does = actions_of a }) }
+        ensures whole { IfOk result (λ a. All (λ fragment. 4 ≤ length fragment) (actions_of a).send) }
         ensures unchanged { OnErr result (self.new ≡ self.old) }
         ensures lanes_unchanged { L.honest lanes.new → OnErr result (L.contents lanes.new ≡ L.contents lanes.old) }
         ensures device { result ≡ Err StoreFault.Device → IsTrue (L.is_stopped lanes.new) }

@@ -2,6 +2,7 @@
 
 ghost use Rattle.std.specs.Prelude.{◌≡◌, ◌≤◌, length};
 ghost use Rattle.dnp_controls.specs.Selecting.{deadline};
+ghost use Rattle.dnp_outstation.specs.Answering.{KeepsWhole};
 ghost use Rattle.dnp_outstation.specs.State.{new_session, holds_read};
 ghost use Rattle.dnp_outstation.specs.Connection.{is_last_request, is_number, awaited_number, confirmed, new_request, held};
 
@@ -89,7 +90,8 @@ impl Session {
 
     /// The awaited fragment is confirmed.
     pub fn confirm(&mut self)
-        ensures { self.new ≡ confirmed self.old }
+        ensures value { self.new ≡ confirmed self.old }
+        ensures keeps { KeepsWhole self.old → KeepsWhole self.new }
     {
         self.awaited = None;
         if let Some(last) = &mut self.last {

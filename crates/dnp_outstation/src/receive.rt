@@ -1,6 +1,6 @@
 //! What comes from the master.
 
-ghost use Rattle.std.specs.Prelude.{◌≡◌, ◌≢◌, [], false, IfOk, IfErr, OnErr, IsTrue, Err};
+ghost use Rattle.std.specs.Prelude.{All, ◌≤◌, length, ◌≡◌, ◌≢◌, [], false, IfOk, IfErr, OnErr, IsTrue, Err};
 ghost use Rattle.dnp_eventbuf.specs.Stock.{rows_in};
 ghost use Rattle.dnp_outstation.specs.Calls.{connection_after};
 ghost use Rattle.dnp_outstation.specs.Station.{state_of, actions_of, IsLanesFault};
@@ -31,6 +31,7 @@ impl OutstationCore {
         ensures received { L.honest lanes.new → IfOk result (λ a.
             connection_after (state_of self.old (L.contents lanes.old) (O.panel outputs.old)) (O.panel outputs.old) now octets.now
             ≡ record { state = state_of self.new (L.contents lanes.new) (O.panel outputs.new); does = actions_of a }) }
+        ensures whole { IfOk result (λ a. All (λ fragment. 4 ≤ length fragment) (actions_of a).send) }
         ensures unchanged { OnErr result (self.new ≡ self.old) }
         ensures lanes_unchanged { L.honest lanes.new → OnErr result (L.contents lanes.new ≡ L.contents lanes.old) }
         ensures named { IfErr result IsLanesFault }

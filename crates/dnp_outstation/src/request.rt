@@ -1,6 +1,6 @@
 //! Requests of the master, and the confirms of their responses.
 
-ghost use Rattle.std.specs.Prelude.{◌≡◌, ◌≢◌, ◌≤◌, ℕ, [], false, IfOk, IfErr, OnErr, IsTrue, Err, length};
+ghost use Rattle.std.specs.Prelude.{All, ◌≡◌, ◌≢◌, ◌≤◌, ℕ, [], false, IfOk, IfErr, OnErr, IsTrue, Err, length};
 ghost use Rattle.dnp_appfragment.specs.declared.function.Function.TheVariants as function;
 ghost use Rattle.dnp_controls.specs.Panel.{Panel};
 ghost use Rattle.dnp_eventbuf.specs.Stock.{Stock, rows_in};
@@ -37,6 +37,7 @@ impl OutstationCore {
         ensures answered { L.honest lanes.new → IfOk result (λ a. (p : Panel) →
             on_request (state_of self.old (L.contents lanes.old) p) (O.panel outputs.now) now octets.now
             ≡ record { state = state_of self.new (L.contents lanes.new) p; does = actions_of a }) }
+        ensures whole { IfOk result (λ a. All (λ fragment. 4 ≤ length fragment) (actions_of a).send) }
         ensures unchanged { OnErr result (self.new ≡ self.old) }
         ensures same { L.honest lanes.new → L.contents lanes.new ≡ L.contents lanes.old }
         ensures device { result ≡ Err StoreFault.Device → IsTrue (L.is_stopped lanes.new) }
@@ -69,7 +70,8 @@ impl OutstationCore {
     /// The last request again: its first fragment goes out again, unless the response has gone past it.
     pub(crate) fn again(&mut self, alloc: Global, now: u64, octets: &[u8]) -> Actions
         requires { 1 ≤ length octets.now }
-        ensures { (lanes : Stock) (p : Panel) → let s = state_of self.old lanes p in
+        ensures whole { All (λ fragment. 4 ≤ length fragment) (actions_of result).send }
+        ensures value { (lanes : Stock) (p : Panel) → let s = state_of self.old lanes p in
             with_that s s.core.session.last (on_again s now octets.now)
             ≡ record { state = state_of self.new lanes p; does = actions_of result } }
     {

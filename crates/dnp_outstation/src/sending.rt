@@ -1,11 +1,11 @@
 //! Sends the fragments of responses.
 
-ghost use Rattle.std.specs.Prelude.{◌≡◌, ◌<◌, ℕ, false, if◌then◌else◌, is_none, None, Some};
+ghost use Rattle.std.specs.Prelude.{◌≡◌, ◌<◌, ◌≤◌, ℕ, length, false, if◌then◌else◌, is_none, None, Some};
 ghost use Rattle.dnp_appfragment.specs.declared.function.Function.TheVariants as function;
 ghost use Rattle.dnp_appfragment.specs.Built.{heads};
 ghost use Rattle.dnp_appfragment.specs.Fragments.{response_octets};
 ghost use Rattle.dnp_controls.specs.Selecting.{deadline};
-ghost use Rattle.dnp_outstation.specs.Answering.{content_by};
+ghost use Rattle.dnp_outstation.specs.Answering.{content_by, KeepsWhole};
 ghost use Rattle.dnp_outstation.specs.State.{State, with_session, sending};
 ghost use Rattle.dnp_outstation.specs.Connection.{has_rows, asks_confirm, fragment_of, first_sent, further_sent, responds, responds_further};
 
@@ -53,7 +53,8 @@ fn control(is_first: bool, asks_confirm: bool, seq: SequenceNumber, answer: &Ans
 /// What stands in the builder, as it is sent.
 fn finished(builder: &mut Builder, control: Control, iin: Iin) -> Fragment
     requires { builder.old.function ≡ function.Response }
-    ensures { result.items ≡ response_octets (record { control = control; function = function.Response; iin = iin; headers = heads builder.old }) }
+    ensures whole { 4 ≤ length result.items }
+    ensures value { result.items ≡ response_octets (record { control = control; function = function.Response; iin = iin; headers = heads builder.old }) }
 {
     // What is left says that the fragment fits.
     let _left = builder.left();
@@ -74,6 +75,7 @@ fn fragment<L: Lanes>(
     requires response { writer.old.builder.function ≡ function.Response }
     requires bits { answer.now.bits < 8 }
     ensures same { lanes.new ≡ lanes.old }
+    ensures whole { 4 ≤ length result.items }
     ensures upto { writer.new.upto ≡ writer.old.upto }
     ensures value { L.honest lanes.new → (s : State) → s.lanes ≡ L.contents lanes.new → s.core.restart ≡ answer.now.restart
         → result.items ≡ fragment_of s is_first seq (content_by writer.old answer.now) }
@@ -112,6 +114,7 @@ impl Session {
         ensures sent { (now confirm_ms : ℕ) → ends ≡ deadline now confirm_ms
             → self.new ≡ first_sent self.old now confirm_ms answer.now.stood seq (content_by writer.now answer.now) fragment.now.items }
         ensures unsolicited { self.new.unsolicited ≡ self.old.unsolicited }
+        ensures keeps { 4 ≤ length fragment.now.items → KeepsWhole self.new }
     {
         let is_awaited = asks_confirm(writer, answer);
         self.response.keep_fragment(fragment);
@@ -131,6 +134,7 @@ impl Session {
         ensures sent { (now confirm_ms : ℕ) → ends ≡ deadline now confirm_ms
             → self.new ≡ further_sent self.old now confirm_ms answer.now.stood seq (content_by writer.now answer.now) }
         ensures unsolicited { self.new.unsolicited ≡ self.old.unsolicited }
+        ensures keeps { KeepsWhole self.new }
     {
         self.last = Some(LastRequest {
             reply: Reply::Further,
@@ -160,6 +164,8 @@ pub(crate) fn respond<L: Lanes>(
         → responds s now answer.now.stood seq (content_by writer.old answer.now)
         ≡ record { state = with_session s session.new; does = sending result.items } }
     ensures unsolicited { session.new.unsolicited ≡ session.old.unsolicited }
+    ensures whole { 4 ≤ length result.items }
+    ensures keeps { KeepsWhole session.new }
 {
     let fragment = fragment(writer, lanes, true, seq, answer);
     session.send_first(&fragment, writer, answer, seq, ends);
@@ -183,6 +189,8 @@ pub(crate) fn respond_further<L: Lanes>(
         → responds_further s now answer.now.stood seq (content_by writer.old answer.now)
         ≡ record { state = with_session s session.new; does = sending result.items } }
     ensures unsolicited { session.new.unsolicited ≡ session.old.unsolicited }
+    ensures whole { 4 ≤ length result.items }
+    ensures keeps { KeepsWhole session.new }
 {
     let fragment = fragment(writer, lanes, false, seq, answer);
     session.send_further(writer, answer, seq, ends);
