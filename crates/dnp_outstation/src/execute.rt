@@ -1,11 +1,13 @@
 //! Executes requests, and writes what they are answered.
 
-ghost use Rattle.std.specs.Prelude.{◌≡◌, ◌==◌, true, Ok, ◌≢◌, ◌<◌, ◌&&◌, [], false, not, if◌then◌else◌, None, Some, IfOk, IfErr, IsTrue, Err};
+ghost use Rattle.std.specs.Prelude.{◌≡◌, ◌==◌, true, Ok, ◌≢◌, ◌<◌, ◌&&◌, [], false, not, if◌then◌else◌, None, Some, IfOk, IfErr, IsErr, IsTrue, Err};
 ghost use Rattle.std.specs.List.{list_any};
 ghost use Rattle.dnp_appfragment.specs.declared.function.Function.TheVariants as function;
 ghost use Rattle.dnp_appfragment.specs.Seen.{head};
 ghost use Rattle.dnp_eventbuf.specs.Stock.{rows_in};
 ghost use Rattle.dnp_outstation.specs.Answering.{executed_by};
+ghost use Rattle.dnp_appfragment.specs.Table.{function_octet};
+ghost use Rattle.dnp_outstation.specs.Connection.{function_in};
 ghost use Rattle.dnp_outstation.specs.Items.{last_in as last_in_stock, first_place};
 ghost use Rattle.dnp_outstation.specs.Filling.{empty_from};
 ghost use Rattle.dnp_outstation.specs.declared.offer.writer.Writer.{Writer as WriterValue};
@@ -199,6 +201,7 @@ pub(crate) fn execute<L: Lanes, O: Outputs>(
     ensures runs_on { result ≢ Err StoreFault.Device → L.is_stopped lanes.new ≡ L.is_stopped lanes.old }
     ensures memory { L.honest lanes.new → result ≡ Err StoreFault.Memory → L.asks_memory ≡ false → rows_in (L.contents lanes.old) ≢ [] }
     ensures named { result ≢ Err StoreFault.Exhausted }
+    ensures reads { IsErr result → function_in octets.now ≡ function_octet function.Read }
 {
     writer.restart(FIRST_PLACE);
     let request = match read_request(octets) {

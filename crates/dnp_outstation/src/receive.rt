@@ -1,7 +1,10 @@
 //! What comes from the master.
 
-ghost use Rattle.std.specs.Prelude.{All, ◌≤◌, length, ◌≡◌, ◌≢◌, [], false, IfOk, IfErr, OnErr, IsTrue, Err};
+ghost use Rattle.std.specs.Prelude.{All, ◌⊎◌, IsErr, ◌≤◌, length, ◌≡◌, ◌≢◌, [], false, IfOk, IfErr, OnErr, IsTrue, Err};
 ghost use Rattle.dnp_eventbuf.specs.Stock.{rows_in};
+ghost use Rattle.dnp_appfragment.specs.declared.function.Function.TheVariants as function;
+ghost use Rattle.dnp_appfragment.specs.Table.{function_octet};
+ghost use Rattle.dnp_outstation.specs.Connection.{case_of, function_in};
 ghost use Rattle.dnp_outstation.specs.Calls.{connection_after};
 ghost use Rattle.dnp_outstation.specs.Station.{state_of, actions_of, IsLanesFault};
 
@@ -35,6 +38,7 @@ impl OutstationCore {
         ensures unchanged { OnErr result (self.new ≡ self.old) }
         ensures lanes_unchanged { L.honest lanes.new → OnErr result (L.contents lanes.new ≡ L.contents lanes.old) }
         ensures named { IfErr result IsLanesFault }
+        ensures asks { IsErr result → (case_of self.old octets.now ≡ Case.Confirms) ⊎ (function_in octets.now ≡ function_octet function.Read) }
         ensures memory { L.honest lanes.new → result ≡ Err Fault.Memory → L.asks_memory ≡ false → rows_in (L.contents lanes.old) ≢ [] }
         ensures device { result ≡ Err Fault.Device → IsTrue (L.is_stopped lanes.new) }
         ensures runs_on { result ≢ Err Fault.Device → L.is_stopped lanes.new ≡ L.is_stopped lanes.old }

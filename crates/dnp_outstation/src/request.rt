@@ -1,11 +1,12 @@
 //! Requests of the master, and the confirms of their responses.
 
-ghost use Rattle.std.specs.Prelude.{All, ◌≡◌, ◌≢◌, ◌≤◌, ℕ, [], false, IfOk, IfErr, OnErr, IsTrue, Err, length};
+ghost use Rattle.std.specs.Prelude.{All, ◌≡◌, ◌≢◌, ◌≤◌, ℕ, [], false, IfOk, IfErr, IsErr, OnErr, IsTrue, Err, length};
 ghost use Rattle.dnp_appfragment.specs.declared.function.Function.TheVariants as function;
+ghost use Rattle.dnp_appfragment.specs.Table.{function_octet};
 ghost use Rattle.dnp_controls.specs.Panel.{Panel};
 ghost use Rattle.dnp_eventbuf.specs.Stock.{Stock, rows_in};
 ghost use Rattle.dnp_outstation.specs.Calls.{with_that};
-ghost use Rattle.dnp_outstation.specs.Connection.{waiting, on_request, on_again};
+ghost use Rattle.dnp_outstation.specs.Connection.{function_in, waiting, on_request, on_again};
 ghost use Rattle.dnp_outstation.specs.Station.{state_of, actions_of};
 
 use crate::actions::Actions;
@@ -44,6 +45,7 @@ impl OutstationCore {
         ensures runs_on { result ≢ Err StoreFault.Device → L.is_stopped lanes.new ≡ L.is_stopped lanes.old }
         ensures memory { L.honest lanes.new → result ≡ Err StoreFault.Memory → L.asks_memory ≡ false → rows_in (L.contents lanes.old) ≢ [] }
         ensures named { result ≢ Err StoreFault.Exhausted }
+        ensures reads { IsErr result → function_in octets.now ≡ function_octet function.Read }
     {
         let answer = execute(
             &mut self.writer,
