@@ -1,5 +1,5 @@
 -- Present values: those that a range names of a row of points, those that are skipped, and what their objects take.
-use Rattle.std.proofs.Common.{◌≡◌, ◌<◌, ◌≤◌, ℕ, zero, suc, ◌+◌, ◌-◌, ◌*◌, pos, None, Bool, true, false, ◌&&◌, cond, nat_le, nat_lt, List, [], ◌∷◌, ◌++◌, length, get_or, min, map, filter, take, drop, refl, sym, ap, subst, ◌∙◌, arith, append_assoc}
+use Rattle.std.proofs.Common.{◌≡◌, ◌<◌, ◌≤◌, ℕ, zero, suc, ◌+◌, ◌-◌, ◌*◌, pos, None, Bool, true, false, ◌&&◌, cond, nat_le, nat_lt, List, [], ◌∷◌, ◌++◌, length, get_or, min, map, filter, take, drop, fold, refl, sym, ap, subst, ◌∙◌, arith, append_assoc, append-nil}
 use Rattle.std.proofs.lemmas.Bool.Decides.{nat_tests}
 use Rattle.std.proofs.lemmas.List.{map-append, length-append, drop_more}
 use Rattle.std.proofs.lemmas.List.Elements.{filter-append}
@@ -9,7 +9,7 @@ use Rattle.dnp_appfragment.specs.declared.header.Range.TheVariants as range
 use Rattle.dnp_pointdb.specs.declared.state.PointState.{PointState}
 use Rattle.dnp_pointdb.specs.declared.state.BlockState.{BlockState}
 use Rattle.dnp_outstation.specs.declared.offer.writer.Writer.{Writer}
-use Rattle.dnp_outstation.specs.Items.{Item, Static, present_of, is_within, in_range, statics_from, statics_in, output_row, outputs_from, statics_of, Source}
+use Rattle.dnp_outstation.specs.Items.{Item, Static, present_of, given_after, is_within, in_range, statics_from, statics_in, output_row, outputs_from, statics_of, Source}
 use Rattle.dnp_objects.specs.declared.row.Kind.{Kind}
 use Rattle.dnp_objects.specs.declared.row.Kind.TheVariants.{Binary, Counter, Analog}
 use Rattle.dnp_objects.specs.declared.row.Row.{Row}
@@ -275,3 +275,21 @@ group_first header skip skip' r s group groups skipped = presents_both header sk
 pub all_in_range : (statics : List Static) → in_range range.All statics ≡ statics
 all_in_range [] = refl
 all_in_range (x ∷ xs) = ap (λ (l : List Static). x ∷ l) (all_in_range xs)
+
+four : (a b c d : List Static) → a ++ (b ++ (c ++ (d ++ []))) ≡ ((a ++ b) ++ c) ++ d
+four a b c d = simp (append_assoc, append-nil)
+
+-- the groups of all present values, in their order
+pub each_group : (s : Source) → in_range range.All (flat_map (statics_of s) (1 ∷ 10 ∷ 20 ∷ 30 ∷ []))
+    ≡ statics_of s 1 ++ statics_of s 10 ++ statics_of s 20 ++ statics_of s 30
+each_group s =
+    all_in_range (flat_map (statics_of s) (1 ∷ 10 ∷ 20 ∷ 30 ∷ []))
+    ∙ four (statics_of s 1) (statics_of s 10) (statics_of s 20) (statics_of s 30)
+
+-- present values are no rows of lanes
+given_by : (given : List ℕ) (header : ℕ) (statics : List Static) → given ≡ fold given_after given (map (present_of header) statics)
+given_by given header [] = refl
+given_by given header (x ∷ xs) = given_by given header xs
+
+pub given_presents : (given given' : List ℕ) (header skip : ℕ) (statics : List Static) → given' ≡ given → given' ≡ fold given_after given (presents header skip statics)
+given_presents given given' header skip statics same = same ∙ given_by given header (drop skip statics)

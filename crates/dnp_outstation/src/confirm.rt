@@ -13,14 +13,13 @@ ghost use Rattle.dnp_outstation.specs.Station.{state_of, actions_of};
 use crate::actions::Actions;
 use crate::answer::Answer;
 use crate::connection::deadline;
-use crate::execute::left;
+use crate::execute::{left, request_in};
+use crate::offer::parts::put_parts;
 use crate::offer::writer::Writer;
 use crate::outstation_core::OutstationCore;
-use crate::reading_stub::put_parts;
 use crate::rows::Rows;
 use crate::sending::respond_further;
 use crate::session::Session;
-use dnp_appfragment::read_request;
 use dnp_controls::Outputs;
 use dnp_eventbuf::{Lanes, StoreFault, Upto};
 use dnp_pointdb::PointDb;
@@ -57,7 +56,7 @@ fn write_next<L: Lanes, O: Outputs>(
     let Some(place) = last.left else {
         return Ok(None);
     };
-    let Ok(request) = read_request(session.request.octets()) else {
+    let Ok(request) = request_in(session.request.octets()) else {
         return Ok(None);
     };
     writer.restart(place);

@@ -1,9 +1,12 @@
 //! Executes requests, and writes what they are answered.
 
-ghost use Rattle.std.specs.Prelude.{◌≡◌, ◌==◌, true, Ok, ◌≢◌, ◌<◌, ◌&&◌, [], false, not, if◌then◌else◌, None, Some, IfOk, IfErr, IsErr, IsTrue, Err};
+ghost use Rattle.std.specs.Prelude.{◌≡◌, ◌==◌, ◌^◌, length, true, Ok, ◌≢◌, ◌<◌, ◌&&◌, [], false, not, if◌then◌else◌, None, Some, IfOk, IfErr, IsErr, IsTrue, Err};
 ghost use Rattle.std.specs.List.{list_any};
 ghost use Rattle.dnp_appfragment.specs.declared.function.Function.TheVariants as function;
-ghost use Rattle.dnp_appfragment.specs.Seen.{head};
+ghost use Rattle.dnp_appfragment.specs.Fragments.{IsRequest};
+ghost use Rattle.dnp_appfragment.specs.Meaning.{request_at};
+ghost use Rattle.dnp_appfragment.specs.Seen.{Gives, head};
+ghost use Rattle.dnp_appfragment.specs.Whole.{request};
 ghost use Rattle.dnp_eventbuf.specs.Stock.{rows_in};
 ghost use Rattle.dnp_outstation.specs.Answering.{executed_by};
 ghost use Rattle.dnp_appfragment.specs.Table.{function_octet};
@@ -16,11 +19,11 @@ ghost use Rattle.dnp_outstation.specs.Content.{content_of, bits_of, clears_resta
 
 use crate::answer::Answer;
 use crate::indications::last_in;
+use crate::offer::inside::are_inside;
+use crate::offer::parts::put_parts;
 use crate::offer::place::Place;
 use crate::offer::writer::Writer;
-use crate::reading_stub::put_parts;
-use crate::wanting::are_inside;
-use dnp_appfragment::{AppFault, Function, Header, Headers, Range, read_request};
+use dnp_appfragment::{AppFault, Function, Header, Headers, Range, Request, read_request};
 use dnp_controls::Outputs;
 use dnp_eventbuf::{Lanes, StoreFault};
 use dnp_pointdb::PointDb;
@@ -32,6 +35,18 @@ const FIRST_PLACE: Place = Place {
     count: 0,
     given: [0; 9],
 };
+
+/// The request that the octets are, with fewer headers than a number can count.
+#[tactic(auto, using(crate::proofs::FewHeaders::few_headers))]
+pub(crate) fn request_in(octets: &[u8]) -> Result<Request<'_>, AppFault>
+    ensures value { Gives request result (request_at octets.now) }
+    ensures found { IfOk result (λ r. IsRequest octets.now (request r)) }
+    ensures few { IfOk result (λ r. length r.headers.headers < 2 ^ 64) }
+{
+    let _len = octets.len();
+    let request = read_request(octets)?;
+    Ok(request)
+}
 
 /// The bit that tells of a request that can't be read.
 fn bits_of(fault: AppFault) -> u8
@@ -128,7 +143,8 @@ fn read<L: Lanes, O: Outputs>(
     restart: bool,
     headers: &Headers<'_>,
 ) -> Result<Answer, StoreFault>
-    requires { writer.old ≡ empty_from first_place }
+    requires empty { writer.old ≡ empty_from first_place }
+    requires few { length headers.now.headers < 2 ^ 64 }
     ensures held { L.honest lanes.new → L.honest lanes.old }
     ensures beside { L.honest lanes.new → L.beside lanes.new ≡ L.beside lanes.old }
     ensures same { L.honest lanes.new → L.contents lanes.new ≡ L.contents lanes.old }
@@ -204,7 +220,7 @@ pub(crate) fn execute<L: Lanes, O: Outputs>(
     ensures reads { IsErr result → function_in octets.now ≡ function_octet function.Read }
 {
     writer.restart(FIRST_PLACE);
-    let request = match read_request(octets) {
+    let request = match request_in(octets) {
         Ok(request) => request,
         Err(fault) => return Ok(plain(bits_of(fault), restart, last_in(lanes))),
     };

@@ -15,14 +15,12 @@ mod kept;
 mod offer;
 mod outstation;
 mod outstation_core;
-mod reading_stub;
 mod receive;
 mod request;
 mod rows;
 mod sending;
 mod sequence;
 mod session;
-mod wanting;
 
 pub use actions::Actions;
 pub use fault::Fault;

@@ -1,12 +1,12 @@
 //! Present values that a READ gives.
 
-ghost use Rattle.std.specs.Prelude.{◌≡◌, ◌≤◌, ◌<◌, ◌+◌, ◌-◌, ◌^◌, ℕ, ◌&&◌, ◌∷◌, [], nat_le, nat_lt, IsTrue, length, map, All};
+ghost use Rattle.std.specs.Prelude.{◌≡◌, ◌≤◌, ◌<◌, ◌++◌, ◌+◌, ◌-◌, ◌^◌, ℕ, ◌&&◌, ◌∷◌, [], nat_le, nat_lt, IsTrue, length, map, fold, List, All};
 ghost use Rattle.std.specs.List.{flat_map};
 ghost use Rattle.dnp_appfragment.specs.Table.{is_response};
 ghost use Rattle.dnp_appfragment.specs.Written.{FitsPoint};
 ghost use Rattle.dnp_pointdb.specs.Events.{row_of};
 ghost use Rattle.dnp_pointdb.specs.Sound.{IsSoundPoint, IsSoundBlock, AreSound};
-ghost use Rattle.dnp_outstation.specs.Items.{present_of, static_at, is_within, in_range, statics_from, statics_in, output_row, outputs_from, statics_of, Source};
+ghost use Rattle.dnp_outstation.specs.Items.{present_of, static_at, is_within, in_range, statics_from, statics_in, output_row, outputs_from, statics_of, Source, Static, given_after};
 ghost use Rattle.dnp_outstation.specs.Putting.{Puts, presents, group_of};
 
 use crate::offer::writer::Writer;
@@ -100,6 +100,7 @@ impl Writer {
         requires sound { All (IsSoundPoint kind) points.now }
         ensures written { Puts self.old (map (present_of header) (statics_from (group_of kind) block kind first points.now)) result self.new }
         ensures response { self.new.builder.function ≡ self.old.builder.function }
+        ensures given { self.new.place.given ≡ self.old.place.given }
     {
         let group = group_of(kind);
         let mut index = first;
@@ -126,6 +127,7 @@ impl Writer {
         ensures written { Puts self.old (presents ask.header skip.old (in_range ask.range (statics_from (group_of kind) number kind block.now.base block.now.points))) result self.new }
         ensures skipped { skip.new ≡ skip.old - length (in_range ask.range (statics_from (group_of kind) number kind block.now.base block.now.points)) }
         ensures response { self.new.builder.function ≡ self.old.builder.function }
+        ensures given { self.new.place.given ≡ self.old.place.given }
     {
         let points = block.points.as_slice();
         let (from, to) = places(ask.range, block.base, points.len());
@@ -143,6 +145,7 @@ impl Writer {
         ensures written { Puts self.old (presents ask.header skip.old (in_range ask.range (statics_in (group_of kind) kind 0 blocks.now))) result self.new }
         ensures skipped { IsTrue result → skip.new ≡ skip.old - length (in_range ask.range (statics_in (group_of kind) kind 0 blocks.now)) }
         ensures response { self.new.builder.function ≡ self.old.builder.function }
+        ensures given { self.new.place.given ≡ self.old.place.given }
     {
         for (number, block) in blocks.iter().enumerate() {
             if !self.put_block(ask, kind, number, block, skip) {
@@ -166,6 +169,7 @@ impl Writer {
         requires narrow { end ≤ 2 ^ 16 }
         ensures written { Puts self.old (map (present_of header) (outputs_from (O.panel outputs.now).status first (end - first))) result self.new }
         ensures response { self.new.builder.function ≡ self.old.builder.function }
+        ensures given { self.new.place.given ≡ self.old.place.given }
     {
         for index in first..end {
             let index = index as u16;
@@ -184,6 +188,7 @@ impl Writer {
         ensures written { Puts self.old (presents ask.header skip.old (in_range ask.range (outputs_from (O.panel outputs.now).status 0 (O.panel outputs.now).outputs))) result self.new }
         ensures skipped { skip.new ≡ skip.old - length (in_range ask.range (outputs_from (O.panel outputs.now).status 0 (O.panel outputs.now).outputs)) }
         ensures response { self.new.builder.function ≡ self.old.builder.function }
+        ensures given { self.new.place.given ≡ self.old.place.given }
     {
         let (from, to) = places(ask.range, 0, usize::from(outputs.outputs()));
         let passed = (*skip).min(to - from);
@@ -206,6 +211,7 @@ impl Writer {
         ensures skipped { (s : Source) → s.points ≡ points.now → s.panel ≡ O.panel outputs.now
             → IsTrue result → skip.new ≡ skip.old - length (in_range ask.range (statics_of s group)) }
         ensures response { self.new.builder.function ≡ self.old.builder.function }
+        ensures given { self.new.place.given ≡ self.old.place.given }
     {
         match group {
             1 => self.put_blocks(ask, Kind::Binary, points.blocks(Kind::Binary), skip),
@@ -218,7 +224,7 @@ impl Writer {
 
     /// Puts the present values of groups that the header asks for but for the first `skip`, as far as
     /// they fit; answers whether all do. What is still to be skipped is left in `skip`.
-    pub(crate) fn put_groups<O: Outputs>(
+    fn put_groups<O: Outputs>(
         &mut self,
         ask: Ask,
         groups: &[u8],
@@ -230,6 +236,7 @@ impl Writer {
         ensures written { (s : Source) → s.points ≡ points.now → s.panel ≡ O.panel outputs.now
             → Puts self.old (presents ask.header skip.old (in_range ask.range (flat_map (statics_of s) groups.now))) result self.new }
         ensures response { self.new.builder.function ≡ self.old.builder.function }
+        ensures given { self.new.place.given ≡ self.old.place.given }
     {
         for group in groups {
             if !self.put_group(ask, *group, points, outputs, skip) {
@@ -237,5 +244,49 @@ impl Writer {
             }
         }
         true
+    }
+    /// Puts the present values of a group in a range but for the first so many, as far as they fit;
+    /// answers whether all do.
+    #[tactic(auto, using(crate::proofs::OfferPresent::given_presents))]
+    pub(crate) fn put_one_group<O: Outputs>(
+        &mut self,
+        ask: Ask,
+        group: u8,
+        points: &PointDb,
+        outputs: &O,
+        given: u32,
+    ) -> bool
+        requires { IsTrue (is_response self.old.builder.function) }
+        ensures written { (s : Source) → s.points ≡ points.now → s.panel ≡ O.panel outputs.now
+            → Puts self.old (presents ask.header given (in_range ask.range (statics_of s group))) result self.new }
+        ensures response { self.new.builder.function ≡ self.old.builder.function }
+        ensures given { (statics : List Static) → self.new.place.given ≡ fold given_after self.old.place.given (presents ask.header given statics) }
+    {
+        let mut skip = given as usize;
+        self.put_group(ask, group, points, outputs, &mut skip)
+    }
+
+    /// Puts the present values of all groups but for the first so many, as far as they fit; answers
+    /// whether all do.
+    #[tactic(auto, using(crate::proofs::OfferPresent::given_presents))]
+    pub(crate) fn put_each_group<O: Outputs>(
+        &mut self,
+        header: usize,
+        points: &PointDb,
+        outputs: &O,
+        given: u32,
+    ) -> bool
+        requires { IsTrue (is_response self.old.builder.function) }
+        ensures written { (s : Source) → s.points ≡ points.now → s.panel ≡ O.panel outputs.now
+            → Puts self.old (presents header given (statics_of s 1 ++ statics_of s 10 ++ statics_of s 20 ++ statics_of s 30)) result self.new }
+        ensures response { self.new.builder.function ≡ self.old.builder.function }
+        ensures given { (statics : List Static) → self.new.place.given ≡ fold given_after self.old.place.given (presents header given statics) }
+    {
+        let ask = Ask {
+            header,
+            range: Range::All,
+        };
+        let mut skip = given as usize;
+        self.put_groups(ask, &[1, 10, 20, 30], points, outputs, &mut skip)
     }
 }

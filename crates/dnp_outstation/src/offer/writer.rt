@@ -4,7 +4,7 @@ ghost use Rattle.std.specs.Prelude.{◌≡◌, ◌<◌, false, true, IsTrue};
 ghost use Rattle.dnp_objects.specs.Events.{IsEvent};
 ghost use Rattle.dnp_appfragment.specs.Table.{is_response};
 ghost use Rattle.dnp_appfragment.specs.Written.{FitsPoint};
-ghost use Rattle.dnp_outstation.specs.Items.{event_of, present_of, passed, place_after};
+ghost use Rattle.dnp_outstation.specs.Items.{first_place, event_of, present_of, passed, place_after};
 ghost use Rattle.dnp_outstation.specs.Filling.{put, fits, ended, empty_from, is_same_run};
 
 use crate::offer::place::Place;
@@ -77,16 +77,31 @@ impl Place {
 }
 
 impl Writer {
-    /// An empty fragment of a response, for a READ that has come to this place.
-    pub(crate) fn from(place: Place) -> Writer
-        ensures { result ≡ empty_from place }
+    /// An empty fragment of a response, for a READ that begins.
+    pub(crate) fn new() -> Writer
+        ensures { result ≡ empty_from first_place }
     {
         Writer {
             builder: Builder::new(Function::Response, true),
             run: Run::NoRun,
-            place,
+            place: Place {
+                header: 0,
+                count: 0,
+                given: [0; 9],
+            },
             upto: [0; 9],
         }
+    }
+
+    /// Starts over, with an empty fragment for a READ that has come to this place: so that one writer
+    /// serves for many fragments.
+    pub(crate) fn restart(&mut self, place: Place)
+        ensures { self.new ≡ empty_from place }
+    {
+        self.builder.restart(Function::Response, true);
+        self.run = Run::NoRun;
+        self.place = place;
+        self.upto = [0; 9];
     }
 
     /// Puts a row of a lane, if it fits; answers whether it does.
@@ -121,6 +136,7 @@ impl Writer {
         ensures room { result ≡ fits (put self.old (present_of header (record { group = group; block = block; row = row.now }))) }
         ensures full { result ≡ false → ended false self.new ≡ ended false self.old }
         ensures response { self.new.builder.function ≡ self.old.builder.function }
+        ensures given { self.new.place.given ≡ self.old.place.given }
     {
         if !self.run.is_block(header, group, block) {
             self.builder.break_run();

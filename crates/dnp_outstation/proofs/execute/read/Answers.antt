@@ -13,6 +13,6 @@ returns-clause-executed g c = λ honest s points_is restart_is lanes_is.
     let are : true ≡ c.are_inside.result = search rules in
     let inside : true ≡ list_all (is_inside source) c.args.headers.now.headers =
     are ∙ c.are_inside.ensures source refl refl ∙ ap (λ (hs : List Head). list_all (is_inside source) hs) c.after.ensures.headers in
-    let written = rw (c.last_in-stood.ensures.same, c.after-2.ensures.headers) at (c.in_ok-is_last.ensures.offered honest first_place c.requires) in
+    let written = rw (c.last_in-stood.ensures.same, c.after-2.ensures.headers) at (c.in_ok-is_last.ensures.offered honest first_place c.requires.empty) in
     read_answered s source c.args.headers.now.headers c.last_in-stood.result c.in_ok-is_last.is_last c.put_parts.new.writer a points_is lanes_is inside
     (search rules) written (search rules)

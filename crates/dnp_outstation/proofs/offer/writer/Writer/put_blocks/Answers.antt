@@ -41,4 +41,5 @@ loop-number-preserved c =
           ∙ l.invariant.written more;
       skipped = sym (block_skipped l.skip skip' r kind l.number block blocks (search rules) c.index-blocks-number.is c.put_block.ensures.skipped) ∙ l.invariant.skipped;
       response = c.put_block.ensures.response ∙ l.invariant.response;
+      given = c.put_block.ensures.given ∙ l.invariant.given;
     }

@@ -12,4 +12,5 @@ invariant-loop-number l = record {
   skipped : l.skip - length (in_range l.ask.range (statics_in (group_of l.kind) l.kind l.number (drop l.number l.blocks)))
       ≡ l.fn.skip - length (in_range l.ask.range (statics_in (group_of l.kind) l.kind 0 l.blocks));
   response : l.self.builder.function ≡ l.fn.self.builder.function;
+  given : l.self.place.given ≡ l.fn.self.place.given;
 }

@@ -41,4 +41,5 @@ loop-group-preserved g c =
           ∙ ap (λ (gs : List ℕ). fill l.self (presents header l.skip (in_range r (flat_map (statics_of s) gs)) ++ more)) (sym (drop_more groups l.group-index 0 (search rules)))
           ∙ l.invariant.written s points panel more;
       response = c.put_group.ensures.response ∙ l.invariant.response;
+      given = c.put_group.ensures.given ∙ l.invariant.given;
     }

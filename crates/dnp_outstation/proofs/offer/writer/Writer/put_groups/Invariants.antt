@@ -12,4 +12,5 @@ invariant-loop-group g l = record {
       → fill l.self (presents l.ask.header l.skip (in_range l.ask.range (flat_map (statics_of s) (drop l.group-index l.groups))) ++ more)
       ≡ fill l.fn.self (presents l.ask.header l.fn.skip (in_range l.ask.range (flat_map (statics_of s) l.groups)) ++ more);
   response : l.self.builder.function ≡ l.fn.self.builder.function;
+  given : l.self.place.given ≡ l.fn.self.place.given;
 }

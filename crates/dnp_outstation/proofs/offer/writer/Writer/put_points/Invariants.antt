@@ -11,4 +11,5 @@ invariant-loop-point l = record {
   written : (more : List Item) → fill l.self (map (present_of l.header) (statics_from (group_of l.kind) l.block l.kind l.index (drop l.point-index l.points)) ++ more)
       ≡ fill l.fn.self (map (present_of l.header) (statics_from (group_of l.kind) l.block l.kind l.fn.first l.points) ++ more);
   response : l.self.builder.function ≡ l.fn.self.builder.function;
+  given : l.self.place.given ≡ l.fn.self.place.given;
 }

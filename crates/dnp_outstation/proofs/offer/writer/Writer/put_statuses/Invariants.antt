@@ -9,4 +9,5 @@ invariant-loop-index g l = record {
   written : (more : List Item) → fill l.self (map (present_of l.header) (outputs_from (g.O.Outputs.panel l.outputs).status l.index (l.end - l.index)) ++ more)
       ≡ fill l.fn.self (map (present_of l.header) (outputs_from (g.O.Outputs.panel l.outputs).status l.first (l.end - l.first)) ++ more);
   response : l.self.builder.function ≡ l.fn.self.builder.function;
+  given : l.self.place.given ≡ l.fn.self.place.given;
 }
