@@ -1,0 +1,101 @@
+-- Rows of lanes that a READ gives.
+use Rattle.std.proofs.Common.{◌≡◌, ℕ, ◌<◌, ◌≤◌, suc, zero, Bool, true, false, not, ◌&&◌, cond, List, [], ◌∷◌, ◌++◌, length, take, filter, map, max, get_or, nat_lt, nat_le, refl, ap, sym, ◌∙◌, arith, Option, None, Some, IfSome, ◌+◌}
+use Rattle.std.specs.List.{AllPairs}
+use Rattle.std.proofs.lemmas.Bool.Decides.{nat_tests}
+use Rattle.std.proofs.lemmas.List.Kept.{AllPairs-filter}
+use Rattle.std.proofs.lemmas.List.{take_all}
+use Rattle.std.proofs.lemmas.List.Filters.{length-filter_both}
+use Rattle.dnp_objects.specs.declared.row.Row.{Row}
+use Rattle.dnp_eventbuf.specs.declared.numbered.Numbered.{Numbered}
+use Rattle.dnp_eventbuf.specs.Stock.{Stock, LaneState, lane_at, no_lane, lane_rows, rows_in, row_of, offered, without}
+use Rattle.dnp_eventbuf.specs.Sound.{IsSound}
+use Rattle.dnp_outstation.specs.Items.{at_most, rows_left}
+use Rattle.dnp_outstation.specs.Filling.{after_release, over_of}
+
+-- a lane's length is room for all of its rows that pass a test
+pub take_filter : (p : Numbered → Bool) (rows : List Numbered) → take (length rows) (filter p rows) ≡ filter p rows
+take_filter p rows = take_all (length rows) (filter p rows) (let both = length-filter_both p (λ x. not (p x)) (λ x. refl) rows in omega arith)
+
+-- where lanes hold no row none is offered
+no_rows : (rows : List Numbered) (others : List Row) → map row_of rows ++ others ≡ [] → (rows ≡ []) × (others ≡ [])
+no_rows [] others none = (refl, none)
+no_rows (x ∷ xs) others none = absurd (cc)
+
+empty_at : (lanes : List LaneState) (number : ℕ) → lane_rows lanes ≡ [] → (get_or lanes number no_lane).rows ≡ []
+empty_at [] zero none = refl
+empty_at [] (suc number) none = refl
+empty_at (lane ∷ lanes) zero none = (no_rows lane.rows (lane_rows lanes) none).0
+empty_at (lane ∷ lanes) (suc number) none = empty_at lanes number (no_rows lane.rows (lane_rows lanes) none).1
+
+take_none : (n : ℕ) → take n (let none : List Numbered = [] in none) ≡ []
+take_none zero = refl
+take_none (suc n) = refl
+
+pub nothing_offered : (s : Stock) (number after most : ℕ) → rows_in s ≡ [] → offered s number after most ≡ []
+nothing_offered s number after most none =
+    ap (λ (rows : List Numbered). take most (filter (λ x. nat_lt after x.id) rows)) (empty_at s.lanes number none) ∙ take_none most
+
+-- ---- rows that stood in the lanes
+
+abbrev pub stood_at : ℕ → Numbered → Bool
+stood_at stood x = nat_le x.id stood
+
+abbrev Rises : List Numbered → Type 0
+Rises rows = AllPairs (λ (x y : Numbered). x.id < y.id) rows
+
+came_after : (id stood : ℕ) → stood < id → nat_le id stood ≡ false
+came_after id stood after = grind (arith, nat_tests)
+
+-- none of the rows stood where all have ids over it
+none_stood : (stood : ℕ) (rows : List Numbered) → ((k : ℕ) (d : Numbered) → k < length rows → stood < (get_or rows k d).id) → filter (stood_at stood) rows ≡ []
+none_stood stood [] after = refl
+none_stood stood (x ∷ xs) after =
+    ap (λ (b : Bool). cond b (x ∷ filter (stood_at stood) xs) (filter (stood_at stood) xs)) (came_after x.id stood (after 0 x (omega arith)))
+    ∙ none_stood stood xs (λ k d less. after (suc k) d (omega arith))
+
+-- where ids rise, the first so many of those that stood are those that stood of the first so many
+cut_stood : (stood n : ℕ) (rows : List Numbered) → Rises rows → filter (stood_at stood) (take n rows) ≡ take n (filter (stood_at stood) rows)
+cut_stood stood zero [] rising = refl
+cut_stood stood (suc n) [] rising = refl
+cut_stood stood zero (x ∷ xs) rising = refl
+cut_stood stood (suc n) (x ∷ xs) rising =
+    by_test (nat_le x.id stood) refl (cut_stood stood n xs (λ i j d low high. rising (suc i) (suc j) d (omega arith) (omega arith)))
+  where
+    by_test : (b : Bool) → nat_le x.id stood ≡ b → filter (stood_at stood) (take n xs) ≡ take n (filter (stood_at stood) xs)
+        → cond b (x ∷ filter (stood_at stood) (take n xs)) (filter (stood_at stood) (take n xs)) ≡ take (suc n) (cond b (x ∷ filter (stood_at stood) xs) (filter (stood_at stood) xs))
+    by_test true is rest = ap (λ (l : List Numbered). x ∷ l) rest
+    by_test false is rest =
+        let none : filter (stood_at stood) xs ≡ [] = none_stood stood xs (λ k d less. let higher = rising 0 (suc k) d (omega arith) (omega arith) in grind (arith, nat_tests)) in
+        rest ∙ ap (take n) none ∙ take_none n ∙ sym (ap (take (suc n)) none)
+
+-- ---- rows that are left after a release
+
+pub left_after : (s : Stock) (upto : List ℕ) (number after over : ℕ)
+    → ((most : ℕ) → offered (without s upto) number after most ≡ offered s number over most)
+    → filter (λ x. nat_lt after x.id) (lane_at (without s upto) number).rows ≡ filter (λ x. nat_lt over x.id) (lane_at s number).rows
+left_after s upto number after over law =
+    let old : List Numbered = filter (λ x. nat_lt over x.id) (lane_at s number).rows in
+    let new : List Numbered = filter (λ x. nat_lt after x.id) (lane_at (without s upto) number).rows in
+    sym (take_all (length old + length new) new (omega arith)) ∙ law (length old + length new) ∙ take_all (length old + length new) old (omega arith)
+
+-- the rows over an id that stood, at most so many, are those that a header may still give
+pub rows_given : (s : Stock) (released : Option (List ℕ)) (stood : ℕ) (given : List ℕ) (number : ℕ) (most : Option ℕ) → IsSound s → number < 9
+    → IfSome released (λ upto. length upto ≡ 9)
+    → ((t : Stock) (upto : List ℕ) (n after limit : ℕ) → length upto ≡ length t.lanes → n < length t.lanes → offered (without t upto) n after limit ≡ offered t n (max after (get_or upto n 0)) limit)
+    → filter (stood_at stood) (at_most most (filter (λ x. nat_lt (over_of given released number) x.id) (lane_at s number).rows))
+    ≡ at_most most (rows_left (after_release s released) stood given number)
+rows_given s released stood given number most sound low nine law =
+    by_limit most ∙ ap (λ (rows : List Numbered). at_most most (filter (stood_at stood) rows)) (by_release released nine)
+  where
+    left : List Numbered
+    left = filter (λ x. nat_lt (over_of given released number) x.id) (lane_at s number).rows
+
+    by_limit : (m : Option ℕ) → filter (stood_at stood) (at_most m left) ≡ at_most m (filter (stood_at stood) left)
+    by_limit None = refl
+    by_limit (Some n) = cut_stood stood n left (AllPairs-filter (λ (x y : Numbered). x.id < y.id) (λ x. nat_lt (over_of given released number) x.id) (lane_at s number).rows (sound.each number low).rising)
+
+    by_release : (r : Option (List ℕ)) → IfSome r (λ upto. length upto ≡ 9)
+        → filter (λ x. nat_lt (over_of given r number) x.id) (lane_at s number).rows ≡ filter (λ x. nat_lt (get_or given number 0) x.id) (lane_at (after_release s r) number).rows
+    by_release None nine = refl
+    by_release (Some upto) nine =
+        sym (left_after s upto number (get_or given number 0) (over_of given (Some upto) number) (λ limit. law s upto number (get_or given number 0) limit (nine ∙ sym sound.nine) (omega (arith, sound.nine))))

@@ -1,0 +1,16 @@
+//! What a fragment of a response says beside its headers.
+
+use crate::offer::place::Place;
+
+/// What a fragment of a response says, or is sent with, beside what stands in its writer.
+#[derive(Clone, Copy)]
+pub(crate) struct Answer {
+    /// The bits of the second octet of indications that tell of the request.
+    pub bits: u8,
+    /// Whether a restart is still to be told of.
+    pub restart: bool,
+    /// The last id in the lanes as the request was first answered.
+    pub stood: u64,
+    /// Where the next fragment begins, if there is one.
+    pub left: Option<Place>,
+}

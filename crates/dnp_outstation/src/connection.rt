@@ -1,0 +1,127 @@
+//! What a connection remembers of what came and of what was sent.
+
+ghost use Rattle.std.specs.Prelude.{◌≡◌, ◌≤◌, length};
+ghost use Rattle.dnp_controls.specs.Selecting.{deadline};
+ghost use Rattle.dnp_outstation.specs.Answering.{KeepsWhole};
+ghost use Rattle.dnp_outstation.specs.State.{new_session, holds_read};
+ghost use Rattle.dnp_outstation.specs.Connection.{is_last_request, is_number, awaited_number, confirmed, new_request, held};
+
+use crate::kept::Kept;
+use crate::sequence::SequenceNumber;
+use crate::session::{LastRequest, Reply, Session};
+use dnp_appfragment::Function;
+use dnp_controls::Selects;
+
+/// The moment at which a timer ends that starts now and runs so many milliseconds.
+pub(crate) fn deadline(now: u64, milliseconds: u64) -> u64
+    ensures { result ≡ deadline now milliseconds }
+{
+    now.saturating_add(milliseconds)
+}
+
+impl Session {
+    /// As a connection begins.
+    pub fn new() -> Session
+        ensures { result ≡ new_session }
+    {
+        Session {
+            request: Kept::new(),
+            response: Kept::new(),
+            unsolicited_response: Kept::new(),
+            last: None,
+            awaited: None,
+            unsolicited: None,
+            next: SequenceNumber::ZERO,
+            selects: Selects::new(),
+        }
+    }
+
+    /// Forgets all.
+    pub fn reset(&mut self)
+        ensures { self.new ≡ new_session }
+    {
+        self.request.clear();
+        self.response.clear();
+        self.unsolicited_response.clear();
+        self.last = None;
+        self.awaited = None;
+        self.unsolicited = None;
+        self.next = SequenceNumber::ZERO;
+        self.selects.forget();
+    }
+
+    /// Whether these are the octets of the last request.
+    pub fn is_last_request(&self, octets: &[u8]) -> bool
+        ensures { result ≡ is_last_request self.now octets.now }
+    {
+        self.last.is_some() && self.request.is(octets)
+    }
+
+    /// Whether the fragment of this number awaits its confirm, of the unsolicited responses where `uns` is
+    /// set.
+    pub fn is_awaited(&self, uns: bool, seq: u8) -> bool
+        ensures { result ≡ is_number (awaited_number self.now uns) seq }
+    {
+        if uns {
+            match &self.unsolicited {
+                None => false,
+                Some(response) => response.seq.number() == seq,
+            }
+        } else {
+            match &self.awaited {
+                None => false,
+                Some(fragment) => fragment.seq.number() == seq,
+            }
+        }
+    }
+
+    /// Whether a READ waits.
+    pub fn holds_read(&self) -> bool
+        ensures { result ≡ holds_read self.now.last }
+    {
+        match &self.last {
+            None => false,
+            Some(last) => match last.reply {
+                Reply::Held => true,
+                Reply::Silent | Reply::First(_) | Reply::Further => false,
+            },
+        }
+    }
+
+    /// The awaited fragment is confirmed.
+    pub fn confirm(&mut self)
+        ensures value { self.new ≡ confirmed self.old }
+        ensures keeps { KeepsWhole self.old → KeepsWhole self.new }
+    {
+        self.awaited = None;
+        if let Some(last) = &mut self.last {
+            if let Reply::First(first) = &mut last.reply {
+                first.is_awaited = false;
+            }
+        }
+    }
+
+    /// Another request than the last one came.
+    pub fn new_request(&mut self, octets: &[u8])
+        requires some { 2 ≤ length octets.now }
+        requires few { length octets.now ≤ 2048 }
+        ensures { self.new ≡ new_request self.old octets.now }
+    {
+        self.request.keep(octets);
+        self.awaited = None;
+        if octets[1] != Function::Operate.octet() {
+            self.selects.forget();
+        }
+    }
+
+    /// The last request is a READ that waits.
+    pub fn hold(&mut self)
+        ensures { self.new ≡ held self.old }
+    {
+        self.last = Some(LastRequest {
+            reply: Reply::Held,
+            stood: 0,
+            left: None,
+        });
+    }
+}

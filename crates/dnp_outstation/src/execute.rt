@@ -1,0 +1,240 @@
+//! Executes requests, and writes what they are answered.
+
+ghost use Rattle.std.specs.Prelude.{◌≡◌, ◌==◌, ◌^◌, length, true, Ok, ◌≢◌, ◌<◌, ◌&&◌, [], false, not, if◌then◌else◌, None, Some, IfOk, IfErr, IsErr, IsTrue, Err};
+ghost use Rattle.std.specs.List.{list_any};
+ghost use Rattle.dnp_appfragment.specs.declared.function.Function.TheVariants as function;
+ghost use Rattle.dnp_appfragment.specs.Fragments.{IsRequest};
+ghost use Rattle.dnp_appfragment.specs.Meaning.{request_at};
+ghost use Rattle.dnp_appfragment.specs.Seen.{Gives, head};
+ghost use Rattle.dnp_appfragment.specs.Whole.{request};
+ghost use Rattle.dnp_eventbuf.specs.Stock.{rows_in};
+ghost use Rattle.dnp_outstation.specs.Answering.{executed_by};
+ghost use Rattle.dnp_appfragment.specs.Table.{function_octet};
+ghost use Rattle.dnp_outstation.specs.Connection.{function_in};
+ghost use Rattle.dnp_outstation.specs.Items.{last_in as last_in_stock, first_place};
+ghost use Rattle.dnp_outstation.specs.Filling.{empty_from};
+ghost use Rattle.dnp_outstation.specs.declared.offer.writer.Writer.{Writer as WriterValue};
+ghost use Rattle.dnp_outstation.specs.State.{State};
+ghost use Rattle.dnp_outstation.specs.Content.{content_of, bits_of, clears_restart, header_bits, write_bits, read_executed, write_executed};
+
+use crate::answer::Answer;
+use crate::indications::last_in;
+use crate::offer::inside::are_inside;
+use crate::offer::parts::put_parts;
+use crate::offer::place::Place;
+use crate::offer::writer::Writer;
+use dnp_appfragment::{AppFault, Function, Header, Headers, Range, Request, read_request};
+use dnp_controls::Outputs;
+use dnp_eventbuf::{Lanes, StoreFault};
+use dnp_pointdb::PointDb;
+use std::alloc::Global;
+
+/// Where a READ begins.
+const FIRST_PLACE: Place = Place {
+    header: 0,
+    count: 0,
+    given: [0; 9],
+};
+
+/// The request that the octets are, with fewer headers than a number can count.
+#[tactic(auto, using(crate::proofs::FewHeaders::few_headers))]
+pub(crate) fn request_in(octets: &[u8]) -> Result<Request<'_>, AppFault>
+    ensures value { Gives request result (request_at octets.now) }
+    ensures found { IfOk result (λ r. IsRequest octets.now (request r)) }
+    ensures few { IfOk result (λ r. length r.headers.headers < 2 ^ 64) }
+{
+    let _len = octets.len();
+    let request = read_request(octets)?;
+    Ok(request)
+}
+
+/// The bit that tells of a request that can't be read.
+fn bits_of(fault: AppFault) -> u8
+    ensures value { result ≡ bits_of fault }
+    ensures small { result < 8 }
+{
+    match fault {
+        AppFault::FunctionUnknown => 1,
+        AppFault::ObjectUnknown => 2,
+        AppFault::Short
+        | AppFault::HeaderCut
+        | AppFault::QualifierUnknown
+        | AppFault::RangeBackward
+        | AppFault::ObjectsCut => 4,
+    }
+}
+
+/// Whether a header of a WRITE sets DEVICE_RESTART, the indication of index 7, to 0.
+fn clears_restart(header: &Header<'_>) -> bool
+    ensures { result ≡ clears_restart (head header.now) }
+{
+    match (header.range, header.octets.first()) {
+        (
+            Range::Span {
+                first: 7,
+                last: 7,
+                ..
+            },
+            Some(octet),
+        ) => header.group == 80 && octet % 2 == 0,
+        _ => false,
+    }
+}
+
+/// The bit that a header of a WRITE is answered, or 0.
+fn header_bits(header: &Header<'_>) -> u8
+    ensures value { result ≡ header_bits (head header.now) }
+    ensures small { result < 8 }
+    ensures clears { result ≡ 0 → clears_restart (head header.now) ≡ true }
+{
+    if header.group != 80 {
+        2
+    } else if clears_restart(header) {
+        0
+    } else {
+        4
+    }
+}
+
+/// Whether DEVICE_RESTART is still set after a WRITE of these headers, or the bit that tells of the first one
+/// in error.
+fn restart_after(headers: Headers<'_>, restart: bool) -> Result<bool, u8>
+    ensures value { result ≡ (if write_bits headers.entry.headers == 0
+        then Ok (restart && not (list_any clears_restart headers.entry.headers)) else Err (write_bits headers.entry.headers)) }
+    ensures small { IfErr result (λ bits. bits < 8) }
+{
+    let mut restart = restart;
+    for header in headers {
+        let bits = header_bits(&header);
+        if bits != 0 {
+            return Err(bits);
+        }
+        restart = false;
+    }
+    Ok(restart)
+}
+
+/// An answer without objects.
+fn plain(bits: u8, restart: bool, stood: u64) -> Answer
+    ensures { result ≡ record { bits = bits; restart = restart; stood = stood; left = None } }
+{
+    Answer {
+        bits,
+        restart,
+        stood,
+        left: None,
+    }
+}
+
+/// Where the READ of which this fragment is a part goes on, if it does.
+pub(crate) fn left(is_last: bool, place: Place) -> Option<Place>
+    ensures { result ≡ (if is_last then None else Some place) }
+{
+    if is_last { None } else { Some(place) }
+}
+
+/// Executes a READ: writes the first fragment of its response, unless a range isn't inside the points.
+fn read<L: Lanes, O: Outputs>(
+    writer: &mut Writer,
+    alloc: Global,
+    points: &PointDb,
+    lanes: &mut L,
+    outputs: &O,
+    restart: bool,
+    headers: &Headers<'_>,
+) -> Result<Answer, StoreFault>
+    requires empty { writer.old ≡ empty_from first_place }
+    requires few { length headers.now.headers < 2 ^ 64 }
+    ensures held { L.honest lanes.new → L.honest lanes.old }
+    ensures beside { L.honest lanes.new → L.beside lanes.new ≡ L.beside lanes.old }
+    ensures same { L.honest lanes.new → L.contents lanes.new ≡ L.contents lanes.old }
+    ensures executed { L.honest lanes.new → IfOk result (λ a. (s : State) → s.core.points ≡ points.now → s.core.restart ≡ restart
+        → s.lanes ≡ L.contents lanes.old → read_executed s (O.panel outputs.now) headers.now.headers ≡ executed_by s writer.new a) }
+    ensures stood { L.honest lanes.new → IfOk result (λ a. a.stood ≡ last_in_stock (L.contents lanes.old)) }
+    ensures small { IfOk result (λ a. a.bits < 8) }
+    ensures response { writer.new.builder.function ≡ function.Response }
+    ensures device { result ≡ Err StoreFault.Device → IsTrue (L.is_stopped lanes.new) }
+    ensures runs_on { result ≢ Err StoreFault.Device → L.is_stopped lanes.new ≡ L.is_stopped lanes.old }
+    ensures memory { L.honest lanes.new → result ≡ Err StoreFault.Memory → L.asks_memory ≡ false → rows_in (L.contents lanes.old) ≢ [] }
+    ensures named { result ≢ Err StoreFault.Exhausted }
+{
+    let stood = last_in(lanes);
+    if !are_inside(points, outputs, headers.after(0)) {
+        return Ok(plain(4, restart, stood));
+    }
+    let is_last = put_parts(
+        writer,
+        alloc,
+        points,
+        lanes,
+        outputs,
+        &None,
+        stood,
+        headers.after(0),
+    )?;
+    Ok(Answer {
+        bits: 0,
+        restart,
+        stood,
+        left: left(is_last, writer.place),
+    })
+}
+
+/// Executes a WRITE, which has to be of DEVICE_RESTART alone.
+fn write<L: Lanes>(lanes: &mut L, restart: bool, headers: Headers<'_>) -> Answer
+    ensures same { lanes.new ≡ lanes.old }
+    ensures executed { (s : State) (w : WriterValue) → s.core.restart ≡ restart → w ≡ empty_from first_place
+        → write_executed s headers.entry.headers ≡ executed_by s w result }
+    ensures stood { L.honest lanes.new → result.stood ≡ last_in_stock (L.contents lanes.new) }
+    ensures small { result.bits < 8 }
+{
+    let stood = last_in(lanes);
+    match restart_after(headers, restart) {
+        Ok(restart) => plain(0, restart, stood),
+        Err(bits) => plain(bits, restart, stood),
+    }
+}
+
+/// Executes a request, and writes the first fragment of its response.
+pub(crate) fn execute<L: Lanes, O: Outputs>(
+    writer: &mut Writer,
+    alloc: Global,
+    points: &PointDb,
+    lanes: &mut L,
+    outputs: &O,
+    restart: bool,
+    octets: &[u8],
+) -> Result<Answer, StoreFault>
+    ensures held { L.honest lanes.new → L.honest lanes.old }
+    ensures beside { L.honest lanes.new → L.beside lanes.new ≡ L.beside lanes.old }
+    ensures same { L.honest lanes.new → L.contents lanes.new ≡ L.contents lanes.old }
+    ensures executed { L.honest lanes.new → IfOk result (λ a. (s : State) → s.core.points ≡ points.now → s.core.restart ≡ restart
+        → s.lanes ≡ L.contents lanes.old → content_of s (O.panel outputs.now) octets.now ≡ executed_by s writer.new a) }
+    ensures stood { L.honest lanes.new → IfOk result (λ a. a.stood ≡ last_in_stock (L.contents lanes.old)) }
+    ensures small { IfOk result (λ a. a.bits < 8) }
+    ensures response { writer.new.builder.function ≡ function.Response }
+    ensures device { result ≡ Err StoreFault.Device → IsTrue (L.is_stopped lanes.new) }
+    ensures runs_on { result ≢ Err StoreFault.Device → L.is_stopped lanes.new ≡ L.is_stopped lanes.old }
+    ensures memory { L.honest lanes.new → result ≡ Err StoreFault.Memory → L.asks_memory ≡ false → rows_in (L.contents lanes.old) ≢ [] }
+    ensures named { result ≢ Err StoreFault.Exhausted }
+    ensures reads { IsErr result → function_in octets.now ≡ function_octet function.Read }
+{
+    writer.restart(FIRST_PLACE);
+    let request = match request_in(octets) {
+        Ok(request) => request,
+        Err(fault) => return Ok(plain(bits_of(fault), restart, last_in(lanes))),
+    };
+    match request.function {
+        Function::Read => read(
+            writer,
+            alloc,
+            points,
+            lanes,
+            outputs,
+            restart,
+            &request.headers,
+        ),
+        Function::Write => Ok(write(lanes, restart, request.headers)),
+        _ => Ok(plain(1, restart, last_in(lanes))),
+    }
+}

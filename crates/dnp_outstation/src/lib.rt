@@ -1,0 +1,30 @@
+//! An outstation of DNP3 (IEEE Std 1815-2012, application layer): what it answers, and when.
+#![tactic(auto)]
+
+mod actions;
+mod answer;
+mod case;
+mod change;
+mod confirm;
+mod connection;
+mod execute;
+mod fault;
+mod fault_from;
+mod indications;
+mod kept;
+mod offer;
+mod outstation;
+mod outstation_core;
+mod receive;
+mod request;
+mod rows;
+mod sending;
+mod sequence;
+mod session;
+
+pub use actions::Actions;
+pub use fault::Fault;
+pub use kept::Fragment;
+pub use outstation::Outstation;
+pub use outstation_core::OutstationCore;
+pub use rows::Rows;

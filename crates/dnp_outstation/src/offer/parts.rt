@@ -1,0 +1,161 @@
+//! What the headers of a READ ask for is put into a fragment, one header after another.
+
+ghost use Rattle.std.specs.Prelude.{◌≡◌, ◌≢◌, ◌<◌, ◌+◌, ◌^◌, false, fold, map, length, IsTrue, IfOk, IfErr, Err, [], ℕ};
+ghost use Rattle.dnp_appfragment.specs.Seen.{head};
+ghost use Rattle.dnp_appfragment.specs.Table.{is_response};
+ghost use Rattle.dnp_eventbuf.specs.Stock.{rows_in};
+ghost use Rattle.dnp_outstation.specs.Items.{Source, part_of, part_after, part_items, parts_left, items_of, given_after};
+ghost use Rattle.dnp_outstation.specs.declared.offer.place.Place.{Place as PlaceValue};
+ghost use Rattle.dnp_outstation.specs.Filling.{after_release, empty_from, ended};
+ghost use Rattle.dnp_outstation.specs.Offer.{offered};
+ghost use Rattle.dnp_outstation.specs.Putting.{Puts};
+
+use crate::offer::place::Wanted;
+use crate::offer::present::Ask;
+use crate::offer::rows::{Bounds, less};
+use crate::offer::wanted::wanted;
+use crate::offer::writer::Writer;
+use dnp_appfragment::{Header, Headers};
+use dnp_controls::Outputs;
+use dnp_eventbuf::{Lanes, StoreFault, Upto};
+use dnp_pointdb::PointDb;
+use std::alloc::Global;
+
+/// What a READ is answered from beside the lanes: the points and outputs as they stand, the last id in
+/// the lanes when it was first answered, and what is released before the fragment is sent.
+#[derive(Clone, Copy)]
+pub struct Stand<'a, O> {
+    pub points: &'a PointDb,
+    pub outputs: &'a O,
+    pub stood: u64,
+    pub released: &'a Option<Upto>,
+}
+
+impl Writer {
+    /// Puts what a header of the READ asks for but for the first so many items, as far as they fit;
+    /// answers whether all do.
+    fn put_part<L: Lanes, O: Outputs>(
+        &mut self,
+        alloc: Global,
+        lanes: &mut L,
+        from: &Stand<'_, O>,
+        at: usize,
+        count: u32,
+        header: &Header<'_>,
+    ) -> Result<bool, StoreFault>
+        requires { IsTrue (is_response self.old.builder.function) }
+        ensures written { L.honest lanes.new → IfOk result (λ fit. (s : Source) → s.points ≡ from.now.points.now → s.panel ≡ O.panel from.now.outputs.now
+            → s.lanes ≡ after_release (L.contents lanes.old) from.now.released.now
+            → Puts self.old (part_items s from.now.stood self.old.place.given at (part_after count (part_of s (head header.now)))) fit self.new) }
+        ensures given { L.honest lanes.new → IfOk result (λ fit. (s : Source) → s.points ≡ from.now.points.now → s.panel ≡ O.panel from.now.outputs.now
+            → s.lanes ≡ after_release (L.contents lanes.old) from.now.released.now
+            → IsTrue fit → self.new.place.given ≡ fold given_after self.old.place.given (part_items s from.now.stood self.old.place.given at (part_after count (part_of s (head header.now))))) }
+        ensures response { self.new.builder.function ≡ self.old.builder.function }
+
+        ensures held { L.honest lanes.new → L.honest lanes.old }
+        ensures same { L.honest lanes.new → L.contents lanes.new ≡ L.contents lanes.old }
+        ensures beside { L.honest lanes.new → L.beside lanes.new ≡ L.beside lanes.old }
+        ensures stopped { IsTrue (L.is_stopped lanes.old) → IsTrue (L.is_stopped lanes.new) }
+        ensures device { result ≡ Err StoreFault.Device → IsTrue (L.is_stopped lanes.new) }
+        ensures runs_on { result ≢ Err StoreFault.Device → L.is_stopped lanes.new ≡ L.is_stopped lanes.old }
+        ensures memory { L.honest lanes.new → result ≡ Err StoreFault.Memory → L.asks_memory ≡ false → rows_in (L.contents lanes.new) ≢ [] }
+        ensures named { IfErr result (λ e. e ≢ StoreFault.Exhausted) }
+    {
+        match wanted(header) {
+            Wanted::Rows(mut part) => {
+                part.most = less(part.most, count as usize);
+                let given = self.place.given;
+                let bounds = Bounds {
+                    given: &given,
+                    stood: from.stood,
+                    released: from.released,
+                };
+                self.put_lanes(alloc, lanes, at, &part, &bounds)
+            }
+            Wanted::EachGroup => Ok(self.put_each_group(at, from.points, from.outputs, count)),
+            Wanted::OneGroup(group, range) => {
+                let ask = Ask { header: at, range };
+                Ok(self.put_one_group(ask, group, from.points, from.outputs, count))
+            }
+        }
+    }
+    /// Puts what these headers of the READ ask for, the first of which has this place in it, but for the
+    /// first so many items of that one, as far as they fit; answers whether all do.
+    fn put_headers<L: Lanes, O: Outputs>(
+        &mut self,
+        alloc: Global,
+        lanes: &mut L,
+        from: &Stand<'_, O>,
+        first: usize,
+        given: u32,
+        headers: Headers<'_>,
+    ) -> Result<bool, StoreFault>
+        requires response { IsTrue (is_response self.old.builder.function) }
+        requires few { first + length headers.headers < 2 ^ 64 }
+        ensures written { L.honest lanes.new → IfOk result (λ fit. (s : Source) → s.points ≡ from.now.points.now → s.panel ≡ O.panel from.now.outputs.now
+            → s.lanes ≡ after_release (L.contents lanes.old) from.now.released.now
+            → Puts self.old (items_of s from.now.stood self.old.place.given first (parts_left given (map (part_of s) headers.entry.headers))) fit self.new) }
+        ensures response { self.new.builder.function ≡ self.old.builder.function }
+
+        ensures held { L.honest lanes.new → L.honest lanes.old }
+        ensures same { L.honest lanes.new → L.contents lanes.new ≡ L.contents lanes.old }
+        ensures beside { L.honest lanes.new → L.beside lanes.new ≡ L.beside lanes.old }
+        ensures stopped { IsTrue (L.is_stopped lanes.old) → IsTrue (L.is_stopped lanes.new) }
+        ensures device { result ≡ Err StoreFault.Device → IsTrue (L.is_stopped lanes.new) }
+        ensures runs_on { result ≢ Err StoreFault.Device → L.is_stopped lanes.new ≡ L.is_stopped lanes.old }
+        ensures memory { L.honest lanes.new → result ≡ Err StoreFault.Memory → L.asks_memory ≡ false → rows_in (L.contents lanes.new) ≢ [] }
+        ensures named { IfErr result (λ e. e ≢ StoreFault.Exhausted) }
+    {
+        let mut at = first;
+        let mut count = given;
+        for header in headers {
+            if !self.put_part(alloc, lanes, from, at, count, &header)? {
+                return Ok(false);
+            }
+            at += 1;
+            count = 0;
+        }
+        Ok(true)
+    }
+}
+
+/// Puts into an empty fragment what a READ still asks for that has come to the fragment's place, as far
+/// as it fits; answers whether that is all. Only the lanes may be out of memory, and in memory not where
+/// they hold no row.
+pub(crate) fn put_parts<L: Lanes, O: Outputs>(
+    writer: &mut Writer,
+    alloc: Global,
+    points: &PointDb,
+    lanes: &mut L,
+    outputs: &O,
+    released: &Option<Upto>,
+    stood: u64,
+    headers: Headers<'_>,
+) -> Result<bool, StoreFault>
+    requires response { IsTrue (is_response writer.old.builder.function) }
+    requires few { length headers.headers < 2 ^ 64 }
+    ensures offered { L.honest lanes.new → IfOk result (λ is_last. (place : PlaceValue) → writer.old ≡ empty_from place → ended is_last writer.new
+        ≡ offered (record { points = points.now; panel = O.panel outputs.now; lanes = after_release (L.contents lanes.old) released.now }) stood place headers.entry.headers) }
+    ensures response { writer.new.builder.function ≡ writer.old.builder.function }
+
+    ensures held { L.honest lanes.new → L.honest lanes.old }
+    ensures same { L.honest lanes.new → L.contents lanes.new ≡ L.contents lanes.old }
+    ensures beside { L.honest lanes.new → L.beside lanes.new ≡ L.beside lanes.old }
+    ensures stopped { IsTrue (L.is_stopped lanes.old) → IsTrue (L.is_stopped lanes.new) }
+    ensures device { IfErr result (λ e. e ≡ StoreFault.Device → IsTrue (L.is_stopped lanes.new)) }
+    ensures runs_on { result ≢ Err StoreFault.Device → L.is_stopped lanes.new ≡ L.is_stopped lanes.old }
+    ensures memory { L.honest lanes.new → result ≡ Err StoreFault.Memory → L.asks_memory ≡ false → rows_in (L.contents lanes.old) ≢ [] }
+    ensures named { IfErr result (λ e. e ≢ StoreFault.Exhausted) }
+{
+    let from = Stand {
+        points,
+        outputs,
+        stood,
+        released,
+    };
+    let first = writer.place.header;
+    let given = writer.place.count;
+    let left = headers.after(first);
+    let is_last = writer.put_headers(alloc, lanes, &from, first, given, left)?;
+    Ok(is_last)
+}

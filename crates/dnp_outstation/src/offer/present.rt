@@ -1,0 +1,292 @@
+//! Present values that a READ gives.
+
+ghost use Rattle.std.specs.Prelude.{◌≡◌, ◌≤◌, ◌<◌, ◌++◌, ◌+◌, ◌-◌, ◌^◌, ℕ, ◌&&◌, ◌∷◌, [], nat_le, nat_lt, IsTrue, length, map, fold, List, All};
+ghost use Rattle.std.specs.List.{flat_map};
+ghost use Rattle.dnp_appfragment.specs.Table.{is_response};
+ghost use Rattle.dnp_appfragment.specs.Written.{FitsPoint};
+ghost use Rattle.dnp_pointdb.specs.Events.{row_of};
+ghost use Rattle.dnp_pointdb.specs.Sound.{IsSoundPoint, IsSoundBlock, AreSound};
+ghost use Rattle.dnp_outstation.specs.Items.{present_of, static_at, is_within, in_range, statics_from, statics_in, output_row, outputs_from, statics_of, Source, Static, given_after};
+ghost use Rattle.dnp_outstation.specs.Putting.{Puts, presents, group_of};
+
+use crate::offer::writer::Writer;
+use dnp_appfragment::Range;
+use dnp_controls::Outputs;
+use dnp_objects::{Kind, Row};
+use dnp_pointdb::laws::readings_fit_their_static_objects;
+use dnp_pointdb::{BlockState, PointDb, PointState};
+
+/// What a header of a READ asks for of present values: the header's place in the READ, and its range.
+#[derive(Clone, Copy, Debug)]
+pub struct Ask {
+    pub header: usize,
+    pub range: Range,
+}
+
+/// The group of the present values of a kind.
+fn group_of(kind: Kind) -> u8
+    ensures { result ≡ group_of kind }
+{
+    match kind {
+        Kind::Binary => 1,
+        Kind::Counter => 20,
+        Kind::Analog => 30,
+    }
+}
+
+/// Which of so many points in a row, the first with this index, a range names: those from the first
+/// place that is answered to before the second.
+fn places(range: Range, base: u16, len: usize) -> (usize, usize)
+    ensures ordered { result.0 ≤ result.1 }
+    ensures short { result.1 ≤ len }
+    ensures named { (place : ℕ) → place < len
+        → is_within range (base + place) ≡ (nat_le result.0 place && nat_lt place result.1) }
+{
+    match range {
+        Range::Span { first, last, .. } => {
+            let base = usize::from(base);
+            let from = usize::from(first).saturating_sub(base).min(len);
+            let to = (usize::from(last) + 1).saturating_sub(base).min(len);
+            (from, to.max(from))
+        }
+        Range::All | Range::Count { .. } | Range::Indexed { .. } => (0, len),
+    }
+}
+
+/// The row of a point's present value.
+fn row_of(kind: Kind, index: u16, point: &PointState) -> Row
+    requires { IsSoundPoint kind point.now }
+    ensures value { result ≡ row_of kind index point.now.reading }
+    ensures fits { FitsPoint (group_of kind) result }
+{
+    readings_fit_their_static_objects();
+    Row {
+        kind,
+        index,
+        flags: point.reading.flags,
+        value: point.reading.value,
+        time: point.reading.time,
+    }
+}
+
+/// The row of an output's status: its value is bit 7 of the flags octet.
+fn output_row(index: u16, status: u8) -> Row
+    ensures value { (shown : ℕ → ℕ) → shown index ≡ status → result ≡ output_row shown index }
+    ensures fits { FitsPoint 10 result }
+{
+    let value = if 128 <= status { 1 } else { 0 };
+    Row {
+        kind: Kind::Binary,
+        index,
+        flags: status - 128 * value,
+        value: i64::from(value),
+        time: None,
+    }
+}
+
+impl Writer {
+    /// Puts the points of a block from a place on, of which the first has this index, as far as they
+    /// fit; answers whether all do.
+    fn put_points(
+        &mut self,
+        header: usize,
+        kind: Kind,
+        block: usize,
+        first: usize,
+        points: &[PointState],
+    ) -> bool
+        requires response { IsTrue (is_response self.old.builder.function) }
+        requires narrow { first + length points.now ≤ 2 ^ 16 }
+        requires sound { All (IsSoundPoint kind) points.now }
+        ensures written { Puts self.old (map (present_of header) (statics_from (group_of kind) block kind first points.now)) result self.new }
+        ensures response { self.new.builder.function ≡ self.old.builder.function }
+        ensures given { self.new.place.given ≡ self.old.place.given }
+    {
+        let group = group_of(kind);
+        let mut index = first;
+        for point in points {
+            if !self.put_present(header, group, block, &row_of(kind, index as u16, point)) {
+                return false;
+            }
+            index += 1;
+        }
+        true
+    }
+    /// Puts the points of a block that the header asks for but for the first `skip`, as far as they
+    /// fit; answers whether all do. What is still to be skipped is left in `skip`.
+    fn put_block(
+        &mut self,
+        ask: Ask,
+        kind: Kind,
+        number: usize,
+        block: &BlockState,
+        skip: &mut usize,
+    ) -> bool
+        requires response { IsTrue (is_response self.old.builder.function) }
+        requires sound { IsSoundBlock kind block.now }
+        ensures written { Puts self.old (presents ask.header skip.old (in_range ask.range (statics_from (group_of kind) number kind block.now.base block.now.points))) result self.new }
+        ensures skipped { skip.new ≡ skip.old - length (in_range ask.range (statics_from (group_of kind) number kind block.now.base block.now.points)) }
+        ensures response { self.new.builder.function ≡ self.old.builder.function }
+        ensures given { self.new.place.given ≡ self.old.place.given }
+    {
+        let points = block.points.as_slice();
+        let (from, to) = places(ask.range, block.base, points.len());
+        let named = &points[from..to];
+        let passed = (*skip).min(named.len());
+        *skip -= passed;
+        let first = usize::from(block.base) + from + passed;
+        self.put_points(ask.header, kind, number, first, &named[passed..])
+    }
+    /// Puts the points of blocks of a kind that the header asks for but for the first `skip`, as far as
+    /// they fit; answers whether all do. What is still to be skipped is left in `skip`.
+    fn put_blocks(&mut self, ask: Ask, kind: Kind, blocks: &[BlockState], skip: &mut usize) -> bool
+        requires response { IsTrue (is_response self.old.builder.function) }
+        requires sound { AreSound kind blocks.now }
+        ensures written { Puts self.old (presents ask.header skip.old (in_range ask.range (statics_in (group_of kind) kind 0 blocks.now))) result self.new }
+        ensures skipped { IsTrue result → skip.new ≡ skip.old - length (in_range ask.range (statics_in (group_of kind) kind 0 blocks.now)) }
+        ensures response { self.new.builder.function ≡ self.old.builder.function }
+        ensures given { self.new.place.given ≡ self.old.place.given }
+    {
+        for (number, block) in blocks.iter().enumerate() {
+            if !self.put_block(ask, kind, number, block, skip) {
+                return false;
+            }
+        }
+        true
+    }
+
+    #[tactic(auto, using(crate::proofs::OfferPresent::next_output))]
+    /// Puts the statuses of the outputs from one index on to before another, as far as they fit; answers
+    /// whether all do.
+    fn put_statuses<O: Outputs>(
+        &mut self,
+        header: usize,
+        outputs: &O,
+        first: usize,
+        end: usize,
+    ) -> bool
+        requires response { IsTrue (is_response self.old.builder.function) }
+        requires narrow { end ≤ 2 ^ 16 }
+        ensures written { Puts self.old (map (present_of header) (outputs_from (O.panel outputs.now).status first (end - first))) result self.new }
+        ensures response { self.new.builder.function ≡ self.old.builder.function }
+        ensures given { self.new.place.given ≡ self.old.place.given }
+    {
+        for index in first..end {
+            let index = index as u16;
+            let row = output_row(index, outputs.status(index));
+            if !self.put_present(header, 10, 0, &row) {
+                return false;
+            }
+        }
+        true
+    }
+
+    /// Puts the statuses of outputs that the header asks for but for the first `skip`, as far as they
+    /// fit; answers whether all do. What is still to be skipped is left in `skip`.
+    fn put_outputs<O: Outputs>(&mut self, ask: Ask, outputs: &O, skip: &mut usize) -> bool
+        requires response { IsTrue (is_response self.old.builder.function) }
+        ensures written { Puts self.old (presents ask.header skip.old (in_range ask.range (outputs_from (O.panel outputs.now).status 0 (O.panel outputs.now).outputs))) result self.new }
+        ensures skipped { skip.new ≡ skip.old - length (in_range ask.range (outputs_from (O.panel outputs.now).status 0 (O.panel outputs.now).outputs)) }
+        ensures response { self.new.builder.function ≡ self.old.builder.function }
+        ensures given { self.new.place.given ≡ self.old.place.given }
+    {
+        let (from, to) = places(ask.range, 0, usize::from(outputs.outputs()));
+        let passed = (*skip).min(to - from);
+        *skip -= passed;
+        self.put_statuses(ask.header, outputs, from + passed, to)
+    }
+    /// Puts the present values of a group that the header asks for but for the first `skip`, as far as
+    /// they fit; answers whether all do. What is still to be skipped is left in `skip`.
+    fn put_group<O: Outputs>(
+        &mut self,
+        ask: Ask,
+        group: u8,
+        points: &PointDb,
+        outputs: &O,
+        skip: &mut usize,
+    ) -> bool
+        requires response { IsTrue (is_response self.old.builder.function) }
+        ensures written { (s : Source) → s.points ≡ points.now → s.panel ≡ O.panel outputs.now
+            → Puts self.old (presents ask.header skip.old (in_range ask.range (statics_of s group))) result self.new }
+        ensures skipped { (s : Source) → s.points ≡ points.now → s.panel ≡ O.panel outputs.now
+            → IsTrue result → skip.new ≡ skip.old - length (in_range ask.range (statics_of s group)) }
+        ensures response { self.new.builder.function ≡ self.old.builder.function }
+        ensures given { self.new.place.given ≡ self.old.place.given }
+    {
+        match group {
+            1 => self.put_blocks(ask, Kind::Binary, points.blocks(Kind::Binary), skip),
+            10 => self.put_outputs(ask, outputs, skip),
+            20 => self.put_blocks(ask, Kind::Counter, points.blocks(Kind::Counter), skip),
+            30 => self.put_blocks(ask, Kind::Analog, points.blocks(Kind::Analog), skip),
+            _ => true,
+        }
+    }
+
+    /// Puts the present values of groups that the header asks for but for the first `skip`, as far as
+    /// they fit; answers whether all do. What is still to be skipped is left in `skip`.
+    fn put_groups<O: Outputs>(
+        &mut self,
+        ask: Ask,
+        groups: &[u8],
+        points: &PointDb,
+        outputs: &O,
+        skip: &mut usize,
+    ) -> bool
+        requires response { IsTrue (is_response self.old.builder.function) }
+        ensures written { (s : Source) → s.points ≡ points.now → s.panel ≡ O.panel outputs.now
+            → Puts self.old (presents ask.header skip.old (in_range ask.range (flat_map (statics_of s) groups.now))) result self.new }
+        ensures response { self.new.builder.function ≡ self.old.builder.function }
+        ensures given { self.new.place.given ≡ self.old.place.given }
+    {
+        for group in groups {
+            if !self.put_group(ask, *group, points, outputs, skip) {
+                return false;
+            }
+        }
+        true
+    }
+    /// Puts the present values of a group in a range but for the first so many, as far as they fit;
+    /// answers whether all do.
+    #[tactic(auto, using(crate::proofs::OfferPresent::given_presents))]
+    pub(crate) fn put_one_group<O: Outputs>(
+        &mut self,
+        ask: Ask,
+        group: u8,
+        points: &PointDb,
+        outputs: &O,
+        given: u32,
+    ) -> bool
+        requires { IsTrue (is_response self.old.builder.function) }
+        ensures written { (s : Source) → s.points ≡ points.now → s.panel ≡ O.panel outputs.now
+            → Puts self.old (presents ask.header given (in_range ask.range (statics_of s group))) result self.new }
+        ensures response { self.new.builder.function ≡ self.old.builder.function }
+        ensures given { (statics : List Static) → self.new.place.given ≡ fold given_after self.old.place.given (presents ask.header given statics) }
+    {
+        let mut skip = given as usize;
+        self.put_group(ask, group, points, outputs, &mut skip)
+    }
+
+    /// Puts the present values of all groups but for the first so many, as far as they fit; answers
+    /// whether all do.
+    #[tactic(auto, using(crate::proofs::OfferPresent::given_presents))]
+    pub(crate) fn put_each_group<O: Outputs>(
+        &mut self,
+        header: usize,
+        points: &PointDb,
+        outputs: &O,
+        given: u32,
+    ) -> bool
+        requires { IsTrue (is_response self.old.builder.function) }
+        ensures written { (s : Source) → s.points ≡ points.now → s.panel ≡ O.panel outputs.now
+            → Puts self.old (presents header given (statics_of s 1 ++ statics_of s 10 ++ statics_of s 20 ++ statics_of s 30)) result self.new }
+        ensures response { self.new.builder.function ≡ self.old.builder.function }
+        ensures given { (statics : List Static) → self.new.place.given ≡ fold given_after self.old.place.given (presents header given statics) }
+    {
+        let ask = Ask {
+            header,
+            range: Range::All,
+        };
+        let mut skip = given as usize;
+        self.put_groups(ask, &[1, 10, 20, 30], points, outputs, &mut skip)
+    }
+}

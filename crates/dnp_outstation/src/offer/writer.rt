@@ -1,0 +1,151 @@
+//! A fragment that is written, item by item, as far as they fit.
+
+ghost use Rattle.std.specs.Prelude.{◌≡◌, ◌<◌, false, true, IsTrue};
+ghost use Rattle.dnp_objects.specs.Events.{IsEvent};
+ghost use Rattle.dnp_appfragment.specs.Table.{is_response};
+ghost use Rattle.dnp_appfragment.specs.Written.{FitsPoint};
+ghost use Rattle.dnp_outstation.specs.Items.{first_place, event_of, present_of, passed, place_after};
+ghost use Rattle.dnp_outstation.specs.Filling.{put, fits, ended, empty_from, is_same_run};
+
+use crate::offer::place::Place;
+use dnp_appfragment::{Builder, Function};
+use dnp_eventbuf::Numbered;
+use dnp_objects::Row;
+
+/// What stands under the last header of the fragment.
+#[derive(Clone, Copy, Debug)]
+pub enum Run {
+    NoRun,
+    /// Events of the lane of this number.
+    OfLane(usize),
+    /// Present values of this header of the READ, this group and this block.
+    OfBlock(usize, u8, usize),
+}
+
+impl Run {
+    /// Whether events of this lane stand there.
+    fn is_lane(&self, lane: usize) -> bool
+        ensures { result ≡ is_same_run self.now (Run.OfLane lane) }
+    {
+        match self {
+            Run::OfLane(other) => *other == lane,
+            Run::NoRun => false,
+            Run::OfBlock(_, _, _) => false,
+        }
+    }
+
+    /// Whether present values of this header of the READ, this group and this block stand there.
+    fn is_block(&self, header: usize, group: u8, block: usize) -> bool
+        ensures { result ≡ is_same_run self.now (Run.OfBlock header group block) }
+    {
+        match self {
+            Run::OfBlock(h, g, b) => *h == header && (*g == group && *b == block),
+            Run::NoRun => false,
+            Run::OfLane(_) => false,
+        }
+    }
+}
+
+/// A fragment so far: its headers, what stands under the last one, where the READ has come to, and of
+/// each lane the last id in it.
+#[derive(Debug, Drop)]
+pub struct Writer {
+    pub builder: Builder,
+    pub run: Run,
+    pub place: Place,
+    pub upto: [u64; 9],
+}
+
+impl Place {
+    /// One item more of this header was given.
+    fn pass(&mut self, header: usize)
+        ensures { self.new ≡ passed self.old header }
+    {
+        let before = if self.header == header { self.count } else { 0 };
+        self.header = header;
+        self.count = before.saturating_add(1);
+    }
+
+    /// A row of a lane was given for this header.
+    fn pass_event(&mut self, header: usize, lane: usize, x: &Numbered)
+        requires { lane < 9 }
+        ensures { self.new ≡ place_after self.old (event_of header lane x.now) }
+    {
+        self.pass(header);
+        self.given[lane] = x.id;
+    }
+}
+
+impl Writer {
+    /// An empty fragment of a response, for a READ that begins.
+    pub(crate) fn new() -> Writer
+        ensures { result ≡ empty_from first_place }
+    {
+        Writer {
+            builder: Builder::new(Function::Response, true),
+            run: Run::NoRun,
+            place: Place {
+                header: 0,
+                count: 0,
+                given: [0; 9],
+            },
+            upto: [0; 9],
+        }
+    }
+
+    /// Starts over, with an empty fragment for a READ that has come to this place: so that one writer
+    /// serves for many fragments.
+    pub(crate) fn restart(&mut self, place: Place)
+        ensures { self.new ≡ empty_from place }
+    {
+        self.builder.restart(Function::Response, true);
+        self.run = Run::NoRun;
+        self.place = place;
+        self.upto = [0; 9];
+    }
+
+    /// Puts a row of a lane, if it fits; answers whether it does.
+    #[tactic(auto, using(crate::proofs::OfferLemmas::heads_broken))]
+    pub(crate) fn put_event(&mut self, header: usize, lane: usize, x: &Numbered) -> bool
+        requires lane { lane < 9 }
+        requires response { IsTrue (is_response self.old.builder.function) }
+        requires event { IsEvent x.now.row }
+        ensures fits { IsTrue result → self.new ≡ put self.old (event_of header lane x.now) }
+        ensures room { result ≡ fits (put self.old (event_of header lane x.now)) }
+        ensures full { result ≡ false → ended false self.new ≡ ended false self.old }
+        ensures response { self.new.builder.function ≡ self.old.builder.function }
+    {
+        if !self.run.is_lane(lane) {
+            self.builder.break_run();
+        }
+        if self.builder.event(&x.row).is_err() {
+            return false;
+        }
+        self.run = Run::OfLane(lane);
+        self.place.pass_event(header, lane, x);
+        self.upto[lane] = x.id;
+        true
+    }
+
+    /// Puts a present value, if it fits; answers whether it does.
+    #[tactic(auto, using(crate::proofs::OfferLemmas::heads_broken))]
+    pub(crate) fn put_present(&mut self, header: usize, group: u8, block: usize, row: &Row) -> bool
+        requires response { IsTrue (is_response self.old.builder.function) }
+        requires fits { FitsPoint group row.now }
+        ensures fits { IsTrue result → self.new ≡ put self.old (present_of header (record { group = group; block = block; row = row.now })) }
+        ensures room { result ≡ fits (put self.old (present_of header (record { group = group; block = block; row = row.now }))) }
+        ensures full { result ≡ false → ended false self.new ≡ ended false self.old }
+        ensures response { self.new.builder.function ≡ self.old.builder.function }
+        ensures given { self.new.place.given ≡ self.old.place.given }
+    {
+        if !self.run.is_block(header, group, block) {
+            self.builder.break_run();
+        }
+        if self.builder.point(group, row).is_err() {
+            return false;
+        }
+        self.run = Run::OfBlock(header, group, block);
+        self.place.pass(header);
+        true
+    }
+}
