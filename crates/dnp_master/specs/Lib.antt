@@ -1,4 +1,5 @@
 pub mod Calls
+pub mod Gathering
 pub mod Outcomes
 pub mod Requests
 pub mod Rows

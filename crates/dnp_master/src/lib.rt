@@ -4,6 +4,7 @@
 
 mod actions;
 mod fault;
+mod gathering;
 mod master;
 mod outcome;
 mod request;
