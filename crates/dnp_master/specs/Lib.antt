@@ -4,4 +4,5 @@ pub mod Outcomes
 pub mod Requests
 pub mod Rows
 pub mod State
+pub mod Taking
 pub mod Sinks

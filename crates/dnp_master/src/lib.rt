@@ -9,6 +9,7 @@ mod master;
 mod outcome;
 mod request;
 mod requesting;
+mod taking;
 mod task;
 
 pub use actions::{MasterActions, Rows};
