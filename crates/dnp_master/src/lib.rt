@@ -7,6 +7,7 @@ mod fault;
 mod gathering;
 mod master;
 mod outcome;
+mod receiving;
 mod request;
 mod requesting;
 mod taking;

@@ -243,6 +243,7 @@ impl Master {
     }
 
     /// Octets came at this moment.
+    #[tactic(auto, unfolding(crate::specs::Calls::receive_of))]
     pub(crate) fn take(
         &self,
         alloc: Global,
