@@ -1,5 +1,5 @@
 -- Words of private steps: what a fragment makes of a master, in the parts in which it is worked out.
-use Rattle.std.specs.Prelude.{◌≡◌, ℕ, ◌≤◌, Bool, true, List, ◌++◌, length, take, drop, Option, All, vec_len, ◌<◌, ◌⊎◌, Result, Ok, Err, IfOk, IfErr}
+use Rattle.std.specs.Prelude.{◌≡◌, ◌≢◌, ℕ, ◌≤◌, Bool, true, List, ◌++◌, length, take, drop, Option, All, vec_len, ◌<◌, ◌⊎◌, Result, Ok, Err, IfOk, IfErr}
 use Rattle.std.specs.Result.{IsOkAnd}
 use Rattle.dnp_objects.specs.Events.{IsEvent}
 use Rattle.dnp_objects.specs.declared.row.Row.{Row}
@@ -7,7 +7,7 @@ use Rattle.dnp_master.specs.declared.gathering.Gathered.{Gathered}
 use Rattle.dnp_master.specs.declared.taking.Next.{Next}
 use Rattle.dnp_master.specs.declared.taking.Taken.{Taken}
 use Rattle.dnp_master.specs.declared.fault.MasterFault.{MasterFault}
-use Rattle.dnp_master.specs.declared.fault.MasterFault.TheVariants.{Memory}
+use Rattle.dnp_master.specs.declared.fault.MasterFault.TheVariants.{Memory, Device}
 use Rattle.dnp_master.specs.Calls.{Taking, has_rows}
 use Rattle.dnp_master.specs.State.{State}
 
@@ -43,3 +43,5 @@ pub record WorksOut (s : State) (wanted : Result Taking MasterFault) (answer : R
   pub taken : IfOk answer (λ t. wanted ≡ Ok (taking_of s t))
   pub fit : IfOk answer IsFit
   pub refused : IfErr answer (λ e. (wanted ≡ Err e) ⊎ ((e ≡ Memory) × IsOkAnd wanted (λ t. has_rows t ≡ true)))
+  -- no sink was asked
+  pub own : IfErr answer (λ e. e ≢ Device)

@@ -1,11 +1,12 @@
 //! The rows of a response that the sink is given.
 
-ghost use Rattle.std.specs.Prelude.{◌≡◌, ◌≢◌, ◌<◌, ◌^◌, ◌++◌, ◌⊎◌, true, false, [], ◌∷◌, All, IsTrue, IfOk, IfErr, filter};
+ghost use Rattle.std.specs.Prelude.{◌≡◌, ◌≢◌, ◌≤◌, vec_len, ◌<◌, ◌^◌, ◌++◌, ◌⊎◌, true, false, [], ◌∷◌, All, IsTrue, IfOk, IfErr, filter};
 ghost use Rattle.std.specs.List.{list_all};
 ghost use Rattle.dnp_objects.specs.Events.{IsEvent};
 ghost use Rattle.dnp_appfragment.specs.Seen.{head};
 ghost use Rattle.dnp_master.specs.Gathering.{Gathers, Holds};
 ghost use Rattle.dnp_master.specs.Rows as spec;
+ghost use Rattle.dnp_master.specs.Taking.{events_of, statics_of};
 
 use crate::fault::MasterFault;
 use dnp_appfragment::laws::{objects_say_rows_and_commands, rows_are_events};
@@ -146,6 +147,22 @@ impl Gathered {
             rows: Vec::new(alloc),
             events: 0,
         }
+    }
+
+    /// The events, in order.
+    pub fn events(&self) -> &[Row]
+        requires { self.now.events ≤ vec_len self.now.rows }
+        ensures { result.now ≡ events_of self.now }
+    {
+        &self.rows[..self.events]
+    }
+
+    /// The present values, in order.
+    pub fn statics(&self) -> &[Row]
+        requires { self.now.events ≤ vec_len self.now.rows }
+        ensures { result.now ≡ statics_of self.now }
+    {
+        &self.rows[self.events..]
     }
 
     /// The rows of these headers, all of them or none.
