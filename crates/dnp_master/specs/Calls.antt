@@ -1,6 +1,6 @@
 -- What contracts promise of `ask` and `receive`: a function of the master and of what came, case by case (IEEE Std
 -- 1815-2012, application layer: the master's side of a transaction, unsolicited responses, confirmation).
-use Rattle.std.specs.Prelude.{ℕ, Bool, true, false, not, ◌&&◌, ◌||◌, ◌==◌, if◌then◌else◌, List, [], ◌∷◌, length, Option, Some, None, is_some, Result, Ok, Err}
+use Rattle.std.specs.Prelude.{ℕ, ◌+◌, nat_lt, Bool, true, false, not, ◌&&◌, ◌||◌, ◌==◌, if◌then◌else◌, List, [], ◌∷◌, length, Option, Some, None, is_some, Result, Ok, Err}
 use Rattle.std.specs.Int.{bit_at}
 use Rattle.dnp_objects.specs.Equality.{command_eq}
 use Rattle.dnp_objects.specs.declared.row.Row.{Row}
@@ -156,10 +156,13 @@ taken_as Report s now answered = report_taken s answered
 taken_as (Awaited request) s now answered = if answered.control.fin then ended s request answered else going_on s now request answered
 
 -- a fragment that is taken may bring no event that the plan has no class for
+abbrev pub if_from_plan : Plan → Answered → Taking → Result Taking MasterFault
+if_from_plan plan answered t = if is_from_plan plan answered.headers then Ok t else Err Stranger
+
 abbrev pub checked : Case → Plan → Answered → Taking → Result Taking MasterFault
 checked Unheeded plan answered t = Ok t
-checked Report plan answered t = if is_from_plan plan answered.headers then Ok t else Err Stranger
-checked (Awaited request) plan answered t = if is_from_plan plan answered.headers then Ok t else Err Stranger
+checked Report plan answered t = if_from_plan plan answered t
+checked (Awaited request) plan answered t = if_from_plan plan answered t
 
 abbrev pub response_of : State → ℕ → Answered → Result Taking MasterFault
 response_of s now answered =
@@ -178,11 +181,7 @@ receive_of s now octets = if s.is_open then heard s now (response_at octets) els
 
 -- the rows are given to the sink, if there are any
 abbrev pub has_rows : Taking → Bool
-has_rows t = has_member t.events || has_member t.statics
-  where
-    has_member : List Row → Bool
-    has_member [] = false
-    has_member (row ∷ rows) = true
+has_rows t = nat_lt 0 (length t.events + length t.statics)
 
 -- these rows were dropped for the events
 abbrev pub actions_of : Taking → List Row → MasterActions

@@ -4,10 +4,13 @@
 
 mod actions;
 mod fault;
+mod gathering;
 mod master;
 mod outcome;
+mod receiving;
 mod request;
 mod requesting;
+mod taking;
 mod task;
 
 pub use actions::{MasterActions, Rows};

@@ -82,14 +82,13 @@ impl Echo {
         }
     }
 
-    /// The outcome of a task of this command, or of none, whose response has come to its end.
-    pub(crate) fn outcome(self, command: Option<Command>, iin: Iin) -> Outcome
-        ensures { result ≡ spec.outcome_for command self iin }
+    /// The outcome of a command whose response has come to its end.
+    pub(crate) fn outcome(&self) -> Outcome
+        ensures { result ≡ spec.outcome_by self.now }
     {
-        match (command, self) {
-            (None, _) => Outcome::Done(iin),
-            (Some(_), Echo::Same(status)) => Outcome::Control(status),
-            (Some(_), _) => Outcome::Unlike,
+        match self {
+            Echo::Same(status) => Outcome::Control(*status),
+            Echo::Nothing | Echo::Other => Outcome::Unlike,
         }
     }
 }

@@ -9,6 +9,7 @@ mod frames;
 mod journals;
 mod lanes;
 mod lines;
+mod masters;
 mod points;
 
 use std::io;
@@ -20,6 +21,7 @@ fn main(rt: HostRuntime) -> io::Result<()> {
     print(&rt, "points", points::change_all(alloc))?;
     print(&rt, "lanes", lanes::fill_and_empty(alloc))?;
     print(&rt, "journal", journals::append_and_list(alloc))?;
+    print(&rt, "master", masters::poll(alloc))?;
     print(&rt, "book", controls::add_and_list(alloc))?;
     print(&rt, "outputs", controls::operate(alloc))
 }
