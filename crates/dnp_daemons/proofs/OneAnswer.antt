@@ -7,7 +7,7 @@ use Rattle.dnp_linkframe.specs.Frames.{Spells, IsFault, IsFirstFault}
 use Rattle.dnp_linkstation.specs.Control.{primary_function, frame_count_bit}
 use Rattle.dnp_linkstation.specs.Station.{Ends, is_for, answer_to, dropped, answer}
 use Rattle.dnp_linkstation.specs.declared.function.PrimaryFunction.{PrimaryFunction}
-use Rattle.dnp_linkstation.specs.declared.function.PrimaryFunction.TheVariants.{ResetLinkStates, TestLinkStates, ConfirmedUserData, UnconfirmedUserData, RequestLinkStatus, Other}
+use Rattle.dnp_linkstation.specs.declared.function.PrimaryFunction.TheVariants as primary
 use Rattle.dnp_linkstation.specs.declared.station.LinkAnswer.{LinkAnswer}
 use Rattle.dnp_transport.specs.Series.{IsWhole}
 use Rattle.dnp_daemons.specs.declared.answer.Answer.{Answer}
@@ -49,13 +49,14 @@ one_sequence laws own peer frame s t a b =
     a.read.numbered ∙ ap (λ (n : ℕ). n % 16) control ∙ sym b.read.numbered
 
 -- a link layer that has heard nothing before doesn't both reply and hand up
-no_reply_and_up : (e : Ends) (p : PrimaryFunction) (fcb : Bool) (back : Frame) → (answer_to e p None fcb).reply ≡ Some back → (answer_to e p None fcb).up ≡ true → ⊥
-no_reply_and_up e ResetLinkStates fcb back r u = both_ways false refl u
-no_reply_and_up e TestLinkStates fcb back r u = both_ways false refl u
-no_reply_and_up e ConfirmedUserData fcb back r u = both_ways false refl u
-no_reply_and_up e UnconfirmedUserData fcb back r u = absurd (cc)
-no_reply_and_up e RequestLinkStatus fcb back r u = both_ways false refl u
-no_reply_and_up e Other fcb back r u = both_ways false refl u
+no_reply_and_up : (e : Ends) (p : PrimaryFunction) (fcb : Bool) (back : Frame) → (answer_to e p None fcb).reply ≡ Some back
+    → (answer_to e p None fcb).up ≡ true → ⊥
+no_reply_and_up e primary.ResetLinkStates fcb back r u = both_ways false refl u
+no_reply_and_up e primary.TestLinkStates fcb back r u = both_ways false refl u
+no_reply_and_up e primary.ConfirmedUserData fcb back r u = both_ways false refl u
+no_reply_and_up e primary.UnconfirmedUserData fcb back r u = absurd (cc)
+no_reply_and_up e primary.RequestLinkStatus fcb back r u = both_ways false refl u
+no_reply_and_up e primary.Other fcb back r u = both_ways false refl u
 
 reply_or_up : (e : Ends) (f back : Frame) → (answer e [] f).reply ≡ Some back → (answer e [] f).up ≡ true → ⊥
 reply_or_up e f back r u =

@@ -90,7 +90,8 @@ row_in_place (x ∷ y ∷ z ∷ w ∷ rest) all size =
     }
 
 -- a text whose line is that of some octets
-line_is : (text line octets : List ℕ) → line ≡ without_line_feed text → length line ≤ MAX_CHARACTERS → str_to_ascii_uppercase line ≡ line_of octets → All IsByte octets → IsLineOf text octets
+line_is : (text line octets : List ℕ) → line ≡ without_line_feed text → length line ≤ MAX_CHARACTERS → str_to_ascii_uppercase line ≡ line_of octets
+    → All IsByte octets → IsLineOf text octets
 line_is text line octets is short digits bytes =
     subst (λ (l : List ℕ). (length l ≤ MAX_CHARACTERS) → (str_to_ascii_uppercase l ≡ line_of octets) → IsLineOf text octets) (sym is)
     (λ few same. record { short = few; digits = same; bytes = bytes }) short digits

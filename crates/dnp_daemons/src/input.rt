@@ -7,8 +7,8 @@ use std::alloc::Global;
 use std::io;
 use std::io::Read;
 
-/// The most octets of the input that are read: the longest line, its line feed, and one octet more, which shows that the
-/// line is too long. So no input can fill the memory.
+/// The most octets of the input that are read: the longest line, its line feed, and one octet more, which shows that
+/// the line is too long. So no input can fill the memory.
 pub const MAX_INPUT: u64 = MAX_CHARACTERS as u64 + 2;
 
 /// Reads the input to its end, or its first [`MAX_INPUT`] octets.

@@ -79,8 +79,8 @@ pub(crate) fn line_in(text: &[u8]) -> &[u8]
 }
 
 /// The octets of the line of text, or none where the text is no line of octets. The line has two hexadecimal digits of
-/// either case for each octet, one space between each two octets, at most [`MAX_CHARACTERS`] characters, and may end with
-/// one line feed more. A text without octets is the line of no octets.
+/// either case for each octet, one space between each two octets, at most [`MAX_CHARACTERS`] characters, and may end
+/// with one line feed more. A text without octets is the line of no octets.
 pub(crate) fn read_octets(text: &[u8]) -> Option<ArrayVec<u8, MAX_READ>>
     ensures found { IfSome result (λ octets. IsLineOf text.now octets.items) }
     ensures none { IfNone result ((octets : List ℕ) → IsLineOf text.now octets → ⊥) }

@@ -9,8 +9,8 @@ use std::io::Write;
 #[derive(Clone, Copy, Debug, PartialEq, Eq)]
 pub(crate) struct NotWritten;
 
-/// Writes the whole text, by as many calls of `write` as the writer wants. A fault says that a
-/// call failed or took no octet; what was written by then is a beginning of the text.
+/// Writes the whole text, by as many calls of `write` as the writer wants. A fault says that a call
+/// failed or took no octet; what was written by then is a beginning of the text.
 pub(crate) fn write_out<W: Write>(text: &[u8], out: &mut W) -> Result<(), NotWritten>
     ensures whole { OnOk result (Appends (W.contents out.old) (W.contents out.new) text.now) }
     ensures part { OnErr result ((part rest : List ℕ) × (text.now ≡ part ++ rest)

@@ -14,10 +14,12 @@ use Rattle.dnp_line.specs.declared.line.TheConstants.{BROKEN_LOSSES}
 use Rattle.dnp_transport.specs.declared.limits.TheConstants.{SEGMENT_NUMBERS}
 
 -- fewer segments are lost in a row than there are numbers
-number_again : (place gone lost : ℕ) → place ≤ gone → gone ≤ place + 1 + lost → lost < BROKEN_LOSSES → gone % SEGMENT_NUMBERS ≡ place % SEGMENT_NUMBERS → gone ≡ place
+number_again : (place gone lost : ℕ) → place ≤ gone → gone ≤ place + 1 + lost → lost < BROKEN_LOSSES
+    → gone % SEGMENT_NUMBERS ≡ place % SEGMENT_NUMBERS → gone ≡ place
 number_again place gone lost low high few e = omega (arith, low, high, few, e)
 
-number_next : (place gone lost : ℕ) → place ≤ gone → gone ≤ place + 1 + lost → lost < BROKEN_LOSSES → gone % SEGMENT_NUMBERS ≡ (place % SEGMENT_NUMBERS + 1) % SEGMENT_NUMBERS → gone ≡ place + 1
+number_next : (place gone lost : ℕ) → place ≤ gone → gone ≤ place + 1 + lost → lost < BROKEN_LOSSES
+    → gone % SEGMENT_NUMBERS ≡ (place % SEGMENT_NUMBERS + 1) % SEGMENT_NUMBERS → gone ≡ place + 1
 number_next place gone lost low high few e = omega (arith, low, high, few, e)
 
 number_at : Lower → (sent : List (List ℕ)) (p : ℕ) (x : List ℕ) → IsSegment sent p x → number x ≡ p % SEGMENT_NUMBERS

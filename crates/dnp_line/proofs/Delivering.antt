@@ -122,7 +122,8 @@ record HasDelivered (s : PortState) (f : List ℕ) (tail : List (List ℕ)) (w n
 delivers : Lower → (s : PortState) (f : List ℕ) (first : ℕ) (before : List (List ℕ)) → IsCarried before f first
     → length (cuts f first) ≡ cut_count (length f)
     → (done : List (List ℕ)) (x : List ℕ) (segs units tail : List (List ℕ)) (w new : Way) (heard : List Frame)
-    → cuts f first ≡ done ++ x ∷ segs → HaveData (x ∷ segs) → w.line.units ≡ units ++ tail → AreSpelled s (x ∷ segs) units → AreFacing s w.receiver → Answers heard w.receiver.link → Stands (pushed_after before done) w.receiver.assembly
+    → cuts f first ≡ done ++ x ∷ segs → HaveData (x ∷ segs) → w.line.units ≡ units ++ tail → AreSpelled s (x ∷ segs) units → AreFacing s w.receiver
+    → Answers heard w.receiver.link → Stands (pushed_after before done) w.receiver.assembly
     → Runs w (replicate (suc (length segs)) Deliver) new → HasDelivered s f tail w new
 delivers low s f first before carried as_many done x [] units tail w new heard cut_is have line spelled facing answers stands runs =
     let u : List ℕ = spelled.0 in

@@ -9,14 +9,14 @@ use std::alloc::{AllocError, Global};
 use std::collections::VecDeque;
 use std::marker::Model;
 
-/// The losses in a row that break a line. They are fewer than half of the numbers that segments have, so that a line
-/// that isn't broken never takes one segment for another.
+/// The losses in a row that break a line. They are fewer than the numbers that segments have, so that no segment is
+/// taken for one of another round.
 pub const BROKEN_LOSSES: u8 = 32;
 
 /// A line that carries units of at most [`MAX_UNIT`] octets one way, in order.
 ///
-/// A unit may come more than once, and may be lost. [`BROKEN_LOSSES`] losses in a row break the line: what is on it is dropped, it
-/// gives nothing, and what is sent is dropped, until it is cleared.
+/// A unit may come more than once, and may be lost. [`BROKEN_LOSSES`] losses in a row break the line: what is on it is
+/// dropped, it gives nothing, and what is sent is dropped, until it is cleared.
 #[derive(Debug, Drop)]
 pub struct Line {
     /// The units on the line, the front first.

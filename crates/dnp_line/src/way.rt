@@ -11,8 +11,8 @@ use arrayvec::ArrayVec;
 use dnp_linkframe::read_frame;
 use dnp_transport::{MAX_FRAGMENT, segment_count};
 
-/// Sends a fragment of 1 to [`MAX_FRAGMENT`] octets: all its units go on the line, which has room for them, and the port's numbers
-/// move on.
+/// Sends a fragment of 1 to [`MAX_FRAGMENT`] octets: all its units go on the line, which has room for them, and the
+/// port's numbers move on.
 pub fn send(line: &mut Line, sender: &mut Port, fragment: &[u8])
     requires some { 0 < length fragment.now }
     requires fits { length fragment.now ≤ MAX_FRAGMENT }

@@ -69,7 +69,8 @@ after_one n h e =
       quotient = true ∷ [];
       same = λ i. same_eq (false ∷ remainder n) (top true) (shifted n h ∙ ap top (lowest n ∙ eq-eqb (bit_and n 1) 1 e)) i
           ∙ sym (plus_assoc (remainder (n / 2)) (remainder 0xA6BC) (times (true ∷ []) generator) i)
-          ∙ same_eq (plus (plus (remainder (n / 2)) (remainder 0xA6BC)) (times (true ∷ []) generator)) (plus (remainder (bit_xor (n / 2) 0xA6BC)) (times (true ∷ []) generator))
+          ∙ same_eq (plus (plus (remainder (n / 2)) (remainder 0xA6BC)) (times (true ∷ []) generator))
+          (plus (remainder (bit_xor (n / 2) 0xA6BC)) (times (true ∷ []) generator))
           (ap (λ (p : List Bool). plus p (times (true ∷ []) generator)) (sym (remainder-xor (n / 2) 0xA6BC))) i;
     }
 
@@ -88,7 +89,8 @@ after_zero n h e =
 -- ---- an octet as a word
 pub remainder-octet : (octet : ℕ) → octet < 2 ^ 8 → remainder octet ≡ times_x 8 (message (octet ∷ []))
 remainder-octet octet h =
-    cons (bit_above octet 8 15 h (omega arith)) (cons (bit_above octet 8 14 h (omega arith)) (cons (bit_above octet 8 13 h (omega arith)) (cons (bit_above octet 8 12 h (omega arith))
+    cons (bit_above octet 8 15 h (omega arith))
+    (cons (bit_above octet 8 14 h (omega arith)) (cons (bit_above octet 8 13 h (omega arith)) (cons (bit_above octet 8 12 h (omega arith))
     (cons (bit_above octet 8 11 h (omega arith)) (cons (bit_above octet 8 10 h (omega arith)) (cons (bit_above octet 8 9 h (omega arith)) (cons (bit_above octet 8 8 h (omega arith)) refl)))))))
 
 -- ---- the two octets of a word

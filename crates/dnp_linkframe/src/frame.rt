@@ -53,8 +53,8 @@ impl Frame {
     }
 }
 
-/// Why a unit of octets is no link frame. The variants are in the order in which they are
-/// checked, and the first that fits is answered.
+/// Why a unit of octets is no link frame. The variants are in the order in which they are checked,
+/// and the first that fits is answered.
 #[derive(Clone, Copy, Debug, PartialEq, Eq, Error)]
 pub enum FrameFault {
     #[error("fewer than 10 octets")]

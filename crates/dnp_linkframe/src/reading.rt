@@ -66,8 +66,8 @@ fn check_unit(unit: &[u8]) -> Result<(), FrameFault>
     }
 }
 
-/// Appends a block without its last two octets. A whole block is copied apart from others:
-/// the compiler knows its length then, and the copy is a single move.
+/// Appends a block without its last two octets. A whole block is copied apart from others: the
+/// compiler knows its length then, and the copy is a single move.
 #[inline(always)]
 fn copy_block(block: &[u8], user: &mut ArrayVec<u8, MAX_USER_DATA>)
     requires two { 2 ≤ length block.now }

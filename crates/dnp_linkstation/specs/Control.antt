@@ -2,11 +2,11 @@
 use Rattle.std.specs.Prelude.{ℕ, ◌%◌, Bool, ◌==◌, if◌then◌else◌}
 use Rattle.std.specs.Int.{bit_at}
 use Rattle.dnp_linkstation.specs.declared.function.PrimaryFunction.{PrimaryFunction}
-use Rattle.dnp_linkstation.specs.declared.function.PrimaryFunction.TheVariants.{ResetLinkStates, TestLinkStates, ConfirmedUserData, UnconfirmedUserData, RequestLinkStatus, Other}
+use Rattle.dnp_linkstation.specs.declared.function.PrimaryFunction.TheVariants as primary
 use Rattle.dnp_linkstation.specs.declared.function.SecondaryFunction.{SecondaryFunction}
-use Rattle.dnp_linkstation.specs.declared.function.SecondaryFunction.TheVariants.{Ack, Nack, LinkStatus, NotSupported}
+use Rattle.dnp_linkstation.specs.declared.function.SecondaryFunction.TheVariants as secondary
 use Rattle.dnp_linkstation.specs.declared.control.TheConstants.{DIR, FCB, FUNCTIONS, PRM}
-use Rattle.dnp_linkstation.specs.declared.function.TheConstants.{ACK, CONFIRMED_USER_DATA, LINK_STATUS, NACK, NOT_SUPPORTED, REQUEST_LINK_STATUS, RESET_LINK_STATES, TEST_LINK_STATES, UNCONFIRMED_USER_DATA}
+use Rattle.dnp_linkstation.specs.declared.function.TheConstants as number
 
 -- DIR: the frame comes from the master
 abbrev pub is_from_master : ℕ → Bool
@@ -23,15 +23,15 @@ frame_count_bit control = bit_at control FCB == 1
 -- the function of a frame with PRM 1, in the low four bits
 abbrev pub primary_function : ℕ → PrimaryFunction
 primary_function control =
-    (if control % FUNCTIONS == RESET_LINK_STATES then ResetLinkStates else
-    (if control % FUNCTIONS == TEST_LINK_STATES then TestLinkStates else
-    (if control % FUNCTIONS == CONFIRMED_USER_DATA then ConfirmedUserData else
-    (if control % FUNCTIONS == UNCONFIRMED_USER_DATA then UnconfirmedUserData else
-    (if control % FUNCTIONS == REQUEST_LINK_STATUS then RequestLinkStatus else Other)))))
+    (if control % FUNCTIONS == number.RESET_LINK_STATES then primary.ResetLinkStates else
+    (if control % FUNCTIONS == number.TEST_LINK_STATES then primary.TestLinkStates else
+    (if control % FUNCTIONS == number.CONFIRMED_USER_DATA then primary.ConfirmedUserData else
+    (if control % FUNCTIONS == number.UNCONFIRMED_USER_DATA then primary.UnconfirmedUserData else
+    (if control % FUNCTIONS == number.REQUEST_LINK_STATUS then primary.RequestLinkStatus else primary.Other)))))
 
 -- the low four bits of a frame with PRM 0
 abbrev pub code : SecondaryFunction → ℕ
-code Ack = ACK
-code Nack = NACK
-code LinkStatus = LINK_STATUS
-code NotSupported = NOT_SUPPORTED
+code secondary.Ack = number.ACK
+code secondary.Nack = number.NACK
+code secondary.LinkStatus = number.LINK_STATUS
+code secondary.NotSupported = number.NOT_SUPPORTED

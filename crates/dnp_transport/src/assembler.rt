@@ -58,8 +58,8 @@ impl Stage {
 /// Joins segments to fragments of 1 to [`MAX_FRAGMENT`] octets (IEEE Std 1815-2012, transport function).
 ///
 /// A segment with FIR begins a series, whatever its number, and ends one in progress. The segments after it have
-/// numbers that follow modulo [`SEGMENT_NUMBERS`], and the one with FIN completes the fragment. A segment without FIR that equals the
-/// last accepted one is a repeat, and is ignored.
+/// numbers that follow modulo [`SEGMENT_NUMBERS`], and the one with FIN completes the fragment. A segment without FIR
+/// that equals the last accepted one is a repeat, and is ignored.
 #[derive(Debug, Drop)]
 pub struct Assembler {
     /// Whether there is a series or a fragment.
@@ -97,9 +97,9 @@ impl Assembler {
 
     /// Takes in a string of octets that the link layer gave.
     ///
-    /// What is no segment, of under 2 octets or more than [`MAX_SEGMENT`], is ignored, as is a segment without FIR where
-    /// no series is in progress. `Dropped` says that a series in progress is gone: its next number did not come, or it would have
-    /// passed the longest fragment.
+    /// What is no segment, of under 2 octets or more than [`MAX_SEGMENT`], is ignored, as is a segment without FIR
+    /// where no series is in progress. `Dropped` says that a series in progress is gone: its next number did not come,
+    /// or it would have passed the longest fragment.
     pub fn push(&mut self, segment: &[u8]) -> Pushed
         ensures stands { (before : List (List ℕ)) → Stands before self.old → Stands (segment.now ∷ before) self.new }
         ensures answers { (before : List (List ℕ)) → Stands before self.old → Answers (segment.now ∷ before) result }

@@ -18,7 +18,8 @@ pub fn segment_count(fragment: &[u8]) -> usize
 /// The segment `k`, counted from 0, of `fragment`, whose first segment has the number `first`.
 ///
 /// The fragment has 1 to [`MAX_FRAGMENT`] octets, `k` is below `segment_count(fragment)`, and `first` is below
-/// [`SEGMENT_NUMBERS`]. The segment is its header octet and 1 to [`SEGMENT_DATA`] octets of the fragment (IEEE Std 1815-2012, transport function).
+/// [`SEGMENT_NUMBERS`]. The segment is its header octet and 1 to [`SEGMENT_DATA`] octets of the fragment (IEEE Std
+/// 1815-2012, transport function).
 pub fn segment(fragment: &[u8], k: usize, first: u8) -> ArrayVec<u8, MAX_SEGMENT>
     requires some { 0 < length fragment.now }
     requires fits { length fragment.now ≤ MAX_FRAGMENT }

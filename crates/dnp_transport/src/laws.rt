@@ -38,8 +38,8 @@ pub fn a_push_goes_on()
     ensures idle { Stands [] Idle }
 {}
 
-/// Some pushes make one assembler. Which of the lists of pushes that make the same assembler was pushed does not matter:
-/// the next push does the same after each, and the fragment that is shown is the same.
+/// Some pushes make one assembler. Which of the lists of pushes that make the same assembler was pushed does not
+/// matter: the next push does the same after each, and the fragment that is shown is the same.
 pub fn history_does_not_matter()
     ensures one { (pushed : List (List ℕ)) (a b : Assembly) → Stands pushed a → Stands pushed b → a ≡ b }
     ensures answers { (a : Assembly) (before other : List (List ℕ)) (segment : List ℕ) (answer answer' : PushedValue) →

@@ -31,13 +31,15 @@ whole_has_data [] before fragment w =
     absurd (both_ways true (subst (λ (x : List ℕ). is_left_out (kept w.recent) x ≡ false) none w.stays) refl)
 whole_has_data (octet ∷ octets) before fragment w = refl
 
-has_taken : (own peer : ℕ) (old new : PortState) (frame : Frame) (taken : Taken) → old ≡ new_port own peer false → Answers [] old.link → Stands [] old.assembly → Takes old frame new taken → HasTaken own peer frame new taken
+has_taken : (own peer : ℕ) (old new : PortState) (frame : Frame) (taken : Taken) → old ≡ new_port own peer false → Answers [] old.link
+    → Stands [] old.assembly → Takes old frame new taken → HasTaken own peer frame new taken
 has_taken own peer old new frame taken is_new answers stands takes =
     let ends_are : ends old.link ≡ station_ends own peer = ap (λ (p : PortState). ends p.link) is_new in
     let number_is : new.number ≡ 0 = takes.same_number ∙ ap (λ (p : PortState). p.number) is_new in
     let user : List ℕ = frame.user.items in
     let after : TakesAfter [] [] old frame new taken = takes.after [] answers [] stands in
-    let pushed : (answer (station_ends own peer) [] frame).up ≡ true → (fragment : List ℕ) → IsWhole (user ∷ []) fragment → Joins true [] user old.assembly new.assembly taken.whole =
+    let pushed : (answer (station_ends own peer) [] frame).up ≡ true → (fragment : List ℕ) → IsWhole (user ∷ []) fragment
+    → Joins true [] user old.assembly new.assembly taken.whole =
     λ up fragment whole.
     let up' : (answer (ends old.link) [] frame).up ≡ true = subst (λ (e : Ends). (answer e [] frame).up ≡ true) (sym ends_are) up in
     subst (λ (b : Bool). Joins b [] user old.assembly new.assembly taken.whole)
@@ -81,13 +83,15 @@ no_reply reply back none some = absurd (cc)
 pub returns-in-Some-clause-sent : goal.returns-in-Some-clause-sent
 returns-in-Some-clause-sent c =
     let h : HasTaken c.args.own c.args.peer c.args.frame.now c.take-taken.new.self c.take-taken.result =
-    has_taken c.args.own c.args.peer c.new-port.result c.take-taken.new.self c.args.frame.now c.take-taken.result c.new-port.ensures.port c.new-port.ensures.answers c.new-port.ensures.stands c.take-taken.ensures.takes in
+    has_taken c.args.own c.args.peer c.new-port.result c.take-taken.new.self c.args.frame.now c.take-taken.result c.new-port.ensures.port
+    c.new-port.ensures.answers c.new-port.ensures.stands c.take-taken.ensures.takes in
     let reply = c.in-Some.ensures.spells in (reply.0, Reply (sym h.reply ∙ reply.1), reply.2)
 
 pub returns-then-not-taken-clause-silent : goal.returns-then-not-taken-clause-silent
 returns-then-not-taken-clause-silent c =
     let h : HasTaken c.args.own c.args.peer c.args.frame.now c.take-taken.new.self c.take-taken.result =
-    has_taken c.args.own c.args.peer c.new-port.result c.take-taken.new.self c.args.frame.now c.take-taken.result c.new-port.ensures.port c.new-port.ensures.answers c.new-port.ensures.stands c.take-taken.ensures.takes in
+    has_taken c.args.own c.args.peer c.new-port.result c.take-taken.new.self c.args.frame.now c.take-taken.result c.new-port.ensures.port
+    c.new-port.ensures.answers c.new-port.ensures.stands c.take-taken.ensures.takes in
     λ back b.
     elim b [
       | Reply r ↦ no_reply c.take-taken.result.reply back c.in_default.ensures.none (h.reply ∙ r)
@@ -97,7 +101,8 @@ returns-then-not-taken-clause-silent c =
 pub returns-in_err-sequence-clause-silent : goal.returns-in_err-sequence-clause-silent
 returns-in_err-sequence-clause-silent c =
     let h : HasTaken c.args.own c.args.peer c.args.frame.now c.take-taken.new.self c.take-taken.result =
-    has_taken c.args.own c.args.peer c.new-port.result c.take-taken.new.self c.args.frame.now c.take-taken.result c.new-port.ensures.port c.new-port.ensures.answers c.new-port.ensures.stands c.take-taken.ensures.takes in
+    has_taken c.args.own c.args.peer c.new-port.result c.take-taken.new.self c.args.frame.now c.take-taken.result c.new-port.ensures.port
+    c.new-port.ensures.answers c.new-port.ensures.stands c.take-taken.ensures.takes in
     rw c.from_residual.ensures
     (λ back b.
     elim b [
@@ -109,7 +114,8 @@ returns-in_err-sequence-clause-silent c =
 pub returns-clause-sent : goal.returns-clause-sent
 returns-clause-sent c =
     let h : HasTaken c.args.own c.args.peer c.args.frame.now c.take-taken.new.self c.take-taken.result =
-    has_taken c.args.own c.args.peer c.new-port.result c.take-taken.new.self c.args.frame.now c.take-taken.result c.new-port.ensures.port c.new-port.ensures.answers c.new-port.ensures.stands c.take-taken.ensures.takes in
+    has_taken c.args.own c.args.peer c.new-port.result c.take-taken.new.self c.args.frame.now c.take-taken.result c.new-port.ensures.port
+    c.new-port.ensures.answers c.new-port.ensures.stands c.take-taken.ensures.takes in
     let sequence : ℕ = c.in_ok-sequence.sequence in
     let asks : AsksFor c.args.own c.args.peer c.args.frame.now sequence =
     h.read c.if-not-taken.false c.fragment.result.now c.fragment.ensures.shown sequence (c.in_ok-sequence.ensures).found in (

@@ -12,7 +12,8 @@ loop-place-init c = (none_in_place c.line_in-line.result.now, omega arith)
 
 pub loop-place-preserved : goal.loop-place-preserved
 loop-place-preserved c =
-    let is_digit : IsDigit (slice_index c.line_in-line.result.now c.loop-place.place) = (c.in_default.field-0, c.in_default.ensures.found, c.in_default.ensures.same) in (
+    let is_digit : IsDigit (slice_index c.line_in-line.result.now c.loop-place.place) =
+    (c.in_default.field-0, c.in_default.ensures.found, c.in_default.ensures.same) in (
       more_in_place c.line_in-line.result.now c.loop-place.place c.loop-place.invariant.0
           (λ is. absurd (c.if-place-eq2.false is), λ other. is_digit),
       omega arith,

@@ -57,7 +57,8 @@ returns-then-eq c =
     let no_first : is_first c.args.segment.now ≡ false = sym c.is_first.ensures ∙ c.if-is_first.false in
     let same : c.args.segment.now ≡ c.self.inside.last.items =
     (bytes_eq-Decides c.args.segment.now c.as_slice.result.now).0 (sym c.eq.ensures ∙ c.if-eq.true) ∙ c.as_slice.ensures.value in
-    let joining : (before : List (List ℕ)) → Stands before c.args.self.now → IsJoining (c.args.segment.now ∷ before) c.self.inside.last.items c.self.inside.octets.items =
+    let joining : (before : List (List ℕ)) → Stands before c.args.self.now
+    → IsJoining (c.args.segment.now ∷ before) c.self.inside.last.items c.self.inside.octets.items =
     λ before h.
     exits.repeat_joining before c.args.segment.now c.self.inside.last.items c.self.inside.octets.items
     (exits.is_joining c.self.inside.stage c.self.inside.last.items c.self.inside.octets.items c.args.self.now before
