@@ -10,7 +10,10 @@ use Rattle.dnp_controls.specs.Selecting.{Select, SelectCall, Selecting, Operatin
 
 -- the test of going together says what going together is
 goes_with-Decides : (select : Select) (seq : ℕ) (octets : List ℕ) → Decides (goes_with select seq octets) (GoesWith select seq octets)
-goes_with-Decides select seq octets = go (eqb (seq % SEQUENCE_NUMBERS) ((select.seq + 1) % SEQUENCE_NUMBERS)) (pointwise nat_eq octets select.octets) (Decides-eqb (seq % SEQUENCE_NUMBERS) ((select.seq + 1) % SEQUENCE_NUMBERS)) (bytes_eq-Decides octets select.octets)
+goes_with-Decides select seq octets =
+    let now : ℕ = seq % SEQUENCE_NUMBERS in
+    let next : ℕ = (select.seq + 1) % SEQUENCE_NUMBERS in
+    go (eqb now next) (pointwise nat_eq octets select.octets) (Decides-eqb now next) (bytes_eq-Decides octets select.octets)
   where
     go : (a b : Bool) → Decides a (seq % SEQUENCE_NUMBERS ≡ (select.seq + 1) % SEQUENCE_NUMBERS) → Decides b (octets ≡ select.octets) → Decides (a && b) (GoesWith select seq octets)
     go true true da db = (λ _. record { next_number = da.0 refl; same_octets = db.0 refl }, λ _. refl)

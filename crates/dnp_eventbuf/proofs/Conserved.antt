@@ -59,7 +59,9 @@ put_conserves lane x true =
     let whole : map row_of lane.rows ≡ first ++ later = ap (map row_of) (sym (take-append-drop 1 lane.rows)) ∙ map-append row_of (take 1 lane.rows) (drop 1 lane.rows) in
     let left : IsPermutation (map row_of lane.rows ++ one) ((first ++ later) ++ one) = IsPermutation-same (map row_of lane.rows ++ one) ((first ++ later) ++ one) (ap (λ (xs : List Row). xs ++ one) whole) in
     let turned : IsPermutation ((first ++ later) ++ one) ((later ++ one) ++ first) =
-    IsPermutation-trans ((first ++ later) ++ one) (first ++ (later ++ one)) ((later ++ one) ++ first) (IsPermutation-same ((first ++ later) ++ one) (first ++ (later ++ one)) (append_assoc first later one)) (IsPermutation-append_comm first (later ++ one))
+    IsPermutation-trans ((first ++ later) ++ one) (first ++ (later ++ one)) ((later ++ one) ++ first)
+    (IsPermutation-same ((first ++ later) ++ one) (first ++ (later ++ one)) (append_assoc first later one))
+    (IsPermutation-append_comm first (later ++ one))
     in
     let right : (later ++ one) ++ first ≡ map row_of (drop 1 lane.rows ++ x ∷ []) ++ first = ap (λ (xs : List Row). xs ++ first) (sym (map-append row_of (drop 1 lane.rows) (x ∷ []))) in
     subst (IsPermutation (map row_of lane.rows ++ one)) right (IsPermutation-trans (map row_of lane.rows ++ one) ((first ++ later) ++ one) ((later ++ one) ++ first) left turned)

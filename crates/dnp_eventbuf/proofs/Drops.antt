@@ -34,7 +34,8 @@ tally_by false lane x room =
     let some : nat_lt 0 (lane.capacity - length lane.rows) ≡ true = lt-ltb 0 (lane.capacity - length lane.rows) (omega arith) in
     let free : lane.capacity - length (lane.rows ++ x ∷ []) ≡ lane.capacity - length lane.rows - 1 = omega (arith, length-append lane.rows (x ∷ [])) in
     let left : tally_of (record { capacity = lane.capacity; rows = lane.rows ++ x ∷ []; lost = lane.lost }) ≡ record { free = lane.capacity - length lane.rows - 1; lost = lane.lost } = ap (λ n. record { free = n; lost = lane.lost }) free in
-    let right : after_row (tally_of lane) ≡ record { free = lane.capacity - length lane.rows - 1; lost = lane.lost } = ap (λ b. cond b (record { free = lane.capacity - length lane.rows - 1; lost = lane.lost }) (record { free = 0; lost = lane.lost + 1 })) some in
+    let fewer : Tally = record { free = lane.capacity - length lane.rows - 1; lost = lane.lost } in
+    let right : after_row (tally_of lane) ≡ fewer = ap (λ b. cond b fewer (record { free = 0; lost = lane.lost + 1 })) some in
     left ∙ sym right
 
 tally_of-put_in : (lane : LaneState) (x : Numbered) → tally_of (put_in lane x) ≡ after_row (tally_of lane)

@@ -78,7 +78,8 @@ pub LostWithin-with_row : (s : Stock) (x : LaneRow) → LostWithin (with_row s x
 LostWithin-with_row s x within =
     let n = lane_number x.lane in
     before_set s.lanes n (put_in (lane_at s n) (record { id = s.last_id + 1; row = x.row }))
-    (λ d low. subst (λ (lane : LaneState). lane.lost ≤ (put_in (lane_at s n) (record { id = s.last_id + 1; row = x.row })).lost) (get_or_default s.lanes n no_lane d low) (lost-put_in (lane_at s n) (record { id = s.last_id + 1; row = x.row })))
+    (λ d low. subst (λ (lane : LaneState). lane.lost ≤ (put_in (lane_at s n) (record { id = s.last_id + 1; row = x.row })).lost)
+    (get_or_default s.lanes n no_lane d low) (lost-put_in (lane_at s n) (record { id = s.last_id + 1; row = x.row })))
     within
 
 pub LostWithin-with_rows : (s : Stock) (xs : List LaneRow) → LostWithin (with_rows s xs).lanes → LostWithin s.lanes

@@ -65,7 +65,8 @@ pushed number last lane n lost row sound room few fits =
 
 put_by : (number last : ℕ) (lane : LaneState) (row : Row) → IsSoundLane number last lane → ((of : Lane) → lane_number of ≡ number → IsCarried (record { lane = of; row = row }))
     → (b : Bool) → is_full lane ≡ b
-    → (let new : LaneState = cond b (record { capacity = lane.capacity; rows = drop 1 lane.rows ++ (record { id = last + 1; row = row }) ∷ []; lost = lane.lost + 1 }) (record { capacity = lane.capacity; rows = lane.rows ++ (record { id = last + 1; row = row }) ∷ []; lost = lane.lost })
+    → (let new : LaneState = cond b (record { capacity = lane.capacity; rows = drop 1 lane.rows ++ (record { id = last + 1; row = row }) ∷ []; lost = lane.lost + 1 })
+    (record { capacity = lane.capacity; rows = lane.rows ++ (record { id = last + 1; row = row }) ∷ []; lost = lane.lost })
     in new.lost ≤ MAX_ID → IsSoundLane number (last + 1) new)
 put_by number last lane row sound fits true full few =
     pushed number last lane 1 (lane.lost + 1) row sound

@@ -3,7 +3,7 @@ ghost use Rattle.std.specs.Prelude.{◌≡◌, ◌⊎◌, ◌≤◌, ◌<◌, �
 ghost use Rattle.std.specs.List.{list_any};
 ghost use Rattle.std.specs.List.Sorted.{IsPermutation};
 ghost use Rattle.dnp_objects.specs.declared.limits.TheConstants.{LANES};
-ghost use Rattle.dnp_objects.specs.declared.row.Row.{Row};
+ghost use Rattle.dnp_objects.specs.declared.row.Row.{Row as RowValue};
 ghost use Rattle.dnp_objects.specs.declared.lane.LaneRow.{LaneRow};
 ghost use Rattle.dnp_objects.specs.Counts.{IsCoveredBy};
 ghost use Rattle.dnp_eventbuf.specs.Carried.{IsCarried};
@@ -11,12 +11,16 @@ ghost use Rattle.dnp_eventbuf.specs.Latest.{KeepsLatest, numbered_for};
 ghost use Rattle.dnp_eventbuf.specs.Sound.{IsSound};
 ghost use Rattle.dnp_eventbuf.specs.Stock.{Stock, lane_at, empty_stock, arriving, with_rows, dropped_by, exhausts, rows_in, lost_in, all_up_to, without, without_all, offered, last_of, up_to, row_of};
 
+use crate::numbered::Numbered;
+use dnp_objects::Row;
+use dnp_objects::laws::{covered_is_kept_by_map, members_are_covered};
+
 /// An append loses nothing unseen: the old rows and those that came are the new rows and those that
 /// were dropped. As many as were dropped are counted as lost.
 pub fn an_append_conserves_rows()
     ensures lists { (s : Stock) (rows : List LaneRow) → IsSound s
         → IsPermutation (rows_in s ++ arriving rows) (rows_in (with_rows s rows) ++ dropped_by s rows) }
-    ensures counts { (s : Stock) (rows : List LaneRow) (test : Row → Bool) → IsSound s
+    ensures counts { (s : Stock) (rows : List LaneRow) (test : RowValue → Bool) → IsSound s
         → count_by test (rows_in s) + count_by test (arriving rows)
         ≡ count_by test (rows_in (with_rows s rows)) + count_by test (dropped_by s rows) }
     ensures lost { (s : Stock) (rows : List LaneRow) → IsSound s
@@ -27,7 +31,7 @@ pub fn an_append_conserves_rows()
 pub fn a_release_conserves_rows()
     ensures lists { (s : Stock) (upto : List ℕ) → length upto ≡ length s.lanes
         → IsPermutation (rows_in s) (all_up_to s upto ++ rows_in (without s upto)) }
-    ensures counts { (s : Stock) (upto : List ℕ) (test : Row → Bool) → length upto ≡ length s.lanes
+    ensures counts { (s : Stock) (upto : List ℕ) (test : RowValue → Bool) → length upto ≡ length s.lanes
         → count_by test (rows_in s) ≡ count_by test (all_up_to s upto) + count_by test (rows_in (without s upto)) }
     ensures lost { (s : Stock) (upto : List ℕ) → lost_in (without s upto) ≡ lost_in s }
 {}
@@ -86,7 +90,10 @@ pub fn a_release_takes_what_was_offered()
         → exhausts s rows ≡ false → number < LANES
         → IsCoveredBy (up_to (last_of (offered s number after most)) (lane_at (with_rows s rows) number))
         (up_to after (lane_at (with_rows s rows) number) ++ map row_of (offered s number after most)) }
-{}
+{
+    members_are_covered::<Numbered>();
+    covered_is_kept_by_map::<Numbered, Row>();
+}
 
 /// What is offered after a release was offered before it, from behind the id up to which the lane's rows
 /// are released, where that is the larger one.

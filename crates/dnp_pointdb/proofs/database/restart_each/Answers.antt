@@ -9,7 +9,11 @@ loop-bank-init c = sym (done-none (map spec.restarted_block) c.args.banks.now)
 
 pub loop-bank-preserved : goal.loop-bank-preserved
 loop-bank-preserved c =
-    done-step (map spec.restarted_block) c.loop-bank.bank-index c.args.banks.now c.loop-bank.bank-items _ _ c.loop-bank.invariant (let three : length c.args.banks.now ≡ KINDS = search rules in omega (arith, c.loop-bank-test.true)) c.restart.ensures
+    let three : length c.args.banks.now ≡ KINDS = search rules in
+    done-step (map spec.restarted_block) c.loop-bank.bank-index c.args.banks.now c.loop-bank.bank-items _ _
+    c.loop-bank.invariant (omega (arith, three, c.loop-bank-test.true)) c.restart.ensures
 
 pub returns : goal.returns
-returns c = c.loop-bank.invariant ∙ done-all (map spec.restarted_block) c.loop-bank.bank-index c.args.banks.now (let three : length c.args.banks.now ≡ KINDS = search rules in omega (arith, c.loop-bank-test.false))
+returns c =
+    let three : length c.args.banks.now ≡ KINDS = search rules in
+    c.loop-bank.invariant ∙ done-all (map spec.restarted_block) c.loop-bank.bank-index c.args.banks.now (omega (arith, three, c.loop-bank-test.false))
