@@ -6,6 +6,7 @@ ghost use Rattle.dnp_appfragment.specs.Places.{Ends, IsPart};
 ghost use Rattle.dnp_appfragment.specs.Seen.{number_and_rest, range_and_rest, head_and_rest};
 
 use crate::header::{Header, Range};
+use crate::qualifier::{ALL, COUNT, SPAN, WIDE_COUNT, WIDE_INDEXED, WIDE_SPAN};
 use crate::range::objects_size;
 use crate::table::Form;
 
@@ -32,20 +33,20 @@ fn checked_range(qualifier: u8, octets: &[u8]) -> (Range, &[u8])
     ensures end { Ends octets.entry result.1 }
 {
     match qualifier {
-        0x06 => (Range::All, octets),
-        0x00 | 0x01 => {
-            let wide = qualifier == 0x01;
+        ALL => (Range::All, octets),
+        SPAN | WIDE_SPAN => {
+            let wide = qualifier == WIDE_SPAN;
             let (first, rest) = checked_number(wide, octets);
             let (last, rest) = checked_number(wide, rest);
             (Range::Span { wide, first, last }, rest)
         }
-        0x07 | 0x08 => {
-            let wide = qualifier == 0x08;
+        COUNT | WIDE_COUNT => {
+            let wide = qualifier == WIDE_COUNT;
             let (n, rest) = checked_number(wide, octets);
             (Range::Count { wide, n }, rest)
         }
         _ => {
-            let wide = qualifier == 0x28;
+            let wide = qualifier == WIDE_INDEXED;
             let (n, rest) = checked_number(wide, octets);
             (Range::Indexed { wide, n }, rest)
         }

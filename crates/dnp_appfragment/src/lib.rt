@@ -14,6 +14,7 @@ mod iin;
 pub mod laws;
 mod objects;
 mod putting;
+mod qualifier;
 mod range;
 mod reading;
 mod request;
