@@ -1,0 +1,280 @@
+-- What a writer holds after some items: their headers.
+use Rattle.std.proofs.Common.{◌≡◌, ◌⊎◌, inl, inr, Bool, true, false, if◌then◌else◌, refl, sym, ◌∙◌, ap, subst, ℕ, ◌+◌, ◌*◌, ◌^◌, ◌<◌, ◌≤◌, nat_le, List, [], ◌∷◌, ◌++◌, map, length, arith, Option, Some, None, append_assoc, append-nil}
+use Rattle.std.specs.Prelude.{option_to_list, fold, slice_set}
+use Rattle.std.specs.List.{flat_map}
+use Rattle.std.specs.Option.{option_and_then}
+use Rattle.std.proofs.lemmas.Bool.{leb-true}
+use Rattle.std.proofs.lemmas.List.{length-append, length-map}
+use Rattle.std.proofs.lemmas.List.Concat.{flat_map-append}
+use Rattle.std.proofs.lemmas.List.Sums.{fold_push}
+use Rattle.dnp_appfragment.specs.declared.function.Function.{Function}
+use Rattle.dnp_appfragment.specs.declared.function.Function.TheVariants as function
+use Rattle.dnp_appfragment.specs.declared.header.Range.{Range}
+use Rattle.dnp_appfragment.specs.declared.header.Range.TheVariants as range
+use Rattle.dnp_appfragment.specs.Built.{Built, front_size, heads, size, broken, with_run, with_object}
+use Rattle.dnp_appfragment.specs.Headers.{Head, number, header_octets, range_octets, spelled}
+use Rattle.dnp_appfragment.specs.Items.{Item as Object, item_octets}
+use Rattle.dnp_appfragment.specs.Joining.{joined}
+use Rattle.dnp_outstation.specs.declared.offer.place.Place.{Place}
+use Rattle.dnp_outstation.specs.declared.offer.writer.Run.{Run}
+use Rattle.dnp_outstation.specs.declared.offer.writer.Run.TheVariants.{NoRun, OfLane, OfBlock}
+use Rattle.dnp_outstation.specs.declared.offer.writer.Writer.{Writer}
+use Rattle.dnp_outstation.specs.Items.{Thing, Item, no_ids, given_after, place_after}
+use Rattle.dnp_outstation.specs.Items.Thing.{Event, Present}
+use Rattle.dnp_outstation.specs.Layout.{object_of, goes_on, Stretch, alone, stretches, range_of, header_of, headers_of, fits_fragment}
+use Rattle.dnp_outstation.specs.Filling.{is_same_run, no_headers, empty_from, built_for, put, fits}
+use Rattle.dnp_outstation.proofs.Joined.{run_at, written_of, IsBehind, behind_on, behind_next, chain_behind, same_run, IsFew, joins, no_join}
+use Rattle.dnp_outstation.proofs.Stretches.{IsChain, last_item, chain_push, last_push, one_stretch, stretch_ends}
+
+-- the writer's last header is that of the last items, and those before it are ended
+pub record Stands (b : Built) (run : Run) (items : List Item) : Type 0 where
+  pub first : Item
+  pub more : List Item
+  pub chain : IsChain first more
+  pub function_is : b.function ≡ function.Response
+  pub run_is : b.run ≡ Some (header_of (record { first = first; more = more }))
+  pub run_at_is : run ≡ run_at (last_item first more)
+  pub headers : (others : List Item) → headers_of (items ++ others) ≡ b.ended ++ headers_of (first ∷ (more ++ others))
+
+pub record IsEmpty (b : Built) (run : Run) (items : List Item) : Type 0 where
+  pub items_are : items ≡ []
+  pub builder_is : b ≡ no_headers
+  pub run_is : run ≡ NoRun
+
+-- a writer that began at a place and has taken these items
+pub record Holds (place : Place) (w : Writer) (items : List Item) : Type 0 where
+  pub place_is : w.place ≡ fold place_after place items
+  pub upto_is : w.upto ≡ fold given_after no_ids items
+  pub stands : IsEmpty w.builder w.run items ⊎ Stands w.builder w.run items
+
+-- ---- its headers
+
+heads_of : (b : Built) (run : Run) (items : List Item) → Stands b run items → heads b ≡ headers_of items
+heads_of b run items s =
+    ap (λ (o : Option Head). b.ended ++ option_to_list o) s.run_is
+    ∙ ap (λ (found : List Stretch). b.ended ++ map header_of found) (sym (one_stretch s.first s.more s.chain))
+    ∙ ap (λ (more : List Item). b.ended ++ headers_of (s.first ∷ more)) (sym (append-nil s.more))
+    ∙ sym (s.headers [])
+    ∙ ap headers_of (append-nil items)
+
+pub heads_are : (place : Place) (w : Writer) (items : List Item) → Holds place w items → heads w.builder ≡ headers_of items
+heads_are place w items holds = go holds.stands
+  where
+    go : IsEmpty w.builder w.run items ⊎ Stands w.builder w.run items → heads w.builder ≡ headers_of items
+    go (inl empty) = ap heads empty.builder_is ∙ ap headers_of (sym empty.items_are)
+    go (inr s) = heads_of w.builder w.run items s
+
+function_is : (place : Place) (w : Writer) (items : List Item) → Holds place w items → w.builder.function ≡ function.Response
+function_is place w items holds = go holds.stands
+  where
+    go : IsEmpty w.builder w.run items ⊎ Stands w.builder w.run items → w.builder.function ≡ function.Response
+    go (inl empty) = ap (λ (b : Built). b.function) empty.builder_is
+    go (inr s) = s.function_is
+
+-- ---- an item is put
+
+pub put_is : (w : Writer) (x : Item)
+    → put w x ≡ record { builder = with_object (built_for w (run_at x)) (written_of x); run = run_at x; place = place_after w.place x; upto = given_after w.upto x }
+put_is w x = go x.header x.thing
+  where
+    go : (header : ℕ) (thing : Thing) → (let y : Item = record { header = header; thing = thing } in
+        put w y ≡ record { builder = with_object (built_for w (run_at y)) (written_of y); run = run_at y; place = place_after w.place y; upto = given_after w.upto y })
+    go header (Event lane row) = refl
+    go header (Present static) = refl
+
+pub alone_is : (x : Item) → written_of x ≡ header_of (alone x)
+alone_is x = go x.header x.thing
+  where
+    go : (header : ℕ) (thing : Thing) → written_of (record { header = header; thing = thing }) ≡ header_of (alone (record { header = header; thing = thing }))
+    go header (Event lane row) =
+        let h = written_of (record { header = header; thing = Event lane row }) in
+        ap (λ (o : List ℕ). record { group = h.group; variation = h.variation; range = h.range; octets = o }) (sym (append-nil h.octets))
+    go header (Present static) =
+        let h = written_of (record { header = header; thing = Present static }) in
+        let e : static.row.index ≡ static.row.index + 0 = omega arith in
+        ap (λ (o : List ℕ). record { group = h.group; variation = h.variation; range = h.range; octets = o }) (sym (append-nil h.octets))
+        ∙ ap (λ (last : ℕ). record { group = h.group; variation = h.variation; range = range.Span true static.row.index last; octets = h.octets ++ [] }) e
+
+-- a header more
+abbrev with_new : Built → Head → Built
+with_new b h = record { function = b.function; ended = heads b; run = Some h }
+
+run_broken : (b : Built) → heads (broken b) ≡ heads b
+run_broken b = append-nil (heads b)
+
+-- a header that joins nothing is put behind the others
+put_new : (b : Built) (object : Head) (o : Option Head) → b.run ≡ o → option_and_then (λ run. joined run object) o ≡ None
+    → with_object b object ≡ with_new b object
+unfolding with_object
+put_new b object o run_is none =
+    ap (λ (r : Option Head). with_run b (option_and_then (λ run. joined run object) r) object) run_is
+    ∙ ap (λ (r : Option Head). with_run b r object) none
+
+put_broken : (b : Built) (object : Head) → with_object (broken b) object ≡ with_new b object
+put_broken b object =
+    put_new (broken b) object None refl refl
+    ∙ ap (λ (hs : List Head). let built : Built = record { function = b.function; ended = hs; run = Some object } in built) (run_broken b)
+
+-- a header that joins the run makes it longer
+put_joined : (b : Built) (object run longer : Head) → b.run ≡ Some run → joined run object ≡ Some longer
+    → with_object b object ≡ record { function = b.function; ended = b.ended; run = Some longer }
+unfolding with_object
+put_joined b object run longer run_is joins =
+    ap (λ (r : Option Head). with_run b (option_and_then (λ x. joined x object) r) object) run_is
+    ∙ ap (λ (r : Option Head). with_run b r object) joins
+
+built_same : (w : Writer) (run : Run) → is_same_run w.run run ≡ true → built_for w run ≡ w.builder
+built_same w run same = ap (λ (t : Bool). if t then w.builder else broken w.builder) same
+
+built_other : (w : Writer) (run : Run) → is_same_run w.run run ≡ false → built_for w run ≡ broken w.builder
+built_other w run other = ap (λ (t : Bool). if t then w.builder else broken w.builder) other
+
+-- ---- the writer after one item more
+
+begun : (w : Writer) (items : List Item) (y : Item) → IsEmpty w.builder w.run items
+    → Stands (with_object (built_for w (run_at y)) (written_of y)) (run_at y) (items ++ y ∷ [])
+begun w items y empty =
+    subst (λ (xs : List Item). Stands (with_object (built_for w (run_at y)) (written_of y)) (run_at y) (xs ++ y ∷ [])) (sym empty.items_are)
+    (subst (λ (b : Built). Stands b (run_at y) (y ∷ [])) (sym is) (record {
+      first = y;
+      more = [];
+      chain = tt;
+      function_is = refl;
+      run_is = ap Some (alone_is y);
+      run_at_is = refl;
+      headers = λ others. refl;
+    }))
+  where
+    other : is_same_run w.run (run_at y) ≡ false
+    other = ap (λ (run : Run). is_same_run run (run_at y)) empty.run_is
+
+    is : with_object (built_for w (run_at y)) (written_of y) ≡ record { function = function.Response; ended = []; run = Some (written_of y) }
+    is =
+        ap (λ (b : Built). with_object b (written_of y)) (built_other w (run_at y) other)
+        ∙ put_broken w.builder (written_of y)
+        ∙ ap (λ (b : Built). with_new b (written_of y)) empty.builder_is
+
+went_on : (w : Writer) (items : List Item) (y : Item) (s : Stands w.builder w.run items) → IsFew s.first s.more
+    → goes_on (last_item s.first s.more) y ≡ true
+    → Stands (with_object (built_for w (run_at y)) (written_of y)) (run_at y) (items ++ y ∷ [])
+went_on w items y s few on =
+    subst (λ (b : Built). Stands b (run_at y) (items ++ y ∷ [])) (sym is) (record {
+      first = s.first;
+      more = s.more ++ y ∷ [];
+      chain = chain_push s.first s.more y s.chain on;
+      function_is = s.function_is;
+      run_is = refl;
+      run_at_is = ap run_at (sym (last_push s.first s.more y));
+      headers = λ others.
+          ap headers_of (append_assoc items (y ∷ []) others)
+          ∙ s.headers (y ∷ others)
+          ∙ ap (λ (xs : List Item). w.builder.ended ++ headers_of (s.first ∷ xs)) (sym (append_assoc s.more (y ∷ []) others));
+    })
+  where
+    same : is_same_run w.run (run_at y) ≡ true
+    same = ap (λ (run : Run). is_same_run run (run_at y)) s.run_at_is ∙ same_run (last_item s.first s.more) y on
+
+    behind : IsBehind s.first (length s.more + 1) y
+    behind = behind_on s.first (last_item s.first s.more) y (length s.more) 1 (chain_behind s.first s.more s.chain) (behind_next (last_item s.first s.more) y on)
+
+    is : with_object (built_for w (run_at y)) (written_of y)
+        ≡ record { function = w.builder.function; ended = w.builder.ended; run = Some (header_of (record { first = s.first; more = s.more ++ y ∷ [] })) }
+    is =
+        ap (λ (b : Built). with_object b (written_of y)) (built_same w (run_at y) same)
+        ∙ put_joined w.builder (written_of y) (header_of (record { first = s.first; more = s.more })) (header_of (record { first = s.first; more = s.more ++ y ∷ [] })) s.run_is
+        (joins s.first s.more y behind few)
+
+began_anew : (w : Writer) (items : List Item) (y : Item) (s : Stands w.builder w.run items) → goes_on (last_item s.first s.more) y ≡ false
+    → Stands (with_object (built_for w (run_at y)) (written_of y)) (run_at y) (items ++ y ∷ [])
+began_anew w items y s off =
+    subst (λ (b : Built). Stands b (run_at y) (items ++ y ∷ [])) (sym (is (is_same_run w.run (run_at y)) refl)) (record {
+      first = y;
+      more = [];
+      chain = tt;
+      function_is = s.function_is;
+      run_is = ap Some (alone_is y);
+      run_at_is = refl;
+      headers = λ others.
+          ap headers_of (append_assoc items (y ∷ []) others)
+          ∙ s.headers (y ∷ others)
+          ∙ ap (λ (found : List Stretch). w.builder.ended ++ map header_of found) (stretch_ends s.first s.more y others s.chain off)
+          ∙ sym (append_assoc w.builder.ended (header_of last ∷ []) (headers_of (y ∷ others)))
+          ∙ ap (λ (o : Option Head). (w.builder.ended ++ option_to_list o) ++ headers_of (y ∷ others)) (sym s.run_is);
+    })
+  where
+    last : Stretch
+    last = record { first = s.first; more = s.more }
+
+    at_last : (run : Run) → is_same_run w.run run ≡ is_same_run (run_at (last_item s.first s.more)) run
+    at_last run = ap (λ (r : Run). is_same_run r run) s.run_at_is
+
+    is : (t : Bool) → is_same_run w.run (run_at y) ≡ t → with_object (built_for w (run_at y)) (written_of y) ≡ with_new w.builder (written_of y)
+    is true same =
+        ap (λ (b : Built). with_object b (written_of y)) (built_same w (run_at y) same)
+        ∙ put_new w.builder (written_of y) (Some (header_of last)) s.run_is
+        (no_join s.first s.more (last_item s.first s.more) y (chain_behind s.first s.more s.chain) (sym (at_last (run_at y)) ∙ same) off)
+    is false other =
+        ap (λ (b : Built). with_object b (written_of y)) (built_other w (run_at y) other)
+        ∙ put_broken w.builder (written_of y)
+
+-- ---- no count is too large in a fragment that fits
+
+indexed_octets : (n : ℕ) (objects : List Object) → 2 * length objects ≤ length (flat_map (item_octets (range.Indexed true n)) objects)
+indexed_octets n [] = omega arith
+indexed_octets n (o ∷ objects) =
+    let behind = indexed_octets n objects in
+    let first : List ℕ = item_octets (range.Indexed true n) o in
+    let two : length first ≡ length o.octets + 2 = omega (arith, length-append (number true o.index) o.octets) in
+    let both : length (first ++ flat_map (item_octets (range.Indexed true n)) objects) ≡ length first + length (flat_map (item_octets (range.Indexed true n)) objects) = length-append first (flat_map (item_octets (range.Indexed true n)) objects) in
+    omega arith
+
+within_size : (b : Built) (h : Head) → b.run ≡ Some h → length h.octets ≤ size b
+within_size b h run_is =
+    let heads_is : heads b ≡ b.ended ++ h ∷ [] = ap (λ (o : Option Head). b.ended ++ option_to_list o) run_is in
+    let spelled_is : spelled (heads b) ≡ spelled b.ended ++ (header_octets h ++ []) = ap spelled heads_is ∙ flat_map-append header_octets b.ended (h ∷ []) in
+    let parts : length (spelled (heads b)) ≡ length (spelled b.ended) + length (header_octets h ++ []) = ap length spelled_is ∙ length-append (spelled b.ended) (header_octets h ++ []) in
+    let plain : length (header_octets h ++ []) ≡ length (header_octets h) = ap length (append-nil (header_octets h)) in
+    let inner : length (range_octets h.range ++ h.octets) ≡ length (range_octets h.range) + length h.octets = length-append (range_octets h.range) h.octets in
+    omega arith
+
+pub few : (b : Built) (first : Item) (more : List Item) → b.run ≡ Some (header_of (record { first = first; more = more })) → size b ≤ 2048 → IsFew first more
+few b first more run_is small = go first.header first.thing run_is
+  where
+    go : (header : ℕ) (thing : Thing) → (let x : Item = record { header = header; thing = thing } in b.run ≡ Some (header_of (record { first = x; more = more })) → IsFew x more)
+    go header (Event lane row) is =
+        let x : Item = record { header = header; thing = Event lane row } in
+        let objects = map object_of (x ∷ more) in
+        let within = within_size b (header_of (record { first = x; more = more })) is in
+        let many = indexed_octets (length more + 1) objects in
+        let count : length objects ≡ length (x ∷ more) = length-map (x ∷ more) object_of in
+        omega arith
+    go header (Present static) is = tt
+
+-- ---- one item more
+
+pub put_holds : (place : Place) (w : Writer) (items : List Item) (y : Item) → Holds place w items → fits w ≡ true → Holds place (put w y) (items ++ y ∷ [])
+put_holds place w items y holds fit = subst (λ (v : Writer). Holds place v (items ++ y ∷ [])) (sym (put_is w y)) (record {
+  place_is = ap (λ (p : Place). place_after p y) holds.place_is ∙ sym (fold_push place_after place items y);
+  upto_is = ap (λ (ids : List ℕ). given_after ids y) holds.upto_is ∙ sym (fold_push given_after no_ids items y);
+  stands = inr (after holds.stands);
+})
+  where
+    small : size w.builder ≤ 2048
+    small = leb-true (size w.builder) 2048 fit
+
+    by : (s : Stands w.builder w.run items) (t : Bool) → goes_on (last_item s.first s.more) y ≡ t
+        → Stands (with_object (built_for w (run_at y)) (written_of y)) (run_at y) (items ++ y ∷ [])
+    by s true on = went_on w items y s (few w.builder s.first s.more s.run_is small) on
+    by s false off = began_anew w items y s off
+
+    after : IsEmpty w.builder w.run items ⊎ Stands w.builder w.run items → Stands (with_object (built_for w (run_at y)) (written_of y)) (run_at y) (items ++ y ∷ [])
+    after (inl empty) = begun w items y empty
+    after (inr s) = by s (goes_on (last_item s.first s.more) y) refl
+
+pub empty_holds : (place : Place) → Holds place (empty_from place) []
+empty_holds place = record { place_is = refl; upto_is = refl; stands = inl (record { items_are = refl; builder_is = refl; run_is = refl }) }
+
+pub fits_is : (place : Place) (w : Writer) (items : List Item) → Holds place w items → fits w ≡ fits_fragment items
+fits_is place w items holds =
+    let front : size w.builder ≡ 4 + length (spelled (heads w.builder)) = ap (λ (f : Function). front_size f + length (spelled (heads w.builder))) (function_is place w items holds) in
+    ap (λ (n : ℕ). nat_le n 2048) front ∙ ap (λ (hs : List Head). nat_le (4 + length (spelled hs)) 2048) (heads_are place w items holds)

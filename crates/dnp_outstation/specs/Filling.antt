@@ -1,0 +1,91 @@
+-- How a fragment is filled, item by item. Words of private steps; a lemma (proofs/Filled.antt) says that what is
+-- filled is what is offered (Offer.antt).
+use Rattle.std.specs.Prelude.{ℕ, ◌==◌, Bool, true, false, ◌&&◌, if◌then◌else◌, nat_le, max, List, [], ◌∷◌, ◌++◌, map, slice_set, slice_index, Option, None, Some}
+use Rattle.dnp_objects.specs.Lanes.{lane_number}
+use Rattle.dnp_appfragment.specs.declared.function.Function.TheVariants as function
+use Rattle.dnp_appfragment.specs.Built as built
+use Rattle.dnp_appfragment.specs.Built.{Built}
+use Rattle.dnp_appfragment.specs.Written as written
+use Rattle.dnp_eventbuf.specs.Stock.{Stock, without}
+use Rattle.dnp_outstation.specs.declared.offer.place.Place.{Place}
+use Rattle.dnp_outstation.specs.declared.offer.place.RowPart.{RowPart}
+use Rattle.dnp_outstation.specs.declared.offer.place.Wanted.{Wanted}
+use Rattle.dnp_outstation.specs.declared.offer.place.Wanted.TheVariants.{Rows, EachGroup, OneGroup}
+use Rattle.dnp_outstation.specs.declared.offer.writer.Run.{Run}
+use Rattle.dnp_outstation.specs.declared.offer.writer.Run.TheVariants.{NoRun, OfLane, OfBlock}
+use Rattle.dnp_outstation.specs.declared.offer.writer.Writer.{Writer}
+use Rattle.dnp_outstation.specs.Items.{Source, Part, Thing, Item, statics_of, in_range, no_ids, place_after}
+use Rattle.dnp_outstation.specs.Items.Part.{RowsOf, StaticsOf}
+use Rattle.dnp_outstation.specs.Items.Thing.{Event, Present}
+use Rattle.dnp_outstation.specs.Offer.{Filled}
+
+-- ---- what is read
+
+-- the part that a header asks for by rows
+abbrev pub part_of_rows : RowPart → Part
+part_of_rows p = RowsOf (map lane_number p.lanes) p.most
+
+-- the part that a header asks for, by what is wanted
+abbrev pub part_by : Source → Wanted → Part
+part_by s (Rows part) = part_of_rows part
+part_by s EachGroup = StaticsOf (statics_of s 1 ++ statics_of s 10 ++ statics_of s 20 ++ statics_of s 30)
+part_by s (OneGroup group r) = StaticsOf (in_range r (statics_of s group))
+
+-- the lanes as they are after a release, if there is one
+abbrev pub after_release : Stock → Option (List ℕ) → Stock
+after_release s None = s
+after_release s (Some upto) = without s upto
+
+-- over which id a lane's rows are still to be given, once these are released
+abbrev pub over_of : List ℕ → Option (List ℕ) → ℕ → ℕ
+over_of given None lane = slice_index given lane
+over_of given (Some upto) lane = max (slice_index given lane) (slice_index upto lane)
+
+-- ---- what is written
+
+abbrev pub is_same_run : Run → Run → Bool
+is_same_run NoRun run = false
+is_same_run (OfLane lane) NoRun = false
+is_same_run (OfLane lane) (OfLane lane') = lane == lane'
+is_same_run (OfLane lane) (OfBlock header group block) = false
+is_same_run (OfBlock header group block) NoRun = false
+is_same_run (OfBlock header group block) (OfLane lane) = false
+is_same_run (OfBlock header group block) (OfBlock header' group' block') = header == header' && (group == group' && block == block')
+
+abbrev pub no_headers : Built
+no_headers = record { function = function.Response; ended = []; run = None }
+
+abbrev pub empty_from : Place → Writer
+empty_from place = record { builder = no_headers; run = NoRun; place = place; upto = no_ids }
+
+-- a new header begins where the lane changes, or for present values the header of the READ, the group or the block
+abbrev pub built_for : Writer → Run → Built
+built_for w run = if is_same_run w.run run then w.builder else built.broken w.builder
+
+abbrev pub put : Writer → Item → Writer
+put w x = put_thing x.thing
+  where
+    put_thing : Thing → Writer
+    put_thing (Event lane row) = record {
+      builder = built.with_object (built_for w (OfLane lane)) (written.event row.row);
+      run = OfLane lane;
+      place = place_after w.place x;
+      upto = slice_set w.upto lane row.id;
+    }
+    put_thing (Present static) = record {
+      builder = built.with_object (built_for w (OfBlock x.header static.group static.block)) (written.point static.group static.row);
+      run = OfBlock x.header static.group static.block;
+      place = place_after w.place x;
+      upto = w.upto;
+    }
+
+abbrev pub fits : Writer → Bool
+fits w = nat_le (built.size w.builder) 2048
+
+abbrev pub ended : Bool → Writer → Filled
+ended is_last w = record { headers = built.heads w.builder; upto = w.upto; left = if is_last then None else Some w.place }
+
+-- items are put until one doesn't fit
+abbrev pub fill : Writer → List Item → Filled
+fill w [] = ended true w
+fill w (x ∷ xs) = if fits (put w x) then fill (put w x) xs else ended false w

@@ -1,0 +1,89 @@
+-- The object headers that a list of items is written as, and the size of the response that holds them (IEEE Std
+-- 1815-2012, application layer: object headers, responses; object library: groups 2, 22, 32 and 1, 10, 20, 30).
+-- Defines what contracts promise.
+use Rattle.std.specs.Prelude.{ℕ, ◌+◌, ◌==◌, Bool, true, false, ◌&&◌, if◌then◌else◌, nat_le, List, [], ◌∷◌, length, map}
+use Rattle.std.specs.List.{flat_map}
+use Rattle.dnp_appfragment.specs.declared.header.Range.{Range}
+use Rattle.dnp_appfragment.specs.declared.header.Range.TheVariants as range
+use Rattle.dnp_appfragment.specs.Headers.{Head, spelled}
+use Rattle.dnp_appfragment.specs.Items.{Item as Object, item_octets, event_item, point_item}
+use Rattle.dnp_outstation.specs.Items.{Thing, Item}
+use Rattle.dnp_outstation.specs.Items.Thing.{Event, Present}
+
+-- what an item is written as: an event as 2.2, 22.5 or 32.3, without a time as 2.1, 22.1 or 32.1, and a present
+-- value as 1.2, 10.2, 20.1 or 30.1
+abbrev pub object_of : Item → Object
+object_of x = of x.thing
+  where
+    of : Thing → Object
+    of (Event lane row) = event_item row.row
+    of (Present static) = point_item static.group static.row
+
+-- ---- which items stand under one header
+
+-- the objects are of one group and variation
+abbrev pub is_same_object : Object → Object → Bool
+is_same_object a b = (a.group == b.group) && (a.variation == b.variation)
+
+-- the second item stands under the header of the first, which is the one before it: an event if it is of the same
+-- lane and object, and a present value if it is of the same header of the READ, the same group and block, and its
+-- index is the next
+abbrev pub goes_on : Item → Item → Bool
+goes_on x y = goes_on_by x.thing y.thing
+  where
+    goes_on_by : Thing → Thing → Bool
+    goes_on_by (Event lane a) (Event lane' b) = (lane == lane') && is_same_object (event_item a.row) (event_item b.row)
+    goes_on_by (Event lane a) (Present b) = false
+    goes_on_by (Present a) (Event lane' b) = false
+    goes_on_by (Present a) (Present b) =
+        (x.header == y.header) && ((a.group == b.group) && (a.block == b.block)) && (a.row.index + 1 == b.row.index)
+
+-- the items under one header, in order
+pub record Stretch : Type 0 where
+  pub first : Item
+  pub more : List Item
+
+abbrev pub alone : Item → Stretch
+alone x = record { first = x; more = [] }
+
+-- an item in front of others: it stands under one header with the next, if that one goes on
+abbrev pub in_front : Item → List Stretch → List Stretch
+in_front x [] = alone x ∷ []
+in_front x (next ∷ others) =
+    if goes_on x next.first
+    then (record { first = x; more = next.first ∷ next.more }) ∷ others
+    else alone x ∷ next ∷ others
+
+abbrev pub stretches : List Item → List Stretch
+stretches [] = []
+stretches (x ∷ xs) = in_front x (stretches xs)
+
+-- ---- the headers
+
+-- the range of so many objects more behind this one: of events a count, with an index before each (qualifier 28),
+-- and of present values the first and the last index (qualifier 01)
+abbrev pub range_of : Thing → ℕ → Range
+range_of (Event lane row) more = range.Indexed true (more + 1)
+range_of (Present static) more = range.Span true static.row.index (static.row.index + more)
+
+abbrev pub header_of : Stretch → Head
+header_of s = record {
+  group = (object_of s.first).group;
+  variation = (object_of s.first).variation;
+  range = range_of s.first.thing (length s.more);
+  octets = flat_map (item_octets (range_of s.first.thing (length s.more))) (map object_of (s.first ∷ s.more));
+}
+
+abbrev pub headers_of : List Item → List Head
+headers_of items = map header_of (stretches items)
+
+-- ---- the size
+
+-- how many octets a response with these items has: control, function, two of indications, and the headers with
+-- their objects
+abbrev pub response_size : List Item → ℕ
+response_size items = 4 + length (spelled (headers_of items))
+
+-- a fragment has at most 2,048 octets
+abbrev pub fits_fragment : List Item → Bool
+fits_fragment items = nat_le (response_size items) 2048
