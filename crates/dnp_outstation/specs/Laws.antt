@@ -1,0 +1,58 @@
+-- What the laws of a response say, in words of their own: the longest beginning, and which rows of the lanes a
+-- fragment carries (IEEE Std 1815-2012, application layer: responses, confirms, event buffers). Defines what
+-- contracts promise.
+use Rattle.std.specs.Prelude.{◌≡◌, ℕ, ◌<◌, ◌≤◌, ◌==◌, Bool, true, false, if◌then◌else◌, nat_le, List, [], ◌∷◌, length, map, filter, take, slice_index, Option, None, Some, All}
+use Rattle.std.specs.List.{filter_map, flat_map}
+use Rattle.dnp_objects.specs.declared.row.Row.{Row}
+use Rattle.dnp_eventbuf.specs.declared.numbered.Numbered.{Numbered}
+use Rattle.dnp_eventbuf.specs.Stock.{Stock, lane_at, row_of}
+use Rattle.dnp_outstation.specs.Items.{Thing, Item}
+use Rattle.dnp_outstation.specs.Items.Thing.{Event, Present}
+
+-- ---- the longest beginning
+
+-- of a list's beginnings that pass these members are the longest
+pub record IsLongest {A : Type 0} (passes : List A → Bool) (all held : List A) : Type 0 where
+  pub begins : take (length held) all ≡ held
+  pub fits : passes held ≡ true
+  pub more : (n : ℕ) → length held < n → n ≤ length all → passes (take n all) ≡ false
+
+-- ---- the rows of a fragment
+
+-- the row of this lane that an item is, if it is one
+abbrev pub row_in : ℕ → Item → Option Numbered
+row_in lane x = in_lane x.thing
+  where
+    in_lane : Thing → Option Numbered
+    in_lane (Event at row) = if at == lane then Some row else None
+    in_lane (Present static) = None
+
+-- the rows of a lane among items
+abbrev pub rows_in_lane : ℕ → List Item → List Numbered
+rows_in_lane lane items = filter_map (row_in lane) items
+
+-- the numbers of the lanes
+abbrev pub lane_numbers : List ℕ
+lane_numbers = 0 ∷ 1 ∷ 2 ∷ 3 ∷ 4 ∷ 5 ∷ 6 ∷ 7 ∷ 8 ∷ []
+
+-- all event rows among items, lane by lane
+abbrev pub rows_by_lane : List Item → List Row
+rows_by_lane items = flat_map (λ lane. map row_of (rows_in_lane lane items)) lane_numbers
+
+-- lane by lane, these items' rows are those that stand in the lanes with ids up to the lane's number
+abbrev pub AreRowsUpto : Stock → List ℕ → List Item → Type 0
+AreRowsUpto s upto items = (lane : ℕ) → lane < 9
+    → rows_in_lane lane items ≡ filter (λ x. nat_le x.id (slice_index upto lane)) (lane_at s lane).rows
+
+-- ---- what stands in the lanes of what was given
+
+-- nothing that was given before is left: each row of a lane has an id over the last one that was given
+abbrev pub IsTidy : Stock → List ℕ → Type 0
+IsTidy s given = (lane : ℕ) → lane < 9 → All (λ x. slice_index given lane < x.id) (lane_at s lane).rows
+
+-- of what was given nothing is left but what the fragment with these ids carries, and no id is given twice
+pub record LeavesNothing (s : Stock) (given upto : List ℕ) : Type 0 where
+  pub nine : length given ≡ 9
+  pub used : All (λ id. id ≤ s.last_id) given
+  pub carried : (lane : ℕ) → lane < 9
+      → All (λ x. x.id ≤ slice_index given lane → x.id ≤ slice_index upto lane) (lane_at s lane).rows
