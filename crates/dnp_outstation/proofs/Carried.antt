@@ -1,7 +1,7 @@
 -- Lane by lane, a fragment carries the rows with ids up to its number, and a release takes these.
-use Rattle.std.proofs.Common.{◌≡◌, Bool, true, false, refl, sym, ◌∙◌, ap, subst, ℕ, zero, suc, ◌+◌, ◌<◌, ◌≤◌, nat_le, List, [], ◌∷◌, ◌++◌, map, drop, length, get_or, arith, append-nil, ◌⊎◌, inl, inr}
-use Rattle.std.specs.Prelude.{fold, slice_index, replicate}
-use Rattle.std.specs.List.{All, AllPairs, filter, flat_map}
+use Rattle.std.proofs.Common.{◌≡◌, Bool, refl, sym, ◌∙◌, ap, subst, ℕ, zero, suc, ◌<◌, ◌≤◌, nat_le, List, [], ◌∷◌, ◌++◌, map, drop, length, get_or, arith, append-nil, ◌⊎◌, inl, inr}
+use Rattle.std.specs.Prelude.{slice_index}
+use Rattle.std.specs.List.{filter, flat_map}
 use Rattle.std.proofs.lemmas.Bool.{cases_eq}
 use Rattle.std.proofs.lemmas.List.{get_or-replicate}
 use Rattle.std.proofs.lemmas.List.Elements.{filter_map-append}
@@ -11,7 +11,7 @@ use Rattle.dnp_eventbuf.specs.Stock.{Stock, LaneState, lane_at, no_lane, row_of,
 use Rattle.dnp_objects.specs.declared.row.Row.{Row}
 use Rattle.dnp_appfragment.specs.Headers.{Head}
 use Rattle.dnp_outstation.specs.declared.offer.place.Place.{Place}
-use Rattle.dnp_outstation.specs.Items.{Item, Source, no_ids, given_after, event_of, rows_left, parts_left, part_of, items_left, enabled_lanes, lane_items}
+use Rattle.dnp_outstation.specs.Items.{Item, Source, no_ids, event_of, rows_left, parts_left, part_of, items_left, enabled_lanes, lane_items}
 use Rattle.dnp_outstation.specs.Layout.{fits_fragment}
 use Rattle.dnp_outstation.specs.Offer.{held_of, last_ids, offered_of, offered, pushed}
 use Rattle.dnp_outstation.specs.Laws.{row_in, rows_in_lane, lane_numbers, rows_by_lane, AreRowsUpto, IsTidy}
@@ -104,14 +104,14 @@ once_lane s (number ∷ numbers) lane once = by (once_lane s numbers lane once.1
       rest = [];
       is = sym (
           ap (λ (l : List Numbered). l ++ []) (
-              split
-              ∙ ap (λ (l : List Numbered). l ++ rows_in_lane lane (lane_items s numbers)) (rows_at 0 lane number (lane_at s number).rows same)
-              ∙ ap (λ (l : List Numbered). (lane_at s number).rows ++ l) (apart_lane s numbers lane (once.0 same))
+          split
+          ∙ ap (λ (l : List Numbered). l ++ rows_in_lane lane (lane_items s numbers)) (rows_at 0 lane number (lane_at s number).rows same)
+          ∙ ap (λ (l : List Numbered). (lane_at s number).rows ++ l) (apart_lane s numbers lane (once.0 same))
           )
           ∙ append-nil ((lane_at s number).rows ++ [])
           ∙ append-nil (lane_at s number).rows
           ∙ ap (λ (k : ℕ). (lane_at s k).rows) same
-      );
+          );
     }
     by behind (inr other) =
         subst (λ (l : List Numbered). Starts l (lane_at s lane).rows)

@@ -1,11 +1,10 @@
 -- The rows of one lane among the items of a READ, and the last ids after them.
-use Rattle.std.proofs.Common.{◌≡◌, ◌⊎◌, inl, inr, Bool, true, false, cond, if◌then◌else◌, refl, sym, ◌∙◌, ap, subst, ℕ, zero, suc, ◌+◌, ◌*◌, ◌<◌, ◌≤◌, ◌==◌, nat_le, List, [], ◌∷◌, ◌++◌, map, take, drop, length, get_or, set, arith, Option, None, Some, append_assoc, append-nil, eq-eqb, ne_eqb}
+use Rattle.std.proofs.Common.{◌≡◌, ◌⊎◌, inl, inr, Bool, true, false, cond, if◌then◌else◌, refl, sym, ◌∙◌, ap, subst, ℕ, ◌+◌, ◌<◌, ◌==◌, List, [], ◌∷◌, ◌++◌, map, drop, length, get_or, set, arith, Option, None, Some, append_assoc, append-nil, eq-eqb, ne_eqb}
 use Rattle.std.specs.Prelude.{fold, slice_set, slice_index}
-use Rattle.std.specs.List.{cons_option, filter, filter_map}
+use Rattle.std.specs.List.{cons_option, filter}
 use Rattle.std.proofs.lemmas.Bool.{cases_eq}
 use Rattle.std.proofs.lemmas.List.{take-append-drop, get_or-set_same, get_or-set_other, length-set}
 use Rattle.std.proofs.lemmas.List.Elements.{filter_map-append}
-use Rattle.std.proofs.lemmas.List.Sums.{fold-append}
 use Rattle.dnp_eventbuf.specs.declared.numbered.Numbered.{Numbered}
 use Rattle.dnp_eventbuf.specs.Stock.{Stock, lane_at}
 use Rattle.dnp_outstation.specs.Items.{Thing, Item, Source, Static, Part, at_most, less, rows_left, event_of, event_items, present_of, given_after, part_items, items_of}
@@ -209,6 +208,6 @@ item_rows s stood given header (part ∷ parts) lane rising low once =
     (record {
       rest = there.rest;
       is = here.is
-      ∙ ap (λ (l : List Numbered). rows_in_lane lane items ++ l) (sym rest_is ∙ there.is)
-      ∙ sym (append_assoc (rows_in_lane lane items) (rows_in_lane lane more) there.rest);
+          ∙ ap (λ (l : List Numbered). rows_in_lane lane items ++ l) (sym rest_is ∙ there.is)
+          ∙ sym (append_assoc (rows_in_lane lane items) (rows_in_lane lane more) there.rest);
     })

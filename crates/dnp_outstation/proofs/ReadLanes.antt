@@ -1,7 +1,7 @@
 -- A header of a READ asks for each lane once at most, and so does an unsolicited response.
-use Rattle.std.proofs.Common.{◌≡◌, Bool, true, false, if◌then◌else◌, refl, sym, ℕ, suc, ◌+◌, ◌*◌, ◌<◌, ◌≤◌, ◌==◌, ◌&&◌, List, [], ◌∷◌, ◌++◌, map, drop, arith, Option, None, Some}
+use Rattle.std.proofs.Common.{Bool, true, false, if◌then◌else◌, ℕ, ◌+◌, ◌*◌, ◌<◌, ◌==◌, ◌&&◌, List, [], ◌∷◌, map, drop, arith}
 use Rattle.dnp_appfragment.specs.Headers.{Head}
-use Rattle.dnp_outstation.specs.Items.{Source, Part, limit_of, class_lanes, kind_lanes, part_of, part_after, parts_left, enabled_lanes}
+use Rattle.dnp_outstation.specs.Items.{Source, Part, class_lanes, kind_lanes, part_of, part_after, parts_left, enabled_lanes}
 use Rattle.dnp_outstation.specs.Items.Part.{RowsOf, StaticsOf}
 use Rattle.dnp_outstation.proofs.LaneRows.{IsApart, IsOnce, HasOnce, AllOnce}
 
@@ -52,8 +52,10 @@ apart_below class lane (false ∷ bs) low = apart_below (class + 1) lane bs (ome
 pub enabled_once : (class lane : ℕ) (enabled : List Bool) → IsOnce lane (enabled_lanes class enabled)
 enabled_once class lane [] = tt
 enabled_once class lane (true ∷ bs) = (
-    (λ e. ((λ f. omega arith), ((λ f. omega arith), apart_below (class + 1) lane bs (omega arith)))),
-    ((λ e. ((λ f. omega arith), apart_below (class + 1) lane bs (omega arith))),
-    ((λ e. apart_below (class + 1) lane bs (omega arith)), enabled_once (class + 1) lane bs))
+  (λ e. ((λ f. omega arith), ((λ f. omega arith), apart_below (class + 1) lane bs (omega arith)))),
+  (
+    (λ e. ((λ f. omega arith), apart_below (class + 1) lane bs (omega arith))),
+    ((λ e. apart_below (class + 1) lane bs (omega arith)), enabled_once (class + 1) lane bs),
+  ),
 )
 enabled_once class lane (false ∷ bs) = enabled_once (class + 1) lane bs

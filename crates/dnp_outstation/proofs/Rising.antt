@@ -1,5 +1,5 @@
 -- Rows whose ids rise, and filters by their ids.
-use Rattle.std.proofs.Common.{◌≡◌, Bool, true, false, cond, refl, sym, ◌∙◌, ap, subst, ℕ, zero, suc, ◌+◌, ◌<◌, ◌≤◌, nat_le, nat_lt, List, [], ◌∷◌, ◌++◌, length, get_or, drop, arith, ◌⊎◌, inl, inr}
+use Rattle.std.proofs.Common.{◌≡◌, Bool, true, false, cond, refl, sym, ◌∙◌, ap, subst, ℕ, zero, suc, ◌<◌, ◌≤◌, nat_le, nat_lt, List, [], ◌∷◌, ◌++◌, length, get_or, drop, arith, inl, inr}
 use Rattle.std.specs.List.{All, AllPairs, filter}
 use Rattle.std.proofs.lemmas.Bool.{cases_lt, lt-ltb, ltb-true, le-leb, leb-true}
 use Rattle.std.proofs.lemmas.List.Elements.{All-nil, All-cons, All-head, filter_passes}
@@ -41,8 +41,8 @@ rising_begins low (x ∷ xs) rest rising = (rising.0, rising_begins x.id xs rest
 pub rising_from : (low : ℕ) (xs : List Numbered) → AllPairs (λ x y. x.id < y.id) xs → All (λ x. low < x.id) xs → Rising low xs
 rising_from low [] pairs all = tt
 rising_from low (x ∷ xs) pairs all = (
-    All-head (λ (y : Numbered). low < y.id) x xs all,
-    rising_from x.id xs (λ i j d before low'. pairs (suc i) (suc j) d (omega arith) (omega arith)) (λ k d low'. pairs 0 (suc k) d (omega arith) (omega arith))
+  All-head (λ (y : Numbered). low < y.id) x xs all,
+  rising_from x.id xs (λ i j d before low'. pairs (suc i) (suc j) d (omega arith) (omega arith)) (λ k d low'. pairs 0 (suc k) d (omega arith) (omega arith)),
 )
 
 pub all_over : (low : ℕ) (xs : List Numbered) → Rising low xs → All (λ x. low < x.id) xs

@@ -1,7 +1,7 @@
 -- What the laws of a response say, in words of their own: the longest beginning, and which rows of the lanes a
 -- fragment carries (IEEE Std 1815-2012, application layer: responses, confirms, event buffers). Defines what
 -- contracts promise.
-use Rattle.std.specs.Prelude.{◌≡◌, ℕ, ◌<◌, ◌≤◌, ◌==◌, Bool, true, false, if◌then◌else◌, nat_le, List, [], ◌∷◌, length, map, filter, take, slice_index, Option, None, Some, All}
+use Rattle.std.specs.Prelude.{◌≡◌, ℕ, ◌<◌, ◌≤◌, ◌==◌, Bool, true, false, if◌then◌else◌, nat_le, List, [], ◌∷◌, length, map, filter, take, slice_index, Option, None, Some, All, AllPairs}
 use Rattle.std.specs.List.{filter_map, flat_map}
 use Rattle.dnp_objects.specs.declared.row.Row.{Row}
 use Rattle.dnp_eventbuf.specs.declared.numbered.Numbered.{Numbered}
@@ -43,6 +43,28 @@ rows_by_lane items = flat_map (λ lane. map row_of (rows_in_lane lane items)) la
 abbrev pub AreRowsUpto : Stock → List ℕ → List Item → Type 0
 AreRowsUpto s upto items = (lane : ℕ) → lane < 9
     → rows_in_lane lane items ≡ filter (λ x. nat_le x.id (slice_index upto lane)) (lane_at s lane).rows
+
+-- ---- the fragments of one response
+
+-- the rows of each lane come in order, behind the last ones given, and none came after the READ was first answered
+pub record AreNext (given : List ℕ) (stood : ℕ) (items : List Item) : Type 0 where
+  pub in_order : (lane : ℕ) → lane < 9 → AllPairs (λ x y. x.id < y.id) (rows_in_lane lane items)
+  pub after_given : (lane : ℕ) → lane < 9 → All (λ x. slice_index given lane < x.id) (rows_in_lane lane items)
+  pub within_stood : (lane : ℕ) → lane < 9 → All (λ x. x.id ≤ stood) (rows_in_lane lane items)
+
+-- the last ids given only rise
+pub record IsOnward (given later : List ℕ) : Type 0 where
+  pub nine : length later ≡ 9
+  pub rises : (lane : ℕ) → lane < 9 → slice_index given lane ≤ slice_index later lane
+
+-- none of these items' rows is behind the last ones given
+abbrev pub AreGiven : List ℕ → List Item → Type 0
+AreGiven given items = (lane : ℕ) → lane < 9 → All (λ x. x.id ≤ slice_index given lane) (rows_in_lane lane items)
+
+-- each row of the first items is before each row of the second in its lane, so none stands in both
+abbrev pub AreBefore : List Item → List Item → Type 0
+AreBefore items others = (lane : ℕ) → lane < 9
+    → All (λ x. All (λ y. x.id < y.id) (rows_in_lane lane others)) (rows_in_lane lane items)
 
 -- ---- what stands in the lanes of what was given
 
