@@ -23,7 +23,7 @@ use Rattle.dnp_outstation.proofs.LaneRows.{Starts, last_given, length_given}
 use Rattle.dnp_outstation.proofs.Longest.{longest_whole}
 use Rattle.dnp_outstation.proofs.Carried.{lane_rises, last_id_is, read_rows}
 
-All-first : {X : Type 0} (P : X → Type 0) (xs ys : List X) → All P (xs ++ ys) → All P xs
+pub All-first : {X : Type 0} (P : X → Type 0) (xs ys : List X) → All P (xs ++ ys) → All P xs
 All-first P xs ys all = λ k d low. subst P (get_or_append_left xs ys d k low) (all k d (let e = length-append xs ys in omega arith))
 
 -- ---- the rows of a fragment, in order

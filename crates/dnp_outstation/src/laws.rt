@@ -1,14 +1,21 @@
 //! Laws of the words of `specs/`: each function does nothing, and its contract is a law.
-ghost use Rattle.std.specs.Prelude.{◌≡◌, ◌↔◌, ◌≤◌, ℕ, Bool, All, List, [], ◌++◌, length, None, Some};
+ghost use Rattle.std.specs.Prelude.{◌≡◌, ◌↔◌, ◌≤◌, ℕ, Bool, true, All, List, [], ◌++◌, length, map, None, Some, Ok};
+ghost use Rattle.std.specs.List.Sorted.{IsPermutation};
 ghost use Rattle.dnp_objects.specs.declared.lane.LaneRow.{LaneRow};
+ghost use Rattle.dnp_appfragment.specs.Control.{IsControl};
+ghost use Rattle.dnp_appfragment.specs.Fragments.{Answered, response_octets};
 ghost use Rattle.dnp_appfragment.specs.Headers.{Head};
+ghost use Rattle.dnp_appfragment.specs.Items.{HoldAll};
+ghost use Rattle.dnp_appfragment.specs.Meaning.{response_at};
+ghost use Rattle.dnp_appfragment.specs.Table.{is_response};
 ghost use Rattle.dnp_eventbuf.specs.Sound.{IsSound};
 ghost use Rattle.dnp_eventbuf.specs.Stock.{Stock, all_up_to, with_rows, without, without_all};
 ghost use Rattle.dnp_outstation.specs.declared.offer.place.Place.{Place};
 ghost use Rattle.dnp_outstation.specs.Items.{Source, Item, no_ids, items_left, enabled_lanes, lane_items};
-ghost use Rattle.dnp_outstation.specs.Layout.{response_size, fits_fragment};
+ghost use Rattle.dnp_outstation.specs.Layout.{object_of, headers_of, response_size, fits_fragment};
 ghost use Rattle.dnp_outstation.specs.Offer.{held_of, offered_of, offered, pushed};
 ghost use Rattle.dnp_outstation.specs.Laws.{IsLongest, rows_by_lane, AreRowsUpto, IsTidy, LeavesNothing, AreNext, IsOnward, AreGiven, AreBefore};
+ghost use Rattle.dnp_outstation.specs.Said.{rows_said, events_in, CanStand, HaveIndexes, AreWritable};
 
 /// A fragment holds the longest beginning of the items left that fits: with one item more it wouldn't,
 /// since a response with more items is no smaller. Nothing is left exactly where it holds them all, and
@@ -66,4 +73,38 @@ pub fn nothing_else_given_is_left()
         → LeavesNothing (without s others) given upto }
     ensures emptied { (s : Stock) (given upto : List ℕ) → LeavesNothing s given upto
         → LeavesNothing (without_all s) given upto }
+{}
+
+/// Items that can be written and fit are a response, whose headers hold just these, and the rows that its
+/// event headers say are the event rows among them, in order. The items of a READ can be written where the
+/// rows of the lanes and the present values can.
+pub fn octets_say_what_is_held()
+    ensures held { (items : List Item) → All CanStand items → fits_fragment items ≡ true
+        → HoldAll (headers_of items) (map object_of items) }
+    ensures response { (answered : Answered) (items : List Item) → answered.headers ≡ headers_of items
+        → IsControl answered.control → is_response answered.function ≡ true → All CanStand items
+        → fits_fragment items ≡ true → response_at (response_octets answered) ≡ Ok answered }
+    ensures rows { (items : List Item) → All CanStand items → fits_fragment items ≡ true
+        → rows_said (headers_of items) ≡ events_in items }
+    ensures written { (s : Source) (stood : ℕ) (place : Place) (headers : List Head) → IsSound s.lanes → AreWritable s
+        → All CanStand (held_of (items_left s stood place headers)) }
+{}
+
+/// A fragment is read as itself, and the event rows that its headers say are, but for order, those that a
+/// release of its ids takes; likewise an unsolicited response.
+pub fn a_release_takes_what_the_octets_said()
+    ensures read { (answered : Answered) (s : Source) (stood : ℕ) (place : Place) (headers : List Head)
+        → answered.headers ≡ (offered s stood place headers).headers → IsControl answered.control
+        → is_response answered.function ≡ true → IsSound s.lanes → AreWritable s
+        → response_at (response_octets answered) ≡ Ok answered }
+    ensures fragment { (s : Source) (stood : ℕ) (place : Place) (headers : List Head) → IsSound s.lanes → AreWritable s
+        → IsTidy s.lanes place.given → length place.given ≡ 9
+        → IsPermutation (rows_said (offered s stood place headers).headers)
+        (all_up_to s.lanes (offered s stood place headers).upto) }
+    ensures unsolicited_read { (answered : Answered) (s : Stock) (enabled : List Bool)
+        → answered.headers ≡ (pushed s enabled).headers → IsControl answered.control
+        → is_response answered.function ≡ true → IsSound s → length enabled ≤ 3 → HaveIndexes s
+        → response_at (response_octets answered) ≡ Ok answered }
+    ensures unsolicited { (s : Stock) (enabled : List Bool) → IsSound s → length enabled ≤ 3 → HaveIndexes s
+        → IsPermutation (rows_said (pushed s enabled).headers) (all_up_to s (pushed s enabled).upto) }
 {}
