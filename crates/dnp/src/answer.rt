@@ -31,9 +31,10 @@ EXAMPLE
   05 64 0A 44 01 00 0A 00 6E 25 C0 C0 81 80 00 B3 F3
 
 OUTPUT
-  One line on standard output:
-    the octets of the frame that is sent back, written as above: the link layer's reply, as to
-    a reset or a request for the link's status, or the answer to a READ of class data;
+  On standard output:
+    a line for each frame that is sent back, its octets written as above: the link layer's
+    reply, as to a reset or a request for the link's status, or the frames of the response to
+    a request; the outstation has no points, and was just restarted and opened;
     'no answer', where the outstation stays silent, as for a frame to another address;
     'refused N REASON', where the input is no frame: 0 Text (not written as above), 1 Short,
     2 Start, 3 HeaderCheck, 4 Length, 5 Size, 6 BlockCheck B (B is the number of the first
@@ -89,7 +90,7 @@ pub(crate) fn run<R: AllocGlobal + Input + Print + Eprint>(
         Err(cause) => return Ok(lost(rt, "standard input", &cause)),
     };
     let mut out = Noted::new(io::writer(rt));
-    match answer_line(text.as_slice(), own, peer, &mut out) {
+    match answer_line(rt.alloc(), text.as_slice(), own, peer, &mut out) {
         Ok(true) => Ok(ExitCode::from(exit::DONE)),
         Ok(false) => {
             explain(rt, text.as_slice());

@@ -8,6 +8,7 @@ pub mod laws;
 mod octets;
 mod station;
 mod text;
+mod units;
 mod writing;
 
 pub use address::{MAX_ADDRESS, read_address};

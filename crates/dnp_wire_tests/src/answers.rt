@@ -70,7 +70,7 @@ const LONGEST: [(u8, usize, &[u8]); 4] = [
 
 /// Asserts what is written for the text, and what is answered.
 fn answers(
-    rt: &impl Abort,
+    rt: &(impl Abort + AllocGlobal),
     case: usize,
     text: &[u8],
     own: u16,
@@ -79,7 +79,7 @@ fn answers(
     is_frame: bool,
 ) {
     let mut written = ArrayVec::<u8, 64>::new();
-    let answer = answer_line(text, own, peer, &mut written);
+    let answer = answer_line(rt.alloc(), text, own, peer, &mut written);
     assert!(rt;
         answer == Ok(is_frame) && written.as_slice() == line,
         "case {case}"
@@ -138,7 +138,7 @@ fn failing_writers(rt: HostRuntime) {
             taken: ArrayVec::new(),
             left,
         };
-        let answer = answer_line(READ, 10, 1, &mut writer);
+        let answer = answer_line(rt.alloc(), READ, 10, 1, &mut writer);
         let fits = left == ANSWER.len();
         let wanted = if fits {
             Ok(true)
