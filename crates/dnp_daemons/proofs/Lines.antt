@@ -5,6 +5,7 @@ use Rattle.std.proofs.lemmas.List.{append_assoc, append-nil}
 use Rattle.dnp_linkframe.specs.declared.frame.Frame.{Frame}
 use Rattle.dnp_linkframe.specs.Frames.{Spells}
 use Rattle.dnp_linkstation.specs.Station.{Ends, sent}
+use Rattle.dnp_transport.specs.declared.limits.TheConstants.{SEGMENT_NUMBERS}
 use Rattle.dnp_transport.specs.Cuts.{cut_count, cut, cuts}
 use Rattle.dnp_daemons.specs.OctetLines.{line_of}
 use Rattle.arrayvec.specs.ArrayVec.{ArrayVec}
@@ -73,18 +74,18 @@ pub record AreBegun (e : Ends) (start : List ℕ) (all : List Frame) (own : Ends
 
 -- one fragment more
 pub fragment_begun : (e : Ends) (start : List ℕ) (all : List Frame) (own own' : Ends) (number number' : ℕ) (fragment : ArrayVec ℕ) (left : List (Option (ArrayVec ℕ))) (text new : List ℕ)
-    → AreBegun e start all own number (Some fragment ∷ left) text → own' ≡ own → number' ≡ (number + cut_count (length fragment.items)) % 64
+    → AreBegun e start all own number (Some fragment ∷ left) text → own' ≡ own → number' ≡ (number + cut_count (length fragment.items)) % SEGMENT_NUMBERS
     → AreAppended text (map (sent own) (cuts fragment.items number)) new → AreBegun e start all own' number' left new
 fragment_begun e start all own own' number number' fragment left text new before same moved more = record {
   same = same ∙ before.same;
   begun = λ rest lines.
       let here : AreLinesOf (map (sent e) (cuts fragment.items number)) more.lines =
       subst (λ (o : Ends). AreLinesOf (map (sent o) (cuts fragment.items number)) more.lines) before.same more.are in
-      let later : AreLinesOf (frames_of e ((number + cut_count (length fragment.items)) % 64) (sent_of left)) rest =
+      let later : AreLinesOf (frames_of e ((number + cut_count (length fragment.items)) % SEGMENT_NUMBERS) (sent_of left)) rest =
       subst (λ (n : ℕ). AreLinesOf (frames_of e n (sent_of left)) rest) moved lines in
       let joined : new ++ rest ≡ text ++ (more.lines ++ rest) = ap (λ (t : List ℕ). t ++ rest) more.whole ∙ append_assoc text more.lines rest in
       subst (λ (t : List ℕ). AreAppended start all t) (sym joined)
-      (before.begun (more.lines ++ rest) (lines_joined (map (sent e) (cuts fragment.items number)) (frames_of e ((number + cut_count (length fragment.items)) % 64) (sent_of left)) more.lines rest here later));
+      (before.begun (more.lines ++ rest) (lines_joined (map (sent e) (cuts fragment.items number)) (frames_of e ((number + cut_count (length fragment.items)) % SEGMENT_NUMBERS) (sent_of left)) more.lines rest here later));
 }
 
 -- no fragment in this place

@@ -3,6 +3,7 @@ use Rattle.std.specs.Prelude.{◌≡◌, ℕ, ◌+◌, ◌%◌, List, [], ◌∷
 use Rattle.dnp_linkframe.specs.declared.frame.Frame.{Frame}
 use Rattle.dnp_linkframe.specs.Frames.{Spells}
 use Rattle.dnp_linkstation.specs.Station.{Ends, sent}
+use Rattle.dnp_transport.specs.declared.limits.TheConstants.{SEGMENT_NUMBERS}
 use Rattle.dnp_transport.specs.Cuts.{cut_count, cuts}
 use Rattle.dnp_daemons.specs.OctetLines.{line_of}
 
@@ -11,7 +12,7 @@ use Rattle.dnp_daemons.specs.OctetLines.{line_of}
 abbrev pub frames_of : Ends → ℕ → List (List ℕ) → List Frame
 frames_of e number [] = []
 frames_of e number (fragment ∷ fragments) =
-    map (sent e) (cuts fragment number) ++ frames_of e ((number + cut_count (length fragment)) % 64) fragments
+    map (sent e) (cuts fragment number) ++ frames_of e ((number + cut_count (length fragment)) % SEGMENT_NUMBERS) fragments
 
 -- the text has a line for each frame, in order: the octets of the unit that spells it, and a line feed
 abbrev pub AreLinesOf : List Frame → List ℕ → Type 0

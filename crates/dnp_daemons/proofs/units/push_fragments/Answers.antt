@@ -2,6 +2,7 @@ use Rattle.std.proofs.Common.{◌≡◌, ℕ, ◌+◌, ◌%◌, List, ◌∷◌,
 use Rattle.std.proofs.lemmas.List.{drop_more, drop_all}
 use Rattle.arrayvec.specs.ArrayVec.{ArrayVec}
 use Rattle.dnp_linkstation.specs.Station.{ends, sent}
+use Rattle.dnp_transport.specs.declared.limits.TheConstants.{SEGMENT_NUMBERS}
 use Rattle.dnp_transport.specs.Cuts.{cut_count, cuts}
 use Rattle.dnp_line.specs.Ports.{PortState, moved_on}
 use Rattle.dnp_outstation.specs.Station.{sent_of}
@@ -40,7 +41,7 @@ loop-fragment-preserved c =
           fragment_begun e start all own (ends c.match-fragment.port.link) number c.match-fragment.port.number f (drop (i + 1) fs) text
           c.match-fragment.text.items here
           (ap (λ (p : PortState). ends p.link) port_is)
-          (ap (λ (p : PortState). p.number) port_is ∙ ap (λ (n : ℕ). (number + n) % 64) count)
+          (ap (λ (p : PortState). p.number) port_is ∙ ap (λ (n : ℕ). (number + n) % SEGMENT_NUMBERS) count)
           (subst (λ (o : List ℕ). AreAppended text (map (sent own) (cuts o number)) c.match-fragment.text.items) octets lines)
       | in_default w ↦
           let here = subst (λ (x : Option (ArrayVec ℕ)). AreBegun e start all own number (x ∷ drop (i + 1) fs) text) w.in_default.is before in
