@@ -8,10 +8,13 @@ use std::alloc::{AllocError, Global};
 use std::io;
 use std::process::ExitCode;
 
+/// The subcommand's name.
 pub const NAME: &str = "answer";
 
+/// What it does, in a line.
 const ABOUT: &str = "Answer one link frame as an outstation does, and print the answer";
 
+/// What its help text says after the options.
 const AFTER: &str = "\
 INPUT
   One line on standard input, and then the end of the input (Ctrl-D at a terminal): the octets
@@ -45,6 +48,7 @@ EXIT STATUS
   3  the program failed: out of memory, or the input or the output was lost; a line on
      standard error says which, and why";
 
+/// What is wrong with an address that is refused.
 const NO_ADDRESS: &str = "\
 not a decimal number from 0 to 65519
 

@@ -3,6 +3,7 @@
 #![tactic(auto)]
 
 mod builder;
+mod checked;
 mod control;
 mod fault;
 mod fragments;
@@ -24,6 +25,7 @@ mod written;
 
 pub use builder::{Builder, Full};
 pub use control::Control;
+pub use dnp_objects::MAX_FRAGMENT;
 pub use fault::AppFault;
 pub use fragments::{confirm, read_request, read_response};
 pub use function::Function;

@@ -71,6 +71,7 @@ fn range_at(qualifier: u8, octets: &[u8]) -> Result<(Range, &[u8]), AppFault>
 }
 
 /// The header at the front, with its objects, and the octets behind them.
+#[inline(always)]
 #[tactic(auto, unfolding(crate::specs::Reading::header_at))]
 pub(crate) fn header_at(form: Form, octets: &[u8]) -> Result<(Header<'_>, &[u8]), AppFault>
     ensures gives { Gives head_and_rest result (spec.header_at form octets.now) }

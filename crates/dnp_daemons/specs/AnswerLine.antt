@@ -1,4 +1,4 @@
--- What `dnp answer` prints for a line of text.
+-- Definition: what `dnp answer` prints for a line of text.
 use Rattle.std.specs.Prelude.{◌≡◌, ℕ, Bool, true, false, List, [], ◌∷◌, ◌++◌, codes}
 use Rattle.std.specs.Fmt.{decimal}
 use Rattle.dnp_linkframe.specs.declared.frame.Frame.{Frame}

@@ -3,3 +3,4 @@ pub mod OctetLines
 pub mod TextFaults
 pub mod Station
 pub mod AnswerLine
+pub mod steps

@@ -1,4 +1,4 @@
--- The station behind `dnp answer`: an outstation without points, which replies by the link layer's table and answers a
+-- Definition: the station behind `dnp answer`: an outstation without points, which replies by the link layer's table and answers a
 -- READ of class data.
 use Rattle.std.specs.Prelude.{◌≡◌, ℕ, ◌+◌, ◌%◌, ◌≤◌, true, false, List, [], ◌∷◌, Some, bit_and}
 use Rattle.std.specs.List.{AllByRecursion, concat}
@@ -22,7 +22,7 @@ pub record AreClassHeaders (octets : List ℕ) : Type 0 where
   pub joined : octets ≡ concat headers
 
 -- A request for class data, in one fragment: the control octet has FIR and FIN, and not UNS; CON isn't
--- looked at. Behind it READ, and headers of class data alone.
+-- checked. After it READ, and headers of class data alone.
 pub record IsClassRead (fragment : List ℕ) (sequence : ℕ) : Type 0 where
   pub control : ℕ
   pub headers : List ℕ

@@ -1,3 +1,5 @@
+//! One line of octets, answered.
+
 ghost use Rattle.std.specs.Prelude.{◌≡◌, ℕ, ◌≤◌, Bool, List, [], ◌∷◌, ◌++◌, length, codes, IfOk, IfErr, OnErr};
 ghost use Rattle.std.specs.Io.KnownBytes.{Appends};
 ghost use Rattle.dnp_daemons.specs.AnswerLine.{IsAnswer, IsPrinted, answer_text, fault_text, is_frame};
@@ -6,10 +8,13 @@ use crate::octets::{MAX_LINE, line_of_octets, read_octets};
 use crate::station::respond;
 use crate::writing::write_out;
 use arrayvec::ArrayVec;
-use dnp_linkframe::{FrameFault, MAX_FRAME, read_frame};
+use dnp_linkframe::{FrameFault, MAX_UNIT, read_frame};
 use itoa::Buffer;
 use std::io::Write;
 use thiserror::Error;
+
+/// The most characters of a line of words: those of the longest refusal.
+const MAX_WORDS: usize = 100;
 
 /// Why a line was not answered.
 #[derive(Clone, Copy, Debug, PartialEq, Eq, Error)]
@@ -32,14 +37,14 @@ enum Answer {
     /// The station doesn't answer the frame.
     Silent,
     /// The octets of the frame that the station sends.
-    Sent(ArrayVec<u8, MAX_FRAME>),
+    Sent(ArrayVec<u8, MAX_UNIT>),
 }
 
-/// A line of these words, which are at most 100 characters.
+/// A line of these words.
 fn line_of_words(words: &[u8]) -> ArrayVec<u8, MAX_LINE>
-    requires { length words.now ≤ 100 }
+    requires { length words.now ≤ MAX_WORDS }
     ensures text { result.items ≡ words.now }
-    ensures short { length result.items ≤ 100 }
+    ensures short { length result.items ≤ MAX_WORDS }
 {
     let mut line = ArrayVec::new();
     line.try_extend_from_slice(words).unwrap();
@@ -49,7 +54,7 @@ fn line_of_words(words: &[u8]) -> ArrayVec<u8, MAX_LINE>
 /// The words that say why octets are no frame: the fault's number and name.
 fn refusal(fault: FrameFault) -> ArrayVec<u8, MAX_LINE>
     ensures text { result.items ≡ codes "refused " ++ fault_text fault }
-    ensures short { length result.items ≤ 100 }
+    ensures short { length result.items ≤ MAX_WORDS }
 {
     match fault {
         FrameFault::Short => line_of_words(b"refused 1 Short"),
@@ -107,7 +112,7 @@ impl Answer {
 }
 
 /// Answers one line of text: two-digit hexadecimal octets of either case, separated by single spaces,
-/// at most 2,000 characters without the line feed that may end it.
+/// at most [`MAX_CHARACTERS`](crate::MAX_CHARACTERS) characters without the line feed that may end it.
 ///
 /// Where the octets are a link frame, the line of the frame that the station `own` sends back is
 /// written, or `no answer`, and the result is true. Otherwise `refused`, a number and a name are

@@ -8,7 +8,7 @@ ghost use Rattle.dnp_daemons.specs.Station.{IsClassHeader, AreClassHeaders, IsCl
 
 use arrayvec::ArrayVec;
 use dnp_line::Port;
-use dnp_linkframe::{Frame, MAX_FRAME};
+use dnp_linkframe::{Frame, MAX_UNIT};
 
 /// Whether the octets are one object header 60.1 to 60.4 with qualifier 06.
 fn is_class_header(octets: &[u8]) -> bool
@@ -44,7 +44,7 @@ fn class_read(fragment: &[u8]) -> Option<u8>
 
 /// The unit in which the station sends a frame back for a frame, the first that it hears, or none
 /// where it is silent.
-pub(crate) fn respond(frame: &Frame, own: u16, peer: u16) -> Option<ArrayVec<u8, MAX_FRAME>>
+pub(crate) fn respond(frame: &Frame, own: u16, peer: u16) -> Option<ArrayVec<u8, MAX_UNIT>>
     ensures sent { IfSome result (λ unit. (back : FrameValue) × IsSentBack own peer frame.now back × Spells unit.items back) }
     ensures silent { IfNone result ((back : FrameValue) → IsSentBack own peer frame.now back → ⊥) }
 {

@@ -1,4 +1,4 @@
-//! Text on its way out: what stands written where a writer fails in its midst.
+//! Text on its way out, and what was written where a writer fails before its end.
 
 ghost use Rattle.std.specs.Prelude.{◌≡◌, ℕ, List, ◌++◌, OnOk, OnErr};
 ghost use Rattle.std.specs.Io.KnownBytes.{Appends};

@@ -7,6 +7,7 @@ use Rattle.std.proofs.lemmas.List.{map-append, get_or-take, length-take}
 use Rattle.std.proofs.lemmas.List.Elements.{All-head, All-tail, All-filter, filter_passes, All-contains_itself, All-take, All-weaker, Contains-append_left, Contains-append_right}
 use Rattle.std.proofs.lemmas.List.Kept.{AllPairs-filter}
 use Rattle.std.proofs.lemmas.Option.{slice_get-get_or}
+use Rattle.dnp_objects.specs.declared.limits.TheConstants.{LANES}
 use Rattle.dnp_objects.specs.Counts.{IsCoveredBy, HasNoRepeat}
 use Rattle.dnp_objects.proofs.Covered.{IsCoveredBy-from_members, IsCoveredBy-map, HasNoRepeat-by}
 use Rattle.dnp_objects.specs.Events.{IsEvent}
@@ -96,7 +97,7 @@ member old now last after most u rising u_is few x stood (k, low, is) upto =
       | inr under ↦ Contains-append_left before shown x (Contains-filter (λ y. nat_le y.id after) now x k low is (le-leb x.id after under))
     ]
 
-pub release_takes_offered : (s : Stock) (xs : List LaneRow) (number after most : ℕ) → IsSound s → All IsCarried xs → exhausts s xs ≡ false → number < 9
+pub release_takes_offered : (s : Stock) (xs : List LaneRow) (number after most : ℕ) → IsSound s → All IsCarried xs → exhausts s xs ≡ false → number < LANES
     → IsCoveredBy (up_to (last_of (offered s number after most)) (lane_at (with_rows s xs) number)) (up_to after (lane_at (with_rows s xs) number) ++ map row_of (offered s number after most))
 release_takes_offered s xs number after most sound carried within low =
     let now = (lane_at (with_rows s xs) number).rows in
@@ -137,7 +138,7 @@ none_at_0 (x ∷ rows) from_1 =
     go false low h = refl
 
 -- from the oldest row on, nothing else is taken
-pub release_takes_offered_alone : (s : Stock) (xs : List LaneRow) (number most : ℕ) → IsSound s → All IsCarried xs → exhausts s xs ≡ false → number < 9
+pub release_takes_offered_alone : (s : Stock) (xs : List LaneRow) (number most : ℕ) → IsSound s → All IsCarried xs → exhausts s xs ≡ false → number < LANES
     → IsCoveredBy (up_to (last_of (offered s number 0 most)) (lane_at (with_rows s xs) number)) (map row_of (offered s number 0 most))
 release_takes_offered_alone s xs number most sound carried within low =
     let now = lane_at (with_rows s xs) number in
@@ -147,7 +148,7 @@ release_takes_offered_alone s xs number most sound carried within low =
 
 -- ---- what is offered is an event
 
-pub offered_events : (s : Stock) (of : Lane) (after most : ℕ) → IsSound s → lane_number of < 9 → All (λ x. IsEvent x.row) (offered s (lane_number of) after most)
+pub offered_events : (s : Stock) (of : Lane) (after most : ℕ) → IsSound s → lane_number of < LANES → All (λ x. IsEvent x.row) (offered s (lane_number of) after most)
 offered_events s of after most sound low =
     let rows = (lane_at s (lane_number of)).rows in
     let Fits : Numbered → Type 0 = λ x. IsEvent x.row in

@@ -6,7 +6,8 @@ use Rattle.std.proofs.lemmas.List.FromFn.{get_or-map-range_with_len}
 use Rattle.std.proofs.lemmas.Nat.{xor_lt}
 use Rattle.std.specs.List.{range_with_len}
 use Rattle.std.specs.Prelude.{bit_and, bit_xor}
-use Rattle.dnp_linkframe.specs.CheckWord.{remainder, Leaves}
+use Rattle.dnp_linkframe.specs.CheckWord.{remainder}
+use Rattle.dnp_linkframe.specs.steps.Division.{Leaves}
 use Rattle.dnp_linkframe.specs.Polynomials.{times_x}
 use Rattle.dnp_linkframe.specs.declared.table.TheConstants.{LEFT_OF_OCTET}
 use Rattle.dnp_linkframe.proofs.Division.{leaves_same, leaves_times_x, leaves_trans}

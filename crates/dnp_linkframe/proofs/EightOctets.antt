@@ -6,7 +6,8 @@ use Rattle.std.proofs.lemmas.Nat.{and_mask, xor_lt}
 use Rattle.std.specs.Simd.{first_chunks}
 use Rattle.std.specs.Prelude.{bit_and, bit_xor}
 use Rattle.dnp_linkframe.specs.Polynomials.{plus, times_x, IsSame}
-use Rattle.dnp_linkframe.specs.CheckWord.{message, remainder, Leaves, Continues}
+use Rattle.dnp_linkframe.specs.CheckWord.{message, remainder}
+use Rattle.dnp_linkframe.specs.steps.Division.{Leaves, Continues}
 use Rattle.dnp_linkframe.proofs.Algebra.{same_eq, same_plus, plus_assoc, plus_comm, times_x-plus}
 use Rattle.dnp_linkframe.proofs.Division.{leaves_same, leaves_trans}
 use Rattle.dnp_linkframe.proofs.Octets.{leaves_xor, message_joined, octets_more, times_x_twice}

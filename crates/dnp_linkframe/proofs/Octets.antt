@@ -9,7 +9,8 @@ use Rattle.std.specs.Int.Bits.{xor_zero_r}
 use Rattle.std.specs.List.{flat_map, range_with_len}
 use Rattle.std.specs.Prelude.{bit_and, bit_xor}
 use Rattle.dnp_linkframe.specs.Polynomials.{plus, times_x, times, IsSame}
-use Rattle.dnp_linkframe.specs.CheckWord.{bit, message, remainder, generator, Leaves, Continues, IsCheckWord}
+use Rattle.dnp_linkframe.specs.CheckWord.{bit, message, remainder, generator, IsCheckWord}
+use Rattle.dnp_linkframe.specs.steps.Division.{Leaves, Continues}
 use Rattle.dnp_linkframe.proofs.Algebra.{same_eq, same_plus, same_times_x, times_x-plus, append_plus, plus_comm, plus_twice}
 use Rattle.dnp_linkframe.proofs.Division.{leaves_same, leaves_plus, leaves_times_x, leaves_trans}
 use Rattle.dnp_linkframe.proofs.Words.{low_high, remainder-xor, remainder-octet}

@@ -1,6 +1,6 @@
--- A link station (IEEE Std 1815-2012, data link layer): which frames are for it, what it answers, and
+-- Definition: a link station (IEEE Std 1815-2012, data link layer): which frames are for it, what it answers, and
 -- which frame count bit it expects.
-use Rattle.std.specs.Prelude.{◌≡◌, ℕ, ◌+◌, Bool, true, false, not, ◌&&◌, ◌==◌, if◌then◌else◌, List, [], ◌∷◌, Option, Some, None, option_map}
+use Rattle.std.specs.Prelude.{◌≡◌, ℕ, ◌+◌, ◌^◌, Bool, true, false, not, ◌&&◌, ◌==◌, if◌then◌else◌, List, [], ◌∷◌, Option, Some, None, option_map}
 use Rattle.dnp_linkframe.specs.declared.frame.Frame.{Frame}
 use Rattle.dnp_linkstation.specs.declared.function.PrimaryFunction.{PrimaryFunction}
 use Rattle.dnp_linkstation.specs.declared.function.PrimaryFunction.TheVariants.{ResetLinkStates, TestLinkStates, ConfirmedUserData, UnconfirmedUserData, RequestLinkStatus, Other}
@@ -9,6 +9,8 @@ use Rattle.dnp_linkstation.specs.declared.function.SecondaryFunction.TheVariants
 use Rattle.dnp_linkstation.specs.declared.station.LinkStation.{LinkStation}
 use Rattle.dnp_linkstation.specs.declared.station.LinkAnswer.{LinkAnswer}
 use Rattle.dnp_linkstation.specs.Control.{is_from_master, is_primary, frame_count_bit, primary_function, code}
+use Rattle.dnp_linkstation.specs.declared.control.TheConstants.{DIR, PRM}
+use Rattle.dnp_linkstation.specs.declared.function.TheConstants.{UNCONFIRMED_USER_DATA}
 
 -- the two ends of a link, as the station at one of them sees it: its own address, that of its peer, and
 -- whether it is the master
@@ -70,12 +72,12 @@ fresh e = record { own = e.own; peer = e.peer; is_master = e.is_master; expected
 
 -- DIR of the station's own frames
 abbrev pub direction : Ends → ℕ
-direction e = (if e.is_master then 128 else 0)
+direction e = (if e.is_master then 2 ^ DIR else 0)
 
--- the frame of user data that the station sends: PRM 1, which counts 64, and UNCONFIRMED_USER_DATA, 4
+-- the frame of user data that the station sends: PRM 1 and UNCONFIRMED_USER_DATA
 abbrev pub sent : Ends → List ℕ → Frame
 sent e user = record {
-  control = direction e + 64 + 4;
+  control = direction e + 2 ^ PRM + UNCONFIRMED_USER_DATA;
   dest = e.peer;
   source = e.own;
   user = record { items = user };

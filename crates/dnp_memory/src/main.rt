@@ -6,6 +6,7 @@
 
 mod controls;
 mod frames;
+mod journals;
 mod lanes;
 mod lines;
 mod points;
@@ -18,6 +19,7 @@ fn main(rt: HostRuntime) -> io::Result<()> {
     print(&rt, "reserve", lines::reserve(alloc))?;
     print(&rt, "points", points::change_all(alloc))?;
     print(&rt, "lanes", lanes::fill_and_empty(alloc))?;
+    print(&rt, "journal", journals::append_and_list(alloc))?;
     print(&rt, "book", controls::add_and_list(alloc))?;
     print(&rt, "outputs", controls::operate(alloc))
 }

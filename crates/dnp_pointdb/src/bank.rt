@@ -17,9 +17,9 @@ use std::marker::Model;
 /// The blocks of one kind, in the plan's order, and how a point of them is looked up.
 #[derive(Debug, Drop)]
 pub struct Bank {
+    /// The blocks, in the plan's order.
     blocks: Vec<BlockState>,
-
-    // Those of the blocks that have points, by rising base.
+    /// Those of the blocks that have points, by rising base.
     order: Vec<Place>,
 }
 

@@ -9,6 +9,8 @@
 #[cfg(test)]
 mod books;
 #[cfg(test)]
+mod journals;
+#[cfg(test)]
 mod lanes;
 #[cfg(test)]
 mod outputs;

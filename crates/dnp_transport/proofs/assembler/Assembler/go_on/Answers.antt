@@ -1,7 +1,7 @@
 -- The one exit of `go_on`: the segment begins a series or goes on with the one in progress.
 use Rattle.std.proofs.Common.{ℕ, inl, inr, List, ◌∷◌, sym, ap, ◌∙◌, subst}
 use Rattle.dnp_transport.specs.Assembly.{Stands}
-use Rattle.dnp_transport.specs.Stages.{assembly, stage_after}
+use Rattle.dnp_transport.specs.steps.Stages.{assembly, stage_after}
 use Rattle.dnp_transport.specs.declared.assembler.Stage.{Stage}
 use Rattle.dnp_transport.specs.declared.assembler.Assembler.TheInside.{Inside}
 use Rattle.dnp_transport.proofs.Exits.{GoesOnWith, IsAfter, went_on}
