@@ -9,6 +9,7 @@ mod frames;
 mod journals;
 mod lanes;
 mod lines;
+mod outstations;
 mod points;
 
 use std::io;
@@ -21,7 +22,8 @@ fn main(rt: HostRuntime) -> io::Result<()> {
     print(&rt, "lanes", lanes::fill_and_empty(alloc))?;
     print(&rt, "journal", journals::append_and_list(alloc))?;
     print(&rt, "book", controls::add_and_list(alloc))?;
-    print(&rt, "outputs", controls::operate(alloc))
+    print(&rt, "outputs", controls::operate(alloc))?;
+    print(&rt, "outstation", outstations::poll(alloc))
 }
 
 /// Prints a case's name and its number, or that it took a wrong turn.

@@ -15,6 +15,8 @@ mod lanes;
 #[cfg(test)]
 mod outputs;
 #[cfg(test)]
+mod outstations;
+#[cfg(test)]
 mod plans;
 #[cfg(test)]
 mod points;
