@@ -19,6 +19,8 @@ uint64_t dnp_bench_walk(const uint8_t *fragment, size_t size);
 uint64_t dnp_bench_build(uint64_t count, uint16_t most);
 uint64_t dnp_bench_build_apart(uint64_t count, uint16_t most);
 uint64_t dnp_bench_take(const uint8_t *response, size_t size, uint64_t count);
+uint64_t dnp_bench_poll_events(uint64_t count, uint16_t events);
+uint64_t dnp_bench_poll_values(uint64_t count);
 
 // The same in plain Rust: plain_rust/.
 uint64_t plain_feed(const uint8_t *stream, size_t size, size_t piece);
@@ -26,6 +28,8 @@ uint64_t plain_walk(const uint8_t *fragment, size_t size);
 uint64_t plain_build(uint64_t count, uint16_t most);
 uint64_t plain_build_apart(uint64_t count, uint16_t most);
 uint64_t plain_take(const uint8_t *response, size_t size, uint64_t count);
+uint64_t plain_poll_events(uint64_t count, uint16_t events);
+uint64_t plain_poll_values(uint64_t count);
 
 enum { WAYS = 4, UNITS = 64, MOST_OCTETS = 4096 };
 
@@ -229,7 +233,19 @@ static uint64_t built_empty(int way, uint64_t count) { return (way ? plain_build
 // A master asks, and takes the response.
 static uint64_t taken(int way, uint64_t count) { return (way ? plain_take : dnp_bench_take)(fragment, fragment_size, count); }
 
-static void fragment_row(const char *what, uint64_t (*work)(int, uint64_t), uint64_t count) {
+// Polls of an outstation: of events, and of values.
+static uint64_t polled(int way, uint64_t count, uint16_t events) { return (way ? plain_poll_events : dnp_bench_poll_events)(count, events); }
+
+static uint64_t polled_none(int way, uint64_t count) { return polled(way, count, 0); }
+
+static uint64_t polled_one(int way, uint64_t count) { return polled(way, count, 1); }
+
+static uint64_t polled_156(int way, uint64_t count) { return polled(way, count, 156); }
+
+static uint64_t polled_values(int way, uint64_t count) { return (way ? plain_poll_values : dnp_bench_poll_values)(count); }
+
+// A row of `count` works of a kind, as fragments or polls, a round.
+static void work_row(const char *what, const char *unit, uint64_t (*work)(int, uint64_t), uint64_t count) {
     double best[2] = {0};
     uint64_t sums[2];
     count /= scale;
@@ -240,7 +256,7 @@ static void fragment_row(const char *what, uint64_t (*work)(int, uint64_t), uint
             double took = seconds() - start;
             if (!round || took < best[way]) best[way] = took;
         }
-    printf("%-33s %11.1f Kfragment/s %7.2f%s\n", what, count / best[0] / 1e3, best[1] / best[0], sums[0] == sums[1] ? "" : "  THE SUMS DIFFER");
+    printf("%-33s %11.1f K%s/s %7.2f%s\n", what, count / best[0] / 1e3, unit, best[1] / best[0], sums[0] == sums[1] ? "" : "  THE SUMS DIFFER");
     if (sums[0] != sums[1]) failed = 1;
     all_sums = all_sums * 31 + sums[0];
 }
@@ -258,9 +274,9 @@ static void fragment_rows(void) {
     static const uint8_t values[] = {0xC0, 0x81, 0x00, 0x00, 0x1E, 0x01, 0x01, 0x00, 0x00, 0x8F, 0x01};
     printf("\n%-33s %23s   beside plain Rust\n", "fragments", "proved");
     begin_fragment(events, sizeof events, 156, 13);
-    fragment_row("read: 156 analog events", walked, 40000);
+    work_row("read: 156 analog events", "fragment", walked, 40000);
     begin_fragment(values, sizeof values, 400, 5);
-    fragment_row("read: 400 analog values", walked, 40000);
+    work_row("read: 400 analog values", "fragment", walked, 40000);
     fragment_size = 0;
     fragment[fragment_size++] = 0xC0;
     fragment[fragment_size++] = 0x01;
@@ -269,10 +285,18 @@ static void fragment_rows(void) {
         fragment[fragment_size++] = 2 + i % 3;
         fragment[fragment_size++] = 0x06;
     }
-    fragment_row("read: a READ of 682 headers", walked, 40000);
-    fragment_row("built: 156 analog events", built, 40000);
-    fragment_row("  each by a call", built_apart, 40000);
-    fragment_row("built: an empty response", built_empty, 2000000);
+    work_row("read: a READ of 682 headers", "fragment", walked, 40000);
+    work_row("built: 156 analog events", "fragment", built, 40000);
+    work_row("  each by a call", "fragment", built_apart, 40000);
+    work_row("built: an empty response", "fragment", built_empty, 2000000);
+}
+
+static void poll_rows(void) {
+    printf("\n%-33s %23s   beside plain Rust\n", "polls of an outstation", "proved");
+    work_row("no events", "poll", polled_none, 400000);
+    work_row("1 event, made and confirmed", "poll", polled_one, 400000);
+    work_row("156 events, made and confirmed", "poll", polled_156, 10000);
+    work_row("1,000 values, in two fragments", "poll", polled_values, 20000);
 }
 
 static void master_rows(void) {
@@ -285,9 +309,9 @@ static void master_rows(void) {
         fragment[sizeof events + 13 * i] = i & 0xFF;
         fragment[sizeof events + 13 * i + 1] = i >> 8;
     }
-    fragment_row("taken: 156 analog events", taken, 40000);
+    work_row("taken: 156 analog events", "fragment", taken, 40000);
     begin_fragment(values, sizeof values, 400, 5);
-    fragment_row("taken: 400 analog values", taken, 40000);
+    work_row("taken: 400 analog values", "fragment", taken, 40000);
 }
 
 int main(int argc, char **argv) {
@@ -318,6 +342,7 @@ int main(int argc, char **argv) {
     stream_rows();
     fragment_rows();
     master_rows();
+    poll_rows();
     printf("\nsum of all that was made: %016llx, %s\n", (unsigned long long)all_sums, failed ? "AND NOT ONE FOR ALL" : "the same for all");
     return failed;
 }

@@ -3,4 +3,5 @@
 
 mod fragments;
 mod master;
+mod outstation;
 mod streams;

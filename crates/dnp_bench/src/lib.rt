@@ -5,3 +5,4 @@
 mod fragments;
 mod frames;
 mod masters;
+mod outstations;

@@ -10,6 +10,7 @@ mod journals;
 mod lanes;
 mod lines;
 mod masters;
+mod outstations;
 mod points;
 
 use std::io;
@@ -23,7 +24,8 @@ fn main(rt: HostRuntime) -> io::Result<()> {
     print(&rt, "journal", journals::append_and_list(alloc))?;
     print(&rt, "master", masters::poll(alloc))?;
     print(&rt, "book", controls::add_and_list(alloc))?;
-    print(&rt, "outputs", controls::operate(alloc))
+    print(&rt, "outputs", controls::operate(alloc))?;
+    print(&rt, "outstation", outstations::poll(alloc))
 }
 
 /// Prints a case's name and its number, or that it took a wrong turn.

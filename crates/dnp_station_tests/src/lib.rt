@@ -17,6 +17,8 @@ mod masters;
 #[cfg(test)]
 mod outputs;
 #[cfg(test)]
+mod outstations;
+#[cfg(test)]
 mod plans;
 #[cfg(test)]
 mod points;

@@ -1,0 +1,139 @@
+//! An outstation that is polled, as `bench/` calls it from C.
+
+use dnp_controls::NoOutputs;
+use dnp_eventbuf::PlainLanes;
+use dnp_objects::Kind;
+use dnp_outstation::{Fragment, Outstation};
+use dnp_pointdb::{Block, Point, PointDb, PointPlan, Points, Reading, Times};
+use std::alloc::Global;
+
+type Station = Outstation<PlainLanes, NoOutputs>;
+
+const TIMES: Times = Times {
+    confirm_ms: 5_000,
+    response_ms: 10_000,
+    select_ms: 5_000,
+    retries: 0,
+    unsolicited: false,
+};
+
+/// One block of so many points of class 1, from index 0 on.
+fn block_of(alloc: Global, count: usize) -> Option<Vec<Block>> {
+    let point = Point {
+        class: 1,
+        deadband: 0,
+    };
+    let points = Points::new(vec![in alloc; point; count].ok()?);
+    vec![in alloc; Block { base: 0, points }].ok()
+}
+
+/// An open outstation with a block of so many points of each kind and lanes of 200 rows, whose
+/// restart was cleared.
+fn station_of(alloc: Global, counts: [usize; 3]) -> Option<Station> {
+    let binary = block_of(alloc, counts[0])?;
+    let counter = block_of(alloc, counts[1])?;
+    let analog = block_of(alloc, counts[2])?;
+    let plan = PointPlan::new(binary, counter, analog).ok()?;
+    let points = PointDb::new(alloc, plan).ok()?;
+    let lanes = PlainLanes::new(alloc, [200; 9]).ok()?;
+    let mut station = Outstation::new(points, lanes, NoOutputs, TIMES);
+    station.opened(alloc, 0).ok()?;
+    let clears = [0xC0, 0x02, 0x50, 0x01, 0x00, 0x07, 0x07, 0x00];
+    station.receive(alloc, 0, &clears).ok()?;
+    Some(station)
+}
+
+/// The octets of a fragment in one number.
+fn number_of(fragment: &Fragment) -> u64 {
+    let mut sum = fragment.len() as u64;
+    for part in fragment.as_slice().chunks(97) {
+        sum = sum.wrapping_mul(31).wrapping_add(u64::from(part[0]));
+    }
+    sum
+}
+
+/// The number of a fragment that comes, and the number of the confirm that it asks for.
+fn taken(sent: &[Option<Fragment>; 2]) -> Option<(u64, Option<u8>)> {
+    let fragment = sent[0].as_ref()?;
+    let control = *fragment.as_slice().first()?;
+    let asks = control & 0x20 != 0;
+    Some((number_of(fragment), if asks { Some(control & 15) } else { None }))
+}
+
+/// Sends a READ and each confirm that is asked for, looks at the timers, and makes a number of what
+/// comes; `most` is more than the fragments of a response.
+fn poll(alloc: Global, station: &mut Station, read: &[u8], most: usize) -> Option<u64> {
+    let mut actions = station.receive(alloc, 0, read).ok()?;
+    let mut sum = 0u64;
+    for _ in 0..most {
+        let Some((number, asks)) = taken(&actions.send) else {
+            break;
+        };
+        sum = sum.wrapping_mul(31).wrapping_add(number);
+        let Some(seq) = asks else {
+            break;
+        };
+        actions = station.receive(alloc, 0, &[0xC0 | seq, 0]).ok()?;
+        let discarded = actions.discarded.as_slice().len() as u64;
+        sum = sum.wrapping_mul(31).wrapping_add(discarded);
+    }
+    station.tick(alloc, 0).ok()?;
+    Some(sum)
+}
+
+/// The analog changes so often, each time to another value.
+fn change(alloc: Global, station: &mut Station, turn: u64, events: u16) -> Option<()> {
+    let turn = turn % 65_536;
+    for event in 0..events {
+        let value = turn as i64 * 256 + i64::from(event) + 1;
+        let reading = Reading {
+            value,
+            flags: 1,
+            time: Some(1_000 + turn),
+        };
+        station.change(alloc, 0, Kind::Analog, 0, reading).ok()?;
+    }
+    Some(())
+}
+
+/// `count` polls of classes 1, 2 and 3, before each of which an analog of class 1 changes `events`
+/// times, in one number; all ones where a call was refused.
+#[unsafe(no_mangle)]
+pub extern "C" fn dnp_bench_poll_events(alloc: Global, count: u64, events: u16) -> u64 {
+    let Some(mut station) = station_of(alloc, [0, 0, 1]) else {
+        return u64::MAX;
+    };
+    let mut sum = 0u64;
+    for turn in 0..count {
+        let control = 0xC0 | (turn % 16) as u8;
+        let read = [
+            control, 0x01, 0x3C, 0x02, 0x06, 0x3C, 0x03, 0x06, 0x3C, 0x04, 0x06,
+        ];
+        let Some(number) = change(alloc, &mut station, turn, events)
+            .and_then(|_| poll(alloc, &mut station, &read, 2))
+        else {
+            return u64::MAX;
+        };
+        sum = sum.wrapping_mul(31).wrapping_add(number);
+    }
+    sum
+}
+
+/// `count` READs of class 0 over 400 binaries, 300 counters and 300 analogs, in one number; all ones
+/// where a call was refused.
+#[unsafe(no_mangle)]
+pub extern "C" fn dnp_bench_poll_values(alloc: Global, count: u64) -> u64 {
+    let Some(mut station) = station_of(alloc, [400, 300, 300]) else {
+        return u64::MAX;
+    };
+    let mut sum = 0u64;
+    for turn in 0..count {
+        let control = 0xC0 | (2 * (turn % 8)) as u8;
+        let read = [control, 0x01, 0x3C, 0x01, 0x06];
+        let Some(number) = poll(alloc, &mut station, &read, 3) else {
+            return u64::MAX;
+        };
+        sum = sum.wrapping_mul(31).wrapping_add(number);
+    }
+    sum
+}

@@ -1,0 +1,230 @@
+//! What an outstation answers to polls and their confirms, octet for octet.
+
+use crate::plans::{Alike, plan_of};
+use dnp_controls::NoOutputs;
+use dnp_eventbuf::PlainLanes;
+use dnp_objects::{Kind, Row};
+use dnp_outstation::{Actions, Fragment, Outstation};
+use dnp_pointdb::{PointDb, Reading, Times};
+use std::alloc::Global;
+use std::test::Fail;
+
+/// A call on an outstation, and what it does.
+#[derive(Clone, Copy)]
+enum Step<'a> {
+    /// These octets come, these are sent, or none, and these events, known by their index and value,
+    /// are discarded.
+    Gets(&'a [u8], &'a [u8], &'a [(u16, i64)]),
+    /// A point reads this value with flags 01 at a time, if it has one, and these events are
+    /// overwritten.
+    Reads(Kind, u16, i64, Option<u64>, &'a [(u16, i64)]),
+    /// The timers are looked at at this moment.
+    Ticks(u64),
+}
+
+/// Whether these are the rows, by index and value.
+fn are(rows: &[Row], wanted: &[(u16, i64)]) -> bool {
+    rows.iter()
+        .map(|row| (row.index, row.value))
+        .eq(wanted.iter().copied())
+}
+
+/// Whether one fragment of these octets is sent, or none where there are none.
+fn sends(send: &[Option<Fragment>; 2], octets: &[u8]) -> bool {
+    match send {
+        [None, None] => octets.is_empty(),
+        [Some(fragment), None] => fragment.as_slice() == octets,
+        _ => false,
+    }
+}
+
+/// Whether a call that answered this did so much and no more.
+fn did(actions: &Actions, sent: &[u8], discarded: &[(u16, i64)], lost: &[(u16, i64)]) -> bool {
+    sends(&actions.send, sent)
+        && are(actions.discarded.as_slice(), discarded)
+        && are(actions.overwritten.as_slice(), lost)
+        && actions.time.is_none()
+        && !actions.close
+}
+
+type Station = Outstation<PlainLanes, NoOutputs>;
+
+/// Whether the outstation does the step as it says.
+fn does(station: &mut Station, alloc: Global, step: Step<'_>) -> bool {
+    match step {
+        Step::Gets(octets, sent, discarded) => match station.receive(alloc, 0, octets) {
+            Ok(actions) => did(&actions, sent, discarded, &[]),
+            Err(_) => false,
+        },
+        Step::Reads(kind, index, value, time, lost) => {
+            let reading = Reading {
+                value,
+                flags: 1,
+                time,
+            };
+            match station.change(alloc, 0, kind, index, reading) {
+                Ok(actions) => did(&actions, &[], &[], lost),
+                Err(_) => false,
+            }
+        }
+        Step::Ticks(now) => match station.tick(alloc, now) {
+            Ok(actions) => did(&actions, &[], &[], &[]),
+            Err(_) => false,
+        },
+    }
+}
+
+const TIMES: Times = Times {
+    confirm_ms: 5_000,
+    response_ms: 10_000,
+    select_ms: 5_000,
+    retries: 0,
+    unsolicited: false,
+};
+
+/// An open outstation with these points and capacities.
+fn station_of(alloc: Global, blocks: &[Alike], capacities: [u32; 9]) -> Option<Station> {
+    let Ok(Ok(plan)) = plan_of(alloc, blocks) else {
+        return None;
+    };
+    let points = PointDb::new(alloc, plan).ok()?;
+    let lanes = PlainLanes::new(alloc, capacities).ok()?;
+    let mut station = Outstation::new(points, lanes, NoOutputs, TIMES);
+    station.opened(alloc, 0).ok()?;
+    Some(station)
+}
+
+/// A WRITE that clears the restart, and its answer.
+const CLEARS: Step<'static> = Step::Gets(
+    &[0xC0, 0x02, 0x50, 0x01, 0x00, 0x07, 0x07, 0x00],
+    &[0xC0, 0x81, 0x00, 0x00],
+    &[],
+);
+
+/// Points of one kind from index 0 on, of a class.
+fn points(kind: Kind, count: usize, class: u8) -> Alike {
+    Alike {
+        kind,
+        base: 0,
+        count,
+        class,
+        deadband: 0,
+    }
+}
+
+#[test]
+fn polls_step_by_step(rt: HostRuntime) -> Result<(), Fail> {
+    use Kind::{Analog, Binary, Counter};
+    use Step::{Gets, Reads, Ticks};
+
+    let alloc = rt.alloc();
+    #[rattlefmt::skip]
+    let cases = [
+        // Nothing but the indications: the restart, and what is unknown, or is no point.
+        (&[] as &[Alike], [100; 9], &[
+            Gets(&[0xC0, 0x0D], &[0xC0, 0x81, 0x80, 0x01], &[]),
+            Gets(&[0xC0, 0x01, 0x6E, 0x00, 0x06], &[0xC0, 0x81, 0x80, 0x02], &[]),
+            Gets(&[0xC0, 0x01, 0x01, 0x02, 0x00, 0x00, 0x00], &[0xC0, 0x81, 0x80, 0x04], &[]),
+            Gets(&[0xC0, 0x03, 0x0C, 0x01, 0x28, 0xFF, 0xFF], &[0xC0, 0x81, 0x80, 0x04], &[]),
+            Gets(&[0xC0, 0x01, 0x01, 0x02, 0x01, 0x00, 0x00, 0xFF, 0xFF], &[0xC0, 0x81, 0x80, 0x04], &[]),
+            CLEARS,
+            Gets(&[0xC1, 0x02, 0x50, 0x01, 0x00, 0x06, 0x06, 0x00], &[0xC1, 0x81, 0x00, 0x04], &[]),
+        ] as &[Step<'_>]),
+        // Present values of a block.
+        (&[points(Binary, 3, 0)], [100; 9], &[
+            Gets(&[0xC0, 0x01, 0x01, 0x00, 0x00, 0x01, 0x02],
+                &[0xC0, 0x81, 0x80, 0x00, 0x01, 0x02, 0x01, 0x01, 0x00, 0x02, 0x00, 0x02, 0x02], &[]),
+        ]),
+        // An event is read, confirmed and gone; the same READ again executes nothing.
+        (&[points(Binary, 4, 1)], [100; 9], &[
+            CLEARS,
+            Reads(Binary, 3, 1, Some(1_000), &[]),
+            Gets(&[0xC1, 0x01, 0x3C, 0x02, 0x06],
+                &[0xE1, 0x81, 0x00, 0x00, 0x02, 0x02, 0x28, 0x01, 0x00, 0x03, 0x00, 0x81, 0xE8, 0x03, 0, 0, 0, 0], &[]),
+            Gets(&[0xC1, 0x00], &[], &[(3, 1)]),
+            Gets(&[0xC1, 0x01, 0x3C, 0x02, 0x06],
+                &[0xE1, 0x81, 0x00, 0x00, 0x02, 0x02, 0x28, 0x01, 0x00, 0x03, 0x00, 0x81, 0xE8, 0x03, 0, 0, 0, 0], &[]),
+            Gets(&[0xC1, 0x00], &[], &[]),
+            Gets(&[0xC2, 0x01, 0x3C, 0x02, 0x06], &[0xC2, 0x81, 0x00, 0x00], &[]),
+        ]),
+        // An event that comes between a READ and its repetition is left for the next one. A confirm
+        // that comes after its timer ended releases nothing, and after the READ was repeated it does.
+        (&[points(Binary, 4, 1)], [100; 9], &[
+            CLEARS,
+            Reads(Binary, 3, 1, Some(1_000), &[]),
+            Gets(&[0xC1, 0x01, 0x3C, 0x02, 0x06],
+                &[0xE1, 0x81, 0x00, 0x00, 0x02, 0x02, 0x28, 0x01, 0x00, 0x03, 0x00, 0x81, 0xE8, 0x03, 0, 0, 0, 0], &[]),
+            Reads(Binary, 3, 0, Some(2_000), &[]),
+            Ticks(5_000),
+            Gets(&[0xC1, 0x00], &[], &[]),
+            Gets(&[0xC1, 0x01, 0x3C, 0x02, 0x06],
+                &[0xE1, 0x81, 0x00, 0x00, 0x02, 0x02, 0x28, 0x01, 0x00, 0x03, 0x00, 0x81, 0xE8, 0x03, 0, 0, 0, 0], &[]),
+            Ticks(4_999),
+            Gets(&[0xC1, 0x00], &[], &[(3, 1)]),
+            Gets(&[0xC2, 0x01, 0x3C, 0x02, 0x06],
+                &[0xE2, 0x81, 0x00, 0x00, 0x02, 0x02, 0x28, 0x01, 0x00, 0x03, 0x00, 0x01, 0xD0, 0x07, 0, 0, 0, 0], &[]),
+        ]),
+        // A lane of two rows takes three: the overflow is told until a release leaves no lane full.
+        (&[points(Binary, 1, 1)], [2; 9], &[
+            CLEARS,
+            Reads(Binary, 0, 1, Some(1), &[]),
+            Reads(Binary, 0, 0, Some(2), &[]),
+            Reads(Binary, 0, 1, Some(3), &[(0, 1)]),
+            Gets(&[0xC1, 0x01, 0x3C, 0x02, 0x06],
+                &[0xE1, 0x81, 0x00, 0x08, 0x02, 0x02, 0x28, 0x02, 0x00, 0x00, 0x00, 0x01, 0x02, 0, 0, 0, 0, 0,
+                    0x00, 0x00, 0x81, 0x03, 0, 0, 0, 0, 0], &[]),
+            Gets(&[0xC1, 0x00], &[], &[(0, 0), (0, 1)]),
+            Gets(&[0xC2, 0x01, 0x3C, 0x02, 0x06], &[0xC2, 0x81, 0x00, 0x00], &[]),
+        ]),
+        // Two classes in one READ, the second up to one row, without times; and a negative value.
+        (&[points(Binary, 1, 1), points(Counter, 1, 2), points(Analog, 3, 3)], [100; 9], &[
+            CLEARS,
+            Reads(Binary, 0, 1, None, &[]),
+            Reads(Counter, 0, 7, None, &[]),
+            Gets(&[0xC1, 0x01, 0x3C, 0x02, 0x06, 0x3C, 0x03, 0x07, 0x01],
+                &[0xE1, 0x81, 0x00, 0x00, 0x02, 0x01, 0x28, 0x01, 0x00, 0x00, 0x00, 0x81,
+                    0x16, 0x01, 0x28, 0x01, 0x00, 0x00, 0x00, 0x01, 0x07, 0x00, 0x00, 0x00], &[]),
+            Gets(&[0xC1, 0x00], &[], &[(0, 1), (0, 7)]),
+            Reads(Analog, 2, -5, None, &[]),
+            Gets(&[0xC2, 0x01, 0x3C, 0x04, 0x06],
+                &[0xE2, 0x81, 0x00, 0x00, 0x20, 0x01, 0x28, 0x01, 0x00, 0x02, 0x00, 0x01, 0xFB, 0xFF, 0xFF, 0xFF], &[]),
+        ]),
+    ];
+    for (case, (blocks, capacities, steps)) in cases.iter().enumerate() {
+        let mut station = station_of(alloc, blocks, *capacities).expect(&rt, "a station");
+        for (number, step) in steps.iter().enumerate() {
+            assert!(rt; does(&mut station, alloc, *step), "case {case}, step {number}");
+        }
+    }
+    Ok(())
+}
+
+/// Whether a READ of class 1 or its confirm is answered by so many octets that begin so.
+fn answers(station: &mut Station, alloc: Global, octets: &[u8], len: usize, begins: &[u8]) -> bool {
+    match station.receive(alloc, 0, octets) {
+        Ok(actions) => match &actions.send {
+            [Some(fragment), None] => {
+                fragment.len() == len && fragment.as_slice().starts_with(begins)
+            }
+            _ => false,
+        },
+        Err(_) => false,
+    }
+}
+
+#[test]
+fn a_response_in_two_fragments(rt: HostRuntime) -> Result<(), Fail> {
+    let alloc = rt.alloc();
+    let mut station =
+        station_of(alloc, &[points(Kind::Analog, 1, 1)], [200; 9]).expect(&rt, "a station");
+    assert!(rt; does(&mut station, alloc, CLEARS));
+    for value in 1..158 {
+        let reads = Step::Reads(Kind::Analog, 0, value, Some(1_000), &[]);
+        assert!(rt; does(&mut station, alloc, reads), "{value}");
+    }
+    let first = [0xA0, 0x81, 0x02, 0x00, 0x20, 0x03, 0x28, 0x9C, 0x00];
+    assert!(rt; answers(&mut station, alloc, &[0xC0, 0x01, 0x3C, 0x02, 0x06], 2_037, &first));
+    let second = [0x61, 0x81, 0x00, 0x00, 0x20, 0x03, 0x28, 0x01, 0x00];
+    assert!(rt; answers(&mut station, alloc, &[0xC0, 0x00], 22, &second));
+    Ok(())
+}
