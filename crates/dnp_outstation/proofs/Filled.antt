@@ -1,5 +1,5 @@
 -- What is filled item by item is what is offered: the longest beginning of the items that fits.
-use Rattle.std.proofs.Common.{◌≡◌, Bool, true, false, if◌then◌else◌, refl, sym, ◌∙◌, ap, subst, ℕ, suc, ◌+◌, ◌<◌, ◌==◌, List, [], ◌∷◌, ◌++◌, take, length, arith, append_assoc, append-nil, eq-eqb, ne_eqb, Option, None, Some}
+use Rattle.std.proofs.Common.{◌≡◌, Bool, true, false, if◌then◌else◌, refl, sym, ◌∙◌, ap, ℕ, ◌==◌, List, [], ◌∷◌, ◌++◌, take, length, arith, append_assoc, append-nil, eq-eqb, ne_eqb, None, Some}
 use Rattle.std.proofs.lemmas.List.{length-append}
 use Rattle.dnp_appfragment.specs.Headers.{Head}
 use Rattle.dnp_outstation.specs.declared.offer.place.Place.{Place}

@@ -1,14 +1,14 @@
 -- A response with more items is no smaller.
-use Rattle.std.proofs.Common.{◌≡◌, Bool, true, false, if◌then◌else◌, refl, sym, ◌∙◌, ap, ℕ, ◌+◌, ◌≤◌, nat_le, List, [], ◌∷◌, ◌++◌, map, length, arith, append-nil}
+use Rattle.std.proofs.Common.{◌≡◌, Bool, true, false, if◌then◌else◌, refl, ◌∙◌, ap, ℕ, ◌+◌, ◌≤◌, List, [], ◌∷◌, ◌++◌, map, length, arith, append-nil}
 use Rattle.std.specs.List.{flat_map}
 use Rattle.std.proofs.lemmas.Bool.{leb-true, le-leb}
 use Rattle.std.proofs.lemmas.List.{length-append}
-use Rattle.dnp_appfragment.specs.Headers.{Head, header_octets, spelled}
-use Rattle.dnp_appfragment.specs.Items.{Item as Object, item_octets}
+use Rattle.dnp_appfragment.specs.Headers.{header_octets, spelled}
+use Rattle.dnp_appfragment.specs.Items.{item_octets}
 use Rattle.dnp_outstation.specs.Items.{Thing, Item}
 use Rattle.dnp_outstation.specs.Items.Thing.{Event, Present}
-use Rattle.dnp_outstation.specs.Layout.{object_of, goes_on, Stretch, alone, in_front, stretches, range_of, header_of, headers_of, response_size, fits_fragment}
-use Rattle.dnp_outstation.proofs.Stretches.{Begins, begins, in_front_on, in_front_off}
+use Rattle.dnp_outstation.specs.Layout.{object_of, goes_on, Stretch, alone, in_front, stretches, range_of, header_of, response_size, fits_fragment}
+use Rattle.dnp_outstation.proofs.Stretches.{begins, in_front_on, in_front_off}
 
 abbrev size_of : List Stretch → ℕ
 size_of found = length (spelled (map header_of found))

@@ -1,20 +1,20 @@
 -- The header of items that go on joins with the next one, and with no other.
-use Rattle.std.proofs.Common.{◌≡◌, ◌⊎◌, inl, inr, Bool, true, false, if◌then◌else◌, refl, sym, ◌∙◌, ap, ℕ, ◌+◌, ◌^◌, ◌<◌, ◌==◌, ◌&&◌, nat_lt, List, [], ◌∷◌, ◌++◌, map, length, arith, Option, Some, None, eqb-true, eq-eqb, ne_eqb}
+use Rattle.std.proofs.Common.{◌≡◌, Bool, true, false, if◌then◌else◌, refl, sym, ◌∙◌, ap, ℕ, ◌+◌, ◌^◌, ◌<◌, ◌==◌, ◌&&◌, List, [], ◌∷◌, ◌++◌, map, length, arith, Option, Some, None, eqb-true, eq-eqb}
 use Rattle.std.specs.List.{flat_map}
 use Rattle.std.specs.Option.{option_map}
-use Rattle.std.proofs.lemmas.Bool.{and_parts, and_from, and_cases, and_left, and_right, lt-ltb, eqb-false}
+use Rattle.std.proofs.lemmas.Bool.{and_parts, and_from, lt-ltb}
 use Rattle.std.proofs.lemmas.List.{map_push, flat_map_more, length_push}
 use Rattle.dnp_appfragment.specs.declared.header.Range.{Range}
 use Rattle.dnp_appfragment.specs.declared.header.Range.TheVariants as range
 use Rattle.dnp_appfragment.specs.Headers.{Head}
-use Rattle.dnp_appfragment.specs.Items.{Item as Object, item_octets, event_item, point_item}
+use Rattle.dnp_appfragment.specs.Items.{item_octets, event_item}
 use Rattle.dnp_appfragment.specs.Joining.{joined, joined_range}
 use Rattle.dnp_appfragment.specs.Written as written
 use Rattle.dnp_outstation.specs.declared.offer.writer.Run.{Run}
-use Rattle.dnp_outstation.specs.declared.offer.writer.Run.TheVariants.{NoRun, OfLane, OfBlock}
+use Rattle.dnp_outstation.specs.declared.offer.writer.Run.TheVariants.{OfLane, OfBlock}
 use Rattle.dnp_outstation.specs.Items.{Thing, Item}
 use Rattle.dnp_outstation.specs.Items.Thing.{Event, Present}
-use Rattle.dnp_outstation.specs.Layout.{object_of, goes_on, Stretch, range_of, header_of}
+use Rattle.dnp_outstation.specs.Layout.{object_of, goes_on, header_of}
 use Rattle.dnp_outstation.specs.Filling.{is_same_run}
 use Rattle.dnp_outstation.proofs.Stretches.{IsChain, last_item}
 

@@ -1,8 +1,7 @@
 -- Items that stand under one header, and what stands behind them.
-use Rattle.std.proofs.Common.{◌≡◌, Bool, true, false, if◌then◌else◌, refl, sym, ◌∙◌, ap, subst, ℕ, ◌+◌, ◌*◌, ◌^◌, ◌<◌, ◌≤◌, ◌==◌, ◌&&◌, nat_lt, List, [], ◌∷◌, ◌++◌, map, length, arith, Option, Some, None, append_assoc}
-use Rattle.dnp_outstation.specs.Items.{Thing, Item}
-use Rattle.dnp_outstation.specs.Items.Thing.{Event, Present}
-use Rattle.dnp_outstation.specs.Layout.{goes_on, Stretch, alone, in_front, stretches, header_of, headers_of}
+use Rattle.std.proofs.Common.{◌≡◌, Bool, true, false, if◌then◌else◌, refl, sym, ◌∙◌, ap, List, [], ◌∷◌, ◌++◌}
+use Rattle.dnp_outstation.specs.Items.{Item}
+use Rattle.dnp_outstation.specs.Layout.{goes_on, Stretch, alone, in_front, stretches}
 
 -- each item goes on from the one before it
 abbrev pub IsChain : Item → List Item → Type 0

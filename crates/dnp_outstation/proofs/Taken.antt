@@ -1,6 +1,6 @@
 -- What a writer holds after some items: their headers.
-use Rattle.std.proofs.Common.{◌≡◌, ◌⊎◌, inl, inr, Bool, true, false, if◌then◌else◌, refl, sym, ◌∙◌, ap, subst, ℕ, ◌+◌, ◌*◌, ◌^◌, ◌<◌, ◌≤◌, nat_le, List, [], ◌∷◌, ◌++◌, map, length, arith, Option, Some, None, append_assoc, append-nil}
-use Rattle.std.specs.Prelude.{option_to_list, fold, slice_set}
+use Rattle.std.proofs.Common.{◌≡◌, ◌⊎◌, inl, inr, Bool, true, false, if◌then◌else◌, refl, sym, ◌∙◌, ap, subst, ℕ, ◌+◌, ◌*◌, ◌≤◌, nat_le, List, [], ◌∷◌, ◌++◌, map, length, arith, Option, Some, None, append_assoc, append-nil}
+use Rattle.std.specs.Prelude.{option_to_list, fold}
 use Rattle.std.specs.List.{flat_map}
 use Rattle.std.specs.Option.{option_and_then}
 use Rattle.std.proofs.lemmas.Bool.{leb-true}
@@ -9,7 +9,6 @@ use Rattle.std.proofs.lemmas.List.Concat.{flat_map-append}
 use Rattle.std.proofs.lemmas.List.Sums.{fold_push}
 use Rattle.dnp_appfragment.specs.declared.function.Function.{Function}
 use Rattle.dnp_appfragment.specs.declared.function.Function.TheVariants as function
-use Rattle.dnp_appfragment.specs.declared.header.Range.{Range}
 use Rattle.dnp_appfragment.specs.declared.header.Range.TheVariants as range
 use Rattle.dnp_appfragment.specs.Built.{Built, front_size, heads, size, broken, with_run, with_object}
 use Rattle.dnp_appfragment.specs.Headers.{Head, number, header_octets, range_octets, spelled}
@@ -17,11 +16,11 @@ use Rattle.dnp_appfragment.specs.Items.{Item as Object, item_octets}
 use Rattle.dnp_appfragment.specs.Joining.{joined}
 use Rattle.dnp_outstation.specs.declared.offer.place.Place.{Place}
 use Rattle.dnp_outstation.specs.declared.offer.writer.Run.{Run}
-use Rattle.dnp_outstation.specs.declared.offer.writer.Run.TheVariants.{NoRun, OfLane, OfBlock}
+use Rattle.dnp_outstation.specs.declared.offer.writer.Run.TheVariants.{NoRun}
 use Rattle.dnp_outstation.specs.declared.offer.writer.Writer.{Writer}
 use Rattle.dnp_outstation.specs.Items.{Thing, Item, no_ids, given_after, place_after}
 use Rattle.dnp_outstation.specs.Items.Thing.{Event, Present}
-use Rattle.dnp_outstation.specs.Layout.{object_of, goes_on, Stretch, alone, stretches, range_of, header_of, headers_of, fits_fragment}
+use Rattle.dnp_outstation.specs.Layout.{object_of, goes_on, Stretch, alone, header_of, headers_of, fits_fragment}
 use Rattle.dnp_outstation.specs.Filling.{is_same_run, no_headers, empty_from, built_for, put, fits}
 use Rattle.dnp_outstation.proofs.Joined.{run_at, written_of, IsBehind, behind_on, behind_next, chain_behind, same_run, IsFew, joins, no_join}
 use Rattle.dnp_outstation.proofs.Stretches.{IsChain, last_item, chain_push, last_push, one_stretch, stretch_ends}

@@ -1,5 +1,5 @@
--- How a fragment is filled, item by item. Words of private steps; a lemma (proofs/Filled.antt) says that what is
--- filled is what is offered (Offer.antt).
+-- Private steps: how a fragment is filled, item by item. A lemma (proofs/Filled.antt) says that what is filled is what
+-- is offered (Offer.antt).
 use Rattle.std.specs.Prelude.{ℕ, ◌==◌, Bool, true, false, ◌&&◌, if◌then◌else◌, nat_le, max, List, [], ◌∷◌, ◌++◌, map, slice_set, slice_index, Option, None, Some}
 use Rattle.dnp_objects.specs.Lanes.{lane_number}
 use Rattle.dnp_appfragment.specs.declared.function.Function.TheVariants as function

@@ -1,6 +1,5 @@
--- What the laws of a response say, in words of their own: the longest beginning, and which rows of the lanes a
--- fragment carries (IEEE Std 1815-2012, application layer: responses, confirms, event buffers). Defines what
--- contracts promise.
+-- Definition: words of the laws of a response: the longest beginning, and which rows of the lanes a fragment carries
+-- (IEEE Std 1815-2012, application layer: responses, confirms, event buffers).
 use Rattle.std.specs.Prelude.{◌≡◌, ℕ, ◌<◌, ◌≤◌, ◌==◌, Bool, true, false, if◌then◌else◌, nat_le, List, [], ◌∷◌, length, map, filter, take, slice_index, Option, None, Some, All, AllPairs}
 use Rattle.std.specs.List.{filter_map, flat_map}
 use Rattle.dnp_objects.specs.declared.row.Row.{Row}

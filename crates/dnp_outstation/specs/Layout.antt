@@ -1,6 +1,5 @@
--- The object headers that a list of items is written as, and the size of the response that holds them (IEEE Std
--- 1815-2012, application layer: object headers, responses; object library: groups 2, 22, 32 and 1, 10, 20, 30).
--- Defines what contracts promise.
+-- Definition: the object headers that a list of items is written as, and the size of the response that holds them
+-- (IEEE Std 1815-2012, application layer: object headers, responses; object library: groups 2, 22, 32, 1, 10, 20, 30).
 use Rattle.std.specs.Prelude.{ℕ, ◌+◌, ◌==◌, Bool, true, false, ◌&&◌, if◌then◌else◌, nat_le, List, [], ◌∷◌, length, map}
 use Rattle.std.specs.List.{flat_map}
 use Rattle.dnp_appfragment.specs.declared.header.Range.{Range}

@@ -12,6 +12,7 @@ mod fault;
 mod fault_from;
 mod indications;
 mod kept;
+pub mod laws;
 mod offer;
 mod outstation;
 mod outstation_core;

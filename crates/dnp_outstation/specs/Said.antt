@@ -1,0 +1,58 @@
+-- Definition: the event rows that a response's headers say, by the reading of `dnp_appfragment`, and the items that
+-- can be written (IEEE Std 1815-2012, application layer: responses; object library: groups 2, 22 and 32).
+use Rattle.std.specs.Prelude.{ℕ, ◌<◌, ◌^◌, Bool, ◌||◌, ◌==◌, if◌then◌else◌, List, [], option_to_list, Option, None, Some, All}
+use Rattle.std.specs.List.{flat_map, filter_map, range_with_len}
+use Rattle.dnp_objects.specs.Events.{IsEvent}
+use Rattle.dnp_objects.specs.declared.row.Row.{Row}
+use Rattle.dnp_appfragment.specs.Headers.{Head, count_of}
+use Rattle.dnp_appfragment.specs.Meaning.{row_in}
+use Rattle.dnp_appfragment.specs.Written.{FitsPoint}
+use Rattle.dnp_eventbuf.specs.Stock.{Stock, lane_at}
+use Rattle.dnp_outstation.specs.Items.{Thing, Item, Source, statics_of}
+use Rattle.dnp_outstation.specs.Items.Thing.{Event, Present}
+
+-- ---- what headers say
+
+-- an event object: group 2, 22 or 32
+abbrev pub is_event_header : Head → Bool
+is_event_header h = (h.group == 2) || (h.group == 22) || (h.group == 32)
+
+-- the rows of a header of event objects, in order
+abbrev pub event_rows : Head → List Row
+event_rows h = if is_event_header h then flat_map (λ k. option_to_list (row_in h k)) (range_with_len 0 (count_of h.range)) else []
+
+-- those of headers, one after the other
+abbrev pub rows_said : List Head → List Row
+rows_said hs = flat_map event_rows hs
+
+-- ---- what items are
+
+-- the item's event row, if it is one
+abbrev pub event_in : Item → Option Row
+event_in x = of x.thing
+  where
+    of : Thing → Option Row
+    of (Event lane row) = Some row.row
+    of (Present static) = None
+
+-- the event rows among items, in order
+abbrev pub events_in : List Item → List Row
+events_in items = filter_map event_in items
+
+-- the item can be written: an event that its object carries, or a row that fits a present value of its group; its
+-- index has 16 bits
+abbrev pub CanStand : Item → Type 0
+CanStand x = of x.thing
+  where
+    of : Thing → Type 0
+    of (Event lane row) = IsEvent row.row × (row.row.index < 2 ^ 16)
+    of (Present static) = FitsPoint static.group static.row × (static.row.index < 2 ^ 16)
+
+-- the indexes of the lanes' rows have 16 bits
+abbrev pub HaveIndexes : Stock → Type 0
+HaveIndexes s = (lane : ℕ) → lane < 9 → All (λ x. x.row.index < 2 ^ 16) (lane_at s lane).rows
+
+-- the rows that a READ may give can be written
+pub record AreWritable (s : Source) : Type 0 where
+  pub events : HaveIndexes s.lanes
+  pub present : (group : ℕ) → All (λ x. FitsPoint x.group x.row × (x.row.index < 2 ^ 16)) (statics_of s group)

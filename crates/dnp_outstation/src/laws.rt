@@ -1,0 +1,110 @@
+//! Laws of the words of `specs/`: each function does nothing, and its contract is a law.
+ghost use Rattle.std.specs.Prelude.{◌≡◌, ◌↔◌, ◌≤◌, ℕ, Bool, true, All, List, [], ◌++◌, length, map, None, Some, Ok};
+ghost use Rattle.std.specs.List.Sorted.{IsPermutation};
+ghost use Rattle.dnp_objects.specs.declared.lane.LaneRow.{LaneRow};
+ghost use Rattle.dnp_appfragment.specs.Control.{IsControl};
+ghost use Rattle.dnp_appfragment.specs.Fragments.{Answered, response_octets};
+ghost use Rattle.dnp_appfragment.specs.Headers.{Head};
+ghost use Rattle.dnp_appfragment.specs.Items.{HoldAll};
+ghost use Rattle.dnp_appfragment.specs.Meaning.{response_at};
+ghost use Rattle.dnp_appfragment.specs.Table.{is_response};
+ghost use Rattle.dnp_eventbuf.specs.Sound.{IsSound};
+ghost use Rattle.dnp_eventbuf.specs.Stock.{Stock, all_up_to, with_rows, without, without_all};
+ghost use Rattle.dnp_outstation.specs.declared.offer.place.Place.{Place};
+ghost use Rattle.dnp_outstation.specs.Items.{Source, Item, no_ids, items_left, enabled_lanes, lane_items};
+ghost use Rattle.dnp_outstation.specs.Layout.{object_of, headers_of, response_size, fits_fragment};
+ghost use Rattle.dnp_outstation.specs.Offer.{held_of, offered_of, offered, pushed};
+ghost use Rattle.dnp_outstation.specs.Laws.{IsLongest, rows_by_lane, AreRowsUpto, IsTidy, LeavesNothing, AreNext, IsOnward, AreGiven, AreBefore};
+ghost use Rattle.dnp_outstation.specs.Said.{rows_said, events_in, CanStand, HaveIndexes, AreWritable};
+
+/// A fragment holds the longest beginning of the items left that fits: with one item more it wouldn't,
+/// since a response with more items is no smaller. Nothing is left exactly where it holds them all, and
+/// where no item was left it is empty and the last.
+pub fn a_fragment_holds_as_much_as_fits()
+    ensures longest { (items : List Item) → IsLongest fits_fragment items (held_of items) }
+    ensures grows { (items more : List Item) → response_size items ≤ response_size (items ++ more) }
+    ensures last { (place : Place) (items : List Item) → ((offered_of place items).left ≡ None) ↔ (held_of items ≡ items) }
+    ensures empty { (place : Place) → offered_of place [] ≡ record { headers = []; upto = no_ids; left = None } }
+{}
+
+/// Lane by lane, the event rows that a fragment carries are those that stand in the lanes with ids up to
+/// its number for the lane, if nothing that the READ was given before is left there; likewise an
+/// unsolicited response. So a release of these numbers takes what was carried and nothing else.
+pub fn a_fragment_carries_the_rows_up_to_its_ids()
+    ensures fragment { (s : Source) (stood : ℕ) (place : Place) (headers : List Head) → IsSound s.lanes
+        → IsTidy s.lanes place.given → length place.given ≡ 9
+        → AreRowsUpto s.lanes (offered s stood place headers).upto (held_of (items_left s stood place headers)) }
+    ensures unsolicited { (s : Stock) (enabled : List Bool) → IsSound s
+        → AreRowsUpto s (pushed s enabled).upto (held_of (lane_items s (enabled_lanes 0 enabled))) }
+    ensures released { (s : Stock) (upto : List ℕ) (items : List Item) → length s.lanes ≡ 9 → length upto ≡ 9
+        → AreRowsUpto s upto items → all_up_to s upto ≡ rows_by_lane items }
+{}
+
+/// A row stands once at most in a response, of however many fragments: in each lane the rows of a
+/// fragment rise, they are behind all that were given before, and none came after the READ was first
+/// answered.
+pub fn a_row_stands_once_in_a_response()
+    ensures next { (s : Source) (stood : ℕ) (place : Place) (headers : List Head) → IsSound s.lanes
+        → length place.given ≡ 9 → AreNext place.given stood (held_of (items_left s stood place headers)) }
+    ensures onward { (s : Source) (stood : ℕ) (place left : Place) (headers : List Head) → IsSound s.lanes
+        → length place.given ≡ 9 → (offered s stood place headers).left ≡ Some left → IsOnward place.given left.given }
+    ensures given { (s : Source) (stood : ℕ) (place left : Place) (headers : List Head) → IsSound s.lanes
+        → length place.given ≡ 9 → (offered s stood place headers).left ≡ Some left
+        → AreGiven left.given (held_of (items_left s stood place headers)) }
+    ensures once { (given later : List ℕ) (stood : ℕ) (items others : List Item) → AreGiven given items
+        → IsOnward given later → AreNext later stood others → AreBefore items others }
+{}
+
+/// Of what a READ was given nothing stands in the lanes but what its last fragment carries, and after
+/// that one's release nothing at all: so it is from a new fragment on, whatever is appended, released or
+/// emptied. Where a READ begins nothing was given.
+pub fn nothing_else_given_is_left()
+    ensures begins { (s : Stock) → IsSound s → IsTidy s no_ids }
+    ensures begins_used { (s : Stock) → All (λ id. id ≤ s.last_id) no_ids }
+    ensures new { (s : Source) (stood : ℕ) (place left : Place) (headers : List Head) → IsSound s.lanes
+        → IsTidy s.lanes place.given → length place.given ≡ 9 → All (λ id. id ≤ s.lanes.last_id) place.given
+        → (offered s stood place headers).left ≡ Some left
+        → LeavesNothing s.lanes left.given (offered s stood place headers).upto }
+    ensures released { (s : Stock) (given upto : List ℕ) → length s.lanes ≡ 9 → length upto ≡ 9
+        → LeavesNothing s given upto → IsTidy (without s upto) given }
+    ensures appended { (s : Stock) (rows : List LaneRow) (given upto : List ℕ) → LeavesNothing s given upto
+        → LeavesNothing (with_rows s rows) given upto }
+    ensures others_released { (s : Stock) (others given upto : List ℕ) → LeavesNothing s given upto
+        → LeavesNothing (without s others) given upto }
+    ensures emptied { (s : Stock) (given upto : List ℕ) → LeavesNothing s given upto
+        → LeavesNothing (without_all s) given upto }
+{}
+
+/// Items that can be written and fit are a response, whose headers hold just these, and the rows that its
+/// event headers say are the event rows among them, in order. The items of a READ can be written where the
+/// rows of the lanes and the present values can.
+pub fn octets_say_what_is_held()
+    ensures held { (items : List Item) → All CanStand items → fits_fragment items ≡ true
+        → HoldAll (headers_of items) (map object_of items) }
+    ensures response { (answered : Answered) (items : List Item) → answered.headers ≡ headers_of items
+        → IsControl answered.control → is_response answered.function ≡ true → All CanStand items
+        → fits_fragment items ≡ true → response_at (response_octets answered) ≡ Ok answered }
+    ensures rows { (items : List Item) → All CanStand items → fits_fragment items ≡ true
+        → rows_said (headers_of items) ≡ events_in items }
+    ensures written { (s : Source) (stood : ℕ) (place : Place) (headers : List Head) → IsSound s.lanes → AreWritable s
+        → All CanStand (held_of (items_left s stood place headers)) }
+{}
+
+/// A fragment is read as itself, and the event rows that its headers say are, but for order, those that a
+/// release of its ids takes; likewise an unsolicited response.
+pub fn a_release_takes_what_the_octets_said()
+    ensures read { (answered : Answered) (s : Source) (stood : ℕ) (place : Place) (headers : List Head)
+        → answered.headers ≡ (offered s stood place headers).headers → IsControl answered.control
+        → is_response answered.function ≡ true → IsSound s.lanes → AreWritable s
+        → response_at (response_octets answered) ≡ Ok answered }
+    ensures fragment { (s : Source) (stood : ℕ) (place : Place) (headers : List Head) → IsSound s.lanes → AreWritable s
+        → IsTidy s.lanes place.given → length place.given ≡ 9
+        → IsPermutation (rows_said (offered s stood place headers).headers)
+        (all_up_to s.lanes (offered s stood place headers).upto) }
+    ensures unsolicited_read { (answered : Answered) (s : Stock) (enabled : List Bool)
+        → answered.headers ≡ (pushed s enabled).headers → IsControl answered.control
+        → is_response answered.function ≡ true → IsSound s → length enabled ≤ 3 → HaveIndexes s
+        → response_at (response_octets answered) ≡ Ok answered }
+    ensures unsolicited { (s : Stock) (enabled : List Bool) → IsSound s → length enabled ≤ 3 → HaveIndexes s
+        → IsPermutation (rows_said (pushed s enabled).headers) (all_up_to s (pushed s enabled).upto) }
+{}
