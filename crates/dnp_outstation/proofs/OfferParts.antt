@@ -1,9 +1,9 @@
 -- What the headers of a READ ask for, one after the other.
-use Rattle.std.proofs.Common.{◌≡◌, ℕ, zero, ◌+◌, ◌-◌, Bool, true, false, cond, List, [], ◌∷◌, ◌++◌, map, fold, Option, None, Some, refl, sym, ap, ◌∙◌, arith, append_assoc, append-nil, drop}
+use Rattle.std.proofs.Common.{◌≡◌, ℕ, ◌+◌, ◌-◌, Bool, true, false, cond, List, [], ◌∷◌, ◌++◌, map, fold, None, Some, refl, sym, ap, ◌∙◌, arith, append-nil, drop}
 use Rattle.dnp_appfragment.specs.Headers.{Head}
 use Rattle.dnp_outstation.specs.declared.offer.place.Place.{Place}
 use Rattle.dnp_outstation.specs.declared.offer.writer.Writer.{Writer}
-use Rattle.dnp_outstation.specs.Items.{Source, Part, Item, part_of, part_after, part_items, parts_left, items_of, items_left, given_after, less}
+use Rattle.dnp_outstation.specs.Items.{Source, Part, Item, part_of, part_after, part_items, parts_left, items_of, items_left, given_after}
 use Rattle.dnp_outstation.specs.Items.Part.{RowsOf, StaticsOf}
 use Rattle.dnp_outstation.specs.Filling.{fill, ended, empty_from}
 use Rattle.dnp_outstation.specs.Offer.{offered}

@@ -1,4 +1,4 @@
--- Words of private steps: a fragment of a response as it stands in its writer, and what is known beside that.
+-- Private steps: a fragment of a response as it stands in its writer, and what is known beside that.
 use Rattle.std.specs.Prelude.{◌≤◌, ℕ, length, Option, None, Some, IfSome, ⊤}
 use Rattle.dnp_appfragment.specs.Built.{heads}
 use Rattle.dnp_outstation.specs.State.{State, Step, still}

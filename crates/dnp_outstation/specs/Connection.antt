@@ -1,6 +1,5 @@
--- The connection: what an outstation makes of each thing that comes from the master, and of time (IEEE Std
--- 1815-2012, application layer: fragments, sequence numbers, confirms, unsolicited responses). Contracts are stated
--- by these functions.
+-- Definition: the connection, what an outstation makes of each thing that comes from the master, and of time (IEEE
+-- Std 1815-2012, application layer: fragments, sequence numbers, confirms, unsolicited responses).
 use Rattle.std.specs.Prelude.{ℕ, ◌+◌, ◌%◌, ◌==◌, Bool, true, false, not, ◌&&◌, ◌||◌, if◌then◌else◌, nat_le, nat_lt, List, [], ◌∷◌, ◌++◌, length, slice_index, Option, None, Some, is_none, is_some, option_map, Result, Ok, Err, bytes_eq}
 use Rattle.std.specs.List.{list_any}
 use Rattle.dnp_appfragment.specs.declared.fault.AppFault.{AppFault}

@@ -1,5 +1,5 @@
--- What a request makes of an outstation, and the content of its answer (IEEE Std 1815-2012, application layer:
--- function codes READ and WRITE, internal indications). Contracts are stated by `content_of`.
+-- Definition: what a request makes of an outstation, and the content of its answer (IEEE Std 1815-2012, application
+-- layer: function codes READ and WRITE, internal indications).
 use Rattle.std.specs.Prelude.{ℕ, ◌+◌, ◌==◌, Bool, true, false, not, ◌&&◌, ◌||◌, ◌*◌, if◌then◌else◌, nat_lt, List, [], ◌∷◌, slice_index, Option, None, Some, Result, Ok, Err}
 use Rattle.std.specs.Int.{bit_at}
 use Rattle.std.specs.List.{list_any, list_all}

@@ -8,7 +8,7 @@ ghost use Rattle.dnp_outstation.specs.Items.{Source, part_of, part_after, part_i
 ghost use Rattle.dnp_outstation.specs.declared.offer.place.Place.{Place as PlaceValue};
 ghost use Rattle.dnp_outstation.specs.Filling.{after_release, empty_from, ended};
 ghost use Rattle.dnp_outstation.specs.Offer.{offered};
-ghost use Rattle.dnp_outstation.specs.Putting.{Puts};
+ghost use Rattle.dnp_outstation.specs.Putting.{Puts, IsLook};
 
 use crate::offer::place::Wanted;
 use crate::offer::present::Ask;
@@ -52,14 +52,7 @@ impl Writer {
             → IsTrue fit → self.new.place.given ≡ fold given_after self.old.place.given (part_items s from.now.stood self.old.place.given at (part_after count (part_of s (head header.now))))) }
         ensures response { self.new.builder.function ≡ self.old.builder.function }
 
-        ensures held { L.honest lanes.new → L.honest lanes.old }
-        ensures same { L.honest lanes.new → L.contents lanes.new ≡ L.contents lanes.old }
-        ensures beside { L.honest lanes.new → L.beside lanes.new ≡ L.beside lanes.old }
-        ensures stopped { IsTrue (L.is_stopped lanes.old) → IsTrue (L.is_stopped lanes.new) }
-        ensures device { result ≡ Err StoreFault.Device → IsTrue (L.is_stopped lanes.new) }
-        ensures runs_on { result ≢ Err StoreFault.Device → L.is_stopped lanes.new ≡ L.is_stopped lanes.old }
-        ensures memory { L.honest lanes.new → result ≡ Err StoreFault.Memory → L.asks_memory ≡ false → rows_in (L.contents lanes.new) ≢ [] }
-        ensures named { IfErr result (λ e. e ≢ StoreFault.Exhausted) }
+        ensures look { IsLook L.honest L.is_stopped L.contents L.beside L.asks_memory lanes.old lanes.new result }
     {
         match wanted(header) {
             Wanted::Rows(mut part) => {
@@ -79,6 +72,7 @@ impl Writer {
             }
         }
     }
+
     /// Puts what these headers of the READ ask for, the first of which has this place in it, but for the
     /// first so many items of that one, as far as they fit; answers whether all do.
     fn put_headers<L: Lanes, O: Outputs>(
@@ -97,14 +91,7 @@ impl Writer {
             → Puts self.old (items_of s from.now.stood self.old.place.given first (parts_left given (map (part_of s) headers.entry.headers))) fit self.new) }
         ensures response { self.new.builder.function ≡ self.old.builder.function }
 
-        ensures held { L.honest lanes.new → L.honest lanes.old }
-        ensures same { L.honest lanes.new → L.contents lanes.new ≡ L.contents lanes.old }
-        ensures beside { L.honest lanes.new → L.beside lanes.new ≡ L.beside lanes.old }
-        ensures stopped { IsTrue (L.is_stopped lanes.old) → IsTrue (L.is_stopped lanes.new) }
-        ensures device { result ≡ Err StoreFault.Device → IsTrue (L.is_stopped lanes.new) }
-        ensures runs_on { result ≢ Err StoreFault.Device → L.is_stopped lanes.new ≡ L.is_stopped lanes.old }
-        ensures memory { L.honest lanes.new → result ≡ Err StoreFault.Memory → L.asks_memory ≡ false → rows_in (L.contents lanes.new) ≢ [] }
-        ensures named { IfErr result (λ e. e ≢ StoreFault.Exhausted) }
+        ensures look { IsLook L.honest L.is_stopped L.contents L.beside L.asks_memory lanes.old lanes.new result }
     {
         let mut at = first;
         let mut count = given;

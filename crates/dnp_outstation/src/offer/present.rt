@@ -112,6 +112,7 @@ impl Writer {
         }
         true
     }
+
     /// Puts the points of a block that the header asks for but for the first `skip`, as far as they
     /// fit; answers whether all do. What is still to be skipped is left in `skip`.
     fn put_block(
@@ -137,6 +138,7 @@ impl Writer {
         let first = usize::from(block.base) + from + passed;
         self.put_points(ask.header, kind, number, first, &named[passed..])
     }
+
     /// Puts the points of blocks of a kind that the header asks for but for the first `skip`, as far as
     /// they fit; answers whether all do. What is still to be skipped is left in `skip`.
     fn put_blocks(&mut self, ask: Ask, kind: Kind, blocks: &[BlockState], skip: &mut usize) -> bool
@@ -195,6 +197,7 @@ impl Writer {
         *skip -= passed;
         self.put_statuses(ask.header, outputs, from + passed, to)
     }
+
     /// Puts the present values of a group that the header asks for but for the first `skip`, as far as
     /// they fit; answers whether all do. What is still to be skipped is left in `skip`.
     fn put_group<O: Outputs>(
@@ -245,6 +248,7 @@ impl Writer {
         }
         true
     }
+
     /// Puts the present values of a group in a range but for the first so many, as far as they fit;
     /// answers whether all do.
     #[tactic(auto, using(crate::proofs::OfferPresent::given_presents))]

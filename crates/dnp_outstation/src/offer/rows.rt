@@ -8,7 +8,7 @@ ghost use Rattle.dnp_eventbuf.specs.Stock.{lane_at, rows_in, offered};
 ghost use Rattle.dnp_appfragment.specs.Table.{is_response};
 ghost use Rattle.dnp_outstation.specs.Items.{Item, event_of, given_after, event_items, rows_left, at_most, less};
 ghost use Rattle.dnp_outstation.specs.Filling.{fill, ended, after_release, over_of};
-ghost use Rattle.dnp_outstation.specs.Putting.{Puts};
+ghost use Rattle.dnp_outstation.specs.Putting.{Puts, IsLook};
 
 use crate::offer::place::RowPart;
 use crate::offer::writer::Writer;
@@ -65,14 +65,7 @@ fn rows_over<L: Lanes>(
         ≡ at_most most (filter (λ x. nat_lt over x.id) (lane_at (L.contents lanes.new) (lane_number lane)).rows)) }
     ensures events { IfOk result (λ rows. All (λ x. IsEvent x.row) rows.items) }
     ensures sound { L.honest lanes.new → IsSound (L.contents lanes.new) }
-    ensures held { L.honest lanes.new → L.honest lanes.old }
-    ensures same { L.honest lanes.new → L.contents lanes.new ≡ L.contents lanes.old }
-    ensures beside { L.honest lanes.new → L.beside lanes.new ≡ L.beside lanes.old }
-    ensures stopped { IsTrue (L.is_stopped lanes.old) → IsTrue (L.is_stopped lanes.new) }
-    ensures device { result ≡ Err StoreFault.Device → IsTrue (L.is_stopped lanes.new) }
-    ensures runs_on { result ≢ Err StoreFault.Device → L.is_stopped lanes.new ≡ L.is_stopped lanes.old }
-    ensures memory { L.honest lanes.new → result ≡ Err StoreFault.Memory → L.asks_memory ≡ false → rows_in (L.contents lanes.new) ≢ [] }
-    ensures named { IfErr result (λ e. e ≢ StoreFault.Exhausted) }
+    ensures look { IsLook L.honest L.is_stopped L.contents L.beside L.asks_memory lanes.old lanes.new result }
 {
     let most = wanted_of(lanes, lane, most);
     let rows = lanes.offer(alloc, lane, over, most)?;
@@ -98,14 +91,7 @@ fn rows_to_give<L: Lanes>(
     ensures rows { L.honest lanes.new → IfOk result (λ rows. rows.items
         ≡ at_most most (rows_left (after_release (L.contents lanes.new) bounds.now.released.now) bounds.now.stood bounds.now.given.now (lane_number lane))) }
     ensures events { IfOk result (λ rows. All (λ x. IsEvent x.row) rows.items) }
-    ensures held { L.honest lanes.new → L.honest lanes.old }
-    ensures same { L.honest lanes.new → L.contents lanes.new ≡ L.contents lanes.old }
-    ensures beside { L.honest lanes.new → L.beside lanes.new ≡ L.beside lanes.old }
-    ensures stopped { IsTrue (L.is_stopped lanes.old) → IsTrue (L.is_stopped lanes.new) }
-    ensures device { result ≡ Err StoreFault.Device → IsTrue (L.is_stopped lanes.new) }
-    ensures runs_on { result ≢ Err StoreFault.Device → L.is_stopped lanes.new ≡ L.is_stopped lanes.old }
-    ensures memory { L.honest lanes.new → result ≡ Err StoreFault.Memory → L.asks_memory ≡ false → rows_in (L.contents lanes.new) ≢ [] }
-    ensures named { IfErr result (λ e. e ≢ StoreFault.Exhausted) }
+    ensures look { IsLook L.honest L.is_stopped L.contents L.beside L.asks_memory lanes.old lanes.new result }
 {
     an_offer_after_a_release();
     let over = bounds.over(lane.number());
@@ -138,6 +124,7 @@ impl Writer {
         }
         true
     }
+
     /// Puts the rows that a header may still give, one lane after another, as far as its limit goes and
     /// they fit; answers whether all do.
     pub(crate) fn put_lanes<L: Lanes>(
@@ -155,14 +142,7 @@ impl Writer {
             (event_items (after_release (L.contents lanes.old) bounds.now.released.now) bounds.now.stood bounds.now.given.now header part.now.most (map lane_number part.now.lanes))) }
         ensures response { self.new.builder.function ≡ self.old.builder.function }
 
-        ensures held { L.honest lanes.new → L.honest lanes.old }
-        ensures same { L.honest lanes.new → L.contents lanes.new ≡ L.contents lanes.old }
-        ensures beside { L.honest lanes.new → L.beside lanes.new ≡ L.beside lanes.old }
-        ensures stopped { IsTrue (L.is_stopped lanes.old) → IsTrue (L.is_stopped lanes.new) }
-        ensures device { result ≡ Err StoreFault.Device → IsTrue (L.is_stopped lanes.new) }
-        ensures runs_on { result ≢ Err StoreFault.Device → L.is_stopped lanes.new ≡ L.is_stopped lanes.old }
-        ensures memory { L.honest lanes.new → result ≡ Err StoreFault.Memory → L.asks_memory ≡ false → rows_in (L.contents lanes.new) ≢ [] }
-        ensures named { IfErr result (λ e. e ≢ StoreFault.Exhausted) }
+        ensures look { IsLook L.honest L.is_stopped L.contents L.beside L.asks_memory lanes.old lanes.new result }
     {
         let mut left = part.most;
         for lane in &part.lanes {

@@ -1,9 +1,9 @@
-use Rattle.std.proofs.Common.{◌≡◌, ℕ, ◌+◌, ◌-◌, ◌++◌, ap, sym, ◌∙◌, arith, List, map, drop, take, length, min}
+use Rattle.std.proofs.Common.{◌≡◌, ℕ, ◌+◌, ◌-◌, ◌++◌, ap, sym, ◌∙◌, arith, List, map, drop, take, length}
 use Rattle.std.proofs.lemmas.List.{take_all, length-drop}
 use Rattle.dnp_pointdb.specs.declared.state.PointState.{PointState}
-use Rattle.dnp_outstation.specs.Items.{Item, Static, present_of, in_range, statics_from}
+use Rattle.dnp_outstation.specs.Items.{Static, present_of, in_range, statics_from}
 use Rattle.dnp_outstation.specs.Filling.{fill}
-use Rattle.dnp_outstation.specs.Putting.{group_of, presents}
+use Rattle.dnp_outstation.specs.Putting.{group_of}
 use Rattle.dnp_outstation.proofs.OfferPresent.{named_left, length_named}
 use Rattle.dnp_outstation.proofs.offer.writer.Writer.put_block.Goals as goal
 

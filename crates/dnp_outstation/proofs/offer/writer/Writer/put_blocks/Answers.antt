@@ -1,4 +1,4 @@
-use Rattle.std.proofs.Common.{rules, ◌≡◌, ◌++◌, true, false, ap, sym, ◌∙◌, List}
+use Rattle.std.proofs.Common.{rules, ◌++◌, ap, sym, ◌∙◌, List}
 use Rattle.dnp_outstation.specs.Items.{Item, in_range, statics_from, statics_in}
 use Rattle.dnp_outstation.specs.Filling.{fill}
 use Rattle.dnp_outstation.specs.Putting.{group_of, presents}

@@ -1,4 +1,4 @@
-use Rattle.std.proofs.Common.{rules, ◌≡◌, ℕ, ◌+◌, ◌-◌, ◌++◌, ◌∷◌, true, false, IsTrue, ap, refl, sym, subst, ◌∙◌, List, get_or, drop, length}
+use Rattle.std.proofs.Common.{rules, ℕ, ◌+◌, ◌-◌, ◌++◌, ap, refl, sym, ◌∙◌, List, get_or, drop, length}
 use Rattle.std.proofs.lemmas.List.{drop_more}
 use Rattle.std.specs.List.{flat_map}
 use Rattle.dnp_outstation.specs.Items.{Item, in_range, statics_of}

@@ -1,4 +1,4 @@
-use Rattle.std.proofs.Common.{◌≡◌, ◌∷◌, true, IsTrue, ap, sym, ◌∙◌, arith, rules, length}
+use Rattle.std.proofs.Common.{◌≡◌, ◌∷◌, IsTrue, ap, sym, ◌∙◌, arith, rules, length}
 use Rattle.dnp_appfragment.specs.Seen.{head}
 use Rattle.dnp_eventbuf.specs.Stock.{Stock}
 use Rattle.dnp_outstation.specs.Filling.{after_release}
@@ -15,15 +15,15 @@ loop-header-preserved g c =
     record {
       few = (let one = ap length left in let before = l.invariant.few in omega arith);
       written = λ honest s points panel lanes more.
-          let before = put.held honest in
+          let before = put.look.held honest in
           let here : s.lanes ≡ after_release (g.L.Lanes.contents l.lanes) from.released.now =
           lanes ∙ ap (λ (t : Stock). after_release t from.released.now) (sym (l.invariant.same before)) in
           part_put s from.stood l.self.place.given c.put_part.new.self.place.given l.at l.count l.header-iterator.headers (head c.in-Some.header) c.next.new.self.headers
           l.self c.put_part.new.self c.in_ok-put_part.field-0 more left (put.written honest s points panel here) c.if-not-branch.false (put.given honest s points panel here fits)
           ∙ l.invariant.written before s points panel lanes more;
       response = put.response ∙ l.invariant.response;
-      held = λ honest. l.invariant.held (put.held honest);
-      same = λ honest. put.same honest ∙ l.invariant.same (put.held honest);
-      beside = λ honest. put.beside honest ∙ l.invariant.beside (put.held honest);
+      held = λ honest. l.invariant.held (put.look.held honest);
+      same = λ honest. put.look.same honest ∙ l.invariant.same (put.look.held honest);
+      beside = λ honest. put.look.beside honest ∙ l.invariant.beside (put.look.held honest);
       runs_on = search rules;
     }

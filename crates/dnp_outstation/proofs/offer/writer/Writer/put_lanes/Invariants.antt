@@ -1,4 +1,4 @@
-use Rattle.std.proofs.Common.{◌≡◌, ◌++◌, IsTrue, List, map, fold, drop}
+use Rattle.std.proofs.Common.{◌≡◌, ◌++◌, List, map, fold, drop}
 use Rattle.dnp_objects.specs.Lanes.{lane_number}
 use Rattle.dnp_outstation.specs.Items.{Item, event_items, given_after}
 use Rattle.dnp_outstation.specs.Filling.{after_release, fill}
