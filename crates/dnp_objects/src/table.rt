@@ -1,4 +1,4 @@
-ghost use Rattle.std.specs.Prelude.{◌≡◌, ◌≤◌, IfSome, Some};
+ghost use Rattle.std.specs.Prelude.{◌≡◌, ◌≤◌, IfSome, Some, is_some};
 ghost use Rattle.dnp_objects.specs.Objects as spec;
 
 use crate::row::Kind;
@@ -138,6 +138,15 @@ pub(crate) fn written_shape(group: u8, variation: u8) -> Option<Shape>
         Content::Row(shape) | Content::WrittenRow(shape) => Some(shape),
         Content::Block | Content::Setpoint(_) | Content::Other(_) => None,
     }
+}
+
+/// Whether a row can be written as an object of this group and variation (IEEE Std 1815-2012, object
+/// library).
+#[inline(always)]
+pub fn carries_row(group: u8, variation: u8) -> bool
+    ensures { result ≡ is_some (spec.shape_written group variation) }
+{
+    written_shape(group, variation).is_some()
 }
 
 /// The octets of one object of this group and variation (IEEE Std 1815-2012, object library), 0 to
