@@ -16,7 +16,7 @@ use Rattle.dnp_appfragment.specs.declared.function.Function.{Function}
 use Rattle.dnp_appfragment.specs.declared.header.Range.TheVariants as range
 use Rattle.dnp_appfragment.specs.declared.table.Form.{Form}
 use Rattle.dnp_appfragment.specs.declared.table.Form.TheVariants as form
-use Rattle.dnp_appfragment.specs.Table.{form_eq, form_of, is_response, listed, rules, takes_of, IsInTable}
+use Rattle.dnp_appfragment.specs.Table.{form_eq, form_of, is_response, rules, takes_of, IsInTable}
 use Rattle.dnp_appfragment.specs.Headers.{Head, octets_of, objects_size, IsHeader, Divide}
 use Rattle.dnp_appfragment.specs.Fragments.{looked_at}
 use Rattle.dnp_appfragment.specs.Built.{carries_commands}
@@ -47,7 +47,7 @@ command_form form.Enable is = cc
 
 -- a fragment without headers has none
 none_bare : (g v q : ℕ) → IsInTable form.Bare g v q → ⊥
-unfolding takes_of rules listed objects
+unfolding takes_of rules objects
 none_bare g v q is = is
 
 bare_divides : (octets : List ℕ) (hs : List Head) → Divide form.Bare octets hs → Divide form.Bare [] hs
@@ -107,7 +107,7 @@ spanned_header g v i octets object fits sized =
     record { object = object; fits = (fits, fits); forward = omega arith; objects = omega (arith, size, product, sized.length_is) }
 
 event_in_table : (k : Kind) (time : Option ℕ) → IsInTable form.Response (event_object k time).0 (event_object k time).1 0x28
-unfolding takes_of rules listed objects
+unfolding takes_of rules objects
 event_in_table Binary (Some time) = refl
 event_in_table Binary None = refl
 event_in_table Counter (Some time) = refl
@@ -123,7 +123,7 @@ event_header f k time i octets response sized =
     (indexed_header form.Response _ _ i octets (event_in_table k time) refl sized)
 
 point_in_table : (g : ℕ) → IsTrue (is_point_group g) → IsInTable form.Response g (point_variation g) 0x01
-unfolding takes_of rules listed objects
+unfolding takes_of rules objects
 point_in_table g is =
     one 1 (1 == g) refl refl (λ a.
     one 10 (10 == g) refl refl (λ b.
@@ -150,7 +150,7 @@ point_header f g i octets response group fits sized =
     (spanned_header g (point_variation g) i octets (point_in_table g group) fits sized)
 
 command_in_table : (c : Command) → IsInTable form.Command (object_of c).0 (object_of c).1 0x28 × IsInTable form.Response (object_of c).0 (object_of c).1 0x28
-unfolding takes_of rules listed objects
+unfolding takes_of rules objects
 command_in_table (command.Block index code count on off) = (refl, refl)
 command_in_table (command.Set16 index value) = (refl, refl)
 command_in_table (command.Set32 index value) = (refl, refl)

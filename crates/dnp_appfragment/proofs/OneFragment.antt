@@ -6,7 +6,7 @@ use Rattle.dnp_appfragment.specs.declared.fault.AppFault.{AppFault}
 use Rattle.dnp_appfragment.specs.declared.table.Form.{Form}
 use Rattle.dnp_appfragment.specs.declared.table.Form.TheVariants as form
 use Rattle.dnp_appfragment.specs.Control.{IsControl}
-use Rattle.dnp_appfragment.specs.Table.{listed, rules, takes_of, allows, form_of, is_response}
+use Rattle.dnp_appfragment.specs.Table.{rules, takes_of, allows, form_of, is_response}
 use Rattle.dnp_appfragment.specs.Headers.{Head, qualifier_of, IsHeader, Divide, spelled, AreHeaders, begin}
 use Rattle.dnp_appfragment.specs.Fragments.{Asked, Answered, looked_at, IsRequest, IsResponse, request_octets, response_octets}
 use Rattle.dnp_appfragment.specs.Faults.{IsRequestFault, IsResponseFault}
@@ -42,7 +42,7 @@ response_or_fault octets a e p q = not_both (response_at octets) a e (response_a
 
 -- no object stands in the table for a bare fragment
 bare_takes : (g v : ℕ) → takes_of form.Bare g v ≡ None
-unfolding takes_of rules listed objects
+unfolding takes_of rules objects
 bare_takes g v = refl
 
 no_bare_header : (h : Head) → IsHeader form.Bare h → ⊥

@@ -5,7 +5,7 @@ use Rattle.std.specs.List.{list_all}
 use Rattle.std.proofs.lemmas.Bool.{and_parts}
 use Rattle.dnp_objects.specs.Objects.{objects}
 use Rattle.dnp_appfragment.specs.declared.table.Form.{Form}
-use Rattle.dnp_appfragment.specs.Table.{Rule, all, span, count, indexed, allows, listed, rules, takes_of, is_rule, IsInTable}
+use Rattle.dnp_appfragment.specs.Table.{Rule, all, span, count, indexed, allows, rules, takes_of, is_rule, IsInTable}
 
 -- the line of an object, which passes each test that all lines pass
 pub record HasLine (f : Form) (g v : ℕ) (t : List ℕ) (test : Rule → Bool) : Type 0 where
@@ -51,7 +51,7 @@ takes_known : Rule → Bool
 takes_known line = list_all known line.takes
 
 all_known : list_all takes_known rules ≡ true
-unfolding takes_known known rules listed objects
+unfolding takes_known known rules objects
 all_known = refl
 
 pub in_table_known : (f : Form) (g v q : ℕ) → IsInTable f g v q → known q ≡ true

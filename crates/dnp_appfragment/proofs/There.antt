@@ -15,7 +15,7 @@ use Rattle.dnp_appfragment.specs.declared.header.Range.{Range}
 use Rattle.dnp_appfragment.specs.declared.header.Range.TheVariants as range
 use Rattle.dnp_appfragment.specs.declared.table.Form.{Form}
 use Rattle.dnp_appfragment.specs.declared.table.Form.TheVariants as form
-use Rattle.dnp_appfragment.specs.Table.{Rule, listed, rules, takes_of, form_eq, span, indexed, allows}
+use Rattle.dnp_appfragment.specs.Table.{Rule, rules, takes_of, form_eq, span, indexed, allows}
 use Rattle.dnp_appfragment.specs.Headers.{Head, qualifier_of, count_of, prefix_size, octets_of, objects_size, IsHeader}
 use Rattle.dnp_appfragment.specs.Reading.{number_at, index_at, first_octets, object_at}
 use Rattle.dnp_appfragment.specs.Objects.{IsSpan, HasRows, HasCommands}
@@ -56,11 +56,11 @@ commands_indexed : Rule → Bool
 commands_indexed rule = cond (is_some (command_size rule.group rule.variation)) (gives_index rule.takes && not (form_eq rule.form form.Read)) true
 
 all_rows_indexed : list_all rows_indexed rules ≡ true
-unfolding rows_indexed gives_index rules listed content_of objects
+unfolding rows_indexed gives_index rules content_of objects
 all_rows_indexed = refl
 
 all_commands_indexed : list_all commands_indexed rules ≡ true
-unfolding commands_indexed gives_index rules listed content_of objects
+unfolding commands_indexed gives_index rules content_of objects
 all_commands_indexed = refl
 
 -- what a line's test says of the object
@@ -208,7 +208,7 @@ command_there f h k is command here =
 -- ---- packed bits
 
 bits_take : takes_of form.Response 1 1 ≡ Some span
-unfolding takes_of rules listed objects
+unfolding takes_of rules objects
 bits_take = refl
 
 span_only : (r : Range) → allows span (qualifier_of r) ≡ true → IsSpan r

@@ -116,7 +116,7 @@ abbrev pub lines : Form → List (ℕ × ℕ) → List ℕ → List Rule
 lines f os takes = map (rule f takes) os
 
 -- the lines but those of a response's rows
-unfoldable pub listed : List Rule
+abbrev pub listed : List Rule
 listed =
     lines form.Read ((60, 1) ∷ []) all
     ++ lines form.Read ((60, 2) ∷ (60, 3) ∷ (60, 4) ∷ (2, 0) ∷ (2, 2) ∷ (22, 0) ∷ (22, 5) ∷ (32, 0) ∷ (32, 3) ∷ []) (all ++ count)

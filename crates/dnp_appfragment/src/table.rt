@@ -54,7 +54,7 @@ pub(crate) fn form_of(function: Function) -> Form
 
 /// The qualifiers that the object takes in fragments of this form, if it is listed for them.
 #[inline(always)]
-#[tactic(auto, unfolding(crate::specs::Table::listed, crate::specs::Table::listed_for))]
+#[tactic(auto, unfolding(crate::specs::Table::listed_for))]
 fn line_of(form: Form, group: u8, variation: u8) -> Option<&'static [u8]>
     ensures { option_map (λ takes. takes.now) result ≡ spec.listed_for form group variation }
 {
