@@ -39,7 +39,7 @@ written_row g v [] is = cc
 written_row g v (o ∷ os) is = here (written_row g v os) (is_object g v o) refl is
   where
     here : (is_some (option_and_then writable (option_map (λ (o : Object). o.content) (find (is_object g v) os))) ≡ true
-            → takes_in (row_rules os) form.Response g v ≡ Some (span ++ indexed))
+        → takes_in (row_rules os) form.Response g v ≡ Some (span ++ indexed))
         → (b : Bool) → is_object g v o ≡ b
         → is_some (option_and_then writable (option_map (λ (o : Object). o.content) (cond b (Some o) (find (is_object g v) os)))) ≡ true
         → takes_in (lines_from (is_written o) o os) form.Response g v ≡ Some (span ++ indexed)

@@ -1,5 +1,6 @@
--- Why octets are no fragment: the first fault from left to right (IEEE Std 1815-2012, application layer).
--- Each of these facts says that all before the fault is in order, so that octets have one fault at most.
+-- Definition: why octets are no fragment: the first fault from left to right (IEEE Std 1815-2012, application
+-- layer). Each of these facts says that all before the fault is in order, so that octets have one fault at
+-- most.
 use Rattle.std.specs.Prelude.{◌≡◌, ◌≢◌, ℕ, ◌<◌, Bool, true, false, ◌==◌, if◌then◌else◌, ◌⊎◌, List, ◌∷◌, ◌++◌, length, Some, None}
 use Rattle.dnp_appfragment.specs.declared.fault.AppFault.{AppFault}
 use Rattle.dnp_appfragment.specs.declared.fault.AppFault.TheVariants.{Short, FunctionUnknown, HeaderCut, QualifierUnknown, ObjectUnknown, RangeBackward, ObjectsCut}

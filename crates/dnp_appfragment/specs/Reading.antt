@@ -1,6 +1,6 @@
--- The steps in which headers, and the objects of one, are cut off the front of octets: the next one, and the
--- octets behind it, or why there is none. Meaning.antt is made of them; what they have to answer is said in
--- Headers.antt, Faults.antt and Objects.antt.
+-- Definition: the steps in which headers, and the objects of one, are cut off the front of octets: the next
+-- one, and the octets behind it, or why there is none. Meaning.antt is made of them; what they have to answer
+-- is said in Headers.antt, Faults.antt and Objects.antt.
 use Rattle.std.specs.Prelude.{ℕ, zero, suc, ◌+◌, ◌*◌, Bool, true, false, nat_lt, ◌==◌, if◌then◌else◌, List, [], ◌∷◌, length, take, drop, Option, Some, None, Result, Ok, Err}
 use Rattle.std.specs.Result.{result_ok}
 use Rattle.dnp_appfragment.specs.declared.fault.AppFault.{AppFault}

@@ -1,8 +1,8 @@
--- The functions, and which object goes with which qualifier under which function (IEEE Std 1815-2012,
--- application layer: function codes, object headers).
+-- Definition: the functions, and which object goes with which qualifier under which function (IEEE Std
+-- 1815-2012, application layer: function codes, object headers).
 --
--- The list `rules` is the one table of that: reading, the conditions of writing and the proofs all
--- look here, so that a further object is one line of it.
+-- The list `rules` is the one table of that: reading, the conditions of writing and the proofs all look here,
+-- so that a further object is one line of it.
 use Rattle.std.specs.Prelude.{ℕ, Bool, true, false, IsTrue, ◌&&◌, ◌==◌, List, [], ◌∷◌, ◌++◌, map, is_some, Option, find}
 use Rattle.std.specs.Option.{option_map, IsSomeAnd}
 use Rattle.std.specs.List.{filter, list_any}

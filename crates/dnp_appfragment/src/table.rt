@@ -4,9 +4,7 @@ ghost use Rattle.std.specs.Option.{option_map};
 ghost use Rattle.dnp_appfragment.specs.Table as spec;
 
 use crate::function::Function;
-use crate::qualifier::{
-    ALL, COUNT, INDEXED, SPAN, WIDE_COUNT, WIDE_INDEXED, WIDE_SPAN,
-};
+use crate::qualifier::{ALL, COUNT, INDEXED, SPAN, WIDE_COUNT, WIDE_INDEXED, WIDE_SPAN};
 use dnp_objects::carries_row;
 
 /// The functions whose fragments have one part of the table.
@@ -14,7 +12,7 @@ use dnp_objects::carries_row;
 pub enum Form {
     /// No headers: CONFIRM, DELAY_MEASURE.
     Bare,
-    /// READ, whose headers have no objects behind them.
+    /// READ, whose headers have no objects after them.
     Read,
     /// WRITE.
     Write,
@@ -26,13 +24,19 @@ pub enum Form {
     Response,
 }
 
-/// Sets of qualifiers.
+/// All objects.
 const EVERY: &[u8] = &[ALL];
+/// All objects, or at most so many.
 const EVERY_OR_COUNT: &[u8] = &[ALL, COUNT, WIDE_COUNT];
+/// Those of a span, or all objects.
 const SPAN_OR_EVERY: &[u8] = &[SPAN, WIDE_SPAN, ALL];
+/// Those of a span.
 const SPANS: &[u8] = &[SPAN, WIDE_SPAN];
+/// So many.
 const COUNTS: &[u8] = &[COUNT, WIDE_COUNT];
+/// So many, each after its index.
 const INDEXES: &[u8] = &[INDEXED, WIDE_INDEXED];
+/// Those of a span, or so many, each after its index.
 const SPAN_OR_INDEXES: &[u8] = &[SPAN, WIDE_SPAN, INDEXED, WIDE_INDEXED];
 
 /// The part of the table that is this function's.

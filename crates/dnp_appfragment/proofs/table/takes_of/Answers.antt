@@ -19,7 +19,7 @@ pub returns-in_default-form : goal.returns-in_default-form
 returns-in_default-form c =
     let none : listed_for c.args.form c.args.group c.args.variation ≡ None = sym c.line_of.ensures ∙ ap (option_map (λ (b : Bor (List ℕ)). b.now)) c.in_default.is in
     elim c.in_default-form.branch [
-      in_default-form-via-in-Response+else-carries_row w ↦
-        sym (takes_no_row c.args.form c.args.group c.args.variation w.in-Response.is none (sym w.carries_row.ensures ∙ w.if-carries_row.false))
-    | in_default-form-via-in_default-form w ↦ sym (takes_nothing c.args.form c.args.group c.args.variation w.in_default-form.not-Response none)
+      | in_default-form-via-in-Response+else-carries_row w ↦
+          sym (takes_no_row c.args.form c.args.group c.args.variation w.in-Response.is none (sym w.carries_row.ensures ∙ w.if-carries_row.false))
+      | in_default-form-via-in_default-form w ↦ sym (takes_nothing c.args.form c.args.group c.args.variation w.in_default-form.not-Response none)
     ]
