@@ -7,12 +7,12 @@ use Rattle.dnp_appfragment.specs.declared.fault.AppFault.{AppFault}
 use Rattle.dnp_appfragment.specs.declared.fault.AppFault.TheVariants.{Short, FunctionUnknown, HeaderCut, QualifierUnknown, ObjectUnknown, RangeBackward, ObjectsCut}
 use Rattle.dnp_appfragment.specs.declared.header.Range.{Range}
 use Rattle.dnp_appfragment.specs.declared.table.Form.{Form}
-use Rattle.dnp_appfragment.specs.declared.table.Takes.{Takes}
 use Rattle.dnp_appfragment.specs.Table.{takes_of, allows, IsInTable}
 use Rattle.dnp_appfragment.specs.Headers.{Head, qualifier_of, range_octets, IsForward, objects_size, header_octets, IsHeader}
 use Rattle.dnp_appfragment.specs.Faults.{IsHeaderFault}
 use Rattle.dnp_appfragment.specs.Reading.{◌>>=◌, range_at, taken, objects_at, header_at}
 use Rattle.dnp_appfragment.proofs.Numbers.{AreOctets}
+use Rattle.dnp_appfragment.proofs.TableLines.{known, in_table_known}
 use Rattle.dnp_appfragment.proofs.Ranges.{IsRangeOf, ReadsRange, range_reads, range_again, range_back, range_short}
 
 pub AreOctets-drop : (n : ℕ) (octets : List ℕ) → AreOctets octets → AreOctets (drop n octets)
@@ -64,10 +64,6 @@ objects_read f g v q body r rest object is forward are = go (nat_lt (length rest
           AreOctets-drop (objects_size f g v r) rest are,
         )
 
-not_allowed : (o : Option Takes) (q : ℕ) → IsSomeAnd o (λ t. IsTrue (allows t q)) → ((t : Takes) → allows t q ≡ false) → ⊥
-not_allowed None q is none = is
-not_allowed (Some t) q is none = let no = none t in cc
-
 range_read : (f : Form) (g v q : ℕ) (body : List ℕ) → IsInTable f g v q → (r : Result (Range × List ℕ) AppFault) → ReadsRange q body r
     → ReadsHeader f (g ∷ v ∷ q ∷ body) (r >>= λ (x : Range × List ℕ). objects_at f g v x.0 x.1)
 range_read f g v q body object (Ok x) reads = objects_read f g v q body x.0 x.1 object reads.0 reads.1 reads.2
@@ -83,21 +79,21 @@ range_read f g v q body object (Err RangeBackward) reads = record {
   fits = reads.is.fits;
   backward = reads.backward;
 }
-range_read f g v q body object (Err QualifierUnknown) reads = absurd (not_allowed (takes_of f g v) q object reads)
+range_read f g v q body object (Err QualifierUnknown) reads = let is : known q ≡ true = in_table_known f g v q object in cc
 range_read f g v q body object (Err Short) reads = absurd reads
 range_read f g v q body object (Err FunctionUnknown) reads = absurd reads
 range_read f g v q body object (Err ObjectUnknown) reads = absurd reads
 range_read f g v q body object (Err ObjectsCut) reads = absurd reads
 
-object_read : (f : Form) (g v q : ℕ) (body : List ℕ) → AreOctets body → (o : Option Takes) → takes_of f g v ≡ o
-    → ReadsHeader f (g ∷ v ∷ q ∷ body) (taken o q >>= λ (t : Takes). range_at q body >>= λ (x : Range × List ℕ). objects_at f g v x.0 x.1)
+object_read : (f : Form) (g v q : ℕ) (body : List ℕ) → AreOctets body → (o : Option (List ℕ)) → takes_of f g v ≡ o
+    → ReadsHeader f (g ∷ v ∷ q ∷ body) (taken o q >>= λ (t : List ℕ). range_at q body >>= λ (x : Range × List ℕ). objects_at f g v x.0 x.1)
 object_read f g v q body are None is = record { group = g; variation = v; qualifier = q; rest = body; whole = refl; unknown = is }
 object_read f g v q body are (Some t) is = go (allows t q) refl
   where
     go : (b : Bool) → allows t q ≡ b
-        → ReadsHeader f (g ∷ v ∷ q ∷ body) (cond b (Ok t) (Err QualifierUnknown) >>= λ (t : Takes). range_at q body >>= λ (x : Range × List ℕ). objects_at f g v x.0 x.1)
+        → ReadsHeader f (g ∷ v ∷ q ∷ body) (cond b (Ok t) (Err QualifierUnknown) >>= λ (t : List ℕ). range_at q body >>= λ (x : Range × List ℕ). objects_at f g v x.0 x.1)
     go true allowed =
-        let object : IsInTable f g v q = subst (λ (o : Option Takes). IsSomeAnd o (λ t. IsTrue (allows t q))) (sym is) allowed in
+        let object : IsInTable f g v q = subst (λ (o : Option (List ℕ)). IsSomeAnd o (λ t. IsTrue (allows t q))) (sym is) allowed in
         range_read f g v q body object (range_at q body) (range_reads q body are)
     go false allowed = record { group = g; variation = v; qualifier = q; rest = body; takes = t; whole = refl; object = is; unknown = allowed }
 
@@ -110,7 +106,7 @@ header_reads f (g ∷ v ∷ q ∷ body) some are = object_read f g v q body are.
 
 -- ---- and what is spelled is read
 
-taken_from : (o : Option Takes) (q : ℕ) → IsSomeAnd o (λ t. IsTrue (allows t q)) → (t : Takes) × (taken o q ≡ Ok t)
+taken_from : (o : Option (List ℕ)) (q : ℕ) → IsSomeAnd o (λ t. IsTrue (allows t q)) → (t : List ℕ) × (taken o q ≡ Ok t)
 taken_from None q is = absurd is
 taken_from (Some t) q is = (t, ap (λ (b : Bool). cond b (Ok t) (Err QualifierUnknown)) is)
 
@@ -120,7 +116,7 @@ in_table : (f : Form) (g v q : ℕ) (body : List ℕ) → IsInTable f g v q
 unfolding header_at
 in_table f g v q body object =
     let found = taken_from (takes_of f g v) q object in
-    ap (λ (r : Result Takes AppFault). r >>= λ (t : Takes). range_at q body >>= λ (x : Range × List ℕ). objects_at f g v x.0 x.1) found.1
+    ap (λ (r : Result (List ℕ) AppFault). r >>= λ (t : List ℕ). range_at q body >>= λ (x : Range × List ℕ). objects_at f g v x.0 x.1) found.1
 
 -- and the range is one: then the objects do
 in_range : (f : Form) (g v : ℕ) (r : Range) (rest : List ℕ) → IsInTable f g v (qualifier_of r) → IsForward r
@@ -157,11 +153,11 @@ fault_at f octets HeaderCut (inr is) =
     ∙ ap (λ (x : Result (Range × List ℕ) AppFault). x >>= λ (x : Range × List ℕ). objects_at f is.group is.variation x.0 x.1) (range_short is.qualifier is.rest is.few)
 fault_at f octets ObjectUnknown is =
     ap (header_at f) is.whole
-    ∙ ap (λ (o : Option Takes). taken o is.qualifier >>= λ (t : Takes). range_at is.qualifier is.rest >>= λ (x : Range × List ℕ). objects_at f is.group is.variation x.0 x.1) is.unknown
+    ∙ ap (λ (o : Option (List ℕ)). taken o is.qualifier >>= λ (t : List ℕ). range_at is.qualifier is.rest >>= λ (x : Range × List ℕ). objects_at f is.group is.variation x.0 x.1) is.unknown
 fault_at f octets QualifierUnknown is =
     ap (header_at f) is.whole
-    ∙ ap (λ (o : Option Takes). taken o is.qualifier >>= λ (t : Takes). range_at is.qualifier is.rest >>= λ (x : Range × List ℕ). objects_at f is.group is.variation x.0 x.1) is.object
-    ∙ ap (λ (b : Bool). cond b (Ok is.takes) (Err QualifierUnknown) >>= λ (t : Takes). range_at is.qualifier is.rest >>= λ (x : Range × List ℕ). objects_at f is.group is.variation x.0 x.1) is.unknown
+    ∙ ap (λ (o : Option (List ℕ)). taken o is.qualifier >>= λ (t : List ℕ). range_at is.qualifier is.rest >>= λ (x : Range × List ℕ). objects_at f is.group is.variation x.0 x.1) is.object
+    ∙ ap (λ (b : Bool). cond b (Ok is.takes) (Err QualifierUnknown) >>= λ (t : List ℕ). range_at is.qualifier is.rest >>= λ (x : Range × List ℕ). objects_at f is.group is.variation x.0 x.1) is.unknown
 fault_at f octets RangeBackward is =
     ap (header_at f) is.whole ∙ in_table f is.group is.variation (qualifier_of is.range) (range_octets is.range ++ is.rest) is.object
     ∙ ap (λ (x : Result (Range × List ℕ) AppFault). x >>= λ (x : Range × List ℕ). objects_at f is.group is.variation x.0 x.1) (range_back is.range is.rest is.backward)

@@ -16,6 +16,8 @@ pub mod OneFragment
 pub mod Ranges
 pub mod ReadBack
 pub mod Requests
+pub mod ResponseRows
+pub mod TableLines
 pub mod There
 pub mod Walk
 pub mod Walked

@@ -5,7 +5,6 @@ use Rattle.dnp_objects.specs.Objects.{objects}
 use Rattle.dnp_appfragment.specs.declared.fault.AppFault.{AppFault}
 use Rattle.dnp_appfragment.specs.declared.table.Form.{Form}
 use Rattle.dnp_appfragment.specs.declared.table.Form.TheVariants as form
-use Rattle.dnp_appfragment.specs.declared.table.Takes.{Takes}
 use Rattle.dnp_appfragment.specs.Control.{IsControl}
 use Rattle.dnp_appfragment.specs.Table.{rules, takes_of, allows, form_of, is_response}
 use Rattle.dnp_appfragment.specs.Headers.{Head, qualifier_of, IsHeader, Divide, spelled, AreHeaders, begin}
@@ -48,7 +47,7 @@ bare_takes g v = refl
 
 no_bare_header : (h : Head) → IsHeader form.Bare h → ⊥
 no_bare_header h is =
-    subst (λ (o : Option Takes). IsSomeAnd o (λ t. IsTrue (allows t (qualifier_of h.range)))) (bare_takes h.group h.variation) is.object
+    subst (λ (o : Option (List ℕ)). IsSomeAnd o (λ t. IsTrue (allows t (qualifier_of h.range)))) (bare_takes h.group h.variation) is.object
 
 divided : (f : Form) (hs : List Head) → AreHeaders f begin hs → Divide f (looked_at f (spelled hs)) hs
 divided form.Bare [] each = record { each = each; whole = refl }

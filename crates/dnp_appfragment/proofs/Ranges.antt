@@ -6,12 +6,10 @@ use Rattle.dnp_appfragment.specs.declared.fault.AppFault.{AppFault}
 use Rattle.dnp_appfragment.specs.declared.fault.AppFault.TheVariants.{HeaderCut, QualifierUnknown, RangeBackward}
 use Rattle.dnp_appfragment.specs.declared.header.Range.{Range}
 use Rattle.dnp_appfragment.specs.declared.header.Range.TheVariants as range
-use Rattle.dnp_appfragment.specs.declared.table.Takes.{Takes}
-use Rattle.dnp_appfragment.specs.declared.table.Takes.TheVariants as takes
-use Rattle.dnp_appfragment.specs.Table.{allows}
 use Rattle.dnp_appfragment.specs.Headers.{qualifier_of, number, range_octets, NumbersFit, IsForward}
 use Rattle.dnp_appfragment.specs.Faults.{range_size}
 use Rattle.dnp_appfragment.specs.Reading.{◌>>=◌, number_at, span_at, count_at, indexed_at, range_at}
+use Rattle.dnp_appfragment.proofs.TableLines.{known}
 use Rattle.dnp_appfragment.proofs.Numbers.{AreOctets, number_size, length-number, ReadsNumber, number_reads, number_again, number_short}
 
 -- the octets are this range's, of this qualifier, and its numbers fit
@@ -32,7 +30,7 @@ abbrev pub ReadsRange : ℕ → List ℕ → Result (Range × List ℕ) AppFault
 ReadsRange q octets (Ok x) = IsRangeOf q octets x.0 x.1 × IsForward x.0 × AreOctets x.1
 ReadsRange q octets (Err HeaderCut) = length octets < range_size q
 ReadsRange q octets (Err RangeBackward) = HasBackward q octets
-ReadsRange q octets (Err QualifierUnknown) = (t : Takes) → allows t q ≡ false
+ReadsRange q octets (Err QualifierUnknown) = known q ≡ false
 ReadsRange q octets (Err _) = ⊥
 
 -- one number
@@ -98,23 +96,14 @@ span_reads wide octets are = first (number_at wide octets) (number_reads wide oc
     first (Ok a) start = second a start (number_at wide a.1) (number_reads wide a.1 start.2)
     first (Err e) start = let few : length octets < number_size wide = start.1 in span_cut wide octets e start.0 (omega arith)
 
--- no object takes another qualifier than the seven
-none_allows : (q : ℕ) → (q == 0x00) ≡ false → (q == 0x01) ≡ false → (q == 0x06) ≡ false → (q == 0x07) ≡ false → (q == 0x08) ≡ false
-    → (q == 0x17) ≡ false → (q == 0x28) ≡ false → (t : Takes) → allows t q ≡ false
-none_allows q a b c d e f g t = go t (other 0x00 a) (other 0x01 b) (other 0x06 c) (other 0x07 d) (other 0x08 e) (other 0x17 f) (other 0x28 g)
+-- another number than the seven
+none_known : (q : ℕ) → (q == 0x00) ≡ false → (q == 0x01) ≡ false → (q == 0x06) ≡ false → (q == 0x07) ≡ false → (q == 0x08) ≡ false
+    → (q == 0x17) ≡ false → (q == 0x28) ≡ false → known q ≡ false
+unfolding known
+none_known q a b c d e f g = rw (other 0x06 c, other 0x00 a, other 0x01 b, other 0x07 d, other 0x08 e, other 0x17 f, other 0x28 g)
   where
     other : (k : ℕ) → (q == k) ≡ false → (k == q) ≡ false
     other k ne = ne_eqb k q (λ same. eqb-false q k ne (sym same))
-
-    go : (t : Takes) → (0x00 == q) ≡ false → (0x01 == q) ≡ false → (0x06 == q) ≡ false → (0x07 == q) ≡ false → (0x08 == q) ≡ false
-        → (0x17 == q) ≡ false → (0x28 == q) ≡ false → allows t q ≡ false
-    go takes.All a b c d e f g = rw c
-    go takes.AllOrCount a b c d e f g = rw (c, d, e)
-    go takes.AllOrSpan a b c d e f g = rw (a, b, c)
-    go takes.Span a b c d e f g = rw (a, b)
-    go takes.Count a b c d e f g = rw (d, e)
-    go takes.Indexed a b c d e f g = rw (f, g)
-    go takes.SpanOrIndexed a b c d e f g = rw (a, b, f, g)
 
 -- a qualifier's range is what is read
 turn : (q k : ℕ) (octets : List ℕ) (here others : Result (Range × List ℕ) AppFault) → ReadsRange k octets here
@@ -133,7 +122,7 @@ range_reads q octets are =
     turn q 0x08 octets (count_at true octets) _ (count_reads true octets are) (λ e.
     turn q 0x17 octets (indexed_at false octets) _ (indexed_reads false octets are) (λ f.
     turn q 0x28 octets (indexed_at true octets) _ (indexed_reads true octets are) (λ g.
-    none_allows q a b c d e f g)))))))
+    none_known q a b c d e f g)))))))
 
 -- ---- and what is spelled is read
 

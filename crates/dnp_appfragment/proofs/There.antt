@@ -1,5 +1,5 @@
 -- In a fragment within the table each object that a range names is there.
-use Rattle.std.proofs.Common.{◌≡◌, refl, sym, ◌∙◌, ap, subst, ℕ, suc, ◌+◌, ◌*◌, ◌/◌, ◌<◌, ◌≤◌, Bool, true, false, not, ◌&&◌, IsTrue, cond, List, [], ◌∷◌, length, take, drop, arith, Option, Some, None, IsSome, Result, Ok, nat_lt, ◌==◌, find, ◌⊎◌, inl, inr, eqb-true}
+use Rattle.std.proofs.Common.{◌≡◌, refl, sym, ◌∙◌, ap, subst, ℕ, suc, ◌+◌, ◌*◌, ◌/◌, ◌<◌, ◌≤◌, Bool, true, false, not, ◌&&◌, IsTrue, cond, List, [], ◌∷◌, ◌++◌, length, take, drop, arith, Option, Some, None, IsSome, Result, Ok, nat_lt, ◌==◌, ◌⊎◌, inl, inr, eqb-true}
 use Rattle.std.specs.Prelude.{⊤, is_some}
 use Rattle.std.specs.Option.{option_map, option_and_then, IsSomeAnd}
 use Rattle.std.specs.List.{list_all}
@@ -15,51 +15,20 @@ use Rattle.dnp_appfragment.specs.declared.header.Range.{Range}
 use Rattle.dnp_appfragment.specs.declared.header.Range.TheVariants as range
 use Rattle.dnp_appfragment.specs.declared.table.Form.{Form}
 use Rattle.dnp_appfragment.specs.declared.table.Form.TheVariants as form
-use Rattle.dnp_appfragment.specs.declared.table.Takes.{Takes}
-use Rattle.dnp_appfragment.specs.declared.table.Takes.TheVariants as takes
-use Rattle.dnp_appfragment.specs.Table.{Rule, rules, takes_of, is_rule, form_eq, allows}
+use Rattle.dnp_appfragment.specs.Table.{Rule, rules, takes_of, form_eq, span, indexed, allows}
 use Rattle.dnp_appfragment.specs.Headers.{Head, qualifier_of, count_of, prefix_size, octets_of, objects_size, IsHeader}
 use Rattle.dnp_appfragment.specs.Reading.{number_at, index_at, first_octets, object_at}
 use Rattle.dnp_appfragment.specs.Objects.{IsSpan, HasRows, HasCommands}
 use Rattle.dnp_appfragment.specs.Seen.{head_of}
+use Rattle.dnp_appfragment.proofs.TableLines.{line_of, allowed_passes}
 use Rattle.dnp_appfragment.proofs.Numbers.{number_size}
 use Rattle.dnp_appfragment.proofs.HeaderObjects.{packed_unsized}
 
--- ---- lines of the table
-
--- the line of an object, which passes each test that all lines pass
-pub record HasLine (f : Form) (g v : ℕ) (t : Takes) (test : Rule → Bool) : Type 0 where
-  pub line : Rule
-  pub is : is_rule f g v line ≡ true
-  pub takes_is : line.takes ≡ t
-  pub passes : test line ≡ true
-
-line_in : (f : Form) (g v : ℕ) (t : Takes) (test : Rule → Bool) (xs : List Rule) → list_all test xs ≡ true
-    → option_map (λ (r : Rule). r.takes) (find (is_rule f g v) xs) ≡ Some t → HasLine f g v t test
-line_in f g v t test [] all is = cc
-line_in f g v t test (x ∷ xs) all is =
-    let both = and_parts (test x) (list_all test xs) all in
-    here (is_rule f g v x) refl both.0 (line_in f g v t test xs both.1) is
-  where
-    here : (b : Bool) → is_rule f g v x ≡ b → test x ≡ true
-        → (option_map (λ (r : Rule). r.takes) (find (is_rule f g v) xs) ≡ Some t → HasLine f g v t test)
-        → option_map (λ (r : Rule). r.takes) (cond b (Some x) (find (is_rule f g v) xs)) ≡ Some t → HasLine f g v t test
-    here true same passes on is = record { line = x; is = same; takes_is = cc; passes = passes }
-    here false same passes on is = on is
-
-line_of : (f : Form) (g v : ℕ) (t : Takes) (test : Rule → Bool) → list_all test rules ≡ true → takes_of f g v ≡ Some t → HasLine f g v t test
-unfolding takes_of
-line_of f g v t test all is = line_in f g v t test rules all is
+-- ---- objects that have indexes
 
 -- the qualifiers that give each object an index
-gives_index : Takes → Bool
-gives_index takes.SpanOrIndexed = true
-gives_index takes.Indexed = true
-gives_index takes.All = false
-gives_index takes.AllOrCount = false
-gives_index takes.AllOrSpan = false
-gives_index takes.Span = false
-gives_index takes.Count = false
+gives_index : List ℕ → Bool
+gives_index takes = list_all (λ q. allows (span ++ indexed) q) takes
 
 -- a range that does
 abbrev pub HasIndexes : Range → Type 0
@@ -68,23 +37,16 @@ HasIndexes (range.Span wide first last) = ⊤
 HasIndexes (range.Count wide n) = ⊥
 HasIndexes (range.Indexed wide n) = ⊤
 
-has_indexes : (t : Takes) (r : Range) → gives_index t ≡ true → allows t (qualifier_of r) ≡ true → HasIndexes r
+indexes : (r : Range) → allows (span ++ indexed) (qualifier_of r) ≡ true → HasIndexes r
+indexes range.All is = cc
+indexes (range.Span wide first last) is = tt
+indexes (range.Count true n) is = cc
+indexes (range.Count false n) is = cc
+indexes (range.Indexed wide n) is = tt
+
+has_indexes : (takes : List ℕ) (r : Range) → gives_index takes ≡ true → allows takes (qualifier_of r) ≡ true → HasIndexes r
 unfolding gives_index
-has_indexes takes.SpanOrIndexed range.All gives is = cc
-has_indexes takes.SpanOrIndexed (range.Span wide first last) gives is = tt
-has_indexes takes.SpanOrIndexed (range.Count true n) gives is = cc
-has_indexes takes.SpanOrIndexed (range.Count false n) gives is = cc
-has_indexes takes.SpanOrIndexed (range.Indexed wide n) gives is = tt
-has_indexes takes.Indexed range.All gives is = cc
-has_indexes takes.Indexed (range.Span wide first last) gives is = tt
-has_indexes takes.Indexed (range.Count true n) gives is = cc
-has_indexes takes.Indexed (range.Count false n) gives is = cc
-has_indexes takes.Indexed (range.Indexed wide n) gives is = tt
-has_indexes takes.All r gives is = cc
-has_indexes takes.AllOrCount r gives is = cc
-has_indexes takes.AllOrSpan r gives is = cc
-has_indexes takes.Span r gives is = cc
-has_indexes takes.Count r gives is = cc
+has_indexes takes r gives is = indexes r (allowed_passes (λ q. allows (span ++ indexed) q) takes (qualifier_of r) gives is)
 
 -- the objects of rows that are read, in a response, have indexes; so have commands, which stand in no READ
 rows_indexed : Rule → Bool
@@ -102,7 +64,7 @@ unfolding commands_indexed gives_index rules content_of objects
 all_commands_indexed = refl
 
 -- what a line's test says of the object
-row_line : (g v : ℕ) (t : Takes) → takes_of form.Response g v ≡ Some t → is_some (shape_read g v) ≡ true → gives_index t ≡ true
+row_line : (g v : ℕ) (t : List ℕ) → takes_of form.Response g v ≡ Some t → is_some (shape_read g v) ≡ true → gives_index t ≡ true
 unfolding rows_indexed
 row_line g v t is row =
     let found = line_of form.Response g v t rows_indexed all_rows_indexed is in
@@ -114,12 +76,12 @@ row_line g v t is row =
     let test : (form_eq found.line.form form.Response && is_some (shape_read found.line.group found.line.variation)) ≡ true = both_true parts.0 same in
     let passes : gives_index found.line.takes ≡ true =
     subst (λ (b : Bool). cond b (gives_index found.line.takes) true ≡ true) test found.passes in
-    subst (λ (t : Takes). gives_index t ≡ true) found.takes_is passes
+    subst (λ (t : List ℕ). gives_index t ≡ true) found.takes_is passes
   where
     both_true : {a b : Bool} → a ≡ true → b ≡ true → (a && b) ≡ true
     both_true p q = rw (p, q)
 
-command_line : (f : Form) (g v : ℕ) (t : Takes) → takes_of f g v ≡ Some t → is_some (command_size g v) ≡ true
+command_line : (f : Form) (g v : ℕ) (t : List ℕ) → takes_of f g v ≡ Some t → is_some (command_size g v) ≡ true
     → (gives_index t ≡ true) × (f ≡ form.Read → ⊥)
 unfolding commands_indexed
 command_line f g v t is command =
@@ -132,7 +94,7 @@ command_line f g v t is command =
     let passes : (gives_index found.line.takes && not (form_eq found.line.form form.Read)) ≡ true =
     subst (λ (b : Bool). cond b (gives_index found.line.takes && not (form_eq found.line.form form.Read)) true ≡ true) same found.passes in
     let each = and_parts (gives_index found.line.takes) (not (form_eq found.line.form form.Read)) passes in (
-      subst (λ (t : Takes). gives_index t ≡ true) found.takes_is each.0,
+      subst (λ (t : List ℕ). gives_index t ≡ true) found.takes_is each.0,
       λ read.
           let here : form_eq found.line.form form.Read ≡ true = subst (λ (f : Form). form_eq found.line.form f ≡ true) read parts.0 in
           no_read (form_eq found.line.form form.Read) here each.1,
@@ -183,11 +145,11 @@ object_there r octets size k has here all =
 
 -- ---- headers
 
-indexed : (f : Form) (g v q : ℕ) (r : Range) → q ≡ qualifier_of r → ((t : Takes) → takes_of f g v ≡ Some t → gives_index t ≡ true)
+indexed_range : (f : Form) (g v q : ℕ) (r : Range) → q ≡ qualifier_of r → ((t : List ℕ) → takes_of f g v ≡ Some t → gives_index t ≡ true)
     → IsSomeAnd (takes_of f g v) (λ t. IsTrue (allows t q)) → HasIndexes r
-indexed f g v q r same gives is = go (takes_of f g v) refl is
+indexed_range f g v q r same gives is = go (takes_of f g v) refl is
   where
-    go : (o : Option Takes) → takes_of f g v ≡ o → IsSomeAnd o (λ t. IsTrue (allows t q)) → HasIndexes r
+    go : (o : Option (List ℕ)) → takes_of f g v ≡ o → IsSomeAnd o (λ t. IsTrue (allows t q)) → HasIndexes r
     go None found is = absurd is
     go (Some t) found is = has_indexes t r (gives t found) (subst (λ (n : ℕ). allows t n ≡ true) same is)
 
@@ -219,7 +181,7 @@ pub row_there : (h : Head) (k : ℕ) → IsHeader form.Response h → IsSome (sh
     → IsThere h.group h.variation h.range h.octets k
 row_there h k is row here =
     let sized = row_sized h.group h.variation row in
-    let has = indexed form.Response h.group h.variation (qualifier_of h.range) h.range refl (λ t found. row_line h.group h.variation t found row) is.object in
+    let has = indexed_range form.Response h.group h.variation (qualifier_of h.range) h.range refl (λ t found. row_line h.group h.variation t found row) is.object in
     there h.group h.variation h.range h.octets k sized.0 sized.1 has here is.objects
 
 not_read : (f : Form) (g v : ℕ) (r : Range) → (f ≡ form.Read → ⊥) → objects_size f g v r ≡ octets_of (count_of r) (prefix_size r) (object_size g v)
@@ -234,22 +196,22 @@ pub command_there : (f : Form) (h : Head) (k : ℕ) → IsHeader f h → IsSome 
     → IsThere h.group h.variation h.range h.octets k
 command_there f h k is command here =
     let sized = command_sized h.group h.variation command in
-    let has = indexed f h.group h.variation (qualifier_of h.range) h.range refl (λ t found. (command_line f h.group h.variation t found command).0) is.object in
+    let has = indexed_range f h.group h.variation (qualifier_of h.range) h.range refl (λ t found. (command_line f h.group h.variation t found command).0) is.object in
     let takes = known (takes_of f h.group h.variation) is.object in
     let other = (command_line f h.group h.variation takes.0 takes.1 command).1 in
     there h.group h.variation h.range h.octets k sized.0 sized.1 has here (is.objects ∙ not_read f h.group h.variation h.range other)
   where
-    known : (o : Option Takes) → IsSomeAnd o (λ t. IsTrue (allows t (qualifier_of h.range))) → (t : Takes) × (o ≡ Some t)
+    known : (o : Option (List ℕ)) → IsSomeAnd o (λ t. IsTrue (allows t (qualifier_of h.range))) → (t : List ℕ) × (o ≡ Some t)
     known None is = absurd is
     known (Some t) is = (t, refl)
 
 -- ---- packed bits
 
-bits_take : takes_of form.Response 1 1 ≡ Some takes.Span
+bits_take : takes_of form.Response 1 1 ≡ Some span
 unfolding takes_of rules objects
 bits_take = refl
 
-span_only : (r : Range) → allows takes.Span (qualifier_of r) ≡ true → IsSpan r
+span_only : (r : Range) → allows span (qualifier_of r) ≡ true → IsSpan r
 span_only range.All is = cc
 span_only (range.Span wide first last) is = tt
 span_only (range.Count true n) is = cc
@@ -259,8 +221,8 @@ span_only (range.Indexed false n) is = cc
 
 pub bit_there : (r : Range) (octets : List ℕ) (k : ℕ) → IsHeader form.Response (head_of 1 1 r octets) → k < count_of r → IsSpan r × (k / 8 < length octets)
 bit_there r octets k is here =
-    let span : allows takes.Span (qualifier_of r) ≡ true =
-    subst (λ (o : Option Takes). IsSomeAnd o (λ t. IsTrue (allows t (qualifier_of r)))) bits_take is.object in
+    let span : allows span (qualifier_of r) ≡ true =
+    subst (λ (o : Option (List ℕ)). IsSomeAnd o (λ t. IsTrue (allows t (qualifier_of r)))) bits_take is.object in
     let all : length octets ≡ (count_of r + 7) / 8 = is.objects ∙ ap (octets_of (count_of r) (prefix_size r)) packed_unsized in
     (span_only r span, omega (arith, all, here))
 

@@ -9,7 +9,6 @@ use Rattle.dnp_appfragment.specs.declared.fault.AppFault.TheVariants.{QualifierU
 use Rattle.dnp_appfragment.specs.declared.header.Range.{Range}
 use Rattle.dnp_appfragment.specs.declared.header.Range.TheVariants as range
 use Rattle.dnp_appfragment.specs.declared.table.Form.{Form}
-use Rattle.dnp_appfragment.specs.declared.table.Takes.{Takes}
 use Rattle.dnp_appfragment.specs.Table.{takes_of}
 use Rattle.dnp_appfragment.specs.Headers.{Head, objects_size}
 use Rattle.dnp_appfragment.specs.declared.header.Header.{Header}
@@ -86,13 +85,13 @@ header_fewer f [] = tt
 header_fewer f (g ∷ []) = tt
 header_fewer f (g ∷ v ∷ []) = tt
 header_fewer f (g ∷ v ∷ q ∷ octets) =
-    ok_then (λ (t : Takes). Unit {0}) (λ (x : Head × List ℕ). length x.1 < length (g ∷ v ∷ q ∷ octets))
+    ok_then (λ (t : List ℕ). Unit {0}) (λ (x : Head × List ℕ). length x.1 < length (g ∷ v ∷ q ∷ octets))
     (taken (takes_of f g v) q) _ (any (taken (takes_of f g v) q)) (λ t _.
     ok_then (λ (r : Range × List ℕ). length r.1 ≤ length octets) (λ (x : Head × List ℕ). length x.1 < length (g ∷ v ∷ q ∷ octets))
     (range_at q octets) _ (range_no_more q octets) (λ r less.
     few (objects_at f g v r.0 r.1) r.1 less (objects_no_more f g v r.0 r.1)))
   where
-    any : (r : Result Takes AppFault) → IfOk r (λ (t : Takes). Unit {0})
+    any : (r : Result (List ℕ) AppFault) → IfOk r (λ (t : List ℕ). Unit {0})
     any (Ok t) = tt
     any (Err e) = tt
 

@@ -1,4 +1,4 @@
--- What the fields of a `Builder` stand for.
+-- Private steps: what the fields of a `Builder` stand for.
 use Rattle.std.specs.Prelude.{◌≡◌, ℕ, ◌+◌, ◌≤◌, ◌==◌, ◌&&◌, if◌then◌else◌, List, [], length, take, drop, Option, None, IfSome}
 use Rattle.std.specs.Option.{option_map, option_map_or, option_and_then}
 use Rattle.dnp_objects.specs.declared.limits.TheConstants.{MAX_FRAGMENT}

@@ -1,5 +1,5 @@
--- A fragment that is being built, and what a call puts into it (IEEE Std 1815-2012, application layer:
--- fragments, object headers).
+-- Definition: a fragment that is being built, and what a call puts into it (IEEE Std 1815-2012, application
+-- layer: fragments, object headers).
 use Rattle.std.specs.Prelude.{ℕ, ◌+◌, Bool, ◌||◌, if◌then◌else◌, List, [], ◌∷◌, ◌++◌, length, option_to_list, Option, Some, None}
 use Rattle.std.specs.Option.{option_and_then}
 use Rattle.dnp_appfragment.specs.declared.function.Function.{Function}

@@ -1,4 +1,4 @@
--- The control octet that begins each fragment (IEEE Std 1815-2012, application layer).
+-- Definition: the control octet that begins each fragment (IEEE Std 1815-2012, application layer).
 use Rattle.std.specs.Prelude.{ℕ, ◌+◌, ◌<◌, Bool, if◌then◌else◌}
 
 -- the bits FIR, FIN, CON and UNS, and the sequence number

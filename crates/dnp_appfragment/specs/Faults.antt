@@ -1,5 +1,6 @@
--- Why octets are no fragment: the first fault from left to right (IEEE Std 1815-2012, application layer).
--- Each of these facts says that all before the fault is in order, so that octets have one fault at most.
+-- Definition: why octets are no fragment: the first fault from left to right (IEEE Std 1815-2012, application
+-- layer). Each of these facts says that all before the fault is in order, so that octets have one fault at
+-- most.
 use Rattle.std.specs.Prelude.{◌≡◌, ◌≢◌, ℕ, ◌<◌, Bool, true, false, ◌==◌, if◌then◌else◌, ◌⊎◌, List, ◌∷◌, ◌++◌, length, Some, None}
 use Rattle.dnp_appfragment.specs.declared.fault.AppFault.{AppFault}
 use Rattle.dnp_appfragment.specs.declared.fault.AppFault.TheVariants.{Short, FunctionUnknown, HeaderCut, QualifierUnknown, ObjectUnknown, RangeBackward, ObjectsCut}
@@ -8,7 +9,6 @@ use Rattle.dnp_appfragment.specs.declared.header.Range.{Range}
 use Rattle.dnp_appfragment.specs.declared.qualifier.TheConstants as qualifier
 use Rattle.dnp_appfragment.specs.declared.table.Form.{Form}
 use Rattle.dnp_appfragment.specs.declared.table.Form.TheVariants as form
-use Rattle.dnp_appfragment.specs.declared.table.Takes.{Takes}
 use Rattle.dnp_appfragment.specs.Table.{function_octet, form_of, is_response, takes_of, allows, IsInTable}
 use Rattle.dnp_appfragment.specs.Headers.{Head, qualifier_of, range_octets, NumbersFit, IsForward, objects_size, spelled, AreHeaders, begin}
 use Rattle.dnp_appfragment.specs.Fragments.{looked_at}
@@ -45,7 +45,7 @@ pub record LacksQualifier (f : Form) (octets : List ℕ) : Type 0 where
   pub variation : ℕ
   pub qualifier : ℕ
   pub rest : List ℕ
-  pub takes : Takes
+  pub takes : List ℕ
   pub whole : octets ≡ group ∷ variation ∷ qualifier ∷ rest
   pub object : takes_of f group variation ≡ Some takes
   pub unknown : allows takes qualifier ≡ false

@@ -1,4 +1,4 @@
--- Fragments (IEEE Std 1815-2012, application layer): control, function, in a response two internal
+-- Definition: fragments (IEEE Std 1815-2012, application layer): control, function, in a response two internal
 -- indications, and then headers that divide the rest.
 use Rattle.std.specs.Prelude.{◌≡◌, ℕ, Bool, true, false, List, [], ◌∷◌}
 use Rattle.dnp_appfragment.specs.declared.function.Function.{Function}

@@ -1,5 +1,5 @@
--- Object headers with their objects, and their one spelling in octets (IEEE Std 1815-2012, application
--- layer: object headers). A fragment's headers divide its octets.
+-- Definition: object headers with their objects, and their one spelling in octets (IEEE Std 1815-2012,
+-- application layer: object headers). A fragment's headers divide its octets.
 use Rattle.std.specs.Prelude.{◌≡◌, ℕ, ◌+◌, ◌-◌, ◌*◌, ◌/◌, ◌%◌, ◌^◌, ◌<◌, ◌≤◌, Bool, true, false, if◌then◌else◌, List, [], ◌∷◌, ◌++◌, length, Option, Some, None, ⊤}
 use Rattle.std.specs.List.{flat_map}
 use Rattle.dnp_objects.specs.Objects.{object_size}

@@ -1,4 +1,5 @@
--- The internal indications of a response (IEEE Std 1815-2012, application layer): bits of two octets.
+-- Definition: the internal indications of a response (IEEE Std 1815-2012, application layer): bits of two
+-- octets.
 use Rattle.std.specs.Prelude.{◌≡◌, ◌-◌, bit_and, bit_or}
 use Rattle.dnp_appfragment.specs.declared.iin.Iin.{Iin}
 

@@ -1,4 +1,4 @@
--- The objects that headers hold, in order (IEEE Std 1815-2012, application layer: object headers).
+-- Definition: the objects that headers hold, in order (IEEE Std 1815-2012, application layer: object headers).
 use Rattle.std.specs.Prelude.{◌≡◌, ℕ, List, [], ◌∷◌, ◌++◌, length, slice_get, Some}
 use Rattle.std.specs.List.{flat_map, AllByRecursion}
 use Rattle.dnp_objects.specs.Objects.{object_size}

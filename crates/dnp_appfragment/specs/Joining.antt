@@ -1,4 +1,4 @@
--- How an object joins the header before it (IEEE Std 1815-2012, application layer: object headers).
+-- Definition: how an object joins the header before it (IEEE Std 1815-2012, application layer: object headers).
 -- An object that is put is a header of its own until it joins another.
 use Rattle.std.specs.Prelude.{◌+◌, ◌^◌, true, nat_lt, ◌&&◌, ◌==◌, if◌then◌else◌, ◌++◌, Option, Some, None}
 use Rattle.std.specs.Option.{option_map}

@@ -1,4 +1,4 @@
--- What is left of a fragment while its headers are gone through.
+-- Definition: what is left of a fragment while its headers are gone through.
 use Rattle.std.specs.Prelude.{ℕ, Bool, List, [], is_ok}
 use Rattle.std.specs.Result.{result_unwrap_or}
 use Rattle.std.specs.Borrow.{Bor}

@@ -1,4 +1,4 @@
--- What a builder is once the octets that it lent are given back.
+-- Definition: what a builder is once the octets that it lent are given back.
 use Rattle.std.specs.Prelude.{◌≡◌}
 use Rattle.std.specs.Borrow.{Fml, MutBor}
 use Rattle.std.specs.Io.BufRead.{Rests}

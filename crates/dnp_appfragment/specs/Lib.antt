@@ -1,4 +1,4 @@
-pub mod Building
+-- Definitions, by which contracts promise.
 pub mod Built
 pub mod Control
 pub mod Faults
@@ -8,14 +8,16 @@ pub mod Indications
 pub mod Items
 pub mod Joining
 pub mod Left
-pub mod Meaning
 pub mod Lending
+pub mod Meaning
 pub mod Objects
-pub mod Overwriting
 pub mod Places
 pub mod Reading
 pub mod Seen
 pub mod Table
-pub mod Walking
 pub mod Whole
 pub mod Written
+-- Words of private steps.
+pub mod Building
+pub mod Overwriting
+pub mod Walking

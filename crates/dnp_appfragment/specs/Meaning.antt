@@ -1,6 +1,6 @@
--- What octets say, as functions of them: a control octet, a request, a response, object k of a header. The
--- grammar (Control.antt, Fragments.antt, Faults.antt, Objects.antt) says the same as relations, and laws that
--- the two agree on octets: a contract cites the one that it needs.
+-- Definition: what octets say, as functions of them: a control octet, a request, a response, object k of a
+-- header. The grammar (Control.antt, Fragments.antt, Faults.antt, Objects.antt) says the same as relations, and
+-- laws that the two agree on octets: a contract cites the one that it needs.
 use Rattle.std.specs.Prelude.{ℕ, ◌+◌, ◌/◌, ◌%◌, pos, Bool, true, false, nat_lt, ◌==◌, ◌&&◌, if◌then◌else◌, List, [], ◌∷◌, length, slice_index, Option, Some, None, Result, Ok, Err}
 use Rattle.std.specs.Int.{bit_at}
 use Rattle.std.specs.Option.{option_map, option_and_then}

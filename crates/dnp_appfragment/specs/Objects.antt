@@ -1,5 +1,5 @@
--- The objects of one header, counted from 0: where each stands in the header's octets, with its index,
--- and the row or the command that it is (IEEE Std 1815-2012, application layer: prefix and range).
+-- Definition: the objects of one header, counted from 0: where each stands in the header's octets, with its
+-- index, and the row or the command that it is (IEEE Std 1815-2012, application layer: prefix and range).
 use Rattle.std.specs.Prelude.{◌≡◌, ℕ, ◌+◌, ◌*◌, ◌/◌, ◌%◌, ◌<◌, pos, ◌⊎◌, List, [], ◌++◌, length, slice_index, Some, None, IsSome, ⊤}
 use Rattle.std.specs.Int.{bit_at}
 use Rattle.dnp_objects.specs.Objects.{object_size, shape_read}

@@ -1,4 +1,4 @@
--- Octets that are written over others, in place.
+-- Private steps: octets that are written over others, in place.
 use Rattle.std.specs.Prelude.{ℕ, ◌+◌, List, ◌++◌, length, take, drop}
 
 -- the octets with these written over as many of them, from a place on

@@ -1,5 +1,5 @@
--- Where the parts of a fragment lie: nothing is copied. A reference has the block of memory in which
--- it lies and the offset in it (`ref_ptr.0`, `ref_ptr.1`), in octets.
+-- Definition: where the parts of a fragment lie: nothing is copied. A reference has the block of memory in
+-- which it lies and the offset in it (`ref_ptr.0`, `ref_ptr.1`), in octets.
 use Rattle.std.specs.Prelude.{◌≡◌, ℕ, ◌+◌, List, length, Option, MatchOption}
 use Rattle.std.specs.Borrow.{Bor}
 use Rattle.std.specs.Iterator.{YieldsFirstBy}

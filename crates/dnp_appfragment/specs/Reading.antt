@@ -1,6 +1,6 @@
--- The steps in which headers, and the objects of one, are cut off the front of octets: the next one, and the
--- octets behind it, or why there is none. Meaning.antt is made of them; what they have to answer is said in
--- Headers.antt, Faults.antt and Objects.antt.
+-- Definition: the steps in which headers, and the objects of one, are cut off the front of octets: the next
+-- one, and the octets behind it, or why there is none. Meaning.antt is made of them; what they have to answer
+-- is said in Headers.antt, Faults.antt and Objects.antt.
 use Rattle.std.specs.Prelude.{ℕ, zero, suc, ◌+◌, ◌*◌, Bool, true, false, nat_lt, ◌==◌, if◌then◌else◌, List, [], ◌∷◌, length, take, drop, Option, Some, None, Result, Ok, Err}
 use Rattle.std.specs.Result.{result_ok}
 use Rattle.dnp_appfragment.specs.declared.fault.AppFault.{AppFault}
@@ -9,7 +9,6 @@ use Rattle.dnp_appfragment.specs.declared.header.Range.{Range}
 use Rattle.dnp_appfragment.specs.declared.header.Range.TheVariants as range
 use Rattle.dnp_appfragment.specs.declared.qualifier.TheConstants as qualifier
 use Rattle.dnp_appfragment.specs.declared.table.Form.{Form}
-use Rattle.dnp_appfragment.specs.declared.table.Takes.{Takes}
 use Rattle.dnp_appfragment.specs.Table.{takes_of, allows}
 use Rattle.dnp_appfragment.specs.Headers.{Head, objects_size, count_of, prefix_size}
 
@@ -54,7 +53,7 @@ range_at q octets =
     (if q == qualifier.INDEXED then indexed_at false octets else
     (if q == qualifier.WIDE_INDEXED then indexed_at true octets else Err QualifierUnknown))))))
 
-abbrev pub taken : Option Takes → ℕ → Result Takes AppFault
+abbrev pub taken : Option (List ℕ) → ℕ → Result (List ℕ) AppFault
 taken None q = Err ObjectUnknown
 taken (Some t) q = if allows t q then Ok t else Err QualifierUnknown
 

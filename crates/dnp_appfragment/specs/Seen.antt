@@ -1,4 +1,4 @@
--- What is seen of the values of the code: those of references without the place where they lie.
+-- Definition: what is seen of the values of the code: those of references without the place where they lie.
 use Rattle.std.specs.Prelude.{◌≡◌, ℕ, List, Result, Ok, Err}
 use Rattle.std.specs.Borrow.{Bor}
 use Rattle.dnp_appfragment.specs.declared.fault.AppFault.{AppFault}

@@ -1,18 +1,17 @@
--- The functions, and which object goes with which qualifier under which function (IEEE Std 1815-2012,
--- application layer: function codes, object headers).
+-- Definition: the functions, and which object goes with which qualifier under which function (IEEE Std
+-- 1815-2012, application layer: function codes, object headers).
 --
--- The list `rules` is the one table of that: reading, the conditions of writing and the proofs all
--- look here, so that a further object is one line of it.
+-- The list `rules` is the one table of that: reading, the conditions of writing and the proofs all look here,
+-- so that a further object is one line of it.
 use Rattle.std.specs.Prelude.{ℕ, Bool, true, false, IsTrue, ◌&&◌, ◌==◌, List, [], ◌∷◌, ◌++◌, map, is_some, Option, find}
 use Rattle.std.specs.Option.{option_map, IsSomeAnd}
 use Rattle.std.specs.List.{filter, list_any}
-use Rattle.dnp_objects.specs.Objects.{objects, writable}
+use Rattle.dnp_objects.specs.Objects.{Object, objects, writable}
 use Rattle.dnp_appfragment.specs.declared.function.Function.{Function}
 use Rattle.dnp_appfragment.specs.declared.function.Function.TheVariants as function
 use Rattle.dnp_appfragment.specs.declared.table.Form.{Form}
 use Rattle.dnp_appfragment.specs.declared.table.Form.TheVariants as form
-use Rattle.dnp_appfragment.specs.declared.table.Takes.{Takes}
-use Rattle.dnp_appfragment.specs.declared.table.Takes.TheVariants as takes
+use Rattle.dnp_appfragment.specs.declared.qualifier.TheConstants as qualifier
 
 -- ---- the functions
 
@@ -82,18 +81,23 @@ is_response function = form_eq (form_of function) form.Response
 
 -- ---- the qualifiers
 
--- 00, 01: a start and a stop; 06: all; 07, 08: a count; 17, 28: a count, and each object behind its index
-abbrev pub qualifiers : Takes → List ℕ
-qualifiers takes.All = 0x06 ∷ []
-qualifiers takes.AllOrCount = 0x06 ∷ 0x07 ∷ 0x08 ∷ []
-qualifiers takes.AllOrSpan = 0x00 ∷ 0x01 ∷ 0x06 ∷ []
-qualifiers takes.Span = 0x00 ∷ 0x01 ∷ []
-qualifiers takes.Count = 0x07 ∷ 0x08 ∷ []
-qualifiers takes.Indexed = 0x17 ∷ 0x28 ∷ []
-qualifiers takes.SpanOrIndexed = 0x00 ∷ 0x01 ∷ 0x17 ∷ 0x28 ∷ []
+-- all objects; those of a span, a start and a stop; so many; so many, each behind its index. The
+-- numbers of the second of two are wide
+abbrev pub all : List ℕ
+all = qualifier.ALL ∷ []
 
-abbrev pub allows : Takes → ℕ → Bool
-allows t qualifier = list_any (λ q. q == qualifier) (qualifiers t)
+abbrev pub span : List ℕ
+span = qualifier.SPAN ∷ qualifier.WIDE_SPAN ∷ []
+
+abbrev pub count : List ℕ
+count = qualifier.COUNT ∷ qualifier.WIDE_COUNT ∷ []
+
+abbrev pub indexed : List ℕ
+indexed = qualifier.INDEXED ∷ qualifier.WIDE_INDEXED ∷ []
+
+-- the qualifier is one of these
+abbrev pub allows : List ℕ → ℕ → Bool
+allows takes q = list_any (λ t. t == q) takes
 
 -- ---- the table
 
@@ -102,38 +106,54 @@ pub record Rule : Type 0 where
   pub form : Form
   pub group : ℕ
   pub variation : ℕ
-  pub takes : Takes
+  pub takes : List ℕ
+
+abbrev pub rule : Form → List ℕ → ℕ × ℕ → Rule
+rule f takes object = record { form = f; group = object.0; variation = object.1; takes = takes }
 
 -- in fragments of this form these objects, by group and variation, take these qualifiers
-abbrev pub lines : Form → List (ℕ × ℕ) → Takes → List Rule
-lines f os t = map (λ o. record { form = f; group = o.0; variation = o.1; takes = t }) os
+abbrev pub lines : Form → List (ℕ × ℕ) → List ℕ → List Rule
+lines f os takes = map (rule f takes) os
 
--- the objects that are written for rows
-abbrev pub rows : List (ℕ × ℕ)
-rows = map (λ o. (o.group, o.variation)) (filter (λ o. is_some (writable o.content)) objects)
+-- the lines but those of a response's rows
+abbrev pub listed : List Rule
+listed =
+    lines form.Read ((60, 1) ∷ []) all
+    ++ lines form.Read ((60, 2) ∷ (60, 3) ∷ (60, 4) ∷ (2, 0) ∷ (2, 2) ∷ (22, 0) ∷ (22, 5) ∷ (32, 0) ∷ (32, 3) ∷ []) (all ++ count)
+    ++ lines form.Read ((1, 0) ∷ (1, 2) ∷ (10, 0) ∷ (10, 2) ∷ (20, 0) ∷ (20, 1) ∷ (30, 0) ∷ (30, 1) ∷ []) (span ++ all)
+    ++ lines form.Write ((80, 1) ∷ []) span
+    ++ lines form.Write ((50, 1) ∷ []) count
+    ++ lines form.Command ((12, 1) ∷ (41, 1) ∷ (41, 2) ∷ []) indexed
+    ++ lines form.Enable ((60, 2) ∷ (60, 3) ∷ (60, 4) ∷ []) all
+    ++ lines form.Response ((12, 1) ∷ (41, 1) ∷ (41, 2) ∷ []) indexed
+    ++ lines form.Response ((40, 1) ∷ (40, 2) ∷ []) (span ++ indexed)
+    ++ lines form.Response ((50, 1) ∷ (52, 2) ∷ []) count
+    ++ lines form.Response ((1, 1) ∷ (80, 1) ∷ []) span
+
+-- and in a response a line for each object of the object table that is written for rows
+abbrev pub row_rule : Object → Rule
+row_rule o = rule form.Response (span ++ indexed) (o.group, o.variation)
+
+abbrev pub row_rules : List Object → List Rule
+row_rules os = map row_rule (filter (λ o. is_some (writable o.content)) os)
 
 unfoldable pub rules : List Rule
-rules =
-    lines form.Read ((60, 1) ∷ []) takes.All
-    ++ lines form.Read ((60, 2) ∷ (60, 3) ∷ (60, 4) ∷ (2, 0) ∷ (2, 2) ∷ (22, 0) ∷ (22, 5) ∷ (32, 0) ∷ (32, 3) ∷ []) takes.AllOrCount
-    ++ lines form.Read ((1, 0) ∷ (1, 2) ∷ (10, 0) ∷ (10, 2) ∷ (20, 0) ∷ (20, 1) ∷ (30, 0) ∷ (30, 1) ∷ []) takes.AllOrSpan
-    ++ lines form.Write ((80, 1) ∷ []) takes.Span
-    ++ lines form.Write ((50, 1) ∷ []) takes.Count
-    ++ lines form.Command ((12, 1) ∷ (41, 1) ∷ (41, 2) ∷ []) takes.Indexed
-    ++ lines form.Enable ((60, 2) ∷ (60, 3) ∷ (60, 4) ∷ []) takes.All
-    ++ lines form.Response ((12, 1) ∷ (41, 1) ∷ (41, 2) ∷ []) takes.Indexed
-    ++ lines form.Response rows takes.SpanOrIndexed
-    ++ lines form.Response ((40, 1) ∷ (40, 2) ∷ []) takes.SpanOrIndexed
-    ++ lines form.Response ((50, 1) ∷ (52, 2) ∷ []) takes.Count
-    ++ lines form.Response ((1, 1) ∷ (80, 1) ∷ []) takes.Span
+rules = listed ++ row_rules objects
 
 abbrev pub is_rule : Form → ℕ → ℕ → Rule → Bool
-is_rule f group variation rule = form_eq rule.form f && (rule.group == group && rule.variation == variation)
+is_rule f group variation r = form_eq r.form f && (r.group == group && r.variation == variation)
 
--- what the object takes in fragments of this form, if it stands in the table for them
-unfoldable pub takes_of : Form → ℕ → ℕ → Option Takes
-takes_of f group variation = option_map (λ rule. rule.takes) (find (is_rule f group variation) rules)
+-- the qualifiers that the object takes in fragments of this form by a list of lines, if it stands in one
+abbrev pub takes_in : List Rule → Form → ℕ → ℕ → Option (List ℕ)
+takes_in rs f group variation = option_map (λ r. r.takes) (find (is_rule f group variation) rs)
+
+unfoldable pub listed_for : Form → ℕ → ℕ → Option (List ℕ)
+listed_for f group variation = takes_in listed f group variation
+
+-- the qualifiers that the object takes in fragments of this form, if it stands in the table for them
+unfoldable pub takes_of : Form → ℕ → ℕ → Option (List ℕ)
+takes_of f group variation = takes_in rules f group variation
 
 -- the object stands in the table for this form, and takes this qualifier
 abbrev pub IsInTable : Form → ℕ → ℕ → ℕ → Type 0
-IsInTable f group variation qualifier = IsSomeAnd (takes_of f group variation) (λ t. IsTrue (allows t qualifier))
+IsInTable f group variation q = IsSomeAnd (takes_of f group variation) (λ takes. IsTrue (allows takes q))

@@ -1,5 +1,5 @@
--- The rows that are left while a header's are gone through: each is cut off the front of the octets. What they are
--- altogether is said by `row_in` of Meaning.antt.
+-- Private steps: the rows that are left while a header's are gone through: each is cut off the front of the
+-- octets. What they are altogether is said by `row_in` of Meaning.antt.
 use Rattle.std.specs.Prelude.{ℕ, zero, suc, ◌+◌, ◌≤◌, nat_lt, ◌==◌, ◌&&◌, if◌then◌else◌, List, [], ◌∷◌, length, take, drop, Option, Some, None, ⊤}
 use Rattle.std.specs.Option.{option_map_or}
 use Rattle.std.specs.Borrow.{Bor}

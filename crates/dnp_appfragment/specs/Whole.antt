@@ -1,4 +1,4 @@
--- A request and a response as they were read.
+-- Definition: a request and a response as they were read.
 use Rattle.dnp_appfragment.specs.declared.request.Request.{Request}
 use Rattle.dnp_appfragment.specs.declared.response.Response.{Response}
 use Rattle.dnp_appfragment.specs.Fragments.{Asked, Answered}

@@ -1,5 +1,5 @@
--- What rows and commands are written as in a fragment, each as a header of its own (IEEE Std 1815-2012,
--- application layer: object headers; object library).
+-- Definition: what rows and commands are written as in a fragment, each as a header of its own (IEEE Std
+-- 1815-2012, application layer: object headers; object library).
 use Rattle.std.specs.Prelude.{ℕ, Bool, true, IsTrue, ◌==◌, ◌||◌, if◌then◌else◌, List, [], ◌∷◌, ◌++◌}
 use Rattle.std.specs.List.{list_any}
 use Rattle.dnp_objects.specs.Rows.{Fits, written}

@@ -1,3 +1,5 @@
+//! Fragments that are built.
+
 use crate::control::Control;
 use crate::function::Function;
 use crate::header::Header;
@@ -172,7 +174,7 @@ impl Builder {
     }
 
     /// Puts a row into a response as an event: with a time as 2.2, 22.5 or 32.3, and else as 2.1,
-    /// 22.1 or 32.1, behind its index. It joins the header before it, where that is of the same
+    /// 22.1 or 32.1, after its index. It joins the header before it, where that is of the same
     /// object and no `break_run` came between. `dnp_objects::is_event` is the test of what the row has to
     /// be.
     ///
@@ -206,7 +208,7 @@ impl Builder {
         self.put(&Point { group, row })
     }
 
-    /// Puts a command with its status, behind its index, into a fragment that carries commands:
+    /// Puts a command with its status, after its index, into a fragment that carries commands:
     /// 12.1, 41.1 or 41.2. It joins the header before it, where that is of the same object and no
     /// `break_run` came between. `Function::carries_commands` is the test of what the function has
     /// to be.

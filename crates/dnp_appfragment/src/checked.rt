@@ -10,7 +10,7 @@ use crate::qualifier::{ALL, COUNT, SPAN, WIDE_COUNT, WIDE_INDEXED, WIDE_SPAN};
 use crate::range::objects_size;
 use crate::table::Form;
 
-/// A number in one octet, or in two, and the octets behind it.
+/// A number in one octet, or in two, and the octets after it.
 #[inline(always)]
 fn checked_number(wide: bool, octets: &[u8]) -> (u16, &[u8])
     requires { IsTrue (is_ok (spec.number_at wide octets.now)) }
@@ -24,7 +24,7 @@ fn checked_number(wide: bool, octets: &[u8]) -> (u16, &[u8])
     }
 }
 
-/// The range of a qualifier, and the octets behind it.
+/// The range of a qualifier, and the octets after it.
 #[inline(always)]
 #[tactic(auto, unfolding(crate::specs::Reading::range_at, crate::specs::Reading::span_at))]
 fn checked_range(qualifier: u8, octets: &[u8]) -> (Range, &[u8])
@@ -53,7 +53,7 @@ fn checked_range(qualifier: u8, octets: &[u8]) -> (Range, &[u8])
     }
 }
 
-/// The header at the front, with its objects, and the octets behind them.
+/// The header at the front, with its objects, and the octets after them.
 #[inline]
 #[tactic(auto, unfolding(crate::specs::Reading::header_at))]
 pub(crate) fn checked_header(form: Form, octets: &[u8]) -> (Header<'_>, &[u8])

@@ -1,3 +1,4 @@
+//! The control octets of fragments.
 ghost use Rattle.std.specs.Prelude.{◌≡◌, ◌<◌};
 ghost use Rattle.dnp_appfragment.specs.Control.{ControlBits, IsControl, control_octet};
 

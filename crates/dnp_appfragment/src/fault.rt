@@ -1,3 +1,4 @@
+//! Why octets are no fragment.
 ghost use Rattle.std.specs.Prelude.{◌≡◌};
 ghost use Rattle.dnp_appfragment.specs.Faults.{fault_number};
 

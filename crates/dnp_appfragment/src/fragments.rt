@@ -1,3 +1,4 @@
+//! Requests and responses from octets, and the confirmation of one.
 ghost use Rattle.std.specs.Prelude.{◌≡◌, ◌%◌, IfOk, IfErr};
 ghost use Rattle.std.specs.Result.{IsOkAnd};
 ghost use Rattle.dnp_appfragment.specs.declared.fault.AppFault.{AppFault as FaultValue};
@@ -18,7 +19,7 @@ use crate::request::Request;
 use crate::response::Response;
 use crate::table::{Form, form_of};
 
-/// The octets in which headers are looked for: all behind the function, or none.
+/// The octets in which headers are looked for: all after the function, or none.
 fn looked_at(form: Form, body: &[u8]) -> &[u8]
     ensures value { result.now ≡ spec.looked_at form body.now }
     ensures end { Ends body.entry result }

@@ -1,3 +1,5 @@
+//! Object headers with their objects.
+
 use crate::function::Function;
 use crate::objects::{command_at, row_at};
 use crate::range::{count_of, is_range, objects_size, qualifier_of};
@@ -15,7 +17,7 @@ pub enum Range {
     Span { wide: bool, first: u16, last: u16 },
     /// So many (07, or wide 08).
     Count { wide: bool, n: u16 },
-    /// So many, each behind its index (17, or wide 28).
+    /// So many, each after its index (17, or wide 28).
     Indexed { wide: bool, n: u16 },
 }
 
@@ -23,9 +25,13 @@ pub enum Range {
 /// 1815-2012, application layer: object headers). In a READ no objects follow.
 #[derive(Clone, Copy, Debug, PartialEq, Eq)]
 pub struct Header<'a> {
+    /// The objects' group.
     pub group: u8,
+    /// The objects' variation.
     pub variation: u8,
+    /// Which objects, or how many.
     pub range: Range,
+    /// The octets of the objects, with their indexes where the range has any.
     pub octets: &'a [u8],
 }
 
@@ -64,8 +70,8 @@ impl<'a> Header<'a> {
 
     /// Row k of the header, counted from 0, or `None` where there are fewer objects or octets, or
     /// the object is no row that is read. Its index is counted from the range's start, or stands
-    /// before it. Packed bits, 1.1, are binaries with the flags 01. No octet behind the row's is
-    /// looked at.
+    /// before it. Packed bits, 1.1, are binaries with the flags 01. Octets after the row's are
+    /// ignored.
     pub fn row(&self, k: usize) -> Option<Row>
         ensures value { result ≡ row_in (head self.now) k }
         ensures found { IfSome result (IsRow (head self.now) k) }

@@ -1,3 +1,5 @@
+//! The headers of a fragment, one after the other.
+
 use crate::checked::checked_header;
 use crate::fault::AppFault;
 use crate::header::Header;

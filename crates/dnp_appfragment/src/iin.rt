@@ -1,10 +1,13 @@
+//! The internal indications of responses.
 ghost use Rattle.std.specs.Prelude.{◌≡◌, ◌↔◌, IsTrue};
 
 /// The internal indications of a response (IEEE Std 1815-2012, application layer): two octets, of
 /// which each bit says one thing of the station. The constants have one bit each.
 #[derive(Clone, Copy, Debug, PartialEq, Eq, Hash)]
 pub struct Iin {
+    /// The first octet, IIN1.
     pub one: u8,
+    /// The second octet, IIN2.
     pub two: u8,
 }
 

@@ -1,4 +1,4 @@
-// The objects of a header, one by one.
+//! The objects of a header, one by one.
 ghost use Rattle.std.specs.Prelude.{◌≡◌, ◌≤◌, ◌<◌, ◌/◌, ℕ, List, length, IsSome, IfSome, Some};
 ghost use Rattle.std.specs.Option.{option_map, IsSomeAnd};
 ghost use Rattle.dnp_objects.specs.Objects.{shape_read, object_size as size_of};
@@ -15,7 +15,7 @@ use crate::range::{count_of, prefix_size};
 use crate::reading::number_at;
 use dnp_objects::{Command, Kind, Row, Status, object_size, read_command, row_shape};
 
-/// The index of object k, and the octets behind it.
+/// The index of object k, and the octets after it.
 #[inline]
 pub(crate) fn index_at(range: Range, k: usize, octets: &[u8]) -> Option<(u16, &[u8])>
     requires { k < count range }

@@ -12,7 +12,7 @@ pub(crate) const ALL: u8 = 0x06;
 pub(crate) const COUNT: u8 = 0x07;
 /// A wide count.
 pub(crate) const WIDE_COUNT: u8 = 0x08;
-/// A count, and each object behind its index.
+/// A count, and each object after its index.
 pub(crate) const INDEXED: u8 = 0x17;
-/// A wide count, and each object behind its wide index.
+/// A wide count, and each object after its wide index.
 pub(crate) const WIDE_INDEXED: u8 = 0x28;

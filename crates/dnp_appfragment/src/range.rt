@@ -1,3 +1,4 @@
+//! Ranges of headers: their qualifiers, and what they count.
 ghost use Rattle.std.specs.Prelude.{◌≡◌, ◌≤◌, ◌<◌, ◌↔◌, IsTrue};
 ghost use Rattle.dnp_appfragment.specs.Headers as spec;
 
@@ -58,6 +59,7 @@ pub(crate) fn objects_size(form: Form, group: u8, variation: u8, range: Range) -
     }
 }
 
+/// Whether the number fits in its octets, one or, wide, two.
 fn number_fits(wide: bool, number: u16) -> bool
     ensures { IsTrue result ↔ (number < spec.limit wide) }
 {

@@ -1,3 +1,4 @@
+//! Headers from the front of octets, checked.
 ghost use Rattle.std.specs.Prelude.{◌≡◌, ◌≤◌, IfOk};
 ghost use Rattle.dnp_appfragment.specs.Reading as spec;
 ghost use Rattle.dnp_appfragment.specs.Places.{Ends, IsPart};
@@ -9,7 +10,7 @@ use crate::qualifier::{ALL, COUNT, INDEXED, SPAN, WIDE_COUNT, WIDE_INDEXED, WIDE
 use crate::range::objects_size;
 use crate::table::{Form, allows, takes_of};
 
-/// A number in one octet, or in two, and the octets behind it.
+/// A number in one octet, or in two, and the octets after it.
 pub(crate) fn number_at(wide: bool, octets: &[u8]) -> Result<(u16, &[u8]), AppFault>
     ensures gives { Gives number_and_rest result (spec.number_at wide octets.now) }
     ensures end { IfOk result (λ x. Ends octets.entry x.1) }
@@ -53,7 +54,7 @@ fn indexed_at(wide: bool, octets: &[u8]) -> Result<(Range, &[u8]), AppFault>
     Ok((Range::Indexed { wide, n }, rest))
 }
 
-/// The range of a qualifier, and the octets behind it.
+/// The range of a qualifier, and the octets after it.
 #[tactic(auto, unfolding(crate::specs::Reading::range_at))]
 fn range_at(qualifier: u8, octets: &[u8]) -> Result<(Range, &[u8]), AppFault>
     ensures gives { Gives range_and_rest result (spec.range_at qualifier octets.now) }
@@ -71,7 +72,7 @@ fn range_at(qualifier: u8, octets: &[u8]) -> Result<(Range, &[u8]), AppFault>
     }
 }
 
-/// The header at the front, with its objects, and the octets behind them.
+/// The header at the front, with its objects, and the octets after them.
 #[inline(always)]
 #[tactic(auto, unfolding(crate::specs::Reading::header_at))]
 pub(crate) fn header_at(form: Form, octets: &[u8]) -> Result<(Header<'_>, &[u8]), AppFault>

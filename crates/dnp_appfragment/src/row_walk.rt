@@ -1,4 +1,4 @@
-// The rows of a header, one after the other.
+//! The rows of a header, one after the other.
 ghost use Rattle.std.specs.Prelude.{◌≡◌, ◌≤◌, ◌<◌, length, IfSome};
 ghost use Rattle.std.specs.Option.{option_map};
 ghost use Rattle.dnp_appfragment.specs.Headers.{count_of as count};
@@ -35,7 +35,7 @@ fn carried_by(group: u8, variation: u8) -> Carried
     }
 }
 
-/// Object k, of so many octets, which stands at the front: its index, its octets, and those behind
+/// Object k, of so many octets, which stands at the front: its index, its octets, and those after
 /// it.
 #[inline]
 fn cut_at(range: Range, size: usize, k: usize, octets: &[u8]) -> Option<(u16, &[u8], &[u8])>

@@ -1,3 +1,4 @@
+//! The header that the next object may join.
 ghost use Rattle.std.specs.Prelude.{◌≡◌, []};
 ghost use Rattle.dnp_appfragment.specs.Joining.{joined_range};
 ghost use Rattle.dnp_appfragment.specs.Building as spec;
@@ -7,12 +8,15 @@ use crate::header::Range;
 /// The header that the next object may join: its object and its range so far.
 #[derive(Clone, Copy, Debug)]
 pub struct Run {
+    /// The objects' group.
     pub group: u8,
+    /// The objects' variation.
     pub variation: u8,
+    /// The range so far.
     pub range: Range,
 }
 
-/// The range of the objects of both, where the second go on behind the first.
+/// The range of the objects of both, where the second go on after the first.
 fn joined_range(first: Range, second: Range) -> Option<Range>
     ensures { result ≡ joined_range first second }
 {
@@ -53,7 +57,7 @@ impl Run {
     ghost use Rattle.dnp_appfragment.specs.Building.{run_head, joined_run, range_end};
 
     /// The number that grows with the run, the count or the last index, and where its two octets lie
-    /// behind the header's qualifier.
+    /// after the header's qualifier.
     pub(crate) fn end(&self) -> (usize, u16)
         ensures { result ≡ range_end self.now.range }
     {

@@ -1,14 +1,18 @@
+//! Which objects stand in the fragments of which functions, with which qualifiers.
 ghost use Rattle.std.specs.Prelude.{◌≡◌};
+ghost use Rattle.std.specs.Option.{option_map};
 ghost use Rattle.dnp_appfragment.specs.Table as spec;
 
 use crate::function::Function;
+use crate::qualifier::{ALL, COUNT, INDEXED, SPAN, WIDE_COUNT, WIDE_INDEXED, WIDE_SPAN};
+use dnp_objects::carries_row;
 
 /// The functions whose fragments have one part of the table.
 #[derive(Clone, Copy, Debug, PartialEq, Eq)]
 pub enum Form {
     /// No headers: CONFIRM, DELAY_MEASURE.
     Bare,
-    /// READ, whose headers have no objects behind them.
+    /// READ, whose headers have no objects after them.
     Read,
     /// WRITE.
     Write,
@@ -20,24 +24,20 @@ pub enum Form {
     Response,
 }
 
-/// The qualifiers that an object takes.
-#[derive(Clone, Copy)]
-pub enum Takes {
-    /// 06.
-    All,
-    /// 06, 07, 08.
-    AllOrCount,
-    /// 00, 01, 06.
-    AllOrSpan,
-    /// 00, 01.
-    Span,
-    /// 07, 08.
-    Count,
-    /// 17, 28.
-    Indexed,
-    /// 00, 01, 17, 28.
-    SpanOrIndexed,
-}
+/// All objects.
+const EVERY: &[u8] = &[ALL];
+/// All objects, or at most so many.
+const EVERY_OR_COUNT: &[u8] = &[ALL, COUNT, WIDE_COUNT];
+/// Those of a span, or all objects.
+const SPAN_OR_EVERY: &[u8] = &[SPAN, WIDE_SPAN, ALL];
+/// Those of a span.
+const SPANS: &[u8] = &[SPAN, WIDE_SPAN];
+/// So many.
+const COUNTS: &[u8] = &[COUNT, WIDE_COUNT];
+/// So many, each after its index.
+const INDEXES: &[u8] = &[INDEXED, WIDE_INDEXED];
+/// Those of a span, or so many, each after its index.
+const SPAN_OR_INDEXES: &[u8] = &[SPAN, WIDE_SPAN, INDEXED, WIDE_INDEXED];
 
 /// The part of the table that is this function's.
 pub(crate) fn form_of(function: Function) -> Form
@@ -56,50 +56,67 @@ pub(crate) fn form_of(function: Function) -> Form
     }
 }
 
-/// What the object takes in fragments of this form, if it stands in the table for them.
-#[tactic(auto, unfolding(crate::specs::Table::takes_of, crate::specs::Table::rules, dnp_objects::specs::Objects::objects))]
-pub(crate) fn takes_of(form: Form, group: u8, variation: u8) -> Option<Takes>
-    ensures { result ≡ spec.takes_of form group variation }
+/// The qualifiers that the object takes in fragments of this form, if it is listed for them.
+#[inline(always)]
+#[tactic(auto, unfolding(crate::specs::Table::listed_for))]
+fn line_of(form: Form, group: u8, variation: u8) -> Option<&'static [u8]>
+    ensures { option_map (λ takes. takes.now) result ≡ spec.listed_for form group variation }
 {
-    let takes = match (form, group, variation) {
-        (Form::Read, 60, 1) => Takes::All,
-        (Form::Read, 60, 2 | 3 | 4) => Takes::AllOrCount,
-        (Form::Read, 2, 0 | 2) => Takes::AllOrCount,
-        (Form::Read, 22, 0 | 5) => Takes::AllOrCount,
-        (Form::Read, 32, 0 | 3) => Takes::AllOrCount,
-        (Form::Read, 1 | 10, 0 | 2) => Takes::AllOrSpan,
-        (Form::Read, 20 | 30, 0 | 1) => Takes::AllOrSpan,
-        (Form::Write, 80, 1) => Takes::Span,
-        (Form::Write, 50, 1) => Takes::Count,
-        (Form::Command, 12, 1) => Takes::Indexed,
-        (Form::Command, 41, 1 | 2) => Takes::Indexed,
-        (Form::Enable, 60, 2 | 3 | 4) => Takes::All,
-        (Form::Response, 12, 1) => Takes::Indexed,
-        (Form::Response, 41, 1 | 2) => Takes::Indexed,
-        (Form::Response, 1 | 10, 2) => Takes::SpanOrIndexed,
-        (Form::Response, 2, 1 | 2) => Takes::SpanOrIndexed,
-        (Form::Response, 20 | 22, 1 | 2 | 5 | 6) => Takes::SpanOrIndexed,
-        (Form::Response, 30 | 32, 1 | 2 | 3 | 4) => Takes::SpanOrIndexed,
-        (Form::Response, 40, 1 | 2) => Takes::SpanOrIndexed,
-        (Form::Response, 50, 1) => Takes::Count,
-        (Form::Response, 52, 2) => Takes::Count,
-        (Form::Response, 1 | 80, 1) => Takes::Span,
-        _ => return None,
+    let takes = match form {
+        Form::Read => match (group, variation) {
+            (60, 1) => EVERY,
+            (60, 2 | 3 | 4) => EVERY_OR_COUNT,
+            (2, 0 | 2) => EVERY_OR_COUNT,
+            (22, 0 | 5) => EVERY_OR_COUNT,
+            (32, 0 | 3) => EVERY_OR_COUNT,
+            (1 | 10, 0 | 2) => SPAN_OR_EVERY,
+            (20 | 30, 0 | 1) => SPAN_OR_EVERY,
+            _ => return None,
+        },
+        Form::Write => match (group, variation) {
+            (80, 1) => SPANS,
+            (50, 1) => COUNTS,
+            _ => return None,
+        },
+        Form::Command => match (group, variation) {
+            (12, 1) | (41, 1 | 2) => INDEXES,
+            _ => return None,
+        },
+        Form::Enable => match (group, variation) {
+            (60, 2 | 3 | 4) => EVERY,
+            _ => return None,
+        },
+        Form::Response => match (group, variation) {
+            (12, 1) | (41, 1 | 2) => INDEXES,
+            (40, 1 | 2) => SPAN_OR_INDEXES,
+            (50, 1) | (52, 2) => COUNTS,
+            (1 | 80, 1) => SPANS,
+            _ => return None,
+        },
+        Form::Bare => return None,
     };
     Some(takes)
 }
 
-/// Whether this qualifier is one of them.
-pub(crate) fn allows(takes: Takes, qualifier: u8) -> bool
-    ensures { result ≡ spec.allows takes qualifier }
+/// The qualifiers that the object takes in fragments of this form, if it stands in the table for them:
+/// it is listed, or in a response it is one that is written for rows.
+#[inline(always)]
+pub(crate) fn takes_of(form: Form, group: u8, variation: u8) -> Option<&'static [u8]>
+    ensures { option_map (λ takes. takes.now) result ≡ spec.takes_of form group variation }
 {
-    match takes {
-        Takes::All => qualifier == 0x06,
-        Takes::AllOrCount => matches!(qualifier, 0x06 | 0x07 | 0x08),
-        Takes::AllOrSpan => matches!(qualifier, 0x00 | 0x01 | 0x06),
-        Takes::Span => matches!(qualifier, 0x00 | 0x01),
-        Takes::Count => matches!(qualifier, 0x07 | 0x08),
-        Takes::Indexed => matches!(qualifier, 0x17 | 0x28),
-        Takes::SpanOrIndexed => matches!(qualifier, 0x00 | 0x01 | 0x17 | 0x28),
+    if let Some(takes) = line_of(form, group, variation) {
+        return Some(takes);
     }
+    match form {
+        Form::Response if carries_row(group, variation) => Some(SPAN_OR_INDEXES),
+        _ => None,
+    }
+}
+
+/// Whether this qualifier is one of them.
+#[inline(always)]
+pub(crate) fn allows(takes: &[u8], qualifier: u8) -> bool
+    ensures { result ≡ spec.allows takes.now qualifier }
+{
+    takes.iter().any(|allowed| *allowed == qualifier)
 }

@@ -17,7 +17,7 @@ use dnp_objects::{
     object_size,
 };
 
-/// The range of one object behind its index: qualifier 28.
+/// The range of one object after its index: qualifier 28.
 const BEHIND_INDEX: Range = Range::Indexed { wide: true, n: 1 };
 
 /// The variation of the present values of a group.
@@ -30,7 +30,7 @@ pub(crate) fn point_variation(group: u8) -> u8
 /// Whether the row can be put as a present value of this group: of binary inputs 1, of binary
 /// outputs 10 (a binary), of counters 20, of analog inputs 30. It is of the group's kind, a binary's
 /// value is 0 or 1 and its flags lack bit 7, a counter's value has 32 bits, an analog's 32 with its
-/// sign. The time is not looked at.
+/// sign. The time is ignored.
 pub fn fits_point(group: u8, row: &Row) -> bool
     ensures { IsTrue result ↔ spec.FitsPoint group row.now }
 {
@@ -46,7 +46,7 @@ fn point_size(group: u8, row: &Row) -> usize
     object_size(group, point_variation(group)).unwrap()
 }
 
-/// An object that is put into a fragment, as a header of its own or behind others.
+/// An object that is put into a fragment, as a header of its own or after others.
 pub(crate) trait Object {
     /// What is required of it.
     ghost can_put: { Self → Type 0 };
@@ -72,7 +72,7 @@ pub(crate) trait Object {
         ensures { octets.new.items ≡ octets.old.items ++ (head self.now).octets };
 }
 
-/// A row as an event, behind its index: qualifier 28.
+/// A row as an event, after its index: qualifier 28.
 #[derive(Clone, Copy)]
 pub(crate) struct Event<'a> {
     pub row: &'a Row,
@@ -152,7 +152,7 @@ impl<'a> Object for Point<'a> {
     }
 }
 
-/// An object of these octets behind its index: qualifier 28.
+/// An object of these octets after its index: qualifier 28.
 #[derive(Clone, Copy)]
 pub(crate) struct Indexed<'a> {
     pub group: u8,

@@ -1,6 +1,6 @@
--- A command and its status as the octets of an object (IEEE Std 1815-2012, object library: control
--- relay output block, analog output blocks), low octets first. Reading and writing are this one
--- relation, gone through either way.
+-- Definition: a command and its status as the octets of an object (IEEE Std 1815-2012, object library: control
+-- relay output block, analog output blocks), low octets first. Reading and writing are this one relation, gone
+-- through either way.
 use Rattle.std.specs.Prelude.{◌≡◌, ◌≢◌, ℕ, ◌%◌, ◌^◌, ◌<◌, FitsSigned, List, [], ◌∷◌, ◌++◌, length, Option, Some, None}
 use Rattle.std.specs.Option.{option_and_then, IsSomeAnd}
 use Rattle.std.specs.Int.{w16, w32, cast_unsigned}

@@ -1,11 +1,11 @@
--- How often a thing stands in a list, and which lists cover which.
+-- Definition: how often a thing stands in a list, and which lists cover which.
 --
--- Covered is stated by tests: whatever test one counts by, no more members of the covered list
--- pass than of the covering one. So the word needs no test of equality and serves lists of
--- anything: rows, commands, pairs of a substation and a row. Take "is the same as x" as the
--- test, and it says that x stands in the covered list at most as often as in the covering one.
--- The law `covered_is_by_counts` (src/laws.rt) says that this, for each x, is all that it says,
--- wherever a test decides equality; Equality.antt has those tests for rows and commands.
+-- Covered is stated by tests: whatever test one counts by, no more members of the covered list pass than of the
+-- covering one. So the word needs no test of equality and serves lists of anything: rows, commands, pairs of a
+-- substation and a row. Take "is the same as x" as the test, and it says that x stands in the covered list at
+-- most as often as in the covering one. The law `covered_is_by_counts` (src/laws.rt) says that this, for each
+-- x, is all that it says, wherever a test decides equality; Equality.antt has those tests for rows and
+-- commands.
 use Rattle.std.specs.Prelude.{ℕ, ◌≡◌, ◌≢◌, ◌≤◌, ◌↔◌, Bool, IsTrue, List, count_by, AllPairs}
 
 -- how often x stands in a list, where `equal` tells which members are x

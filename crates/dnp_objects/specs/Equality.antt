@@ -1,4 +1,4 @@
--- The equality of rows, of commands and of pairs, as tests: two are the same if all their fields
+-- Definition: the equality of rows, of commands and of pairs, as tests: two are the same if all their fields
 -- are. The law `equality_is_decided` (src/laws.rt) says that each test answers exactly that.
 use Rattle.std.specs.Prelude.{Bool, true, false, ◌&&◌, ◌==◌, nat_eq}
 use Rattle.std.specs.Ordering.{int_eq}

@@ -1,5 +1,5 @@
--- Rows as events: the object that carries one, and the rows that it carries (IEEE Std 1815-2012, object
--- library: groups 2, 22 and 32).
+-- Definition: rows as events: the object that carries one, and the rows that it carries (IEEE Std 1815-2012,
+-- object library: groups 2, 22 and 32).
 use Rattle.std.specs.Prelude.{ℕ, Option, Some, None}
 use Rattle.dnp_objects.specs.declared.row.Kind.{Kind}
 use Rattle.dnp_objects.specs.declared.row.Kind.TheVariants.{Binary, Counter, Analog}

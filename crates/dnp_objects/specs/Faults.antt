@@ -1,4 +1,4 @@
--- Of several causes to refuse, the first one counts.
+-- Definition: of several causes to refuse, the first one counts.
 use Rattle.std.specs.Prelude.{ℕ, ◌<◌}
 use Rattle.dnp_objects.specs.declared.fault.ObjectFault.{ObjectFault}
 use Rattle.dnp_objects.specs.declared.fault.ObjectFault.TheVariants.{ObjectUnknown, Cut, ValueRange}

@@ -1,4 +1,4 @@
--- The nine lanes of events: three classes, and in each the three kinds of points (IEEE Std
+-- Definition: the nine lanes of events: three classes, and in each the three kinds of points (IEEE Std
 -- 1815-2012, application layer: event classes).
 use Rattle.std.specs.Prelude.{◌≡◌, ℕ, ◌+◌, ◌*◌, ◌-◌}
 use Rattle.dnp_objects.specs.declared.row.Kind.{Kind}

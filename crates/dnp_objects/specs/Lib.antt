@@ -1,3 +1,4 @@
+-- Definitions, by which contracts promise.
 pub mod Commands
 pub mod Counts
 pub mod Equality

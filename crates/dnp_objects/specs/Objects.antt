@@ -1,7 +1,7 @@
--- The objects: what one of each group and variation carries (IEEE Std 1815-2012, object library).
+-- Definition: the objects: what one of each group and variation carries (IEEE Std 1815-2012, object library).
 --
--- The list `objects` is the definition. Sizes, reading and writing are all stated by it, so that a
--- further object is one line of it. Packed bits (1.1, 80.1) have no size of their own and no line.
+-- The list `objects` is the definition. Sizes, reading and writing are all stated by it, so that a further
+-- object is one line of it. Packed bits (1.1, 80.1) have no size of their own and no line.
 use Rattle.std.specs.Prelude.{◌≡◌, ℕ, ◌+◌, ◌≤◌, Bool, true, false, ◌&&◌, ◌==◌, if◌then◌else◌, ◌⊎◌, ⊤, List, [], ◌∷◌, Option, Some, None, find}
 use Rattle.std.specs.Option.{option_map, option_and_then}
 use Rattle.dnp_objects.specs.declared.row.Kind.{Kind}

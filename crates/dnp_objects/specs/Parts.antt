@@ -1,5 +1,5 @@
--- The row and the command that octets give, part by part, as functions of as many octets as the object
--- has. What they have to be is said in Rows.antt and Commands.antt.
+-- Definition: the row and the command that octets give, part by part, as functions of as many octets as the
+-- object has. What they have to be is said in Rows.antt and Commands.antt.
 use Rattle.std.specs.Prelude.{ℕ, ◌+◌, ◌/◌, ◌%◌, ℤ, pos, if◌then◌else◌, ◌==◌, List, drop, Option, Some, None, slice_index}
 use Rattle.std.specs.Int.{w16, w32, cast_signed}
 use Rattle.byteorder.specs.Endian.{little_number, twos_complement}

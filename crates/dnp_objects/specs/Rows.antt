@@ -1,6 +1,6 @@
--- A row as the octets of an object, for the objects that carry rows (IEEE Std 1815-2012, object
--- library): its flags, its value, its time, low octets first. Reading and writing are this one
--- relation, gone through either way.
+-- Definition: a row as the octets of an object, for the objects that carry rows (IEEE Std 1815-2012, object
+-- library): its flags, its value, its time, low octets first. Reading and writing are this one relation, gone
+-- through either way.
 use Rattle.std.specs.Prelude.{◌≡◌, ◌≢◌, ℕ, ◌+◌, ◌-◌, ◌*◌, ◌^◌, ℤ, pos, negsuc, Bool, true, false, IsTrue, nat_lt, ◌==◌, ◌&&◌, if◌then◌else◌, List, [], ◌∷◌, ◌++◌, length, Option, Some, None}
 use Rattle.std.specs.Option.{option_map_or, IsSomeAnd}
 use Rattle.std.specs.Int.{w64, cast_unsigned}

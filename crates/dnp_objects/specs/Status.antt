@@ -1,5 +1,5 @@
--- The status octet of a command, as a number below 128 (IEEE Std 1815-2012, object library:
--- control status codes). A clause sees a `Status` as this number.
+-- Definition: the status octet of a command, as a number below 128 (IEEE Std 1815-2012, object library: control
+-- status codes). A clause sees a `Status` as this number.
 use Rattle.std.specs.Prelude.{ℕ}
 
 abbrev pub success : ℕ

@@ -1,5 +1,5 @@
--- What a call of a store leaves, whatever the call is for: of a store of events, or of one of commands,
--- whose device may fail.
+-- Definition: what a call of a store leaves, whatever the call is for: of a store of events, or of one of
+-- commands, whose device may fail.
 use Rattle.std.specs.Prelude.{◌≡◌, ◌≢◌, Bool, false, IsTrue, Result, Err, IfErr}
 
 -- A call that may fail, by the store before and after it and its answer. `is_sound` holds of a store at all

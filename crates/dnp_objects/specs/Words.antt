@@ -1,5 +1,5 @@
--- The words in which rows and commands are printed: decimal numbers and words of small letters, with
--- one space between two of them.
+-- Definition: the words in which rows and commands are printed: decimal numbers and words of small letters,
+-- with one space between two of them.
 use Rattle.std.specs.Prelude.{ℕ, ◌/◌, ◌%◌, true, List, [], ◌∷◌, ◌++◌, Option, Some, None, codes}
 use Rattle.std.specs.Fmt.{decimal, signed_decimal, digits}
 use Rattle.dnp_objects.specs.declared.row.Kind.{Kind}

@@ -1,3 +1,5 @@
+//! Commands to outputs.
+
 /// A command to an output of a station (IEEE Std 1815-2012, object library: groups 12 and 41).
 ///
 /// Two commands are equal if they are of one form and all their fields are equal.

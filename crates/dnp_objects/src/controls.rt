@@ -1,3 +1,4 @@
+//! Commands from the octets of objects, and back.
 ghost use Rattle.std.specs.Prelude.{◌≡◌, ◌+◌, ◌⊎◌, ◌∷◌, [], ◌++◌, IfOk, IfErr, length, ℕ};
 ghost use Rattle.std.specs.Int.{w16, w32, cast_unsigned};
 ghost use Rattle.byteorder.specs.Endian.{little_bytes};
@@ -88,7 +89,7 @@ fn read(
 }
 
 /// The command with this index, and its status, that the octets of one object of this group and
-/// variation are (IEEE Std 1815-2012, object library). Bit 7 of the status octet is not looked at.
+/// variation are (IEEE Std 1815-2012, object library). Bit 7 of the status octet is ignored.
 ///
 /// Refused is, first of all, an object that carries no command (`ObjectUnknown`), and then another
 /// number of octets than the object's (`Cut`).
@@ -108,6 +109,7 @@ pub fn read_command(
     read(group, variation, index, octets)
 }
 
+/// The octets of a block and its status.
 fn block_octets(code: u8, count: u8, on_ms: u32, off_ms: u32, status: Status) -> ArrayVec<u8, 11>
     ensures { result.items
         ≡ code ∷ count ∷ (little_bytes 4 on_ms ++ little_bytes 4 off_ms) ++ status ∷ [] }
@@ -121,6 +123,7 @@ fn block_octets(code: u8, count: u8, on_ms: u32, off_ms: u32, status: Status) ->
     octets
 }
 
+/// The octets of a value of 16 bits and its status.
 fn set16_octets(value: i16, status: Status) -> ArrayVec<u8, 11>
     ensures { result.items ≡ little_bytes 2 (cast_unsigned w16 value) ++ status ∷ [] }
 {
@@ -130,6 +133,7 @@ fn set16_octets(value: i16, status: Status) -> ArrayVec<u8, 11>
     octets
 }
 
+/// The octets of a value of 32 bits and its status.
 fn set32_octets(value: i32, status: Status) -> ArrayVec<u8, 11>
     ensures { result.items ≡ little_bytes 4 (cast_unsigned w32 value) ++ status ∷ [] }
 {

@@ -1,3 +1,5 @@
+//! Why objects and rows are refused.
+
 use thiserror::Error;
 
 /// Why an object's octets or a row are refused, in the order in which the causes are looked for.

@@ -11,6 +11,7 @@ use crate::row::{Kind, Row};
 pub struct Lane {
     /// 1 to 3. Class 0 is that of the points themselves and has no events.
     pub class: u8,
+    /// The kind of point.
     pub kind: Kind,
     ghost at_least_1: { 1 ≤ class },
     ghost at_most_3: { class ≤ limits.CLASSES },
@@ -57,6 +58,8 @@ impl Lane {
 /// A row and the lane that it goes to.
 #[derive(Clone, Copy, Debug, PartialEq, Eq, Hash)]
 pub struct LaneRow {
+    /// The lane.
     pub lane: Lane,
+    /// The row.
     pub row: Row,
 }

@@ -58,7 +58,7 @@ pub fn covered_is_kept_by_map<T, U>()
     ensures { (f : T → U) (xs ys : List T) → IsCoveredBy xs ys → IsCoveredBy (map f xs) (map f ys) }
 {}
 
-/// A list is covered by itself with more in front of it or behind it, and by itself in another
+/// A list is covered by itself with more in front of it or after it, and by itself in another
 /// order; what a test keeps of a list is covered by the list.
 pub fn parts_are_covered<T>()
     ensures front { (xs ys : List T) → IsCoveredBy xs (xs ++ ys) }

@@ -28,5 +28,5 @@ pub use reading::read_row;
 pub use row::{Kind, Row};
 pub use status::Status;
 pub use store::StoreFault;
-pub use table::{Shape, object_size, row_shape};
+pub use table::{Shape, carries_row, object_size, row_shape};
 pub use writing::{append_object, fits_object, object_octets, write_row};

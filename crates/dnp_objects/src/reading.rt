@@ -1,3 +1,4 @@
+//! Rows from the octets of objects.
 ghost use Rattle.std.specs.Prelude.{◌≡◌, ◌≤◌, IfOk, IfErr, length};
 ghost use Rattle.byteorder.specs.Endian.{little_number};
 ghost use Rattle.dnp_objects.specs.declared.row.Row.{Row as RowValue};
@@ -39,7 +40,7 @@ fn value_of(shape: Shape, first: u8, number: &[u8]) -> i64
     }
 }
 
-/// The time behind the value, if the object has one.
+/// The time after the value, if the object has one.
 #[inline]
 fn time_of(shape: Shape, octets: &[u8]) -> Option<u64>
     requires shape { IsShape shape }

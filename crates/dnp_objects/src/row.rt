@@ -53,11 +53,12 @@ impl Kind {
 /// the ranges below: a call that needs one says so.
 #[derive(Clone, Copy, Debug, PartialEq, Eq, Hash)]
 pub struct Row {
+    /// The kind of point.
     pub kind: Kind,
     /// The point's number within its kind, from 0.
     pub index: u16,
-    /// The flags octet. A binary's lacks bit 7: that bit is the binary's value, and stands on
-    /// the wire alone.
+    /// The flags octet. A binary's lacks bit 7: that bit is the binary's value, and is on the
+    /// wire alone.
     pub flags: u8,
     /// A binary's value is 0 or 1, a counter's 0 to 2^32 - 1, an analog's -2^31 to 2^31 - 1.
     pub value: i64,

@@ -1,3 +1,4 @@
+//! The status octets of commands.
 ghost use Rattle.std.specs.Prelude.{◌≡◌, ◌%◌, ◌<◌, ◌↔◌, ℕ, [], ◌∷◌, IsSome, IfSome};
 ghost use Rattle.dnp_objects.specs.Status as code_of;
 
@@ -77,7 +78,7 @@ impl Status {
         ]
     }
 
-    /// The status in a status octet, whose bit 7 is not looked at.
+    /// The status in a status octet, whose bit 7 is ignored.
     pub(crate) fn of_octet(octet: u8) -> Status
         ensures { result ≡ octet % 128 }
     {

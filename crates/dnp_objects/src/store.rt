@@ -1,3 +1,5 @@
+//! Why stores of events and of commands refuse a call.
+
 use thiserror::Error;
 
 /// Why a store of events or of commands refuses a call.

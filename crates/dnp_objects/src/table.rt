@@ -1,4 +1,5 @@
-ghost use Rattle.std.specs.Prelude.{◌≡◌, ◌≤◌, IfSome, Some};
+//! The objects of the library: what each carries, and how many octets it has.
+ghost use Rattle.std.specs.Prelude.{◌≡◌, ◌≤◌, IfSome, Some, is_some};
 ghost use Rattle.dnp_objects.specs.Objects as spec;
 
 use crate::row::Kind;
@@ -7,6 +8,7 @@ use crate::row::Kind;
 /// in this order.
 #[derive(Clone, Copy, Debug, PartialEq, Eq)]
 pub struct Shape {
+    /// The kind of point.
     pub kind: Kind,
     /// Whether it has a flags octet.
     pub flags: bool,
@@ -31,13 +33,13 @@ pub enum Content {
     Other(u8),
 }
 
-/// The words of a shape: whether a row has a flags octet and whether it has a time.
+/// A row has a flags octet.
 const FLAGGED: bool = true;
-
+/// A row has no flags octet.
 const BARE: bool = false;
-
+/// A row has a time.
 const TIMED: bool = true;
-
+/// A row has no time.
 const UNTIMED: bool = false;
 
 /// A shape: the kind of point, the flags, the octets of the value, and the time.
@@ -138,6 +140,15 @@ pub(crate) fn written_shape(group: u8, variation: u8) -> Option<Shape>
         Content::Row(shape) | Content::WrittenRow(shape) => Some(shape),
         Content::Block | Content::Setpoint(_) | Content::Other(_) => None,
     }
+}
+
+/// Whether a row can be written as an object of this group and variation (IEEE Std 1815-2012, object
+/// library).
+#[inline(always)]
+pub fn carries_row(group: u8, variation: u8) -> bool
+    ensures { result ≡ is_some (spec.shape_written group variation) }
+{
+    written_shape(group, variation).is_some()
 }
 
 /// The octets of one object of this group and variation (IEEE Std 1815-2012, object library), 0 to

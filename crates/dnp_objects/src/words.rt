@@ -1,4 +1,4 @@
-// How kinds, rows and commands print.
+//! How kinds, rows and commands print.
 
 ghost use Rattle.std.specs.Prelude.{Some};
 ghost use Rattle.dnp_objects.specs.Words.{kind_word, octet_word, time_word, row_words, command_words};

@@ -1,3 +1,4 @@
+//! The octets of objects from rows.
 ghost use Rattle.std.specs.Prelude.{◌≡◌, ◌↔◌, ◌+◌, ◌≤◌, ◌++◌, IfOk, IfErr, IsTrue, List, length, ℕ};
 ghost use Rattle.std.specs.Option.{IsSomeAnd};
 ghost use Rattle.std.specs.Result.{IsOkAnd};

@@ -18,7 +18,7 @@ pub fn a_header_holds_what_was_put()
         → Holds (order command status) (command_item command status ∷ []) }
 {}
 
-/// Behind the objects that were put stands, after a further call, what that call put, whether it
+/// What a call puts comes after the objects that were put before, whether it
 /// joined a header or not; and ending a run changes no object.
 pub fn what_is_put_is_held()
     ensures object { (built : Built) (object : Head) (item : Item) (items : List Item) → Holds object (item ∷ [])
