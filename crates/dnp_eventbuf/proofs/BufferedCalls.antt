@@ -11,7 +11,7 @@ use Rattle.dnp_objects.specs.declared.row.Row.{Row}
 use Rattle.dnp_objects.specs.declared.lane.LaneRow.{LaneRow}
 use Rattle.dnp_objects.specs.Lanes.{lane_number}
 use Rattle.dnp_eventbuf.specs.declared.numbered.Numbered.{Numbered}
-use Rattle.dnp_eventbuf.specs.Stock.{LaneState, Stock, lane_at, no_lane, is_full, put_in, with_row, up_to, lanes_above, lanes_up_to, all_up_to, without, dropped_by, dropped_from, emptied}
+use Rattle.dnp_eventbuf.specs.Stock.{LaneState, Stock, lane_at, no_lane, is_full, put_in, with_row, up_to, lanes_above, lanes_up_to, all_up_to, without, dropped_by, dropped_from, emptied, added_in, moved_on}
 use Rattle.dnp_eventbuf.specs.Buffered.{Buffered, buffered_as, buffered_dropped, buffered_from, buffered_in, buffered_next, buffered_row, id_limit, is_upto}
 
 -- ---- a release
@@ -127,8 +127,8 @@ lane_changes first (lane ∷ lanes) (suc n) number new before after low e h =
 put_seen : (number : ℕ) (lane : LaneState) (x : Numbered) (b : Bool)
     → IsPermutation (map (buffered_as number) lane.rows ++ buffered_as number x ∷ [])
     (map (buffered_as number) (let new : LaneState = cond b
-    (record { capacity = lane.capacity; rows = drop 1 lane.rows ++ x ∷ []; lost = lane.lost + 1 })
-    (record { capacity = lane.capacity; rows = lane.rows ++ x ∷ []; lost = lane.lost }) in new.rows)
+    (moved_on lane x)
+    (added_in lane x) in new.rows)
     ++ cond b (map (buffered_as number) (take 1 lane.rows)) [])
 put_seen number lane x true =
     let first = map (buffered_as number) (take 1 lane.rows) in

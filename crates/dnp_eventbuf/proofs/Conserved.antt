@@ -12,7 +12,7 @@ use Rattle.dnp_objects.specs.Lanes.{lane_number}
 use Rattle.dnp_objects.specs.declared.row.Row.{Row}
 use Rattle.dnp_objects.specs.declared.lane.LaneRow.{LaneRow}
 use Rattle.dnp_eventbuf.specs.declared.numbered.Numbered.{Numbered}
-use Rattle.dnp_eventbuf.specs.Stock.{LaneState, Stock, lane_at, no_lane, row_of, is_full, put_in, dropped_from, with_row, with_rows, dropped_by, arriving, lane_rows, rows_in, lost_in, above, up_to, lanes_above, lanes_up_to, all_up_to, emptied, without, without_all}
+use Rattle.dnp_eventbuf.specs.Stock.{LaneState, Stock, lane_at, no_lane, row_of, is_full, put_in, dropped_from, with_row, with_rows, dropped_by, arriving, lane_rows, rows_in, lost_in, above, up_to, lanes_above, lanes_up_to, all_up_to, emptied, without, without_all, added_in, moved_on}
 use Rattle.dnp_eventbuf.proofs.Drops.{IsRoomy, IsRoomy-with_row}
 use Rattle.dnp_eventbuf.proofs.LaneNumbers.{lane_number-low}
 
@@ -50,7 +50,7 @@ lane_changes (lane ∷ lanes) (suc n) new before after low h =
 
 put_conserves : (lane : LaneState) (x : Numbered) (b : Bool)
     → IsPermutation (map row_of lane.rows ++ x.row ∷ [])
-    (map row_of (let new : LaneState = cond b (record { capacity = lane.capacity; rows = drop 1 lane.rows ++ x ∷ []; lost = lane.lost + 1 }) (record { capacity = lane.capacity; rows = lane.rows ++ x ∷ []; lost = lane.lost }) in new.rows)
+    (map row_of (let new : LaneState = cond b (moved_on lane x) (added_in lane x) in new.rows)
     ++ cond b (map row_of (take 1 lane.rows)) [])
 put_conserves lane x true =
     let first = map row_of (take 1 lane.rows) in
@@ -189,7 +189,7 @@ sum_by-set (lane ∷ lanes) (suc n) new more low is =
     omega (arith, sum_by-cons lost_of lane lanes, sum_by-cons lost_of lane (set lanes n new))
 
 put_counts : (lane : LaneState) (x : Numbered) (b : Bool) → is_full lane ≡ b → 1 ≤ lane.capacity
-    → (let new : LaneState = cond b (record { capacity = lane.capacity; rows = drop 1 lane.rows ++ x ∷ []; lost = lane.lost + 1 }) (record { capacity = lane.capacity; rows = lane.rows ++ x ∷ []; lost = lane.lost }) in new.lost)
+    → (let new : LaneState = cond b (moved_on lane x) (added_in lane x) in new.lost)
     ≡ lane.lost + length (cond b (map row_of (take 1 lane.rows)) [])
 put_counts lane x true full least =
     let h = leb-true lane.capacity (length lane.rows) full in

@@ -12,7 +12,7 @@ use Rattle.dnp_objects.specs.declared.lane.LaneRow.{LaneRow}
 use Rattle.dnp_eventbuf.specs.declared.numbered.Numbered.{Numbered}
 use Rattle.dnp_eventbuf.specs.declared.tally.Tally.{Tally}
 use Rattle.dnp_eventbuf.specs.Sound.{IsSound}
-use Rattle.dnp_eventbuf.specs.Stock.{LaneState, Stock, lane_at, no_lane, row_of, is_full, put_in, dropped_from, with_row, with_rows, dropped_by, exhausts}
+use Rattle.dnp_eventbuf.specs.Stock.{LaneState, Stock, lane_at, no_lane, row_of, is_full, put_in, dropped_from, with_row, with_rows, dropped_by, exhausts, added_in, moved_on}
 use Rattle.dnp_eventbuf.specs.Tallies.{tally_of, tally_at, after_row, with_tally, drops_from}
 use Rattle.dnp_eventbuf.proofs.LaneNumbers.{lane_number-low}
 use Rattle.dnp_eventbuf.proofs.Limits.{LostWithin, LostWithin-with_rows, LostWithin-from_sound, is_past-false, LostWithin-from_test, last_id-from_test, last_id-with_rows}
@@ -20,20 +20,20 @@ use Rattle.dnp_eventbuf.proofs.Limits.{LostWithin, LostWithin-with_rows, LostWit
 -- ---- a tally after a row is that of the lane with the row
 
 tally_by : (b : Bool) (lane : LaneState) (x : Numbered) → is_full lane ≡ b
-    → tally_of (cond b (record { capacity = lane.capacity; rows = drop 1 lane.rows ++ x ∷ []; lost = lane.lost + 1 }) (record { capacity = lane.capacity; rows = lane.rows ++ x ∷ []; lost = lane.lost }))
+    → tally_of (cond b (moved_on lane x) (added_in lane x))
     ≡ after_row (tally_of lane)
 tally_by true lane x full =
     let h = leb-true lane.capacity (length lane.rows) full in
     let none : lane.capacity - length lane.rows ≡ 0 = omega arith in
     let free : lane.capacity - length (drop 1 lane.rows ++ x ∷ []) ≡ 0 = omega (arith, length-append (drop 1 lane.rows) (x ∷ []), length-drop 1 lane.rows) in
-    let left : tally_of (record { capacity = lane.capacity; rows = drop 1 lane.rows ++ x ∷ []; lost = lane.lost + 1 }) ≡ record { free = 0; lost = lane.lost + 1 } = ap (λ n. record { free = n; lost = lane.lost + 1 }) free in
+    let left : tally_of (moved_on lane x) ≡ record { free = 0; lost = lane.lost + 1 } = ap (λ n. record { free = n; lost = lane.lost + 1 }) free in
     let right : after_row (tally_of lane) ≡ record { free = 0; lost = lane.lost + 1 } = ap (λ n. after_row (record { free = n; lost = lane.lost })) none in
     left ∙ sym right
 tally_by false lane x room =
     let h = leb-false lane.capacity (length lane.rows) room in
     let some : nat_lt 0 (lane.capacity - length lane.rows) ≡ true = lt-ltb 0 (lane.capacity - length lane.rows) (omega arith) in
     let free : lane.capacity - length (lane.rows ++ x ∷ []) ≡ lane.capacity - length lane.rows - 1 = omega (arith, length-append lane.rows (x ∷ [])) in
-    let left : tally_of (record { capacity = lane.capacity; rows = lane.rows ++ x ∷ []; lost = lane.lost }) ≡ record { free = lane.capacity - length lane.rows - 1; lost = lane.lost } = ap (λ n. record { free = n; lost = lane.lost }) free in
+    let left : tally_of (added_in lane x) ≡ record { free = lane.capacity - length lane.rows - 1; lost = lane.lost } = ap (λ n. record { free = n; lost = lane.lost }) free in
     let fewer : Tally = record { free = lane.capacity - length lane.rows - 1; lost = lane.lost } in
     let right : after_row (tally_of lane) ≡ fewer = ap (λ b. cond b fewer (record { free = 0; lost = lane.lost + 1 })) some in
     left ∙ sym right
@@ -104,7 +104,7 @@ walk free countable dropped tallies xs = cond free (drops_from dropped tallies x
 
 abbrev put_as : LaneState → Numbered → Bool → LaneState
 put_as lane x b =
-    cond b (record { capacity = lane.capacity; rows = drop 1 lane.rows ++ x ∷ []; lost = lane.lost + 1 }) (record { capacity = lane.capacity; rows = lane.rows ++ x ∷ []; lost = lane.lost })
+    cond b (moved_on lane x) (added_in lane x)
 
 is_full-false : (lane : LaneState) → nat_lt 0 (lane.capacity - length lane.rows) ≡ true → is_full lane ≡ false
 is_full-false lane free = let h = ltb-true 0 (lane.capacity - length lane.rows) free in lt-leb lane.capacity (length lane.rows) (omega arith)

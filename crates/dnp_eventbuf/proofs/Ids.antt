@@ -1,5 +1,5 @@
 -- Which rows stand in a lane after a step.
-use Rattle.std.proofs.Common.{◌≡◌, ◌⊎◌, ℕ, ◌+◌, ◌<◌, ◌≤◌, Bool, true, false, cond, List, [], ◌∷◌, ◌++◌, drop, length, get_or, set, sym, subst, arith, inl, inr, zero, suc, nat_lt}
+use Rattle.std.proofs.Common.{◌≡◌, ◌⊎◌, ℕ, ◌+◌, ◌<◌, ◌≤◌, Bool, true, false, cond, List, [], ◌∷◌, drop, length, get_or, set, sym, subst, arith, inl, inr, zero, suc, nat_lt}
 use Rattle.std.specs.List.{All, Contains}
 use Rattle.std.proofs.lemmas.Bool.{cases_eq, cases_lt}
 use Rattle.std.proofs.lemmas.List.{get_or-set_same, get_or-set_other, set_past}
@@ -7,7 +7,7 @@ use Rattle.std.proofs.lemmas.List.Elements.{All-contains_itself, All-drop, All-p
 use Rattle.dnp_objects.specs.Lanes.{lane_number}
 use Rattle.dnp_objects.specs.declared.lane.LaneRow.{LaneRow}
 use Rattle.dnp_eventbuf.specs.declared.numbered.Numbered.{Numbered}
-use Rattle.dnp_eventbuf.specs.Stock.{LaneState, Stock, lane_at, no_lane, is_full, put_in, with_row, with_rows, lanes_above, without}
+use Rattle.dnp_eventbuf.specs.Stock.{LaneState, Stock, lane_at, no_lane, is_full, put_in, with_row, with_rows, lanes_above, without, added_in, moved_on}
 
 abbrev IsOldOrAfter : List Numbered → ℕ → Numbered → Type 0
 IsOldOrAfter old last x = Contains old x ⊎ (last < x.id)
@@ -17,8 +17,8 @@ all_old last rows = All-weaker (Contains rows) (IsOldOrAfter rows last) (λ x h.
 
 put_by : (lane : LaneState) (x : Numbered) (last : ℕ) → last < x.id → (b : Bool)
     → All (IsOldOrAfter lane.rows last)
-    (let new : LaneState = cond b (record { capacity = lane.capacity; rows = drop 1 lane.rows ++ x ∷ []; lost = lane.lost + 1 })
-    (record { capacity = lane.capacity; rows = lane.rows ++ x ∷ []; lost = lane.lost }) in new.rows)
+    (let new : LaneState = cond b (moved_on lane x)
+    (added_in lane x) in new.rows)
 put_by lane x last after true = All-push (IsOldOrAfter lane.rows last) (drop 1 lane.rows) x (All-drop (IsOldOrAfter lane.rows last) 1 lane.rows (all_old last lane.rows)) (inr after)
 put_by lane x last after false = All-push (IsOldOrAfter lane.rows last) lane.rows x (all_old last lane.rows) (inr after)
 

@@ -8,7 +8,7 @@ use Rattle.dnp_objects.specs.declared.lane.LaneRow.{LaneRow}
 use Rattle.dnp_eventbuf.specs.declared.numbered.Numbered.{Numbered}
 use Rattle.dnp_eventbuf.specs.Latest.{numbered_for, latest, KeepsLatest}
 use Rattle.dnp_eventbuf.specs.Sound.{IsSound, IsSoundLane}
-use Rattle.dnp_eventbuf.specs.Stock.{LaneState, Stock, lane_at, no_lane, is_full, put_in, with_row, with_rows}
+use Rattle.dnp_eventbuf.specs.Stock.{LaneState, Stock, lane_at, no_lane, is_full, put_in, with_row, with_rows, added_in, moved_on}
 
 -- ---- the latest rows
 
@@ -54,7 +54,7 @@ keeps_both old middle new first second one two =
 -- ---- one row
 
 put_by : (lane : LaneState) (x : Numbered) → 1 ≤ lane.capacity → length lane.rows ≤ lane.capacity → (b : Bool) → is_full lane ≡ b
-    → KeepsLatest lane (x ∷ []) (cond b (record { capacity = lane.capacity; rows = drop 1 lane.rows ++ x ∷ []; lost = lane.lost + 1 }) (record { capacity = lane.capacity; rows = lane.rows ++ x ∷ []; lost = lane.lost }))
+    → KeepsLatest lane (x ∷ []) (cond b (moved_on lane x) (added_in lane x))
 put_by lane x least short true full =
     let h = leb-true lane.capacity (length lane.rows) full in
     let more : length (lane.rows ++ x ∷ []) - lane.capacity ≡ 1 = omega (arith, length-append lane.rows (x ∷ [])) in

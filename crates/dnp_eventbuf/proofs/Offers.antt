@@ -114,7 +114,7 @@ release_takes_offered laws s xs number after most sound carried within low =
     let lane_old : IsSoundLane number s.last_id (lane_at s number) = sound.each number low in
     let lane_now : IsSoundLane number (with_rows s xs).last_id (lane_at (with_rows s xs) number) = (IsSound-with_rows s xs sound carried within).each number low in
     let rising : Rises taken = AllPairs-filter (λ (a b : Numbered). a.id < b.id) p now lane_now.rising in
-    let apart : HasNoRepeat taken = 
+    let apart : HasNoRepeat taken =
     λ i j d first second same. let less = rising i j d first second in omega (arith, ap (λ (x : Numbered). x.id) same) in
     let few : u ≤ s.last_id =
     last_of-most shown s.last_id (All-take (λ (x : Numbered). x.id ≤ s.last_id) most (filter (λ x. nat_lt after x.id) old) (All-filter (λ x. nat_lt after x.id) (λ (x : Numbered). x.id ≤ s.last_id) old lane_old.up_to_last))

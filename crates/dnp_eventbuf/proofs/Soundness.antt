@@ -16,7 +16,7 @@ use Rattle.dnp_objects.specs.declared.lane.LaneRow.{LaneRow}
 use Rattle.dnp_eventbuf.specs.declared.numbered.Numbered.{Numbered}
 use Rattle.dnp_eventbuf.specs.Carried.{IsCarried}
 use Rattle.dnp_eventbuf.specs.Sound.{IsSound, IsSoundLane}
-use Rattle.dnp_eventbuf.specs.Stock.{LaneState, Stock, lane_at, no_lane, empty_lane, empty_stock, is_full, put_in, with_row, with_rows, is_past, exhausts, above, lanes_above, emptied, without, without_all}
+use Rattle.dnp_eventbuf.specs.Stock.{LaneState, Stock, lane_at, no_lane, empty_lane, empty_stock, is_full, put_in, with_row, with_rows, is_past, exhausts, above, lanes_above, emptied, without, without_all, added_in, moved_on}
 use Rattle.dnp_eventbuf.proofs.LaneNumbers.{same_kind}
 use Rattle.dnp_eventbuf.proofs.Limits.{LostWithin-from_test, last_id-from_test, is_past-before}
 
@@ -65,8 +65,8 @@ pushed number last lane n lost row sound room few fits =
 
 put_by : (number last : ℕ) (lane : LaneState) (row : Row) → IsSoundLane number last lane → ((of : Lane) → lane_number of ≡ number → IsCarried (record { lane = of; row = row }))
     → (b : Bool) → is_full lane ≡ b
-    → (let new : LaneState = cond b (record { capacity = lane.capacity; rows = drop 1 lane.rows ++ (record { id = last + 1; row = row }) ∷ []; lost = lane.lost + 1 })
-    (record { capacity = lane.capacity; rows = lane.rows ++ (record { id = last + 1; row = row }) ∷ []; lost = lane.lost })
+    → (let new : LaneState = cond b (moved_on lane (record { id = last + 1; row = row }))
+    (added_in lane (record { id = last + 1; row = row }))
     in new.lost ≤ MAX_ID → IsSoundLane number (last + 1) new)
 put_by number last lane row sound fits true full few =
     pushed number last lane 1 (lane.lost + 1) row sound

@@ -48,12 +48,16 @@ empty_stock capacities = record { lanes = map empty_lane capacities; overflow = 
 
 -- ---- appending
 
--- a full lane drops its oldest row first, and counts it
+-- a lane that takes a row
+abbrev pub added_in : LaneState → Numbered → LaneState
+added_in lane x = record { capacity = lane.capacity; rows = lane.rows ++ x ∷ []; lost = lane.lost }
+
+-- a lane that drops its oldest row first, and counts it
+abbrev pub moved_on : LaneState → Numbered → LaneState
+moved_on lane x = record { capacity = lane.capacity; rows = drop 1 lane.rows ++ x ∷ []; lost = lane.lost + 1 }
+
 abbrev pub put_in : LaneState → Numbered → LaneState
-put_in lane x =
-    if is_full lane
-    then record { capacity = lane.capacity; rows = drop 1 lane.rows ++ x ∷ []; lost = lane.lost + 1 }
-    else record { capacity = lane.capacity; rows = lane.rows ++ x ∷ []; lost = lane.lost }
+put_in lane x = if is_full lane then moved_on lane x else added_in lane x
 
 abbrev pub dropped_from : LaneState → List Row
 dropped_from lane = if is_full lane then map row_of (take 1 lane.rows) else []

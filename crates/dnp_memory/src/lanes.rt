@@ -1,18 +1,23 @@
 //! Event lanes in memory.
 
 use dnp_eventbuf::{Lane, LaneRow, Lanes, PlainLanes, Upto, is_carried};
-use dnp_objects::{Kind, Row};
+use dnp_objects::{Kind, LANES, Row};
 use std::alloc::Global;
 
 /// What is counted of the lane of class 1.
 #[derive(Clone, Copy, PartialEq, Eq)]
 struct Counts {
+    /// How many rows it holds.
     len: u32,
+    /// Its last id, or 0.
     last: u64,
+    /// How many rows it has dropped.
     lost: u64,
+    /// Whether the overflow is raised.
     raised: bool,
 }
 
+/// The counts of a lane.
 fn counted(lanes: &mut PlainLanes, lane: Lane) -> Counts {
     Counts {
         len: lanes.len(lane),
@@ -29,9 +34,9 @@ pub(crate) fn with_digit(number: u64, digit: u64) -> u64 {
 
 /// Lanes of two rows each.
 fn small_lanes(alloc: Global) -> Option<PlainLanes> {
-    match PlainLanes::new(alloc, [2; 9]) {
+    match PlainLanes::new(alloc, [2; LANES]) {
         Ok(lanes) => Some(lanes),
-        Err(_) => PlainLanes::new(alloc, [2; 9]).ok(),
+        Err(_) => PlainLanes::new(alloc, [2; LANES]).ok(),
     }
 }
 
@@ -98,7 +103,7 @@ pub(crate) fn fill_and_empty(alloc: Global) -> Option<u64> {
     for numbered in offered.iter() {
         number = with_digit(number, numbered.id);
     }
-    number = with_digit(number, release(alloc, &mut lanes, lane, &[5; 9])?);
+    number = with_digit(number, release(alloc, &mut lanes, lane, &[5; LANES])?);
     number = with_digit(number, empty(alloc, &mut lanes, lane)?);
     Some(with_digit(number, lanes.lost(lane)))
 }

@@ -1,6 +1,6 @@
 -- Laws of lists that cover each other, whatever stands in them.
-use Rattle.std.proofs.Common.{ℕ, ◌+◌, ◌-◌, ◌<◌, ◌≤◌, ◌≡◌, ◌≢◌, ◌∙◌, sym, ap, refl, suc, Bool, true, false, cond, List, [], ◌∷◌, ◌++◌, length, map, take, drop, get_or, arith, inl, inr}
-use Rattle.std.specs.List.{count_by, All, AllPairs, Contains, filter, remove}
+use Rattle.std.proofs.Common.{ℕ, ◌+◌, ◌-◌, ◌<◌, ◌≤◌, ◌≡◌, ◌∙◌, sym, ap, refl, suc, Bool, true, false, cond, List, [], ◌∷◌, ◌++◌, length, map, take, drop, get_or, arith, inl, inr}
+use Rattle.std.specs.List.{count_by, All, Contains, filter, remove}
 use Rattle.std.proofs.lemmas.List.Sums.{sum_by-cons, sum_by-append, sum_by-take-le, sum_by-take-drop, sum_by-remove}
 use Rattle.std.proofs.lemmas.List.Elements.{All-head, All-tail}
 use Rattle.std.proofs.lemmas.List.Edits.{length-remove, get_or-remove_below, get_or-remove_above}
@@ -135,10 +135,6 @@ IsCoveredBy-from_members (x ∷ xs) ys once among =
     (All-tail (Contains ys) x xs among i d below)
     in
     IsCoveredBy-one_more x xs ys k lt is (IsCoveredBy-from_members xs (remove ys k) later rest)
-
--- no member twice, as some mark of each shows
-pub HasNoRepeat-by : {A B : Type 0} (mark : A → B) (xs : List A) → AllPairs (λ x y. mark x ≢ mark y) xs → HasNoRepeat xs
-HasNoRepeat-by mark xs apart = λ i j d before below same. apart i j d before below (ap mark same)
 
 -- ---- covered and counts, where a test decides equality
 

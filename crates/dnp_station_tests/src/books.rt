@@ -1,7 +1,9 @@
 //! A book of controls, step by step.
 
 use crate::outputs::block;
-use dnp_controls::{Book, BookFault, Entry, PlainBook, State};
+use BookFault::{NoControl, NotPending};
+use Step::{Add, Finish, Next, Rows, Spend};
+use dnp_controls::{Book, BookFault, Entry, PlainBook, State, TARGETS};
 use dnp_objects::{Command, Status};
 use std::alloc::Global;
 use std::test::Fail;
@@ -13,9 +15,11 @@ enum Step {
     Add(u8, u64),
     /// The next entry for a target has this id.
     Next(u8, Option<u64>),
+    /// The entry of this id is spent, with this answer.
     Spend(u64, Result<(), BookFault>),
+    /// The entry of this id is finished with a status, with this answer.
     Finish(u64, Status, Result<(), BookFault>),
-    /// So many entries have ids over a number, at most so many.
+    /// Of the entries with ids over a number, up to a limit, there are this many.
     Rows(u64, usize, usize),
 }
 
@@ -27,7 +31,7 @@ fn does<B: Book>(
     step: Step,
 ) -> Result<bool, BookFault> {
     Ok(match step {
-        Step::Add(target, id) => target <= 15 && book.add(alloc, target, command)? == id,
+        Step::Add(target, id) => target < TARGETS && book.add(alloc, target, command)? == id,
         Step::Next(target, id) => match book.next(alloc, target)? {
             Some(entry) => Some(entry.id) == id,
             None => id.is_none(),
@@ -38,38 +42,37 @@ fn does<B: Book>(
     })
 }
 
+/// Three entries for two targets, on their way.
+const STEPS: [Step; 25] = [
+    Next(2, None),
+    Add(2, 1),
+    Add(2, 2),
+    Add(7, 3),
+    Rows(0, 10, 3),
+    Rows(1, 10, 2),
+    Rows(0, 1, 1),
+    Rows(3, 10, 0),
+    Rows(u64::MAX, 10, 0),
+    Next(2, Some(1)),
+    Next(7, Some(3)),
+    Next(3, None),
+    Spend(1, Ok(())),
+    Spend(1, Err(NotPending)),
+    Next(2, Some(2)),
+    Finish(1, Status::SUCCESS, Ok(())),
+    Finish(1, Status::LOCAL, Err(NotPending)),
+    Spend(1, Err(NotPending)),
+    Spend(9, Err(NoControl)),
+    Spend(0, Err(NoControl)),
+    Finish(9, Status::SUCCESS, Err(NoControl)),
+    Spend(2, Ok(())),
+    Next(2, None),
+    Finish(3, Status::TIMEOUT, Ok(())),
+    Next(7, None),
+];
+
 #[test]
 fn an_entry_goes_its_way_once(rt: HostRuntime) -> Result<(), Fail> {
-    use BookFault::{NoControl, NotPending};
-    use Step::{Add, Finish, Next, Rows, Spend};
-
-    let steps = [
-        Next(2, None),
-        Add(2, 1),
-        Add(2, 2),
-        Add(7, 3),
-        Rows(0, 10, 3),
-        Rows(1, 10, 2),
-        Rows(0, 1, 1),
-        Rows(3, 10, 0),
-        Rows(u64::MAX, 10, 0),
-        Next(2, Some(1)),
-        Next(7, Some(3)),
-        Next(3, None),
-        Spend(1, Ok(())),
-        Spend(1, Err(NotPending)),
-        Next(2, Some(2)),
-        Finish(1, Status::SUCCESS, Ok(())),
-        Finish(1, Status::LOCAL, Err(NotPending)),
-        Spend(1, Err(NotPending)),
-        Spend(9, Err(NoControl)),
-        Spend(0, Err(NoControl)),
-        Finish(9, Status::SUCCESS, Err(NoControl)),
-        Spend(2, Ok(())),
-        Next(2, None),
-        Finish(3, Status::TIMEOUT, Ok(())),
-        Next(7, None),
-    ];
     let commands = [
         block(5, 0x03, 1),
         Command::Set16 {
@@ -84,7 +87,7 @@ fn an_entry_goes_its_way_once(rt: HostRuntime) -> Result<(), Fail> {
     let alloc = rt.alloc();
     for command in commands {
         let mut book = PlainBook::new(alloc);
-        for (number, step) in steps.iter().enumerate() {
+        for (number, step) in STEPS.iter().enumerate() {
             assert!(rt;
                 does(&mut book, alloc, &command, *step)?,
                 "step {number} of {command}"

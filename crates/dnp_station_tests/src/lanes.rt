@@ -3,6 +3,7 @@
 ghost use Rattle.std.specs.Prelude.{◌≡◌, true, All};
 ghost use Rattle.dnp_eventbuf.specs.Carried.{IsCarried};
 
+use Step::{Append, Counts, Empty, Offer, Release};
 use dnp_eventbuf::{Lane, LaneRow, Lanes, PlainLanes, StoreFault, Upto, is_carried};
 use dnp_objects::{Kind, Row};
 use std::alloc::Global;
@@ -14,14 +15,14 @@ use std::test::Fail;
 enum Step<'a> {
     /// Rows are put into lanes, and these are dropped.
     Append(&'a [(usize, u16)], &'a [u16]),
-    /// The rows of a lane with an id over this one, at most so many: their ids and indices.
+    /// The rows of a lane with an id over this one, at most this many: their ids and indices.
     Offer(usize, u64, usize, &'a [(u64, u16)]),
     /// The rows up to these ids are taken out.
     Release(Upto, &'a [u16]),
     /// All rows are taken out.
     Empty(&'a [u16]),
-    /// A lane holds so many rows, its last id is this one, and it has lost so many; whether the
-    /// overflow is raised.
+    /// How many rows a lane holds, its last id, how many it has lost, and whether the overflow is
+    /// raised.
     Counts(usize, u32, u64, u64, bool),
 }
 
@@ -37,6 +38,7 @@ fn event(lane: Lane, index: u16) -> LaneRow {
     LaneRow { lane, row }
 }
 
+/// Whether each row may be appended.
 fn all_carried(rows: &[LaneRow]) -> bool
     ensures { result ≡ true → All IsCarried rows.now }
 {
@@ -90,63 +92,62 @@ fn does<L: Lanes>(lanes: &mut L, alloc: Global, step: Step<'_>) -> Result<bool, 
     }
 }
 
+/// What lanes do. Lane 0 takes two rows, lane 8 one, and the others four.
+#[rattlefmt::skip]
+const STEPS: [Step<'static>; 37] = [
+    Counts(0, 0, 0, 0, false),
+    // A lane of two rows takes three.
+    Append(&[(0, 101)], &[]),
+    Append(&[(0, 102)], &[]),
+    Counts(0, 2, 2, 0, false),
+    Append(&[(0, 103)], &[101]),
+    Counts(0, 2, 3, 1, true),
+    Offer(0, 0, 9, &[(2, 102), (3, 103)]),
+    // By ids, not by the number of rows: up to 2 is one row now.
+    Release([2, 0, 0, 0, 0, 0, 0, 0, 0], &[102]),
+    Counts(0, 1, 3, 1, false),
+    Offer(0, 0, 9, &[(3, 103)]),
+    // It takes five in one call, of which three are dropped again.
+    Release([3, 0, 0, 0, 0, 0, 0, 0, 0], &[103]),
+    Append(&[(0, 104), (0, 105), (0, 106), (0, 107), (0, 108)], &[104, 105, 106]),
+    Counts(0, 2, 8, 4, true),
+    // The overflow stays while any of the nine lanes is full, also one that dropped nothing.
+    Append(&[(8, 109)], &[]),
+    Release([8, 0, 0, 0, 0, 0, 0, 0, 0], &[107, 108]),
+    Counts(0, 0, 0, 4, true),
+    Release([0, 0, 0, 0, 0, 0, 0, 0, 9], &[109]),
+    Counts(8, 0, 0, 0, false),
+    // Lanes share one series of ids, and no id comes again after its row has left.
+    Append(&[(0, 110), (5, 111), (0, 112)], &[]),
+    Offer(0, 0, 9, &[(10, 110), (12, 112)]),
+    Offer(5, 0, 9, &[(11, 111)]),
+    Release([12, 0, 0, 0, 0, 11, 0, 0, 0], &[110, 112, 111]),
+    Append(&[(5, 113)], &[]),
+    Offer(5, 0, 9, &[(13, 113)]),
+    // Emptied lanes keep their counts of lost rows, and the overflow ends.
+    Append(&[(8, 114), (0, 115), (0, 116), (0, 117)], &[115]),
+    Empty(&[116, 117, 113, 114]),
+    Counts(0, 0, 0, 5, false),
+    Append(&[(0, 118)], &[]),
+    Offer(0, 0, 9, &[(18, 118)]),
+    // An offer begins behind an id, and ends at its limit.
+    Append(&[(1, 119), (1, 120), (1, 121), (1, 122)], &[]),
+    Offer(1, 19, 2, &[(20, 120), (21, 121)]),
+    Offer(1, 22, 9, &[]),
+    Offer(1, 0, 0, &[]),
+    // Of the rows that were offered one is dropped before they are released, and the row that
+    // dropped it stays.
+    Offer(1, 0, 9, &[(19, 119), (20, 120), (21, 121), (22, 122)]),
+    Append(&[(1, 123)], &[119]),
+    Release([0, 22, 0, 0, 0, 0, 0, 0, 0], &[120, 121, 122]),
+    Offer(1, 0, 9, &[(23, 123)]),
+];
+
 #[test]
 fn lanes_step_by_step(rt: HostRuntime) -> Result<(), Fail> {
-    use Step::{Append, Counts, Empty, Offer, Release};
-
-    // Lane 0 takes two rows, lane 8 one, and the others four.
-    #[rattlefmt::skip]
-    let steps = [
-        Counts(0, 0, 0, 0, false),
-        // A lane of two rows takes three.
-        Append(&[(0, 101)], &[]),
-        Append(&[(0, 102)], &[]),
-        Counts(0, 2, 2, 0, false),
-        Append(&[(0, 103)], &[101]),
-        Counts(0, 2, 3, 1, true),
-        Offer(0, 0, 9, &[(2, 102), (3, 103)]),
-        // By ids, not by the number of rows: up to 2 is one row now.
-        Release([2, 0, 0, 0, 0, 0, 0, 0, 0], &[102]),
-        Counts(0, 1, 3, 1, false),
-        Offer(0, 0, 9, &[(3, 103)]),
-        // It takes five in one call, of which three are dropped again.
-        Release([3, 0, 0, 0, 0, 0, 0, 0, 0], &[103]),
-        Append(&[(0, 104), (0, 105), (0, 106), (0, 107), (0, 108)], &[104, 105, 106]),
-        Counts(0, 2, 8, 4, true),
-        // The overflow stays while any of the nine lanes is full, also one that dropped nothing.
-        Append(&[(8, 109)], &[]),
-        Release([8, 0, 0, 0, 0, 0, 0, 0, 0], &[107, 108]),
-        Counts(0, 0, 0, 4, true),
-        Release([0, 0, 0, 0, 0, 0, 0, 0, 9], &[109]),
-        Counts(8, 0, 0, 0, false),
-        // Lanes share one series of ids, and no id comes again after its row has left.
-        Append(&[(0, 110), (5, 111), (0, 112)], &[]),
-        Offer(0, 0, 9, &[(10, 110), (12, 112)]),
-        Offer(5, 0, 9, &[(11, 111)]),
-        Release([12, 0, 0, 0, 0, 11, 0, 0, 0], &[110, 112, 111]),
-        Append(&[(5, 113)], &[]),
-        Offer(5, 0, 9, &[(13, 113)]),
-        // Emptied lanes keep their counts of lost rows, and the overflow ends.
-        Append(&[(8, 114), (0, 115), (0, 116), (0, 117)], &[115]),
-        Empty(&[116, 117, 113, 114]),
-        Counts(0, 0, 0, 5, false),
-        Append(&[(0, 118)], &[]),
-        Offer(0, 0, 9, &[(18, 118)]),
-        // An offer begins behind an id, and ends at its limit.
-        Append(&[(1, 119), (1, 120), (1, 121), (1, 122)], &[]),
-        Offer(1, 19, 2, &[(20, 120), (21, 121)]),
-        Offer(1, 22, 9, &[]),
-        Offer(1, 0, 0, &[]),
-        // Of the rows that were offered one is dropped before they are released, and the row that
-        // dropped it stays.
-        Offer(1, 0, 9, &[(19, 119), (20, 120), (21, 121), (22, 122)]),
-        Append(&[(1, 123)], &[119]),
-        Release([0, 22, 0, 0, 0, 0, 0, 0, 0], &[120, 121, 122]),
-        Offer(1, 0, 9, &[(23, 123)]),
-    ];
     let alloc = rt.alloc();
     let mut lanes = PlainLanes::new(alloc, [2, 4, 4, 4, 4, 4, 4, 4, 1])?;
-    for (number, step) in steps.iter().enumerate() {
+    for (number, step) in STEPS.iter().enumerate() {
         assert!(rt; does(&mut lanes, alloc, *step)?, "step {number}");
     }
     Ok(())

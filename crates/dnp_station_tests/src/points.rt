@@ -1,6 +1,9 @@
 //! Which changes are events, step by step.
 
 use crate::plans::{Alike, plan_of};
+use ChangeFault::{NoPoint, TimeRange, ValueRange};
+use Kind::{Analog, Binary, Counter};
+use Step::{Event, Lost, Quiet, Reads, Refused, Restart, Set};
 use dnp_objects::{Kind, Lane, LaneRow, Row};
 use dnp_pointdb::{ChangeFault, PointDb, Reading};
 use std::test::Fail;
@@ -32,9 +35,11 @@ enum Step {
     Reads(Kind, u16, i64, u8),
     /// The communication of the blocks of this number is lost.
     Lost(usize),
+    /// The station restarts.
     Restart,
 }
 
+/// A reading at the time 1,000.
 fn reading(value: i64, flags: u8) -> Reading {
     Reading {
         value,
@@ -100,67 +105,65 @@ fn does(points: &mut PointDb, step: Step) -> bool {
     }
 }
 
+/// What the points of `STATION` do.
+const STEPS: [Step; 44] = [
+    // A point that is not there, and what its objects can't carry.
+    Refused(NoPoint, Binary, 11, 2, 0x01),
+    Refused(NoPoint, Counter, 0, 1, 0x01),
+    Refused(ValueRange, Binary, 10, 2, 0x01),
+    Refused(ValueRange, Binary, 10, 1, 0x81),
+    Refused(ValueRange, Counter, 10, -1, 0x01),
+    Refused(ValueRange, Counter, 10, 4_294_967_296, 0x01),
+    Refused(ValueRange, Analog, 1, 2_147_483_648, 0x01),
+    Refused(ValueRange, Analog, 1, -2_147_483_649, 0x01),
+    // Nothing was read yet.
+    Reads(Counter, 10, 0, 0x02),
+    // The deadband is measured from the last report, and flags report at once.
+    Quiet(Analog, 1, 0, 0x02),
+    Quiet(Analog, 1, 10, 0x02),
+    Quiet(Analog, 1, -10, 0x02),
+    Event(3, Analog, 1, 11, 0x02),
+    Quiet(Analog, 1, 1, 0x02),
+    Quiet(Analog, 1, 21, 0x02),
+    Event(3, Analog, 1, 22, 0x02),
+    Event(3, Analog, 1, 22, 0x01),
+    Quiet(Analog, 1, 22, 0x01),
+    Reads(Analog, 1, 22, 0x01),
+    // A point of class 0 has no events.
+    Quiet(Binary, 0, 1, 0x01),
+    Reads(Binary, 0, 1, 0x01),
+    Event(2, Counter, 10, 4_294_967_295, 0x01),
+    // A restart sets readings and last reports back.
+    Restart,
+    Reads(Counter, 10, 0, 0x02),
+    Quiet(Counter, 10, 0, 0x02),
+    // A reading that is set is not reported.
+    Set(Counter, 10, 7, 0x01),
+    Reads(Counter, 10, 7, 0x01),
+    Event(2, Counter, 10, 7, 0x01),
+    Quiet(Counter, 10, 7, 0x01),
+    // Lost communication is of one block of each kind that has it, and of the readings alone.
+    Event(1, Binary, 10, 1, 0x29),
+    Event(2, Counter, 10, 1, 0x29),
+    Event(3, Analog, 10, 1, 0x29),
+    Event(3, Analog, 1, 1, 0x29),
+    Lost(1),
+    Lost(2),
+    Reads(Binary, 10, 1, 0x29),
+    Reads(Counter, 10, 1, 0x29),
+    Reads(Analog, 10, 1, 0x29),
+    Reads(Analog, 1, 1, 0x2C),
+    Quiet(Analog, 1, 1, 0x29),
+    Lost(0),
+    Reads(Binary, 10, 1, 0x2C),
+    Reads(Counter, 10, 1, 0x2C),
+    Reads(Analog, 10, 1, 0x2C),
+];
+
 #[test]
 fn a_station_step_by_step(rt: HostRuntime) -> Result<(), Fail> {
-    use ChangeFault::{NoPoint, TimeRange, ValueRange};
-    use Kind::{Analog, Binary, Counter};
-    use Step::{Event, Lost, Quiet, Reads, Refused, Restart, Set};
-
-    let steps = [
-        // A point that is not there, and what its objects can't carry.
-        Refused(NoPoint, Binary, 11, 2, 0x01),
-        Refused(NoPoint, Counter, 0, 1, 0x01),
-        Refused(ValueRange, Binary, 10, 2, 0x01),
-        Refused(ValueRange, Binary, 10, 1, 0x81),
-        Refused(ValueRange, Counter, 10, -1, 0x01),
-        Refused(ValueRange, Counter, 10, 4_294_967_296, 0x01),
-        Refused(ValueRange, Analog, 1, 2_147_483_648, 0x01),
-        Refused(ValueRange, Analog, 1, -2_147_483_649, 0x01),
-        // Nothing was read yet.
-        Reads(Counter, 10, 0, 0x02),
-        // The deadband is measured from the last report, and flags report at once.
-        Quiet(Analog, 1, 0, 0x02),
-        Quiet(Analog, 1, 10, 0x02),
-        Quiet(Analog, 1, -10, 0x02),
-        Event(3, Analog, 1, 11, 0x02),
-        Quiet(Analog, 1, 1, 0x02),
-        Quiet(Analog, 1, 21, 0x02),
-        Event(3, Analog, 1, 22, 0x02),
-        Event(3, Analog, 1, 22, 0x01),
-        Quiet(Analog, 1, 22, 0x01),
-        Reads(Analog, 1, 22, 0x01),
-        // A point of class 0 has no events.
-        Quiet(Binary, 0, 1, 0x01),
-        Reads(Binary, 0, 1, 0x01),
-        Event(2, Counter, 10, 4_294_967_295, 0x01),
-        // A restart sets readings and last reports back.
-        Restart,
-        Reads(Counter, 10, 0, 0x02),
-        Quiet(Counter, 10, 0, 0x02),
-        // A reading that is set is not reported.
-        Set(Counter, 10, 7, 0x01),
-        Reads(Counter, 10, 7, 0x01),
-        Event(2, Counter, 10, 7, 0x01),
-        Quiet(Counter, 10, 7, 0x01),
-        // Lost communication is of one block of each kind that has it, and of the readings alone.
-        Event(1, Binary, 10, 1, 0x29),
-        Event(2, Counter, 10, 1, 0x29),
-        Event(3, Analog, 10, 1, 0x29),
-        Event(3, Analog, 1, 1, 0x29),
-        Lost(1),
-        Lost(2),
-        Reads(Binary, 10, 1, 0x29),
-        Reads(Counter, 10, 1, 0x29),
-        Reads(Analog, 10, 1, 0x29),
-        Reads(Analog, 1, 1, 0x2C),
-        Quiet(Analog, 1, 1, 0x29),
-        Lost(0),
-        Reads(Binary, 10, 1, 0x2C),
-        Reads(Counter, 10, 1, 0x2C),
-        Reads(Analog, 10, 1, 0x2C),
-    ];
     let mut points = PointDb::new(rt.alloc(), plan_of(rt.alloc(), &STATION)??)?;
-    for (number, step) in steps.iter().enumerate() {
+    for (number, step) in STEPS.iter().enumerate() {
         assert!(rt; does(&mut points, *step), "step {number}");
     }
     let late = Reading {

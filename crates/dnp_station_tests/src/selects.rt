@@ -1,5 +1,6 @@
 //! Which OPERATE goes with which select, and which control codes are performed.
 
+use Step::{Forget, Operate, OperateOther, Select};
 use dnp_controls::{Selects, obeys_code_rule};
 use dnp_objects::Status;
 
@@ -19,52 +20,56 @@ const LATCH_ON_4: [u8; 18] = [
 /// a number, with the status that the OPERATE gets.
 #[derive(Clone, Copy)]
 enum Step {
+    /// A select of the output 5.
     Select(u64, u8),
+    /// An OPERATE of the output 5.
     Operate(u64, u8, Status),
+    /// An OPERATE of the output 4.
     OperateOther(u64, u8, Status),
+    /// The select is forgotten.
     Forget,
 }
 
+/// What an OPERATE is answered.
+const STEPS: [Step; 27] = [
+    Operate(0, 4, Status::NO_SELECT),
+    // The next number and the same octets: once.
+    Select(1000, 3),
+    Operate(1500, 4, Status::SUCCESS),
+    Operate(1500, 4, Status::NO_SELECT),
+    // Under another number, and then under the right one: the select is forgotten.
+    Select(2000, 3),
+    Operate(2000, 5, Status::NO_SELECT),
+    Operate(2000, 4, Status::NO_SELECT),
+    // Under the select's own number, and with other octets.
+    Select(2000, 3),
+    Operate(2000, 3, Status::NO_SELECT),
+    Select(2000, 3),
+    OperateOther(2000, 4, Status::NO_SELECT),
+    // The number after 15 is 0.
+    Select(2000, 15),
+    Operate(2000, 0, Status::SUCCESS),
+    // The timer.
+    Select(1000, 6),
+    Operate(10_999, 7, Status::SUCCESS),
+    Select(1000, 6),
+    Operate(11_000, 7, Status::TIMEOUT),
+    Operate(1000, 7, Status::NO_SELECT),
+    Select(u64::MAX - 1, 6),
+    Operate(u64::MAX - 1, 7, Status::SUCCESS),
+    Select(u64::MAX - 1, 6),
+    Operate(u64::MAX, 7, Status::TIMEOUT),
+    Select(1000, 6),
+    OperateOther(11_000, 7, Status::NO_SELECT),
+    Select(2000, 3),
+    Forget,
+    Operate(2000, 4, Status::NO_SELECT),
+];
+
 #[test]
 fn an_operate_goes_with_its_select(rt: HostRuntime) {
-    use Step::{Forget, Operate, OperateOther, Select};
-
-    let steps = [
-        Operate(0, 4, Status::NO_SELECT),
-        // The next number and the same octets: once.
-        Select(1000, 3),
-        Operate(1500, 4, Status::SUCCESS),
-        Operate(1500, 4, Status::NO_SELECT),
-        // Under another number, and then under the right one: the select is forgotten.
-        Select(2000, 3),
-        Operate(2000, 5, Status::NO_SELECT),
-        Operate(2000, 4, Status::NO_SELECT),
-        // Under the select's own number, and with other octets.
-        Select(2000, 3),
-        Operate(2000, 3, Status::NO_SELECT),
-        Select(2000, 3),
-        OperateOther(2000, 4, Status::NO_SELECT),
-        // The number after 15 is 0.
-        Select(2000, 15),
-        Operate(2000, 0, Status::SUCCESS),
-        // The timer.
-        Select(1000, 6),
-        Operate(10_999, 7, Status::SUCCESS),
-        Select(1000, 6),
-        Operate(11_000, 7, Status::TIMEOUT),
-        Operate(1000, 7, Status::NO_SELECT),
-        Select(u64::MAX - 1, 6),
-        Operate(u64::MAX - 1, 7, Status::SUCCESS),
-        Select(u64::MAX - 1, 6),
-        Operate(u64::MAX, 7, Status::TIMEOUT),
-        Select(1000, 6),
-        OperateOther(11_000, 7, Status::NO_SELECT),
-        Select(2000, 3),
-        Forget,
-        Operate(2000, 4, Status::NO_SELECT),
-    ];
     let mut selects = Selects::new();
-    for (number, step) in steps.iter().enumerate() {
+    for (number, step) in STEPS.iter().enumerate() {
         let (octets, now, seq, status) = match *step {
             Step::Select(now, seq) => {
                 selects.select(now, seq, &LATCH_ON_5);

@@ -1,4 +1,4 @@
--- The lanes of `dnp_eventbuf` as the law of the link sees them, and what each of their calls is to the link.
+-- Definition: the lanes of `dnp_eventbuf` as the law of the link sees them, and what each of their calls is to the link.
 use Rattle.std.specs.Prelude.{◌≡◌, false, List, [], ◌∷◌, None}
 use Rattle.dnp_objects.specs.declared.lane.LaneRow.{LaneRow}
 use Rattle.dnp_objects.specs.Lanes.{lane_number}

@@ -1,4 +1,4 @@
--- A link between an outstation and its master as its law sees it: the two stations without clocks and points, the
+-- Definition: a link between an outstation and its master as its law sees it: the two stations without clocks and points, the
 -- lanes of events, what may still come on either way, and what has happened so far.
 use Rattle.std.specs.Prelude.{ℕ, Bool, List, [], ◌∷◌, Option}
 use Rattle.dnp_objects.specs.declared.command.Command.{Command}

@@ -1,4 +1,4 @@
--- What can happen to a link, in moves: each call of a station and each event of a line is a few of them. A fragment
+-- Definition: what can happen to a link, in moves: each call of a station and each event of a line is a few of them. A fragment
 -- that comes is the first of those that may come, and stays there, for it may come again; those before it that never
 -- come are lost by a move of their own.
 use Rattle.std.specs.Prelude.{◌≡◌, ℕ, ◌≤◌, ◌<◌, Bool, true, false, not, if◌then◌else◌, List, [], ◌∷◌, ◌++◌, drop, filter, map, Option, Some, None, IfSome, ◌⊎◌}

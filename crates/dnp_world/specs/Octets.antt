@@ -1,4 +1,4 @@
--- What the law looks at in the octets of a fragment, by the reading of `dnp_appfragment` (IEEE Std 1815-2012,
+-- Definition: what the law looks at in the octets of a fragment, by the reading of `dnp_appfragment` (IEEE Std 1815-2012,
 -- application layer: control octet, function codes, object headers).
 use Rattle.std.specs.Prelude.{ℕ, ◌+◌, ◌%◌, Bool, true, false, ◌||◌, ◌==◌, if◌then◌else◌, List, [], map, option_to_list, slice_index_or, Result, Ok, Err}
 use Rattle.std.specs.List.{flat_map, range_with_len}

@@ -1,4 +1,4 @@
--- One event and one command on their way, octet by octet: what shows that the moves allow what they are there for
+-- Definition: one event and one command on their way, octet by octet: what shows that the moves allow what they are there for
 -- (IEEE Std 1815-2012, application layer: a poll of class 1, a direct operate).
 use Rattle.std.specs.Prelude.{◌≡◌, ℕ, pos, List, [], ◌∷◌, None}
 use Rattle.dnp_objects.specs.declared.command.Command.{Command}

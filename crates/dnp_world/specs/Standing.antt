@@ -1,4 +1,4 @@
--- What holds of a link at every moment, in five parts, each over its own view of the link: a move that leaves a view
+-- Definition: what holds of a link at every moment, in five parts, each over its own view of the link: a move that leaves a view
 -- alone leaves its part alone. The solicited and the unsolicited half share the events and nothing else.
 --
 -- With each clause stands what would go wrong without it. All of it is an own rule: the standard says what stations do,

@@ -1,4 +1,7 @@
-//! What holds of every link, as the contract of a function that does nothing but call laws.
+//! Laws of the words of `specs/`: each function does nothing, and its contract is a law.
+//!
+//! They are of every link, and rest on laws of the crates below, which they call.
+
 ghost use Rattle.std.specs.Prelude.{◌≡◌, ℕ, List, [], ◌∷◌, ◌++◌, length, map, All, Contains};
 ghost use Rattle.std.specs.List.Sorted.{IsPermutation};
 ghost use Rattle.dnp_objects.specs.Counts.{IsCoveredBy};
