@@ -53,7 +53,7 @@ pub extern "C" fn dnp_bench_read_frames_apart(units: &[u8], stride: usize, size:
     sum
 }
 
-/// The frame to station 10 from station 1 with these user octets, of which there are 250 at most.
+/// The frame to station 10 from station 1 with these user octets, as many as a frame has room for.
 fn frame_of(user: &[u8]) -> Frame {
     let mut frame = Frame::blank();
     frame.dest = 10;

@@ -1,4 +1,5 @@
-//! Frames in a stream of octets that comes in pieces.
+//! Frames in a stream of octets that comes in pieces: what waits between two pieces. Where the next frame begins, and
+//! which octets are dropped before it, is decided in `stream.rt`.
 
 ghost use Rattle.std.specs.Prelude.{◌≡◌, ℕ, ◌<◌, ◌≤◌, List, [], ◌++◌, length, drop, min, OnOk, OnErr, IfOk, ◌+◌, vec_len, vec_capacity};
 ghost use Rattle.dnp_linkframe.specs.Stream.{Gives};

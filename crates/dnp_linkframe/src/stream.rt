@@ -1,4 +1,4 @@
-//! Frames in a stream of octets that is one list.
+//! Frames in a stream of octets that is one list: where the next frame begins, and which octets are dropped before it.
 
 ghost use Rattle.std.specs.Prelude.{◌≡◌, ◌⊎◌, ℕ, ◌<◌, ◌≤◌, List, [], ◌∷◌, ◌++◌, length, drop, slice_index, IsTrue, ◌↔◌, OnOk, OnErr, IfOk, Ok, ◌+◌, vec_len, vec_capacity};
 ghost use Rattle.dnp_linkframe.specs.Frames.{Spells};

@@ -5,22 +5,27 @@ use dnp_daemons::{AnswerFault, answer_line};
 use std::io::{Error, ErrorKind, Result, Write};
 use std::process::Abort;
 
-/// A READ of classes 1, 2, 3 and 0 from master 1 to outstation 10, and its answer.
+/// A READ of classes 1, 2, 3 and 0 from master 1 to outstation 10.
 const READ: &[u8] =
     b"05 64 14 C4 0A 00 01 00 8F ED C0 C0 01 3C 02 06 3C 03 06 3C 04 06 3C 01 06 8A 51";
 
+/// The response: a station that has restarted, and no object.
 const ANSWER: &[u8] = b"05 64 0A 44 01 00 0A 00 6E 25 C0 C0 81 80 00 B3 F3\n";
 
 /// The same with digits of either case, and a line feed after them.
 const READ_IN_ANY_CASE: &[u8] =
     b"05 64 14 c4 0a 00 01 00 8f eD c0 C0 01 3c 02 06 3c 03 06 3c 04 06 3C 01 06 8a 51\n";
 
+/// A frame that is not answered.
 const SILENT: &[u8] = b"no answer\n";
 
+/// A text that is no line of octets.
 const TEXT: &[u8] = b"refused 0 Text\n";
 
+/// Too few octets for a frame.
 const SHORT: &[u8] = b"refused 1 Short\n";
 
+/// Octets that don't begin as a frame does.
 const START: &[u8] = b"refused 2 Start\n";
 
 /// Texts, the addresses of the station and of its master, the lines that are written, and whether

@@ -40,20 +40,25 @@ macro_rules! restarted {
     };
 }
 
-/// Point 3 goes on; point 0 goes off, and then on.
+/// Point 3 goes on.
 const ON: Part = Event(row!(Binary, 3, 1, 1, Some(1_000)));
 
+/// Point 0 goes off.
 const EARLIER: Part = Event(row!(Binary, 0, 1, 0, Some(2)));
 
+/// Point 0 goes on after that.
 const LATER: Part = Event(row!(Binary, 0, 1, 1, Some(3)));
 
-/// Objects of classes.
+/// Events of class 1.
 const CLASS_1: Part = Whole(header!(60, 2, Range::All, &[]));
 
+/// Events of class 2.
 const CLASS_2: Part = Whole(header!(60, 3, Range::All, &[]));
 
+/// Events of class 3.
 const CLASS_3: Part = Whole(header!(60, 4, Range::All, &[]));
 
+/// One event of class 2 at most.
 const ONE_OF_CLASS_2: Part = Whole(header!(60, 3, Range::Count { wide: false, n: 1 }, &[]));
 
 /// A delay of no milliseconds, and the time 1,000.
@@ -174,11 +179,13 @@ const BLOCK: Command = Command::Block {
     off_ms: 0,
 };
 
+/// A setpoint.
 const SET: Command = Command::Set16 {
     index: 2,
     value: -1,
 };
 
+/// The same setpoint, lower.
 const SET_LOWER: Command = Command::Set16 {
     index: 2,
     value: -2,

@@ -10,7 +10,7 @@ use dnp_transport::segment_count;
 /// A reset of the link states from master 1024 to station 1.
 const RESET: [u8; 10] = [0x05, 0x64, 0x05, 0xC0, 0x01, 0x00, 0x00, 0x04, 0xE9, 0x21];
 
-/// 32 losses in a row, by damage too, break a line until it is cleared. What reads as a frame is
+/// A row of losses, by damage too, breaks a line until it is cleared. What reads as a frame is
 /// no damage.
 #[test]
 fn breaks_at_32_losses(rt: HostRuntime) {
@@ -66,8 +66,10 @@ const READ: [u8; 18] = [
     0xC0, 0xC0, 0x01, 0x3C, 0x02, 0x06, 0x54, 0xE0,
 ];
 
+/// The acknowledgment of station 1.
 const ACK: [u8; 10] = [0x05, 0x64, 0x05, 0x00, 0x00, 0x04, 0x01, 0x00, 0x19, 0xA6];
 
+/// Its refusal before a reset of the link states.
 const NACK: [u8; 10] = [0x05, 0x64, 0x05, 0x01, 0x00, 0x04, 0x01, 0x00, 0x1F, 0x85];
 
 /// A unit, whether it completes a fragment, and the reply.

@@ -136,6 +136,7 @@ fn commands(rt: HostRuntime) {
     }
 }
 
+/// Rows, and the words that print them.
 const ROW_WORDS: [(Row, &str); 3] = [
     (row!(Binary, 0, 0x01, 1, Some(1_000)), "binary 0 1 01 1000"),
     (
@@ -145,6 +146,7 @@ const ROW_WORDS: [(Row, &str); 3] = [
     (row!(Analog, 2, 0x00, -5, Some(0)), "analog 2 -5 00 0"),
 ];
 
+/// Commands, and the words that print them.
 const COMMAND_WORDS: [(Command, &str); 3] = [
     (block!(0, 3, 1, 10, 20), "block 0 3 1 10 20"),
     (

@@ -101,11 +101,13 @@ const BLOCK: Command = Command::Block {
     off_ms: 0,
 };
 
+/// A command that is asked for, and its status.
 type Asked = (Command, Status);
 
-/// One object after its index of two octets, and one without.
+/// One object after its index of two octets.
 const INDEXED: Range = Range::Indexed { wide: true, n: 1 };
 
+/// One object without an index.
 const COUNTED: Range = Range::Count { wide: false, n: 1 };
 
 /// Requests with one header or none: a READ of class 1, a SELECT of a control relay output block,

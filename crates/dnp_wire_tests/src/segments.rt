@@ -30,11 +30,12 @@ fn cuts(rt: HostRuntime) {
     }
 }
 
+/// No fragment is shown.
 const NONE: &[u8] = &[];
 
 /// Series of strings; what the push of each gives; and the fragment that is shown then.
 #[rattlefmt::skip]
-const SERIES: [&[(&[u8], Pushed, &[u8])]; 7] = [
+const SERIES: [&[(&[u8], Pushed, &[u8])]; 8] = [
     &[
         (&[0x40, 7], Pushed::Nothing, NONE),
         (&[0x40, 8], Pushed::Nothing, NONE),
@@ -62,6 +63,7 @@ const SERIES: [&[(&[u8], Pushed, &[u8])]; 7] = [
         (&[0x40, 7], Pushed::Nothing, NONE),
     ],
     &[(&[0x81, 8], Pushed::Nothing, NONE)],
+    &[(&[0x7F, 7], Pushed::Nothing, NONE), (&[0x80, 8], Pushed::Whole, &[7, 8])],
 ];
 
 /// One assembler is reset before each series, and goes on as its copy after each push.
