@@ -64,9 +64,6 @@ appended_more start text new fs gs first second = record {
   whole = second.whole ∙ ap (λ (t : List ℕ). t ++ second.lines) first.whole ∙ append_assoc start first.lines second.lines;
 }
 
-pub appended_none : (start : List ℕ) → AreAppended start [] start
-appended_none start = record { lines = []; are = refl; whole = sym (append-nil start) }
-
 -- whatever lines stand for the fragments still to come, with them the text has the lines of all
 pub record AreBegun (e : Ends) (start : List ℕ) (all : List Frame) (own : Ends) (number : ℕ) (left : List (Option (ArrayVec ℕ))) (text : List ℕ) : Type 0 where
   pub same : own ≡ e
