@@ -28,6 +28,58 @@ expect is-silent-to-an-outstation 0 'no answer' "05 64 05 40 01 00 00 04 9D 40$l
 expect is-silent-to-no-data 0 'no answer' "05 64 05 C4 01 00 00 04 F1 AD$lf" $link
 expect is-silent-to-a-stranger 0 'no answer' "05 64 05 C0 01 00 00 04 E9 21$lf" answer --own 1 --peer 1023
 
+# What the outstation answers. The check words are made here, bit by bit.
+# check OCTETS..: a space and their check word, the low octet first
+check() {
+    local word=0 octet bit
+    for octet; do
+        word=$((word ^ 16#$octet))
+        for bit in {1..8}; do
+            word=$((word & 1 ? word >> 1 ^ 0xA6BC : word >> 1))
+        done
+    done
+    printf ' %02X %02X' $((~word & 255)) $((~word >> 8 & 255))
+}
+# frame CONTROL DESTINATION SOURCE OCTETS..: the line of a frame with these user data
+frame() {
+    local header=(05 64 "$(printf '%02X' $(($# + 2)))" "$1" "$2" 00 "$3" 00) block
+    shift 3
+    printf '%s' "${header[*]}$(check "${header[@]}")"
+    while (($#)); do
+        block=("${@:1:16}")
+        printf ' %s' "${block[*]}$(check "${block[@]}")"
+        shift ${#block[@]}
+    done
+}
+# asks NAME REQUEST RESPONSE: master 1 sends outstation 10 the request in one segment, and gets the response, or nothing
+asks() {
+    local wanted='no answer'
+    [ -z "$3" ] || wanted=$(frame 44 01 0A C0 $3)
+    expect "$1" 0 "$wanted" "$(frame C4 0A 01 C0 $2)$lf" answer
+}
+asks knows-no-function 'C0 0D' 'C0 81 80 01'
+asks knows-no-object 'C0 01 6E 00 06' 'C0 81 80 02'
+asks takes-no-cut-header 'C0 01 3C 02' 'C0 81 80 04'
+asks takes-no-other-qualifier 'C0 01 3C 02 00 00 00' 'C0 81 80 04'
+asks takes-no-range-backward 'C0 01 01 02 00 05 04' 'C0 81 80 04'
+asks clears-the-restart 'C0 02 50 01 00 07 07 00' 'C0 81 00 00'
+asks writes-no-other-indication 'C1 02 50 01 00 06 06 00' 'C1 81 80 04'
+asks ignores-a-confirm 'C0 00' ''
+asks ignores-a-report-from-a-master 'D0 01 3C 02 06' ''
+asks ignores-a-fragment-without-its-first '40 01 3C 02 06' ''
+asks ignores-a-fragment-without-its-last '80 01 3C 02 06' ''
+asks ignores-a-response 'C0 81 80 00' ''
+asks ignores-one-octet 'C0' ''
+asks answers-a-read-of-nothing 'C7 01' 'C7 81 80 00'
+asks answers-a-read-that-wants-a-confirm 'E7 01 3C 02 06' 'C7 81 80 00'
+for header in '3C 01 06' '3C 0'{2..4}{' 06',' 07 05',' 08 05 00'} {'02 00','02 02','16 00','16 05','20 00','20 03'}{' 06',' 07 05',' 08 05 00'} \
+    {'01 00','01 02','0A 00','0A 02','14 00','14 01','1E 00','1E 01'}' 06'; do
+    asks "reads-nothing-by:$header" "C0 01 $header" 'C0 81 80 00'
+done
+for header in {'01 00','01 02','0A 00','0A 02','14 00','14 01','1E 00','1E 01'}{' 00 00 00',' 01 00 00 FF FF'}; do
+    asks "has-no-point-of:$header" "C0 01 $header" 'C0 81 80 04'
+done
+
 # What is refused as a frame
 expect refuses-no-octets 1 'refused 1 Short' '' answer
 expect refuses-an-empty-line 1 'refused 1 Short' "$lf" answer
