@@ -93,7 +93,10 @@ fn take(alloc: Global, response: &[u8], count: u64) -> Option<u64> {
     let mut sum = 0u64;
     for now in 0..count {
         let request = master.ask(now, Task::Poll(Classes([true; 4]))).ok()?;
-        octets[0] = control & 0xF0 | request.first()? & 15;
+        let number = request.first()? & 15;
+        if let Some(first) = octets.as_mut_slice().first_mut() {
+            *first = control & 0xF0 | number;
+        }
         let actions = master.receive(alloc, now, &octets, &mut sink).ok()?;
         sum = sum
             .wrapping_mul(31)
