@@ -20,6 +20,10 @@ AreOctets-drop zero octets are = are
 AreOctets-drop (suc n) [] are = tt
 AreOctets-drop (suc n) (b ∷ octets) are = AreOctets-drop n octets are.1
 
+-- a header whose objects are so many octets, and the octets behind them
+abbrev cut_off : ℕ → ℕ → Range → ℕ → List ℕ → Head × List ℕ
+cut_off g v r size octets = (record { group = g; variation = v; range = r; octets = take size octets }, drop size octets)
+
 -- ---- what is read
 
 abbrev pub ReadsHeader : Form → List ℕ → Result (Head × List ℕ) AppFault → Type 0
@@ -45,7 +49,7 @@ objects_read f g v q body r rest object is forward are = go (nat_lt (length rest
         ∙ sym (append_assoc (range_octets r) (take (objects_size f g v r) rest) (drop (objects_size f g v r) rest))
 
     go : (few : Bool) → nat_lt (length rest) (objects_size f g v r) ≡ few
-        → ReadsHeader f (g ∷ v ∷ q ∷ body) (cond few (Err ObjectsCut) (Ok (record { group = g; variation = v; range = r; octets = take (objects_size f g v r) rest }, drop (objects_size f g v r) rest)))
+        → ReadsHeader f (g ∷ v ∷ q ∷ body) (cond few (Err ObjectsCut) (Ok (cut_off g v r (objects_size f g v r) rest)))
     go true few = record {
       group = g;
       variation = v;
@@ -163,7 +167,7 @@ fault_at f octets RangeBackward is =
     ∙ ap (λ (x : Result (Range × List ℕ) AppFault). x >>= λ (x : Range × List ℕ). objects_at f is.group is.variation x.0 x.1) (range_back is.range is.rest is.backward)
 fault_at f octets ObjectsCut is =
     ap (header_at f) is.whole ∙ in_range f is.group is.variation is.range is.rest is.object is.forward
-    ∙ ap (λ (b : Bool). cond b (Err ObjectsCut) (Ok (record { group = is.group; variation = is.variation; range = is.range; octets = take (objects_size f is.group is.variation is.range) is.rest }, drop (objects_size f is.group is.variation is.range) is.rest)))
+    ∙ ap (λ (b : Bool). cond b (Err ObjectsCut) (Ok (cut_off is.group is.variation is.range (objects_size f is.group is.variation is.range) is.rest)))
     (lt-ltb (length is.rest) (objects_size f is.group is.variation is.range) is.few)
 fault_at f octets Short is = absurd is
 fault_at f octets FunctionUnknown is = absurd is

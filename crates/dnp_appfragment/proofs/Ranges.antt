@@ -6,6 +6,7 @@ use Rattle.dnp_appfragment.specs.declared.fault.AppFault.{AppFault}
 use Rattle.dnp_appfragment.specs.declared.fault.AppFault.TheVariants.{HeaderCut, QualifierUnknown, RangeBackward}
 use Rattle.dnp_appfragment.specs.declared.header.Range.{Range}
 use Rattle.dnp_appfragment.specs.declared.header.Range.TheVariants as range
+use Rattle.dnp_appfragment.specs.declared.qualifier.TheConstants as qualifier
 use Rattle.dnp_appfragment.specs.Headers.{qualifier_of, number, range_octets, NumbersFit, IsForward}
 use Rattle.dnp_appfragment.specs.Faults.{range_size}
 use Rattle.dnp_appfragment.specs.Reading.{◌>>=◌, number_at, span_at, count_at, indexed_at, range_at}
@@ -34,42 +35,42 @@ ReadsRange q octets (Err QualifierUnknown) = known q ≡ false
 ReadsRange q octets (Err _) = ⊥
 
 -- one number
-count_reads : (wide : Bool) (octets : List ℕ) → AreOctets octets → ReadsRange (cond wide 0x08 0x07) octets (count_at wide octets)
+count_reads : (wide : Bool) (octets : List ℕ) → AreOctets octets → ReadsRange (cond wide qualifier.WIDE_COUNT qualifier.COUNT) octets (count_at wide octets)
 count_reads wide octets are = go wide (number_at wide octets) (number_reads wide octets are)
   where
     go : (wide : Bool) (r : Result (ℕ × List ℕ) AppFault) → ReadsNumber wide octets r
-        → ReadsRange (cond wide 0x08 0x07) octets (r >>= λ (n : ℕ × List ℕ). Ok (range.Count wide n.0, n.1))
+        → ReadsRange (cond wide qualifier.WIDE_COUNT qualifier.COUNT) octets (r >>= λ (n : ℕ × List ℕ). Ok (range.Count wide n.0, n.1))
     go wide (Ok x) reads = (record { qualifier = refl; fits = reads.0; whole = reads.1 }, tt, reads.2)
-    go false (Err e) reads = subst (λ (d : AppFault). ReadsRange 0x07 octets (Err d)) (sym reads.0) reads.1
-    go true (Err e) reads = subst (λ (d : AppFault). ReadsRange 0x08 octets (Err d)) (sym reads.0) reads.1
+    go false (Err e) reads = subst (λ (d : AppFault). ReadsRange qualifier.COUNT octets (Err d)) (sym reads.0) reads.1
+    go true (Err e) reads = subst (λ (d : AppFault). ReadsRange qualifier.WIDE_COUNT octets (Err d)) (sym reads.0) reads.1
 
-indexed_reads : (wide : Bool) (octets : List ℕ) → AreOctets octets → ReadsRange (cond wide 0x28 0x17) octets (indexed_at wide octets)
+indexed_reads : (wide : Bool) (octets : List ℕ) → AreOctets octets → ReadsRange (cond wide qualifier.WIDE_INDEXED qualifier.INDEXED) octets (indexed_at wide octets)
 indexed_reads wide octets are = go wide (number_at wide octets) (number_reads wide octets are)
   where
     go : (wide : Bool) (r : Result (ℕ × List ℕ) AppFault) → ReadsNumber wide octets r
-        → ReadsRange (cond wide 0x28 0x17) octets (r >>= λ (n : ℕ × List ℕ). Ok (range.Indexed wide n.0, n.1))
+        → ReadsRange (cond wide qualifier.WIDE_INDEXED qualifier.INDEXED) octets (r >>= λ (n : ℕ × List ℕ). Ok (range.Indexed wide n.0, n.1))
     go wide (Ok x) reads = (record { qualifier = refl; fits = reads.0; whole = reads.1 }, tt, reads.2)
-    go false (Err e) reads = subst (λ (d : AppFault). ReadsRange 0x17 octets (Err d)) (sym reads.0) reads.1
-    go true (Err e) reads = subst (λ (d : AppFault). ReadsRange 0x28 octets (Err d)) (sym reads.0) reads.1
+    go false (Err e) reads = subst (λ (d : AppFault). ReadsRange qualifier.INDEXED octets (Err d)) (sym reads.0) reads.1
+    go true (Err e) reads = subst (λ (d : AppFault). ReadsRange qualifier.WIDE_INDEXED octets (Err d)) (sym reads.0) reads.1
 
 -- a start and a stop
 span_cut : (wide : Bool) (octets : List ℕ) (e : AppFault) → e ≡ HeaderCut → length octets < number_size wide + number_size wide
-    → ReadsRange (cond wide 0x01 0x00) octets (Err e)
-span_cut false octets e is few = subst (λ (d : AppFault). ReadsRange 0x00 octets (Err d)) (sym is) few
-span_cut true octets e is few = subst (λ (d : AppFault). ReadsRange 0x01 octets (Err d)) (sym is) few
+    → ReadsRange (cond wide qualifier.WIDE_SPAN qualifier.SPAN) octets (Err e)
+span_cut false octets e is few = subst (λ (d : AppFault). ReadsRange qualifier.SPAN octets (Err d)) (sym is) few
+span_cut true octets e is few = subst (λ (d : AppFault). ReadsRange qualifier.WIDE_SPAN octets (Err d)) (sym is) few
 
 both_numbers : (wide : Bool) (octets rest last : List ℕ) (a b : ℕ) → octets ≡ number wide a ++ rest → rest ≡ number wide b ++ last
     → octets ≡ (number wide a ++ number wide b) ++ last
 both_numbers wide octets rest last a b first second =
     first ∙ ap (λ (t : List ℕ). number wide a ++ t) second ∙ sym (append_assoc (number wide a) (number wide b) last)
 
-span_reads : (wide : Bool) (octets : List ℕ) → AreOctets octets → ReadsRange (cond wide 0x01 0x00) octets (span_at wide octets)
+span_reads : (wide : Bool) (octets : List ℕ) → AreOctets octets → ReadsRange (cond wide qualifier.WIDE_SPAN qualifier.SPAN) octets (span_at wide octets)
 unfolding span_at
 span_reads wide octets are = first (number_at wide octets) (number_reads wide octets are)
   where
     stop : (a : ℕ × List ℕ) → ReadsNumber wide octets (Ok a) → (b : ℕ × List ℕ) → ReadsNumber wide a.1 (Ok b)
         → (backward : Bool) → nat_lt b.0 a.0 ≡ backward
-        → ReadsRange (cond wide 0x01 0x00) octets (cond backward (Err RangeBackward) (Ok (range.Span wide a.0 b.0, b.1)))
+        → ReadsRange (cond wide qualifier.WIDE_SPAN qualifier.SPAN) octets (cond backward (Err RangeBackward) (Ok (range.Span wide a.0 b.0, b.1)))
     stop a start b end true is = record {
       range = range.Span wide a.0 b.0;
       rest = b.1;
@@ -83,7 +84,7 @@ span_reads wide octets are = first (number_at wide octets) (number_reads wide oc
     )
 
     second : (a : ℕ × List ℕ) → ReadsNumber wide octets (Ok a) → (r : Result (ℕ × List ℕ) AppFault) → ReadsNumber wide a.1 r
-        → ReadsRange (cond wide 0x01 0x00) octets (r >>= λ (b : ℕ × List ℕ). cond (nat_lt b.0 a.0) (Err RangeBackward) (Ok (range.Span wide a.0 b.0, b.1)))
+        → ReadsRange (cond wide qualifier.WIDE_SPAN qualifier.SPAN) octets (r >>= λ (b : ℕ × List ℕ). cond (nat_lt b.0 a.0) (Err RangeBackward) (Ok (range.Span wide a.0 b.0, b.1)))
     second a start (Ok b) end = stop a start b end (nat_lt b.0 a.0) refl
     second a start (Err e) end =
         let size : length octets ≡ number_size wide + length a.1 =
@@ -92,15 +93,15 @@ span_reads wide octets are = first (number_at wide octets) (number_reads wide oc
         span_cut wide octets e end.0 (omega arith)
 
     first : (r : Result (ℕ × List ℕ) AppFault) → ReadsNumber wide octets r
-        → ReadsRange (cond wide 0x01 0x00) octets (r >>= λ (a : ℕ × List ℕ). number_at wide a.1 >>= λ (b : ℕ × List ℕ). cond (nat_lt b.0 a.0) (Err RangeBackward) (Ok (range.Span wide a.0 b.0, b.1)))
+        → ReadsRange (cond wide qualifier.WIDE_SPAN qualifier.SPAN) octets (r >>= λ (a : ℕ × List ℕ). number_at wide a.1 >>= λ (b : ℕ × List ℕ). cond (nat_lt b.0 a.0) (Err RangeBackward) (Ok (range.Span wide a.0 b.0, b.1)))
     first (Ok a) start = second a start (number_at wide a.1) (number_reads wide a.1 start.2)
     first (Err e) start = let few : length octets < number_size wide = start.1 in span_cut wide octets e start.0 (omega arith)
 
 -- another number than the seven
-none_known : (q : ℕ) → (q == 0x00) ≡ false → (q == 0x01) ≡ false → (q == 0x06) ≡ false → (q == 0x07) ≡ false → (q == 0x08) ≡ false
-    → (q == 0x17) ≡ false → (q == 0x28) ≡ false → known q ≡ false
+none_known : (q : ℕ) → (q == qualifier.SPAN) ≡ false → (q == qualifier.WIDE_SPAN) ≡ false → (q == qualifier.ALL) ≡ false → (q == qualifier.COUNT) ≡ false → (q == qualifier.WIDE_COUNT) ≡ false
+    → (q == qualifier.INDEXED) ≡ false → (q == qualifier.WIDE_INDEXED) ≡ false → known q ≡ false
 unfolding known
-none_known q a b c d e f g = rw (other 0x06 c, other 0x00 a, other 0x01 b, other 0x07 d, other 0x08 e, other 0x17 f, other 0x28 g)
+none_known q a b c d e f g = rw (other qualifier.ALL c, other qualifier.SPAN a, other qualifier.WIDE_SPAN b, other qualifier.COUNT d, other qualifier.WIDE_COUNT e, other qualifier.INDEXED f, other qualifier.WIDE_INDEXED g)
   where
     other : (k : ℕ) → (q == k) ≡ false → (k == q) ≡ false
     other k ne = ne_eqb k q (λ same. eqb-false q k ne (sym same))
@@ -115,13 +116,13 @@ turn q k octets here others at other =
 pub range_reads : (q : ℕ) (octets : List ℕ) → AreOctets octets → ReadsRange q octets (range_at q octets)
 unfolding range_at
 range_reads q octets are =
-    turn q 0x00 octets (span_at false octets) _ (span_reads false octets are) (λ a.
-    turn q 0x01 octets (span_at true octets) _ (span_reads true octets are) (λ b.
-    turn q 0x06 octets (Ok (range.All, octets)) _ (record { qualifier = refl; fits = tt; whole = refl }, tt, are) (λ c.
-    turn q 0x07 octets (count_at false octets) _ (count_reads false octets are) (λ d.
-    turn q 0x08 octets (count_at true octets) _ (count_reads true octets are) (λ e.
-    turn q 0x17 octets (indexed_at false octets) _ (indexed_reads false octets are) (λ f.
-    turn q 0x28 octets (indexed_at true octets) _ (indexed_reads true octets are) (λ g.
+    turn q qualifier.SPAN octets (span_at false octets) _ (span_reads false octets are) (λ a.
+    turn q qualifier.WIDE_SPAN octets (span_at true octets) _ (span_reads true octets are) (λ b.
+    turn q qualifier.ALL octets (Ok (range.All, octets)) _ (record { qualifier = refl; fits = tt; whole = refl }, tt, are) (λ c.
+    turn q qualifier.COUNT octets (count_at false octets) _ (count_reads false octets are) (λ d.
+    turn q qualifier.WIDE_COUNT octets (count_at true octets) _ (count_reads true octets are) (λ e.
+    turn q qualifier.INDEXED octets (indexed_at false octets) _ (indexed_reads false octets are) (λ f.
+    turn q qualifier.WIDE_INDEXED octets (indexed_at true octets) _ (indexed_reads true octets are) (λ g.
     none_known q a b c d e f g)))))))
 
 -- ---- and what is spelled is read
@@ -197,26 +198,29 @@ indexed_short wide octets few = ap (λ (r : Result (ℕ × List ℕ) AppFault). 
 below_none : (n m : ℕ) → n < m → m ≡ 0 → ⊥
 below_none n m less none = omega arith
 
+-- the ranges that are one number
+abbrev count_size : ℕ → ℕ
+count_size q = cond (q == qualifier.COUNT) 1 (cond (q == qualifier.WIDE_COUNT) 2 (cond (q == qualifier.INDEXED) 1 (cond (q == qualifier.WIDE_INDEXED) 2 0)))
+
+abbrev counts_at : ℕ → List ℕ → Result (Range × List ℕ) AppFault
+counts_at q octets =
+    cond (q == qualifier.COUNT) (count_at false octets) (cond (q == qualifier.WIDE_COUNT) (count_at true octets)
+    (cond (q == qualifier.INDEXED) (indexed_at false octets) (cond (q == qualifier.WIDE_INDEXED) (indexed_at true octets) (Err QualifierUnknown))))
+
+count_cut : (q : ℕ) (octets : List ℕ) → length octets < count_size q → counts_at q octets ≡ Err HeaderCut
+count_cut q octets =
+    at_short q qualifier.COUNT octets (count_at false octets) _ 1 _ (count_short false octets)
+    (at_short q qualifier.WIDE_COUNT octets (count_at true octets) _ 2 _ (count_short true octets)
+    (at_short q qualifier.INDEXED octets (indexed_at false octets) _ 1 _ (indexed_short false octets)
+    (at_short q qualifier.WIDE_INDEXED octets (indexed_at true octets) _ 2 _ (indexed_short true octets) (λ few. absurd (omega arith)))))
+
 pub range_short : (q : ℕ) (octets : List ℕ) → length octets < range_size q → range_at q octets ≡ Err HeaderCut
 unfolding range_at
 range_short q octets =
-    at_short q 0x00 octets (span_at false octets) _ 2 _ (span_short false octets)
-    (at_short q 0x01 octets (span_at true octets) _ 4 _ (span_short true octets)
-    (skip (q == 0x06) refl))
+    at_short q qualifier.SPAN octets (span_at false octets) _ 2 _ (span_short false octets)
+    (at_short q qualifier.WIDE_SPAN octets (span_at true octets) _ 4 _ (span_short true octets)
+    (skip (q == qualifier.ALL) refl))
   where
-    rest : length octets < cond (q == 0x07) 1 (cond (q == 0x08) 2 (cond (q == 0x17) 1 (cond (q == 0x28) 2 0)))
-        → cond (q == 0x07) (count_at false octets) (cond (q == 0x08) (count_at true octets) (cond (q == 0x17) (indexed_at false octets) (cond (q == 0x28) (indexed_at true octets) (Err QualifierUnknown)))) ≡ Err HeaderCut
-    rest =
-        at_short q 0x07 octets (count_at false octets) _ 1 _ (count_short false octets)
-        (at_short q 0x08 octets (count_at true octets) _ 2 _ (count_short true octets)
-        (at_short q 0x17 octets (indexed_at false octets) _ 1 _ (indexed_short false octets)
-        (at_short q 0x28 octets (indexed_at true octets) _ 2 _ (indexed_short true octets) (λ few. absurd (omega arith)))))
-
-    skip : (b : Bool) → (q == 0x06) ≡ b → length octets < cond (q == 0x07) 1 (cond (q == 0x08) 2 (cond (q == 0x17) 1 (cond (q == 0x28) 2 0)))
-        → cond b (Ok (range.All, octets)) (cond (q == 0x07) (count_at false octets) (cond (q == 0x08) (count_at true octets) (cond (q == 0x17) (indexed_at false octets) (cond (q == 0x28) (indexed_at true octets) (Err QualifierUnknown))))) ≡ Err HeaderCut
-    skip true is few =
-        let six : q ≡ 0x06 = eqb-true q 0x06 is in
-        let size : cond (q == 0x07) 1 (cond (q == 0x08) 2 (cond (q == 0x17) 1 (cond (q == 0x28) 2 0))) ≡ 0 =
-        ap (λ (n : ℕ). cond (n == 0x07) 1 (cond (n == 0x08) 2 (cond (n == 0x17) 1 (cond (n == 0x28) 2 0)))) six in
-        absurd (below_none (length octets) _ few size)
-    skip false is few = rest few
+    skip : (b : Bool) → (q == qualifier.ALL) ≡ b → length octets < count_size q → cond b (Ok (range.All, octets)) (counts_at q octets) ≡ Err HeaderCut
+    skip true is few = absurd (below_none (length octets) _ few (ap count_size (eqb-true q qualifier.ALL is)))
+    skip false is few = count_cut q octets few

@@ -211,13 +211,19 @@ response_reads (control ∷ code ∷ one ∷ two ∷ body) are = go (function_at
         subst (λ (d : AppFault). IsResponseFault (control ∷ code ∷ one ∷ two ∷ body) d) (sym reads.0)
         (omega arith, record { control = control; code = code; body = one ∷ two ∷ body; whole = refl; unknown = reads.1 })
 
+-- the response of a function, if there is one, with these indications and octets of headers
+abbrev response_given : ℕ → ℕ → ℕ → List ℕ → Result Function AppFault → Result Answered AppFault
+response_given control one two body r = do
+  f ← r
+  hs ← headers_at form.Response body
+  Ok (record { control = control_of control; function = f; iin = record { one = one; two = two }; headers = hs })
+
 response_from : (control : ℕ) (f : Function) (one two : ℕ) (body : List ℕ) → is_response f ≡ true
     → response_at (control ∷ function_octet f ∷ one ∷ two ∷ body)
     ≡ (headers_at form.Response body >>= λ (hs : List Head). Ok (record { control = control_of control; function = f; iin = record { one = one; two = two }; headers = hs }))
 unfolding response_at
 response_from control f one two body kind =
-    ap (λ (r : Result Function AppFault). r >>= λ (f : Function). headers_at form.Response body >>= λ (hs : List Head). Ok (record { control = control_of control; function = f; iin = record { one = one; two = two }; headers = hs }))
-    (function_again true f kind)
+    ap (response_given control one two body) (function_again true f kind)
 
 pub response_again : (octets : List ℕ) (answered : Answered) → IsResponse octets answered → response_at octets ≡ Ok answered
 response_again octets answered is =
@@ -253,7 +259,7 @@ response_fault octets FunctionUnknown has = lacks octets has.0 has.1.control has
     lacks octets long control code (one ∷ []) whole unknown = let size = ap length whole in absurd (omega arith)
     lacks octets long control code (one ∷ two ∷ body) whole unknown =
         ap response_at whole
-        ∙ ap (λ (r : Result Function AppFault). r >>= λ (f : Function). headers_at form.Response body >>= λ (hs : List Head). Ok (record { control = control_of control; function = f; iin = record { one = one; two = two }; headers = hs }))
+        ∙ ap (response_given control one two body)
         (function_lacks true code unknown)
 response_fault octets HeaderCut has = response_header_fault octets HeaderCut has
 response_fault octets ObjectUnknown has = response_header_fault octets ObjectUnknown has

@@ -1,6 +1,5 @@
 //! Commands from the octets of objects, and back.
-ghost use Rattle.std.specs.Prelude.{◌≡◌, ◌+◌, ◌⊎◌, ◌∷◌, [], ◌++◌, IfOk, IfErr, length, ℕ};
-ghost use Rattle.std.specs.Int.{w16, w32, cast_unsigned};
+ghost use Rattle.std.specs.Prelude.{◌≡◌, ◌+◌, ◌⊎◌, ◌≤◌, ◌∷◌, [], ◌++◌, IfOk, IfErr, length, ℕ};
 ghost use Rattle.byteorder.specs.Endian.{little_bytes};
 ghost use Rattle.dnp_objects.specs.declared.command.Command.{Command as CommandValue};
 ghost use Rattle.dnp_objects.specs.declared.fault.ObjectFault.{ObjectFault as FaultValue};
@@ -123,22 +122,13 @@ fn block_octets(code: u8, count: u8, on_ms: u32, off_ms: u32, status: Status) ->
     octets
 }
 
-/// The octets of a value of 16 bits and its status.
-fn set16_octets(value: i16, status: Status) -> ArrayVec<u8, 11>
-    ensures { result.items ≡ little_bytes 2 (cast_unsigned w16 value) ++ status ∷ [] }
+/// The octets of a value and its status.
+fn setpoint_octets(value: &[u8], status: Status) -> ArrayVec<u8, 11>
+    requires { length value.now ≤ 10 }
+    ensures { result.items ≡ value.now ++ status ∷ [] }
 {
     let mut octets = ArrayVec::new();
-    octets.try_extend_from_slice(&value.to_le_bytes()).unwrap();
-    octets.push(status.code());
-    octets
-}
-
-/// The octets of a value of 32 bits and its status.
-fn set32_octets(value: i32, status: Status) -> ArrayVec<u8, 11>
-    ensures { result.items ≡ little_bytes 4 (cast_unsigned w32 value) ++ status ∷ [] }
-{
-    let mut octets = ArrayVec::new();
-    octets.try_extend_from_slice(&value.to_le_bytes()).unwrap();
+    octets.try_extend_from_slice(value).unwrap();
     octets.push(status.code());
     octets
 }
@@ -157,7 +147,7 @@ pub fn write_command(command: &Command, status: Status) -> ArrayVec<u8, 11>
             on_ms,
             off_ms,
         } => block_octets(code, count, on_ms, off_ms, status),
-        Command::Set16 { index: _, value } => set16_octets(value, status),
-        Command::Set32 { index: _, value } => set32_octets(value, status),
+        Command::Set16 { index: _, value } => setpoint_octets(&value.to_le_bytes(), status),
+        Command::Set32 { index: _, value } => setpoint_octets(&value.to_le_bytes(), status),
     }
 }
