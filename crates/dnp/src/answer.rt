@@ -8,10 +8,13 @@ use std::alloc::{AllocError, Global};
 use std::io;
 use std::process::ExitCode;
 
+/// The subcommand's name.
 pub const NAME: &str = "answer";
 
+/// What it does, in a line.
 const ABOUT: &str = "Answer one link frame as an outstation does, and print the answer";
 
+/// What its help text says after the options.
 const AFTER: &str = "\
 INPUT
   One line on standard input, and then the end of the input (Ctrl-D at a terminal): the octets
@@ -28,9 +31,10 @@ EXAMPLE
   05 64 0A 44 01 00 0A 00 6E 25 C0 C0 81 80 00 B3 F3
 
 OUTPUT
-  One line on standard output:
-    the octets of the frame that is sent back, written as above: the link layer's reply, as to
-    a reset or a request for the link's status, or the answer to a READ of class data;
+  On standard output:
+    a line for each frame that is sent back, its octets written as above: the link layer's
+    reply, as to a reset or a request for the link's status, or the frames of the response to
+    a request; the outstation has no points, and was just restarted and opened;
     'no answer', where the outstation stays silent, as for a frame to another address;
     'refused N REASON', where the input is no frame: 0 Text (not written as above), 1 Short,
     2 Start, 3 HeaderCheck, 4 Length, 5 Size, 6 BlockCheck B (B is the number of the first
@@ -45,6 +49,7 @@ EXIT STATUS
   3  the program failed: out of memory, or the input or the output was lost; a line on
      standard error says which, and why";
 
+/// What is wrong with an address that is refused.
 const NO_ADDRESS: &str = "\
 not a decimal number from 0 to 65519
 
@@ -85,7 +90,7 @@ pub(crate) fn run<R: AllocGlobal + Input + Print + Eprint>(
         Err(cause) => return Ok(lost(rt, "standard input", &cause)),
     };
     let mut out = Noted::new(io::writer(rt));
-    match answer_line(text.as_slice(), own, peer, &mut out) {
+    match answer_line(rt.alloc(), text.as_slice(), own, peer, &mut out) {
         Ok(true) => Ok(ExitCode::from(exit::DONE)),
         Ok(false) => {
             explain(rt, text.as_slice());

@@ -14,7 +14,9 @@ pub(crate) fn lost<R: Eprint>(rt: &R, stream: &str, cause: &io::Error) -> ExitCo
 /// A writer that keeps the cause of its last failed write, for calls whose faults don't carry it.
 #[derive(Drop)]
 pub(crate) struct Noted<W> {
+    /// What is written to.
     inner: W,
+    /// Why its last failed write failed.
     cause: Option<io::Error>,
 }
 

@@ -15,8 +15,10 @@ use std::process::ExitCode;
 use std::rt::Env;
 use std::{env, io};
 
+/// What the program is, in a line.
 const ABOUT: &str = "DNP3 (IEEE Std 1815-2012) from the command line.";
 
+/// What `dnp --help` says after the subcommands.
 const AFTER: &str = "\
 Each subcommand has a help text of its own, such as 'dnp answer --help'.
 
@@ -26,6 +28,7 @@ as when it is out of memory. The others are each subcommand's own.";
 /// What `dnp --version` prints after the program's name.
 const VERSION: &str = "0.1.0";
 
+/// Runs the command line, and says what failed.
 fn main(rt: HostRuntime) -> ExitCode {
     match run(&rt) {
         Ok(status) => status,
@@ -36,6 +39,7 @@ fn main(rt: HostRuntime) -> ExitCode {
     }
 }
 
+/// Reads the words of the command line, and does what they ask.
 fn run<R: Env + AllocGlobal + Input + Print + Eprint>(rt: &R) -> anyhow::Result<ExitCode> {
     let words = match env::args(rt) {
         Ok(words) => words,
@@ -53,6 +57,7 @@ fn run<R: Env + AllocGlobal + Input + Print + Eprint>(rt: &R) -> anyhow::Result<
     }
 }
 
+/// What `clap` has to know of the program.
 fn command<'a>(alloc: Global) -> Result<Command<'a>, AllocError> {
     Command::new(alloc, "dnp")
         .about(ABOUT)
@@ -63,6 +68,7 @@ fn command<'a>(alloc: Global) -> Result<Command<'a>, AllocError> {
         .subcommand(answer::command(alloc)?)
 }
 
+/// Does what the subcommand asks.
 fn dispatch<R: AllocGlobal + Input + Print + Eprint>(
     rt: &R,
     matches: &ArgMatches<'_>,

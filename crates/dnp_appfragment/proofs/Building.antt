@@ -5,6 +5,7 @@ use Rattle.std.specs.Option.{option_map}
 use Rattle.std.specs.Result.{result_unwrap_or}
 use Rattle.std.proofs.lemmas.List.{append-nil, length-append}
 use Rattle.std.proofs.lemmas.Grind.{flat_map-append}
+use Rattle.dnp_objects.specs.declared.limits.TheConstants.{MAX_FRAGMENT}
 use Rattle.dnp_appfragment.specs.declared.fault.AppFault.{AppFault}
 use Rattle.dnp_appfragment.specs.declared.function.Function.{Function}
 use Rattle.dnp_appfragment.specs.declared.run.Run.{Run}
@@ -51,11 +52,11 @@ built_is f octets run objects hs divide =
     ap (λ (gs : List Head). of_heads f gs run objects) (headers_are (form_of f) octets hs divide)
 
 pub is_built : (f : Function) (octets : List ℕ) (run : Option Run) (objects : List ℕ) (hs : List Head) → Divide (form_of f) octets hs
-    → IfSome run (λ r. IsHeader (form_of f) (run_head objects r)) → size (of_heads f hs run objects) ≤ 2048 → IsBuilt f octets run objects
+    → IfSome run (λ r. IsHeader (form_of f) (run_head objects r)) → size (of_heads f hs run objects) ≤ MAX_FRAGMENT → IsBuilt f octets run objects
 is_built f octets run objects hs divide run_is room = record {
   divides = subst (λ (gs : List Head). Divide (form_of f) octets gs) (sym (headers_are (form_of f) octets hs divide)) divide;
   run_is = run_is;
-  room = subst (λ (b : Built). size b ≤ 2048) (sym (built_is f octets run objects hs divide)) room;
+  room = subst (λ (b : Built). size b ≤ MAX_FRAGMENT) (sym (built_is f octets run objects hs divide)) room;
 }
 
 run_each : (f : Form) (run : Option Run) (objects : List ℕ) → IfSome run (λ r. IsHeader f (run_head objects r))
@@ -78,11 +79,11 @@ empty f octets objects none =
     let divide : Divide (form_of f) octets [] = record { each = tt; whole = none } in
     (is_built f octets None objects [] divide tt (few f), built_is f octets None objects [] divide)
   where
-    small : (b : Bool) → cond b 4 2 + 0 ≤ 2048
+    small : (b : Bool) → cond b 4 2 + 0 ≤ MAX_FRAGMENT
     small true = omega arith
     small false = omega arith
 
-    few : (f : Function) → front_size f + 0 ≤ 2048
+    few : (f : Function) → front_size f + 0 ≤ MAX_FRAGMENT
     few f = small (is_response f)
 
 -- ---- the run ended
@@ -95,8 +96,8 @@ ended_run f octets now run objects h is same whole =
     let g = run_head objects run in
     let divide : Divide (form_of f) now (hs ++ g ∷ []) =
     divide-one (form_of f) octets now hs g is.divides is.run_is (whole ∙ ap (λ (x : Head). octets ++ header_octets x) same) in
-    let room : size (of_heads f (hs ++ g ∷ []) None objects) ≤ 2048 =
-    subst (λ (gs : List Head). front_size f + length (spelled gs) ≤ 2048) (sym (append-nil (hs ++ g ∷ []))) is.room in
+    let room : size (of_heads f (hs ++ g ∷ []) None objects) ≤ MAX_FRAGMENT =
+    subst (λ (gs : List Head). front_size f + length (spelled gs) ≤ MAX_FRAGMENT) (sym (append-nil (hs ++ g ∷ []))) is.room in
     (is_built f now None objects (hs ++ g ∷ []) divide tt room, built_is f now None objects (hs ++ g ∷ []) divide)
 
 pub run_ended : (f : Function) (octets now : List ℕ) (o : Option Run) (run : Run) (objects shown : List ℕ) (h : Head) → IsBuilt f octets o objects
@@ -123,15 +124,15 @@ with_header_of_broken b h = ap (λ (gs : List Head). let x : Built = record { fu
 
 put_header : (f : Function) (octets now : List ℕ) (run : Option Run) (objects : List ℕ) (h : Head) → IsBuilt f octets run objects
     → (built f octets run objects).run ≡ None → IsHeader (form_of f) h → now ≡ octets ++ header_octets h
-    → size (with_header (built f octets run objects) h) ≤ 2048
+    → size (with_header (built f octets run objects) h) ≤ MAX_FRAGMENT
     → IsBuilt f now run objects × (built f now run objects ≡ with_header (built f octets run objects) h)
 put_header f octets now (Some run) objects h is none fits whole room = cc
 put_header f octets now None objects h is none fits whole room =
     let hs = headers_of (form_of f) octets in
     let divide : Divide (form_of f) now (hs ++ h ∷ []) = divide-one (form_of f) octets now hs h is.divides fits whole in
     let same : hs ++ [] ≡ hs = append-nil hs in
-    let small : size (of_heads f (hs ++ h ∷ []) None objects) ≤ 2048 =
-    subst (λ (gs : List Head). front_size f + length (spelled ((gs ++ h ∷ []) ++ [])) ≤ 2048) same room in (
+    let small : size (of_heads f (hs ++ h ∷ []) None objects) ≤ MAX_FRAGMENT =
+    subst (λ (gs : List Head). front_size f + length (spelled ((gs ++ h ∷ []) ++ [])) ≤ MAX_FRAGMENT) same room in (
       is_built f now None objects (hs ++ h ∷ []) divide tt small,
       built_is f now None objects (hs ++ h ∷ []) divide
           ∙ ap (λ (gs : List Head). let x : Built = record { function = f; ended = gs ++ h ∷ []; run = None } in x) (sym same),
@@ -140,7 +141,7 @@ put_header f octets now None objects h is none fits whole room =
 -- old is what was built when the header was put, and inside it the fields after its run was ended
 pub header_put : (old : Built) (f : Function) (octets now : List ℕ) (run : Option Run) (objects : List ℕ) (h : Head)
     → built f octets run objects ≡ broken old → IsBuilt f octets run objects
-    → IsHeader (form_of old.function) h → now ≡ octets ++ header_octets h → size old + length (header_octets h) ≤ 2048
+    → IsHeader (form_of old.function) h → now ≡ octets ++ header_octets h → size old + length (header_octets h) ≤ MAX_FRAGMENT
     → IsBuilt f now run objects × (built f now run objects ≡ with_header old h)
 header_put old f octets now run objects h inside is fits whole room =
     let fits' : IsHeader (form_of f) h = subst (λ (g : Function). IsHeader (form_of g) h) (sym (ap (λ (b : Built). b.function) inside)) fits in

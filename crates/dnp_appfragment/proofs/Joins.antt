@@ -3,6 +3,7 @@ use Rattle.std.proofs.Common.{◌≡◌, Bool, true, false, cond, refl, sym, ◌
 use Rattle.std.specs.Option.{option_map, option_and_then}
 use Rattle.std.proofs.lemmas.Bool.{ltb-true, and_parts}
 use Rattle.std.proofs.lemmas.List.{length-append}
+use Rattle.dnp_objects.specs.declared.limits.TheConstants.{MAX_FRAGMENT}
 use Rattle.dnp_objects.specs.Objects.{object_size}
 use Rattle.dnp_appfragment.specs.declared.function.Function.{Function}
 use Rattle.dnp_appfragment.specs.declared.header.Range.{Range}
@@ -182,11 +183,11 @@ size-longer f octets run objects object long is old fits some =
 
 pub object_joins : (f : Function) (octets : List ℕ) (run : Option Run) (objects now : List ℕ) (object : Head) (long : Run) → longer run object ≡ Some long
     → IsBuilt f octets run objects → IsHeader (form_of f) object → IsSome (object_size object.group object.variation)
-    → now ≡ objects ++ object.octets → size (built f octets run objects) + length object.octets ≤ 2048
+    → now ≡ objects ++ object.octets → size (built f octets run objects) + length object.octets ≤ MAX_FRAGMENT
     → IsBuilt f octets (Some long) now × (built f octets (Some long) now ≡ with_object (built f octets run objects) object)
 object_joins f octets run objects now object long is old fits some whole room =
     let by = longer_by f octets run objects object long is old fits some in
-    let small : size (built f octets (Some long) (objects ++ object.octets)) ≤ 2048 = omega (arith, by.1, room) in
+    let small : size (built f octets (Some long) (objects ++ object.octets)) ≤ MAX_FRAGMENT = omega (arith, by.1, room) in
     let all : IsBuilt f octets (Some long) (objects ++ object.octets) = record { divides = old.divides; run_is = by.0; room = small } in (
       subst (λ (t : List ℕ). IsBuilt f octets (Some long) t) (sym whole) all,
       ap (λ (t : List ℕ). built f octets (Some long) t) whole ∙ sym (with_longer f octets run objects object long is),
@@ -204,7 +205,7 @@ with_begun f octets run objects object is =
 -- the octets now are those of the ended headers, and the run that is begun is the object
 pub object_begins : (old : Built) (f : Function) (octets now : List ℕ) (run : Option Run) (objects : List ℕ) (begun : Run) (object : Head)
     → built f octets run objects ≡ broken old → IsBuilt f octets run objects → run_head object.octets begun ≡ object
-    → IsHeader (form_of old.function) object → size old + length (header_octets object) ≤ 2048 → now ≡ object.octets
+    → IsHeader (form_of old.function) object → size old + length (header_octets object) ≤ MAX_FRAGMENT → now ≡ object.octets
     → IsBuilt f octets (Some begun) now × (built f octets (Some begun) now ≡ record { function = old.function; ended = heads old; run = Some object })
 object_begins old f octets now run objects begun object inside is join fits room whole =
     let ended : headers_of (form_of f) octets ≡ heads old = ap (λ (b : Built). b.ended) inside in
@@ -212,7 +213,7 @@ object_begins old f octets now run objects begun object inside is join fits room
     let head_is : run_head now begun ≡ object = ap (λ (t : List ℕ). run_head t begun) whole ∙ join in
     let seen : built f octets (Some begun) now ≡ record { function = old.function; ended = heads old; run = Some object } =
     (λ i. record { function = same i; ended = ended i; run = Some (head_is i) }) in
-    let small : size (built f octets (Some begun) now) ≤ 2048 =
+    let small : size (built f octets (Some begun) now) ≤ MAX_FRAGMENT =
     omega (arith, ap size seen, size-run old.function (heads old) object, room) in (
       record {
         divides = is.divides;
@@ -237,7 +238,7 @@ joined_size old f octets run objects object long seen is fits some join =
 pub joined_all : (old : Built) (f : Function) (octets now : List ℕ) (run : Option Run) (objects : List ℕ) (object : Head) (long : Run)
     → built f octets run objects ≡ old → IsBuilt f octets run objects → IsHeader (form_of old.function) object
     → IsSome (object_size object.group object.variation) → longer run object ≡ Some long
-    → size old + length object.octets ≤ 2048 → now ≡ objects ++ object.octets
+    → size old + length object.octets ≤ MAX_FRAGMENT → now ≡ objects ++ object.octets
     → IsBuilt f octets (Some long) now × (built f octets (Some long) now ≡ with_object old object)
 joined_all old f octets now run objects object long seen is fits some join room whole =
     let same : f ≡ old.function = ap (λ (b : Built). b.function) seen in

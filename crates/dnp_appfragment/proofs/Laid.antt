@@ -3,6 +3,7 @@ use Rattle.std.proofs.Common.{◌≡◌, Bool, true, false, cond, refl, sym, ◌
 use Rattle.std.specs.Prelude.{option_to_list}
 use Rattle.std.specs.Option.{option_map}
 use Rattle.std.proofs.lemmas.List.{append-nil, append_assoc, length-append}
+use Rattle.dnp_objects.specs.declared.limits.TheConstants.{MAX_FRAGMENT}
 use Rattle.dnp_objects.specs.Objects.{object_size}
 use Rattle.dnp_appfragment.specs.declared.function.Function.{Function}
 use Rattle.dnp_appfragment.specs.declared.header.Range.{Range}
@@ -183,7 +184,7 @@ run_broken f octets ended end run is at =
 
 pub header_laid : (old : Built) (f : Function) (octets now : List ℕ) (ended end : ℕ) (run : Option Run) (h : Head)
     → built_in f octets ended run ≡ broken old → IsLaid f octets ended run → IsHeader (form_of old.function) h
-    → now ≡ octets ++ header_octets h → end ≡ ended + length (header_octets h) → size old + length (header_octets h) ≤ 2048
+    → now ≡ octets ++ header_octets h → end ≡ ended + length (header_octets h) → size old + length (header_octets h) ≤ MAX_FRAGMENT
     → IsLaid f now end run × (built_in f now end run ≡ with_header old h)
 header_laid old f octets now ended end (Some run) h inside is fits whole at room = let none = ap (λ (b : Built). b.run) inside in cc
 header_laid old f octets now ended end None h inside is fits whole at room =
@@ -220,7 +221,7 @@ size-header begun object same =
 
 pub object_laid : (old : Built) (f : Function) (octets now : List ℕ) (ended : ℕ) (run : Option Run) (begun : Run) (object : Head)
     → built_in f octets ended run ≡ broken old → IsLaid f octets ended run → run_head object.octets begun ≡ object
-    → IsHeader (form_of old.function) object → now ≡ octets ++ header_octets object → size old + length (header_octets object) ≤ 2048
+    → IsHeader (form_of old.function) object → now ≡ octets ++ header_octets object → size old + length (header_octets object) ≤ MAX_FRAGMENT
     → IsLaid f now ended (Some begun) × (built_in f now ended (Some begun) ≡ record { function = old.function; ended = heads old; run = Some object })
 object_laid old f octets now ended (Some run) begun object inside is same fits whole room = let none = ap (λ (b : Built). b.run) inside in cc
 object_laid old f octets now ended None begun object inside is same fits whole room =
@@ -321,7 +322,7 @@ pub joined_laid : (old : Built) (f : Function) (octets longest now : List ℕ) (
     → built_in f octets ended run ≡ old → IsLaid f octets ended run → IsHeader (form_of old.function) object
     → IsSome (object_size object.group object.variation) → longer run object ≡ Some long → longest ≡ octets ++ object.octets
     → place ≡ ended + 3 + (range_end long.range).0 → now ≡ written_over longest place (number true (range_end long.range).1)
-    → size old + length object.octets ≤ 2048
+    → size old + length object.octets ≤ MAX_FRAGMENT
     → IsLaid f now ended (Some long) × (built_in f now ended (Some long) ≡ with_object old object)
 joined_laid old f octets longest now ended place None long object seen is fits some join behind at whole room = cc
 joined_laid old f octets longest now ended place (Some run) long object seen is fits some join behind at whole room =

@@ -221,11 +221,15 @@ one_off f octets h some is whole =
     let both = first_and_others h.0 (headers_at f h.1) (subst (λ (r : Result (List Head) AppFault). is_ok r ≡ true) same whole) in
     (both.0, ap (λ (r : Result (List Head) AppFault). result_unwrap_or r []) same ∙ both.1)
 
--- a fault where there is none
-pub no_stop : (f : Form) (octets : List ℕ) (e : AppFault) → 0 < length octets → header_at f octets ≡ Err e → IsTrue (is_whole f octets) → ⊥
-no_stop f octets e some is whole =
-    let same : is_ok (headers_at f octets) ≡ false = ap (λ (r : Result (List Head) AppFault). is_ok r) (stops f octets e some is) in
-    cc
+-- where headers divide the octets, one stands at the front
+pub front_whole : (f : Form) (octets : List ℕ) → 0 < length octets → IsTrue (is_whole f octets) → IsTrue (is_ok (header_at f octets))
+front_whole f octets some whole = go (header_at f octets) refl
+  where
+    go : (r : Result (Head × List ℕ) AppFault) → header_at f octets ≡ r → IsTrue (is_ok r)
+    go (Ok h) is = refl
+    go (Err e) is =
+        let same : is_ok (headers_at f octets) ≡ false = ap (λ (r : Result (List Head) AppFault). is_ok r) (stops f octets e some is) in
+        cc
 
 -- ---- passing headers
 

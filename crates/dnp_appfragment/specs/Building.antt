@@ -1,6 +1,7 @@
 -- What the fields of a `Builder` stand for.
 use Rattle.std.specs.Prelude.{◌≡◌, ℕ, ◌+◌, ◌≤◌, ◌==◌, ◌&&◌, if◌then◌else◌, List, [], length, take, drop, Option, None, IfSome}
 use Rattle.std.specs.Option.{option_map, option_map_or, option_and_then}
+use Rattle.dnp_objects.specs.declared.limits.TheConstants.{MAX_FRAGMENT}
 use Rattle.dnp_appfragment.specs.declared.function.Function.{Function}
 use Rattle.dnp_appfragment.specs.declared.header.Range.{Range}
 use Rattle.dnp_appfragment.specs.declared.header.Range.TheVariants as range
@@ -23,7 +24,7 @@ built function ended run objects =
 pub record IsBuilt (function : Function) (ended : List ℕ) (run : Option Run) (objects : List ℕ) : Type 0 where
   pub divides : Divide (form_of function) ended (headers_of (form_of function) ended)
   pub run_is : IfSome run (λ r. IsHeader (form_of function) (run_head objects r))
-  pub room : size (built function ended run objects) ≤ 2048
+  pub room : size (built function ended run objects) ≤ MAX_FRAGMENT
 
 -- ---- where they stand in the fragment
 

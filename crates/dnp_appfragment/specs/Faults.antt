@@ -5,6 +5,7 @@ use Rattle.dnp_appfragment.specs.declared.fault.AppFault.{AppFault}
 use Rattle.dnp_appfragment.specs.declared.fault.AppFault.TheVariants.{Short, FunctionUnknown, HeaderCut, QualifierUnknown, ObjectUnknown, RangeBackward, ObjectsCut}
 use Rattle.dnp_appfragment.specs.declared.function.Function.{Function}
 use Rattle.dnp_appfragment.specs.declared.header.Range.{Range}
+use Rattle.dnp_appfragment.specs.declared.qualifier.TheConstants as qualifier
 use Rattle.dnp_appfragment.specs.declared.table.Form.{Form}
 use Rattle.dnp_appfragment.specs.declared.table.Form.TheVariants as form
 use Rattle.dnp_appfragment.specs.declared.table.Takes.{Takes}
@@ -51,9 +52,9 @@ pub record LacksQualifier (f : Form) (octets : List ℕ) : Type 0 where
 
 -- how many octets of range a qualifier has
 abbrev pub range_size : ℕ → ℕ
-range_size qualifier =
-    if qualifier == 0x00 then 2 else (if qualifier == 0x01 then 4 else (if qualifier == 0x07 then 1
-    else (if qualifier == 0x08 then 2 else (if qualifier == 0x17 then 1 else (if qualifier == 0x28 then 2 else 0)))))
+range_size q =
+    if q == qualifier.SPAN then 2 else (if q == qualifier.WIDE_SPAN then 4 else (if q == qualifier.COUNT then 1
+    else (if q == qualifier.WIDE_COUNT then 2 else (if q == qualifier.INDEXED then 1 else (if q == qualifier.WIDE_INDEXED then 2 else 0)))))
 
 -- it does take it, but octets of the range are missing
 pub record LacksRange (f : Form) (octets : List ℕ) : Type 0 where

@@ -5,6 +5,7 @@ use Rattle.std.specs.List.{flat_map}
 use Rattle.dnp_objects.specs.Objects.{object_size}
 use Rattle.dnp_appfragment.specs.declared.header.Range.{Range}
 use Rattle.dnp_appfragment.specs.declared.header.Range.TheVariants as range
+use Rattle.dnp_appfragment.specs.declared.qualifier.TheConstants as qualifier
 use Rattle.dnp_appfragment.specs.declared.table.Form.{Form}
 use Rattle.dnp_appfragment.specs.declared.table.Form.TheVariants as form
 use Rattle.dnp_appfragment.specs.Table.{IsInTable}
@@ -19,10 +20,10 @@ pub record Head : Type 0 where
 -- ---- the range
 
 abbrev pub qualifier_of : Range → ℕ
-qualifier_of range.All = 0x06
-qualifier_of (range.Span wide first last) = if wide then 0x01 else 0x00
-qualifier_of (range.Count wide n) = if wide then 0x08 else 0x07
-qualifier_of (range.Indexed wide n) = if wide then 0x28 else 0x17
+qualifier_of range.All = qualifier.ALL
+qualifier_of (range.Span wide first last) = if wide then qualifier.WIDE_SPAN else qualifier.SPAN
+qualifier_of (range.Count wide n) = if wide then qualifier.WIDE_COUNT else qualifier.COUNT
+qualifier_of (range.Indexed wide n) = if wide then qualifier.WIDE_INDEXED else qualifier.INDEXED
 
 -- a number in one octet, or, wide, in two: the low one first
 abbrev pub number : Bool → ℕ → List ℕ

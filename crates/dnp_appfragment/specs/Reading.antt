@@ -7,6 +7,7 @@ use Rattle.dnp_appfragment.specs.declared.fault.AppFault.{AppFault}
 use Rattle.dnp_appfragment.specs.declared.fault.AppFault.TheVariants.{HeaderCut, QualifierUnknown, ObjectUnknown, RangeBackward, ObjectsCut}
 use Rattle.dnp_appfragment.specs.declared.header.Range.{Range}
 use Rattle.dnp_appfragment.specs.declared.header.Range.TheVariants as range
+use Rattle.dnp_appfragment.specs.declared.qualifier.TheConstants as qualifier
 use Rattle.dnp_appfragment.specs.declared.table.Form.{Form}
 use Rattle.dnp_appfragment.specs.declared.table.Takes.{Takes}
 use Rattle.dnp_appfragment.specs.Table.{takes_of, allows}
@@ -45,13 +46,13 @@ indexed_at wide octets = do
 
 unfoldable pub range_at : ℕ → List ℕ → Result (Range × List ℕ) AppFault
 range_at q octets =
-    if q == 0x00 then span_at false octets else
-    (if q == 0x01 then span_at true octets else
-    (if q == 0x06 then Ok (range.All, octets) else
-    (if q == 0x07 then count_at false octets else
-    (if q == 0x08 then count_at true octets else
-    (if q == 0x17 then indexed_at false octets else
-    (if q == 0x28 then indexed_at true octets else Err QualifierUnknown))))))
+    if q == qualifier.SPAN then span_at false octets else
+    (if q == qualifier.WIDE_SPAN then span_at true octets else
+    (if q == qualifier.ALL then Ok (range.All, octets) else
+    (if q == qualifier.COUNT then count_at false octets else
+    (if q == qualifier.WIDE_COUNT then count_at true octets else
+    (if q == qualifier.INDEXED then indexed_at false octets else
+    (if q == qualifier.WIDE_INDEXED then indexed_at true octets else Err QualifierUnknown))))))
 
 abbrev pub taken : Option Takes → ℕ → Result Takes AppFault
 taken None q = Err ObjectUnknown

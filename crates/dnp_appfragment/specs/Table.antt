@@ -7,7 +7,6 @@ use Rattle.std.specs.Prelude.{ℕ, Bool, true, false, IsTrue, ◌&&◌, ◌==◌
 use Rattle.std.specs.Option.{option_map, IsSomeAnd}
 use Rattle.std.specs.List.{filter, list_any}
 use Rattle.dnp_objects.specs.Objects.{objects, writable}
-use Rattle.dnp_appfragment.specs.declared.function.Code.{Code}
 use Rattle.dnp_appfragment.specs.declared.function.Function.{Function}
 use Rattle.dnp_appfragment.specs.declared.function.Function.TheVariants as function
 use Rattle.dnp_appfragment.specs.declared.table.Form.{Form}
@@ -16,30 +15,6 @@ use Rattle.dnp_appfragment.specs.declared.table.Takes.{Takes}
 use Rattle.dnp_appfragment.specs.declared.table.Takes.TheVariants as takes
 
 -- ---- the functions
-
-abbrev pub code : ℕ → Function → Code
-code octet f = record { octet = octet; function = f }
-
--- the functions and their octets
-unfoldable pub codes : List Code
-codes =
-    code 0 function.Confirm
-    ∷ code 1 function.Read
-    ∷ code 2 function.Write
-    ∷ code 3 function.Select
-    ∷ code 4 function.Operate
-    ∷ code 5 function.DirectOperate
-    ∷ code 6 function.DirectOperateNr
-    ∷ code 20 function.EnableUnsolicited
-    ∷ code 21 function.DisableUnsolicited
-    ∷ code 23 function.DelayMeasure
-    ∷ code 129 function.Response
-    ∷ code 130 function.UnsolicitedResponse
-    ∷ []
-
--- the function of an octet, if it is one's
-unfoldable pub function_of : ℕ → Option Function
-function_of octet = option_map (λ c. c.function) (find (λ c. c.octet == octet) codes)
 
 -- a function's octet
 abbrev pub function_octet : Function → ℕ
@@ -55,6 +30,27 @@ function_octet function.DisableUnsolicited = 21
 function_octet function.DelayMeasure = 23
 function_octet function.Response = 129
 function_octet function.UnsolicitedResponse = 130
+
+-- the functions that have one
+unfoldable pub codes : List Function
+codes =
+    function.Confirm
+    ∷ function.Read
+    ∷ function.Write
+    ∷ function.Select
+    ∷ function.Operate
+    ∷ function.DirectOperate
+    ∷ function.DirectOperateNr
+    ∷ function.EnableUnsolicited
+    ∷ function.DisableUnsolicited
+    ∷ function.DelayMeasure
+    ∷ function.Response
+    ∷ function.UnsolicitedResponse
+    ∷ []
+
+-- the function of an octet, if it is one's
+unfoldable pub function_of : ℕ → Option Function
+function_of octet = find (λ f. function_octet f == octet) codes
 
 -- and which lines of the table are its own
 abbrev pub form_of : Function → Form

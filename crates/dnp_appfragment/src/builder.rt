@@ -3,14 +3,13 @@ use crate::function::Function;
 use crate::header::Header;
 use crate::iin::Iin;
 use crate::putting::{
-    MAX_FRAGMENT, header_size, push_front, push_header, push_run, range_size, write_front,
-    write_number,
+    header_size, push_front, push_header, push_run, range_size, write_front, write_number,
 };
 use crate::run::{Run, longer};
 use crate::table::{Form, form_of};
 use crate::written::{Event, Indexed, Object, Point};
 use arrayvec::ArrayVec;
-use dnp_objects::{Command, Row, Status, write_command};
+use dnp_objects::{Command, MAX_FRAGMENT, Row, Status, write_command};
 use std::marker::Model;
 use thiserror::Error;
 
@@ -88,7 +87,7 @@ impl Builder {
     /// How many octets still fit into the fragment's 2,048, of which its front has 2, or in a response
     /// 4.
     pub fn left(&self) -> usize
-        ensures { result + built.size self.now ≡ 2048 }
+        ensures { result + built.size self.now ≡ MAX_FRAGMENT }
     {
         MAX_FRAGMENT - self.octets.len()
     }
@@ -106,7 +105,7 @@ impl Builder {
     pub fn header(&mut self, header: &Header<'_>) -> Result<(), Full>
         requires { IsHeader (table.form_of self.old.function) (head header.now) }
         ensures ok { OnOk result (self.new ≡ built.with_header self.old (head header.now)) }
-        ensures full { IsErr result ↔ (2048 < built.size (built.with_header self.old (head header.now))) }
+        ensures full { IsErr result ↔ (MAX_FRAGMENT < built.size (built.with_header self.old (head header.now))) }
         ensures err { OnErr result (self.new ≡ self.old) }
         ensures function { self.new.function ≡ self.old.function }
     {
@@ -128,7 +127,7 @@ impl Builder {
         requires fits { NumbersFit (O.head object.now).range → IsHeader (table.form_of self.old.function) (O.head object.now) }
         requires sized { IsSome (object_size (O.head object.now).group (O.head object.now).variation) }
         ensures ok { OnOk result (self.new ≡ built.with_object self.old (O.head object.now)) }
-        ensures full { IsErr result ↔ (2048 < built.size (built.with_object self.old (O.head object.now))) }
+        ensures full { IsErr result ↔ (MAX_FRAGMENT < built.size (built.with_object self.old (O.head object.now))) }
         ensures err { OnErr result (self.new ≡ self.old) }
         ensures function { self.new.function ≡ self.old.function }
     {
@@ -145,17 +144,31 @@ impl Builder {
                 self.run = Some(longer);
                 Ok(())
             }
-            None => {
-                if self.left() < 3 + range_size(begun.range) + size {
-                    return Err(Full);
-                }
-                self.break_run();
-                push_run(&mut self.octets, begun);
-                object.append(&mut self.octets);
-                self.run = Some(begun);
-                Ok(())
-            }
+            None => self.begin(object),
         }
+    }
+
+    /// Puts an object as a header of its own, which the next one may join. It stands apart from `put`,
+    /// since most objects join.
+    #[inline(never)]
+    fn begin<O: Object>(&mut self, object: &O) -> Result<(), Full>
+        requires can { O.can_put object.now }
+        requires fits { NumbersFit (O.head object.now).range → IsHeader (table.form_of self.old.function) (O.head object.now) }
+        ensures ok { OnOk result (self.new ≡ built.with_run self.old None (O.head object.now)) }
+        ensures full { IsErr result ↔ (MAX_FRAGMENT < built.size self.old + length (header_octets (O.head object.now))) }
+        ensures err { OnErr result (self.new ≡ self.old) }
+        ensures function { self.new.function ≡ self.old.function }
+    {
+        let begun = object.run();
+        let size = object.size();
+        if self.left() < 3 + range_size(begun.range) + size {
+            return Err(Full);
+        }
+        self.break_run();
+        push_run(&mut self.octets, begun);
+        object.append(&mut self.octets);
+        self.run = Some(begun);
+        Ok(())
     }
 
     /// Puts a row into a response as an event: with a time as 2.2, 22.5 or 32.3, and else as 2.1,
@@ -169,7 +182,7 @@ impl Builder {
         requires response { IsTrue (table.is_response self.old.function) }
         requires fits { IsEvent row.now }
         ensures ok { OnOk result (self.new ≡ built.with_object self.old (written.event row.now)) }
-        ensures full { IsErr result ↔ (2048 < built.size (built.with_object self.old (written.event row.now))) }
+        ensures full { IsErr result ↔ (MAX_FRAGMENT < built.size (built.with_object self.old (written.event row.now))) }
         ensures err { OnErr result (self.new ≡ self.old) }
         ensures function { self.new.function ≡ self.old.function }
     {
@@ -186,7 +199,7 @@ impl Builder {
         requires response { IsTrue (table.is_response self.old.function) }
         requires fits { written.FitsPoint group row.now }
         ensures ok { OnOk result (self.new ≡ built.with_object self.old (written.point group row.now)) }
-        ensures full { IsErr result ↔ (2048 < built.size (built.with_object self.old (written.point group row.now))) }
+        ensures full { IsErr result ↔ (MAX_FRAGMENT < built.size (built.with_object self.old (written.point group row.now))) }
         ensures err { OnErr result (self.new ≡ self.old) }
         ensures function { self.new.function ≡ self.old.function }
     {
@@ -202,7 +215,7 @@ impl Builder {
     pub fn command(&mut self, command: &Command, status: Status) -> Result<(), Full>
         requires carries { IsTrue (built.carries_commands self.old.function) }
         ensures ok { OnOk result (self.new ≡ built.with_object self.old (written.order command.now status)) }
-        ensures full { IsErr result ↔ (2048 < built.size (built.with_object self.old (written.order command.now status))) }
+        ensures full { IsErr result ↔ (MAX_FRAGMENT < built.size (built.with_object self.old (written.order command.now status))) }
         ensures err { OnErr result (self.new ≡ self.old) }
         ensures function { self.new.function ≡ self.old.function }
     {

@@ -1,3 +1,4 @@
+//! The functions of fragments and their octets.
 ghost use Rattle.std.specs.Prelude.{◌≡◌, ◌↔◌, IsTrue, IfSome};
 ghost use Rattle.dnp_appfragment.specs.declared.function.Function.{Function as FunctionValue};
 ghost use Rattle.dnp_appfragment.specs.Table.{function_octet, function_of, is_response};
@@ -7,68 +8,56 @@ ghost use Rattle.dnp_appfragment.specs.Table.{function_octet, function_of, is_re
 #[derive(Clone, Copy, Debug, PartialEq, Eq, Hash)]
 pub enum Function {
     /// CONFIRM: the fragment of this sequence number has come.
-    Confirm,
+    Confirm = 0,
     /// READ.
-    Read,
+    Read = 1,
     /// WRITE.
-    Write,
+    Write = 2,
     /// SELECT: be ready for these commands.
-    Select,
+    Select = 3,
     /// OPERATE: carry out the selected commands.
-    Operate,
+    Operate = 4,
     /// DIRECT_OPERATE: carry out these commands.
-    DirectOperate,
+    DirectOperate = 5,
     /// DIRECT_OPERATE_NR: carry out these commands, and do not answer.
-    DirectOperateNr,
+    DirectOperateNr = 6,
     /// ENABLE_UNSOLICITED.
-    EnableUnsolicited,
+    EnableUnsolicited = 20,
     /// DISABLE_UNSOLICITED.
-    DisableUnsolicited,
+    DisableUnsolicited = 21,
     /// DELAY_MEASURE.
-    DelayMeasure,
+    DelayMeasure = 23,
     /// RESPONSE, to a request.
-    Response,
+    Response = 129,
     /// UNSOLICITED_RESPONSE, to none.
-    UnsolicitedResponse,
+    UnsolicitedResponse = 130,
 }
 
-/// A function and its octet.
-#[derive(Clone, Copy)]
-pub struct Code {
-    pub octet: u8,
-    pub function: Function,
-}
-
-macro_rules! code {
-    ($octet:literal, $function:ident) => {
-        Code { octet: $octet, function: Function::$function }
-    };
-}
-
-static CODES: [Code; 12] = [
-    code!(0, Confirm),
-    code!(1, Read),
-    code!(2, Write),
-    code!(3, Select),
-    code!(4, Operate),
-    code!(5, DirectOperate),
-    code!(6, DirectOperateNr),
-    code!(20, EnableUnsolicited),
-    code!(21, DisableUnsolicited),
-    code!(23, DelayMeasure),
-    code!(129, Response),
-    code!(130, UnsolicitedResponse),
+/// All functions.
+static FUNCTIONS: [Function; 12] = [
+    Function::Confirm,
+    Function::Read,
+    Function::Write,
+    Function::Select,
+    Function::Operate,
+    Function::DirectOperate,
+    Function::DirectOperateNr,
+    Function::EnableUnsolicited,
+    Function::DisableUnsolicited,
+    Function::DelayMeasure,
+    Function::Response,
+    Function::UnsolicitedResponse,
 ];
 
-/// The function of the line with this octet.
+/// The function of this octet.
 #[tactic(auto, unfolding(crate::specs::Table::function_of, crate::specs::Table::codes))]
 fn line_of(octet: u8) -> Option<Function>
     ensures { result ≡ function_of octet }
 {
-    CODES
+    FUNCTIONS
         .iter()
-        .find(|code| code.octet == octet)
-        .map(|code| code.function)
+        .copied()
+        .find(|function| function.octet() == octet)
 }
 
 impl Function {
@@ -85,20 +74,7 @@ impl Function {
     pub fn octet(self) -> u8
         ensures { result ≡ function_octet self }
     {
-        match self {
-            Function::Confirm => 0,
-            Function::Read => 1,
-            Function::Write => 2,
-            Function::Select => 3,
-            Function::Operate => 4,
-            Function::DirectOperate => 5,
-            Function::DirectOperateNr => 6,
-            Function::EnableUnsolicited => 20,
-            Function::DisableUnsolicited => 21,
-            Function::DelayMeasure => 23,
-            Function::Response => 129,
-            Function::UnsolicitedResponse => 130,
-        }
+        self as u8
     }
 
     /// Whether it is a response's, and not a request's.

@@ -1,3 +1,4 @@
+use crate::checked::checked_header;
 use crate::fault::AppFault;
 use crate::header::Header;
 use crate::reading::header_at;
@@ -76,12 +77,8 @@ impl<'a> Iterator for Headers<'a> {
         if self.rest.is_empty() {
             return None;
         }
-        match header_at(self.form, self.rest) {
-            Ok((header, rest)) => {
-                self.rest = rest;
-                Some(header)
-            }
-            Err(_) => None,
-        }
+        let (header, rest) = checked_header(self.form, self.rest);
+        self.rest = rest;
+        Some(header)
     }
 }

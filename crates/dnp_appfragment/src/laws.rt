@@ -2,6 +2,7 @@
 ghost use Rattle.std.specs.Prelude.{◌≡◌, ◌^◌, ℕ, false, true, List, [], ◌∷◌, map};
 ghost use Rattle.dnp_appfragment.specs.declared.fault.AppFault.{AppFault};
 ghost use Rattle.dnp_appfragment.specs.declared.iin.Iin.{Iin as IinValue};
+ghost use Rattle.dnp_appfragment.specs.declared.qualifier.TheConstants as qualifier;
 ghost use Rattle.dnp_appfragment.specs.declared.table.Form.TheVariants as form;
 ghost use Rattle.dnp_appfragment.specs.Control.{IsControl};
 ghost use Rattle.dnp_appfragment.specs.Table.{form_of, is_response};
@@ -46,6 +47,12 @@ pub fn what_is_spelled_is_a_fragment()
 pub fn a_bare_request_has_no_headers()
     ensures { (octets : List ℕ) (asked : Asked) → IsRequest octets asked → form_of asked.function ≡ form.Bare
         → asked.headers ≡ [] }
+{}
+
+/// Each named qualifier is this octet.
+pub fn qualifiers_have_their_octets()
+    ensures { (qualifier.SPAN ∷ qualifier.WIDE_SPAN ∷ qualifier.ALL ∷ qualifier.COUNT ∷ qualifier.WIDE_COUNT ∷ qualifier.INDEXED
+        ∷ qualifier.WIDE_INDEXED ∷ []) ≡ 0x00 ∷ 0x01 ∷ 0x06 ∷ 0x07 ∷ 0x08 ∷ 0x17 ∷ 0x28 ∷ [] }
 {}
 
 /// Each named indication is one bit of its octet, and `NONE` has no bit.

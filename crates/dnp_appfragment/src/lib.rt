@@ -3,6 +3,7 @@
 #![tactic(auto)]
 
 mod builder;
+mod checked;
 mod control;
 mod fault;
 mod fragments;
@@ -13,6 +14,7 @@ mod iin;
 pub mod laws;
 mod objects;
 mod putting;
+mod qualifier;
 mod range;
 mod reading;
 mod request;
@@ -24,6 +26,7 @@ mod written;
 
 pub use builder::{Builder, Full};
 pub use control::Control;
+pub use dnp_objects::MAX_FRAGMENT;
 pub use fault::AppFault;
 pub use fragments::{confirm, read_request, read_response};
 pub use function::Function;

@@ -15,15 +15,13 @@ use crate::iin::Iin;
 use crate::range::qualifier_of;
 use crate::run::Run;
 use arrayvec::ArrayVec;
-
-/// The most octets that a fragment has.
-pub(crate) const MAX_FRAGMENT: usize = 2048;
+use dnp_objects::MAX_FRAGMENT;
 
 /// Appends a number in one octet, or in two, the low one first.
 #[inline]
 pub(crate) fn push_number(octets: &mut ArrayVec<u8, MAX_FRAGMENT>, wide: bool, number: u16)
     requires fits { number < spec.limit wide }
-    requires room { array_vec_len octets.old + length (spec.number wide number) ≤ 2048 }
+    requires room { array_vec_len octets.old + length (spec.number wide number) ≤ MAX_FRAGMENT }
     ensures items { octets.new.items ≡ octets.old.items ++ spec.number wide number }
     ensures len { array_vec_len octets.new ≡ array_vec_len octets.old + length (spec.number wide number) }
 {
@@ -38,7 +36,7 @@ pub(crate) fn push_number(octets: &mut ArrayVec<u8, MAX_FRAGMENT>, wide: bool, n
 /// Appends the octets of a range.
 fn push_range(octets: &mut ArrayVec<u8, MAX_FRAGMENT>, range: Range)
     requires fits { spec.NumbersFit range }
-    requires room { array_vec_len octets.old + length (spec.range_octets range) ≤ 2048 }
+    requires room { array_vec_len octets.old + length (spec.range_octets range) ≤ MAX_FRAGMENT }
     ensures { octets.new.items ≡ octets.old.items ++ spec.range_octets range }
 {
     match range {
@@ -73,7 +71,7 @@ pub(crate) fn header_size(header: &Header<'_>) -> usize
 /// Appends a header, whose objects are to follow.
 pub(crate) fn push_run(octets: &mut ArrayVec<u8, MAX_FRAGMENT>, run: Run)
     requires fits { spec.NumbersFit run.range }
-    requires room { array_vec_len octets.old + length (spec.header_octets (run_head [] run)) ≤ 2048 }
+    requires room { array_vec_len octets.old + length (spec.header_octets (run_head [] run)) ≤ MAX_FRAGMENT }
     ensures { octets.new.items ≡ octets.old.items ++ spec.header_octets (run_head [] run) }
 {
     octets.push(run.group);
@@ -85,7 +83,7 @@ pub(crate) fn push_run(octets: &mut ArrayVec<u8, MAX_FRAGMENT>, run: Run)
 /// Appends a header with its objects.
 pub(crate) fn push_header(octets: &mut ArrayVec<u8, MAX_FRAGMENT>, header: &Header<'_>)
     requires fits { spec.NumbersFit header.now.range }
-    requires room { array_vec_len octets.old + length (spec.header_octets (head header.now)) ≤ 2048 }
+    requires room { array_vec_len octets.old + length (spec.header_octets (head header.now)) ≤ MAX_FRAGMENT }
     ensures { octets.new.items ≡ octets.old.items ++ spec.header_octets (head header.now) }
 {
     octets.push(header.group);

@@ -2,6 +2,7 @@ ghost use Rattle.std.specs.Prelude.{◌≡◌, ◌≤◌, ◌<◌, ◌↔◌, Is
 ghost use Rattle.dnp_appfragment.specs.Headers as spec;
 
 use crate::header::Range;
+use crate::qualifier::{ALL, COUNT, INDEXED, SPAN, WIDE_COUNT, WIDE_INDEXED, WIDE_SPAN};
 use crate::table::Form;
 use dnp_objects::object_size;
 
@@ -10,10 +11,10 @@ pub(crate) fn qualifier_of(range: Range) -> u8
     ensures { result ≡ spec.qualifier_of range }
 {
     match range {
-        Range::All => 0x06,
-        Range::Span { wide, .. } => if wide { 0x01 } else { 0x00 },
-        Range::Count { wide, .. } => if wide { 0x08 } else { 0x07 },
-        Range::Indexed { wide, .. } => if wide { 0x28 } else { 0x17 },
+        Range::All => ALL,
+        Range::Span { wide, .. } => if wide { WIDE_SPAN } else { SPAN },
+        Range::Count { wide, .. } => if wide { WIDE_COUNT } else { COUNT },
+        Range::Indexed { wide, .. } => if wide { WIDE_INDEXED } else { INDEXED },
     }
 }
 

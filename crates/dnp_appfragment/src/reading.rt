@@ -5,6 +5,7 @@ ghost use Rattle.dnp_appfragment.specs.Seen.{Gives, number_and_rest, range_and_r
 
 use crate::fault::AppFault;
 use crate::header::{Header, Range};
+use crate::qualifier::{ALL, COUNT, INDEXED, SPAN, WIDE_COUNT, WIDE_INDEXED, WIDE_SPAN};
 use crate::range::objects_size;
 use crate::table::{Form, allows, takes_of};
 
@@ -59,18 +60,19 @@ fn range_at(qualifier: u8, octets: &[u8]) -> Result<(Range, &[u8]), AppFault>
     ensures end { IfOk result (λ x. Ends octets.entry x.1) }
 {
     match qualifier {
-        0x00 => span_at(false, octets),
-        0x01 => span_at(true, octets),
-        0x06 => Ok((Range::All, octets)),
-        0x07 => count_at(false, octets),
-        0x08 => count_at(true, octets),
-        0x17 => indexed_at(false, octets),
-        0x28 => indexed_at(true, octets),
+        SPAN => span_at(false, octets),
+        WIDE_SPAN => span_at(true, octets),
+        ALL => Ok((Range::All, octets)),
+        COUNT => count_at(false, octets),
+        WIDE_COUNT => count_at(true, octets),
+        INDEXED => indexed_at(false, octets),
+        WIDE_INDEXED => indexed_at(true, octets),
         _ => Err(AppFault::QualifierUnknown),
     }
 }
 
 /// The header at the front, with its objects, and the octets behind them.
+#[inline(always)]
 #[tactic(auto, unfolding(crate::specs::Reading::header_at))]
 pub(crate) fn header_at(form: Form, octets: &[u8]) -> Result<(Header<'_>, &[u8]), AppFault>
     ensures gives { Gives head_and_rest result (spec.header_at form octets.now) }

@@ -9,11 +9,12 @@ ghost use Rattle.dnp_appfragment.specs.Building.{run_head};
 ghost use Rattle.dnp_appfragment.specs.Written as spec;
 
 use crate::header::Range;
-use crate::putting::{MAX_FRAGMENT, push_number};
+use crate::putting::push_number;
 use crate::run::Run;
 use arrayvec::ArrayVec;
 use dnp_objects::{
-    Row, append_event, append_object, event_object, event_size, fits_object, object_size,
+    MAX_FRAGMENT, Row, append_event, append_object, event_object, event_size, fits_object,
+    object_size,
 };
 
 /// The range of one object behind its index: qualifier 28.
@@ -67,7 +68,7 @@ pub(crate) trait Object {
     /// Appends its octets.
     fn append(&self, octets: &mut ArrayVec<u8, MAX_FRAGMENT>)
         requires can { can_put self.now }
-        requires room { array_vec_len octets.old + length (head self.now).octets ≤ 2048 }
+        requires room { array_vec_len octets.old + length (head self.now).octets ≤ MAX_FRAGMENT }
         ensures { octets.new.items ≡ octets.old.items ++ (head self.now).octets };
 }
 
@@ -99,8 +100,10 @@ impl<'a> Object for Event<'a> {
 
     #[inline]
     fn append(&self, octets: &mut ArrayVec<u8, MAX_FRAGMENT>) {
-        push_number(octets, true, self.row.index);
-        append_event(self.row, octets);
+        // (all of the row is read before anything is written)
+        let (index, row) = (self.row.index, *self.row);
+        push_number(octets, true, index);
+        append_event(&row, octets);
     }
 }
 

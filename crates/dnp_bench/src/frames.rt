@@ -3,7 +3,7 @@
 ghost use Rattle.dnp_linkframe.specs.CheckWord.{IsCheckWord};
 
 use arrayvec::ArrayVec;
-use dnp_linkframe::{Frame, FrameReader, MAX_FRAME, check_word, read_frame_into, write_frame_into};
+use dnp_linkframe::{Frame, FrameReader, MAX_UNIT, check_word, read_frame_into, write_frame_into};
 use std::alloc::Global;
 
 /// The check word of the octets.
@@ -75,7 +75,7 @@ fn pick_of(unit: &[u8], pick: usize) -> (u64, usize) {
 #[unsafe(no_mangle)]
 pub extern "C" fn dnp_bench_write_frames(user: &[u8], count: u64) -> u64 {
     let mut frame = frame_of(user);
-    let mut unit: ArrayVec<u8, MAX_FRAME> = ArrayVec::new();
+    let mut unit: ArrayVec<u8, MAX_UNIT> = ArrayVec::new();
     let mut sum = 0u64;
     let mut pick = 0usize;
     for turn in 0..count {
@@ -90,7 +90,7 @@ pub extern "C" fn dnp_bench_write_frames(user: &[u8], count: u64) -> u64 {
 
 /// `write_frame_into` as a call of its own, of which the caller sees nothing.
 #[inline(never)]
-fn write_apart(frame: &Frame, unit: &mut ArrayVec<u8, MAX_FRAME>) {
+fn write_apart(frame: &Frame, unit: &mut ArrayVec<u8, MAX_UNIT>) {
     write_frame_into(frame, unit);
 }
 
@@ -98,7 +98,7 @@ fn write_apart(frame: &Frame, unit: &mut ArrayVec<u8, MAX_FRAME>) {
 #[unsafe(no_mangle)]
 pub extern "C" fn dnp_bench_write_frames_apart(user: &[u8], count: u64) -> u64 {
     let mut frame = frame_of(user);
-    let mut unit: ArrayVec<u8, MAX_FRAME> = ArrayVec::new();
+    let mut unit: ArrayVec<u8, MAX_UNIT> = ArrayVec::new();
     let mut sum = 0u64;
     let mut pick = 0usize;
     for turn in 0..count {

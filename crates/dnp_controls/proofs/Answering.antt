@@ -5,13 +5,17 @@ use Rattle.std.specs.Cmp.Lexicographic.{pointwise}
 use Rattle.std.specs.Bool.{Decides}
 use Rattle.std.proofs.lemmas.Bool.Decides.{Decides-eqb, Decides-ltb}
 use Rattle.std.proofs.lemmas.Slice.Eq.{bytes_eq-Decides}
+use Rattle.dnp_controls.specs.declared.limits.TheConstants.{SEQUENCE_NUMBERS}
 use Rattle.dnp_controls.specs.Selecting.{Select, SelectCall, Selecting, Operating, Forgetting, standing, GoesWith, goes_with, IsRunning, HasEnded, deadline, answer, MakesNoSelect}
 
 -- the test of going together says what going together is
 goes_with-Decides : (select : Select) (seq : ℕ) (octets : List ℕ) → Decides (goes_with select seq octets) (GoesWith select seq octets)
-goes_with-Decides select seq octets = go (eqb (seq % 16) ((select.seq + 1) % 16)) (pointwise nat_eq octets select.octets) (Decides-eqb (seq % 16) ((select.seq + 1) % 16)) (bytes_eq-Decides octets select.octets)
+goes_with-Decides select seq octets =
+    let now : ℕ = seq % SEQUENCE_NUMBERS in
+    let next : ℕ = (select.seq + 1) % SEQUENCE_NUMBERS in
+    go (eqb now next) (pointwise nat_eq octets select.octets) (Decides-eqb now next) (bytes_eq-Decides octets select.octets)
   where
-    go : (a b : Bool) → Decides a (seq % 16 ≡ (select.seq + 1) % 16) → Decides b (octets ≡ select.octets) → Decides (a && b) (GoesWith select seq octets)
+    go : (a b : Bool) → Decides a (seq % SEQUENCE_NUMBERS ≡ (select.seq + 1) % SEQUENCE_NUMBERS) → Decides b (octets ≡ select.octets) → Decides (a && b) (GoesWith select seq octets)
     go true true da db = (λ _. record { next_number = da.0 refl; same_octets = db.0 refl }, λ _. refl)
     go true false da db = (λ h. cc, λ with'. db.1 with'.same_octets)
     go false b da db = (λ h. cc, λ with'. da.1 with'.next_number)

@@ -6,6 +6,7 @@ use Rattle.std.proofs.Math.Seq.{get_or-append_seam}
 use Rattle.std.proofs.lemmas.List.{get_or-replicate}
 use Rattle.std.proofs.lemmas.List.Elements.{filter_map-append, All-head, All-tail, All-push, All-nil}
 use Rattle.std.proofs.lemmas.Bool.Decides.{Decides-eqb}
+use Rattle.dnp_controls.specs.declared.limits.TheConstants.{MAX_OUTPUTS}
 use Rattle.dnp_objects.specs.declared.command.Command.{Command}
 use Rattle.dnp_objects.specs.declared.command.Command.TheVariants.{Block, Set16, Set32}
 use Rattle.dnp_controls.specs.Latches.{latch_of, latch_by, is_latched}
@@ -34,7 +35,7 @@ is_latched-push commands command output =
     go (Some y) xs = last-push xs y
 
 -- a command in place touches no latch beyond those that are kept
-latch_of-beyond : (command : Command) (output : ℕ) → IsInPlace command → 256 ≤ output → latch_of output command ≡ None
+latch_of-beyond : (command : Command) (output : ℕ) → IsInPlace command → MAX_OUTPUTS ≤ output → latch_of output command ≡ None
 latch_of-beyond (Block index code count on off) output in_place beyond =
     let e : eqb index output ≡ false = go (eqb index output) (Decides-eqb index output).0 in
     ap (λ b. cond b (latch_by (operation code)) None) e
@@ -45,7 +46,7 @@ latch_of-beyond (Block index code count on off) output in_place beyond =
 latch_of-beyond (Set16 index value) output in_place beyond = refl
 latch_of-beyond (Set32 index value) output in_place beyond = refl
 
-latches-beyond : (commands : List Command) (output : ℕ) → All IsInPlace commands → 256 ≤ output
+latches-beyond : (commands : List Command) (output : ℕ) → All IsInPlace commands → MAX_OUTPUTS ≤ output
     → filter_map (latch_of output) commands ≡ []
 latches-beyond [] output in_place beyond = refl
 latches-beyond (command ∷ commands) output in_place beyond =
@@ -54,25 +55,25 @@ latches-beyond (command ∷ commands) output in_place beyond =
     ∙ latches-beyond commands output (All-tail IsInPlace command commands in_place) beyond
 
 -- no output beyond those that are kept is latched on
-pub is_latched-beyond : (commands : List Command) (output : ℕ) → All IsInPlace commands → 256 ≤ output
+pub is_latched-beyond : (commands : List Command) (output : ℕ) → All IsInPlace commands → MAX_OUTPUTS ≤ output
     → is_latched commands output ≡ false
 unfolding last
 is_latched-beyond commands output in_place beyond = ap last (latches-beyond commands output in_place beyond)
 
 -- at first nothing is latched on
-pub IsLatchedBy-nothing : (commands : List Command) → commands ≡ [] → IsLatchedBy (replicate 256 false) commands
+pub IsLatchedBy-nothing : (commands : List Command) → commands ≡ [] → IsLatchedBy (replicate MAX_OUTPUTS false) commands
 IsLatchedBy-nothing commands none =
-    let P : List Command → Type 0 = λ cs. IsLatchedBy (replicate 256 false) cs in
+    let P : List Command → Type 0 = λ cs. IsLatchedBy (replicate MAX_OUTPUTS false) cs in
     subst P (sym none) (record {
       count = refl;
-      each = λ output low. get_or-replicate 256 output false false low;
+      each = λ output low. get_or-replicate MAX_OUTPUTS output false false low;
       in_place = All-nil IsInPlace;
     })
 
 -- one command more leaves the latches that it left
 pub IsLatchedBy-push : (latched new : List Bool) (commands more : List Command) (command : Command)
-    → IsLatchedBy latched commands → length new ≡ 256 → IsInPlace command
-    → ((output : ℕ) → output < 256 → get_or new output false ≡ unwrap_or (latch_of output command) (get_or latched output false))
+    → IsLatchedBy latched commands → length new ≡ MAX_OUTPUTS → IsInPlace command
+    → ((output : ℕ) → output < MAX_OUTPUTS → get_or new output false ≡ unwrap_or (latch_of output command) (get_or latched output false))
     → more ≡ commands ++ command ∷ [] → IsLatchedBy new more
 IsLatchedBy-push latched new commands more command before count in_place set is =
     let P : List Command → Type 0 = λ cs. IsLatchedBy new cs in

@@ -1,6 +1,6 @@
--- The book of controls: the commands that are to be sent on, each with its target and its state. A
+-- Definition: the book of controls: the commands that are to be sent on, each with its target and its state. A
 -- breaker must not operate twice, so an entry is spent before its command is sent, and spent once.
-use Rattle.std.specs.Prelude.{◌≡◌, ℕ, ◌+◌, Bool, true, false, ◌&&◌, ◌==◌, nat_lt, if◌then◌else◌, IsTrue, List, [], ◌∷◌, ◌++◌, length, map, filter, find, take, Option, All, AllPairs, ◌<◌, ◌≤◌}
+use Rattle.std.specs.Prelude.{◌≡◌, ℕ, ◌+◌, Bool, true, false, ◌&&◌, ◌==◌, nat_lt, if◌then◌else◌, IsTrue, List, [], ◌∷◌, ◌++◌, map, filter, find, take, Option, All, AllPairs, ◌<◌, ◌≤◌}
 use Rattle.std.specs.Option.{IsSomeAnd}
 use Rattle.dnp_objects.specs.declared.command.Command.{Command}
 use Rattle.dnp_controls.specs.declared.book.Entry.{Entry}

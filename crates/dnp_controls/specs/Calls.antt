@@ -1,4 +1,4 @@
--- What a call of a book or of outputs leaves, whatever the call is for.
+-- Definition: what a call of a book or of outputs leaves, whatever the call is for.
 use Rattle.std.specs.Prelude.{◌≡◌, Bool, List, [], Result, ⊤}
 use Rattle.dnp_objects.specs.declared.command.Command.{Command}
 use Rattle.dnp_objects.specs.declared.store.StoreFault.{StoreFault}

@@ -1,4 +1,4 @@
--- The control code of a control relay output block (IEEE Std 1815-2012, object library: group 12
+-- Definition: the control code of a control relay output block (IEEE Std 1815-2012, object library: group 12
 -- variation 1), and which codes outputs perform here.
 use Rattle.std.specs.Prelude.{ℕ, ◌/◌, ◌%◌, Bool, true, false, not, ◌&&◌, ◌==◌, if◌then◌else◌}
 use Rattle.std.specs.Int.{bit_at}

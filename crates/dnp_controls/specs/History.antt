@@ -1,5 +1,6 @@
--- What a contract sees of the commands that outputs in memory performed.
+-- Private steps: what clauses say of the commands that outputs in memory performed.
 use Rattle.std.specs.Prelude.{◌≡◌, ℕ, ◌<◌, Bool, false, List, length, slice_index_or, All}
+use Rattle.dnp_controls.specs.declared.limits.TheConstants.{MAX_OUTPUTS}
 use Rattle.dnp_objects.specs.declared.command.Command.{Command}
 use Rattle.dnp_objects.specs.declared.command.Command.TheVariants.{Block, Set16, Set32}
 use Rattle.dnp_controls.specs.Latches.{is_latched}
@@ -11,12 +12,12 @@ pub record History : Type 0 where
 
 -- a block is for one of the binary outputs 0 to 255
 abbrev pub IsInPlace : Command → Type 0
-IsInPlace (Block index code count on off) = index < 256
+IsInPlace (Block index code count on off) = index < MAX_OUTPUTS
 IsInPlace (Set16 index value) = Unit {0}
 IsInPlace (Set32 index value) = Unit {0}
 
 -- the latches of the outputs 0 to 255 are those that the commands left
 pub record IsLatchedBy (latched : List Bool) (commands : List Command) : Type 0 where
-  pub count : length latched ≡ 256
-  pub each : (output : ℕ) → output < 256 → slice_index_or latched output false ≡ is_latched commands output
+  pub count : length latched ≡ MAX_OUTPUTS
+  pub each : (output : ℕ) → output < MAX_OUTPUTS → slice_index_or latched output false ≡ is_latched commands output
   pub in_place : All IsInPlace commands

@@ -1,4 +1,4 @@
--- What a contract sees of the select that is kept.
+-- Private steps: how the select that is kept is seen.
 use Rattle.std.specs.Prelude.{Option, option_map}
 use Rattle.dnp_controls.specs.Selecting.{Select}
 use Rattle.dnp_controls.specs.declared.select.Kept.{Kept}

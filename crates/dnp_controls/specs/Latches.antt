@@ -1,7 +1,8 @@
--- What outputs in memory answer and show, by the commands that they performed (IEEE Std 1815-2012, object
+-- Definition: what outputs in memory answer and show, by the commands that they performed (IEEE Std 1815-2012, object
 -- library: group 10 binary output status, group 12 control relay output block).
 use Rattle.std.specs.Prelude.{ℕ, ◌-◌, Bool, true, false, ◌&&◌, ◌==◌, nat_lt, if◌then◌else◌, List, [], length, Option, Some, None, slice_index_or}
 use Rattle.std.specs.List.{filter_map}
+use Rattle.dnp_controls.specs.declared.limits.TheConstants.{MAX_COMMANDS}
 use Rattle.dnp_objects.specs.declared.command.Command.{Command}
 use Rattle.dnp_objects.specs.declared.command.Command.TheVariants.{Block, Set16, Set32}
 use Rattle.dnp_objects.specs.declared.store.StoreFault.{StoreFault}
@@ -62,7 +63,7 @@ plain_check outputs setpoints command =
 abbrev pub plain_panel : PlainState → Panel
 plain_panel state =
     record {
-      most = 8;
+      most = MAX_COMMANDS;
       outputs = state.outputs;
       status = status_of state.performed;
       check = plain_check state.outputs state.setpoints;

@@ -1,10 +1,12 @@
+-- Definitions, by which contracts promise.
 pub mod Book
 pub mod Calls
 pub mod Code
-pub mod History
-pub mod Keeping
 pub mod Latches
 pub mod Moves
 pub mod Panel
-pub mod Places
 pub mod Selecting
+-- Words of private steps.
+pub mod History
+pub mod Keeping
+pub mod Places

@@ -1,6 +1,7 @@
--- What calls make of a book of controls, one after another. A call that is refused changes nothing, so
+-- Definition: what calls make of a book of controls, one after another. A call that is refused changes nothing, so
 -- only those that are granted are told here.
-use Rattle.std.specs.Prelude.{◌≡◌, ℕ, ◌^◌, ◌<◌, ◌≤◌, Bool, true, false, not, ◌==◌, List, [], ◌∷◌, length, Contains, All}
+use Rattle.std.specs.Prelude.{◌≡◌, ℕ, ◌<◌, ◌≤◌, Bool, true, false, not, ◌==◌, List, [], ◌∷◌, Contains, All}
+use Rattle.dnp_objects.specs.declared.limits.TheConstants.{MAX_ID}
 use Rattle.dnp_objects.specs.declared.command.Command.{Command}
 use Rattle.dnp_controls.specs.declared.book.Entry.{Entry}
 use Rattle.dnp_controls.specs.Book.{Ledger, Has, is_pending, is_finished, added, spent, finished}
@@ -13,7 +14,7 @@ pub data Move : Type 0 where
 
 -- when a book grants the call
 abbrev pub IsGranted : Ledger → Move → Type 0
-IsGranted book (Add target command) = book.last_id < 2 ^ 62
+IsGranted book (Add target command) = book.last_id < MAX_ID
 IsGranted book (Spend id) = Has book.entries id is_pending
 IsGranted book (Finish id status) = Has book.entries id (λ state. not (is_finished state))
 

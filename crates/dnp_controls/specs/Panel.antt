@@ -1,4 +1,4 @@
--- Outputs of a station: what they answer, what they show, and which commands they have performed.
+-- Definition: outputs of a station: what they answer, what they show, and which commands they have performed.
 use Rattle.std.specs.Prelude.{ℕ, ◌==◌, List, [], ◌∷◌, ◌++◌, filter}
 use Rattle.dnp_objects.specs.declared.command.Command.{Command}
 use Rattle.dnp_objects.specs.Status as status

@@ -1,4 +1,4 @@
--- How a book in memory keeps its entries: by place, the entry of id 1 at place 0.
+-- Private steps: how a book in memory keeps its entries, by place, the entry of id 1 at place 0.
 use Rattle.std.specs.Prelude.{◌≡◌, ℕ, ◌≤◌, false, List, length, take, All}
 use Rattle.dnp_controls.specs.declared.book.Entry.{Entry}
 use Rattle.dnp_controls.specs.Book.{AreNumberedFrom, is_pending}

@@ -1,7 +1,8 @@
--- Select before operate (IEEE Std 1815-2012, application layer: functions SELECT and OPERATE): which
+-- Definition: select before operate (IEEE Std 1815-2012, application layer: functions SELECT and OPERATE): which
 -- select stands, and what an OPERATE is answered.
 use Rattle.std.specs.Prelude.{◌≡◌, ℕ, ◌+◌, ◌-◌, ◌%◌, ◌^◌, ◌<◌, ◌≤◌, nat_eq, nat_lt, min, Bool, ◌&&◌, ◌==◌, if◌then◌else◌, List, [], ◌∷◌, Option, Some, None}
 use Rattle.std.specs.Cmp.Lexicographic.{pointwise}
+use Rattle.dnp_controls.specs.declared.limits.TheConstants.{SEQUENCE_NUMBERS}
 use Rattle.dnp_objects.specs.Status as status
 
 -- a SELECT whose commands were all answered SUCCESS: the moment at which it came, in milliseconds, its
@@ -37,12 +38,12 @@ deadline start time = min (start + time) (2 ^ 64 - 1)
 -- an OPERATE with this sequence number and these octets goes with the select: its number is the next
 -- one modulo 16, and the octets are equal one for one
 pub record GoesWith (select : Select) (seq : ℕ) (octets : List ℕ) : Type 0 where
-  pub next_number : seq % 16 ≡ (select.seq + 1) % 16
+  pub next_number : seq % SEQUENCE_NUMBERS ≡ (select.seq + 1) % SEQUENCE_NUMBERS
   pub same_octets : octets ≡ select.octets
 
 -- the same as a test
 abbrev pub goes_with : Select → ℕ → List ℕ → Bool
-goes_with select seq octets = seq % 16 == (select.seq + 1) % 16 && pointwise nat_eq octets select.octets
+goes_with select seq octets = seq % SEQUENCE_NUMBERS == (select.seq + 1) % SEQUENCE_NUMBERS && pointwise nat_eq octets select.octets
 
 -- the select's timer of so many milliseconds still runs
 abbrev pub IsRunning : Select → ℕ → ℕ → Type 0

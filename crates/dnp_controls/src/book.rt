@@ -1,10 +1,11 @@
 //! What a book of controls is.
 
-ghost use Rattle.std.specs.Prelude.{◌≡◌, ◌≢◌, ◌≤◌, ◌<◌, ◌+◌, ◌^◌, Bool, false, IsTrue, [], not, OnOk, IfOk, IfErr};
+ghost use Rattle.std.specs.Prelude.{◌≡◌, ◌≢◌, ◌≤◌, ◌<◌, ◌+◌, Bool, false, IsTrue, [], not, OnOk, IfOk, IfErr};
 ghost use Rattle.dnp_controls.specs.Book.{Ledger, entry_of, Has, is_pending, is_finished, next_of, rows_of, added, spent, finished};
 ghost use Rattle.dnp_controls.specs.Calls.{IsBookCall};
 
-use dnp_objects::{Command, Status};
+use crate::limits::TARGETS;
+use dnp_objects::{Command, MAX_ID, Status};
 use std::alloc::Global;
 use thiserror::Error;
 
@@ -40,7 +41,7 @@ impl State {
 pub struct Entry {
     /// Its number. Ids rise from 1 on, in the order in which controls are added.
     pub id: u64,
-    /// The station that it is for, 0 to 15.
+    /// The station that it is for, below `TARGETS`.
     pub target: u8,
     /// What is to be done there.
     pub command: Command,
@@ -91,17 +92,17 @@ pub trait Book {
     /// those of a database do.
     ghost asks_memory: { Bool };
 
-    /// Adds a command for a target, 0 to 15, as pending, and answers its id. Exhausted where the id would
-    /// pass 2^62, else Memory or Device.
+    /// Adds a command for a target, below `TARGETS`, as pending, and answers its id. Exhausted where the id would
+    /// pass `MAX_ID`, else Memory or Device.
     fn add(&mut self, alloc: Global, target: u8, command: &Command) -> Result<u64, BookFault>
-        requires { target ≤ 15 }
+        requires { target < TARGETS }
         ensures call { IsBookCall honest is_stopped contents self.old self.new result }
 
         ensures added { honest self.new → OnOk result (contents self.new ≡ added (contents self.old) target command.now) }
         ensures id { honest self.new → IfOk result (λ id. id ≡ (contents self.old).last_id + 1) }
-        ensures not_exhausted { honest self.new → OnOk result ((contents self.old).last_id < 2 ^ 62) }
-        ensures exhausted { honest self.new → IfErr result (λ e. e ≡ BookFault.Exhausted → 2 ^ 62 ≤ (contents self.old).last_id) }
-        ensures exhausted_first { honest self.new → IfErr result (λ e. e ≡ BookFault.Memory → (contents self.old).last_id < 2 ^ 62) }
+        ensures not_exhausted { honest self.new → OnOk result ((contents self.old).last_id < MAX_ID) }
+        ensures exhausted { honest self.new → IfErr result (λ e. e ≡ BookFault.Exhausted → MAX_ID ≤ (contents self.old).last_id) }
+        ensures exhausted_first { honest self.new → IfErr result (λ e. e ≡ BookFault.Memory → (contents self.old).last_id < MAX_ID) }
         ensures named { IfErr result (λ e. (e ≢ BookFault.NoControl) × (e ≢ BookFault.NotPending)) };
 
     /// The pending entry of the least id for a target, if there is one. Memory or Device.

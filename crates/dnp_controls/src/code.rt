@@ -3,15 +3,16 @@
 ghost use Rattle.std.specs.Prelude.{◌≡◌};
 ghost use Rattle.dnp_controls.specs.Code as spec;
 
-// Bit 4 of a code: queue.
+/// Bit 4 of a code: queue.
 const QUEUE: u8 = 4;
 
-// Bit 5 of a code: clear.
+/// Bit 5 of a code: clear.
 const CLEAR: u8 = 5;
 
-// Bits 7 and 6 of a code say which relay of a pair is meant. Both together mean none.
+/// Bits 7 and 6 of a code say which relay of a pair is meant.
 const RELAY: u8 = 6;
 
+/// Both of these bits together mean no relay.
 const NO_RELAY: u8 = 3;
 
 /// What a control code orders, in its low four bits (IEEE Std 1815-2012, object library: group 12
@@ -47,7 +48,7 @@ impl Operation {
         }
     }
 
-    // Whether outputs perform it.
+    /// Whether outputs perform it.
     fn is_performed(self) -> bool
         ensures { result ≡ spec.is_performed self }
     {

@@ -6,6 +6,7 @@
 mod book;
 mod code;
 pub mod laws;
+mod limits;
 mod outputs;
 mod performed;
 mod plain_book;
@@ -14,7 +15,8 @@ mod select;
 
 pub use book::{Book, BookFault, Entry, State};
 pub use code::{Operation, obeys_code_rule};
-pub use outputs::{MAX_COMMANDS, NoOutputs, Outputs};
+pub use limits::{MAX_COMMANDS, MAX_OUTPUTS, SEQUENCE_NUMBERS, TARGETS};
+pub use outputs::{NoOutputs, Outputs};
 pub use plain_book::PlainBook;
 pub use plain_outputs::PlainOutputs;
 pub use select::{MAX_OCTETS, Selects};

@@ -4,12 +4,10 @@ ghost use Rattle.std.specs.Prelude.{◌≡◌, ◌≢◌, ◌≤◌, Bool, IsTru
 ghost use Rattle.dnp_controls.specs.Calls.{IsOutputsCall};
 ghost use Rattle.dnp_controls.specs.Panel.{Panel, accepted};
 
+use crate::limits::MAX_COMMANDS;
 use arrayvec::ArrayVec;
 use dnp_objects::{Command, Status, StoreFault};
 use std::alloc::Global;
-
-/// The most commands of one request.
-pub const MAX_COMMANDS: usize = 8;
 
 /// Outputs of a station, which perform commands (IEEE Std 1815-2012, object library: groups 10, 12
 /// and 41).
@@ -39,11 +37,11 @@ pub trait Outputs {
     /// The faults that `operate` may answer.
     ghost may_fault: { StoreFault → Bool };
 
-    /// The most commands of one request, 1 to 8.
+    /// The most commands of one request, 1 to `MAX_COMMANDS`.
     fn most(&self) -> usize
         ensures value { result ≡ (panel self.now).most }
         ensures at_least_one { 1 ≤ result }
-        ensures at_most_eight { result ≤ 8 };
+        ensures at_most_eight { result ≤ MAX_COMMANDS };
 
     /// How many binary outputs show a status, from index 0 on.
     fn outputs(&self) -> u16

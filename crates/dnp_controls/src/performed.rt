@@ -5,21 +5,22 @@ ghost use Rattle.dnp_controls.specs.Latches.{latch_of, latch_by, status_of, is_l
 ghost use Rattle.dnp_controls.specs.History.{IsInPlace};
 
 use crate::code::Operation;
+use crate::limits::MAX_OUTPUTS;
 use dnp_objects::Command;
 use dnp_objects::flags::{ONLINE, STATE};
 use std::alloc::{AllocError, Global};
 use std::marker::Model;
 
-/// The most binary outputs.
-pub const MAX_OUTPUTS: u16 = 256;
+/// How many latches there are.
+const LATCHES: usize = MAX_OUTPUTS as usize;
 
 /// Commands that were performed, in order, with the latches that they left.
 #[derive(Debug, Drop)]
 pub(crate) struct Performed {
+    /// The commands, in order.
     commands: Vec<Command>,
-
-    // Whether the binary output of an index is latched on.
-    latched: [bool; 256],
+    /// Whether the binary output of an index is latched on.
+    latched: [bool; LATCHES],
 }
 
 impl Model for Performed {
@@ -41,7 +42,7 @@ impl Performed {
     {
         Performed {
             commands: Vec::new(alloc),
-            latched: [false; 256],
+            latched: [false; LATCHES],
         }
     }
 
@@ -67,7 +68,7 @@ impl Performed {
         }
     }
 
-    /// Takes room for so many commands more.
+    /// Reserves room for this many commands more. An error says that it ran out of memory.
     pub fn reserve(&mut self, count: usize) -> Result<(), AllocError>
         ensures same { self.new.commands ≡ self.old.commands }
         ensures room { OnOk result (count ≤ self.new.room) }
@@ -76,7 +77,7 @@ impl Performed {
         self.commands.reserve(count)
     }
 
-    /// Puts a command behind the others. There must be room.
+    /// Puts a command after the others. There must be room.
     pub fn perform(&mut self, command: Command)
         requires room { 0 < self.old.room }
         requires in_place { IsInPlace command }
@@ -88,11 +89,11 @@ impl Performed {
     }
 }
 
-// Sets the latch that the command is for, if it touches one.
+/// Sets the latch that the command is for, if it touches one.
 fn set_latch(latched: &mut [bool], command: Command)
-    requires count { length latched.old ≡ 256 }
+    requires count { length latched.old ≡ MAX_OUTPUTS }
     requires in_place { IsInPlace command }
-    ensures { (output : ℕ) → output < 256 → slice_index_or latched.new output false ≡ unwrap_or (latch_of output command) (slice_index_or latched.old output false) }
+    ensures { (output : ℕ) → output < MAX_OUTPUTS → slice_index_or latched.new output false ≡ unwrap_or (latch_of output command) (slice_index_or latched.old output false) }
 {
     let Command::Block { index, code, .. } = command else {
         return;

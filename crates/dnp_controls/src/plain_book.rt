@@ -14,9 +14,9 @@ use std::marker::Model;
 /// A clause sees its entries, in the order in which they were added. The last id used is their number.
 #[derive(Debug, Drop)]
 pub struct PlainBook {
+    /// The entries, in the order in which they were added.
     entries: Vec<Entry>,
-
-    // No entry before this place is pending, so the search for a pending one begins here.
+    /// No entry before this place is pending, so the search for a pending one begins here.
     first: usize,
 }
 
@@ -44,7 +44,7 @@ impl PlainBook {
     }
 }
 
-// The state of the entry of an id, if there is one.
+/// The state of the entry of an id, if there is one.
 fn state_of(entries: &[Entry], id: u64) -> Option<State>
     requires { AreNumberedFrom 1 entries.now }
     ensures { result ≡ option_map (λ entry. entry.state) (entry_of entries.now id) }
@@ -60,7 +60,7 @@ fn state_of(entries: &[Entry], id: u64) -> Option<State>
     }
 }
 
-// Puts the entry of an id, which is there, into a state.
+/// Puts the entry of an id, which is there, into a state.
 fn set_state(entries: &mut [Entry], id: u64, state: State)
     requires numbered { AreNumberedFrom 1 entries.old }
     requires there { IsSome (entry_of entries.old id) }
@@ -72,7 +72,7 @@ fn set_state(entries: &mut [Entry], id: u64, state: State)
     entries[place].state = state;
 }
 
-// The entries whose ids are over `from`.
+/// The entries whose ids are over `from`.
 fn over(entries: &[Entry], from: u64) -> &[Entry]
     requires { AreNumberedFrom 1 entries.now }
     ensures { result.now ≡ filter (λ entry. nat_lt from entry.id) entries.now }
@@ -84,7 +84,7 @@ fn over(entries: &[Entry], from: u64) -> &[Entry]
     }
 }
 
-// The first pending entry for a target.
+/// The first pending entry for a target.
 fn first_pending(entries: &[Entry], target: u8) -> Option<Entry>
     ensures { result ≡ next_of entries.now target }
 {
@@ -96,7 +96,7 @@ fn first_pending(entries: &[Entry], target: u8) -> Option<Entry>
     None
 }
 
-// How many entries at the front are not pending.
+/// How many entries at the front are not pending.
 fn count_past(entries: &[Entry]) -> usize
     ensures bound { result ≤ length entries.now }
     ensures past { All (λ entry. is_pending entry.state ≡ false) (take result entries.now) }
@@ -122,7 +122,7 @@ impl Book for PlainBook {
 
     #[tactic(auto, using(crate::proofs::Moving::sound_numbered))]
     fn add(&mut self, _alloc: Global, target: u8, command: &Command) -> Result<u64, BookFault> {
-        // No id passes 2^62: memory ends before that, so this book is never exhausted.
+        // No id passes `MAX_ID`: memory ends before that, so this book is never exhausted.
         let count = self.entries.len() as u64;
         let entry = Entry {
             id: count + 1,

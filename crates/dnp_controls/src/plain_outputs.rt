@@ -5,7 +5,8 @@ ghost use Rattle.dnp_controls.specs.Latches.{PlainState, can_perform, plain_chec
 ghost use Rattle.dnp_controls.specs.Panel.{accepted};
 
 use crate::code::obeys_code_rule;
-use crate::outputs::{MAX_COMMANDS, Outputs};
+use crate::limits::{MAX_COMMANDS, MAX_OUTPUTS};
+use crate::outputs::Outputs;
 use crate::performed::Performed;
 use arrayvec::ArrayVec;
 use dnp_objects::{Command, Status, StoreFault};
@@ -16,31 +17,32 @@ use std::marker::Model;
 /// they performed.
 #[derive(Debug, Drop)]
 pub struct PlainOutputs {
-    // How many binary outputs there are.
+    /// How many binary outputs there are.
     outputs: u16,
-
-    // How many setpoints there are.
+    /// How many setpoints there are.
     setpoints: u16,
-
+    /// What was performed, in order, with the latches that it left.
     performed: Performed,
 }
 
 impl Model for PlainOutputs {
     ghost use Rattle.std.specs.Prelude.{◌≤◌};
+    ghost use Rattle.dnp_controls.specs.declared.limits.TheConstants.{MAX_OUTPUTS};
     ghost use Rattle.dnp_controls.specs.Latches.{PlainState};
 
     ghost Value = { PlainState };
 
     ghost view = { λ a. record { outputs = a.outputs; setpoints = a.setpoints; performed = a.performed.commands } };
 
-    ghost invariant = { λ a. (a.outputs ≤ 256) × (a.setpoints ≤ 256) };
+    ghost invariant = { λ a. (a.outputs ≤ MAX_OUTPUTS) × (a.setpoints ≤ MAX_OUTPUTS) };
 }
 
 impl PlainOutputs {
-    /// Outputs that have performed nothing: so many binary outputs and so many setpoints, each 0 to 256.
+    /// Outputs that have performed nothing: this many binary outputs and this many setpoints, each at most
+    /// `MAX_OUTPUTS`.
     pub fn new(alloc: Global, outputs: u16, setpoints: u16) -> Self
-        requires few_outputs { outputs ≤ 256 }
-        requires few_setpoints { setpoints ≤ 256 }
+        requires few_outputs { outputs ≤ MAX_OUTPUTS }
+        requires few_setpoints { setpoints ≤ MAX_OUTPUTS }
         ensures { result ≡ record { outputs = outputs; setpoints = setpoints; performed = [] } }
     {
         PlainOutputs {
@@ -58,7 +60,7 @@ impl PlainOutputs {
     }
 }
 
-// Whether there is such an output, and a block obeys the code rule.
+/// Whether there is such an output, and a block obeys the code rule.
 fn can_perform(outputs: u16, setpoints: u16, command: &Command) -> bool
     ensures { result ≡ can_perform outputs setpoints command.now }
 {
@@ -74,7 +76,7 @@ fn can_perform(outputs: u16, setpoints: u16, command: &Command) -> bool
     }
 }
 
-// How many of the commands are performed.
+/// How many of the commands are performed.
 fn count_performed(outputs: u16, setpoints: u16, commands: &[Command]) -> usize
     ensures { result ≡ length (accepted (plain_check outputs setpoints) commands.now) }
 {
@@ -87,7 +89,7 @@ fn count_performed(outputs: u16, setpoints: u16, commands: &[Command]) -> usize
     count
 }
 
-/// At most 8 commands at a time. A block is answered SUCCESS where its output is there and it obeys the
+/// At most `MAX_COMMANDS` commands at a time. A block is answered SUCCESS where its output is there and it obeys the
 /// code rule, a setpoint command where its setpoint is there, and any other NOT_SUPPORTED. All room for
 /// the commands that are performed is taken before the first one is.
 ///

@@ -3,25 +3,22 @@
 ghost use Rattle.std.specs.Prelude.{◌≡◌, ◌≤◌, List, [], ◌∷◌, None, Some, length};
 ghost use Rattle.dnp_controls.specs.Selecting.{SelectCall, Selecting, Operating, Forgetting, Stands, answer};
 
+use crate::limits::SEQUENCE_NUMBERS;
 use arrayvec::ArrayVec;
-use dnp_objects::Status;
+use dnp_objects::{MAX_FRAGMENT, Status};
 use std::marker::Model;
 
 /// The most octets of a select's objects.
-pub const MAX_OCTETS: usize = 2048;
+pub const MAX_OCTETS: usize = MAX_FRAGMENT;
 
-// Sequence numbers follow one another modulo this.
-const NUMBERS: u8 = 16;
-
+/// A select that stands.
 #[derive(Debug, Drop)]
 struct Kept {
-    // The moment of the select, in milliseconds.
+    /// The moment of the select, in milliseconds.
     at: u64,
-
-    // Its sequence number.
+    /// Its sequence number.
     seq: u8,
-
-    // The octets of its objects.
+    /// The octets of its objects.
     octets: ArrayVec<u8, MAX_OCTETS>,
 }
 
@@ -31,6 +28,7 @@ struct Kept {
 /// A clause sees the select that stands: its moment, its sequence number and its octets.
 #[derive(Debug, Drop)]
 pub struct Selects {
+    /// The select that stands, if one does.
     kept: Option<Kept>,
 }
 
@@ -55,9 +53,9 @@ impl Selects {
     }
 
     /// Keeps a select in place of the one that stood: `now` is its moment in milliseconds, `seq` its
-    /// sequence number, `octets` are those of its objects, at most 2,048.
+    /// sequence number, `octets` are those of its objects, at most `MAX_OCTETS`.
     pub fn select(&mut self, now: u64, seq: u8, octets: &[u8])
-        requires { length octets.now ≤ 2048 }
+        requires { length octets.now ≤ MAX_OCTETS }
         ensures kept { self.new ≡ Some (record { at = now; seq = seq; octets = octets.now }) }
         ensures stands { (before : List SelectCall) → Stands before self.old → Stands (Selecting (record { at = now; seq = seq; octets = octets.now }) ∷ before) self.new }
     {
@@ -89,7 +87,9 @@ impl Selects {
         let Some(kept) = self.kept.take() else {
             return Status::NO_SELECT;
         };
-        if seq % NUMBERS != (kept.seq % NUMBERS + 1) % NUMBERS || octets != kept.octets.as_slice() {
+        if seq % SEQUENCE_NUMBERS != (kept.seq % SEQUENCE_NUMBERS + 1) % SEQUENCE_NUMBERS
+            || octets != kept.octets.as_slice()
+        {
             return Status::NO_SELECT;
         }
         if now >= kept.at.saturating_add(select_ms) {

@@ -1,6 +1,9 @@
-mod ClassHeaders
+mod Heard
+mod Lines
 mod OctetText
 mod OneAnswer
+mod Opened
+mod Said
 mod Spaced
 mod SpacedPieces
 mod SpacedWriting

@@ -4,16 +4,13 @@ use Rattle.std.proofs.lemmas.Bool.{cases_Bool, both_ways, cond-true, cond-false}
 use Rattle.dnp_linkframe.specs.declared.frame.Frame.{Frame}
 use Rattle.dnp_linkframe.specs.declared.frame.FrameFault.{FrameFault}
 use Rattle.dnp_linkframe.specs.Frames.{Spells, IsFault, IsFirstFault}
-use Rattle.dnp_linkstation.specs.Control.{primary_function, frame_count_bit}
-use Rattle.dnp_linkstation.specs.Station.{Ends, is_for, answer_to, dropped, answer}
-use Rattle.dnp_linkstation.specs.declared.function.PrimaryFunction.{PrimaryFunction}
-use Rattle.dnp_linkstation.specs.declared.function.PrimaryFunction.TheVariants.{ResetLinkStates, TestLinkStates, ConfirmedUserData, UnconfirmedUserData, RequestLinkStatus, Other}
-use Rattle.dnp_linkstation.specs.declared.station.LinkAnswer.{LinkAnswer}
 use Rattle.dnp_transport.specs.Series.{IsWhole}
 use Rattle.dnp_daemons.specs.declared.answer.Answer.{Answer}
 use Rattle.dnp_daemons.specs.declared.answer.Answer.TheVariants.{Unreadable, Refused, Silent, Sent}
-use Rattle.dnp_daemons.specs.Station.{AsksFor, station_ends, answer_frame, IsSentBack, Reply, Response}
-use Rattle.dnp_daemons.specs.AnswerLine.{IsFrameLine, IsFaultLine, IsSent, IsSilent, IsAnswer, IsPrinted, answer_text, is_frame}
+use Rattle.dnp_daemons.specs.OctetLines.{line_of}
+use Rattle.dnp_daemons.specs.Units.{frames_of, AreLinesOf}
+use Rattle.dnp_daemons.specs.Station.{HandsUp, station_ends, replies, responses, AreSentBack, Answered, Unheard}
+use Rattle.dnp_daemons.specs.AnswerLine.{IsFrameLine, IsFaultLine, IsAnswered, AreSent, IsAnswer, IsPrinted, answer_text, is_frame}
 use Rattle.dnp_daemons.proofs.Spaced.{one_line}
 
 -- what the layers below promise of octets and fragments
@@ -42,75 +39,57 @@ one_fault laws text fault other f g =
     let same : f.octets ≡ g.octets = one_line text f.octets g.octets f.line g.line in
     laws.first f.octets fault other f.first (same_octets text f.octets g.octets (λ (t : List ℕ). IsFirstFault t other) same g.first)
 
-one_sequence : Laws → (own peer : ℕ) (frame : Frame) (s t : ℕ) → AsksFor own peer frame s → AsksFor own peer frame t → s ≡ t
-one_sequence laws own peer frame s t a b =
-    let same : a.fragment ≡ b.fragment = laws.fragment (frame.user.items ∷ []) a.fragment b.fragment a.whole b.whole in
-    let control : a.read.control ≡ b.read.control = ap (λ (xs : List ℕ). get_or xs 0 0) (sym a.read.spelled ∙ same ∙ b.read.spelled) in
-    a.read.numbered ∙ ap (λ (n : ℕ). n % 16) control ∙ sym b.read.numbered
+one_heard : Laws → (own peer : ℕ) (frame : Frame) (f g : List ℕ) → HandsUp own peer frame f → HandsUp own peer frame g → f ≡ g
+one_heard laws own peer frame f g a b = laws.fragment (frame.user.items ∷ []) f g a.whole b.whole
 
--- a link layer that has heard nothing before doesn't both reply and hand up
-no_reply_and_up : (e : Ends) (p : PrimaryFunction) (fcb : Bool) (back : Frame) → (answer_to e p None fcb).reply ≡ Some back → (answer_to e p None fcb).up ≡ true → ⊥
-no_reply_and_up e ResetLinkStates fcb back r u = both_ways false refl u
-no_reply_and_up e TestLinkStates fcb back r u = both_ways false refl u
-no_reply_and_up e ConfirmedUserData fcb back r u = both_ways false refl u
-no_reply_and_up e UnconfirmedUserData fcb back r u = absurd (cc)
-no_reply_and_up e RequestLinkStatus fcb back r u = both_ways false refl u
-no_reply_and_up e Other fcb back r u = both_ways false refl u
+one_back : Laws → (own peer : ℕ) (frame : Frame) (a b : List Frame) → AreSentBack own peer frame a → AreSentBack own peer frame b → a ≡ b
+one_back laws own peer frame a b (Answered f up is) (Answered g up' is') =
+    is ∙ (ap (λ (o : List ℕ). replies own peer frame ++ frames_of (station_ends own peer) 0 (responses o)) (one_heard laws own peer frame f g up up') ∙ sym is')
+one_back laws own peer frame a b (Answered f up is) (Unheard none is') = absurd (none f up)
+one_back laws own peer frame a b (Unheard none is) (Answered g up is') = absurd (none g up)
+one_back laws own peer frame a b (Unheard none is) (Unheard none' is') = is ∙ sym is'
 
-reply_or_up : (e : Ends) (f back : Frame) → (answer e [] f).reply ≡ Some back → (answer e [] f).up ≡ true → ⊥
-reply_or_up e f back r u =
-    let p : PrimaryFunction = primary_function f.control in
-    let fcb : Bool = frame_count_bit f.control in
-    elim (cases_Bool (is_for e f)) [
-      | inl for_it ↦
-          let same : answer e [] f ≡ answer_to e p None fcb = cond-true (is_for e f) (answer_to e p None fcb) dropped for_it in
-          no_reply_and_up e p fcb back (ap (λ (a : LinkAnswer). a.reply) (sym same) ∙ r) (ap (λ (a : LinkAnswer). a.up) (sym same) ∙ u)
-      | inr other ↦
-          let same : answer e [] f ≡ dropped = cond-false (is_for e f) (answer_to e p None fcb) dropped other in
-          both_ways false refl (ap (λ (a : LinkAnswer). a.up) (sym same) ∙ u)
-    ]
+one_text : Laws → (frames : List Frame) (a b : List ℕ) → AreLinesOf frames a → AreLinesOf frames b → a ≡ b
+one_text laws [] a b is is' = is ∙ sym is'
+one_text laws (frame ∷ frames) a b (unit, rest, spells, later, is) (unit', rest', spells', later', is') =
+    is ∙ (ap (λ (u : List ℕ). line_of u ++ 10 ∷ rest) (laws.spelling unit unit' frame spells spells')
+    ∙ (ap (λ (r : List ℕ). line_of unit' ++ 10 ∷ r) (one_text laws frames rest rest' later later') ∙ sym is'))
 
-one_back : Laws → (own peer : ℕ) (frame a b : Frame) → IsSentBack own peer frame a → IsSentBack own peer frame b → a ≡ b
-one_back laws own peer frame a b (Reply r) (Reply s) = cc
-one_back laws own peer frame a b (Reply r) (Response n asks e) = absurd (reply_or_up (station_ends own peer) frame a r asks.up)
-one_back laws own peer frame a b (Response n asks e) (Reply s) = absurd (reply_or_up (station_ends own peer) frame b s asks.up)
-one_back laws own peer frame a b (Response n asks e) (Response m asks' e') =
-    e ∙ ap (λ (k : ℕ). answer_frame own peer k) (one_sequence laws own peer frame n m asks asks') ∙ sym e'
+both_back : Laws → (text : List ℕ) (own peer : ℕ) (a b : List Frame) → IsAnswered text own peer a → IsAnswered text own peer b → a ≡ b
+both_back laws text own peer a b f g =
+    let frames : f.frame ≡ g.frame = one_frame laws text f.frame g.frame f.line g.line in
+    one_back laws own peer f.frame a b f.sent_back (subst (λ (x : Frame). AreSentBack own peer x b) (sym frames) g.sent_back)
 
-one_unit : Laws → (text : List ℕ) (own peer : ℕ) (unit other : List ℕ) → IsSent text own peer unit → IsSent text own peer other → unit ≡ other
-one_unit laws text own peer unit other a b =
-    let frames : a.frame ≡ b.frame = one_frame laws text a.frame b.frame a.line b.line in
-    let back : IsSentBack own peer a.frame b.back = subst (λ (f : Frame). IsSentBack own peer f b.back) (sym frames) b.sent_back in
-    let backs : a.back ≡ b.back = one_back laws own peer a.frame a.back b.back a.sent_back back in
-    laws.spelling unit other a.back a.spelled (subst (λ (f : Frame). Spells other f) (sym backs) b.spelled)
+one_sent : Laws → (text : List ℕ) (own peer : ℕ) (lines other : List ℕ) → AreSent text own peer lines → AreSent text own peer other → lines ≡ other
+one_sent laws text own peer lines other a b =
+    let backs : a.first ∷ a.more ≡ b.first ∷ b.more = both_back laws text own peer (a.first ∷ a.more) (b.first ∷ b.more) a.answered b.answered in
+    one_text laws (b.first ∷ b.more) lines other (subst (λ (fs : List Frame). AreLinesOf fs lines) backs a.are) b.are
 
-silent_or_sent : Laws → (text : List ℕ) (own peer : ℕ) (unit : List ℕ) → IsSilent text own peer → IsSent text own peer unit → ⊥
-silent_or_sent laws text own peer unit a b =
-    let frames : a.frame ≡ b.frame = one_frame laws text a.frame b.frame a.line b.line in
-    a.silent b.back (subst (λ (f : Frame). IsSentBack own peer f b.back) (sym frames) b.sent_back)
+silent_or_sent : Laws → (text : List ℕ) (own peer : ℕ) (lines : List ℕ) → IsAnswered text own peer [] → AreSent text own peer lines → ⊥
+silent_or_sent laws text own peer lines a b =
+    let none : [] ≡ b.first ∷ b.more = both_back laws text own peer [] (b.first ∷ b.more) a b.answered in
+    absurd (cc)
 
-one_answer : Laws → (text : List ℕ) (own peer : ℕ) (a b : Answer) → IsAnswer text own peer a → IsAnswer text own peer b → a ≡ b
-one_answer laws text own peer Unreadable Unreadable f g = refl
+one_answer : Laws → (text : List ℕ) (own peer : ℕ) (a b : Answer) → IsAnswer text own peer a → IsAnswer text own peer b → (answer_text a ≡ answer_text b) × (is_frame a ≡ is_frame b)
+one_answer laws text own peer Unreadable Unreadable f g = (refl, refl)
 one_answer laws text own peer Unreadable (Refused e) f g = absurd (f g.octets g.line)
 one_answer laws text own peer Unreadable Silent f g = absurd (f g.line.octets g.line.line)
-one_answer laws text own peer Unreadable (Sent u) f g = absurd (f g.line.octets g.line.line)
+one_answer laws text own peer Unreadable (Sent u) f g = absurd (f g.answered.line.octets g.answered.line.line)
 one_answer laws text own peer (Refused e) Unreadable f g = absurd (g f.octets f.line)
-one_answer laws text own peer (Refused e) (Refused d) f g = ap Refused (one_fault laws text e d f g)
+one_answer laws text own peer (Refused e) (Refused d) f g = (ap (λ (x : FrameFault). answer_text (Refused x)) (one_fault laws text e d f g), refl)
 one_answer laws text own peer (Refused e) Silent f g = absurd (no_fault_line laws text g.frame e g.line f)
-one_answer laws text own peer (Refused e) (Sent u) f g = absurd (no_fault_line laws text g.frame e g.line f)
+one_answer laws text own peer (Refused e) (Sent u) f g = absurd (no_fault_line laws text g.answered.frame e g.answered.line f)
 one_answer laws text own peer Silent Unreadable f g = absurd (g f.line.octets f.line.line)
 one_answer laws text own peer Silent (Refused d) f g = absurd (no_fault_line laws text f.frame d f.line g)
-one_answer laws text own peer Silent Silent f g = refl
+one_answer laws text own peer Silent Silent f g = (refl, refl)
 one_answer laws text own peer Silent (Sent u) f g = absurd (silent_or_sent laws text own peer u.items f g)
-one_answer laws text own peer (Sent u) Unreadable f g = absurd (g f.line.octets f.line.line)
-one_answer laws text own peer (Sent u) (Refused d) f g = absurd (no_fault_line laws text f.frame d f.line g)
+one_answer laws text own peer (Sent u) Unreadable f g = absurd (g f.answered.line.octets f.answered.line.line)
+one_answer laws text own peer (Sent u) (Refused d) f g = absurd (no_fault_line laws text f.answered.frame d f.answered.line g)
 one_answer laws text own peer (Sent u) Silent f g = absurd (silent_or_sent laws text own peer u.items g f)
-one_answer laws text own peer (Sent u) (Sent v) f g =
-    let same : u.items ≡ v.items = one_unit laws text own peer u.items v.items f g in
-    ap (λ (xs : List ℕ). Sent (record { items = xs })) same
+one_answer laws text own peer (Sent u) (Sent v) f g = (one_sent laws text own peer u.items v.items f g, refl)
 
-pub one_line_printed : Laws → (text : List ℕ) (own peer : ℕ) (line other : List ℕ) (accepted accepted' : Bool)
-    → IsPrinted text own peer line accepted → IsPrinted text own peer other accepted' → (line ≡ other) × (accepted ≡ accepted')
-one_line_printed laws text own peer line other accepted accepted' a b =
-    let same : a.answer ≡ b.answer = one_answer laws text own peer a.answer b.answer a.given b.given in
-    (a.text_is ∙ ap (λ (x : Answer). answer_text x ++ 10 ∷ []) same ∙ sym b.text_is, a.accepted_is ∙ ap is_frame same ∙ sym b.accepted_is)
+pub one_line_printed : Laws → (text : List ℕ) (own peer : ℕ) (lines other : List ℕ) (accepted accepted' : Bool)
+    → IsPrinted text own peer lines accepted → IsPrinted text own peer other accepted' → (lines ≡ other) × (accepted ≡ accepted')
+one_line_printed laws text own peer lines other accepted accepted' a b =
+    let same = one_answer laws text own peer a.answer b.answer a.given b.given in
+    (a.text_is ∙ (same.0 ∙ sym b.text_is), a.accepted_is ∙ (same.1 ∙ sym b.accepted_is))

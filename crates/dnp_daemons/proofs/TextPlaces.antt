@@ -10,6 +10,7 @@ use Rattle.std.proofs.lemmas.List.Elements.{All-push, All-nil, All-cons}
 use Rattle.dnp_daemons.specs.OctetLines.{digit, line_of, without_line_feed, IsLineOf}
 use Rattle.dnp_daemons.specs.TextFaults.{IsDigit, IsInPlace, AreInPlace}
 use Rattle.dnp_daemons.proofs.Spaced.{IsByte, spaced, closed, line_closed}
+use Rattle.dnp_daemons.specs.declared.octets.TheConstants.{MAX_CHARACTERS}
 
 -- nothing stands before the first place
 pub none_in_place : (line : List ℕ) → AreInPlace line 0
@@ -89,13 +90,14 @@ row_in_place (x ∷ y ∷ z ∷ w ∷ rest) all size =
     }
 
 -- a text whose line is that of some octets
-line_is : (text line octets : List ℕ) → line ≡ without_line_feed text → length line ≤ 2000 → str_to_ascii_uppercase line ≡ line_of octets → All IsByte octets → IsLineOf text octets
+line_is : (text line octets : List ℕ) → line ≡ without_line_feed text → length line ≤ MAX_CHARACTERS → str_to_ascii_uppercase line ≡ line_of octets
+    → All IsByte octets → IsLineOf text octets
 line_is text line octets is short digits bytes =
-    subst (λ (l : List ℕ). (length l ≤ 2000) → (str_to_ascii_uppercase l ≡ line_of octets) → IsLineOf text octets) (sym is)
+    subst (λ (l : List ℕ). (length l ≤ MAX_CHARACTERS) → (str_to_ascii_uppercase l ≡ line_of octets) → IsLineOf text octets) (sym is)
     (λ few same. record { short = few; digits = same; bytes = bytes }) short digits
 
 -- so the text is a line of octets
-pub line_of_text : (text line : List ℕ) → line ≡ without_line_feed text → AreInPlace line (length line) → length line ≤ 2000 →
+pub line_of_text : (text line : List ℕ) → line ≡ without_line_feed text → AreInPlace line (length line) → length line ≤ MAX_CHARACTERS →
     (length line ≡ 0) ⊎ (length line % 3 ≡ 2) → (octets : List ℕ) × IsLineOf text octets
 line_of_text text [] is all short (inl none) = ([], line_is text [] [] is short refl (All-nil IsByte))
 line_of_text text [] is all short (inr size) = absurd (omega (arith, size))

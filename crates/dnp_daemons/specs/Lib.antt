@@ -1,5 +1,7 @@
 pub mod Address
 pub mod OctetLines
 pub mod TextFaults
+pub mod Units
 pub mod Station
 pub mod AnswerLine
+pub mod steps

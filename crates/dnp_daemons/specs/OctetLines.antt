@@ -1,8 +1,9 @@
--- Lines of hexadecimal octets, the text form in which units travel: each octet is two hexadecimal
--- digits, and one space stands between each two octets.
-use Rattle.std.specs.Prelude.{◌≡◌, ℕ, ◌+◌, ◌-◌, ◌/◌, ◌%◌, ◌<◌, ◌≤◌, ◌==◌, nat_lt, if◌then◌else◌, List, [], ◌∷◌, ◌++◌, length, map, take, slice_index, All}
+-- Definition: lines of hexadecimal octets, the text form in which units travel: each octet is two hexadecimal
+-- digits, and one space is between each two octets.
+use Rattle.std.specs.Prelude.{◌≡◌, ℕ, ◌+◌, ◌-◌, ◌/◌, ◌%◌, ◌<◌, ◌≤◌, ◌==◌, nat_lt, if◌then◌else◌, List, [], ◌∷◌, length, map, take, slice_index, All}
 use Rattle.std.specs.List.{join_with_byte}
 use Rattle.std.specs.Str.{str_to_ascii_uppercase}
+use Rattle.dnp_daemons.specs.declared.octets.TheConstants.{MAX_CHARACTERS}
 
 -- the capital hexadecimal digit of a number below 16: '0' is 48, and 'A' is 65
 abbrev pub digit : ℕ → ℕ
@@ -12,24 +13,18 @@ digit n = if nat_lt n 10 then 48 + n else 55 + n
 abbrev pub octet_text : ℕ → List ℕ
 octet_text octet = digit (octet / 16) ∷ digit (octet % 16) ∷ []
 
--- octets as a line of text: one space, 32, stands between each two of them
+-- octets as a line of text: one space, 32, is between each two of them
 abbrev pub line_of : List ℕ → List ℕ
 line_of octets = join_with_byte 32 (map octet_text octets)
-
--- a part of a line begins with this octet: its two digits, of either case, and a space behind them
--- unless the part ends there (so three characters of the part with a space behind it are compared)
-abbrev pub BeginsWith : List ℕ → ℕ → Type 0
-BeginsWith part octet =
-    take 3 (str_to_ascii_uppercase part ++ 32 ∷ []) ≡ octet_text octet ++ 32 ∷ []
 
 -- the text without the line feed, 10, that may end it; only one is taken off
 abbrev pub without_line_feed : List ℕ → List ℕ
 without_line_feed text =
     if slice_index text (length text - 1) == 10 then take (length text - 1) text else text
 
--- the text is a line of these octets: at most 2,000 characters, not counting the line feed that may
+-- the text is a line of these octets: at most MAX_CHARACTERS characters, not counting the line feed that may
 -- end it, with digits of either case (a line has no letters but A to F)
 pub record IsLineOf (text octets : List ℕ) : Type 0 where
-  pub short : length (without_line_feed text) ≤ 2000
+  pub short : length (without_line_feed text) ≤ MAX_CHARACTERS
   pub digits : str_to_ascii_uppercase (without_line_feed text) ≡ line_of octets
   pub bytes : All (λ octet. octet < 256) octets

@@ -1,4 +1,4 @@
-//! What holds of answers, each law as the contract of a function that does nothing but call laws.
+//! Laws of answers, each the contract of a function that does nothing.
 ghost use Rattle.std.specs.Prelude.{◌≡◌, ℕ, Bool, List};
 ghost use Rattle.dnp_daemons.specs.AnswerLine.{IsPrinted};
 

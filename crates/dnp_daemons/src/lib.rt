@@ -8,9 +8,11 @@ pub mod laws;
 mod octets;
 mod station;
 mod text;
+mod units;
 mod writing;
 
-pub use address::{LAST, read_address};
+pub use address::{MAX_ADDRESS, read_address};
 pub use answer::{AnswerFault, answer_line};
-pub use input::{MOST, read_text};
+pub use input::{MAX_INPUT, read_text};
+pub use octets::MAX_CHARACTERS;
 pub use text::{TextFault, text_fault};

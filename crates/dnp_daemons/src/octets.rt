@@ -3,18 +3,21 @@
 ghost use Rattle.std.specs.Prelude.{ℕ, ◌≡◌, ◌<◌, ◌≤◌, List, [], ◌∷◌, length, IfSome, IfNone};
 ghost use Rattle.std.specs.Char.{to_ascii_uppercase};
 ghost use Rattle.std.specs.Str.{str_to_ascii_uppercase};
-ghost use Rattle.dnp_daemons.specs.OctetLines.{digit, octet_text, line_of, BeginsWith, without_line_feed, IsLineOf};
+ghost use Rattle.dnp_daemons.specs.OctetLines.{digit, octet_text, line_of, without_line_feed, IsLineOf};
+ghost use Rattle.dnp_daemons.specs.steps.Pieces.{BeginsWith};
 
 use arrayvec::ArrayVec;
+use dnp_linkframe::MAX_UNIT;
 
-/// The most characters of a line that is read, not counting a line feed.
-pub(crate) const MAX_CHARACTERS: usize = 2000;
+/// The most characters of a line that is read, not counting the line feed that may end it.
+pub const MAX_CHARACTERS: usize = 2000;
 
-/// The most octets that a line of 2,000 characters has: three characters each, but for the last.
-pub(crate) const MAX_READ: usize = 667;
+/// The most octets that a line has that is read: three characters each, but for the last.
+pub(crate) const MAX_READ: usize = (MAX_CHARACTERS + 1) / 3;
 
-/// Room for 292 octets, the longest link frame, in 875 characters, and for one line feed.
-pub(crate) const MAX_LINE: usize = 876;
+/// The most characters of a line that is written: the octets of the longest unit, each but the last with a space after
+/// it, and a line feed.
+pub(crate) const MAX_LINE: usize = 3 * MAX_UNIT;
 
 /// The value of a hexadecimal digit of either case.
 pub(crate) fn digit_value(character: u8) -> Option<u8>
@@ -42,7 +45,7 @@ fn octet_of(high: u8, low: u8) -> Option<u8>
 }
 
 /// The octet at the front of a part of a line: two hexadecimal digits of either case, and a space
-/// behind them unless the part ends there.
+/// after them unless the part ends there.
 fn first_octet(part: &[u8]) -> Option<u8>
     ensures found { IfSome result (λ octet. BeginsWith part.now octet) }
     ensures none { IfNone result ((octet : ℕ) → octet < 256 → BeginsWith part.now octet → ⊥) }
@@ -75,10 +78,9 @@ pub(crate) fn line_in(text: &[u8]) -> &[u8]
     }
 }
 
-/// The octets of the line of text, at most 667, or none where the text is no line of octets. The
-/// line has two hexadecimal digits of either case for each octet, one space between each two octets,
-/// at most 2,000 characters, and may end with one line feed more. A text without octets is the line
-/// of no octets.
+/// The octets of the line of text, or none where the text is no line of octets. The line has two hexadecimal digits of
+/// either case for each octet, one space between each two octets, at most [`MAX_CHARACTERS`] characters, and may end
+/// with one line feed more. A text without octets is the line of no octets.
 pub(crate) fn read_octets(text: &[u8]) -> Option<ArrayVec<u8, MAX_READ>>
     ensures found { IfSome result (λ octets. IsLineOf text.now octets.items) }
     ensures none { IfNone result ((octets : List ℕ) → IsLineOf text.now octets → ⊥) }
@@ -97,11 +99,11 @@ pub(crate) fn read_octets(text: &[u8]) -> Option<ArrayVec<u8, MAX_READ>>
     Some(octets)
 }
 
-/// The octets, at most 292, as a line of text with capital digits and without a line feed.
+/// The octets of a unit as a line of text with capital digits and without a line feed.
 pub(crate) fn line_of_octets(octets: &[u8]) -> ArrayVec<u8, MAX_LINE>
-    requires { length octets.now ≤ 292 }
+    requires { length octets.now ≤ MAX_UNIT }
     ensures text { result.items ≡ line_of octets.now }
-    ensures short { length result.items ≤ 875 }
+    ensures short { length result.items < MAX_LINE }
 {
     let mut line = ArrayVec::new();
     for (index, octet) in octets.iter().enumerate() {

@@ -1,62 +1,75 @@
-//! An outstation without points. Its link layer replies to what a master asks of it; a READ of class
-//! data is answered with a response that holds nothing but the indication that the station has
-//! restarted; on all else it is silent.
-ghost use Rattle.std.specs.Prelude.{◌≡◌, ℕ, ◌↔◌, IsTrue, IfSome, IfNone};
-ghost use Rattle.dnp_linkframe.specs.Frames.{Spells};
+//! The station behind `dnp answer`: an outstation without points and outputs, opened at the moment 0,
+//! for one frame.
+ghost use Rattle.std.specs.Prelude.{◌≡◌, List, IfOk, OnOk, option_to_list};
 ghost use Rattle.dnp_linkframe.specs.declared.frame.Frame.{Frame as FrameValue};
-ghost use Rattle.dnp_daemons.specs.Station.{IsClassHeader, AreClassHeaders, IsClassRead, IsSentBack};
+ghost use Rattle.dnp_outstation.specs.Station.{actions_of};
+ghost use Rattle.dnp_daemons.specs.Station.{responses, AreSentBack};
+ghost use Rattle.dnp_daemons.specs.Units.{AreLinesOf};
+ghost use Rattle.dnp_daemons.specs.steps.Appended.{AreAppended};
 
-use arrayvec::ArrayVec;
-use dnp_line::Port;
-use dnp_linkframe::{Frame, MAX_FRAME};
+use crate::units::{push_fragments, push_line};
+use dnp_controls::NoOutputs;
+use dnp_eventbuf::PlainLanes;
+use dnp_line::{Port, Taken};
+use dnp_linkframe::Frame;
+use dnp_outstation::{Actions, Outstation};
+use dnp_pointdb::{PointDb, PointPlan, Times};
+use std::alloc::{AllocError, Global};
 
-/// Whether the octets are one object header 60.1 to 60.4 with qualifier 06.
-fn is_class_header(octets: &[u8]) -> bool
-    ensures { IsTrue result ↔ IsClassHeader octets.now }
+/// The station hears one frame, so no timer of it ever ends, and it sends nothing unasked.
+const TIMES: Times = Times {
+    confirm_ms: 5_000,
+    response_ms: 10_000,
+    select_ms: 5_000,
+    retries: 0,
+    unsolicited: false,
+};
+
+/// What the outstation, opened at the moment 0, does for a fragment that comes.
+fn answered(alloc: Global, fragment: &[u8]) -> Result<Actions, AllocError>
+    ensures { IfOk result (λ actions. (actions_of actions).send ≡ responses fragment.now) }
 {
-    matches!(octets, [60, 1..=4, 6])
-}
-
-/// Whether the octets are object headers 60.1 to 60.4 with qualifier 06, and nothing else.
-fn are_class_headers(octets: &[u8]) -> bool
-    ensures { IsTrue result ↔ AreClassHeaders octets.now }
-{
-    for header in octets.chunks(3) {
-        if !is_class_header(header) {
-            return false;
-        }
+    let plan = PointPlan::new(Vec::new(alloc), Vec::new(alloc), Vec::new(alloc)).unwrap();
+    let points = PointDb::new(alloc, plan)?;
+    let lanes = PlainLanes::new(alloc, [1; 9])?;
+    let mut station = Outstation::new(points, lanes, NoOutputs, TIMES);
+    let Ok(_) = station.opened(alloc, 0) else {
+        return Err(AllocError);
+    };
+    match station.receive(alloc, 0, fragment) {
+        Ok(actions) => Ok(actions),
+        Err(_) => Err(AllocError),
     }
-    true
 }
 
-/// The sequence number of a READ of class data, or none where the fragment is something else.
-fn class_read(fragment: &[u8]) -> Option<u8>
-    ensures found { IfSome result (IsClassRead fragment.now) }
-    ensures none { IfNone result ((sequence : ℕ) → IsClassRead fragment.now sequence → ⊥) }
+/// Appends the line of the link layer's reply, if there is one.
+fn push_reply(text: &mut Vec<u8>, taken: &Taken) -> Result<(), AllocError>
+    ensures { OnOk result (AreAppended text.old.items (option_to_list taken.now.reply) text.new.items) }
 {
-    match fragment {
-        [control, 0x01, headers @ ..] if control & 0xD0 == 0xC0 && are_class_headers(headers) => {
-            Some(control % 16)
-        }
-        _ => None,
+    match taken.reply_unit() {
+        Some(unit) => push_line(text, &unit),
+        None => Ok(()),
     }
 }
 
-/// The unit in which the station sends a frame back for a frame, the first that it hears, or none
-/// where it is silent.
-pub(crate) fn respond(frame: &Frame, own: u16, peer: u16) -> Option<ArrayVec<u8, MAX_FRAME>>
-    ensures sent { IfSome result (λ unit. (back : FrameValue) × IsSentBack own peer frame.now back × Spells unit.items back) }
-    ensures silent { IfNone result ((back : FrameValue) → IsSentBack own peer frame.now back → ⊥) }
+/// The lines of the frames that the station sends back for a frame, the first that it hears: no text
+/// where it sends none.
+pub(crate) fn respond(
+    alloc: Global,
+    frame: &Frame,
+    own: u16,
+    peer: u16,
+) -> Result<Vec<u8>, AllocError>
+    ensures { IfOk result (λ lines. (back : List FrameValue) × AreSentBack own peer frame.now back × AreLinesOf back lines.items) }
 {
     let mut port = Port::new(own, peer, false);
     let taken = port.take(frame);
-    if let Some(unit) = taken.reply_unit() {
-        return Some(unit);
-    }
+    let mut lines = Vec::new(alloc);
+    push_reply(&mut lines, &taken)?;
     if !taken.whole {
-        return None;
+        return Ok(lines);
     }
-    let sequence = class_read(port.fragment())?;
-    let response = [0xC0 + sequence, 0x81, 0x80, 0x00];
-    Some(port.unit(&response, 0))
+    let actions = answered(alloc, port.fragment())?;
+    push_fragments(&mut lines, &mut port, &actions.send)?;
+    Ok(lines)
 }

@@ -11,13 +11,13 @@ use std::fmt::{Display, Formatter, Write};
 /// Where a text stops being a line of octets: a place, counted from 0, and the character there.
 #[derive(Clone, Copy, Debug, PartialEq, Eq)]
 pub enum TextFault {
-    /// Here a hexadecimal digit has to stand, and this character does.
+    /// Here belongs a hexadecimal digit, and this character is here.
     NoDigit(usize, u8),
-    /// Here a space has to stand, or the line ends, and this character stands there.
+    /// Here belongs a space, or the end of the line, and this character is here.
     NoSpace(usize, u8),
     /// The line ends here, in the middle of an octet or after a space.
     Ends(usize),
-    /// The line has more than 2,000 characters.
+    /// The line has more than [`MAX_CHARACTERS`] characters.
     TooLong,
 }
 
@@ -71,7 +71,7 @@ impl Display for TextFault {
 }
 
 /// Why the text is no line of octets, or none where it is one: two hexadecimal digits of either
-/// case for each octet, single spaces between, at most 2,000 characters without the line feed that
+/// case for each octet, single spaces between, at most [`MAX_CHARACTERS`] characters without the line feed that
 /// may end the text. Of several faults the first from the left is given.
 pub fn text_fault(text: &[u8]) -> Option<TextFault>
     ensures found { IfSome result (StopsBy (without_line_feed text.now)) }

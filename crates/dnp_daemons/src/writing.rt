@@ -1,4 +1,4 @@
-//! Text on its way out: what stands written where a writer fails in its midst.
+//! Text on its way out, and what was written where a writer fails before its end.
 
 ghost use Rattle.std.specs.Prelude.{◌≡◌, ℕ, List, ◌++◌, OnOk, OnErr};
 ghost use Rattle.std.specs.Io.KnownBytes.{Appends};
@@ -9,8 +9,8 @@ use std::io::Write;
 #[derive(Clone, Copy, Debug, PartialEq, Eq)]
 pub(crate) struct NotWritten;
 
-/// Writes the whole text, by as many calls of `write` as the writer wants. A fault says that a
-/// call failed or took no octet; what was written by then is a beginning of the text.
+/// Writes the whole text, by as many calls of `write` as the writer wants. A fault says that a call
+/// failed or took no octet; what was written by then is a beginning of the text.
 pub(crate) fn write_out<W: Write>(text: &[u8], out: &mut W) -> Result<(), NotWritten>
     ensures whole { OnOk result (Appends (W.contents out.old) (W.contents out.new) text.now) }
     ensures part { OnErr result ((part rest : List ℕ) × (text.now ≡ part ++ rest)

@@ -7,6 +7,7 @@ use Rattle.std.proofs.lemmas.List.{append_assoc, append-nil, map-append, take-ap
 use Rattle.std.proofs.lemmas.List.Sorted.{IsPermutation-refl, IsPermutation-trans, IsPermutation-append_left, IsPermutation-append_right, IsPermutation-append, IsPermutation-append_comm, IsPermutation-map, IsPermutation-filter_both, sum_by-IsPermutation}
 use Rattle.std.proofs.lemmas.List.Elements.{All-get_or}
 use Rattle.std.proofs.lemmas.List.Sums.{sum_by-cons, sum_by-append}
+use Rattle.dnp_objects.specs.declared.limits.TheConstants.{LANES}
 use Rattle.dnp_objects.specs.Lanes.{lane_number}
 use Rattle.dnp_objects.specs.declared.row.Row.{Row}
 use Rattle.dnp_objects.specs.declared.lane.LaneRow.{LaneRow}
@@ -58,7 +59,9 @@ put_conserves lane x true =
     let whole : map row_of lane.rows ≡ first ++ later = ap (map row_of) (sym (take-append-drop 1 lane.rows)) ∙ map-append row_of (take 1 lane.rows) (drop 1 lane.rows) in
     let left : IsPermutation (map row_of lane.rows ++ one) ((first ++ later) ++ one) = IsPermutation-same (map row_of lane.rows ++ one) ((first ++ later) ++ one) (ap (λ (xs : List Row). xs ++ one) whole) in
     let turned : IsPermutation ((first ++ later) ++ one) ((later ++ one) ++ first) =
-    IsPermutation-trans ((first ++ later) ++ one) (first ++ (later ++ one)) ((later ++ one) ++ first) (IsPermutation-same ((first ++ later) ++ one) (first ++ (later ++ one)) (append_assoc first later one)) (IsPermutation-append_comm first (later ++ one))
+    IsPermutation-trans ((first ++ later) ++ one) (first ++ (later ++ one)) ((later ++ one) ++ first)
+    (IsPermutation-same ((first ++ later) ++ one) (first ++ (later ++ one)) (append_assoc first later one))
+    (IsPermutation-append_comm first (later ++ one))
     in
     let right : (later ++ one) ++ first ≡ map row_of (drop 1 lane.rows ++ x ∷ []) ++ first = ap (λ (xs : List Row). xs ++ first) (sym (map-append row_of (drop 1 lane.rows) (x ∷ []))) in
     subst (IsPermutation (map row_of lane.rows ++ one)) right (IsPermutation-trans (map row_of lane.rows ++ one) ((first ++ later) ++ one) ((later ++ one) ++ first) left turned)
@@ -73,7 +76,7 @@ row_conserves s x low =
 
 -- ---- all rows of an append
 
-pub append_conserves : (s : Stock) (rows : List LaneRow) → length s.lanes ≡ 9 → IsPermutation (rows_in s ++ arriving rows) (rows_in (with_rows s rows) ++ dropped_by s rows)
+pub append_conserves : (s : Stock) (rows : List LaneRow) → length s.lanes ≡ LANES → IsPermutation (rows_in s ++ arriving rows) (rows_in (with_rows s rows) ++ dropped_by s rows)
 append_conserves s [] nine = IsPermutation-refl (rows_in s ++ [])
 append_conserves s (x ∷ xs) nine =
     let s' = with_row s x in
@@ -83,7 +86,7 @@ append_conserves s (x ∷ xs) nine =
     let more = arriving xs in
     let final = rows_in (with_rows s' xs) in
     let later = dropped_by s' xs in
-    let nine' : length s'.lanes ≡ 9 = omega (arith, length-set s.lanes n (put_in (lane_at s n) (record { id = s.last_id + 1; row = x.row }))) in
+    let nine' : length s'.lanes ≡ LANES = omega (arith, length-set s.lanes n (put_in (lane_at s n) (record { id = s.last_id + 1; row = x.row }))) in
     let first : IsPermutation (rows_in s ++ one) (rows_in s' ++ d) = row_conserves s x (omega (arith, lane_number-low x.lane)) in
     let rest : IsPermutation (rows_in s' ++ more) (final ++ later) = append_conserves s' xs nine' in
     let a : IsPermutation (rows_in s ++ (one ++ more)) ((rows_in s ++ one) ++ more) = IsPermutation-same (rows_in s ++ (one ++ more)) ((rows_in s ++ one) ++ more) (sym (append_assoc (rows_in s) one more)) in
@@ -103,7 +106,7 @@ count_by-lists test a b c d p =
     let one : Row → ℕ = λ r. cond (test r) 1 0 in
     omega (arith, sum_by-IsPermutation one (a ++ b) (c ++ d) p, sum_by-append one a b, sum_by-append one c d)
 
-pub append_conserves_counts : (s : Stock) (rows : List LaneRow) (test : Row → Bool) → length s.lanes ≡ 9
+pub append_conserves_counts : (s : Stock) (rows : List LaneRow) (test : Row → Bool) → length s.lanes ≡ LANES
     → count_by test (rows_in s) + count_by test (arriving rows) ≡ count_by test (rows_in (with_rows s rows)) + count_by test (dropped_by s rows)
 append_conserves_counts s rows test nine =
     count_by-lists test (rows_in s) (arriving rows) (rows_in (with_rows s rows)) (dropped_by s rows) (append_conserves s rows nine)

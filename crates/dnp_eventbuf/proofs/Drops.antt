@@ -1,11 +1,12 @@
 -- What the tallies tell is what an append drops, and whether it passes a count.
-use Rattle.std.proofs.Common.{◌≡◌, ℕ, ◌+◌, ◌-◌, ◌^◌, ◌<◌, ◌≤◌, Bool, true, false, cond, refl, List, [], ◌∷◌, ◌++◌, map, take, drop, length, get_or, set, subst, sym, ap, ◌∙◌, arith, nat_lt, Option, Some, None}
+use Rattle.std.proofs.Common.{◌≡◌, ℕ, ◌+◌, ◌-◌, ◌<◌, ◌≤◌, Bool, true, false, cond, refl, List, [], ◌∷◌, ◌++◌, map, take, drop, length, get_or, set, subst, sym, ap, ◌∙◌, arith, nat_lt, Option, Some, None}
 use Rattle.std.specs.List.{All}
 use Rattle.std.specs.Option.{MatchOption, IfSome, IfNone}
 use Rattle.std.proofs.lemmas.Bool.{leb-true, leb-false, ltb-true, ltb-false, lt-ltb, le-leb, lt-leb}
 use Rattle.std.proofs.lemmas.List.{get_or-set_same, length-set, get_or_default, length-append, length-drop, length-take, length-map, map-set}
 use Rattle.std.proofs.lemmas.List.Elements.{All-set, All-get_or}
 use Rattle.std.proofs.Math.ListN.{get_or-map}
+use Rattle.dnp_objects.specs.declared.limits.TheConstants.{LANES, MAX_ID}
 use Rattle.dnp_objects.specs.Lanes.{lane_number}
 use Rattle.dnp_objects.specs.declared.lane.LaneRow.{LaneRow}
 use Rattle.dnp_eventbuf.specs.declared.numbered.Numbered.{Numbered}
@@ -33,7 +34,8 @@ tally_by false lane x room =
     let some : nat_lt 0 (lane.capacity - length lane.rows) ≡ true = lt-ltb 0 (lane.capacity - length lane.rows) (omega arith) in
     let free : lane.capacity - length (lane.rows ++ x ∷ []) ≡ lane.capacity - length lane.rows - 1 = omega (arith, length-append lane.rows (x ∷ [])) in
     let left : tally_of (record { capacity = lane.capacity; rows = lane.rows ++ x ∷ []; lost = lane.lost }) ≡ record { free = lane.capacity - length lane.rows - 1; lost = lane.lost } = ap (λ n. record { free = n; lost = lane.lost }) free in
-    let right : after_row (tally_of lane) ≡ record { free = lane.capacity - length lane.rows - 1; lost = lane.lost } = ap (λ b. cond b (record { free = lane.capacity - length lane.rows - 1; lost = lane.lost }) (record { free = 0; lost = lane.lost + 1 })) some in
+    let fewer : Tally = record { free = lane.capacity - length lane.rows - 1; lost = lane.lost } in
+    let right : after_row (tally_of lane) ≡ fewer = ap (λ b. cond b fewer (record { free = 0; lost = lane.lost + 1 })) some in
     left ∙ sym right
 
 tally_of-put_in : (lane : LaneState) (x : Numbered) → tally_of (put_in lane x) ≡ after_row (tally_of lane)
@@ -52,14 +54,14 @@ map-with_row s x =
 -- ---- lanes that take a row each
 
 pub record IsRoomy (s : Stock) : Type 0 where
-  pub nine : length s.lanes ≡ 9
+  pub nine : length s.lanes ≡ LANES
   pub least : All (λ lane. 1 ≤ lane.capacity) s.lanes
 
 capacity_by : (b : Bool) (c : ℕ) (p q : List Numbered) (m n : ℕ) → (let lane : LaneState = cond b (record { capacity = c; rows = p; lost = m }) (record { capacity = c; rows = q; lost = n }) in lane.capacity) ≡ c
 capacity_by true c p q m n = refl
 capacity_by false c p q m n = refl
 
-pub IsRoomy-with_row : (s : Stock) (x : LaneRow) → lane_number x.lane < 9 → IsRoomy s → IsRoomy (with_row s x)
+pub IsRoomy-with_row : (s : Stock) (x : LaneRow) → lane_number x.lane < LANES → IsRoomy s → IsRoomy (with_row s x)
 IsRoomy-with_row s x low roomy =
     let n = lane_number x.lane in
     let lane = lane_at s n in
@@ -76,7 +78,7 @@ IsRoomy-from_sound s sound = record {
   nine = sound.nine;
   least = λ k d low.
       let nine = sound.nine in
-      let below : k < 9 = omega arith in
+      let below : k < LANES = omega arith in
       subst (λ (lane : LaneState). 1 ≤ lane.capacity) (get_or_default s.lanes k no_lane d low) (sound.each k below).takes_one;
 }
 
@@ -125,21 +127,21 @@ length-dropped_full lane least e =
     let one : length (map row_of (take 1 lane.rows)) ≡ 1 = omega (arith, length-map (take 1 lane.rows) row_of, length-take 1 lane.rows) in
     ap (λ (b : Bool). length (cond b (map row_of (take 1 lane.rows)) [])) e ∙ one
 
-LostWithin-set : (lanes : List LaneState) (n : ℕ) (new : LaneState) → new.lost ≤ 2 ^ 62 → LostWithin lanes → LostWithin (set lanes n new)
-LostWithin-set lanes n new few within = record { each = All-set (λ (lane : LaneState). lane.lost ≤ 2 ^ 62) lanes n new few within.each }
+LostWithin-set : (lanes : List LaneState) (n : ℕ) (new : LaneState) → new.lost ≤ MAX_ID → LostWithin lanes → LostWithin (set lanes n new)
+LostWithin-set lanes n new few within = record { each = All-set (λ (lane : LaneState). lane.lost ≤ MAX_ID) lanes n new few within.each }
 
 -- ---- the step, by whether a place is free and whether one more may be lost
 
 walk_step : (s : Stock) (dropped : ℕ) (x : LaneRow) (xs : List LaneRow) → IsRoomy s → LostWithin s.lanes
     → ((n : ℕ) → LostWithin (with_row s x).lanes → Tells (with_row s x) n xs (drops_from n (with_tally (map tally_of s.lanes) x) xs))
-    → (free countable : Bool) → nat_lt 0 (tally_of (lane_at s (lane_number x.lane))).free ≡ free → nat_lt (lane_at s (lane_number x.lane)).lost (2 ^ 62) ≡ countable
+    → (free countable : Bool) → nat_lt 0 (tally_of (lane_at s (lane_number x.lane))).free ≡ free → nat_lt (lane_at s (lane_number x.lane)).lost MAX_ID ≡ countable
     → Tells s dropped (x ∷ xs) (walk free countable dropped (with_tally (map tally_of s.lanes) x) xs)
 walk_step s dropped x xs roomy within rest true countable free few =
     let n = lane_number x.lane in
     let lane = lane_at s n in
     let r : Numbered = record { id = s.last_id + 1; row = x.row } in
     let open_lane : is_full lane ≡ false = is_full-false lane free in
-    let old : lane.lost ≤ 2 ^ 62 = All-get_or (λ (l : LaneState). l.lost ≤ 2 ^ 62) s.lanes n no_lane (omega (arith, roomy.nine, lane_number-low x.lane)) within.each in
+    let old : lane.lost ≤ MAX_ID = All-get_or (λ (l : LaneState). l.lost ≤ MAX_ID) s.lanes n no_lane (omega (arith, roomy.nine, lane_number-low x.lane)) within.each in
     let now : LostWithin (with_row s x).lanes = LostWithin-set s.lanes n (put_in lane r) (omega (arith, lost-not_full lane r open_lane)) within in
     more_tells s dropped x xs (drops_from dropped (with_tally (map tally_of s.lanes) x) xs) 0 (length-dropped_not_full lane open_lane)
     (subst (λ (m : ℕ). Tells (with_row s x) m xs (drops_from dropped (with_tally (map tally_of s.lanes) x) xs)) (omega arith) (rest dropped now))
@@ -149,7 +151,7 @@ walk_step s dropped x xs roomy within rest false true none few =
     let r : Numbered = record { id = s.last_id + 1; row = x.row } in
     let full : is_full lane ≡ true = is_full-true lane none in
     let least : 1 ≤ lane.capacity = All-get_or (λ (l : LaneState). 1 ≤ l.capacity) s.lanes n no_lane (omega (arith, roomy.nine, lane_number-low x.lane)) roomy.least in
-    let now : LostWithin (with_row s x).lanes = LostWithin-set s.lanes n (put_in lane r) (omega (arith, lost-full lane r full, ltb-true lane.lost (2 ^ 62) few)) within in
+    let now : LostWithin (with_row s x).lanes = LostWithin-set s.lanes n (put_in lane r) (omega (arith, lost-full lane r full, ltb-true lane.lost MAX_ID few)) within in
     more_tells s dropped x xs (drops_from (dropped + 1) (with_tally (map tally_of s.lanes) x) xs) 1 (length-dropped_full lane least full) (rest (dropped + 1) now)
 walk_step s dropped x xs roomy within rest false false none many = λ after.
     let n = lane_number x.lane in
@@ -158,9 +160,9 @@ walk_step s dropped x xs roomy within rest false false none many = λ after.
     let long : n < length s.lanes = omega (arith, roomy.nine, lane_number-low x.lane) in
     let next : LostWithin (with_row s x).lanes = LostWithin-with_rows (with_row s x) xs after in
     let is : get_or (set s.lanes n (put_in lane r)) n no_lane ≡ put_in lane r = get_or-set_same s.lanes n (put_in lane r) no_lane long in
-    let there : (get_or (set s.lanes n (put_in lane r)) n no_lane).lost ≤ 2 ^ 62 = next.each n no_lane (omega (arith, length-set s.lanes n (put_in lane r))) in
-    let here : (put_in lane r).lost ≤ 2 ^ 62 = subst (λ (l : LaneState). l.lost ≤ 2 ^ 62) is there in
-    absurd (omega (arith, here, lost-full lane r (is_full-true lane none), ltb-false lane.lost (2 ^ 62) many))
+    let there : (get_or (set s.lanes n (put_in lane r)) n no_lane).lost ≤ MAX_ID = next.each n no_lane (omega (arith, length-set s.lanes n (put_in lane r))) in
+    let here : (put_in lane r).lost ≤ MAX_ID = subst (λ (l : LaneState). l.lost ≤ MAX_ID) is there in
+    absurd (omega (arith, here, lost-full lane r (is_full-true lane none), ltb-false lane.lost MAX_ID many))
 
 walk_tells : (s : Stock) (dropped : ℕ) (rows : List LaneRow) → IsRoomy s → LostWithin s.lanes → Tells s dropped rows (drops_from dropped (map tally_of s.lanes) rows)
 walk_tells s dropped [] roomy within = (omega arith, within)
@@ -171,8 +173,8 @@ walk_tells s dropped (x ∷ xs) roomy within =
     subst (λ (ts : List Tally). Tells (with_row s x) m xs (drops_from m ts xs)) (sym (map-with_row s x))
     (walk_tells (with_row s x) m xs (IsRoomy-with_row s x (lane_number-low x.lane) roomy) now)
     in
-    subst (λ (t : Tally). Tells s dropped (x ∷ xs) (walk (nat_lt 0 t.free) (nat_lt t.lost (2 ^ 62)) dropped (with_tally (map tally_of s.lanes) x) xs)) (sym (tally_at-map s n))
-    (walk_step s dropped x xs roomy within rest (nat_lt 0 (tally_of (lane_at s n)).free) (nat_lt (lane_at s n).lost (2 ^ 62)) refl refl)
+    subst (λ (t : Tally). Tells s dropped (x ∷ xs) (walk (nat_lt 0 t.free) (nat_lt t.lost MAX_ID) dropped (with_tally (map tally_of s.lanes) x) xs)) (sym (tally_at-map s n))
+    (walk_step s dropped x xs roomy within rest (nat_lt 0 (tally_of (lane_at s n)).free) (nat_lt (lane_at s n).lost MAX_ID) refl refl)
 
 -- ---- what an append reads beforehand
 
@@ -181,14 +183,14 @@ else_true : (b : Bool) → (b ≡ false → ⊥) → b ≡ true
 else_true true not_false = refl
 else_true false not_false = absurd (not_false refl)
 
-pub exhausts-many : (s : Stock) (rows : List LaneRow) → 2 ^ 62 < s.last_id + length rows → exhausts s rows ≡ true
+pub exhausts-many : (s : Stock) (rows : List LaneRow) → MAX_ID < s.last_id + length rows → exhausts s rows ≡ true
 exhausts-many s rows many = else_true (exhausts s rows) (λ e. omega (arith, last_id-from_test (with_rows s rows) e, last_id-with_rows s rows))
 
 walked : (s : Stock) (rows : List LaneRow) (answer : Option ℕ) → IsSound s → answer ≡ drops_from 0 (map tally_of s.lanes) rows → Tells s 0 rows answer
 walked s rows answer sound is = subst (Tells s 0 rows) (sym is) (walk_tells s 0 rows (IsRoomy-from_sound s sound) (LostWithin-from_sound s sound))
 
 -- where the ids suffice, the walk answers the number of rows that are dropped
-pub drops-Some : (s : Stock) (rows : List LaneRow) (answer : Option ℕ) → IsSound s → s.last_id + length rows ≤ 2 ^ 62 → answer ≡ drops_from 0 (map tally_of s.lanes) rows
+pub drops-Some : (s : Stock) (rows : List LaneRow) (answer : Option ℕ) → IsSound s → s.last_id + length rows ≤ MAX_ID → answer ≡ drops_from 0 (map tally_of s.lanes) rows
     → IfSome answer (λ total. (total ≡ length (dropped_by s rows)) × (exhausts s rows ≡ false))
 drops-Some s rows None sound few is = tt
 drops-Some s rows (Some total) sound few is =

@@ -16,7 +16,9 @@ all_old : (last : ℕ) (rows : List Numbered) → All (IsOldOrAfter rows last) r
 all_old last rows = All-weaker (Contains rows) (IsOldOrAfter rows last) (λ x h. inl h) rows (All-contains_itself rows)
 
 put_by : (lane : LaneState) (x : Numbered) (last : ℕ) → last < x.id → (b : Bool)
-    → All (IsOldOrAfter lane.rows last) (let new : LaneState = cond b (record { capacity = lane.capacity; rows = drop 1 lane.rows ++ x ∷ []; lost = lane.lost + 1 }) (record { capacity = lane.capacity; rows = lane.rows ++ x ∷ []; lost = lane.lost }) in new.rows)
+    → All (IsOldOrAfter lane.rows last)
+    (let new : LaneState = cond b (record { capacity = lane.capacity; rows = drop 1 lane.rows ++ x ∷ []; lost = lane.lost + 1 })
+    (record { capacity = lane.capacity; rows = lane.rows ++ x ∷ []; lost = lane.lost }) in new.rows)
 put_by lane x last after true = All-push (IsOldOrAfter lane.rows last) (drop 1 lane.rows) x (All-drop (IsOldOrAfter lane.rows last) 1 lane.rows (all_old last lane.rows)) (inr after)
 put_by lane x last after false = All-push (IsOldOrAfter lane.rows last) lane.rows x (all_old last lane.rows) (inr after)
 

@@ -1,5 +1,6 @@
 -- The numbers of lanes.
 use Rattle.std.proofs.Common.{◌≡◌, ℕ, ◌+◌, ◌*◌, ◌<◌, ◌≤◌, refl, arith}
+use Rattle.dnp_objects.specs.declared.limits.TheConstants.{LANES}
 use Rattle.dnp_objects.specs.Lanes.{lane_number, kind_number}
 use Rattle.dnp_objects.specs.declared.row.Kind.{Kind}
 use Rattle.dnp_objects.specs.declared.row.Kind.TheVariants.{Binary, Counter, Analog}
@@ -10,7 +11,7 @@ kind_number-low Binary = omega arith
 kind_number-low Counter = omega arith
 kind_number-low Analog = omega arith
 
-pub lane_number-low : (lane : Lane) → lane_number lane < 9
+pub lane_number-low : (lane : Lane) → lane_number lane < LANES
 lane_number-low lane = omega (arith, kind_number-low lane.kind, lane.at_most_3)
 
 -- lanes of one number are of one kind

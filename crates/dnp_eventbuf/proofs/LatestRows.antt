@@ -2,6 +2,7 @@
 use Rattle.std.proofs.Common.{◌≡◌, ℕ, ◌+◌, ◌-◌, ◌<◌, ◌≤◌, Bool, true, false, cond, List, [], ◌∷◌, ◌++◌, drop, length, get_or, set, subst, sym, ap, ap₂, ◌∙◌, arith, refl, nat_eq}
 use Rattle.std.proofs.lemmas.Bool.{leb-true, leb-false, eqb-true, eqb-false}
 use Rattle.std.proofs.lemmas.List.{append_assoc, append-nil, length-append, length-drop, length-set, get_or-set_same, get_or-set_other, drop-append-le, drop-drop}
+use Rattle.dnp_objects.specs.declared.limits.TheConstants.{LANES}
 use Rattle.dnp_objects.specs.Lanes.{lane_number}
 use Rattle.dnp_objects.specs.declared.lane.LaneRow.{LaneRow}
 use Rattle.dnp_eventbuf.specs.declared.numbered.Numbered.{Numbered}
@@ -110,7 +111,7 @@ keeps_latest s (x ∷ xs) number low within =
     (keeps_latest (with_row s x) xs number low' (subst IsWithin (sym is) fits)))
     (nat_eq (lane_number x.lane) number) refl
 
-pub append_keeps_latest : (s : Stock) (rows : List LaneRow) (number : ℕ) → IsSound s → number < 9 → KeepsLatest (lane_at s number) (numbered_for number s.last_id rows) (lane_at (with_rows s rows) number)
+pub append_keeps_latest : (s : Stock) (rows : List LaneRow) (number : ℕ) → IsSound s → number < LANES → KeepsLatest (lane_at s number) (numbered_for number s.last_id rows) (lane_at (with_rows s rows) number)
 append_keeps_latest s rows number sound low =
     let lane : IsSoundLane number s.last_id (lane_at s number) = sound.each number low in
     keeps_latest s rows number (omega (arith, sound.nine)) (record { least = lane.takes_one; short = lane.has_room })

@@ -1,3 +1,4 @@
+pub mod Archives
 pub mod BufferedCalls
 pub mod BufferedOnce
 pub mod ByLanes

@@ -7,8 +7,8 @@ use Rattle.std.proofs.lemmas.List.{map-append, get_or-take, length-take}
 use Rattle.std.proofs.lemmas.List.Elements.{All-head, All-tail, All-filter, filter_passes, All-contains_itself, All-take, All-weaker, Contains-append_left, Contains-append_right}
 use Rattle.std.proofs.lemmas.List.Kept.{AllPairs-filter}
 use Rattle.std.proofs.lemmas.Option.{slice_get-get_or}
+use Rattle.dnp_objects.specs.declared.limits.TheConstants.{LANES}
 use Rattle.dnp_objects.specs.Counts.{IsCoveredBy, HasNoRepeat}
-use Rattle.dnp_objects.proofs.Covered.{IsCoveredBy-from_members, IsCoveredBy-map, HasNoRepeat-by}
 use Rattle.dnp_objects.specs.Events.{IsEvent}
 use Rattle.dnp_objects.specs.Lanes.{lane_number}
 use Rattle.dnp_objects.specs.declared.lane.Lane.{Lane}
@@ -96,9 +96,14 @@ member old now last after most u rising u_is few x stood (k, low, is) upto =
       | inr under ↦ Contains-append_left before shown x (Contains-filter (λ y. nat_le y.id after) now x k low is (le-leb x.id after under))
     ]
 
-pub release_takes_offered : (s : Stock) (xs : List LaneRow) (number after most : ℕ) → IsSound s → All IsCarried xs → exhausts s xs ≡ false → number < 9
+-- the laws of covered lists that the proof rests on
+pub record Covering : Type 0 where
+  pub members : (xs ys : List Numbered) → HasNoRepeat xs → All (Contains ys) xs → IsCoveredBy xs ys
+  pub mapped : (f : Numbered → Row) (xs ys : List Numbered) → IsCoveredBy xs ys → IsCoveredBy (map f xs) (map f ys)
+
+pub release_takes_offered : Covering → (s : Stock) (xs : List LaneRow) (number after most : ℕ) → IsSound s → All IsCarried xs → exhausts s xs ≡ false → number < LANES
     → IsCoveredBy (up_to (last_of (offered s number after most)) (lane_at (with_rows s xs) number)) (up_to after (lane_at (with_rows s xs) number) ++ map row_of (offered s number after most))
-release_takes_offered s xs number after most sound carried within low =
+release_takes_offered laws s xs number after most sound carried within low =
     let now = (lane_at (with_rows s xs) number).rows in
     let old = (lane_at s number).rows in
     let shown = offered s number after most in
@@ -109,7 +114,8 @@ release_takes_offered s xs number after most sound carried within low =
     let lane_old : IsSoundLane number s.last_id (lane_at s number) = sound.each number low in
     let lane_now : IsSoundLane number (with_rows s xs).last_id (lane_at (with_rows s xs) number) = (IsSound-with_rows s xs sound carried within).each number low in
     let rising : Rises taken = AllPairs-filter (λ (a b : Numbered). a.id < b.id) p now lane_now.rising in
-    let apart : HasNoRepeat taken = HasNoRepeat-by (λ (x : Numbered). x.id) taken (λ i j d first second same. let less = rising i j d first second in omega arith) in
+    let apart : HasNoRepeat taken = 
+    λ i j d first second same. let less = rising i j d first second in omega (arith, ap (λ (x : Numbered). x.id) same) in
     let few : u ≤ s.last_id =
     last_of-most shown s.last_id (All-take (λ (x : Numbered). x.id ≤ s.last_id) most (filter (λ x. nat_lt after x.id) old) (All-filter (λ x. nat_lt after x.id) (λ (x : Numbered). x.id ≤ s.last_id) old lane_old.up_to_last))
     in
@@ -122,7 +128,7 @@ release_takes_offered s xs number after most sound carried within low =
     member old now s.last_id after most u lane_old.rising refl few x (stood k d short) (there k d short) (leb-true x.id u (passes k d short))
     in
     subst (λ (ys : List Row). IsCoveredBy (map row_of taken) ys) (map-append row_of before shown)
-    (IsCoveredBy-map row_of taken (before ++ shown) (IsCoveredBy-from_members taken (before ++ shown) apart each))
+    (laws.mapped row_of taken (before ++ shown) (laws.members taken (before ++ shown) apart each))
 
 -- no row has the id 0
 none_at_0 : (rows : List Numbered) → All (λ x. 1 ≤ x.id) rows → filter (λ x. nat_le x.id 0) rows ≡ []
@@ -137,17 +143,17 @@ none_at_0 (x ∷ rows) from_1 =
     go false low h = refl
 
 -- from the oldest row on, nothing else is taken
-pub release_takes_offered_alone : (s : Stock) (xs : List LaneRow) (number most : ℕ) → IsSound s → All IsCarried xs → exhausts s xs ≡ false → number < 9
+pub release_takes_offered_alone : Covering → (s : Stock) (xs : List LaneRow) (number most : ℕ) → IsSound s → All IsCarried xs → exhausts s xs ≡ false → number < LANES
     → IsCoveredBy (up_to (last_of (offered s number 0 most)) (lane_at (with_rows s xs) number)) (map row_of (offered s number 0 most))
-release_takes_offered_alone s xs number most sound carried within low =
+release_takes_offered_alone laws s xs number most sound carried within low =
     let now = lane_at (with_rows s xs) number in
     let none : up_to 0 now ≡ [] = ap (map row_of) (none_at_0 now.rows ((IsSound-with_rows s xs sound carried within).each number low).from_1) in
     subst (λ (before : List Row). IsCoveredBy (up_to (last_of (offered s number 0 most)) now) (before ++ map row_of (offered s number 0 most))) none
-    (release_takes_offered s xs number 0 most sound carried within low)
+    (release_takes_offered laws s xs number 0 most sound carried within low)
 
 -- ---- what is offered is an event
 
-pub offered_events : (s : Stock) (of : Lane) (after most : ℕ) → IsSound s → lane_number of < 9 → All (λ x. IsEvent x.row) (offered s (lane_number of) after most)
+pub offered_events : (s : Stock) (of : Lane) (after most : ℕ) → IsSound s → lane_number of < LANES → All (λ x. IsEvent x.row) (offered s (lane_number of) after most)
 offered_events s of after most sound low =
     let rows = (lane_at s (lane_number of)).rows in
     let Fits : Numbered → Type 0 = λ x. IsEvent x.row in

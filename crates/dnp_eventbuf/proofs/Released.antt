@@ -1,14 +1,14 @@
 -- What is offered after a release, and what the last id of a lane tells.
-use Rattle.std.proofs.Common.{◌≡◌, ℕ, ◌+◌, ◌-◌, ◌<◌, ◌≤◌, max, Bool, true, false, cond, List, [], ◌∷◌, map, take, length, get_or, subst, sym, ap, ◌∙◌, arith, inl, inr, refl, nat_lt, nat_le}
-use Rattle.std.specs.List.{All, AllPairs, filter, list_any}
+use Rattle.std.proofs.Common.{◌≡◌, ℕ, ◌-◌, ◌<◌, ◌≤◌, max, Bool, true, false, cond, List, [], ◌∷◌, take, length, get_or, sym, ap, ◌∙◌, arith, inl, inr, refl, nat_lt}
+use Rattle.std.specs.List.{All, filter, list_any}
 use Rattle.std.specs.Bool.{Decides}
-use Rattle.std.proofs.lemmas.Bool.{cases_lt, lt-ltb, leb-true}
+use Rattle.std.proofs.lemmas.Bool.{cases_lt, lt-ltb}
 use Rattle.std.proofs.lemmas.Bool.Decides.{Decides-ltb}
-use Rattle.std.proofs.lemmas.List.Elements.{All-tail, All-take, All-filter}
 use Rattle.std.proofs.lemmas.List.Folds.{list_any_at, list_any_none}
+use Rattle.dnp_objects.specs.declared.limits.TheConstants.{LANES}
 use Rattle.dnp_eventbuf.specs.declared.numbered.Numbered.{Numbered}
 use Rattle.dnp_eventbuf.specs.Sound.{IsSound}
-use Rattle.dnp_eventbuf.specs.Stock.{LaneState, Stock, lane_at, no_lane, offered, above, last_of, without}
+use Rattle.dnp_eventbuf.specs.Stock.{LaneState, Stock, lane_at, offered, above, last_of, without}
 use Rattle.dnp_eventbuf.proofs.Offers.{Rises, last_of-some, last_of-most}
 use Rattle.dnp_eventbuf.proofs.Soundness.{get_or-lanes_above}
 
@@ -79,11 +79,11 @@ any_over (x ∷ rows) u rising =
           | inr is ↦ (let e : k ≡ length (x ∷ rows) - 1 = omega arith in let f : (get_or (x ∷ rows) k d).id ≡ (get_or (x ∷ rows) (length (x ∷ rows) - 1) d).id = ap (λ j. (get_or (x ∷ rows) j d).id) e in omega arith)
         ]
 
-pub any_over_lane : (s : Stock) (number u : ℕ) → IsSound s → number < 9 → list_any (λ x. nat_lt u x.id) (lane_at s number).rows ≡ nat_lt u (last_of (lane_at s number).rows)
+pub any_over_lane : (s : Stock) (number u : ℕ) → IsSound s → number < LANES → list_any (λ x. nat_lt u x.id) (lane_at s number).rows ≡ nat_lt u (last_of (lane_at s number).rows)
 any_over_lane s number u sound low = any_over (lane_at s number).rows u (sound.each number low).rising
 
-pub none_over_last : (s : Stock) (number : ℕ) → IsSound s → number < 9 → All (λ x. x.id ≤ s.last_id) (lane_at s number).rows
+pub none_over_last : (s : Stock) (number : ℕ) → IsSound s → number < LANES → All (λ x. x.id ≤ s.last_id) (lane_at s number).rows
 none_over_last s number sound low = (sound.each number low).up_to_last
 
-pub last_up_to_last : (s : Stock) (number : ℕ) → IsSound s → number < 9 → last_of (lane_at s number).rows ≤ s.last_id
+pub last_up_to_last : (s : Stock) (number : ℕ) → IsSound s → number < LANES → last_of (lane_at s number).rows ≤ s.last_id
 last_up_to_last s number sound low = last_of-most (lane_at s number).rows s.last_id (none_over_last s number sound low)

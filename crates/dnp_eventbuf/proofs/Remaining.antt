@@ -1,5 +1,5 @@
 -- Rows that are still to be added are rows of the whole.
-use Rattle.std.proofs.Common.{◌≡◌, ◌≤◌, ◌+◌, List, [], ◌∷◌, ◌++◌, length, ap, sym, ◌∙◌, arith, refl, length-append}
+use Rattle.std.proofs.Common.{◌≡◌, ◌≤◌, List, [], ◌∷◌, ◌++◌, length, ap, arith, refl, length-append}
 use Rattle.std.specs.Prelude.{Result, Ok, Err, OnErr}
 
 pub on_err : {A E P : Type 0} (r : Result A E) → P → OnErr r P

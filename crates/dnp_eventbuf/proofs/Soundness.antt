@@ -1,5 +1,5 @@
 -- Each step keeps the lanes sound.
-use Rattle.std.proofs.Common.{◌≡◌, ◌⊎◌, ℕ, zero, suc, ◌+◌, ◌-◌, ◌^◌, ◌<◌, ◌≤◌, Bool, true, false, cond, not, refl, List, [], ◌∷◌, ◌++◌, drop, length, get_or, set, subst, sym, ap, ap₂, arith, inl, inr, nat_lt, ◌∙◌}
+use Rattle.std.proofs.Common.{◌≡◌, ◌⊎◌, ℕ, zero, suc, ◌+◌, ◌-◌, ◌<◌, ◌≤◌, Bool, true, false, cond, not, refl, List, [], ◌∷◌, ◌++◌, drop, length, get_or, set, subst, sym, ap, ap₂, arith, inl, inr, nat_lt, ◌∙◌}
 use Rattle.std.specs.List.{All, AllPairs, filter}
 use Rattle.std.proofs.lemmas.Bool.{cases_eq, leb-true, leb-false}
 use Rattle.std.proofs.lemmas.List.{get_or-set_same, get_or-set_other, length-set, length-append, length-drop, length-map, get_or-drop}
@@ -8,6 +8,7 @@ use Rattle.std.proofs.lemmas.List.Quantifiers.{all_pairs_push}
 use Rattle.std.proofs.lemmas.List.Kept.{AllPairs-filter}
 use Rattle.std.proofs.lemmas.List.Filters.{length-filter_both}
 use Rattle.std.proofs.Math.ListN.{get_or-map}
+use Rattle.dnp_objects.specs.declared.limits.TheConstants.{LANES, MAX_ID}
 use Rattle.dnp_objects.specs.Lanes.{lane_number}
 use Rattle.dnp_objects.specs.declared.row.Row.{Row}
 use Rattle.dnp_objects.specs.declared.lane.Lane.{Lane}
@@ -46,7 +47,7 @@ AllPairs-drop R n xs h i j d before low =
 
 -- some of its latest rows and the new one
 pushed : (number last : ℕ) (lane : LaneState) (n lost : ℕ) (row : Row) → IsSoundLane number last lane
-    → length (drop n lane.rows) < lane.capacity → lost ≤ 2 ^ 62 → ((of : Lane) → lane_number of ≡ number → IsCarried (record { lane = of; row = row }))
+    → length (drop n lane.rows) < lane.capacity → lost ≤ MAX_ID → ((of : Lane) → lane_number of ≡ number → IsCarried (record { lane = of; row = row }))
     → IsSoundLane number (last + 1) (record { capacity = lane.capacity; rows = drop n lane.rows ++ (record { id = last + 1; row = row }) ∷ []; lost = lost })
 pushed number last lane n lost row sound room few fits =
     let x : Numbered = record { id = last + 1; row = row } in
@@ -64,8 +65,9 @@ pushed number last lane n lost row sound room few fits =
 
 put_by : (number last : ℕ) (lane : LaneState) (row : Row) → IsSoundLane number last lane → ((of : Lane) → lane_number of ≡ number → IsCarried (record { lane = of; row = row }))
     → (b : Bool) → is_full lane ≡ b
-    → (let new : LaneState = cond b (record { capacity = lane.capacity; rows = drop 1 lane.rows ++ (record { id = last + 1; row = row }) ∷ []; lost = lane.lost + 1 }) (record { capacity = lane.capacity; rows = lane.rows ++ (record { id = last + 1; row = row }) ∷ []; lost = lane.lost })
-    in new.lost ≤ 2 ^ 62 → IsSoundLane number (last + 1) new)
+    → (let new : LaneState = cond b (record { capacity = lane.capacity; rows = drop 1 lane.rows ++ (record { id = last + 1; row = row }) ∷ []; lost = lane.lost + 1 })
+    (record { capacity = lane.capacity; rows = lane.rows ++ (record { id = last + 1; row = row }) ∷ []; lost = lane.lost })
+    in new.lost ≤ MAX_ID → IsSoundLane number (last + 1) new)
 put_by number last lane row sound fits true full few =
     pushed number last lane 1 (lane.lost + 1) row sound
     (let h = leb-true lane.capacity (length lane.rows) full in let t = sound.takes_one in let r = sound.has_room in omega (arith, length-drop 1 lane.rows))
@@ -74,7 +76,7 @@ put_by number last lane row sound fits false room few =
     pushed number last lane 0 lane.lost row sound (leb-false lane.capacity (length lane.rows) room) few fits
 
 IsSoundLane-put_in : (number last : ℕ) (lane : LaneState) (row : Row) → IsSoundLane number last lane → ((of : Lane) → lane_number of ≡ number → IsCarried (record { lane = of; row = row }))
-    → (put_in lane (record { id = last + 1; row = row })).lost ≤ 2 ^ 62 → IsSoundLane number (last + 1) (put_in lane (record { id = last + 1; row = row }))
+    → (put_in lane (record { id = last + 1; row = row })).lost ≤ MAX_ID → IsSoundLane number (last + 1) (put_in lane (record { id = last + 1; row = row }))
 IsSoundLane-put_in number last lane row sound fits few = put_by number last lane row sound fits (is_full lane) refl few
 
 -- a later id was used elsewhere
@@ -109,16 +111,16 @@ IsSound-with_row s x sound carried within = record {
     new : LaneState
     new = put_in (lane_at s n) (record { id = s.last_id + 1; row = x.row })
 
-    nine' : length (set s.lanes n new) ≡ 9
+    nine' : length (set s.lanes n new) ≡ LANES
     nine' = omega (arith, length-set s.lanes n new, sound.nine)
 
-    at : (number : ℕ) → number < 9 → (number ≡ n) ⊎ (number ≡ n → ⊥) → IsSoundLane number (s.last_id + 1) (get_or (set s.lanes n new) number no_lane)
+    at : (number : ℕ) → number < LANES → (number ≡ n) ⊎ (number ≡ n → ⊥) → IsSoundLane number (s.last_id + 1) (get_or (set s.lanes n new) number no_lane)
     at number low (inl same) =
-        let low' : n < 9 = omega arith in
+        let low' : n < LANES = omega arith in
         let long : n < length s.lanes = omega (arith, sound.nine) in
         let is : get_or (set s.lanes n new) n no_lane ≡ new = get_or-set_same s.lanes n new no_lane long in
-        let all : All (λ (lane : LaneState). lane.lost ≤ 2 ^ 62) (set s.lanes n new) = (LostWithin-from_test (with_row s x) within).each in
-        let few : new.lost ≤ 2 ^ 62 = subst (λ (lane : LaneState). lane.lost ≤ 2 ^ 62) is (all n no_lane (omega (arith, nine'))) in
+        let all : All (λ (lane : LaneState). lane.lost ≤ MAX_ID) (set s.lanes n new) = (LostWithin-from_test (with_row s x) within).each in
+        let few : new.lost ≤ MAX_ID = subst (λ (lane : LaneState). lane.lost ≤ MAX_ID) is (all n no_lane (omega (arith, nine'))) in
         let here : IsSoundLane n (s.last_id + 1) new = IsSoundLane-put_in n s.last_id (lane_at s n) x.row (sound.each n low') (fits_number x carried) few in
         subst (λ (k : ℕ). IsSoundLane k (s.last_id + 1) (get_or (set s.lanes n new) k no_lane)) (sym same)
         (subst (IsSoundLane n (s.last_id + 1)) (sym is) here)
@@ -161,7 +163,7 @@ length-lanes_above [] upto = refl
 length-lanes_above (lane ∷ lanes) [] = refl
 length-lanes_above (lane ∷ lanes) (u ∷ us) = ap suc (length-lanes_above lanes us)
 
-pub IsSound-without : (s : Stock) (upto : List ℕ) → length upto ≡ 9 → IsSound s → IsSound (without s upto)
+pub IsSound-without : (s : Stock) (upto : List ℕ) → length upto ≡ LANES → IsSound s → IsSound (without s upto)
 IsSound-without s upto long sound = record {
   nine = omega (arith, length-lanes_above s.lanes upto, sound.nine);
   each = λ number low.
@@ -192,7 +194,7 @@ IsSound-without_all s sound = record {
 
 -- ---- empty lanes
 
-pub IsSound-empty_stock : (capacities : List ℕ) → length capacities ≡ 9 → All (λ c. 1 ≤ c) capacities → IsSound (empty_stock capacities)
+pub IsSound-empty_stock : (capacities : List ℕ) → length capacities ≡ LANES → All (λ c. 1 ≤ c) capacities → IsSound (empty_stock capacities)
 IsSound-empty_stock capacities long least = record {
   nine = omega (arith, length-map capacities empty_lane);
   each = λ number low.

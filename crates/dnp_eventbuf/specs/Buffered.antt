@@ -1,4 +1,4 @@
--- The rows of all lanes as one list, each with the number of its lane and its id, which together name it
+-- Definition: the rows of all lanes as one list, each with the number of its lane and its id, which together name it
 -- (IEEE Std 1815-2012, application layer: event buffers; the ids are an own rule).
 use Rattle.std.specs.Prelude.{ℕ, ◌+◌, ◌==◌, Bool, ◌&&◌, nat_le, if◌then◌else◌, List, [], ◌∷◌, ◌++◌, map, take, slice_index_or}
 use Rattle.dnp_objects.specs.Lanes.{lane_number}

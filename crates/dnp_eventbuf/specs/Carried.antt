@@ -1,4 +1,4 @@
--- What an event lane takes: rows that can be reported as events (IEEE Std 1815-2012, object library:
+-- Definition: what an event lane takes: rows that can be reported as events (IEEE Std 1815-2012, object library:
 -- groups 2, 22 and 32).
 use Rattle.std.specs.Prelude.{◌≡◌}
 use Rattle.dnp_objects.specs.declared.lane.LaneRow.{LaneRow}

@@ -1,4 +1,4 @@
--- An append, lane by lane as whole lists: each lane keeps the latest of its rows and of those that
+-- Definition: an append, lane by lane as whole lists: each lane keeps the latest of its rows and of those that
 -- came for it, and counts the others as lost.
 use Rattle.std.specs.Prelude.{◌≡◌, ℕ, ◌+◌, ◌-◌, ◌==◌, if◌then◌else◌, List, [], ◌∷◌, ◌++◌, length, drop}
 use Rattle.dnp_objects.specs.Lanes.{lane_number}

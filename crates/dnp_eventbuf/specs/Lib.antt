@@ -1,7 +1,11 @@
+-- Definitions, by which contracts promise.
+pub mod Archive
 pub mod Buffered
 pub mod Calls
 pub mod Carried
 pub mod Latest
+pub mod SinkCalls
 pub mod Sound
 pub mod Stock
+-- Words of private steps.
 pub mod Tallies

@@ -1,5 +1,6 @@
--- What is so of nine lanes at all times.
-use Rattle.std.specs.Prelude.{◌≡◌, ℕ, ◌^◌, ◌<◌, ◌≤◌, All, AllPairs, length}
+-- Definition: what holds of the nine lanes at all times.
+use Rattle.std.specs.Prelude.{◌≡◌, ℕ, ◌<◌, ◌≤◌, All, AllPairs, length}
+use Rattle.dnp_objects.specs.declared.limits.TheConstants.{LANES, MAX_ID}
 use Rattle.dnp_objects.specs.Lanes.{lane_number}
 use Rattle.dnp_objects.specs.declared.lane.Lane.{Lane}
 use Rattle.dnp_eventbuf.specs.Carried.{IsCarried}
@@ -15,9 +16,9 @@ pub record IsSoundLane (number last : ℕ) (lane : LaneState) : Type 0 where
   pub up_to_last : All (λ x. x.id ≤ last) lane.rows
   -- the lane's event object can carry each row
   pub carried : (of : Lane) → lane_number of ≡ number → All (λ x. IsCarried (record { lane = of; row = x.row })) lane.rows
-  pub lost_at_most : lane.lost ≤ 2 ^ 62
+  pub lost_at_most : lane.lost ≤ MAX_ID
 
 pub record IsSound (s : Stock) : Type 0 where
-  pub nine : length s.lanes ≡ 9
-  pub each : (number : ℕ) → number < 9 → IsSoundLane number s.last_id (lane_at s number)
-  pub last_id_at_most : s.last_id ≤ 2 ^ 62
+  pub nine : length s.lanes ≡ LANES
+  pub each : (number : ℕ) → number < LANES → IsSoundLane number s.last_id (lane_at s number)
+  pub last_id_at_most : s.last_id ≤ MAX_ID

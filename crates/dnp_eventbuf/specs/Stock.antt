@@ -1,8 +1,9 @@
--- Nine lanes of events that wait to be reported, which count what they drop (IEEE Std 1815-2012,
+-- Definition: nine lanes of events that wait to be reported, which count what they drop (IEEE Std 1815-2012,
 -- application layer: event classes, event buffers and their overflow).
-use Rattle.std.specs.Prelude.{ℕ, ◌+◌, ◌-◌, ◌^◌, Bool, false, ◌&&◌, ◌||◌, nat_lt, nat_le, if◌then◌else◌, List, [], ◌∷◌, ◌++◌, length, map, filter, take, drop, slice_get, slice_set, slice_index_or, unwrap_or, sum_by}
+use Rattle.std.specs.Prelude.{ℕ, ◌+◌, ◌-◌, Bool, false, ◌&&◌, ◌||◌, nat_lt, nat_le, if◌then◌else◌, List, [], ◌∷◌, ◌++◌, length, map, filter, take, drop, slice_get, slice_set, slice_index_or, unwrap_or, sum_by}
 use Rattle.std.specs.List.{list_any}
 use Rattle.std.specs.Option.{option_map}
+use Rattle.dnp_objects.specs.declared.limits.TheConstants.{MAX_ID}
 use Rattle.dnp_objects.specs.Lanes.{lane_number}
 use Rattle.dnp_objects.specs.declared.row.Row.{Row}
 use Rattle.dnp_objects.specs.declared.lane.LaneRow.{LaneRow}
@@ -81,7 +82,7 @@ arriving rows = map (λ x. x.row) rows
 
 -- an id or a count of lost rows has passed 2^62
 abbrev pub is_past : Stock → Bool
-is_past s = nat_lt (2 ^ 62) s.last_id || list_any (λ lane. nat_lt (2 ^ 62) lane.lost) s.lanes
+is_past s = nat_lt MAX_ID s.last_id || list_any (λ lane. nat_lt MAX_ID lane.lost) s.lanes
 
 -- with these rows an id or a count of lost rows would pass 2^62
 abbrev pub exhausts : Stock → List LaneRow → Bool

@@ -1,6 +1,7 @@
--- What an append reads of the lanes before it changes anything: the room that each has, and how many
--- rows it has dropped. Only private functions speak of it.
-use Rattle.std.specs.Prelude.{ℕ, ◌+◌, ◌-◌, ◌^◌, nat_lt, if◌then◌else◌, List, [], ◌∷◌, length, Option, Some, None, slice_set, slice_index_or}
+-- Private steps: what an append reads of the lanes before it changes anything, the room that each has and how many
+-- rows it has dropped.
+use Rattle.std.specs.Prelude.{ℕ, ◌+◌, ◌-◌, nat_lt, if◌then◌else◌, List, [], ◌∷◌, length, Option, Some, None, slice_set, slice_index_or}
+use Rattle.dnp_objects.specs.declared.limits.TheConstants.{MAX_ID}
 use Rattle.dnp_objects.specs.Lanes.{lane_number}
 use Rattle.dnp_objects.specs.declared.lane.LaneRow.{LaneRow}
 use Rattle.dnp_eventbuf.specs.declared.tally.Tally.{Tally}
@@ -28,6 +29,6 @@ drops_from dropped tallies [] = Some dropped
 drops_from dropped tallies (x ∷ xs) =
     if nat_lt 0 (tally_at tallies (lane_number x.lane)).free
     then drops_from dropped (with_tally tallies x) xs
-    else (if nat_lt (tally_at tallies (lane_number x.lane)).lost (2 ^ 62)
+    else (if nat_lt (tally_at tallies (lane_number x.lane)).lost MAX_ID
     then drops_from (dropped + 1) (with_tally tallies x) xs
     else None)

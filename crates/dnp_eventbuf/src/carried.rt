@@ -1,3 +1,5 @@
+//! Which rows a lane takes.
+
 ghost use Rattle.std.specs.Prelude.{◌↔◌, IsTrue};
 ghost use Rattle.dnp_eventbuf.specs.Carried.{IsCarried};
 

@@ -1,3 +1,5 @@
+//! What lanes are, however they are kept.
+
 ghost use Rattle.std.specs.Prelude.{◌≡◌, ◌≢◌, Bool, false, IsTrue, OnOk, IfOk, IfErr, List, [], length, All};
 ghost use Rattle.dnp_objects.specs.Events.{IsEvent};
 ghost use Rattle.dnp_objects.specs.Lanes.{lane_number};

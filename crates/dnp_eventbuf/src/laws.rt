@@ -2,7 +2,8 @@
 ghost use Rattle.std.specs.Prelude.{◌≡◌, ◌⊎◌, ◌≤◌, ◌<◌, ◌+◌, ℕ, Bool, false, List, [], ◌++◌, length, map, sum_by, count_by, All, Contains, max, nat_lt, slice_index_or};
 ghost use Rattle.std.specs.List.{list_any};
 ghost use Rattle.std.specs.List.Sorted.{IsPermutation};
-ghost use Rattle.dnp_objects.specs.declared.row.Row.{Row};
+ghost use Rattle.dnp_objects.specs.declared.limits.TheConstants.{LANES};
+ghost use Rattle.dnp_objects.specs.declared.row.Row.{Row as RowValue};
 ghost use Rattle.dnp_objects.specs.declared.lane.LaneRow.{LaneRow};
 ghost use Rattle.dnp_objects.specs.Counts.{IsCoveredBy};
 ghost use Rattle.dnp_eventbuf.specs.Carried.{IsCarried};
@@ -10,12 +11,16 @@ ghost use Rattle.dnp_eventbuf.specs.Latest.{KeepsLatest, numbered_for};
 ghost use Rattle.dnp_eventbuf.specs.Sound.{IsSound};
 ghost use Rattle.dnp_eventbuf.specs.Stock.{Stock, lane_at, empty_stock, arriving, with_rows, dropped_by, exhausts, rows_in, lost_in, all_up_to, without, without_all, offered, last_of, up_to, row_of};
 
+use crate::numbered::Numbered;
+use dnp_objects::Row;
+use dnp_objects::laws::{covered_is_kept_by_map, members_are_covered};
+
 /// An append loses nothing unseen: the old rows and those that came are the new rows and those that
 /// were dropped. As many as were dropped are counted as lost.
 pub fn an_append_conserves_rows()
     ensures lists { (s : Stock) (rows : List LaneRow) → IsSound s
         → IsPermutation (rows_in s ++ arriving rows) (rows_in (with_rows s rows) ++ dropped_by s rows) }
-    ensures counts { (s : Stock) (rows : List LaneRow) (test : Row → Bool) → IsSound s
+    ensures counts { (s : Stock) (rows : List LaneRow) (test : RowValue → Bool) → IsSound s
         → count_by test (rows_in s) + count_by test (arriving rows)
         ≡ count_by test (rows_in (with_rows s rows)) + count_by test (dropped_by s rows) }
     ensures lost { (s : Stock) (rows : List LaneRow) → IsSound s
@@ -26,7 +31,7 @@ pub fn an_append_conserves_rows()
 pub fn a_release_conserves_rows()
     ensures lists { (s : Stock) (upto : List ℕ) → length upto ≡ length s.lanes
         → IsPermutation (rows_in s) (all_up_to s upto ++ rows_in (without s upto)) }
-    ensures counts { (s : Stock) (upto : List ℕ) (test : Row → Bool) → length upto ≡ length s.lanes
+    ensures counts { (s : Stock) (upto : List ℕ) (test : RowValue → Bool) → length upto ≡ length s.lanes
         → count_by test (rows_in s) ≡ count_by test (all_up_to s upto) + count_by test (rows_in (without s upto)) }
     ensures lost { (s : Stock) (upto : List ℕ) → lost_in (without s upto) ≡ lost_in s }
 {}
@@ -51,11 +56,11 @@ pub fn ids_are_used_once()
 
 /// Empty lanes are sound, and each step keeps lanes sound.
 pub fn lanes_stay_sound()
-    ensures made { (capacities : List ℕ) → length capacities ≡ 9 → All (λ capacity. 1 ≤ capacity) capacities
+    ensures made { (capacities : List ℕ) → length capacities ≡ LANES → All (λ capacity. 1 ≤ capacity) capacities
         → IsSound (empty_stock capacities) }
     ensures appended { (s : Stock) (rows : List LaneRow) → IsSound s → All IsCarried rows
         → exhausts s rows ≡ false → IsSound (with_rows s rows) }
-    ensures released { (s : Stock) (upto : List ℕ) → IsSound s → length upto ≡ 9 → IsSound (without s upto) }
+    ensures released { (s : Stock) (upto : List ℕ) → IsSound s → length upto ≡ LANES → IsSound (without s upto) }
     ensures emptied { (s : Stock) → IsSound s → IsSound (without_all s) }
 {}
 
@@ -70,7 +75,7 @@ pub fn two_appends_are_one()
 /// An append, lane by lane: a lane keeps the latest of its rows and of those that came for it, as many
 /// as it takes, and counts the others as lost.
 pub fn a_lane_keeps_its_latest_rows()
-    ensures { (s : Stock) (rows : List LaneRow) (number : ℕ) → IsSound s → number < 9
+    ensures { (s : Stock) (rows : List LaneRow) (number : ℕ) → IsSound s → number < LANES
         → KeepsLatest (lane_at s number) (numbered_for number s.last_id rows) (lane_at (with_rows s rows) number) }
 {}
 
@@ -78,14 +83,17 @@ pub fn a_lane_keeps_its_latest_rows()
 /// offer. If the offer began behind an id, rows with ids up to that one may stand there still, and go too.
 pub fn a_release_takes_what_was_offered()
     ensures from_the_oldest { (s : Stock) (rows : List LaneRow) (number most : ℕ) → IsSound s → All IsCarried rows
-        → exhausts s rows ≡ false → number < 9
+        → exhausts s rows ≡ false → number < LANES
         → IsCoveredBy (up_to (last_of (offered s number 0 most)) (lane_at (with_rows s rows) number))
         (map row_of (offered s number 0 most)) }
     ensures from_an_id { (s : Stock) (rows : List LaneRow) (number after most : ℕ) → IsSound s → All IsCarried rows
-        → exhausts s rows ≡ false → number < 9
+        → exhausts s rows ≡ false → number < LANES
         → IsCoveredBy (up_to (last_of (offered s number after most)) (lane_at (with_rows s rows) number))
         (up_to after (lane_at (with_rows s rows) number) ++ map row_of (offered s number after most)) }
-{}
+{
+    members_are_covered::<Numbered>();
+    covered_is_kept_by_map::<Numbered, Row>();
+}
 
 /// What is offered after a release was offered before it, from behind the id up to which the lane's rows
 /// are released, where that is the larger one.
@@ -97,8 +105,8 @@ pub fn an_offer_after_a_release()
 /// A lane has a row with an id over a number exactly where its last id is over it, and none of its rows,
 /// nor its last id, is over the last one used.
 pub fn the_last_id_tells_of_rows()
-    ensures over { (s : Stock) (number id : ℕ) → IsSound s → number < 9
+    ensures over { (s : Stock) (number id : ℕ) → IsSound s → number < LANES
         → list_any (λ x. nat_lt id x.id) (lane_at s number).rows ≡ nat_lt id (last_of (lane_at s number).rows) }
-    ensures rows { (s : Stock) (number : ℕ) → IsSound s → number < 9 → All (λ x. x.id ≤ s.last_id) (lane_at s number).rows }
-    ensures last { (s : Stock) (number : ℕ) → IsSound s → number < 9 → last_of (lane_at s number).rows ≤ s.last_id }
+    ensures rows { (s : Stock) (number : ℕ) → IsSound s → number < LANES → All (λ x. x.id ≤ s.last_id) (lane_at s number).rows }
+    ensures last { (s : Stock) (number : ℕ) → IsSound s → number < LANES → last_of (lane_at s number).rows ≤ s.last_id }
 {}

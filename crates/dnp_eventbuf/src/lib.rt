@@ -3,16 +3,23 @@
 #![tactic(auto)]
 
 mod carried;
+mod journal;
+pub mod journal_laws;
 mod lanes;
 pub mod laws;
 pub mod link_laws;
 mod numbered;
 mod plain;
+mod plain_journal;
 mod plain_lane;
+mod sink;
 mod tally;
 
 pub use carried::is_carried;
 pub use dnp_objects::{Lane, LaneRow, StoreFault};
+pub use journal::JournalStore;
 pub use lanes::Lanes;
 pub use numbered::{Numbered, Upto};
-pub use plain::PlainLanes;
+pub use plain::{MAX_CAPACITY, PlainLanes};
+pub use plain_journal::PlainJournal;
+pub use sink::Sink;

@@ -1,9 +1,12 @@
-//! Laws of the rows of all lanes as one list, in which a row is named by its lane and its id: what each call does to
-//! them, for whoever tells from outside which rows were there, were reported and were released. Each function does
-//! nothing, and its contract is a law.
+//! Laws of the words of `specs/`: each function does nothing, and its contract is a law.
+//!
+//! They are of the rows of all lanes as one list, in which a row is named by its lane and its id: what
+//! each call does to them, for whoever tells from outside which rows were there, were reported and were
+//! released.
 ghost use Rattle.std.specs.Prelude.{◌≡◌, ◌≤◌, ◌<◌, ◌+◌, ℕ, not, List, [], ◌∷◌, ◌++◌, length, map, filter, count_by, All};
 ghost use Rattle.std.specs.List.Sorted.{IsPermutation};
 ghost use Rattle.dnp_objects.specs.Lanes.{lane_number};
+ghost use Rattle.dnp_objects.specs.declared.limits.TheConstants.{LANES};
 ghost use Rattle.dnp_objects.specs.declared.lane.LaneRow.{LaneRow};
 ghost use Rattle.dnp_eventbuf.specs.Buffered.{Buffered, in_lane, buffered_in, buffered_row, buffered_next, buffered_dropped, is_named, is_upto};
 ghost use Rattle.dnp_eventbuf.specs.Sound.{IsSound};
@@ -37,6 +40,6 @@ pub fn each_row_stands_once()
 
 /// Lists of rows of nine lanes that are the same lane by lane are the same but for order.
 pub fn rows_are_the_same_by_lanes()
-    ensures { (xs ys : List Buffered) → All (λ x. x.lane < 9) xs → All (λ x. x.lane < 9) ys
-        → ((lane : ℕ) → lane < 9 → filter (in_lane lane) xs ≡ filter (in_lane lane) ys) → IsPermutation xs ys }
+    ensures { (xs ys : List Buffered) → All (λ x. x.lane < LANES) xs → All (λ x. x.lane < LANES) ys
+        → ((lane : ℕ) → lane < LANES → filter (in_lane lane) xs ≡ filter (in_lane lane) ys) → IsPermutation xs ys }
 {}

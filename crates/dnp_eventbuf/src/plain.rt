@@ -1,3 +1,5 @@
+//! Lanes in memory.
+
 ghost use Rattle.std.specs.Prelude.{◌≡◌, ◌≢◌, ◌^◌, ◌<◌, ◌≤◌, ◌+◌, Bool, true, false, IfOk, IfErr, IfSome, IfNone, OnOk, OnErr, IsTrue, All, length, map, [], ◌++◌, vec_len, vec_capacity, ⊤};
 ghost use Rattle.std.specs.List.{list_any};
 ghost use Rattle.std.specs.Option.{option_to_list};
@@ -10,16 +12,22 @@ ghost use Rattle.dnp_eventbuf.specs.Tallies.{tally_of};
 use crate::lanes::Lanes;
 use crate::numbered::{Numbered, Upto};
 use crate::plain_lane::PlainLane;
-use crate::tally::{LIMIT, Tally, drops};
-use dnp_objects::{LANES, Lane, LaneRow, Row, StoreFault};
+use crate::tally::{Tally, drops};
+use dnp_objects::{LANES, Lane, LaneRow, MAX_ID, Row, StoreFault};
 use std::alloc::{AllocError, Global};
 use std::marker::Model;
+
+/// The most rows that a lane in memory takes.
+pub const MAX_CAPACITY: u32 = 4096;
 
 /// Nine lanes in memory, which take their room as they are made.
 #[derive(Drop)]
 pub struct PlainLanes {
+    /// The lanes, by their numbers.
     lanes: [PlainLane; LANES],
+    /// Whether a row was dropped, and some lane has been full since.
     overflow: bool,
+    /// The last id used, of all lanes; 0 before the first.
     last_id: u64,
 }
 
@@ -35,9 +43,10 @@ impl Model for PlainLanes {
 }
 
 impl PlainLanes {
-    /// Empty lanes that take so many rows each, 1 to 4,096.
+    /// Empty lanes that take this many rows each, 1 to `MAX_CAPACITY`. An error says that it ran out of
+    /// memory.
     pub fn new(alloc: Global, capacities: [u32; LANES]) -> Result<PlainLanes, AllocError>
-        requires { All (λ capacity. (1 ≤ capacity) × (capacity ≤ 4096)) capacities }
+        requires { All (λ capacity. (1 ≤ capacity) × (capacity ≤ MAX_CAPACITY)) capacities }
         ensures { IfOk result (λ lanes. lanes ≡ empty_stock capacities) }
     {
         let lanes = capacities.try_map(|capacity| PlainLane::new(alloc, capacity))?;
@@ -55,7 +64,7 @@ impl PlainLanes {
         ensures some { IfSome result (λ dropped. (dropped ≡ length (dropped_by self.now rows.now)) × (exhausts self.now rows.now ≡ false)) }
         ensures none { IfNone result (IsTrue (exhausts self.now rows.now)) }
     {
-        if rows.len() as u64 > LIMIT - self.last_id {
+        if rows.len() as u64 > MAX_ID - self.last_id {
             return None;
         }
         let mut tallies = tallies(&self.lanes);
@@ -93,7 +102,7 @@ impl PlainLanes {
             }
         }
         // To read the last id is to know that the lanes are sound.
-        prove!(self.last_id <= LIMIT);
+        prove!(self.last_id <= MAX_ID);
     }
 
     /// The rows that a release takes: of each lane those with ids up to its number.
@@ -148,6 +157,7 @@ fn tallies(lanes: &[PlainLane; LANES]) -> [Tally; LANES]
     tallies
 }
 
+/// Whether some lane is full.
 fn any_full(lanes: &[PlainLane; LANES]) -> bool
     ensures { result ≡ list_any is_full lanes.now }
 {
@@ -189,6 +199,7 @@ fn push_all(lanes: &[PlainLane; LANES], out: &mut Vec<Row>) -> Result<(), AllocE
     Ok(())
 }
 
+/// Takes all rows out of each lane.
 fn clear_all(lanes: &mut [PlainLane; LANES])
     ensures { lanes.new ≡ map emptied lanes.old }
 {
@@ -198,7 +209,7 @@ fn clear_all(lanes: &mut [PlainLane; LANES])
 }
 
 /// Out of memory, as a store names it.
-fn memory(_: AllocError) -> StoreFault
+pub(crate) fn memory(_: AllocError) -> StoreFault
     ensures { result ≡ StoreFault.Memory }
 {
     StoreFault::Memory

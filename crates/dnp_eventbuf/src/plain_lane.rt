@@ -1,4 +1,6 @@
-ghost use Rattle.std.specs.Prelude.{◌≡◌, ◌≢◌, ◌^◌, ◌<◌, ◌≤◌, ◌++◌, IfOk, OnOk, OnErr, [], length, map, nat_le, nat_lt, vec_len, vec_capacity, filter, take};
+//! One lane in memory.
+
+ghost use Rattle.std.specs.Prelude.{◌≡◌, ◌≢◌, ◌<◌, ◌≤◌, ◌++◌, IfOk, OnOk, OnErr, [], length, map, nat_le, nat_lt, vec_len, vec_capacity, filter, take};
 ghost use Rattle.std.specs.List.{list_any};
 ghost use Rattle.std.specs.Option.{option_to_list};
 ghost use Rattle.std.specs.VecDeque.{deque_len, deque_capacity};
@@ -7,7 +9,7 @@ ghost use Rattle.dnp_eventbuf.specs.Tallies.{tally_of};
 
 use crate::numbered::Numbered;
 use crate::tally::Tally;
-use dnp_objects::Row;
+use dnp_objects::{MAX_ID, Row};
 use std::alloc::{AllocError, Global};
 use std::collections::VecDeque;
 use std::marker::Model;
@@ -15,8 +17,11 @@ use std::marker::Model;
 /// One lane, whose room is taken at once.
 #[derive(Drop)]
 pub struct PlainLane {
+    /// How many rows it takes.
     capacity: u32,
+    /// Its rows, the oldest first.
     rows: VecDeque<Numbered>,
+    /// How many rows it has dropped.
     lost: u64,
 }
 
@@ -33,7 +38,7 @@ impl Model for PlainLane {
 }
 
 impl PlainLane {
-    /// An empty lane that takes so many rows.
+    /// An empty lane that takes this many rows.
     pub fn new(alloc: Global, capacity: u32) -> Result<PlainLane, AllocError>
         ensures { IfOk result (λ lane. lane ≡ empty_lane capacity) }
     {
@@ -45,6 +50,7 @@ impl PlainLane {
         })
     }
 
+    /// Whether it has as many rows as it takes.
     pub fn is_full(&self) -> bool
         ensures { result ≡ is_full self.now }
     {
@@ -54,7 +60,7 @@ impl PlainLane {
     /// Takes a row at the end. A full lane drops its oldest first, counts it, and gives it back.
     pub fn put(&mut self, x: Numbered) -> Option<Row>
         requires takes_one { 1 ≤ self.old.capacity }
-        requires counted { self.old.lost ≤ 2 ^ 62 }
+        requires counted { self.old.lost ≤ MAX_ID }
         ensures lane { self.new ≡ put_in self.old x }
         ensures dropped { option_to_list result ≡ dropped_from self.old }
     {
@@ -121,12 +127,14 @@ impl PlainLane {
         keep_above(&mut self.rows, upto);
     }
 
+    /// Takes all rows out; the count of lost rows stays.
     pub fn clear(&mut self)
         ensures { self.new ≡ emptied self.old }
     {
         self.rows.clear();
     }
 
+    /// How many rows it holds.
     pub fn len(&self) -> u32
         ensures { result ≡ length self.now.rows }
     {
@@ -143,12 +151,14 @@ impl PlainLane {
         self.rows.back().map_or(0, |x| x.id)
     }
 
+    /// How many rows it has dropped.
     pub fn lost(&self) -> u64
         ensures { result ≡ self.now.lost }
     {
         self.lost
     }
 
+    /// Its free places and its lost rows.
     pub fn tally(&self) -> Tally
         ensures { result ≡ tally_of self.now }
     {

@@ -1,15 +1,16 @@
-ghost use Rattle.std.specs.Prelude.{◌≡◌, ◌^◌, ◌≤◌, length};
+//! What an append does to the room and the counts of the lanes, before it changes anything.
+
+ghost use Rattle.std.specs.Prelude.{◌≡◌};
 ghost use Rattle.dnp_eventbuf.specs.Tallies.{drops_from};
 
-use dnp_objects::{LANES, LaneRow};
-
-/// The highest id, and the highest count of lost rows.
-pub const LIMIT: u64 = 1 << 62;
+use dnp_objects::{LANES, LaneRow, MAX_ID};
 
 /// What an append changes of a lane: the places that are free, and the rows that it has dropped.
 #[derive(Clone, Copy)]
 pub struct Tally {
+    /// The places that are free.
     pub free: usize,
+    /// The rows that it has dropped, at most `MAX_ID`.
     pub lost: u64,
 }
 
@@ -22,7 +23,7 @@ pub fn drops(tallies: &mut [Tally; LANES], rows: &[LaneRow]) -> Option<usize>
         let tally = &mut tallies[x.lane.number()];
         if tally.free > 0 {
             tally.free -= 1;
-        } else if tally.lost < LIMIT {
+        } else if tally.lost < MAX_ID {
             tally.lost += 1;
             dropped += 1;
         } else {

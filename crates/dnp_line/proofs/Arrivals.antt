@@ -7,34 +7,38 @@ use Rattle.dnp_transport.specs.Cuts.{cut_count, cut, begun_cuts}
 use Rattle.dnp_transport.specs.Laws.{LeftOut, Begins, GoesOn, Alone, Ends}
 use Rattle.dnp_transport.specs.Segments.{is_first, is_last, number, has_no_size}
 use Rattle.dnp_transport.specs.Series.{is_left_out, repeats, newest, joined, Follows, IsOpen, IsWhole}
-use Rattle.dnp_line.specs.Flows.{segment_total, IsSegment, IsBegun, IsRecent}
-use Rattle.dnp_line.proofs.Lower.{Lower}
-use Rattle.dnp_line.proofs.Splits.{IsAt, AreSame, same_place, segment_at}
+use Rattle.dnp_line.specs.Flows.{segment_total, IsAt, IsSegment, IsBegun, IsRecent}
+use Rattle.dnp_line.specs.steps.Lower.{Lower}
+use Rattle.dnp_line.proofs.Splits.{AreSame, same_place}
+use Rattle.dnp_line.specs.declared.line.TheConstants.{BROKEN_LOSSES}
+use Rattle.dnp_transport.specs.declared.limits.TheConstants.{SEGMENT_NUMBERS}
 
 -- fewer segments are lost in a row than there are numbers
-number_again : (place gone lost : ℕ) → place ≤ gone → gone ≤ place + 1 + lost → lost < 32 → gone % 64 ≡ place % 64 → gone ≡ place
+number_again : (place gone lost : ℕ) → place ≤ gone → gone ≤ place + 1 + lost → lost < BROKEN_LOSSES
+    → gone % SEGMENT_NUMBERS ≡ place % SEGMENT_NUMBERS → gone ≡ place
 number_again place gone lost low high few e = omega (arith, low, high, few, e)
 
-number_next : (place gone lost : ℕ) → place ≤ gone → gone ≤ place + 1 + lost → lost < 32 → gone % 64 ≡ (place % 64 + 1) % 64 → gone ≡ place + 1
+number_next : (place gone lost : ℕ) → place ≤ gone → gone ≤ place + 1 + lost → lost < BROKEN_LOSSES
+    → gone % SEGMENT_NUMBERS ≡ (place % SEGMENT_NUMBERS + 1) % SEGMENT_NUMBERS → gone ≡ place + 1
 number_next place gone lost low high few e = omega (arith, low, high, few, e)
 
-number_at : Lower → (sent : List (List ℕ)) (p : ℕ) (x : List ℕ) → IsSegment sent p x → number x ≡ p % 64
+number_at : Lower → (sent : List (List ℕ)) (p : ℕ) (x : List ℕ) → IsSegment sent p x → number x ≡ p % SEGMENT_NUMBERS
 number_at low sent p x i =
     ap (λ (s : List ℕ). number s) i.segment_is ∙ (low.places i.fragment (segment_total i.before) i.k).number_is
-    ∙ ap (λ (n : ℕ). n % 64) (sym i.place_is)
+    ∙ ap (λ (n : ℕ). n % SEGMENT_NUMBERS) (sym i.at.place_is)
 
 newest_is : (sent : List (List ℕ)) (p : ℕ) (s : List (List ℕ)) (b : IsBegun sent p s) → newest s ≡ cut b.fragment (segment_total b.before) b.k
 newest_is sent p s b =
     ap (λ (l : List (List ℕ)). newest l) b.series_is
 
-number_newest : Lower → (sent : List (List ℕ)) (p : ℕ) (s : List (List ℕ)) → IsBegun sent p s → number (newest s) ≡ p % 64
+number_newest : Lower → (sent : List (List ℕ)) (p : ℕ) (s : List (List ℕ)) → IsBegun sent p s → number (newest s) ≡ p % SEGMENT_NUMBERS
 number_newest low sent p s b =
     ap (λ (l : List ℕ). number l) (newest_is sent p s b) ∙ (low.places b.fragment (segment_total b.before) b.k).number_is
-    ∙ ap (λ (n : ℕ). n % 64) (sym b.place_is)
+    ∙ ap (λ (n : ℕ). n % SEGMENT_NUMBERS) (sym b.at.place_is)
 
 sized_at : Lower → (sent : List (List ℕ)) (p : ℕ) (x : List ℕ) → IsSegment sent p x → has_no_size x ≡ false
 sized_at low sent p x i =
-    ap (λ (s : List ℕ). has_no_size s) i.segment_is ∙ (low.places i.fragment (segment_total i.before) i.k).sized i.within
+    ap (λ (s : List ℕ). has_no_size s) i.segment_is ∙ (low.places i.fragment (segment_total i.before) i.k).sized i.at.within
 
 repeats_newest : (t : List (List ℕ)) (x : List ℕ) → repeats t x ≡ true → x ≡ newest t
 repeats_newest [] x h = absurd (both_ways false refl h)
@@ -82,23 +86,23 @@ up_to_first low sent gone x i first =
       fragment = i.fragment;
       after = i.after;
       k = 0;
-      at = record { split = i.split; place_is = i.place_is ∙ ap (λ (n : ℕ). segment_total i.before + n) zeroth; within = subst (λ (n : ℕ). n < cut_count (length i.fragment)) zeroth i.within };
+      at = record { split = i.at.split; place_is = i.at.place_is ∙ ap (λ (n : ℕ). segment_total i.before + n) zeroth; within = subst (λ (n : ℕ). n < cut_count (length i.fragment)) zeroth i.at.within };
       segment_is = x_is;
       series_is = ap (λ (s : List ℕ). s ∷ []) x_is;
     }
 
 -- the next segment after those of a series that is begun
-up_to_next : Lower → (sent : List (List ℕ)) (gone lost : ℕ) (x : List ℕ) (s : List (List ℕ)) → lost < 32 → IsSegment sent gone x
+up_to_next : Lower → (sent : List (List ℕ)) (gone lost : ℕ) (x : List ℕ) (s : List (List ℕ)) → lost < BROKEN_LOSSES → IsSegment sent gone x
     → IsRecent sent gone lost s → Follows (newest s) x → IsUpTo sent gone x s
 up_to_next low sent gone lost x s few i r follows =
     let b : IsBegun sent r.place s = r.is_begun in
-    let turn : gone % 64 ≡ (r.place % 64 + 1) % 64 =
-    sym (number_at low sent gone x i) ∙ follows.in_turn ∙ ap (λ (n : ℕ). (n + 1) % 64) (number_newest low sent r.place s b) in
+    let turn : gone % SEGMENT_NUMBERS ≡ (r.place % SEGMENT_NUMBERS + 1) % SEGMENT_NUMBERS =
+    sym (number_at low sent gone x i) ∙ follows.in_turn ∙ ap (λ (n : ℕ). (n + 1) % SEGMENT_NUMBERS) (number_newest low sent r.place s b) in
     let next : gone ≡ r.place + 1 = number_next r.place gone lost r.low r.high few turn in
     let at : IsAt sent gone b.before b.fragment b.after (suc b.k) =
-    record { split = b.split; place_is = omega (arith, next, b.place_is); within = omega (arith, b.waits) } in
+    record { split = b.at.split; place_is = omega (arith, next, b.at.place_is); within = omega (arith, b.waits) } in
     let same : AreSame i.before b.before i.fragment b.fragment i.k (suc b.k) =
-    same_place sent gone i.before b.before i.fragment b.fragment i.after b.after i.k (suc b.k) (segment_at sent gone x i) at in
+    same_place sent gone i.before b.before i.fragment b.fragment i.after b.after i.k (suc b.k) i.at at in
     let x_is : x ≡ cut b.fragment (segment_total b.before) (suc b.k) =
     i.segment_is ∙ ap (λ (f : List ℕ). cut f (segment_total i.before) i.k) same.fragments
     ∙ ap (λ (l : List (List ℕ)). cut b.fragment (segment_total l) i.k) same.befores
@@ -125,20 +129,19 @@ begun_up_to low sent gone x s t u unended e =
       fragment = u.fragment;
       after = u.after;
       k = u.k;
-      split = u.at.split;
-      place_is = u.at.place_is;
+      at = u.at;
       waits = waits_for_more low u.fragment first u.k u.at.within (sym (ap (λ (l : List ℕ). is_last l) u.segment_is) ∙ unended);
       series_is = e ∙ u.series_is;
     }
 
 -- what is open after the segment has it as its newest
-pub open_after : Lower → (sent : List (List ℕ)) (gone lost : ℕ) (x : List ℕ) (before t : List (List ℕ)) → lost < 32 → IsSegment sent gone x
+pub open_after : Lower → (sent : List (List ℕ)) (gone lost : ℕ) (x : List ℕ) (before t : List (List ℕ)) → lost < BROKEN_LOSSES → IsSegment sent gone x
     → ((s : List (List ℕ)) → IsOpen before s → IsRecent sent gone lost s) → IsOpen (x ∷ before) t → IsBegun sent gone t
 open_after low sent gone lost x before t few i recent o =
     elim (low.opens before t x o) [
       | LeftOut out opened ↦
           let r : IsRecent sent gone lost t = recent t opened in
-          let again : gone % 64 ≡ r.place % 64 =
+          let again : gone % SEGMENT_NUMBERS ≡ r.place % SEGMENT_NUMBERS =
           sym (number_at low sent gone x i)
           ∙ ap (λ (l : List ℕ). number l) (left_out_newest t x (sized_at low sent gone x i) out)
           ∙ number_newest low sent r.place t r.is_begun in
@@ -173,7 +176,7 @@ whole_up_to low sent gone x s f u ended e =
       high = omega (arith, u.at.place_is, u.at.within);
     }
 
-pub whole_after : Lower → (sent : List (List ℕ)) (gone lost : ℕ) (x : List ℕ) (before : List (List ℕ)) (f : List ℕ) → lost < 32
+pub whole_after : Lower → (sent : List (List ℕ)) (gone lost : ℕ) (x : List ℕ) (before : List (List ℕ)) (f : List ℕ) → lost < BROKEN_LOSSES
     → IsSegment sent gone x → ((s : List (List ℕ)) → IsOpen before s → IsRecent sent gone lost s) → IsWhole (x ∷ before) f → IsWholeAt sent gone f
 whole_after low sent gone lost x before f few i recent w =
     elim (low.completes before x f w) [

@@ -18,9 +18,11 @@ use Rattle.dnp_line.specs.Flows.{AreFacing, segment_total}
 use Rattle.dnp_line.specs.Lines.{LineState, line_of, quiet_line, is_broken, front_of, delivered_on}
 use Rattle.dnp_line.specs.Ports.{PortState, data_frame, moved_on, HasHistory, has_data, is_joined, Joins, TakesAfter, Takes}
 use Rattle.dnp_line.specs.Ways.{Way, Hears, AFrame, NoFrame, HearsIfAny, AreSpelled, Sends, SendsUnlessMute, Deliver, Happens, Runs}
-use Rattle.dnp_line.proofs.Lower.{Lower}
+use Rattle.dnp_line.specs.steps.Lower.{Lower}
 use Rattle.dnp_line.proofs.OnLine.{all_sent as all_sent_line}
 use Rattle.dnp_line.proofs.Hearing.{sent_joins, has_joined}
+use Rattle.dnp_line.specs.declared.line.TheConstants.{BROKEN_LOSSES}
+use Rattle.dnp_transport.specs.declared.limits.TheConstants.{MAX_FRAGMENT}
 
 -- what the receiver's port makes of the unit of a segment
 record HasTaken (s new : PortState) (x : List ℕ) (pushed given given' : List (List ℕ)) : Type 0 where
@@ -120,7 +122,8 @@ record HasDelivered (s : PortState) (f : List ℕ) (tail : List (List ℕ)) (w n
 delivers : Lower → (s : PortState) (f : List ℕ) (first : ℕ) (before : List (List ℕ)) → IsCarried before f first
     → length (cuts f first) ≡ cut_count (length f)
     → (done : List (List ℕ)) (x : List ℕ) (segs units tail : List (List ℕ)) (w new : Way) (heard : List Frame)
-    → cuts f first ≡ done ++ x ∷ segs → HaveData (x ∷ segs) → w.line.units ≡ units ++ tail → AreSpelled s (x ∷ segs) units → AreFacing s w.receiver → Answers heard w.receiver.link → Stands (pushed_after before done) w.receiver.assembly
+    → cuts f first ≡ done ++ x ∷ segs → HaveData (x ∷ segs) → w.line.units ≡ units ++ tail → AreSpelled s (x ∷ segs) units → AreFacing s w.receiver
+    → Answers heard w.receiver.link → Stands (pushed_after before done) w.receiver.assembly
     → Runs w (replicate (suc (length segs)) Deliver) new → HasDelivered s f tail w new
 delivers low s f first before carried as_many done x [] units tail w new heard cut_is have line spelled facing answers stands runs =
     let u : List ℕ = spelled.0 in
@@ -170,7 +173,7 @@ delivers low s f first before carried as_many done x (y ∷ segs) units tail w n
     }
 
 -- the units of one fragment, in front of others
-fragment_comes : Lower → (s : PortState) (f : List ℕ) (units tail : List (List ℕ)) (w new : Way) → 0 < length f → length f ≤ 2048
+fragment_comes : Lower → (s : PortState) (f : List ℕ) (units tail : List (List ℕ)) (w new : Way) → 0 < length f → length f ≤ MAX_FRAGMENT
     → AreSpelled s (cuts f s.number) units → w.line.units ≡ units ++ tail → AreFacing s w.receiver → HasHistory w.receiver
     → Runs w (replicate (cut_count (length f)) Deliver) new → HasDelivered s f tail w new
 fragment_comes low s f units tail w new some fits spelled line facing history runs =
@@ -195,7 +198,7 @@ fragment_comes low s f units tail w new some fits spelled line facing history ru
 abbrev AreLoaded : PortState → List (List ℕ) → List (List ℕ) → Type 0
 AreLoaded s [] units = units ≡ []
 AreLoaded s (f ∷ fs) units =
-    (us : List (List ℕ)) × (rest : List (List ℕ)) × (0 < length f) × (length f ≤ 2048) × AreSpelled s (cuts f s.number) us
+    (us : List (List ℕ)) × (rest : List (List ℕ)) × (0 < length f) × (length f ≤ MAX_FRAGMENT) × AreSpelled s (cuts f s.number) us
     × AreLoaded (moved_on (cut_count (length f)) s) fs rest × (units ≡ us ++ rest)
 
 -- the fragments were sent
@@ -208,7 +211,7 @@ record IsLoaded (w sent : Way) (fs : List (List ℕ)) : Type 0 where
   mute : sent.mute ≡ w.mute
   same_ends : ends sent.sender.link ≡ ends w.sender.link
 
-loads : (w sent : Way) (fs : List (List ℕ)) → w.mute ≡ false → w.line.lost < 32 → Runs w (all_sent fs) sent → IsLoaded w sent fs
+loads : (w sent : Way) (fs : List (List ℕ)) → w.mute ≡ false → w.line.lost < BROKEN_LOSSES → Runs w (all_sent fs) sent → IsLoaded w sent fs
 loads w sent [] mute few runs =
     subst (λ (v : Way). IsLoaded w v []) (sym runs)
     record {
@@ -227,7 +230,7 @@ loads w sent (f ∷ fs) mute few runs =
     ap (λ (v : Way). v.line) s.after ∙ all_sent_line s.units w.line.units w.line.lost few in
     let lost : next.line.lost ≡ w.line.lost = ap (λ (l : LineState). l.lost) line in
     let rest : IsLoaded next sent fs =
-    loads next sent fs (ap (λ (v : Way). v.mute) s.after ∙ mute) (subst (λ (n : ℕ). n < 32) (sym lost) few) runs.2 in
+    loads next sent fs (ap (λ (v : Way). v.mute) s.after ∙ mute) (subst (λ (n : ℕ). n < BROKEN_LOSSES) (sym lost) few) runs.2 in
     record {
       units = s.units ++ rest.units;
       loaded = (
@@ -314,7 +317,7 @@ pub record ComesOut (fs : List (List ℕ)) (old new : Way) : Type 0 where
 pub comes_out : Lower → (old sent new : Way) (fs : List (List ℕ)) → IsClear old → Runs old (all_sent fs) sent → Runs sent (all_delivered fs) new
     → ComesOut fs old new
 comes_out low old sent new fs clear sends delivers =
-    let few : old.line.lost < 32 = unbroken_few old.line.lost clear.unbroken in
+    let few : old.line.lost < BROKEN_LOSSES = unbroken_few old.line.lost clear.unbroken in
     let l : IsLoaded old sent fs = loads old sent fs clear.audible few sends in
     let sent_line : sent.line ≡ line_of l.units old.line.lost =
     l.line ∙ ap (λ (us : List (List ℕ)). line_of (us ++ l.units) old.line.lost) clear.empty in
@@ -347,7 +350,7 @@ comes_out low old sent new fs clear sends delivers =
           }
     ]
   where
-    unbroken_few : (lost : ℕ) → is_broken (line_of old.line.units lost) ≡ false → lost < 32
+    unbroken_few : (lost : ℕ) → is_broken (line_of old.line.units lost) ≡ false → lost < BROKEN_LOSSES
     unbroken_few lost h = grind (arith, nat_tests)
 
     nothing_loaded : (gs units : List (List ℕ)) → gs ≡ [] → AreLoaded old.sender gs units → units ≡ []

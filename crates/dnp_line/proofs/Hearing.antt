@@ -1,5 +1,5 @@
 -- What the receiver's port makes of a unit that the sender's port made.
-use Rattle.std.proofs.Common.{◌≡◌, ℕ, ◌<◌, ◌≤◌, Bool, true, inl, inr, List, [], ◌∷◌, ◌++◌, length, drop, refl, sym, ap, ◌∙◌, subst, arith}
+use Rattle.std.proofs.Common.{◌≡◌, ℕ, ◌<◌, Bool, true, inl, inr, List, [], ◌∷◌, ◌++◌, length, drop, refl, sym, ap, ◌∙◌, subst, arith}
 use Rattle.std.proofs.lemmas.Bool.{cases_Bool, cond-true, cond-false, and_from}
 use Rattle.std.specs.Prelude.{slice_get, Some}
 use Rattle.dnp_linkframe.specs.Frames.{Spells}
@@ -14,11 +14,12 @@ use Rattle.dnp_transport.specs.Series.{IsOpen, IsWhole}
 use Rattle.dnp_line.specs.Comes.{ComesTo}
 use Rattle.dnp_line.specs.Ports.{PortState, data_frame, has_data, is_joined, Joins, TakesAfter, Takes}
 use Rattle.dnp_line.specs.Ways.{Way, Hears, AFrame, NoFrame}
-use Rattle.dnp_line.specs.Flows.{AreFacing, segment_total, IsSegment, IsBegun, Flows, MayGive, Nothing, One}
-use Rattle.dnp_line.proofs.Lower.{Lower}
+use Rattle.dnp_line.specs.Flows.{AreFacing, IsSegment, IsBegun, AreGiven, HasHalfBuilt, Flows, MayGive, Nothing, One}
+use Rattle.dnp_line.specs.steps.Lower.{Lower}
 use Rattle.dnp_line.proofs.Coming.{ComesTo-push}
 use Rattle.dnp_line.proofs.Splits.{IsAmong, among_rest, at_length, drop_length}
 use Rattle.dnp_line.proofs.Arrivals.{open_after, IsWholeAt, whole_after}
+use Rattle.dnp_line.specs.declared.line.TheConstants.{BROKEN_LOSSES}
 
 -- the user data of such a frame go up
 up_after : (e : Ends) (heard : List Frame) (f : Frame) → is_for e f ≡ true → primary_function f.control ≡ UnconfirmedUserData
@@ -41,49 +42,39 @@ pub has_joined : (b : Bool) (pushed : List (List ℕ)) (user : List ℕ) (old ne
     → Joins b pushed user old new whole → Joins true pushed user old new whole
 has_joined b pushed user old new whole e j = subst (λ (d : Bool). Joins d pushed user old new whole) e j
 
--- what came of it, where so many segments were gone before
-pub record HasHeard (w : Way) (rest : List (List ℕ)) (gone : ℕ) (receiver : PortState) (given : List (List ℕ)) : Type 0 where
-  pub left : List (List ℕ)
-  pub past : List (List ℕ)
-  pub heard : List Frame
-  pub pushed : List (List ℕ)
-  pub gives : MayGive rest w.given left given
+-- the receiver's port after the unit, where so many segments were gone before
+pub record IsHearing (w : Way) (gone : ℕ) (receiver : PortState) : Type 0 where
   pub facing : AreFacing w.sender receiver
-  pub split : w.sent ≡ past ++ left
-  pub came : ComesTo given w.sent left
-  pub reached : segment_total past ≤ gone
+  pub heard : List Frame
   pub answers : Answers heard receiver.link
+  pub pushed : List (List ℕ)
   pub stands : Stands pushed receiver.assembly
   pub newest : (s : List (List ℕ)) → IsOpen pushed s → IsBegun w.sent gone s
 
+-- what came of the unit
+pub record HasHeard (w : Way) (rest : List (List ℕ)) (gone : ℕ) (receiver : PortState) (given : List (List ℕ)) : Type 0 where
+  pub left : List (List ℕ)
+  pub gives : MayGive rest w.given left given
+  pub fragments : AreGiven given w.sent left gone
+  pub port : IsHearing w gone receiver
+
 -- no fragment was completed
-heard_nothing : (w : Way) (rest : List (List ℕ)) (fl : Flows w rest) (receiver : PortState) (given : List (List ℕ)) (heard : List Frame) (pushed : List (List ℕ))
-    → AreFacing w.sender receiver → Answers heard receiver.link → Stands pushed receiver.assembly
-    → ((s : List (List ℕ)) → IsOpen pushed s → IsBegun w.sent fl.gone s) → given ≡ w.given → HasHeard w rest fl.gone receiver given
-heard_nothing w rest fl receiver given heard pushed facing answers stands newest e =
+heard_nothing : (w : Way) (rest : List (List ℕ)) (gone : ℕ) (receiver : PortState) (given : List (List ℕ)) → AreGiven w.given w.sent rest gone
+    → IsHearing w gone receiver → given ≡ w.given → HasHeard w rest gone receiver given
+heard_nothing w rest gone receiver given g port e =
     record {
       left = rest;
-      past = fl.past;
-      heard = heard;
-      pushed = pushed;
       gives = Nothing refl e;
-      facing = facing;
-      split = fl.split;
-      came = subst (λ (g : List (List ℕ)). ComesTo g w.sent rest) (sym e) fl.came;
-      reached = fl.reached;
-      answers = answers;
-      stands = stands;
-      newest = newest;
+      fragments = subst (λ (l : List (List ℕ)). AreGiven l w.sent rest gone) (sym e) g;
+      port = port;
     }
 
 -- this fragment was completed
-heard_one : (w : Way) (rest : List (List ℕ)) (fl : Flows w rest) (receiver : PortState) (given : List (List ℕ)) (heard : List Frame) (pushed : List (List ℕ)) (f : List ℕ)
-    → AreFacing w.sender receiver → Answers heard receiver.link → Stands pushed receiver.assembly
-    → ((s : List (List ℕ)) → IsOpen pushed s → IsBegun w.sent fl.gone s) → IsWholeAt w.sent fl.gone f → given ≡ w.given ++ f ∷ []
-    → HasHeard w rest fl.gone receiver given
-heard_one w rest fl receiver given heard pushed f facing answers stands newest at e =
-    let among : IsAmong fl.past rest at.before f at.after =
-    among_rest fl.past rest at.before f at.after (sym fl.split ∙ at.split) (omega (arith, fl.reached, at.high)) in
+heard_one : (w : Way) (rest : List (List ℕ)) (gone : ℕ) (receiver : PortState) (given : List (List ℕ)) → AreGiven w.given w.sent rest gone
+    → IsHearing w gone receiver → (f : List ℕ) → IsWholeAt w.sent gone f → given ≡ w.given ++ f ∷ [] → HasHeard w rest gone receiver given
+heard_one w rest gone receiver given g port f at e =
+    let among : IsAmong g.past rest at.before f at.after =
+    among_rest g.past rest at.before f at.after (sym g.split ∙ at.split) (omega (arith, g.reached, at.high)) in
     let n : ℕ = length among.between in
     let here : slice_get rest n ≡ Some f =
     ap (λ (l : List (List ℕ)). slice_get l n) among.rest_is ∙ at_length among.between f at.after in
@@ -91,23 +82,21 @@ heard_one w rest fl receiver given heard pushed f facing answers stands newest a
     ap (λ (l : List (List ℕ)). drop n l) among.rest_is ∙ drop_length among.between (f ∷ at.after) in
     record {
       left = drop n rest;
-      past = at.before;
-      heard = heard;
-      pushed = pushed;
       gives = One n f here refl e;
-      facing = facing;
-      split = at.split ∙ ap (λ (l : List (List ℕ)). at.before ++ l) (sym end);
-      came =
-          subst (λ (g : List (List ℕ)). ComesTo g w.sent (drop n rest)) (sym e)
-          (ComesTo-push w.given w.sent rest n f fl.came here);
-      reached = at.low;
-      answers = answers;
-      stands = stands;
-      newest = newest;
+      fragments =
+          record {
+            past = at.before;
+            split = at.split ∙ ap (λ (l : List (List ℕ)). at.before ++ l) (sym end);
+            came =
+                subst (λ (l : List (List ℕ)). ComesTo l w.sent (drop n rest)) (sym e)
+                (ComesTo-push w.given w.sent rest n f g.came here);
+            reached = at.low;
+          };
+      port = port;
     }
 
 pub has_heard : Lower → (w : Way) (rest : List (List ℕ)) (fl : Flows w rest) (u x : List ℕ) (receiver : PortState) (given : List (List ℕ))
-    → w.line.lost < 32 → IsSegment w.sent fl.gone x → Spells u (data_frame w.sender x) → Hears u w.receiver receiver w.given given
+    → w.line.lost < BROKEN_LOSSES → IsSegment w.sent fl.gone x → Spells u (data_frame w.sender x) → Hears u w.receiver receiver w.given given
     → HasHeard w rest fl.gone receiver given
 has_heard low w rest fl u x receiver given few i spells heard =
     elim heard [
@@ -118,26 +107,33 @@ has_heard low w rest fl u x receiver given few i spells heard =
           let t : Takes w.receiver sent_frame receiver taken =
           subst (λ (g : Frame). Takes w.receiver g receiver taken) same takes in
           let facing : AreFacing w.sender receiver = t.same_ends ∙ fl.facing in
-          let after : TakesAfter fl.heard fl.pushed w.receiver sent_frame receiver taken =
-          t.after fl.heard fl.answers fl.pushed fl.stands in
-          let answers : Answers (sent_frame ∷ fl.heard) receiver.link = after.answers in
-          let joins : Joins true fl.pushed x w.receiver.assembly receiver.assembly taken.whole =
-          has_joined (is_joined (ends w.receiver.link) fl.heard sent_frame) fl.pushed x w.receiver.assembly receiver.assembly
-          taken.whole (sent_joins low w.sender w.receiver x fl.heard fl.facing (ap (λ (l : List ℕ). has_data l) i.segment_is)) after.joins in
-          let stands : Stands (x ∷ fl.pushed) receiver.assembly = joins.0 in
-          let newest : (s : List (List ℕ)) → IsOpen (x ∷ fl.pushed) s → IsBegun w.sent fl.gone s =
-          λ s o. open_after low w.sent fl.gone w.line.lost x fl.pushed s few i (fl.half_built few) o in
+          let p : HasHalfBuilt w.receiver.link w.receiver.assembly w.sent fl.gone w.line.lost = fl.port in
+          let after : TakesAfter p.heard p.pushed w.receiver sent_frame receiver taken =
+          t.after p.heard p.answers p.pushed p.stands in
+          let joins : Joins true p.pushed x w.receiver.assembly receiver.assembly taken.whole =
+          has_joined (is_joined (ends w.receiver.link) p.heard sent_frame) p.pushed x w.receiver.assembly receiver.assembly
+          taken.whole (sent_joins low w.sender w.receiver x p.heard fl.facing (ap (λ (l : List ℕ). has_data l) i.segment_is)) after.joins in
+          let stands : Stands (x ∷ p.pushed) receiver.assembly = joins.0 in
+          let port : IsHearing w fl.gone receiver =
+          record {
+            facing = facing;
+            heard = sent_frame ∷ p.heard;
+            answers = after.answers;
+            pushed = x ∷ p.pushed;
+            stands = stands;
+            newest = λ s o. open_after low w.sent fl.gone w.line.lost x p.pushed s few i (p.half_built few) o;
+          } in
           elim (cases_Bool taken.whole) [
             | inl completes ↦
-                let found : (g : List ℕ) × IsWhole (x ∷ fl.pushed) g =
+                let found : (g : List ℕ) × IsWhole (x ∷ p.pushed) g =
                 joins.1.0 completes in
-                let f_is : f ≡ found.0 = (shown (x ∷ fl.pushed) stands).whole found.0 found.1 in
-                let is_whole : IsWhole (x ∷ fl.pushed) f = subst (λ (g : List ℕ). IsWhole (x ∷ fl.pushed) g) (sym f_is) found.1 in
-                heard_one w rest fl receiver given (sent_frame ∷ fl.heard) (x ∷ fl.pushed) f facing answers stands newest
-                (whole_after low w.sent fl.gone w.line.lost x fl.pushed f few i (fl.half_built few) is_whole)
+                let f_is : f ≡ found.0 = (shown (x ∷ p.pushed) stands).whole found.0 found.1 in
+                let is_whole : IsWhole (x ∷ p.pushed) f = subst (λ (g : List ℕ). IsWhole (x ∷ p.pushed) g) (sym f_is) found.1 in
+                heard_one w rest fl.gone receiver given fl.fragments port f
+                (whole_after low w.sent fl.gone w.line.lost x p.pushed f few i (p.half_built few) is_whole)
                 (e ∙ cond-true taken.whole (w.given ++ f ∷ []) w.given completes)
             | inr completes_none ↦
-                heard_nothing w rest fl receiver given (sent_frame ∷ fl.heard) (x ∷ fl.pushed) facing answers stands newest
+                heard_nothing w rest fl.gone receiver given fl.fragments port
                 (e ∙ cond-false taken.whole (w.given ++ f ∷ []) w.given completes_none)
           ]
     ]

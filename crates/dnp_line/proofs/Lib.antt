@@ -1,5 +1,4 @@
 pub mod Coming
-pub mod Lower
 pub mod Splits
 pub mod Arrivals
 pub mod OnLine
@@ -8,3 +7,4 @@ pub mod Flowing
 pub mod Sending
 pub mod Delivering
 pub mod One
+pub mod Bringing

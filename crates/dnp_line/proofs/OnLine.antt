@@ -11,6 +11,8 @@ use Rattle.dnp_line.specs.Ports.{PortState, data_frame}
 use Rattle.dnp_line.specs.Ways.{AreSpelled, all_sent_on}
 use Rattle.dnp_line.specs.Flows.{segment_total, IsSegment, AreLast}
 use Rattle.dnp_line.proofs.Splits.{total-append, segment_more, cut_from}
+use Rattle.dnp_line.specs.declared.line.TheConstants.{BROKEN_LOSSES}
+use Rattle.dnp_transport.specs.declared.limits.TheConstants.{SEGMENT_NUMBERS}
 
 -- only the port's frames matter
 pub last_from : (p p' : PortState) → ((s : List ℕ) → data_frame p s ≡ data_frame p' s) → (sent : List (List ℕ)) (place : ℕ) (units : List (List ℕ))
@@ -28,7 +30,7 @@ last_more p sent f place (u ∷ units) us h new =
     (h.0, segment_more sent (f ∷ []) place h.0 h.1, h.2, last_more p sent f (place + 1) units us h.3 new)
 
 -- the units of a fragment from its segment j on
-fresh_from : (p : PortState) (sent : List (List ℕ)) (f : List ℕ) (n j m : ℕ) (us : List (List ℕ)) → n ≡ segment_total sent % 64
+fresh_from : (p : PortState) (sent : List (List ℕ)) (f : List ℕ) (n j m : ℕ) (us : List (List ℕ)) → n ≡ segment_total sent % SEGMENT_NUMBERS
     → j + m ≡ cut_count (length f) → AreSpelled p (map (cut f n) (range_with_len j m)) us → AreLast p (sent ++ f ∷ []) (segment_total sent + j) us
 fresh_from p sent f n j zero us e count h =
     let all : segment_total sent + j ≡ segment_total (sent ++ f ∷ []) = omega (arith, count, total-append sent (f ∷ [])) in
@@ -43,34 +45,32 @@ fresh_from p sent f n j (suc m) us e count h =
       fragment = f;
       after = [];
       k = j;
-      split = refl;
-      place_is = refl;
-      within = omega (arith, count);
+      at = record { split = refl; place_is = refl; within = omega (arith, count) };
       segment_is = cut_from f n (segment_total sent) j e;
     } in
     subst (λ (l : List (List ℕ)). AreLast p (sent ++ f ∷ []) (segment_total sent + j) l) (sym h.4)
     (cut f n j, segment, h.2, subst (λ (q : ℕ). AreLast p (sent ++ f ∷ []) q h.1) next later)
 
 -- the units of a fragment that is sent are the last ones
-pub fresh_last : (p : PortState) (sent : List (List ℕ)) (f : List ℕ) (n : ℕ) (us : List (List ℕ)) → n ≡ segment_total sent % 64
+pub fresh_last : (p : PortState) (sent : List (List ℕ)) (f : List ℕ) (n : ℕ) (us : List (List ℕ)) → n ≡ segment_total sent % SEGMENT_NUMBERS
     → AreSpelled p (cuts f n) us → AreLast p (sent ++ f ∷ []) (segment_total sent) us
 fresh_last p sent f n us e h =
     subst (λ (q : ℕ). AreLast p (sent ++ f ∷ []) q us) (omega arith)
     (fresh_from p sent f n 0 (cut_count (length f)) us e (omega arith) h)
 
 -- a line that isn't broken takes each unit
-pub all_sent : (us units : List (List ℕ)) (lost : ℕ) → lost < 32 → all_sent_on us (line_of units lost) ≡ line_of (units ++ us) lost
+pub all_sent : (us units : List (List ℕ)) (lost : ℕ) → lost < BROKEN_LOSSES → all_sent_on us (line_of units lost) ≡ line_of (units ++ us) lost
 all_sent [] units lost few = ap (λ (l : List (List ℕ)). line_of l lost) (sym (append-nil units))
 all_sent (u ∷ us) units lost few =
     ap (λ (l : LineState). all_sent_on us l)
-    (cond-false (nat_le 32 lost) (line_of units lost) (line_of (units ++ u ∷ []) lost) (lt-leb 32 lost few))
+    (cond-false (nat_le BROKEN_LOSSES lost) (line_of units lost) (line_of (units ++ u ∷ []) lost) (lt-leb BROKEN_LOSSES lost few))
     ∙ all_sent us (units ++ u ∷ []) lost few
     ∙ ap (λ (l : List (List ℕ)). line_of l lost) (append_assoc units (u ∷ []) us)
 
 -- a broken line drops each unit
-pub all_dropped : (us units : List (List ℕ)) (lost : ℕ) → 32 ≤ lost → all_sent_on us (line_of units lost) ≡ line_of units lost
+pub all_dropped : (us units : List (List ℕ)) (lost : ℕ) → BROKEN_LOSSES ≤ lost → all_sent_on us (line_of units lost) ≡ line_of units lost
 all_dropped [] units lost many = refl
 all_dropped (u ∷ us) units lost many =
     ap (λ (l : LineState). all_sent_on us l)
-    (cond-true (nat_le 32 lost) (line_of units lost) (line_of (units ++ u ∷ []) lost) (le-leb 32 lost many))
+    (cond-true (nat_le BROKEN_LOSSES lost) (line_of units lost) (line_of (units ++ u ∷ []) lost) (le-leb BROKEN_LOSSES lost many))
     ∙ all_dropped us units lost many

@@ -17,7 +17,8 @@ abbrev pub OneAssembly : Type 0
 OneAssembly = (pushed : List (List ℕ)) (a b : Assembly) → Stands pushed a → Stands pushed b → a ≡ b
 
 abbrev pub OneShown : Type 0
-OneShown = (a : Assembly) (pushed other : List (List ℕ)) (octets octets' : List ℕ) → Stands pushed a → Stands other a → Shows pushed octets → Shows other octets' → octets ≡ octets'
+OneShown = (a : Assembly) (pushed other : List (List ℕ)) (octets octets' : List ℕ) → Stands pushed a → Stands other a → Shows pushed octets
+    → Shows other octets' → octets ≡ octets'
 
 abbrev port_of : LinkStation → ℕ → Assembly → PortState
 port_of link number assembly = record { link = link; number = number; assembly = assembly }

@@ -1,18 +1,13 @@
 -- Where a segment stands among those that fragments were cut into.
-use Rattle.std.proofs.Common.{◌≡◌, ℕ, ◌+◌, ◌%◌, ◌<◌, ◌*◌, ◌==◌, if◌then◌else◌, List, [], ◌∷◌, ◌++◌, length, take, drop, refl, sym, ap, ◌∙◌, arith, append_assoc}
+use Rattle.std.proofs.Common.{◌≡◌, ℕ, ◌+◌, ◌%◌, ◌<◌, ◌*◌, List, [], ◌∷◌, ◌++◌, length, take, drop, refl, sym, ap, ◌∙◌, arith, append_assoc}
 use Rattle.std.specs.Prelude.{slice_get, Some}
-use Rattle.dnp_transport.specs.Cuts.{cut_count, cut}
-use Rattle.dnp_line.specs.Flows.{segment_total, IsSegment, IsBegun, IsRecent}
+use Rattle.dnp_transport.specs.Cuts.{cut_header, cut_count, cut}
+use Rattle.dnp_line.specs.Flows.{segment_total, IsAt, IsSegment, IsBegun, IsRecent}
+use Rattle.dnp_transport.specs.declared.limits.TheConstants.{SEGMENT_DATA, SEGMENT_NUMBERS}
 
 pub total-append : (xs ys : List (List ℕ)) → segment_total (xs ++ ys) ≡ segment_total xs + segment_total ys
 total-append [] ys = omega arith
 total-append (x ∷ xs) ys = omega (arith, total-append xs ys)
-
--- the fragment at a place, and how many of its segments stand before the place
-pub record IsAt (sent : List (List ℕ)) (place : ℕ) (before : List (List ℕ)) (fragment : List ℕ) (after : List (List ℕ)) (k : ℕ) : Type 0 where
-  pub split : sent ≡ before ++ fragment ∷ after
-  pub place_is : place ≡ segment_total before + k
-  pub within : k < cut_count (length fragment)
 
 -- the same
 pub record AreSame (before before' : List (List ℕ)) (fragment fragment' : List ℕ) (k k' : ℕ) : Type 0 where
@@ -45,10 +40,16 @@ pub same_place : (sent : List (List ℕ)) (p : ℕ) (b b' : List (List ℕ)) (f 
 same_place sent p b b' f f' a a' k k' i i' =
     same_split b b' f f' a a' k k' (sym i.split ∙ i'.split) (sym i.place_is ∙ i'.place_is) i.within i'.within
 
-pub segment_at : (sent : List (List ℕ)) (p : ℕ) (s : List ℕ) (i : IsSegment sent p s) → IsAt sent p i.before i.fragment i.after i.k
-segment_at sent p s i = record { split = i.split; place_is = i.place_is; within = i.within }
-
 -- what is sent later moves nothing
+at_more : (sent more : List (List ℕ)) (p : ℕ) (b : List (List ℕ)) (f : List ℕ) (a : List (List ℕ)) (k : ℕ) → IsAt sent p b f a k
+    → IsAt (sent ++ more) p b f (a ++ more) k
+at_more sent more p b f a k i =
+    record {
+      split = ap (λ (l : List (List ℕ)). l ++ more) i.split ∙ append_assoc b (f ∷ a) more;
+      place_is = i.place_is;
+      within = i.within;
+    }
+
 pub segment_more : (sent more : List (List ℕ)) (p : ℕ) (s : List ℕ) → IsSegment sent p s → IsSegment (sent ++ more) p s
 segment_more sent more p s i =
     record {
@@ -56,9 +57,7 @@ segment_more sent more p s i =
       fragment = i.fragment;
       after = i.after ++ more;
       k = i.k;
-      split = ap (λ (l : List (List ℕ)). l ++ more) i.split ∙ append_assoc i.before (i.fragment ∷ i.after) more;
-      place_is = i.place_is;
-      within = i.within;
+      at = at_more sent more p i.before i.fragment i.after i.k i.at;
       segment_is = i.segment_is;
     }
 
@@ -69,8 +68,7 @@ begun_more sent more p s i =
       fragment = i.fragment;
       after = i.after ++ more;
       k = i.k;
-      split = ap (λ (l : List (List ℕ)). l ++ more) i.split ∙ append_assoc i.before (i.fragment ∷ i.after) more;
-      place_is = i.place_is;
+      at = at_more sent more p i.before i.fragment i.after i.k i.at;
       waits = i.waits;
       series_is = i.series_is;
     }
@@ -79,11 +77,12 @@ pub recent_more : (sent more : List (List ℕ)) (gone lost : ℕ) (s : List (Lis
 recent_more sent more gone lost s i =
     record { place = i.place; is_begun = begun_more sent more i.place s i.is_begun; low = i.low; high = i.high }
 
--- a number modulo 64 numbers the segments alike
-pub cut_from : (f : List ℕ) (m n k : ℕ) → m ≡ n % 64 → cut f m k ≡ cut f n k
+-- a number modulo SEGMENT_NUMBERS numbers the segments alike
+pub cut_from : (f : List ℕ) (m n k : ℕ) → m ≡ n % SEGMENT_NUMBERS → cut f m k ≡ cut f n k
 cut_from f m n k e =
-    let same : (m + k) % 64 ≡ (n + k) % 64 = omega (arith, e) in
-    ap (λ (x : ℕ). ((if k == 0 then 64 else 0) + (if k + 1 == cut_count (length f) then 128 else 0) + x) ∷ take 249 (drop (249 * k) f)) same
+    let count : ℕ = cut_count (length f) in
+    let same : cut_header count m k ≡ cut_header count n k = omega (arith, e) in
+    ap (λ (h : ℕ). h ∷ take SEGMENT_DATA (drop (SEGMENT_DATA * k) f)) same
 
 -- the fragments that may still come, where the one at a place is among them
 pub record IsAmong (past rest before : List (List ℕ)) (fragment : List ℕ) (after : List (List ℕ)) : Type 0 where

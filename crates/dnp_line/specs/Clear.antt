@@ -1,4 +1,4 @@
--- When a way is clear, so that what is sent on it comes out.
+-- Definition: when a way is clear, so that what is sent on it comes out.
 use Rattle.std.specs.Prelude.{◌≡◌, ℕ, false, List, [], map, replicate}
 use Rattle.dnp_line.specs.Lines.{is_broken}
 use Rattle.dnp_line.specs.Ports.{HasHistory}

@@ -1,4 +1,4 @@
--- What came out of a line against what went into it: two lists, oldest first. The members are
+-- Definition: what came out of a line against what went into it: two lists, oldest first. The members are
 -- fragments, but nothing here looks into one, so these words serve lists of any kind. They know no
 -- frames, no numbers and no counts of losses.
 use Rattle.std.specs.Prelude.{◌≡◌, ℕ, Bool, true, false, List, [], ◌∷◌, Some, slice_get, drop, ⊤, if◌then◌else◌}

@@ -1,5 +1,5 @@
 pub mod Lines
-pub mod Holding
+pub mod steps
 pub mod Ports
 pub mod Comes
 pub mod Ways

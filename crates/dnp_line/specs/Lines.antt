@@ -1,15 +1,16 @@
--- A line between two stations as a list of units, and what each call does to it. A line keeps the order of what it
+-- Definition: a line between two stations as a list of units, and what each call does to it. A line keeps the order of what it
 -- carries; it may give a unit more than once, and it may lose units.
 use Rattle.std.specs.Prelude.{◌≡◌, ℕ, ◌+◌, ◌-◌, Bool, nat_le, if◌then◌else◌, List, [], ◌∷◌, ◌++◌, length, Option, slice_get, max}
 use Rattle.dnp_linkframe.specs.Frames.{Spells}
 use Rattle.dnp_linkframe.specs.declared.frame.Frame.{Frame}
+use Rattle.dnp_line.specs.declared.line.TheConstants.{BROKEN_LOSSES}
 
 -- the units on a line, each a string of octets, the front first, and how many units were lost in a row
 pub record LineState : Type 0 where
   pub units : List (List ℕ)
   pub lost : ℕ
 
--- a line with these units, after so many losses in a row
+-- a line with these units, after this number of losses in a row
 abbrev pub line_of : List (List ℕ) → ℕ → LineState
 line_of units lost = record { units = units; lost = lost }
 
@@ -17,19 +18,15 @@ line_of units lost = record { units = units; lost = lost }
 abbrev pub quiet_line : LineState
 quiet_line = line_of [] 0
 
--- so many losses in a row break a line
-abbrev pub broken_losses : ℕ
-broken_losses = 32
-
--- the line is broken: it carries nothing until it is cleared
+-- the line is broken, by BROKEN_LOSSES losses in a row: it carries nothing until it is cleared
 abbrev pub is_broken : LineState → Bool
-is_broken l = nat_le broken_losses l.lost
+is_broken l = nat_le BROKEN_LOSSES l.lost
 
 -- the unit that leaves the line next
 abbrev pub front_of : LineState → Option (List ℕ)
 front_of l = slice_get l.units 0
 
--- a send puts the unit behind those on the line; a broken line drops it
+-- a send puts the unit after those on the line; a broken line drops it
 abbrev pub sent_on : List ℕ → LineState → LineState
 sent_on unit l = if is_broken l then l else line_of (l.units ++ unit ∷ []) l.lost
 
@@ -56,7 +53,7 @@ lost_on l = left_after l.units
   where
     left_after : List (List ℕ) → LineState
     left_after [] = l
-    left_after (unit ∷ rest) = line_of (if nat_le broken_losses (l.lost + 1) then [] else rest) (l.lost + 1)
+    left_after (unit ∷ rest) = line_of (if nat_le BROKEN_LOSSES (l.lost + 1) then [] else rest) (l.lost + 1)
 
 -- the octets read as a link frame
 abbrev pub ReadsAsFrame : List ℕ → Type 0

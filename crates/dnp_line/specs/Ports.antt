@@ -1,4 +1,4 @@
--- A station's port: it cuts what the station sends into units for a line, and joins the units that come to what the
+-- Definition: a station's port: it cuts what the station sends into units for a line, and joins the units that come to what the
 -- station's peer sent (IEEE Std 1815-2012, transport function over data link layer).
 use Rattle.std.specs.Prelude.{◌≡◌, ℕ, ◌+◌, ◌%◌, Bool, true, false, ◌&&◌, List, [], ◌∷◌, ◌↔◌, IsTrue}
 use Rattle.dnp_linkframe.specs.declared.frame.Frame.{Frame}
@@ -7,6 +7,7 @@ use Rattle.dnp_linkstation.specs.Station.{Ends, ends, fresh, answer, sent, Stand
 use Rattle.dnp_transport.specs.Assembly.{Assembly, Idle, Stands, Shows}
 use Rattle.dnp_transport.specs.Series.{IsWhole}
 use Rattle.dnp_line.specs.declared.port.Taken.{Taken}
+use Rattle.dnp_transport.specs.declared.limits.TheConstants.{SEGMENT_NUMBERS}
 
 -- its end of the link, the number of the next segment that its station sends, and what it has joined so far
 pub record PortState : Type 0 where
@@ -23,9 +24,9 @@ new_port own peer is_master =
 abbrev pub data_frame : PortState → List ℕ → Frame
 data_frame p user = sent (ends p.link) user
 
--- n segments were sent: the next has a number n further on, modulo 64
+-- n segments were sent: the next has a number n further on, modulo SEGMENT_NUMBERS
 abbrev pub moved_on : ℕ → PortState → PortState
-moved_on n p = record p { number = (p.number + n) % 64 }
+moved_on n p = record p { number = (p.number + n) % SEGMENT_NUMBERS }
 
 -- some frames stand for the port's end of the link, and some pushed strings for what it joins
 pub record HasHistory (p : PortState) : Type 0 where

@@ -1,4 +1,4 @@
--- One way of a link since it was opened: a station hands fragments to its port, a line carries the units, and the port
+-- Definition: one way of a link since it was opened: a station hands fragments to its port, a line carries the units, and the port
 -- of the peer joins what comes. What happens to a way is said by the same words as the calls of lines and ports.
 use Rattle.std.specs.Prelude.{◌≡◌, ℕ, ◌<◌, ◌≤◌, Bool, true, false, not, if◌then◌else◌, List, [], ◌∷◌, ◌++◌, length, Option, Some, None}
 use Rattle.dnp_linkframe.specs.Frames.{Spells}
@@ -8,6 +8,7 @@ use Rattle.dnp_transport.specs.Cuts.{cut_count, cuts}
 use Rattle.dnp_line.specs.Lines.{LineState, quiet_line, front_of, sent_on, delivered_on, repeated_on, lost_on, ReadsAsFrame, Damages, cleared_on}
 use Rattle.dnp_line.specs.declared.port.Taken.{Taken}
 use Rattle.dnp_line.specs.Ports.{PortState, new_port, data_frame, moved_on, Takes, IsShown, reset_of}
+use Rattle.dnp_transport.specs.declared.limits.TheConstants.{MAX_FRAGMENT}
 
 -- the line and the ports at its ends; whether the sender hands over nothing more until the link is opened again; the
 -- fragments that were handed to the sender's port, and those that the receiver's port gave, each oldest first
@@ -67,10 +68,10 @@ abbrev pub all_sent_on : List (List ℕ) → LineState → LineState
 all_sent_on [] line = line
 all_sent_on (unit ∷ units) line = all_sent_on units (sent_on unit line)
 
--- a fragment of 1 to 2,048 octets is sent: the units of its segments go on the line, and the port's number moves on
+-- a fragment of 1 to MAX_FRAGMENT octets is sent: the units of its segments go on the line, and the port's number moves on
 pub record Sends (fragment : List ℕ) (old new : Way) : Type 0 where
   pub some : 0 < length fragment
-  pub fits : length fragment ≤ 2048
+  pub fits : length fragment ≤ MAX_FRAGMENT
   pub units : List (List ℕ)
   pub spelled : AreSpelled old.sender (cuts fragment old.sender.number) units
   pub after : new ≡ record old {

@@ -1,5 +1,4 @@
-//! What is true of every way of a link, and of every list that came of another: each function is a law about the words
-//! of its clauses, and its body changes nothing when it runs.
+//! Laws of ways of a link and of lists that came of others, each the contract of a function that does nothing.
 
 ghost use Rattle.std.specs.Prelude.{◌≡◌, ℕ, ◌↔◌, Bool, IsTrue, List, [], ◌∷◌, ◌++◌, drop, slice_get, All, Contains, length, replicate};
 ghost use Rattle.dnp_transport.specs.Cuts.{cut_count};
@@ -10,14 +9,27 @@ ghost use Rattle.dnp_line.specs.Ports.{PortState, HasHistory, Takes, IsShown};
 ghost use Rattle.dnp_line.specs.declared.port.Taken.{Taken as TakenValue};
 ghost use Rattle.dnp_line.specs.Comes.{Comes, ComesTo, comes};
 ghost use Rattle.dnp_line.specs.Flows.{AreFacing, Flows, RestMoves};
+ghost use Rattle.dnp_line.specs.steps.Lower.{Lower};
 ghost use Rattle.dnp_line.specs.Ways.{Way, new_way, opened_on, WayEvent, Happens, Runs};
 ghost use Rattle.dnp_line.specs.Ways as WayEvent;
 
+use dnp_linkframe::MAX_USER_DATA;
 use dnp_linkframe::laws::a_unit_spells_one_frame;
 use dnp_linkstation::laws as stations;
 use dnp_linkstation::laws::what_is_sent_is_for_the_peer;
-use dnp_transport::laws as assemblers;
 use dnp_transport::laws::{a_push_goes_on, cuts_give_whole, segments_say_their_places};
+use dnp_transport::{MAX_SEGMENT, laws as assemblers};
+
+/// What the crates below promise of frames, link stations and segments, in one record.
+fn what_lies_below()
+    ensures { Lower }
+{
+    a_unit_spells_one_frame();
+    what_is_sent_is_for_the_peer();
+    cuts_give_whole();
+    segments_say_their_places();
+    a_push_goes_on();
+}
 
 /// The law of a line between two ports: the fragments that the receiver's port gave came of those that were handed to
 /// the sender's port, after every run of sends, deliveries, repeats, losses, damage and clearings since the link was
@@ -36,12 +48,14 @@ pub fn line_law()
     ensures goes_on { (old new : Way) (events : List WayEvent) (rest : List (List ℕ)) → Flows old rest → Runs old events new →
         (left : List (List ℕ)) × Flows new left }
 {
-    a_unit_spells_one_frame();
-    what_is_sent_is_for_the_peer();
-    cuts_give_whole();
-    segments_say_their_places();
-    a_push_goes_on();
+    what_lies_below();
 }
+
+/// The longest segment is the longest user data of a link frame: each segment has a frame, and each frame of user data
+/// has room for no more than one.
+pub fn a_segment_fills_a_frame()
+    ensures { MAX_SEGMENT ≡ MAX_USER_DATA }
+{}
 
 /// Each list came of itself.
 pub fn comes_of_itself<T>()
@@ -59,10 +73,18 @@ pub fn nothing_comes<T>()
     ensures of_nothing { (came : List T) → Comes came [] → came ≡ [] }
 {}
 
-/// What came of a list came still when the list has more members, behind or in front.
+/// What came of a list came still when the list has more members, after or in front. So what came of an end of a list
+/// came of the list.
 pub fn comes_of_more<T>()
+    ensures of_an_end { (came sent : List T) (n : ℕ) → Comes came (drop n sent) → Comes came sent }
     ensures behind { (came sent more : List T) → Comes came sent → Comes came (sent ++ more) }
     ensures in_front { (came before sent : List T) → Comes came sent → Comes came (before ++ sent) }
+{}
+
+/// Where another member came first than the one that was sent first, what came did so of the others.
+pub fn comes_after_another<T>()
+    ensures { (member first : T) (later others : List T) → (member ≡ first → ⊥) →
+        Comes (member ∷ later) (first ∷ others) → Comes (member ∷ later) others }
 {}
 
 /// Each member that came was sent.
@@ -93,7 +115,7 @@ pub fn nothing_came<T>()
     ensures gone { (sent : List T) → ComesTo [] sent [] }
 {}
 
-/// A member that is sent may come, behind what may come already.
+/// A member that is sent may come, after what may come already.
 pub fn one_sent<T>()
     ensures { (came sent rest : List T) (member : T) → ComesTo came sent rest →
         ComesTo came (sent ++ member ∷ []) (rest ++ member ∷ []) }
@@ -125,11 +147,7 @@ pub fn a_clear_way_delivers()
     ensures many { (old sent new : Way) (fragments : List (List ℕ)) → IsClear old → Runs old (all_sent fragments) sent →
         Runs sent (all_delivered fragments) new → (new.given ≡ old.given ++ fragments) × IsClear new }
 {
-    a_unit_spells_one_frame();
-    what_is_sent_is_for_the_peer();
-    cuts_give_whole();
-    segments_say_their_places();
-    a_push_goes_on();
+    what_lies_below();
 }
 
 /// A port takes each frame in one way, and shows one fragment: what it does is a function of the port, whatever made it

@@ -4,27 +4,26 @@ ghost use Rattle.std.specs.Option.{option_map};
 ghost use Rattle.dnp_line.specs.Lines.{quiet_line, front_of, is_broken, sent_on, delivered_on, repeated_on, lost_on, Damages, cleared_on, room_of, reserved_on};
 
 use arrayvec::ArrayVec;
-use dnp_linkframe::{MAX_FRAME, read_frame};
+use dnp_linkframe::{MAX_UNIT, read_frame};
 use std::alloc::{AllocError, Global};
 use std::collections::VecDeque;
 use std::marker::Model;
 
-/// So many losses in a row break a line.
+/// The losses in a row that break a line. They are fewer than the numbers that segments have, so that no segment is
+/// taken for one of another round.
 pub const BROKEN_LOSSES: u8 = 32;
 
-/// A line that carries units of at most 292 octets one way, in order.
+/// A line that carries units of at most [`MAX_UNIT`] octets one way, in order.
 ///
-/// A unit may come more than once, and may be lost. 32 losses in a row break the line: what is on it is dropped, it
-/// gives nothing, and what is sent is dropped, until it is cleared.
+/// A unit may come more than once, and may be lost. [`BROKEN_LOSSES`] losses in a row break the line: what is on it is
+/// dropped, it gives nothing, and what is sent is dropped, until it is cleared.
 #[derive(Debug, Drop)]
 pub struct Line {
-    // The units on the line, the front first.
-    units: VecDeque<ArrayVec<u8, MAX_FRAME>>,
-
-    // How many units there is memory for.
+    /// The units on the line, the front first.
+    units: VecDeque<ArrayVec<u8, MAX_UNIT>>,
+    /// How many units there is memory for.
     capacity: usize,
-
-    // How many units were lost in a row.
+    /// How many units were lost in a row.
     lost: u8,
 }
 
@@ -32,7 +31,7 @@ impl Model for Line {
     ghost use Rattle.std.specs.Prelude.{map, ◌≡◌, ◌≤◌, length};
     ghost use Rattle.std.specs.VecDeque.{deque_capacity};
     ghost use Rattle.dnp_line.specs.Lines.{HeldLine, line_of};
-    ghost use Rattle.dnp_line.specs.Holding.{IsHeld};
+    ghost use Rattle.dnp_line.specs.steps.Holding.{IsHeld};
 
     ghost Value = { HeldLine };
 
@@ -90,10 +89,10 @@ impl Line {
         self.units.is_empty()
     }
 
-    /// Puts a unit of at most 292 octets behind those on the line. A broken line drops it.
+    /// Puts a unit of at most [`MAX_UNIT`] octets on the line, after those that are there. A broken line drops it.
     pub fn send(&mut self, unit: &[u8])
         requires room { 0 < room_of self.old }
-        requires fits { length unit.now ≤ 292 }
+        requires fits { length unit.now ≤ MAX_UNIT }
         ensures { self.new ≡ record self.old { state = sent_on unit.now self.old.state } }
     {
         if self.broken() {
@@ -113,7 +112,7 @@ impl Line {
     }
 
     /// Takes the front unit off and gives it. That ends the losses in a row.
-    pub fn deliver(&mut self) -> Option<ArrayVec<u8, MAX_FRAME>>
+    pub fn deliver(&mut self) -> Option<ArrayVec<u8, MAX_UNIT>>
         ensures unit { option_map (λ u. u.items) result ≡ front_of self.old.state }
         ensures line { self.new ≡ record self.old { state = delivered_on self.old.state } }
     {
@@ -123,7 +122,7 @@ impl Line {
     }
 
     /// Gives the front unit and keeps it. That ends the losses in a row.
-    pub fn repeat(&mut self) -> Option<ArrayVec<u8, MAX_FRAME>>
+    pub fn repeat(&mut self) -> Option<ArrayVec<u8, MAX_UNIT>>
         ensures unit { option_map (λ u. u.items) result ≡ front_of self.old.state }
         ensures line { self.new ≡ record self.old { state = repeated_on self.old.state } }
     {
@@ -165,7 +164,7 @@ impl Line {
         *lost = 0;
     }
 
-    /// Whether 32 losses in a row broke the line. It has no units then.
+    /// Whether [`BROKEN_LOSSES`] losses in a row broke the line. It has no units then.
     pub fn broken(&self) -> bool
         ensures broken { result ≡ is_broken self.now.state }
         ensures empty { IsTrue result → self.now.state.units ≡ [] }
@@ -174,9 +173,9 @@ impl Line {
     }
 }
 
-// The octets as a unit.
-fn copied(octets: &[u8]) -> ArrayVec<u8, MAX_FRAME>
-    requires { length octets.now ≤ 292 }
+/// The octets as a unit.
+fn copied(octets: &[u8]) -> ArrayVec<u8, MAX_UNIT>
+    requires { length octets.now ≤ MAX_UNIT }
     ensures { result.items ≡ octets.now }
 {
     let mut unit = ArrayVec::new();

@@ -9,19 +9,16 @@ ghost use Rattle.dnp_linkstation.specs.Station.{Stands as Answers};
 ghost use Rattle.dnp_line.specs.Ports.{new_port, data_frame, moved_on, HasHistory, Takes, IsShown, reset_of};
 
 use arrayvec::ArrayVec;
-use dnp_linkframe::{Frame, MAX_FRAME, write_frame, write_frame_into};
+use dnp_linkframe::{Frame, MAX_UNIT, write_frame, write_frame_into};
 use dnp_linkstation::LinkStation;
 use dnp_linkstation::laws::each_station_has_a_history;
-use dnp_transport::{Assembler, Pushed, segment};
+use dnp_transport::{Assembler, MAX_FRAGMENT, Pushed, SEGMENT_NUMBERS, segment};
 use std::marker::Model;
-
-// The numbers of segments go round from 0 to 63.
-const NUMBERS: usize = 64;
 
 /// What a port made of a frame.
 #[derive(Debug, PartialEq, Eq, Drop)]
 pub struct Taken {
-    /// The frame completed a fragment, which `Port::fragment` gives.
+    /// Whether the frame completed a fragment, which `Port::fragment` gives.
     pub whole: bool,
 
     /// The link frame to answer with.
@@ -30,7 +27,7 @@ pub struct Taken {
 
 impl Taken {
     /// The unit to answer with: the spelling of the reply. So a reply is put on a line as user data are, by its unit.
-    pub fn reply_unit(&self) -> Option<ArrayVec<u8, MAX_FRAME>>
+    pub fn reply_unit(&self) -> Option<ArrayVec<u8, MAX_UNIT>>
         ensures spells { IfSome result (λ unit. (reply : FrameValue) × (self.now.reply ≡ Some reply) × Spells unit.items reply) }
         ensures none { IfNone result (self.now.reply ≡ None) }
     {
@@ -45,22 +42,24 @@ impl Taken {
 /// to fragments (IEEE Std 1815-2012, transport function over data link layer).
 #[derive(Debug, Drop)]
 pub struct Port {
+    /// The station's end of the link.
     link: LinkStation,
-
-    // The number of the next segment.
+    /// The number of the next segment.
     number: u8,
+    /// What the segments that came are joined to.
     assembler: Assembler,
 }
 
 impl Model for Port {
     ghost use Rattle.std.specs.Prelude.{◌<◌};
+    ghost use Rattle.dnp_transport.specs.declared.limits.TheConstants.{SEGMENT_NUMBERS};
     ghost use Rattle.dnp_line.specs.Ports.{PortState};
 
     ghost Value = { PortState };
 
     ghost view = { λ p. record { link = p.link; number = p.number; assembly = p.assembler } };
 
-    ghost invariant = { λ p. p.number < 64 };
+    ghost invariant = { λ p. p.number < SEGMENT_NUMBERS };
 }
 
 impl Port {
@@ -80,10 +79,10 @@ impl Port {
     /// The unit `k`, counted from 0, in which the fragment is sent: the spelling of a link frame of user data with the
     /// fragment's segment `k`.
     ///
-    /// The fragment has 1 to 2,048 octets, and `k` is below `segment_count(fragment)`.
-    pub fn unit(&self, fragment: &[u8], k: usize) -> ArrayVec<u8, MAX_FRAME>
+    /// The fragment has 1 to [`MAX_FRAGMENT`] octets, and `k` is below `segment_count(fragment)`.
+    pub fn unit(&self, fragment: &[u8], k: usize) -> ArrayVec<u8, MAX_UNIT>
         requires some { 0 < length fragment.now }
-        requires fits { length fragment.now ≤ 2048 }
+        requires fits { length fragment.now ≤ MAX_FRAGMENT }
         requires within { k < cut_count (length fragment.now) }
         ensures spells { Spells result.items (data_frame self.now (cut fragment.now self.now.number k)) }
         ensures only { (unit : List ℕ) → Spells unit (data_frame self.now (cut fragment.now self.now.number k)) → unit ≡ result.items }
@@ -93,10 +92,10 @@ impl Port {
         unit
     }
 
-    /// The same unit in place of what stood in the caller's, so that a loop over the units of a fragment moves none.
-    pub fn unit_into(&self, fragment: &[u8], k: usize, unit: &mut ArrayVec<u8, MAX_FRAME>)
+    /// The same unit in place of what was in the caller's, so that a loop over the units of a fragment moves none.
+    pub fn unit_into(&self, fragment: &[u8], k: usize, unit: &mut ArrayVec<u8, MAX_UNIT>)
         requires some { 0 < length fragment.now }
-        requires fits { length fragment.now ≤ 2048 }
+        requires fits { length fragment.now ≤ MAX_FRAGMENT }
         requires within { k < cut_count (length fragment.now) }
         ensures spells { Spells unit.new.items (data_frame self.now (cut fragment.now self.now.number k)) }
         ensures only { (other : List ℕ) → Spells other (data_frame self.now (cut fragment.now self.now.number k)) → other ≡ unit.new.items }
@@ -105,11 +104,12 @@ impl Port {
         write_frame_into(&self.link.send(segment.as_slice()), unit);
     }
 
-    /// Moves the number of the next segment on by `n`, once so many were sent.
+    /// Moves the number of the next segment on by `n`, once `n` segments were sent.
     pub fn sent(&mut self, n: usize)
         ensures { self.new ≡ moved_on n self.old }
     {
-        self.number = ((usize::from(self.number) + n % NUMBERS) % NUMBERS) as u8;
+        let numbers = usize::from(SEGMENT_NUMBERS);
+        self.number = ((usize::from(self.number) + n % numbers) % numbers) as u8;
     }
 
     /// Takes a frame that came. The station's end of the link answers it, and user data that go up are joined to those
@@ -128,7 +128,7 @@ impl Port {
         }
     }
 
-    // Joins user data to those before them. Does that complete a fragment?
+    /// Joins user data to those before them. Whether that completes a fragment.
     fn joins(&mut self, user: &[u8]) -> bool
         ensures pushed { (before : List (List ℕ)) → Stands before self.old.assembly → Stands (user.now ∷ before) self.new.assembly }
         ensures completed { (before : List (List ℕ)) → Stands before self.old.assembly →
@@ -141,7 +141,7 @@ impl Port {
     /// The fragment that the last frame of user data completed, until the next, and else no octets.
     pub fn fragment(&self) -> &[u8]
         ensures shown { IsShown self.now result.now }
-        ensures fits { length result.now ≤ 2048 }
+        ensures fits { length result.now ≤ MAX_FRAGMENT }
     {
         self.assembler.fragment()
     }

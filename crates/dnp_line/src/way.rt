@@ -9,13 +9,13 @@ ghost use Rattle.dnp_line.specs.Ways.{Way, Send, Deliver, Repeat, Lose, Damage, 
 use crate::{Line, Port};
 use arrayvec::ArrayVec;
 use dnp_linkframe::read_frame;
-use dnp_transport::segment_count;
+use dnp_transport::{MAX_FRAGMENT, segment_count};
 
-/// Sends a fragment of 1 to 2,048 octets: all its units go on the line, which has room for them, and the port's numbers
-/// move on.
+/// Sends a fragment of 1 to [`MAX_FRAGMENT`] octets: all its units go on the line, which has room for them, and the
+/// port's numbers move on.
 pub fn send(line: &mut Line, sender: &mut Port, fragment: &[u8])
     requires some { 0 < length fragment.now }
-    requires fits { length fragment.now ≤ 2048 }
+    requires fits { length fragment.now ≤ MAX_FRAGMENT }
     requires room { cut_count (length fragment.now) ≤ room_of line.old }
     ensures happens { (way : Way) → way.line ≡ line.old.state → way.sender ≡ sender.old → way.mute ≡ false →
         Happens way (Send fragment.now) (record way { line = line.new.state; sender = sender.new; sent = way.sent ++ fragment.now ∷ [] }) }
@@ -90,7 +90,7 @@ pub fn reset_sender(sender: &mut Port)
     sender.reset();
 }
 
-// A unit comes to a port. Does that complete a fragment?
+/// Brings a unit to a port. Whether that completes a fragment.
 fn hear(port: &mut Port, unit: &[u8]) -> bool
     ensures { (given : List (List ℕ)) (fragment : List ℕ) → IsShown port.new fragment →
         Hears unit.now port.old port.new given (if result then given ++ fragment ∷ [] else given) }

@@ -6,6 +6,7 @@ use Rattle.std.proofs.lemmas.List.{append_assoc, length-append, length-take, len
 use Rattle.dnp_linkframe.specs.declared.frame.Frame.{Frame}
 use Rattle.dnp_linkframe.specs.Frames.{HasCheck, AreChecked, first_blocks, block_count, blocks, frame_size, header, Spells}
 use Rattle.dnp_linkframe.proofs.Unique.{one_check_word}
+use Rattle.dnp_linkframe.specs.declared.frame.TheConstants.{MAX_UNIT, MAX_USER_DATA}
 
 -- a part has one spelling with its check word
 pub one_checked : (part a b : List ℕ) → HasCheck part a → HasCheck part b → a ≡ b
@@ -87,9 +88,9 @@ length-spelled unit f s =
 -- the parts whole
 pub record Writes (parts : List (List ℕ)) (unit rest : List ℕ) : Type 0 where
   pub joins : (tail : List ℕ) → AreChecked (blocks rest) tail → AreChecked parts (unit ++ tail)
-  pub room : length unit + length rest + 2 * block_count (length rest) ≤ 292
+  pub room : length unit + length rest + 2 * block_count (length rest) ≤ MAX_UNIT
 
-pub writes_first : (part user octets : List ℕ) → length part ≡ 8 → length user ≤ 250 → HasCheck part octets
+pub writes_first : (part user octets : List ℕ) → length part ≡ 8 → length user ≤ MAX_USER_DATA → HasCheck part octets
     → Writes (part ∷ blocks user) octets user
 writes_first part user octets eight fits has = record {
   joins = λ (tail : List ℕ) more. (octets, tail, has, more, refl);
@@ -108,7 +109,7 @@ writes_block parts unit rest octets some w has = record {
       let taken : length (take 16 rest) ≡ min 16 (length rest) = length-take 16 rest in
       let left : length (drop 16 rest) ≡ length rest - 16 = length-drop 16 rest in
       let both : length (unit ++ octets) ≡ length unit + length octets = length-append unit octets in
-      let before : length unit + length rest + 2 * block_count (length rest) ≤ 292 = w.room in
+      let before : length unit + length rest + 2 * block_count (length rest) ≤ MAX_UNIT = w.room in
       omega arith;
 }
 

@@ -1,7 +1,8 @@
 -- What is left of a polynomial after division by the generator, step by step.
 use Rattle.std.proofs.Common.{◌∙◌, ℕ, Bool, List, [], refl, sym, ap}
 use Rattle.dnp_linkframe.specs.Polynomials.{plus, times_x, times, IsSame}
-use Rattle.dnp_linkframe.specs.CheckWord.{generator, Leaves}
+use Rattle.dnp_linkframe.specs.CheckWord.{generator}
+use Rattle.dnp_linkframe.specs.steps.Division.{Leaves}
 use Rattle.dnp_linkframe.proofs.Algebra.{same_eq, same_sym, same_plus, same_times_x, times_x-plus, times-plus, times_x-times, plus_middle, plus_assoc, plus_nil}
 
 -- what is the same polynomial is left of itself

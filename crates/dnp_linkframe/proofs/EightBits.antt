@@ -6,7 +6,8 @@ use Rattle.std.proofs.lemmas.List.FromFn.{get_or-map-range_with_len}
 use Rattle.std.proofs.lemmas.Nat.{xor_lt}
 use Rattle.std.specs.List.{range_with_len}
 use Rattle.std.specs.Prelude.{bit_and, bit_xor}
-use Rattle.dnp_linkframe.specs.CheckWord.{remainder, Leaves}
+use Rattle.dnp_linkframe.specs.CheckWord.{remainder}
+use Rattle.dnp_linkframe.specs.steps.Division.{Leaves}
 use Rattle.dnp_linkframe.specs.Polynomials.{times_x}
 use Rattle.dnp_linkframe.specs.declared.table.TheConstants.{LEFT_OF_OCTET}
 use Rattle.dnp_linkframe.proofs.Division.{leaves_same, leaves_times_x, leaves_trans}
@@ -97,7 +98,8 @@ rows (suc k) h =
           let t : ℕ = get_or r n 0 in
           let p : List Bool = times_x (8 * (k + 1)) (remainder n) in
           let whole : Leaves (times_x 8 p) (remainder (steps 8 t)) =
-          leaves_trans (times_x 8 p) (times_x 8 (remainder t)) (remainder (steps 8 t)) (leaves_times_x 8 p (remainder t) (before.leaves n l)) (steps_leave 8 t (before.fits n l)) in
+          leaves_trans (times_x 8 p) (times_x 8 (remainder t)) (remainder (steps 8 t)) (leaves_times_x 8 p (remainder t) (before.leaves n l))
+          (steps_leave 8 t (before.fits n l)) in
           subst (λ (m : ℕ). Leaves (times_x (8 * (suc k + 1)) (remainder n)) (remainder m)) (at n l)
           (subst (λ (q : List Bool). Leaves q (remainder (steps 8 t))) (times_x_twice 8 (8 * (k + 1)) (remainder n) ∙ ap (λ (m : ℕ). times_x m (remainder n)) count) whole);
     })

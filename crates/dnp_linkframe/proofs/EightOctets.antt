@@ -6,7 +6,8 @@ use Rattle.std.proofs.lemmas.Nat.{and_mask, xor_lt}
 use Rattle.std.specs.Simd.{first_chunks}
 use Rattle.std.specs.Prelude.{bit_and, bit_xor}
 use Rattle.dnp_linkframe.specs.Polynomials.{plus, times_x, IsSame}
-use Rattle.dnp_linkframe.specs.CheckWord.{message, remainder, Leaves, Continues}
+use Rattle.dnp_linkframe.specs.CheckWord.{message, remainder}
+use Rattle.dnp_linkframe.specs.steps.Division.{Leaves, Continues}
 use Rattle.dnp_linkframe.proofs.Algebra.{same_eq, same_plus, plus_assoc, plus_comm, times_x-plus}
 use Rattle.dnp_linkframe.proofs.Division.{leaves_same, leaves_trans}
 use Rattle.dnp_linkframe.proofs.Octets.{leaves_xor, message_joined, octets_more, times_x_twice}
@@ -35,7 +36,8 @@ octet_in_front octet left behind rest h k l =
     (leaves_xor b a' rest left l k)
 
 -- the last octet
-pub last_octet : (octet left : ℕ) → octet < 2 ^ 8 → Leaves (times_x 8 (remainder octet)) (remainder left) → Leaves (times_x 16 (message (octet ∷ []))) (remainder left)
+pub last_octet : (octet left : ℕ) → octet < 2 ^ 8 → Leaves (times_x 8 (remainder octet)) (remainder left)
+    → Leaves (times_x 16 (message (octet ∷ []))) (remainder left)
 last_octet octet left h k =
     subst (λ (p : List Bool). Leaves (times_x 8 p) (remainder left)) (remainder-octet octet h) k
 
@@ -96,7 +98,8 @@ module _ (word : ℕ) (xs : List ℕ) (word_fits : word < 2 ^ 16) (eight : lengt
       let s₁ = octet_in_front (get_or xs 6 0) r₁ (get_or xs 7 0 ∷ []) r₀ (fits 6) h₁ s₀ in
       let s₂ = octet_in_front (get_or xs 5 0) r₂ (get_or xs 6 0 ∷ get_or xs 7 0 ∷ []) (bit_xor r₀ r₁) (fits 5) h₂ s₁ in
       let s₃ = octet_in_front (get_or xs 4 0) r₃ (get_or xs 5 0 ∷ get_or xs 6 0 ∷ get_or xs 7 0 ∷ []) (bit_xor (bit_xor r₀ r₁) r₂) (fits 4) h₃ s₂ in
-      let s₄ = octet_in_front (get_or xs 3 0) r₄ (get_or xs 4 0 ∷ get_or xs 5 0 ∷ get_or xs 6 0 ∷ get_or xs 7 0 ∷ []) (bit_xor (bit_xor (bit_xor r₀ r₁) r₂) r₃) (fits 3) h₄ s₃ in
+      let s₄ = octet_in_front (get_or xs 3 0) r₄ (get_or xs 4 0 ∷ get_or xs 5 0 ∷ get_or xs 6 0 ∷ get_or xs 7 0 ∷ [])
+      (bit_xor (bit_xor (bit_xor r₀ r₁) r₂) r₃) (fits 3) h₄ s₃ in
       let x₃ : List ℕ = get_or xs 3 0 ∷ get_or xs 4 0 ∷ get_or xs 5 0 ∷ get_or xs 6 0 ∷ get_or xs 7 0 ∷ [] in
       let w₄ : ℕ = bit_xor (bit_xor (bit_xor (bit_xor r₀ r₁) r₂) r₃) r₄ in
       let s₅ = octet_in_front (get_or xs 2 0) r₅ x₃ w₄ (fits 2) h₅ s₄ in

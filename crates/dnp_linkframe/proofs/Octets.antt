@@ -9,13 +9,15 @@ use Rattle.std.specs.Int.Bits.{xor_zero_r}
 use Rattle.std.specs.List.{flat_map, range_with_len}
 use Rattle.std.specs.Prelude.{bit_and, bit_xor}
 use Rattle.dnp_linkframe.specs.Polynomials.{plus, times_x, times, IsSame}
-use Rattle.dnp_linkframe.specs.CheckWord.{bit, message, remainder, generator, Leaves, Continues, IsCheckWord}
+use Rattle.dnp_linkframe.specs.CheckWord.{bit, message, remainder, generator, IsCheckWord}
+use Rattle.dnp_linkframe.specs.steps.Division.{Leaves, Continues}
 use Rattle.dnp_linkframe.proofs.Algebra.{same_eq, same_plus, same_times_x, times_x-plus, append_plus, plus_comm, plus_twice}
 use Rattle.dnp_linkframe.proofs.Division.{leaves_same, leaves_plus, leaves_times_x, leaves_trans}
 use Rattle.dnp_linkframe.proofs.Words.{low_high, remainder-xor, remainder-octet}
 
 -- ---- within an octet
-pub one_more_bit : (n first old new : ℕ) → Leaves (times_x n (remainder first)) (remainder old) → Leaves (times_x 1 (remainder old)) (remainder new) → Leaves (times_x (n + 1) (remainder first)) (remainder new)
+pub one_more_bit : (n first old new : ℕ) → Leaves (times_x n (remainder first)) (remainder old) → Leaves (times_x 1 (remainder old)) (remainder new)
+    → Leaves (times_x (n + 1) (remainder first)) (remainder new)
 one_more_bit n first old new h k =
     subst (λ (m : ℕ). Leaves (times_x m (remainder first)) (remainder new)) (sym (add-one n))
     (leaves_trans (times_x (suc n) (remainder first)) (times_x 1 (remainder old)) (remainder new) (leaves_times_x 1 (times_x n (remainder first)) (remainder old) h) k)
@@ -35,7 +37,8 @@ leaves_xor p q a b h k =
     subst (λ (r : List Bool). Leaves (plus p q) r) (sym (remainder-xor a b)) (leaves_plus p (remainder a) q (remainder b) h k)
 
 -- the lower octet of the word, with the octet added, is looked up, and the upper one moves down
-pub octet_looked_up : (word octet left : ℕ) → word < 2 ^ 16 → octet < 2 ^ 8 → Leaves (times_x 8 (remainder (bit_and (bit_xor word octet) 255))) (remainder left) → Continues (octet ∷ []) word (bit_xor left (word / 256))
+pub octet_looked_up : (word octet left : ℕ) → word < 2 ^ 16 → octet < 2 ^ 8
+    → Leaves (times_x 8 (remainder (bit_and (bit_xor word octet) 255))) (remainder left) → Continues (octet ∷ []) word (bit_xor left (word / 256))
 octet_looked_up word octet left h k l =
     let sum : ℕ = bit_xor word octet in
     let low : List Bool = times_x 8 (remainder (bit_and sum 255)) in
@@ -86,7 +89,8 @@ message_joined before octets i =
     ∙ ap (λ (p : List Bool). plus (times_x 16 a) p) (ap (λ (k : ℕ). times_x 16 (times_x k b)) (length-message octets) ∙ times_x_swap 16 n b)) i
     ∙ plus_comm (times_x 16 a) (times_x n (times_x 16 b)) i
 
-pub octets_more : (before octets : List ℕ) (old new : ℕ) → Leaves (times_x 16 (message before)) (remainder old) → Continues octets old new → Leaves (times_x 16 (message (before ++ octets))) (remainder new)
+pub octets_more : (before octets : List ℕ) (old new : ℕ) → Leaves (times_x 16 (message before)) (remainder old) → Continues octets old new
+    → Leaves (times_x 16 (message (before ++ octets))) (remainder new)
 octets_more before octets old new h k =
     let n : ℕ = 8 * length octets in
     let a : List Bool = times_x 16 (message octets) in

@@ -3,7 +3,8 @@ use Rattle.std.proofs.Common.{◌≡◌, ℕ, suc, ◌+◌, ◌*◌, ◌-◌, �
 use Rattle.std.proofs.lemmas.Bool.{cases_lt}
 use Rattle.std.specs.Int.{w16, to_le_bytes}
 use Rattle.std.proofs.lemmas.List.{append_assoc, length-append, length-drop, append-nil, take_at, drop-drop, nil_from_length}
-use Rattle.dnp_linkframe.specs.Frames.{HasCheck, IsChecked, AreChecked, EachChecked, IsFirstUnchecked, block_count, blocks}
+use Rattle.dnp_linkframe.specs.Frames.{HasCheck, IsChecked, AreChecked, block_count, blocks}
+use Rattle.dnp_linkframe.specs.steps.Checks.{EachChecked, IsFirstUnchecked}
 use Rattle.dnp_linkframe.proofs.Blocks.{length-joined, total-blocks, blocks-more, take-chunk, drop-chunk, length-checked}
 
 -- user data that begins with a whole block, or is one block

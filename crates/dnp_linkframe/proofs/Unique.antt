@@ -37,7 +37,8 @@ no_small_multiple (a ∷ q) h i =
     let low : (j : ℕ) → coefficient (times q generator) j ≡ false = no_small_multiple q high in
     let top : a ≡ false =
     sym (top_of_generator a)
-    ∙ same_from_xor (coefficient (cond a generator []) 16) (coefficient (times q generator) 15) (sym (coefficient-plus (cond a generator []) (false ∷ times q generator) 16) ∙ h 16 (omega arith))
+    ∙ same_from_xor (coefficient (cond a generator []) 16) (coefficient (times q generator) 15)
+    (sym (coefficient-plus (cond a generator []) (false ∷ times q generator) 16) ∙ h 16 (omega arith))
     ∙ low 15 in
     coefficient-plus (cond a generator []) (false ∷ times q generator) i
     ∙ ap (λ (c : Bool). xor c (coefficient (false ∷ times q generator) i)) (no_generator a top i)

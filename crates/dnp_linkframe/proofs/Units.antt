@@ -7,7 +7,8 @@ use Rattle.std.proofs.lemmas.Nat.{le_bytes_2, from_le_bytes-to_le_bytes_2}
 use Rattle.dnp_linkframe.specs.declared.frame.Frame.{Frame}
 use Rattle.dnp_linkframe.specs.declared.frame.FrameFault.{FrameFault}
 use Rattle.dnp_linkframe.specs.declared.frame.FrameFault.TheVariants.{Short, Start, HeaderCheck, Length, Size, BlockCheck}
-use Rattle.dnp_linkframe.specs.Frames.{HasCheck, IsChecked, AreChecked, IsUnchecked, IsFirstUnchecked, first_blocks, block_count, blocks, frame_size, header, IsFrame, Spells, IsFault, IsFirstFault, place}
+use Rattle.dnp_linkframe.specs.Frames.{HasCheck, IsChecked, AreChecked, IsUnchecked, first_blocks, block_count, blocks, frame_size, header, IsFrame, Spells, IsFault, IsFirstFault, place}
+use Rattle.dnp_linkframe.specs.steps.Checks.{IsFirstUnchecked}
 use Rattle.dnp_linkframe.proofs.Blocks.{length-joined, total-blocks, take-chunk, drop-chunk, length-checked, length-spelled}
 
 -- a list of eight cells

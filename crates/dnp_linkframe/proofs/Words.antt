@@ -6,7 +6,8 @@ use Rattle.std.proofs.lemmas.Nat.Bits.{bit_at_and, bit_at_lowest, bit_at_xor, bi
 use Rattle.std.specs.Int.{bit_at}
 use Rattle.std.specs.Prelude.{bit_and, bit_xor}
 use Rattle.dnp_linkframe.specs.Polynomials.{xor, plus, times, times_x, coefficient, IsSame}
-use Rattle.dnp_linkframe.specs.CheckWord.{bit, message, remainder, generator, Leaves}
+use Rattle.dnp_linkframe.specs.CheckWord.{bit, message, remainder, generator}
+use Rattle.dnp_linkframe.specs.steps.Division.{Leaves}
 use Rattle.dnp_linkframe.proofs.Algebra.{xor_false, plus_assoc, same_eq, same_plus}
 
 -- ---- one bit
@@ -68,7 +69,8 @@ after_one n h e =
       quotient = true ∷ [];
       same = λ i. same_eq (false ∷ remainder n) (top true) (shifted n h ∙ ap top (lowest n ∙ eq-eqb (bit_and n 1) 1 e)) i
           ∙ sym (plus_assoc (remainder (n / 2)) (remainder 0xA6BC) (times (true ∷ []) generator) i)
-          ∙ same_eq (plus (plus (remainder (n / 2)) (remainder 0xA6BC)) (times (true ∷ []) generator)) (plus (remainder (bit_xor (n / 2) 0xA6BC)) (times (true ∷ []) generator))
+          ∙ same_eq (plus (plus (remainder (n / 2)) (remainder 0xA6BC)) (times (true ∷ []) generator))
+          (plus (remainder (bit_xor (n / 2) 0xA6BC)) (times (true ∷ []) generator))
           (ap (λ (p : List Bool). plus p (times (true ∷ []) generator)) (sym (remainder-xor (n / 2) 0xA6BC))) i;
     }
 
@@ -87,7 +89,8 @@ after_zero n h e =
 -- ---- an octet as a word
 pub remainder-octet : (octet : ℕ) → octet < 2 ^ 8 → remainder octet ≡ times_x 8 (message (octet ∷ []))
 remainder-octet octet h =
-    cons (bit_above octet 8 15 h (omega arith)) (cons (bit_above octet 8 14 h (omega arith)) (cons (bit_above octet 8 13 h (omega arith)) (cons (bit_above octet 8 12 h (omega arith))
+    cons (bit_above octet 8 15 h (omega arith))
+    (cons (bit_above octet 8 14 h (omega arith)) (cons (bit_above octet 8 13 h (omega arith)) (cons (bit_above octet 8 12 h (omega arith))
     (cons (bit_above octet 8 11 h (omega arith)) (cons (bit_above octet 8 10 h (omega arith)) (cons (bit_above octet 8 9 h (omega arith)) (cons (bit_above octet 8 8 h (omega arith)) refl)))))))
 
 -- ---- the two octets of a word
@@ -102,15 +105,21 @@ bit_of_low n i h =
 low_fits : (n : ℕ) → bit_and n 255 < 2 ^ 8
 low_fits n = omega (arith, and_mask n 8)
 
+-- a bit of the upper octet, where it has moved down by eight: the lower octet has none there
+moved_down : (n i : ℕ) → bit_and n 255 < 2 ^ 8 → bit n (8 + i) ≡ xor (bit (bit_and n 255) (8 + i)) (bit (n / 256) i)
+moved_down n i low =
+    sym (ap (λ (b : Bool). xor b (bit (n / 256) i)) (bit_above (bit_and n 255) 8 (8 + i) low (omega arith)) ∙ bit-shr n i)
+
 -- the upper octet moves down by eight bits, and the lower one is still to be divided
 pub low_high : (n : ℕ) → n < 2 ^ 16 → times_x 8 (remainder n) ≡ plus (times_x 8 (remainder (bit_and n 255))) (remainder (n / 256))
 low_high n h =
     let low : bit_and n 255 < 2 ^ 8 = low_fits n in
     let high : n / 256 < 2 ^ 8 = omega arith in
-    cons (sym (bit_above (n / 256) 8 15 high (omega arith))) (cons (sym (bit_above (n / 256) 8 14 high (omega arith))) (cons (sym (bit_above (n / 256) 8 13 high (omega arith))) (cons (sym (bit_above (n / 256) 8 12 high (omega arith)))
-    (cons (sym (bit_above (n / 256) 8 11 high (omega arith))) (cons (sym (bit_above (n / 256) 8 10 high (omega arith))) (cons (sym (bit_above (n / 256) 8 9 high (omega arith))) (cons (sym (bit_above (n / 256) 8 8 high (omega arith)))
-    (cons (sym (ap (λ (b : Bool). xor b (bit (n / 256) 7)) (bit_above (bit_and n 255) 8 15 low (omega arith)) ∙ bit-shr n 7)) (cons (sym (ap (λ (b : Bool). xor b (bit (n / 256) 6)) (bit_above (bit_and n 255) 8 14 low (omega arith)) ∙ bit-shr n 6)) (cons (sym (ap (λ (b : Bool). xor b (bit (n / 256) 5)) (bit_above (bit_and n 255) 8 13 low (omega arith)) ∙ bit-shr n 5)) (cons (sym (ap (λ (b : Bool). xor b (bit (n / 256) 4)) (bit_above (bit_and n 255) 8 12 low (omega arith)) ∙ bit-shr n 4))
-    (cons (sym (ap (λ (b : Bool). xor b (bit (n / 256) 3)) (bit_above (bit_and n 255) 8 11 low (omega arith)) ∙ bit-shr n 3)) (cons (sym (ap (λ (b : Bool). xor b (bit (n / 256) 2)) (bit_above (bit_and n 255) 8 10 low (omega arith)) ∙ bit-shr n 2)) (cons (sym (ap (λ (b : Bool). xor b (bit (n / 256) 1)) (bit_above (bit_and n 255) 8 9 low (omega arith)) ∙ bit-shr n 1)) (cons (sym (ap (λ (b : Bool). xor b (bit (n / 256) 0)) (bit_above (bit_and n 255) 8 8 low (omega arith)) ∙ bit-shr n 0))
+    let none : (i : ℕ) → 8 ≤ i → false ≡ bit (n / 256) i = λ i from. sym (bit_above (n / 256) 8 i high from) in
+    cons (none 15 (omega arith)) (cons (none 14 (omega arith)) (cons (none 13 (omega arith)) (cons (none 12 (omega arith))
+    (cons (none 11 (omega arith)) (cons (none 10 (omega arith)) (cons (none 9 (omega arith)) (cons (none 8 (omega arith))
+    (cons (moved_down n 7 low) (cons (moved_down n 6 low) (cons (moved_down n 5 low) (cons (moved_down n 4 low)
+    (cons (moved_down n 3 low) (cons (moved_down n 2 low) (cons (moved_down n 1 low) (cons (moved_down n 0 low)
     (cons (sym (bit_of_low n 7 refl)) (cons (sym (bit_of_low n 6 refl)) (cons (sym (bit_of_low n 5 refl)) (cons (sym (bit_of_low n 4 refl))
     (cons (sym (bit_of_low n 3 refl)) (cons (sym (bit_of_low n 2 refl)) (cons (sym (bit_of_low n 1 refl)) (cons (sym (bit_of_low n 0 refl)) refl)))))))))))))))))))))))
 

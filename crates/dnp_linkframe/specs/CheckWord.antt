@@ -1,6 +1,6 @@
--- The check word that the data link layer of IEEE Std 1815-2012 puts behind the header and behind each
+-- Definition: the check word that the data link layer of IEEE Std 1815-2012 puts after the header and after each
 -- block of a frame: a cyclic redundancy check of 16 bits, by its meaning as a division of polynomials.
-use Rattle.std.specs.Prelude.{ℕ, ◌*◌, ◌<◌, ◌^◌, Bool, true, false, List, [], ◌∷◌, length, map, reverse, ◌==◌}
+use Rattle.std.specs.Prelude.{ℕ, ◌<◌, ◌^◌, Bool, true, false, List, [], ◌∷◌, map, reverse, ◌==◌}
 use Rattle.std.specs.Int.{bit_at, bit_not, w16}
 use Rattle.std.specs.List.{flat_map, range_with_len}
 use Rattle.dnp_linkframe.specs.Polynomials.{plus, times, times_x, IsSame}
@@ -30,14 +30,3 @@ pub record IsCheckWord (octets : List ℕ) (word : ℕ) : Type 0 where
   pub fits : word < 2 ^ 16
   pub quotient : List Bool
   pub multiple : IsSame (plus (times_x 16 (message octets)) (remainder (bit_not w16 word))) (times quotient generator)
-
--- `rest` is what a division of p by the generator leaves, up to a further multiple of the generator.
-pub record Leaves (p rest : List Bool) : Type 0 where
-  pub quotient : List Bool
-  pub same : IsSame p (plus rest (times quotient generator))
-
--- What one step of the division owes: with `old` left of the octets before, `new` is left of them and
--- `octets` behind them.
-abbrev pub Continues : List ℕ → ℕ → ℕ → Type 0
-Continues octets old new =
-    Leaves (plus (times_x (8 * length octets) (remainder old)) (times_x 16 (message octets))) (remainder new)

@@ -1,12 +1,13 @@
--- The grammar of a link frame (IEEE Std 1815-2012, data link layer): which octets spell which frame.
+-- Definition: the grammar of a link frame (IEEE Std 1815-2012, data link layer): which octets spell which frame.
 use Rattle.std.specs.Prelude.{◌≡◌, ◌≢◌, ℕ, zero, suc, ◌+◌, ◌*◌, ◌/◌, ◌<◌, ◌≤◌, ◌^◌, List, [], ◌∷◌, ◌++◌, length, take, drop, slice_index}
 use Rattle.std.specs.Int.{w16, to_le_bytes}
 use Rattle.dnp_linkframe.specs.CheckWord.{IsCheckWord}
 use Rattle.dnp_linkframe.specs.declared.frame.Frame.{Frame}
 use Rattle.dnp_linkframe.specs.declared.frame.FrameFault.{FrameFault}
 use Rattle.dnp_linkframe.specs.declared.frame.FrameFault.TheVariants.{Short, Start, HeaderCheck, Length, Size, BlockCheck}
+use Rattle.dnp_linkframe.specs.declared.frame.TheConstants.{MAX_USER_DATA}
 
--- the part with its check word behind it, low octet first
+-- the part with its check word after it, low octet first
 pub record HasCheck (part octets : List ℕ) : Type 0 where
   pub word : ℕ
   pub checks : IsCheckWord part word
@@ -17,7 +18,7 @@ pub record IsChecked (octets : List ℕ) : Type 0 where
   pub part : List ℕ
   pub has : HasCheck part octets
 
--- each of the parts with its check word behind it, one after the other
+-- each of the parts with its check word after it, one after the other
 abbrev pub AreChecked : List (List ℕ) → List ℕ → Type 0
 AreChecked [] octets = octets ≡ []
 AreChecked (part ∷ parts) octets =
@@ -45,29 +46,20 @@ frame_size n = 10 + n + 2 * block_count n
 abbrev pub header : Frame → List ℕ
 header f = 5 ∷ 100 ∷ (length f.user.items + 5) ∷ f.control ∷ (to_le_bytes w16 f.dest ++ to_le_bytes w16 f.source)
 
--- addresses of 16 bits, at most 250 octets of user data
+-- addresses of 16 bits, at most MAX_USER_DATA octets of user data
 pub record IsFrame (f : Frame) : Type 0 where
   pub dest : f.dest < 2 ^ 16
   pub source : f.source < 2 ^ 16
-  pub user : length f.user.items ≤ 250
+  pub user : length f.user.items ≤ MAX_USER_DATA
 
--- the unit of octets is the frame's header and its blocks, each with its check word behind it
+-- the unit of octets is the frame's header and its blocks, each with its check word after it
 abbrev pub Spells : List ℕ → Frame → Type 0
 Spells unit f = IsFrame f × AreChecked (header f ∷ blocks f.user.items) unit
 
--- block n of the octets, counted from 0, stands there and doesn't end in its check word
+-- block n of the octets, counted from 0, is there and doesn't end in its check word
 pub record IsUnchecked (octets : List ℕ) (n : ℕ) : Type 0 where
   pub stands : 18 * n < length octets
   pub unchecked : IsChecked (take 18 (drop (18 * n) octets)) → ⊥
-
--- and none before it is so
-pub record IsFirstUnchecked (octets : List ℕ) (n : ℕ) : Type 0 where
-  pub here : IsUnchecked octets n
-  pub first : (k : ℕ) → k < n → IsUnchecked octets k → ⊥
-
--- each block of the octets ends in its check word
-abbrev pub EachChecked : List ℕ → Type 0
-EachChecked octets = (n : ℕ) → 18 * n < length octets → IsChecked (take 18 (drop (18 * n) octets))
 
 -- what is wrong with a unit of octets, whatever else is wrong with it
 abbrev pub IsFault : List ℕ → FrameFault → Type 0
@@ -78,7 +70,7 @@ IsFault unit Length = slice_index unit 2 < 5
 IsFault unit Size = (n : ℕ) → slice_index unit 2 ≡ n + 5 → length unit ≢ frame_size n
 IsFault unit (BlockCheck n) = IsUnchecked (drop 10 unit) n
 
--- the order in which faults are looked for
+-- the order in which faults are checked
 abbrev pub place : FrameFault → ℕ
 place Short = 0
 place Start = 1

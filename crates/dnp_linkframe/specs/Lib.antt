@@ -2,3 +2,4 @@ pub mod Polynomials
 pub mod CheckWord
 pub mod Frames
 pub mod Stream
+pub mod steps

@@ -1,4 +1,4 @@
--- Polynomials over bits. A polynomial is the list of its coefficients, that of x^0 first.
+-- Definition: polynomials over bits. A polynomial is the list of its coefficients, that of x^0 first.
 use Rattle.std.specs.Prelude.{◌≡◌, ℕ, Bool, true, false, not, if◌then◌else◌, List, [], ◌∷◌, ◌++◌, replicate, slice_index_or}
 
 -- the sum of two bits

@@ -1,7 +1,7 @@
--- Link frames in a stream of octets (IEEE Std 1815-2012, data link layer): which frames a whole stream
+-- Definition: link frames in a stream of octets (IEEE Std 1815-2012, data link layer): which frames a whole stream
 -- gives, and which of its octets still wait. Nothing here knows in what pieces the octets came.
 use Rattle.std.specs.Prelude.{◌≡◌, ℕ, zero, suc, ◌-◌, ◌<◌, ◌≤◌, List, [], ◌∷◌, ◌++◌, length, take, drop, slice_index}
-use Rattle.dnp_linkframe.specs.Frames.{IsChecked, EachChecked, Spells, frame_size}
+use Rattle.dnp_linkframe.specs.Frames.{IsChecked, Spells, frame_size}
 use Rattle.dnp_linkframe.specs.declared.frame.Frame.{Frame}
 
 -- the stream begins with a header: 05 64, and a check word that is right
@@ -19,14 +19,7 @@ pub record BeginsFrame (stream : List ℕ) : Type 0 where
   pub header : HasHeader stream
   pub long : 5 ≤ slice_index stream 2
 
--- what is tested of a unit before it is read: a header, all the octets that its LENGTH says, and blocks
--- that end in their check words
-pub record IsWhole (unit : List ℕ) : Type 0 where
-  pub begins : BeginsFrame unit
-  pub sized : length unit ≡ said_size unit
-  pub checked : EachChecked (drop 10 unit)
-
--- What can stand at the front of a stream.
+-- What can be at the front of a stream.
 -- Waits: it can't be told yet. Fewer than 10 octets, or a header and not yet all that its LENGTH says.
 -- NoHeader: 10 octets that are no header. NoLength: a header with a LENGTH under 5.
 -- Damaged: all the octets that the LENGTH says, which spell no frame. Whole: those that spell the frame.
@@ -37,7 +30,7 @@ pub data Front : Type 0 where
   Damaged : (size : ℕ) → Front
   Whole : (frame : Frame) (size : ℕ) → Front
 
--- that is what stands at the front of this stream
+-- that is what is at the front of this stream
 abbrev pub IsFront : List ℕ → Front → Type 0
 IsFront stream Waits = 10 ≤ length stream → BeginsFrame stream × (length stream < said_size stream)
 IsFront stream NoHeader = (10 ≤ length stream) × (HasHeader stream → ⊥)
@@ -47,13 +40,7 @@ IsFront stream (Damaged size) =
     × ((frame : Frame) → Spells (take size stream) frame → ⊥)
 IsFront stream (Whole frame size) = (size ≤ length stream) × Spells (take size stream) frame
 
--- too few octets stand there to tell what they are, and so it stays as long as they are fewer than needed
-pub record Awaits (stream : List ℕ) (needed : ℕ) : Type 0 where
-  pub fewer : length stream < needed
-  pub most : needed ≤ 292
-  pub waits : (more : List ℕ) → length (stream ++ more) < needed → IsFront (stream ++ more) Waits
-
--- how many octets are done with: none while they wait, one where no header stands, the header alone where
+-- how many octets are done with: none while they wait, one where there is no header, the header alone where
 -- its LENGTH is too small, else the whole frame, good or damaged
 abbrev pub used : Front → ℕ
 used Waits = 0
@@ -67,7 +54,7 @@ abbrev pub frame_in : Front → List Frame
 frame_in (Whole frame size) = frame ∷ []
 frame_in _ = []
 
--- after so many decisions at the front, each of which is done with some octets, the stream has given
+-- after this number of decisions at the front, each of which is done with some octets, the stream has given
 -- these frames, and the rest is left of it
 abbrev pub After : ℕ → List ℕ → List Frame → List ℕ → Type 0
 After zero stream frames rest = (frames ≡ []) × (rest ≡ stream)

@@ -1,18 +1,22 @@
+//! Link frames, and why octets are none.
+
 ghost use Rattle.std.specs.Prelude.{◌≡◌, []};
 
 use arrayvec::ArrayVec;
 use thiserror::Error;
 
-/// The most octets of user data that a link frame carries.
-pub const MAX_USER: usize = 250;
+/// The most octets of user data that a link frame carries: LENGTH is one octet, and counts 5 others too (IEEE Std
+/// 1815-2012, data link layer).
+pub const MAX_USER_DATA: usize = 250;
 
-/// The most octets of a link frame.
-pub const MAX_FRAME: usize = 292;
+/// The most octets of a unit, as those of a link frame are called: the header, the most user data, and their check
+/// words (IEEE Std 1815-2012, data link layer).
+pub const MAX_UNIT: usize = 292;
 
 /// The octets of the header with its check word.
 pub(crate) const CHECKED_HEADER: usize = 10;
 
-/// User data go in blocks of so many octets, the last one of what is left.
+/// User data go in blocks of this size, the last one of what is left.
 pub(crate) const BLOCK: usize = 16;
 
 /// The octets of a whole block with its check word.
@@ -31,8 +35,8 @@ pub struct Frame {
     pub dest: u16,
     /// The address of the station that sent it.
     pub source: u16,
-    /// 0 to 250 octets of user data.
-    pub user: ArrayVec<u8, MAX_USER>,
+    /// The user data.
+    pub user: ArrayVec<u8, MAX_USER_DATA>,
 }
 
 impl Frame {
@@ -49,8 +53,8 @@ impl Frame {
     }
 }
 
-/// Why a unit of octets is no link frame. The variants stand in the order in which they are looked
-/// for, and the first that fits is answered.
+/// Why a unit of octets is no link frame. The variants are in the order in which they are checked,
+/// and the first that fits is answered.
 #[derive(Clone, Copy, Debug, PartialEq, Eq, Error)]
 pub enum FrameFault {
     #[error("fewer than 10 octets")]

@@ -1,4 +1,4 @@
-//! What holds of spellings, faults and streams, each law as the contract of a function that does nothing.
+//! Laws of spellings, faults and streams, each the contract of a function that does nothing.
 ghost use Rattle.std.specs.Prelude.{◌≡◌, ℕ, List, [], ◌++◌};
 ghost use Rattle.std.specs.List.{concat};
 ghost use Rattle.dnp_linkframe.specs.Frames.{Spells, IsFault, IsFirstFault};
@@ -33,7 +33,7 @@ pub fn a_unit_has_one_first_fault()
 {}
 
 /// Any pieces give what the joined octets give: where a stream gave frames and some octets wait, and
-/// these with a piece behind them give further frames, the stream with the piece behind it gives all of
+/// these with a piece after them give further frames, the stream with the piece after it gives all of
 /// them, and the same octets wait.
 pub fn any_pieces_give_the_same()
     ensures { (stream held piece rest : List ℕ) (before frames : List FrameValue) → Gives stream before held → Gives (held ++ piece) frames rest → Gives (stream ++ piece) (before ++ frames) rest }

@@ -13,7 +13,7 @@ mod table;
 mod writing;
 
 pub use check::check_word;
-pub use frame::{Frame, FrameFault, MAX_FRAME, MAX_USER};
+pub use frame::{Frame, FrameFault, MAX_UNIT, MAX_USER_DATA};
 pub use reader::FrameReader;
 pub use reading::{read_frame, read_frame_into};
 pub use writing::{write_frame, write_frame_into};

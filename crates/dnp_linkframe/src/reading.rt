@@ -1,12 +1,15 @@
+//! Units of octets read as frames.
+
 ghost use Rattle.std.specs.Prelude.{◌≡◌, ℕ, ◌+◌, ◌-◌, ◌*◌, ◌≤◌, ◌<◌, List, [], ◌++◌, length, take, OnOk, OnErr, IfOk, IfErr, IsOk, IsTrue, ◌↔◌, Ok, Err};
-ghost use Rattle.dnp_linkframe.specs.Frames.{Spells, AreChecked, EachChecked, IsChecked, IsFirstFault, IsFirstUnchecked, blocks, block_count};
-ghost use Rattle.dnp_linkframe.specs.Stream.{IsWhole};
+ghost use Rattle.dnp_linkframe.specs.Frames.{Spells, AreChecked, IsChecked, IsFirstFault, blocks, block_count};
+ghost use Rattle.dnp_linkframe.specs.steps.Checks.{EachChecked, IsFirstUnchecked};
+ghost use Rattle.dnp_linkframe.specs.steps.Checks.{IsWhole};
 ghost use Rattle.dnp_linkframe.specs.declared.frame.Frame.{Frame as FrameValue};
 ghost use Rattle.dnp_linkframe.specs.declared.frame.FrameFault.{FrameFault as FaultValue};
 
 use crate::check::check_word;
 use crate::frame::{
-    BLOCK, CHECKED_BLOCK, CHECKED_HEADER, Frame, FrameFault, LENGTH_OF_NONE, MAX_USER,
+    BLOCK, CHECKED_BLOCK, CHECKED_HEADER, Frame, FrameFault, LENGTH_OF_NONE, MAX_USER_DATA,
 };
 use arrayvec::ArrayVec;
 
@@ -63,12 +66,12 @@ fn check_unit(unit: &[u8]) -> Result<(), FrameFault>
     }
 }
 
-/// Appends what stands before the last two octets of a block. A whole block is copied apart from others:
-/// the compiler knows its length then, and the copy is a single move.
+/// Appends a block without its last two octets. A whole block is copied apart from others: the
+/// compiler knows its length then, and the copy is a single move.
 #[inline(always)]
-fn copy_block(block: &[u8], user: &mut ArrayVec<u8, MAX_USER>)
+fn copy_block(block: &[u8], user: &mut ArrayVec<u8, MAX_USER_DATA>)
     requires two { 2 ≤ length block.now }
-    requires room { length user.old.items + (length block.now - 2) ≤ 250 }
+    requires room { length user.old.items + (length block.now - 2) ≤ MAX_USER_DATA }
     ensures { user.new.items ≡ user.old.items ++ take (length block.now - 2) block.now }
 {
     if block.len() == CHECKED_BLOCK {
@@ -79,10 +82,10 @@ fn copy_block(block: &[u8], user: &mut ArrayVec<u8, MAX_USER>)
     }
 }
 
-/// Appends the user data of the blocks, each with its check word behind it.
+/// Appends the user data of the blocks, each with its check word after it.
 #[inline(always)]
-fn copy_blocks(octets: &[u8], user: &mut ArrayVec<u8, MAX_USER>)
-    requires sized { (size : ℕ) × (size ≤ 250) × (length octets.now ≡ size + 2 * block_count size) }
+fn copy_blocks(octets: &[u8], user: &mut ArrayVec<u8, MAX_USER_DATA>)
+    requires sized { (size : ℕ) × (size ≤ MAX_USER_DATA) × (length octets.now ≡ size + 2 * block_count size) }
     requires checked { EachChecked octets.now }
     requires empty { user.old.items ≡ [] }
     ensures { AreChecked (blocks user.new.items) octets.now }
@@ -122,7 +125,8 @@ pub fn read_frame_into(unit: &[u8], frame: &mut Frame) -> Result<(), FrameFault>
 
 /// The frame that the unit of octets spells, and a fault where it spells none: the first that fits
 /// in the order of [`FrameFault`].
-// It stands in its callers: as a call of its own it was measured slower for short frames.
+///
+/// It is compiled into its callers: as a call of its own it was measured slower for short frames.
 #[inline(always)]
 pub fn read_frame(unit: &[u8]) -> Result<Frame, FrameFault>
     ensures found { IfOk result (Spells unit.now) }

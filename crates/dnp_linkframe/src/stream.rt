@@ -1,16 +1,17 @@
-//! Frames in a stream of octets that stands there as one list.
+//! Frames in a stream of octets that is one list.
 
 ghost use Rattle.std.specs.Prelude.{◌≡◌, ◌⊎◌, ℕ, ◌<◌, ◌≤◌, List, [], ◌∷◌, ◌++◌, length, drop, slice_index, IsTrue, ◌↔◌, OnOk, OnErr, IfOk, Ok, ◌+◌, vec_len, vec_capacity};
 ghost use Rattle.dnp_linkframe.specs.Frames.{Spells};
-ghost use Rattle.dnp_linkframe.specs.Stream.{Waits, IsFront, Awaits, HasHeader, BeginsFrame, said_size, Gives};
+ghost use Rattle.dnp_linkframe.specs.Stream.{Waits, IsFront, HasHeader, BeginsFrame, said_size, Gives};
+ghost use Rattle.dnp_linkframe.specs.steps.Checks.{Awaits};
 ghost use Rattle.dnp_linkframe.specs.declared.frame.Frame.{Frame as FrameValue};
 
 use crate::check::check_word;
-use crate::frame::{BLOCK, CHECKED_HEADER, Frame, LENGTH_OF_NONE};
+use crate::frame::{BLOCK, CHECKED_HEADER, Frame, LENGTH_OF_NONE, MAX_UNIT};
 use crate::reading::{check_blocks, fill};
 use std::alloc::AllocError;
 
-/// Whether a header stands at the front: 05 64, and a check word that is right.
+/// Whether a header is at the front: 05 64, and a check word that is right.
 #[inline]
 fn has_header(stream: &[u8]) -> bool
     requires { 10 ≤ length stream.now }
@@ -33,8 +34,8 @@ fn size_of_frame(stream: &[u8]) -> usize
     CHECKED_HEADER + user + 2 * user.div_ceil(BLOCK)
 }
 
-/// How many octets have to stand at the front before it is decided what they are, where those that stand
-/// there wait.
+/// How many octets have to be at the front before it is decided what they are, where those that are there
+/// wait.
 #[inline]
 pub(crate) fn needed(waiting: &[u8]) -> usize
     requires { IsFront waiting.now Waits }
@@ -72,7 +73,7 @@ fn push_frame(unit: &[u8], out: &mut Vec<Frame>) -> Result<(), AllocError>
 pub(crate) fn take_frames(stream: &[u8], out: &mut Vec<Frame>) -> Result<usize, AllocError>
     ensures given { IfOk result (λ done. (frames : List FrameValue) × (out.new.items ≡ out.old.items ++ frames) × Gives stream.now frames (drop done stream.now)) }
     ensures within { IfOk result (λ done. done ≤ length stream.now) }
-    ensures fewer { IfOk result (λ done. length (drop done stream.now) < 292) }
+    ensures fewer { IfOk result (λ done. length (drop done stream.now) < MAX_UNIT) }
     ensures refused { OnErr result ((frames : List FrameValue) × (out.new.items ≡ out.old.items ++ frames)) }
     ensures full { OnErr result ((more : List ℕ) (frames : List FrameValue) (rest : List ℕ) → Gives (stream.now ++ more) frames rest → vec_capacity out.old < vec_len out.old + length frames) }
     ensures capacity { vec_capacity out.old ≤ vec_capacity out.new }

@@ -1,9 +1,11 @@
+//! Frames written as units of octets.
+
 ghost use Rattle.std.specs.Prelude.{◌≡◌, ℕ, ◌+◌, ◌≤◌, ◌<◌, ◌^◌, List, ◌++◌, length};
 ghost use Rattle.std.specs.Int.{w16, to_le_bytes};
 ghost use Rattle.dnp_linkframe.specs.Frames.{Spells, HasCheck, IsFrame, header};
 
 use crate::check::check_word;
-use crate::frame::{BLOCK, Frame, LENGTH_OF_NONE, MAX_FRAME};
+use crate::frame::{BLOCK, Frame, LENGTH_OF_NONE, MAX_UNIT};
 use arrayvec::ArrayVec;
 use byteorder::{ByteOrder, LittleEndian};
 
@@ -41,8 +43,8 @@ fn header_of(frame: &Frame) -> [u8; 8]
 
 /// Appends the part and its check word, low octet first.
 #[inline(always)]
-fn push_checked(unit: &mut ArrayVec<u8, MAX_FRAME>, part: &[u8])
-    requires { length unit.old.items + length part.now + 2 ≤ 292 }
+fn push_checked(unit: &mut ArrayVec<u8, MAX_UNIT>, part: &[u8])
+    requires { length unit.old.items + length part.now + 2 ≤ MAX_UNIT }
     ensures { (octets : List ℕ) × HasCheck part.now octets × (unit.new.items ≡ unit.old.items ++ octets) }
 {
     unit.try_extend_from_slice(part).unwrap();
@@ -50,9 +52,9 @@ fn push_checked(unit: &mut ArrayVec<u8, MAX_FRAME>, part: &[u8])
         .unwrap();
 }
 
-/// Writes the octets that spell the frame, at most 292, in place of what stands in `unit`.
+/// Writes the octets that spell the frame in place of what is in `unit`.
 #[inline]
-pub fn write_frame_into(frame: &Frame, unit: &mut ArrayVec<u8, MAX_FRAME>)
+pub fn write_frame_into(frame: &Frame, unit: &mut ArrayVec<u8, MAX_UNIT>)
     ensures spells { Spells unit.new.items frame.now }
     ensures only { (other : List ℕ) → Spells other frame.now → other ≡ unit.new.items }
 {
@@ -63,9 +65,9 @@ pub fn write_frame_into(frame: &Frame, unit: &mut ArrayVec<u8, MAX_FRAME>)
     }
 }
 
-/// The octets that spell the frame: at most 292, and the only ones that do.
+/// The octets that spell the frame, the only ones that do.
 #[inline]
-pub fn write_frame(frame: &Frame) -> ArrayVec<u8, MAX_FRAME>
+pub fn write_frame(frame: &Frame) -> ArrayVec<u8, MAX_UNIT>
     ensures spells { Spells result.items frame.now }
     ensures only { (unit : List ℕ) → Spells unit frame.now → unit ≡ result.items }
 {

@@ -2,7 +2,7 @@
 use Rattle.std.proofs.Common.{◌≡◌, Bool, true, false, not, if◌then◌else◌, List, ◌∷◌, Option, Some, None, refl, sym, ap, ◌∙◌, subst}
 use Rattle.dnp_linkframe.specs.declared.frame.Frame.{Frame}
 use Rattle.dnp_linkstation.specs.declared.function.PrimaryFunction.{PrimaryFunction}
-use Rattle.dnp_linkstation.specs.declared.function.PrimaryFunction.TheVariants.{ResetLinkStates, TestLinkStates, ConfirmedUserData, UnconfirmedUserData, RequestLinkStatus, Other}
+use Rattle.dnp_linkstation.specs.declared.function.PrimaryFunction.TheVariants as primary
 use Rattle.dnp_linkstation.specs.Control.{primary_function, frame_count_bit}
 use Rattle.dnp_linkstation.specs.Station.{Ends, is_for, expected, expected_next, answer, answer_to, dropped, is_same, counts}
 
@@ -12,12 +12,12 @@ opposite_bits false = refl
 
 -- confirmed user data, for the station or not
 twice : (e : Ends) (mine fcb : Bool) (before other : Option Bool)
-    → (if mine then answer_to e ConfirmedUserData (if mine then expected_next ConfirmedUserData fcb before else other) fcb else dropped).up ≡ false
+    → (if mine then answer_to e primary.ConfirmedUserData (if mine then expected_next primary.ConfirmedUserData fcb before else other) fcb else dropped).up ≡ false
 twice e false fcb before other = refl
 twice e true fcb None other = refl
 twice e true fcb (Some awaited) other = opposite_bits fcb
 
-pub goes_up_once : (e : Ends) (before : List Frame) (frame : Frame) → primary_function frame.control ≡ ConfirmedUserData
+pub goes_up_once : (e : Ends) (before : List Frame) (frame : Frame) → primary_function frame.control ≡ primary.ConfirmedUserData
     → (answer e (frame ∷ before) frame).up ≡ false
 goes_up_once e before frame confirmed =
     let P : PrimaryFunction → Type 0 = λ f.
@@ -36,12 +36,12 @@ toggled false false = refl
 
 next_toggles : (f : PrimaryFunction) (fcb awaited : Bool) → counts f ≡ true
     → expected_next f fcb (Some awaited) ≡ Some (if is_same fcb awaited then not awaited else awaited)
-next_toggles TestLinkStates fcb awaited counted = ap Some (toggled fcb awaited)
-next_toggles ConfirmedUserData fcb awaited counted = ap Some (toggled fcb awaited)
-next_toggles ResetLinkStates fcb awaited counted = cc
-next_toggles UnconfirmedUserData fcb awaited counted = cc
-next_toggles RequestLinkStatus fcb awaited counted = cc
-next_toggles Other fcb awaited counted = cc
+next_toggles primary.TestLinkStates fcb awaited counted = ap Some (toggled fcb awaited)
+next_toggles primary.ConfirmedUserData fcb awaited counted = ap Some (toggled fcb awaited)
+next_toggles primary.ResetLinkStates fcb awaited counted = cc
+next_toggles primary.UnconfirmedUserData fcb awaited counted = cc
+next_toggles primary.RequestLinkStatus fcb awaited counted = cc
+next_toggles primary.Other fcb awaited counted = cc
 
 pub toggles : (e : Ends) (before : List Frame) (frame : Frame) (awaited : Bool) → is_for e frame ≡ true
     → counts (primary_function frame.control) ≡ true → expected e before ≡ Some awaited

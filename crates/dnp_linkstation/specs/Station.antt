@@ -1,14 +1,16 @@
--- A link station (IEEE Std 1815-2012, data link layer): which frames are for it, what it answers, and
+-- Definition: a link station (IEEE Std 1815-2012, data link layer): which frames are for it, what it answers, and
 -- which frame count bit it expects.
-use Rattle.std.specs.Prelude.{◌≡◌, ℕ, ◌+◌, Bool, true, false, not, ◌&&◌, ◌==◌, if◌then◌else◌, List, [], ◌∷◌, Option, Some, None, option_map}
+use Rattle.std.specs.Prelude.{◌≡◌, ℕ, ◌+◌, ◌^◌, Bool, true, false, not, ◌&&◌, ◌==◌, if◌then◌else◌, List, [], ◌∷◌, Option, Some, None, option_map}
 use Rattle.dnp_linkframe.specs.declared.frame.Frame.{Frame}
 use Rattle.dnp_linkstation.specs.declared.function.PrimaryFunction.{PrimaryFunction}
-use Rattle.dnp_linkstation.specs.declared.function.PrimaryFunction.TheVariants.{ResetLinkStates, TestLinkStates, ConfirmedUserData, UnconfirmedUserData, RequestLinkStatus, Other}
+use Rattle.dnp_linkstation.specs.declared.function.PrimaryFunction.TheVariants as primary
 use Rattle.dnp_linkstation.specs.declared.function.SecondaryFunction.{SecondaryFunction}
-use Rattle.dnp_linkstation.specs.declared.function.SecondaryFunction.TheVariants.{Ack, Nack, LinkStatus, NotSupported}
+use Rattle.dnp_linkstation.specs.declared.function.SecondaryFunction.TheVariants as secondary
 use Rattle.dnp_linkstation.specs.declared.station.LinkStation.{LinkStation}
 use Rattle.dnp_linkstation.specs.declared.station.LinkAnswer.{LinkAnswer}
 use Rattle.dnp_linkstation.specs.Control.{is_from_master, is_primary, frame_count_bit, primary_function, code}
+use Rattle.dnp_linkstation.specs.declared.control.TheConstants.{DIR, PRM}
+use Rattle.dnp_linkstation.specs.declared.function.TheConstants as number
 
 -- the two ends of a link, as the station at one of them sees it: its own address, that of its peer, and
 -- whether it is the master
@@ -39,8 +41,8 @@ is_same false b = not b
 
 -- the functions whose FCB counts
 abbrev pub counts : PrimaryFunction → Bool
-counts TestLinkStates = true
-counts ConfirmedUserData = true
+counts primary.TestLinkStates = true
+counts primary.ConfirmedUserData = true
 counts _ = false
 
 -- The FCB that is expected next, after these frames, the newest first: none before the first
@@ -48,9 +50,9 @@ counts _ = false
 -- expected FCB makes the station expect the other one, and a repeated frame, with the other FCB, changes
 -- nothing: either way the opposite of the frame's own FCB is expected next.
 abbrev pub expected_next : PrimaryFunction → Bool → Option Bool → Option Bool
-expected_next ResetLinkStates fcb before = Some true
-expected_next TestLinkStates fcb before = option_map (λ _. not fcb) before
-expected_next ConfirmedUserData fcb before = option_map (λ _. not fcb) before
+expected_next primary.ResetLinkStates fcb before = Some true
+expected_next primary.TestLinkStates fcb before = option_map (λ _. not fcb) before
+expected_next primary.ConfirmedUserData fcb before = option_map (λ _. not fcb) before
 expected_next _ fcb before = before
 
 abbrev pub expected : Ends → List Frame → Option Bool
@@ -70,12 +72,12 @@ fresh e = record { own = e.own; peer = e.peer; is_master = e.is_master; expected
 
 -- DIR of the station's own frames
 abbrev pub direction : Ends → ℕ
-direction e = (if e.is_master then 128 else 0)
+direction e = (if e.is_master then 2 ^ DIR else 0)
 
--- the frame of user data that the station sends: PRM 1, which counts 64, and UNCONFIRMED_USER_DATA, 4
+-- the frame of user data that the station sends: PRM 1 and UNCONFIRMED_USER_DATA
 abbrev pub sent : Ends → List ℕ → Frame
 sent e user = record {
-  control = direction e + 64 + 4;
+  control = direction e + 2 ^ PRM + number.UNCONFIRMED_USER_DATA;
   dest = e.peer;
   source = e.own;
   user = record { items = user };
@@ -96,14 +98,14 @@ replies e function up = record { up = up; reply = Some (reply_of e function) }
 -- The answer to a frame that is for the station, by its function, the FCB that is expected, which is none
 -- in a station that was never reset, and its own FCB.
 abbrev pub answer_to : Ends → PrimaryFunction → Option Bool → Bool → LinkAnswer
-answer_to e ResetLinkStates before fcb = replies e Ack false
-answer_to e TestLinkStates None fcb = replies e Nack false
-answer_to e TestLinkStates (Some awaited) fcb = replies e Ack false
-answer_to e ConfirmedUserData None fcb = replies e Nack false
-answer_to e ConfirmedUserData (Some awaited) fcb = replies e Ack (is_same fcb awaited)
-answer_to e UnconfirmedUserData before fcb = record { up = true; reply = None }
-answer_to e RequestLinkStatus before fcb = replies e LinkStatus false
-answer_to e Other before fcb = replies e NotSupported false
+answer_to e primary.ResetLinkStates before fcb = replies e secondary.Ack false
+answer_to e primary.TestLinkStates None fcb = replies e secondary.Nack false
+answer_to e primary.TestLinkStates (Some awaited) fcb = replies e secondary.Ack false
+answer_to e primary.ConfirmedUserData None fcb = replies e secondary.Nack false
+answer_to e primary.ConfirmedUserData (Some awaited) fcb = replies e secondary.Ack (is_same fcb awaited)
+answer_to e primary.UnconfirmedUserData before fcb = record { up = true; reply = None }
+answer_to e primary.RequestLinkStatus before fcb = replies e secondary.LinkStatus false
+answer_to e primary.Other before fcb = replies e secondary.NotSupported false
 
 -- a frame that is not for the station is dropped: no reply, and nothing goes up
 abbrev pub dropped : LinkAnswer

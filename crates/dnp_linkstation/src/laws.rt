@@ -1,4 +1,4 @@
-//! What holds of link stations, each law as the contract of a function that does nothing.
+//! Laws of link stations, each the contract of a function that does nothing.
 ghost use Rattle.std.specs.Prelude.{◌≡◌, ℕ, List, ◌∷◌, Bool, true, false, not, if◌then◌else◌, Some};
 ghost use Rattle.dnp_linkframe.specs.declared.frame.Frame.{Frame as FrameValue};
 ghost use Rattle.dnp_linkstation.specs.Control.{primary_function, frame_count_bit};

@@ -2,6 +2,7 @@
 //! which user data go up, and the frames in which it sends user data.
 #![tactic(auto)]
 
+mod control;
 mod function;
 pub mod laws;
 mod station;

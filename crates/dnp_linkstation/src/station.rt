@@ -5,18 +5,10 @@ ghost use Rattle.dnp_linkstation.specs.Control.{primary_function, frame_count_bi
 ghost use Rattle.dnp_linkstation.specs.Station.{ends, fresh, is_for, Stands, answer, sent, replies, direction, is_same, dropped};
 ghost use Rattle.dnp_linkframe.specs.declared.frame.Frame.{Frame as FrameValue};
 
+use crate::control::{DIR, FCB, PRM};
 use crate::function::{PrimaryFunction, SecondaryFunction, UNCONFIRMED_USER_DATA};
 use arrayvec::ArrayVec;
-use dnp_linkframe::Frame;
-
-// The bits of CONTROL. DIR: the frame comes from the master.
-const DIR: u8 = 7;
-
-// PRM: the frame asks something, and is no reply.
-const PRM: u8 = 6;
-
-// FCB, the frame count bit.
-const FCB: u8 = 5;
+use dnp_linkframe::{Frame, MAX_USER_DATA};
 
 /// What a station makes of a frame.
 #[derive(Debug, PartialEq, Eq, Drop)]
@@ -32,11 +24,13 @@ pub struct LinkAnswer {
 /// and knows a confirmed frame that was repeated by its frame count bit.
 #[derive(Clone, Copy, Debug, PartialEq, Eq)]
 pub struct LinkStation {
+    /// The station's own address.
     own: u16,
+    /// The address of its peer.
     peer: u16,
+    /// Whether the station is the master.
     is_master: bool,
-
-    // The FCB that is expected next, and none before the first reset of the link states.
+    /// The FCB that is expected next, and none before the first reset of the link states.
     expected: Option<bool>,
 }
 
@@ -70,7 +64,7 @@ impl LinkStation {
     /// - any other: NOT_SUPPORTED.
     ///
     /// A test or confirmed user data with the expected FCB make the other FCB the expected one. FCV is
-    /// not looked at. A reply has PRM 0, DFC 0 and the station's DIR.
+    /// ignored. A reply has PRM 0, DFC 0 and the station's DIR.
     pub fn receive(&mut self, frame: &Frame) -> LinkAnswer
         ensures ends { ends self.new ≡ ends self.old }
         ensures stands { (before : List FrameValue) → Stands before self.old → Stands (frame.now ∷ before) self.new }
@@ -112,10 +106,10 @@ impl LinkStation {
         }
     }
 
-    /// The frame in which the station sends at most 250 octets of user data: UNCONFIRMED_USER_DATA, with
+    /// The frame in which the station sends user data, at most [`MAX_USER_DATA`] octets: UNCONFIRMED_USER_DATA, with
     /// CONTROL C4 from a master and 44 from an outstation.
     pub fn send(&self, user: &[u8]) -> Frame
-        requires { length user.now ≤ 250 }
+        requires { length user.now ≤ MAX_USER_DATA }
         ensures { result ≡ sent (ends self.now) user.now }
     {
         let mut octets = ArrayVec::new();
@@ -146,7 +140,7 @@ impl LinkStation {
 }
 
 impl LinkStation {
-    // Whether the frame is for the station: from its peer, with the DIR of the peer and PRM 1.
+    /// Whether the frame is for the station: from its peer, with the DIR of the peer and PRM 1.
     fn is_for_me(&self, frame: &Frame) -> bool
         ensures { result ≡ is_for (ends self.now) frame.now }
     {
@@ -158,7 +152,7 @@ impl LinkStation {
             && is_primary
     }
 
-    // Counts a frame: whether its FCB is the expected one. Then the other FCB is expected next.
+    /// Whether the FCB of a frame that counts is the expected one. Then the other FCB is expected next.
     fn count(&mut self, expected: bool, frame: &Frame) -> bool
         requires { self.old.expected ≡ Some expected }
         ensures new { result ≡ is_same (frame_count_bit frame.now.control) expected }
@@ -172,7 +166,7 @@ impl LinkStation {
         true
     }
 
-    // The answer with a reply.
+    /// The answer with a reply.
     fn reply(&self, function: SecondaryFunction, up: bool) -> LinkAnswer
         ensures { result ≡ replies (ends self.now) function up }
     {
@@ -187,7 +181,7 @@ impl LinkStation {
         }
     }
 
-    // DIR of the station's own frames.
+    /// DIR of the station's own frames.
     fn direction(&self) -> u8
         ensures { result ≡ direction (ends self.now) }
     {

@@ -6,6 +6,7 @@ use Rattle.dnp_objects.specs.declared.row.Kind.{Kind}
 use Rattle.dnp_objects.specs.declared.row.Kind.TheVariants.{Binary, Counter, Analog}
 use Rattle.dnp_objects.specs.declared.row.Row.{Row}
 use Rattle.dnp_objects.specs.declared.table.Shape.{Shape}
+use Rattle.dnp_objects.specs.declared.limits.TheConstants.{MAX_TIME}
 use Rattle.dnp_objects.specs.Equality.{kind_eq}
 use Rattle.dnp_objects.specs.Objects.{objects, content_of, shape, shape_read, IsNumber, IsShape}
 use Rattle.dnp_objects.specs.Rows.{value_fits, flags_fit, time_fits, row_fits, carried, IsReading, Fits, Reads}
@@ -42,7 +43,7 @@ flagged_fits Analog f flags fits = refl
 -- a time fits where there is one
 some_time : (time : Option ℕ) → Bool
 some_time None = true
-some_time (Some t) = nat_lt t (2 ^ 48)
+some_time (Some t) = nat_lt t MAX_TIME
 
 time_left : (k : Kind) (f : Bool) (w : ℕ) (t : Bool) (row : Row) → time_fits t row.time ≡ true → carried (shape k f w t) row ≡ row → some_time row.time ≡ true
 unfolding some_time

@@ -12,6 +12,7 @@ use Rattle.dnp_objects.specs.declared.row.Kind.{Kind}
 use Rattle.dnp_objects.specs.declared.row.Kind.TheVariants.{Binary, Counter, Analog}
 use Rattle.dnp_objects.specs.declared.row.Row.{Row}
 use Rattle.dnp_objects.specs.declared.table.Shape.{Shape}
+use Rattle.dnp_objects.specs.declared.limits.TheConstants.{MAX_TIME}
 use Rattle.dnp_objects.specs.Equality.{kind_eq}
 use Rattle.dnp_objects.specs.Objects.{shape, IsNumber, IsShape, shape_size, flags_size}
 use Rattle.dnp_objects.specs.Parts.{first_of, flags_of, value_of, row_of}
@@ -70,7 +71,7 @@ time_read : (t : Bool) (octets : List ℕ) → AreOctets octets → length octet
     × (time_octets t (if t then Some (little_number 6 octets) else None) ≡ octets)
 time_read true octets small size =
     let below : little_number 6 octets < 256 ^ 6 = little_from-lt 0 6 octets small in
-    (lt-ltb (little_number 6 octets) (2 ^ 48) (omega arith), octets_of_number 6 octets small (omega arith) ∙ take_all 6 octets (omega arith))
+    (lt-ltb (little_number 6 octets) MAX_TIME (omega arith), octets_of_number 6 octets small (omega arith) ∙ take_all 6 octets (omega arith))
 time_read false octets small size = (refl, sym (nil_from_length octets size))
 
 carried_read : (k : Kind) (f : Bool) (w : ℕ) (t : Bool) (i : ℕ) (octets : List ℕ)
@@ -170,7 +171,7 @@ time_back : (t : Bool) (time : Option ℕ) → time_fits t time ≡ true
 time_back false time fits = refl
 time_back true None fits = cc
 time_back true (Some x) fits =
-    let below : x < 2 ^ 48 = ltb-true x (2 ^ 48) fits in
+    let below : x < MAX_TIME = ltb-true x MAX_TIME fits in
     ap Some (number_in_all 6 x ∙ omega arith)
 
 -- the row that the octets of a row give is that row, without a time that the object lacks

@@ -4,6 +4,7 @@ use Rattle.std.specs.Prelude.{◌≡◌, ℕ, ◌+◌, ◌*◌, ◌-◌}
 use Rattle.dnp_objects.specs.declared.row.Kind.{Kind}
 use Rattle.dnp_objects.specs.declared.row.Kind.TheVariants.{Binary, Counter, Analog}
 use Rattle.dnp_objects.specs.declared.lane.Lane.{Lane}
+use Rattle.dnp_objects.specs.declared.limits.TheConstants.{KINDS}
 
 -- a lane's class and kind
 abbrev pub IsLane : Lane → ℕ → Kind → Type 0
@@ -17,4 +18,4 @@ kind_number Analog = 2
 
 -- 0 to 8: the kinds of class 1, of class 2, of class 3
 abbrev pub lane_number : Lane → ℕ
-lane_number lane = 3 * (lane.class - 1) + kind_number lane.kind
+lane_number lane = KINDS * (lane.class - 1) + kind_number lane.kind

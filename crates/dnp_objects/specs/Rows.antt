@@ -11,6 +11,7 @@ use Rattle.dnp_objects.specs.declared.row.Row.{Row}
 use Rattle.dnp_objects.specs.declared.table.Shape.{Shape}
 use Rattle.dnp_objects.specs.declared.fault.ObjectFault.{ObjectFault}
 use Rattle.dnp_objects.specs.declared.fault.ObjectFault.TheVariants.{ObjectUnknown, Cut, ValueRange}
+use Rattle.dnp_objects.specs.declared.limits.TheConstants.{MAX_TIME}
 use Rattle.dnp_objects.specs.Equality.{kind_eq}
 use Rattle.dnp_objects.specs.Objects.{shape_size, shape_read, shape_written}
 
@@ -31,11 +32,11 @@ flags_fit Binary has_flags flags = nat_lt flags 128
 flags_fit Counter has_flags flags = if has_flags then true else flags == 1
 flags_fit Analog has_flags flags = if has_flags then true else flags == 1
 
--- an object with a time wants one below 2^48 ms; an object without doesn't look at it
+-- an object with a time wants one below MAX_TIME, 2^48 ms; an object without doesn't look at it
 abbrev pub time_fits : Bool → Option ℕ → Bool
 time_fits false time = true
 time_fits true None = false
-time_fits true (Some time) = nat_lt time (2 ^ 48)
+time_fits true (Some time) = nat_lt time MAX_TIME
 
 -- the row can stand in an object of this shape
 abbrev pub row_fits : Shape → Row → Bool

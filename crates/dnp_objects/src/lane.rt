@@ -1,9 +1,9 @@
+//! Lanes of events: those of one class and one kind of point.
 ghost use Rattle.std.specs.Prelude.{◌≤◌};
+ghost use Rattle.dnp_objects.specs.declared.limits.TheConstants as limits;
 
+use crate::limits::{CLASSES, KINDS, LANES};
 use crate::row::{Kind, Row};
-
-/// How many lanes there are.
-pub const LANES: usize = 9;
 
 /// One of the nine lanes of events: those of one class and one kind of point (IEEE Std 1815-2012,
 /// application layer: event classes).
@@ -13,7 +13,7 @@ pub struct Lane {
     pub class: u8,
     pub kind: Kind,
     ghost at_least_1: { 1 ≤ class },
-    ghost at_most_3: { class ≤ 3 },
+    ghost at_most_3: { class ≤ limits.CLASSES },
 }
 
 impl Lane {
@@ -22,10 +22,10 @@ impl Lane {
 
     /// The lane of this class and kind, or `None` for a class that has no events.
     pub fn new(class: u8, kind: Kind) -> Option<Lane>
-        ensures in_range { IsSome result ↔ ((1 ≤ class) × (class ≤ 3)) }
+        ensures in_range { IsSome result ↔ ((1 ≤ class) × (class ≤ CLASSES)) }
         ensures lane { IfSome result (λ lane. IsLane lane class kind) }
     {
-        if 1 <= class && class <= 3 {
+        if 1 <= class && class <= CLASSES {
             Some(Lane { class, kind })
         } else {
             None
@@ -35,33 +35,22 @@ impl Lane {
     /// The lane's number, 0 to 8: by class, and within a class Binary, Counter, Analog.
     pub fn number(self) -> usize
         ensures value { result ≡ lane_number self }
-        ensures range { result < 9 }
+        ensures range { result < LANES }
     {
-        let kind = match self.kind {
-            Kind::Binary => 0,
-            Kind::Counter => 1,
-            Kind::Analog => 2,
-        };
-        3 * usize::from(self.class - 1) + kind
+        KINDS * usize::from(self.class - 1) + self.kind.number()
     }
 
-    /// The lane of this number, or `None` from 9 on.
+    /// The lane of this number, or `None` from `LANES` on.
     pub fn numbered(number: usize) -> Option<Lane>
-        ensures in_range { IsSome result ↔ (number < 9) }
+        ensures in_range { IsSome result ↔ (number < LANES) }
         ensures value { IfSome result (λ lane. lane_number lane ≡ number) }
     {
-        let class = match number / 3 {
-            0 => 1,
-            1 => 2,
-            2 => 3,
-            _ => return None,
-        };
-        let kind = match number % 3 {
-            0 => Kind::Binary,
-            1 => Kind::Counter,
-            _ => Kind::Analog,
-        };
-        Lane::new(class, kind)
+        if number < LANES {
+            let kind = Kind::numbered(number % KINDS)?;
+            Lane::new((number / KINDS) as u8 + 1, kind)
+        } else {
+            None
+        }
     }
 }
 

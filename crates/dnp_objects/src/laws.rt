@@ -13,6 +13,7 @@ ghost use Rattle.dnp_objects.specs.declared.row.Row.{Row};
 ghost use Rattle.dnp_objects.specs.declared.command.Command.{Command};
 ghost use Rattle.dnp_objects.specs.declared.lane.Lane.{Lane};
 ghost use Rattle.dnp_objects.specs.declared.flags.TheConstants as flags;
+ghost use Rattle.dnp_objects.specs.declared.limits.TheConstants as limits;
 
 /// The tests of equality of numbers (as of a substation), rows, commands and pairs answer
 /// whether two values are the same.
@@ -122,6 +123,14 @@ pub fn flags_have_their_bits()
         ≡ map (λ bit. 2 ^ bit) (0 ∷ 1 ∷ 2 ∷ 3 ∷ 4 ∷ []) }
     ensures binary { (flags.CHATTER_FILTER ∷ flags.STATE ∷ []) ≡ map (λ bit. 2 ^ bit) (5 ∷ 7 ∷ []) }
     ensures analog { (flags.OVER_RANGE ∷ flags.REFERENCE_ERR ∷ []) ≡ map (λ bit. 2 ^ bit) (5 ∷ 6 ∷ []) }
+{}
+
+/// The named limits are these numbers.
+pub fn limits_have_their_values()
+    ensures fragment { limits.MAX_FRAGMENT ≡ 2048 }
+    ensures time { limits.MAX_TIME ≡ 2 ^ 48 }
+    ensures lanes { (limits.KINDS ∷ limits.CLASSES ∷ limits.LANES ∷ []) ≡ 3 ∷ 3 ∷ 9 ∷ [] }
+    ensures id { limits.MAX_ID ≡ 2 ^ 62 }
 {}
 
 /// Two lanes of one number are of one class and one kind.

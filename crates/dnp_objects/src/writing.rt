@@ -9,6 +9,7 @@ ghost use Rattle.dnp_objects.specs.Faults.{IsFirst};
 ghost use Rattle.dnp_objects.specs.Rows as spec;
 
 use crate::fault::ObjectFault;
+use crate::limits::MAX_TIME;
 use crate::row::{Kind, Row};
 use crate::table::{Shape, written_shape};
 use arrayvec::ArrayVec;
@@ -43,7 +44,7 @@ fn time_fits(shape: Shape, time: Option<u64>) -> bool
 {
     match time {
         None => !shape.time,
-        Some(time) => !shape.time || time < 0x1_0000_0000_0000,
+        Some(time) => !shape.time || time < MAX_TIME,
     }
 }
 

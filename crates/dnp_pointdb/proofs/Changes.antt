@@ -1,5 +1,6 @@
 -- What a change of the point that a look-up found does to the blocks.
-use Rattle.std.proofs.Common.{◌≡◌, ℕ, ◌<◌, Bool, true, false, cond, ◌&&◌, List, length, get_or, set, Some, None, Result, Ok, Err, refl, sym, ◌∙◌, ap, subst}
+use Rattle.std.proofs.Common.{◌≡◌, ℕ, ◌<◌, Bool, true, false, cond, ◌&&◌, List, [], length, get_or, set, Option, Some, None, Result, Ok, Err, refl, sym, ◌∙◌, ap, subst}
+use Rattle.std.specs.Option.{unwrap_or}
 use Rattle.dnp_objects.specs.declared.row.Kind.{Kind}
 use Rattle.dnp_pointdb.specs.declared.reading.Reading.{Reading}
 use Rattle.dnp_pointdb.specs.declared.state.PointState.{PointState}
@@ -7,7 +8,7 @@ use Rattle.dnp_pointdb.specs.declared.state.BlockState.{BlockState}
 use Rattle.dnp_pointdb.specs.declared.fault.ChangeFault.{ChangeFault}
 use Rattle.dnp_pointdb.specs.declared.fault.ChangeFault.TheVariants.{ValueRange, TimeRange}
 use Rattle.dnp_pointdb.specs.Ranges.{is_carried, is_in_time, is_in_range}
-use Rattle.dnp_pointdb.specs.Database.{state_in, updated_in, checked, changed_state, changed_in, set_state, set_in}
+use Rattle.dnp_pointdb.specs.Database.{state_in, updated_in, checked, new_state}
 use Rattle.dnp_pointdb.specs.Order.{extents, place_in}
 use Rattle.dnp_pointdb.proofs.Lookups.{lookup_found, lookup_lacks}
 
@@ -26,23 +27,11 @@ pub checked_ok : (s t : PointState) (kind : Kind) (reading : Reading) → checke
     → (is_in_range kind reading ≡ true) × (t ≡ s)
 checked_ok s t kind reading is = by_tests s t (is_carried kind reading) (is_in_time reading.time) is
 
--- ---- no point
-
-same_either_way : {A : Type 0} (b : Bool) (x y : A) → x ≡ y → cond b x y ≡ y
-same_either_way true x y same = same
-same_either_way false x y same = refl
-
-pub changed_in-lacks : (blocks : List BlockState) (kind : Kind) (index : ℕ) (reading : Reading)
-    → place_in (extents blocks) index ≡ None → changed_in blocks kind index reading ≡ blocks
-changed_in-lacks blocks kind index reading none =
-    same_either_way (is_in_range kind reading) (updated_in (changed_state kind index reading) blocks index) blocks
-    ((lookup_lacks blocks index none).change (changed_state kind index reading))
-
-pub set_in-lacks : (blocks : List BlockState) (kind : Kind) (index : ℕ) (reading : Reading)
-    → place_in (extents blocks) index ≡ None → set_in blocks kind index reading ≡ blocks
-set_in-lacks blocks kind index reading none =
-    same_either_way (is_in_range kind reading) (updated_in (set_state reading) blocks index) blocks
-    ((lookup_lacks blocks index none).change (set_state reading))
+-- a refusal of a point that was found is one of the reading
+out_of_range : (s : PointState) (fault : ChangeFault) (carried timely : Bool) → tested s carried timely ≡ Err fault → carried && timely ≡ false
+out_of_range s fault true true is = absurd (cc)
+out_of_range s fault true false is = refl
+out_of_range s fault false timely is = refl
 
 -- ---- the point in its place
 
@@ -66,32 +55,53 @@ state_in-place blocks index n p b s at b_is s_is =
     ∙ ap (λ (x : BlockState). Some (get_or x.points p s)) (sym b_is)
     ∙ ap (λ (x : PointState). Some x) (sym s_is)
 
-put_in : (blocks after : List BlockState) (index n p : ℕ) (b : BlockState) (s x : PointState) (f : PointState → PointState)
-    → place_in (extents blocks) index ≡ Some (n, p) → b ≡ get_or blocks n b → s ≡ get_or b.points p s → x ≡ f s
-    → after ≡ set blocks n (record (get_or blocks n b) { points = set (get_or blocks n b).points p x })
+no_block : BlockState
+no_block = record { base = 0; points = [] }
+
+-- another point in the place of the one that was found
+put_at : (blocks after : List BlockState) (index n p : ℕ) (s x : PointState) (f : PointState → PointState)
+    → place_in (extents blocks) index ≡ Some (n, p) → state_in blocks index ≡ Some s → x ≡ f s
+    → ((d : BlockState) → after ≡ set blocks n (record (get_or blocks n d) { points = set (get_or blocks n d).points p x }))
     → after ≡ updated_in f blocks index
-put_in blocks after index n p b s x f at b_is s_is x_is is =
-    let there : s ≡ get_or (get_or blocks n b).points p s =
-    s_is ∙ ap (λ (y : BlockState). get_or y.points p s) b_is in
-    is
-    ∙ ap (λ (y : PointState). set blocks n (record (get_or blocks n b) { points = set (get_or blocks n b).points p y }))
-    (x_is ∙ ap (λ (y : PointState). f y) there)
-    ∙ sym ((lookup_found blocks index (n, p) at).change f b s)
+put_at blocks after index n p s x f at there x_is is =
+    let found = lookup_found blocks index (n, p) at in
+    let same : Some (get_or (get_or blocks n no_block).points p s) ≡ Some s = sym (found.state no_block s) ∙ there in
+    is no_block
+    ∙ ap (λ (y : PointState). set blocks n (record (get_or blocks n no_block) { points = set (get_or blocks n no_block).points p y }))
+    (x_is ∙ ap (λ (o : Option PointState). f (unwrap_or o s)) (sym same))
+    ∙ sym (found.change f no_block s)
 
-pub changed_in-place : (blocks after : List BlockState) (kind : Kind) (index : ℕ) (reading : Reading) (n p : ℕ) (b : BlockState) (s x : PointState)
-    → place_in (extents blocks) index ≡ Some (n, p) → b ≡ get_or blocks n b → s ≡ get_or b.points p s
-    → is_in_range kind reading ≡ true → x ≡ changed_state kind index reading s
-    → after ≡ set blocks n (record (get_or blocks n b) { points = set (get_or blocks n b).points p x })
-    → after ≡ changed_in blocks kind index reading
-changed_in-place blocks after kind index reading n p b s x at b_is s_is in_range x_is is =
-    put_in blocks after index n p b s x (changed_state kind index reading) at b_is s_is x_is is
-    ∙ sym (ap (λ (t : Bool). cond t (updated_in (changed_state kind index reading) blocks index) blocks) in_range)
+-- ---- a reading that comes: f of the point, where the reading is in range
 
-pub set_in-place : (blocks after : List BlockState) (kind : Kind) (index : ℕ) (reading : Reading) (n p : ℕ) (b : BlockState) (s x : PointState)
-    → place_in (extents blocks) index ≡ Some (n, p) → b ≡ get_or blocks n b → s ≡ get_or b.points p s
-    → is_in_range kind reading ≡ true → x ≡ set_state reading s
-    → after ≡ set blocks n (record (get_or blocks n b) { points = set (get_or blocks n b).points p x })
-    → after ≡ set_in blocks kind index reading
-set_in-place blocks after kind index reading n p b s x at b_is s_is in_range x_is is =
-    put_in blocks after index n p b s x (set_state reading) at b_is s_is x_is is
-    ∙ sym (ap (λ (t : Bool). cond t (updated_in (set_state reading) blocks index) blocks) in_range)
+-- where the point can have it
+pub read_at : (f : PointState → PointState) (blocks after : List BlockState) (kind : Kind) (index : ℕ) (reading : Reading) (n p : ℕ) (s x : PointState)
+    → place_in (extents blocks) index ≡ Some (n, p) → state_in blocks index ≡ Some s → checked (state_in blocks index) kind reading ≡ Ok s
+    → x ≡ f s
+    → ((d : BlockState) → after ≡ set blocks n (record (get_or blocks n d) { points = set (get_or blocks n d).points p x }))
+    → after ≡ cond (is_in_range kind reading) (updated_in f blocks index) blocks
+read_at f blocks after kind index reading n p s x at there can x_is is =
+    let passed = checked_ok s s kind reading (sym (ap (λ (o : Option PointState). checked o kind reading) there) ∙ can) in
+    put_at blocks after index n p s x f at there x_is is
+    ∙ sym (ap (λ (t : Bool). cond t (updated_in f blocks index) blocks) passed.0)
+
+same_either_way : {A : Type 0} (b : Bool) (x y : A) → x ≡ y → cond b x y ≡ y
+same_either_way true x y same = same
+same_either_way false x y same = refl
+
+-- where it is refused
+pub read_refused : (f : PointState → PointState) (blocks : List BlockState) (kind : Kind) (index : ℕ) (reading : Reading) (fault : ChangeFault)
+    → checked (state_in blocks index) kind reading ≡ Err fault
+    → cond (is_in_range kind reading) (updated_in f blocks index) blocks ≡ blocks
+read_refused f blocks kind index reading fault refused = by_place (place_in (extents blocks) index) refl
+  where
+    by_place : (place : Option (ℕ × ℕ)) → place_in (extents blocks) index ≡ place
+        → cond (is_in_range kind reading) (updated_in f blocks index) blocks ≡ blocks
+    by_place None none =
+        same_either_way (is_in_range kind reading) (updated_in f blocks index) blocks ((lookup_lacks blocks index none).change f)
+    by_place (Some at) is =
+        let s : PointState = new_state (record { class = 0; deadband = 0 }) in
+        let there = (lookup_found blocks index at is).state no_block s in
+        let point : PointState = get_or (get_or blocks at.0 no_block).points at.1 s in
+        let out = out_of_range point fault (is_carried kind reading) (is_in_time reading.time)
+        (sym (ap (λ (o : Option PointState). checked o kind reading) there) ∙ refused) in
+        ap (λ (t : Bool). cond t (updated_in f blocks index) blocks) out

@@ -5,6 +5,7 @@ use Rattle.std.specs.Option.{option_map}
 use Rattle.std.specs.Int.{bit_at}
 use Rattle.std.proofs.lemmas.Bool.Decides.{eqb_tells}
 use Rattle.std.proofs.lemmas.Nat.Bits.{bit_at_and, bit_at_or, bit_at-lt, bit_at_mask_inside, bit_at-pow_other}
+use Rattle.dnp_objects.specs.declared.limits.TheConstants.{CLASSES}
 use Rattle.dnp_objects.specs.declared.row.Kind.{Kind}
 use Rattle.dnp_objects.specs.declared.row.Row.{Row}
 use Rattle.dnp_objects.specs.declared.lane.Lane.{Lane}
@@ -25,7 +26,7 @@ no_event : IsSome {T = LaneRow} None → ⊥
 no_event h = grind (arith, h)
 
 is_event : (d : Bool) (class : ℕ) (kind : Kind) (row : Row)
-    → IsSome (event_from d (lane_of class kind) row) ↔ ((d ≡ true) × (1 ≤ class) × (class ≤ 3))
+    → IsSome (event_from d (lane_of class kind) row) ↔ ((d ≡ true) × (1 ≤ class) × (class ≤ CLASSES))
 is_event false class kind row = (λ h. absurd (no_event h), λ h. absurd (cc))
 is_event true zero kind row = (λ h. absurd (no_event h), λ h. absurd (omega (arith, h.1)))
 is_event true (suc zero) kind row = (λ h. (refl, omega arith, omega arith), λ h. search rules)
@@ -50,7 +51,7 @@ differing point last reading = by_numbers reading.flags last.flags point.deadban
 
 pub event_exactly : (kind : Kind) (index : ℕ) (point : Point) (last : Report) (reading : Reading)
     → IsSome (event_of kind index point last reading)
-    ↔ ((1 ≤ point.class) × (point.class ≤ 3)
+    ↔ ((1 ≤ point.class) × (point.class ≤ CLASSES)
     × ((reading.flags ≢ last.flags) ⊎ (point.deadband < distance reading.value last.value)))
 event_exactly kind index point last reading =
     let either = is_event (differs point last reading) point.class kind (row_of kind index reading) in

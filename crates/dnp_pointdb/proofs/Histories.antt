@@ -4,11 +4,11 @@ use Rattle.std.specs.Option.{option_map}
 use Rattle.std.specs.List.{slice_get}
 use Rattle.std.proofs.lemmas.List.{length-map}
 use Rattle.dnp_objects.specs.declared.row.Kind.{Kind}
-use Rattle.dnp_objects.specs.declared.row.Kind.TheVariants.{Binary, Counter, Analog}
 use Rattle.dnp_pointdb.specs.declared.state.PointState.{PointState}
 use Rattle.dnp_pointdb.specs.declared.state.BlockState.{BlockState}
-use Rattle.dnp_pointdb.specs.Database.{Database, blocks_of, with_blocks, has_index, state_in, state_at, updated, updated_in, restarted_state, restarted_block, restarted, lost_state, lost_block, lost_of}
+use Rattle.dnp_pointdb.specs.Database.{Database, blocks_of, has_index, state_in, state_at, updated, updated_in, restarted_state, restarted_block, restarted, lost_state, lost_block, lost_of}
 use Rattle.dnp_pointdb.specs.Order.{extent, covers}
+use Rattle.dnp_pointdb.proofs.ByKind.{blocks_of-each}
 use Rattle.dnp_pointdb.proofs.Places.{covers_low}
 
 -- ---- one member of a list
@@ -139,28 +139,9 @@ state_in-restarted (b ∷ bs) index = restart_step b bs index (has_index b index
 
 pub state_at-restarted : (database : Database) (kind : Kind) (index : ℕ)
     → state_at (restarted database) kind index ≡ option_map restarted_state (state_at database kind index)
-state_at-restarted database Binary index = state_in-restarted database.binary index
-state_at-restarted database Counter index = state_in-restarted database.counter index
-state_at-restarted database Analog index = state_in-restarted database.analog index
-
--- ---- the blocks of a kind
-
-pub blocks_of-same : (database : Database) (kind : Kind) (bs : List BlockState) → blocks_of (with_blocks database kind bs) kind ≡ bs
-blocks_of-same database Binary bs = refl
-blocks_of-same database Counter bs = refl
-blocks_of-same database Analog bs = refl
-
-pub blocks_of-other : (database : Database) (kind other : Kind) (bs : List BlockState) → kind ≢ other
-    → blocks_of (with_blocks database kind bs) other ≡ blocks_of database other
-blocks_of-other database Binary Binary bs apart = absurd (apart refl)
-blocks_of-other database Binary Counter bs apart = refl
-blocks_of-other database Binary Analog bs apart = refl
-blocks_of-other database Counter Binary bs apart = refl
-blocks_of-other database Counter Counter bs apart = absurd (apart refl)
-blocks_of-other database Counter Analog bs apart = refl
-blocks_of-other database Analog Binary bs apart = refl
-blocks_of-other database Analog Counter bs apart = refl
-blocks_of-other database Analog Analog bs apart = absurd (apart refl)
+state_at-restarted database kind index =
+    ap (λ (bs : List BlockState). state_in bs index) (blocks_of-each (map restarted_block) refl database kind)
+    ∙ state_in-restarted (blocks_of database kind) index
 
 -- ---- lost communication
 
@@ -207,6 +188,6 @@ state_in-lost g keeps (b ∷ bs) (suc number) index =
 pub state_at-lost : {R : Type 0} (g : PointState → R) → ((state : PointState) → g (lost_state state) ≡ g state)
     → (database : Database) (number : ℕ) (kind : Kind) (index : ℕ)
     → option_map g (state_at (lost_of database number) kind index) ≡ option_map g (state_at database kind index)
-state_at-lost g keeps database number Binary index = state_in-lost g keeps database.binary number index
-state_at-lost g keeps database number Counter index = state_in-lost g keeps database.counter number index
-state_at-lost g keeps database number Analog index = state_in-lost g keeps database.analog number index
+state_at-lost g keeps database number kind index =
+    ap (λ (bs : List BlockState). option_map g (state_in bs index)) (blocks_of-each (λ bs. updated lost_block bs number) refl database kind)
+    ∙ state_in-lost g keeps (blocks_of database kind) number index

@@ -1,6 +1,7 @@
 -- A lane is known by its class and its kind.
 use Rattle.std.proofs.Common.{◌≡◌, ℕ, zero, suc, ◌≤◌, ◌↔◌, Option, Some, None, refl, ap, arith, rules}
 use Rattle.std.specs.Prelude.{IsSome, IfSome}
+use Rattle.dnp_objects.specs.declared.limits.TheConstants.{CLASSES}
 use native.Mathlib.Bridge.{le_prop}
 use mathlib.Core.HLevel.{is_prop→PathP}
 use Rattle.dnp_objects.specs.declared.row.Kind.{Kind}
@@ -17,7 +18,7 @@ one_lane a b p q = λ i. record {
 }
 
 pub lane_found : (found : Option Lane) (class : ℕ) (kind : Kind)
-    → (IsSome found ↔ ((1 ≤ class) × (class ≤ 3))) → IfSome found (λ lane. IsLane lane class kind)
+    → (IsSome found ↔ ((1 ≤ class) × (class ≤ CLASSES))) → IfSome found (λ lane. IsLane lane class kind)
     → found ≡ lane_of class kind
 lane_found None zero kind in_range is = refl
 lane_found None (suc zero) kind in_range is = absurd (let some : IsSome {T = Lane} None = in_range.1 (omega arith, omega arith) in grind arith)

@@ -1,3 +1,4 @@
+pub mod ByKind
 pub mod Carried
 pub mod Changes
 pub mod Events
@@ -12,5 +13,6 @@ pub mod Places
 pub mod PlanFaults
 pub mod Plans
 pub mod Ranges
+pub mod Readings
 pub mod Runs
 pub mod Sound

@@ -14,6 +14,7 @@ use Rattle.dnp_objects.proofs.Lines.{content_sound}
 use Rattle.dnp_pointdb.specs.declared.reading.Reading.{Reading}
 use Rattle.dnp_pointdb.specs.Events.{row_of}
 use Rattle.dnp_pointdb.specs.Ranges.{is_carried}
+use Rattle.dnp_pointdb.proofs.ByKind.{same_kind}
 
 -- ---- what is wider
 
@@ -46,17 +47,6 @@ with_flags Binary flagged flags fits = fits
 with_flags Counter flagged flags fits = refl
 with_flags Analog flagged flags fits = refl
 
-same_kind : (a b : Kind) → kind_eq a b ≡ true → b ≡ a
-same_kind Binary Binary is = refl
-same_kind Counter Counter is = refl
-same_kind Analog Analog is = refl
-same_kind Binary Counter is = absurd (cc)
-same_kind Binary Analog is = absurd (cc)
-same_kind Counter Binary is = absurd (cc)
-same_kind Counter Analog is = absurd (cc)
-same_kind Analog Binary is = absurd (cc)
-same_kind Analog Counter is = absurd (cc)
-
 from_true : (b : Bool) → IsTrue b → b ≡ true
 from_true true h = refl
 from_true false h = absurd (grind (arith, h))
@@ -75,7 +65,7 @@ from_shape shape kind index reading sound fits =
     let parts = both (kind_eq kind shape.kind) (value_fits shape.kind shape.width reading.value) front.0 in
     let value : value_fits shape.kind 4 reading.value ≡ true = wider shape.kind shape.flags shape.width reading.value sound.number parts.1 in
     let flags : flags_fit shape.kind true reading.flags ≡ true = with_flags shape.kind shape.flags reading.flags front.1 in
-    subst (λ (k : Kind). value_fits k 4 reading.value && flags_fit k true reading.flags ≡ true) (same_kind kind shape.kind parts.0)
+    subst (λ (k : Kind). value_fits k 4 reading.value && flags_fit k true reading.flags ≡ true) (sym (same_kind kind shape.kind parts.0))
     (ap (λ (b : Bool). b && flags_fit shape.kind true reading.flags) value ∙ flags)
 
 from_content : (content : Option Content) (kind : Kind) (index : ℕ) (reading : Reading) → IfSome content IsContent

@@ -14,98 +14,15 @@ use Rattle.dnp_objects.specs.declared.lane.LaneRow.{LaneRow}
 use Rattle.dnp_objects.specs.Equality.{kind_eq}
 use Rattle.dnp_pointdb.specs.declared.reading.Reading.{Reading}
 use Rattle.dnp_pointdb.specs.declared.state.PointState.{PointState}
-use Rattle.dnp_pointdb.specs.declared.state.BlockState.{BlockState}
 use Rattle.dnp_pointdb.specs.declared.fault.ChangeFault.{ChangeFault}
 use Rattle.dnp_pointdb.specs.Ranges.{is_carried, is_in_time, is_in_range}
 use Rattle.dnp_pointdb.specs.Events.{Happening, Reads, Restarts, differs, lane_of, row_of, event_of, report_after, happened}
-use Rattle.dnp_pointdb.specs.Database.{Database, blocks_of, state_in, state_at, updated_in, checked, made_from, answer_of, changed_state, changed_in, changed_of, set_state, set_in, set_of, restarted, restarted_state}
+use Rattle.dnp_pointdb.specs.Database.{Database, state_at, checked, made_from, answer_of, changed_state, changed_of, restarted, restarted_state}
 use Rattle.dnp_pointdb.specs.Runs.{Move, Change, Restart, rows_made, rows_of, rows_at, is_of, happenings_of, happened_at}
 use Rattle.dnp_pointdb.proofs.Changes.{tested}
-use Rattle.dnp_pointdb.proofs.Histories.{state_in-updated, state_in-updated_other, state_at-restarted, blocks_of-same, blocks_of-other}
-
--- ---- the points after a call
-
-pub changed_here : (database : Database) (kind : Kind) (index : ℕ) (reading : Reading) → is_in_range kind reading ≡ true
-    → state_at (changed_of database kind index reading) kind index ≡ option_map (changed_state kind index reading) (state_at database kind index)
-changed_here database kind index reading in_range =
-    let bs : List BlockState = blocks_of database kind in
-    ap (λ (cs : List BlockState). state_in cs index) (blocks_of-same database kind (changed_in bs kind index reading))
-    ∙ ap (λ (t : Bool). state_in (cond t (updated_in (changed_state kind index reading) bs index) bs) index) in_range
-    ∙ state_in-updated (changed_state kind index reading) bs index
-
-pub set_here : (database : Database) (kind : Kind) (index : ℕ) (reading : Reading) → is_in_range kind reading ≡ true
-    → state_at (set_of database kind index reading) kind index ≡ option_map (set_state reading) (state_at database kind index)
-set_here database kind index reading in_range =
-    let bs : List BlockState = blocks_of database kind in
-    ap (λ (cs : List BlockState). state_in cs index) (blocks_of-same database kind (set_in bs kind index reading))
-    ∙ ap (λ (t : Bool). state_in (cond t (updated_in (set_state reading) bs index) bs) index) in_range
-    ∙ state_in-updated (set_state reading) bs index
-
--- a reading out of range changes nothing
-pub refused_here : (database : Database) (kind : Kind) (index : ℕ) (reading : Reading) → is_in_range kind reading ≡ false
-    → state_at (changed_of database kind index reading) kind index ≡ state_at database kind index
-refused_here database kind index reading out =
-    let bs : List BlockState = blocks_of database kind in
-    ap (λ (cs : List BlockState). state_in cs index) (blocks_of-same database kind (changed_in bs kind index reading))
-    ∙ ap (λ (t : Bool). state_in (cond t (updated_in (changed_state kind index reading) bs index) bs) index) out
-
-kept_if : (f : PointState → PointState) (t : Bool) (bs : List BlockState) (index other : ℕ) → index ≢ other
-    → state_in (cond t (updated_in f bs index) bs) other ≡ state_in bs other
-kept_if f true bs index other apart = state_in-updated_other f bs index other apart
-kept_if f false bs index other apart = refl
-
-kinds : (kind other : Kind) → (kind ≡ other) ⊎ (kind ≢ other)
-kinds Binary Binary = inl refl
-kinds Binary Counter = inr (λ same. cc)
-kinds Binary Analog = inr (λ same. cc)
-kinds Counter Binary = inr (λ same. cc)
-kinds Counter Counter = inl refl
-kinds Counter Analog = inr (λ same. cc)
-kinds Analog Binary = inr (λ same. cc)
-kinds Analog Counter = inr (λ same. cc)
-kinds Analog Analog = inl refl
-
-other_index : (database : Database) (kind other_kind : Kind) (index other : ℕ) (reading : Reading) → kind ≡ other_kind → index ≢ other
-    → state_at (changed_of database kind index reading) other_kind other ≡ state_at database other_kind other
-other_index database kind other_kind index other reading same apart =
-    let P : Kind → Type 0 = λ k. state_at (changed_of database kind index reading) k other ≡ state_at database k other in
-    subst P same (
-    ap (λ (cs : List BlockState). state_in cs other) (blocks_of-same database kind (changed_in (blocks_of database kind) kind index reading))
-    ∙ kept_if (changed_state kind index reading) (is_in_range kind reading) (blocks_of database kind) index other apart
-    )
-
-other_index_set : (database : Database) (kind other_kind : Kind) (index other : ℕ) (reading : Reading) → kind ≡ other_kind → index ≢ other
-    → state_at (set_of database kind index reading) other_kind other ≡ state_at database other_kind other
-other_index_set database kind other_kind index other reading same apart =
-    let P : Kind → Type 0 = λ k. state_at (set_of database kind index reading) k other ≡ state_at database k other in
-    subst P same (
-    ap (λ (cs : List BlockState). state_in cs other) (blocks_of-same database kind (set_in (blocks_of database kind) kind index reading))
-    ∙ kept_if (set_state reading) (is_in_range kind reading) (blocks_of database kind) index other apart
-    )
-
-pub changed_elsewhere : (database : Database) (kind other_kind : Kind) (index other : ℕ) (reading : Reading)
-    → (kind ≢ other_kind) ⊎ (index ≢ other)
-    → state_at (changed_of database kind index reading) other_kind other ≡ state_at database other_kind other
-changed_elsewhere database kind other_kind index other reading (inl apart) =
-    ap (λ (cs : List BlockState). state_in cs other)
-    (blocks_of-other database kind other_kind (changed_in (blocks_of database kind) kind index reading) apart)
-changed_elsewhere database kind other_kind index other reading (inr apart) =
-    elim (kinds kind other_kind) [
-      | inl same ↦ other_index database kind other_kind index other reading same apart
-      | inr different ↦ ap (λ (cs : List BlockState). state_in cs other) (blocks_of-other database kind other_kind (changed_in (blocks_of database kind) kind index reading) different)
-    ]
-
-pub set_elsewhere : (database : Database) (kind other_kind : Kind) (index other : ℕ) (reading : Reading)
-    → (kind ≢ other_kind) ⊎ (index ≢ other)
-    → state_at (set_of database kind index reading) other_kind other ≡ state_at database other_kind other
-set_elsewhere database kind other_kind index other reading (inl apart) =
-    ap (λ (cs : List BlockState). state_in cs other)
-    (blocks_of-other database kind other_kind (set_in (blocks_of database kind) kind index reading) apart)
-set_elsewhere database kind other_kind index other reading (inr apart) =
-    elim (kinds kind other_kind) [
-      | inl same ↦ other_index_set database kind other_kind index other reading same apart
-      | inr different ↦ ap (λ (cs : List BlockState). state_in cs other) (blocks_of-other database kind other_kind (set_in (blocks_of database kind) kind index reading) different)
-    ]
+use Rattle.dnp_pointdb.proofs.Histories.{state_at-restarted}
+use Rattle.dnp_pointdb.proofs.ByKind.{same_kind, same_or_not}
+use Rattle.dnp_pointdb.proofs.Readings.{changed_here, refused_here, changed_elsewhere}
 
 -- ---- the rows that a call makes
 
@@ -251,17 +168,6 @@ indices i index = elim (cases_order i index) [
 test_apart : (k kind : Kind) (i index : ℕ) → (k ≢ kind) ⊎ (i ≢ index) → (kind_eq k kind && i == index) ≡ false
 test_apart k kind i index apart = by_test (kind_eq k kind && i == index) refl
   where
-    same_kind : (a b : Kind) → kind_eq a b ≡ true → a ≡ b
-    same_kind Binary Binary is = refl
-    same_kind Counter Counter is = refl
-    same_kind Analog Analog is = refl
-    same_kind Binary Counter is = absurd (cc)
-    same_kind Binary Analog is = absurd (cc)
-    same_kind Counter Binary is = absurd (cc)
-    same_kind Counter Analog is = absurd (cc)
-    same_kind Analog Binary is = absurd (cc)
-    same_kind Analog Counter is = absurd (cc)
-
     both : (a b : Bool) → a && b ≡ true → (a ≡ true) × (b ≡ true)
     both true b is = (refl, is)
     both false b is = absurd (cc)
@@ -279,7 +185,7 @@ step : (database : Database) (k : Kind) (i : ℕ) (reading : Reading) (moves : L
 step database k i reading moves kind index rest =
     let elsewhere : ((k ≢ kind) ⊎ (i ≢ index)) → Whole database k i reading moves kind index = λ apart.
     step_elsewhere database k i reading moves kind index (test_apart k kind i index apart) apart rest in
-    elim (kinds k kind) [
+    elim (same_or_not k kind) [
       | inr k_apart ↦ elsewhere (inl k_apart)
       | inl same_kind ↦ elim (indices i index) [
         | inr i_apart ↦ elsewhere (inr i_apart)

@@ -6,6 +6,8 @@ use Rattle.std.proofs.lemmas.Bool.{cases_lt}
 use Rattle.std.proofs.lemmas.List.{get_or-map, get_or_default, length-map}
 use Rattle.std.proofs.lemmas.List.Elements.{All-cons, All-map}
 use Rattle.std.proofs.lemmas.Nat.{and_le_l, or_lt}
+use Rattle.dnp_objects.specs.declared.limits.TheConstants.{CLASSES}
+use Rattle.dnp_pointdb.specs.declared.limits.TheConstants.{INDICES, MAX_POINTS}
 use Rattle.dnp_objects.specs.declared.row.Kind.{Kind}
 use Rattle.dnp_objects.specs.declared.row.Kind.TheVariants.{Binary, Counter, Analog}
 use Rattle.dnp_objects.specs.Rows.{value_fits, flags_fit}
@@ -19,17 +21,19 @@ use Rattle.dnp_pointdb.specs.Blocks.{ShareIndex}
 use Rattle.dnp_pointdb.specs.Plan.{Plan, IsWrong, HasWrongPoint, HasTooMany, IsTooWide}
 use Rattle.dnp_pointdb.specs.Plan as plan_words
 use Rattle.dnp_pointdb.specs.Ranges.{is_carried, is_in_time, is_in_range}
-use Rattle.dnp_pointdb.specs.Database.{Database, database_of, blocks_of, with_blocks, has_index, state_in, state_at, updated, updated_in, new_state, new_block, new_database, changed_state, changed_in, changed_of, set_state, set_in, set_of, lost_flags, lost_reading, lost_state, lost_block, lost_of, restarted_state, restarted_block, restarted}
+use Rattle.dnp_pointdb.specs.Database.{Database, blocks_of, with_blocks, each_kind, has_index, state_in, state_at, updated, updated_in, new_state, new_block, new_database, changed_state, changed_in, changed_of, set_state, set_in, set_of, lost_flags, lost_reading, lost_state, lost_block, lost_of, restarted_state, restarted_block, restarted}
 use Rattle.dnp_pointdb.specs.Order.{Extent, extent, extents, covers, AreApart}
 use Rattle.dnp_pointdb.specs.Sound.{IsSoundPoint, IsSoundBlock, ShareNoIndex, AreSound, IsSound}
 use Rattle.dnp_pointdb.proofs.Ranges.{both}
 use Rattle.dnp_pointdb.proofs.Places.{covers_true, covers_cases}
+use Rattle.dnp_pointdb.proofs.Readings.{read_in-none}
+use Rattle.dnp_pointdb.proofs.ByKind.{same_or_not, blocks_of-same, blocks_of-other, blocks_of-each}
 use Rattle.dnp_pointdb.proofs.Orders.{apart_new, extents-restarted}
 use Rattle.dnp_pointdb.proofs.Histories.{length-updated, with_points, updated_in-cons, state_in-cons}
 
 -- ---- a point
 
-new_point : (kind : Kind) (point : Point) → point.class ≤ 3 → IsSoundPoint kind (new_state point)
+new_point : (kind : Kind) (point : Point) → point.class ≤ CLASSES → IsSoundPoint kind (new_state point)
 new_point Binary point class = record { class = class; carried = refl; in_time = refl }
 new_point Counter point class = record { class = class; carried = refl; in_time = refl }
 new_point Analog point class = record { class = class; carried = refl; in_time = refl }
@@ -40,7 +44,7 @@ read_point : (kind : Kind) (reading : Reading) (before after : PointState) → i
 read_point kind reading before after in_range same_point is s =
     let parts = both (is_carried kind reading) (is_in_time reading.time) in_range in
     record {
-      class = subst (λ (p : Point). p.class ≤ 3) (sym same_point) s.class;
+      class = subst (λ (p : Point). p.class ≤ CLASSES) (sym same_point) s.class;
       carried = subst (λ (r : Reading). is_carried kind r ≡ true) (sym is) parts.0;
       in_time = subst (λ (r : Reading). is_in_time r.time ≡ true) (sym is) parts.1;
     }
@@ -217,33 +221,33 @@ restarted_sound kind bs s = record {
 at_most : (most n : ℕ) → (most < n → ⊥) → n ≤ most
 at_most most n not_over = elim (cases_lt most n) [ inl over ↦ absurd (not_over over) | inr within ↦ within ]
 
-right_class : (kind : Kind) (point : Point) → (IsWrong kind point → ⊥) → point.class ≤ 3
-right_class Binary point right = at_most 3 point.class (λ over. right (inl over))
-right_class Counter point right = at_most 3 point.class (λ over. right (inl over))
-right_class Analog point right = at_most 3 point.class right
+right_class : (kind : Kind) (point : Point) → (IsWrong kind point → ⊥) → point.class ≤ CLASSES
+right_class Binary point right = at_most CLASSES point.class (λ over. right (inl over))
+right_class Counter point right = at_most CLASSES point.class (λ over. right (inl over))
+right_class Analog point right = at_most CLASSES point.class right
 
 -- what of a plan's block makes its points sound
 record IsRight (block : Block) : Type 0 where
-  pub few : length block.points ≤ 1024
-  pub narrow : block.base + length block.points ≤ 2 ^ 16
-  pub classes : All (λ (point : Point). point.class ≤ 3) block.points
+  pub few : length block.points ≤ MAX_POINTS
+  pub narrow : block.base + length block.points ≤ INDICES
+  pub classes : All (λ (point : Point). point.class ≤ CLASSES) block.points
 
 right_block : (kind : Kind) (block : Block) → IsRight block → IsSoundBlock kind (new_block block)
 right_block kind block right = record {
   few = omega (arith, right.few, length-map block.points new_state);
   narrow = omega (arith, right.narrow, length-map block.points new_state);
-  points = all_mapped (λ (point : Point). point.class ≤ 3) (IsSoundPoint kind) new_state (new_point kind) block.points right.classes;
+  points = all_mapped (λ (point : Point). point.class ≤ CLASSES) (IsSoundPoint kind) new_state (new_point kind) block.points right.classes;
 }
 
 all_right : (kind : Kind) (blocks : List Block) → (Any (HasWrongPoint kind) blocks → ⊥) → (Any HasTooMany blocks → ⊥) → (Any IsTooWide blocks → ⊥)
     → All IsRight blocks
 all_right kind blocks classes few narrow k d lt =
-    let class = all_from_none (HasWrongPoint kind) (λ (b : Block). All (λ (point : Point). point.class ≤ 3) b.points)
-    (λ b none. all_from_none (IsWrong kind) (λ (point : Point). point.class ≤ 3) (right_class kind) b.points none) blocks classes k d lt in
+    let class = all_from_none (HasWrongPoint kind) (λ (b : Block). All (λ (point : Point). point.class ≤ CLASSES) b.points)
+    (λ b none. all_from_none (IsWrong kind) (λ (point : Point). point.class ≤ CLASSES) (right_class kind) b.points none) blocks classes k d lt in
     record {
-      few = all_from_none HasTooMany (λ (b : Block). length b.points ≤ 1024) (λ b not_over. at_most 1024 (length b.points) not_over) blocks few k d lt;
-      narrow = all_from_none IsTooWide (λ (b : Block). b.base + length b.points ≤ 2 ^ 16)
-          (λ b not_over. at_most (2 ^ 16) (b.base + length b.points) not_over) blocks narrow k d lt;
+      few = all_from_none HasTooMany (λ (b : Block). length b.points ≤ MAX_POINTS) (λ b not_over. at_most MAX_POINTS (length b.points) not_over) blocks few k d lt;
+      narrow = all_from_none IsTooWide (λ (b : Block). b.base + length b.points ≤ INDICES)
+          (λ b not_over. at_most INDICES (b.base + length b.points) not_over) blocks narrow k d lt;
       classes = class;
     }
 
@@ -266,65 +270,58 @@ new_is_sound plan sound Binary = kind_is_sound plan sound Binary
 new_is_sound plan sound Counter = kind_is_sound plan sound Counter
 new_is_sound plan sound Analog = kind_is_sound plan sound Analog
 
--- other blocks of one kind
-sound_with : (database : Database) (kind : Kind) (bs : List BlockState) → IsSound database → AreSound kind bs
-    → IsSound (with_blocks database kind bs)
-sound_with database Binary bs sound now Binary = now
-sound_with database Binary bs sound now Counter = sound Counter
-sound_with database Binary bs sound now Analog = sound Analog
-sound_with database Counter bs sound now Binary = sound Binary
-sound_with database Counter bs sound now Counter = now
-sound_with database Counter bs sound now Analog = sound Analog
-sound_with database Analog bs sound now Binary = sound Binary
-sound_with database Analog bs sound now Counter = sound Counter
-sound_with database Analog bs sound now Analog = now
+-- banks that are those of a plan
+pub new_banks_are_sound : (plan : Plan) (binary counter analog : List BlockState) → plan_words.IsSound plan
+    → binary ≡ map new_block (plan_words.blocks_of plan Binary) → counter ≡ map new_block (plan_words.blocks_of plan Counter)
+    → analog ≡ map new_block (plan_words.blocks_of plan Analog) → IsSound (record { banks = binary ∷ counter ∷ analog ∷ [] })
+new_banks_are_sound plan binary counter analog sound b c a Binary =
+    subst (λ (bs : List BlockState). AreSound Binary bs) (sym b) (kind_is_sound plan sound Binary)
+new_banks_are_sound plan binary counter analog sound b c a Counter =
+    subst (λ (bs : List BlockState). AreSound Counter bs) (sym c) (kind_is_sound plan sound Counter)
+new_banks_are_sound plan binary counter analog sound b c a Analog =
+    subst (λ (bs : List BlockState). AreSound Analog bs) (sym a) (kind_is_sound plan sound Analog)
+
+-- a change of the blocks of one kind
+sound_with : (database : Database) (kind : Kind) (change : List BlockState → List BlockState) → change [] ≡ [] → IsSound database
+    → AreSound kind (change (blocks_of database kind)) → IsSound (with_blocks database kind (change (blocks_of database kind)))
+sound_with database kind change none sound now other =
+    let after : Database = with_blocks database kind (change (blocks_of database kind)) in
+    elim (same_or_not kind other) [
+      | inl same ↦ subst (λ (k : Kind). AreSound k (blocks_of after k)) same
+          (subst (λ (bs : List BlockState). AreSound kind bs) (sym (blocks_of-same change none database kind)) now)
+      | inr apart ↦ subst (λ (bs : List BlockState). AreSound other bs)
+          (sym (blocks_of-other database kind other (change (blocks_of database kind)) apart)) (sound other)
+    ]
 
 pub changed_is_sound : (database : Database) (kind : Kind) (index : ℕ) (reading : Reading) → IsSound database
     → IsSound (changed_of database kind index reading)
 changed_is_sound database kind index reading sound =
-    sound_with database kind (changed_in (blocks_of database kind) kind index reading) sound
+    sound_with database kind (λ bs. changed_in bs kind index reading) (read_in-none (changed_state kind index reading) (is_in_range kind reading) index) sound
     (changed_sound kind (blocks_of database kind) index reading (sound kind))
 
 pub set_is_sound : (database : Database) (kind : Kind) (index : ℕ) (reading : Reading) → IsSound database
     → IsSound (set_of database kind index reading)
 set_is_sound database kind index reading sound =
-    sound_with database kind (set_in (blocks_of database kind) kind index reading) sound
+    sound_with database kind (λ bs. set_in bs kind index reading) (read_in-none (set_state reading) (is_in_range kind reading) index) sound
     (set_sound kind (blocks_of database kind) index reading (sound kind))
 
+-- a change of the blocks of each kind
+sound_each : (change : List BlockState → List BlockState) → change [] ≡ []
+    → ((kind : Kind) (bs : List BlockState) → AreSound kind bs → AreSound kind (change bs))
+    → (database : Database) → IsSound database → IsSound (each_kind change database)
+sound_each change none keeps database sound kind =
+    subst (λ (bs : List BlockState). AreSound kind bs) (sym (blocks_of-each change none database kind))
+    (keeps kind (blocks_of database kind) (sound kind))
+
 pub lost_is_sound : (database : Database) (number : ℕ) → IsSound database → IsSound (lost_of database number)
-lost_is_sound database number sound Binary = lost_sound Binary database.binary number (sound Binary)
-lost_is_sound database number sound Counter = lost_sound Counter database.counter number (sound Counter)
-lost_is_sound database number sound Analog = lost_sound Analog database.analog number (sound Analog)
+lost_is_sound database number sound =
+    sound_each (λ bs. updated lost_block bs number) refl (λ kind bs s. lost_sound kind bs number s) database sound
 
 pub restarted_is_sound : (database : Database) → IsSound database → IsSound (restarted database)
-restarted_is_sound database sound Binary = restarted_sound Binary database.binary (sound Binary)
-restarted_is_sound database sound Counter = restarted_sound Counter database.counter (sound Counter)
-restarted_is_sound database sound Analog = restarted_sound Analog database.analog (sound Analog)
+restarted_is_sound database sound = sound_each (map restarted_block) refl restarted_sound database sound
 
--- ---- the banks of the three kinds
-
--- after a call on the bank of one kind, the others being as they were
-pub changed_bank : (database : Database) (kind own : Kind) (index : ℕ) (reading : Reading) (bs : List BlockState) → kind ≡ own
-    → bs ≡ changed_in (blocks_of database own) kind index reading → IsSound database → IsSound (with_blocks database own bs)
-changed_bank database kind own index reading bs same is sound =
-    let P : Kind → Type 0 = λ k. bs ≡ changed_in (blocks_of database own) k index reading in
-    sound_with database own bs sound
-    (subst (λ (cs : List BlockState). AreSound own cs) (sym (subst P same is)) (changed_sound own (blocks_of database own) index reading (sound own)))
-
-pub set_bank : (database : Database) (kind own : Kind) (index : ℕ) (reading : Reading) (bs : List BlockState) → kind ≡ own
-    → bs ≡ set_in (blocks_of database own) kind index reading → IsSound database → IsSound (with_blocks database own bs)
-set_bank database kind own index reading bs same is sound =
-    let P : Kind → Type 0 = λ k. bs ≡ set_in (blocks_of database own) k index reading in
-    sound_with database own bs sound
-    (subst (λ (cs : List BlockState). AreSound own cs) (sym (subst P same is)) (set_sound own (blocks_of database own) index reading (sound own)))
-
--- three banks that are those of a sound database
-pub same_banks : (database : Database) (binary counter analog : List BlockState)
-    → binary ≡ database.binary → counter ≡ database.counter → analog ≡ database.analog → IsSound database
-    → IsSound (database_of binary counter analog)
-same_banks database binary counter analog b c a sound Binary = subst (λ (bs : List BlockState). AreSound Binary bs) (sym b) (sound Binary)
-same_banks database binary counter analog b c a sound Counter = subst (λ (bs : List BlockState). AreSound Counter bs) (sym c) (sound Counter)
-same_banks database binary counter analog b c a sound Analog = subst (λ (bs : List BlockState). AreSound Analog bs) (sym a) (sound Analog)
+pub sound_same : (now database : Database) → now ≡ database → IsSound database → IsSound now
+sound_same now database same sound = subst (λ (d : Database). IsSound d) (sym same) sound
 
 -- ---- a point of a sound database
 

@@ -1,4 +1,4 @@
--- Points and their indices (IEEE Std 1815-2012, object library: a point has a number within its
+-- Definition: points and their indices (IEEE Std 1815-2012, object library: a point has a number within its
 -- kind). A block gives its points the indices from its base on.
 use Rattle.std.specs.Prelude.{ℕ, ◌+◌, ◌<◌, ◌≤◌, List, length}
 use Rattle.std.specs.List.{HoldsAt}

@@ -1,9 +1,9 @@
--- The points of a station with their readings and last reports, and what each call does to them. Each
+-- Definition: the points of a station with their readings and last reports, and what each call does to them. Each
 -- call is one function here: the contracts of the calls and the laws are stated by it.
-use Rattle.std.specs.Prelude.{◌≡◌, ℕ, zero, suc, ◌+◌, ◌-◌, Bool, false, ◌&&◌, nat_lt, nat_le, if◌then◌else◌, List, [], ◌∷◌, map, length, Option, Some, None, Result, Ok, Err, slice_get, bit_and, bit_or, ⊤}
+use Rattle.std.specs.Prelude.{◌≡◌, ℕ, zero, suc, ◌+◌, ◌-◌, Bool, false, ◌&&◌, nat_lt, nat_le, if◌then◌else◌, List, [], ◌∷◌, map, length, Option, Some, None, Result, Ok, Err, slice_get, slice_set, slice_index_or, bit_and, bit_or, ⊤}
 use Rattle.dnp_objects.specs.Faults.{IsFirstOf}
 use Rattle.dnp_objects.specs.declared.row.Kind.{Kind}
-use Rattle.dnp_objects.specs.declared.row.Kind.TheVariants.{Binary, Counter, Analog}
+use Rattle.dnp_objects.specs.Lanes.{kind_number}
 use Rattle.dnp_objects.specs.declared.lane.LaneRow.{LaneRow}
 use Rattle.dnp_objects.specs.declared.flags.TheConstants.{ONLINE, COMM_LOST}
 use Rattle.dnp_pointdb.specs.declared.point.Point.{Point}
@@ -13,39 +13,27 @@ use Rattle.dnp_pointdb.specs.declared.state.PointState.{PointState}
 use Rattle.dnp_pointdb.specs.declared.state.BlockState.{BlockState}
 use Rattle.dnp_pointdb.specs.declared.fault.ChangeFault.{ChangeFault}
 use Rattle.dnp_pointdb.specs.declared.fault.ChangeFault.TheVariants.{NoPoint, ValueRange, TimeRange}
-use Rattle.dnp_pointdb.specs.Plan.{Plan}
+use Rattle.dnp_pointdb.specs.Plan.{Plan, kinds}
+use Rattle.dnp_pointdb.specs.Plan as plan_words
 use Rattle.dnp_pointdb.specs.Ranges.{is_carried, is_in_time, is_in_range}
 use Rattle.dnp_pointdb.specs.Events.{first_reading, first_report, event_of, report_after}
 
 -- ---- the record
 
--- the blocks of each kind, in the plan's order
+-- the blocks of each kind by the kind's number, each kind's in the plan's order
 pub record Database : Type 0 where
-  pub binary : List BlockState
-  pub counter : List BlockState
-  pub analog : List BlockState
-
-abbrev pub database_of : List BlockState → List BlockState → List BlockState → Database
-database_of binary counter analog = record { binary = binary; counter = counter; analog = analog }
+  pub banks : List (List BlockState)
 
 abbrev pub blocks_of : Database → Kind → List BlockState
-blocks_of database Binary = database.binary
-blocks_of database Counter = database.counter
-blocks_of database Analog = database.analog
+blocks_of database kind = slice_index_or database.banks (kind_number kind) []
 
 -- the database with other blocks of one kind
 abbrev pub with_blocks : Database → Kind → List BlockState → Database
-with_blocks database Binary blocks = record database { binary = blocks }
-with_blocks database Counter blocks = record database { counter = blocks }
-with_blocks database Analog blocks = record database { analog = blocks }
+with_blocks database kind blocks = record { banks = slice_set database.banks (kind_number kind) blocks }
 
 -- the same change to the blocks of each kind
 abbrev pub each_kind : (List BlockState → List BlockState) → Database → Database
-each_kind change database = record {
-  binary = change database.binary;
-  counter = change database.counter;
-  analog = change database.analog;
-}
+each_kind change database = record { banks = map change database.banks }
 
 -- ---- one point of it
 
@@ -86,11 +74,7 @@ abbrev pub new_block : Block → BlockState
 new_block block = record { base = block.base; points = map new_state block.points }
 
 abbrev pub new_database : Plan → Database
-new_database plan = record {
-  binary = map new_block plan.binary;
-  counter = map new_block plan.counter;
-  analog = map new_block plan.analog;
-}
+new_database plan = record { banks = map (λ kind. map new_block (plan_words.blocks_of plan kind)) kinds }
 
 abbrev pub restarted_state : PointState → PointState
 restarted_state state = new_state state.point

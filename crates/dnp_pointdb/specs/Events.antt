@@ -1,4 +1,4 @@
--- When a change of a point is an event, and the list of the events of one point (IEEE Std 1815-2012,
+-- Definition: when a change of a point is an event, and the list of the events of one point (IEEE Std 1815-2012,
 -- application layer: event classes, deadbands; object library: flags). There is no database here and
 -- there are no lanes: one point, its last report, and what happens to it.
 use Rattle.std.specs.Prelude.{ℕ, zero, suc, ℤ, pos, ◌-ℤ◌, Bool, not, ◌||◌, ◌==◌, nat_lt, if◌then◌else◌, List, [], ◌∷◌, ◌++◌, Option, Some, None, is_some}

@@ -1,8 +1,11 @@
+-- Definitions, by which contracts promise.
 pub mod Blocks
+pub mod Classes
 pub mod Database
 pub mod Events
-pub mod Order
 pub mod Plan
 pub mod Ranges
 pub mod Runs
 pub mod Sound
+-- Words of private steps.
+pub mod Order

@@ -1,5 +1,5 @@
--- How a point is looked up: the blocks that have points, by rising base. Only private functions speak
--- of it; what a look-up has to find is said in Database.antt.
+-- Private steps: how a point is looked up: the blocks that have points, by rising base. What a look-up has to find
+-- is said in Database.antt.
 use Rattle.std.specs.Prelude.{◌≡◌, ℕ, suc, ◌+◌, ◌-◌, ◌<◌, Bool, ◌&&◌, nat_lt, nat_le, if◌then◌else◌, List, [], ◌∷◌, map, length, Option, Some, None, All, Any, true, slice_index_or}
 use Rattle.std.specs.Option.{option_map}
 use Rattle.std.specs.List.{HoldsAt}

@@ -1,4 +1,4 @@
--- A run of a whole station: changes of its points and restarts, one after another, each done by the
+-- Definition: a run of a whole station: changes of its points and restarts, one after another, each done by the
 -- call's own function; and what of it concerns one point.
 use Rattle.std.specs.Prelude.{ℕ, Bool, ◌&&◌, ◌==◌, if◌then◌else◌, List, [], ◌∷◌, ◌++◌, filter, Option, Some, None, Result, Ok, Err}
 use Rattle.std.specs.Option.{option_to_list}

@@ -1,8 +1,10 @@
--- What is so of every database, and so what a caller may rest on without a test: its points have
+-- Definition: what is so of every database, and so what a caller may rest on without a test: its points have
 -- classes, its readings can be written, and each index is one point's (IEEE Std 1815-2012,
 -- application layer: event classes; object library: point indices, ranges of values and times).
-use Rattle.std.specs.Prelude.{◌≡◌, ℕ, ◌+◌, ◌≤◌, ◌^◌, true, List, length, All}
+use Rattle.std.specs.Prelude.{◌≡◌, ℕ, ◌+◌, ◌≤◌, true, List, length, All}
 use Rattle.std.specs.List.{AllPairs}
+use Rattle.dnp_objects.specs.declared.limits.TheConstants.{CLASSES}
+use Rattle.dnp_pointdb.specs.declared.limits.TheConstants.{INDICES, MAX_POINTS}
 use Rattle.dnp_objects.specs.declared.row.Kind.{Kind}
 use Rattle.dnp_objects.specs.declared.row.Kind.TheVariants.{Binary, Counter, Analog}
 use Rattle.dnp_pointdb.specs.declared.state.PointState.{PointState}
@@ -12,14 +14,14 @@ use Rattle.dnp_pointdb.specs.Database.{Database, blocks_of, has_index}
 
 -- a point of this kind has a class from 0 to 3, and its reading is one that it may be changed to
 pub record IsSoundPoint (kind : Kind) (state : PointState) : Type 0 where
-  pub class : state.point.class ≤ 3
+  pub class : state.point.class ≤ CLASSES
   pub carried : is_carried kind state.reading ≡ true
   pub in_time : is_in_time state.reading.time ≡ true
 
 -- a block of this kind has at most 1,024 points, all sound, with indices up to 65,535
 pub record IsSoundBlock (kind : Kind) (block : BlockState) : Type 0 where
-  pub few : length block.points ≤ 1024
-  pub narrow : block.base + length block.points ≤ 2 ^ 16
+  pub few : length block.points ≤ MAX_POINTS
+  pub narrow : block.base + length block.points ≤ INDICES
   pub points : All (IsSoundPoint kind) block.points
 
 -- no index belongs to both blocks

@@ -1,6 +1,6 @@
 //! The points of one kind.
 
-ghost use Rattle.std.specs.Prelude.{◌≡◌, ◌<◌, List, map, length, Option, IfOk, OnErr, slice_index_or, slice_set};
+ghost use Rattle.std.specs.Prelude.{◌≡◌, ◌<◌, List, map, length, Option, IfOk, IfErr, OnErr, Some, Ok, Err, slice_index_or, slice_set};
 ghost use Rattle.std.specs.List.{HoldsAt};
 ghost use Rattle.dnp_pointdb.specs.declared.state.BlockState.{BlockState as BlockValue};
 ghost use Rattle.dnp_pointdb.specs.Database as spec;
@@ -17,9 +17,9 @@ use std::marker::Model;
 /// The blocks of one kind, in the plan's order, and how a point of them is looked up.
 #[derive(Debug, Drop)]
 pub struct Bank {
+    /// The blocks, in the plan's order.
     blocks: Vec<BlockState>,
-
-    // Those of the blocks that have points, by rising base.
+    /// Those of the blocks that have points, by rising base.
     order: Vec<Place>,
 }
 
@@ -89,6 +89,26 @@ impl Bank {
         find(&self.order, index)
     }
 
+    /// The number of the block that has the index, the point's place in it and the point, if it can
+    /// have the reading, or the first cause to refuse it.
+    fn find_checked(
+        &self,
+        kind: Kind,
+        index: u16,
+        reading: Reading,
+    ) -> Result<(usize, usize, PointState), ChangeFault>
+        ensures place { IfOk result (λ found. place_in (extents self.now) index ≡ Some (found.0, found.1)) }
+        ensures state { IfOk result (λ found. spec.state_in self.now index ≡ Some found.2) }
+        ensures checked { IfOk result (λ found. spec.checked (spec.state_in self.now index) kind reading ≡ Ok found.2) }
+        ensures fault { IfErr result (λ fault. spec.checked (spec.state_in self.now index) kind reading ≡ Err fault) }
+    {
+        let Some((block, place)) = self.find(index) else {
+            return Err(ChangeFault::NoPoint);
+        };
+        let state = checked(Some(self.blocks[block].state(place)), kind, reading)?;
+        Ok((block, place, state))
+    }
+
     /// Puts the point at this place of the block with this number.
     fn put(&mut self, block: usize, place: usize, state: PointState)
         requires block { block < length self.old }
@@ -131,10 +151,7 @@ impl Bank {
         ensures after { self.new ≡ spec.changed_in self.old kind index reading }
         ensures err { OnErr result (self.new ≡ self.old) }
     {
-        let Some((block, place)) = self.find(index) else {
-            return Err(ChangeFault::NoPoint);
-        };
-        let state = checked(Some(self.blocks[block].state(place)), kind, reading)?;
+        let (block, place, state) = self.find_checked(kind, index, reading)?;
         let (state, event) = state.change(kind, index, reading);
         self.put(block, place, state);
         Ok(event)
@@ -146,10 +163,7 @@ impl Bank {
         ensures after { self.new ≡ spec.set_in self.old kind index reading }
         ensures err { OnErr result (self.new ≡ self.old) }
     {
-        let Some((block, place)) = self.find(index) else {
-            return Err(ChangeFault::NoPoint);
-        };
-        let state = checked(Some(self.blocks[block].state(place)), kind, reading)?;
+        let (block, place, state) = self.find_checked(kind, index, reading)?;
         self.put(block, place, state.set(reading));
         Ok(())
     }

@@ -1,7 +1,11 @@
-ghost use Rattle.std.specs.Prelude.{◌≡◌, ◌≤◌, true, OnErr, IfOk, IfErr, IfSome, Err};
+//! The points of a station, by kind and index.
+
+ghost use Rattle.std.specs.Prelude.{◌≡◌, ◌≤◌, true, OnErr, IfOk, IfErr, IfSome, Err, map};
 ghost use Rattle.std.specs.Option.{option_map};
 ghost use Rattle.dnp_objects.specs.Events.{IsEvent};
 ghost use Rattle.dnp_pointdb.specs.declared.fault.ChangeFault.{ChangeFault as FaultValue};
+ghost use Rattle.dnp_pointdb.specs.Database as spec;
+ghost use Rattle.dnp_pointdb.specs.Plan as plan_words;
 ghost use Rattle.dnp_pointdb.specs.Ranges.{is_in_range};
 ghost use Rattle.dnp_pointdb.specs.Sound.{IsSound, IsSoundPoint, AreSound};
 
@@ -10,7 +14,7 @@ use crate::fault::ChangeFault;
 use crate::plan::PointPlan;
 use crate::reading::Reading;
 use crate::state::{BlockState, PointState};
-use dnp_objects::{Kind, LaneRow};
+use dnp_objects::{CLASSES, KINDS, Kind, LaneRow};
 use std::alloc::{AllocError, Global};
 use std::marker::Model;
 
@@ -22,21 +26,19 @@ use std::marker::Model;
 /// allocates. A clause sees the blocks of each kind with the states of their points.
 #[derive(Debug, Drop)]
 pub struct PointDb {
-    binary: Bank,
-    counter: Bank,
-    analog: Bank,
+    /// The points of each kind, by the kind's number.
+    banks: [Bank; KINDS],
 }
 
 impl Model for PointDb {
-    ghost use Rattle.dnp_pointdb.specs.Database.{Database, database_of};
+    ghost use Rattle.dnp_pointdb.specs.Database.{Database};
     ghost use Rattle.dnp_pointdb.specs.Sound.{IsSound};
 
     ghost Value = { Database };
 
-    ghost view = { λ database. database_of database.binary database.counter database.analog };
+    ghost view = { λ database. record { banks = database.banks } };
 
-    ghost invariant = { λ database.
-        IsSound (database_of database.binary database.counter database.analog) };
+    ghost invariant = { λ database. IsSound (record { banks = database.banks }) };
 }
 
 impl PointDb {
@@ -49,11 +51,12 @@ impl PointDb {
         ensures value { IfOk result (λ database. database ≡ spec.new_database plan) }
         ensures sound { IfOk result IsSound }
     {
-        Ok(PointDb {
-            binary: Bank::new(alloc, plan.blocks(Kind::Binary))?,
-            counter: Bank::new(alloc, plan.blocks(Kind::Counter))?,
-            analog: Bank::new(alloc, plan.blocks(Kind::Analog))?,
-        })
+        let banks = [
+            bank_of(alloc, &plan, Kind::Binary)?,
+            bank_of(alloc, &plan, Kind::Counter)?,
+            bank_of(alloc, &plan, Kind::Analog)?,
+        ];
+        Ok(PointDb { banks })
     }
 
     /// The points of a kind.
@@ -61,11 +64,7 @@ impl PointDb {
         ensures value { result.now ≡ spec.blocks_of self.now kind }
         ensures sound { IsSound self.now }
     {
-        match kind {
-            Kind::Binary => &self.binary,
-            Kind::Counter => &self.counter,
-            Kind::Analog => &self.analog,
-        }
+        &self.banks[kind.number()]
     }
 
     /// The blocks of a kind, in the plan's order, as they stand. Each has at most 1,024 points,
@@ -101,7 +100,7 @@ impl PointDb {
     pub fn class_of(&self, kind: Kind, index: u16) -> Option<u8>
         ensures value { result
             ≡ option_map (λ state. state.point.class) (spec.state_at self.now kind index) }
-        ensures highest { IfSome result (λ class. class ≤ 3) }
+        ensures highest { IfSome result (λ class. class ≤ CLASSES) }
     {
         self.state(kind, index).map(|state| state.point.class)
     }
@@ -151,11 +150,7 @@ impl PointDb {
         ensures err { OnErr result (self.new ≡ self.old) }
         ensures sound { IsSound self.new }
     {
-        match kind {
-            Kind::Binary => self.binary.change(kind, index, reading),
-            Kind::Counter => self.counter.change(kind, index, reading),
-            Kind::Analog => self.analog.change(kind, index, reading),
-        }
+        self.banks[kind.number()].change(kind, index, reading)
     }
 
     /// Takes in a new reading of a point that is no event: the last report stays. The refusals are
@@ -169,11 +164,7 @@ impl PointDb {
         ensures err { OnErr result (self.new ≡ self.old) }
         ensures sound { IsSound self.new }
     {
-        match kind {
-            Kind::Binary => self.binary.set(kind, index, reading),
-            Kind::Counter => self.counter.set(kind, index, reading),
-            Kind::Analog => self.analog.set(kind, index, reading),
-        }
+        self.banks[kind.number()].set(kind, index, reading)
     }
 
     /// The device behind a block can't be reached: in the block with this number in the plan, from
@@ -183,9 +174,7 @@ impl PointDb {
         ensures after { self.new ≡ spec.lost_of self.old block }
         ensures sound { IsSound self.new }
     {
-        self.binary.lose(block);
-        self.counter.lose(block);
-        self.analog.lose(block);
+        lose_in(&mut self.banks, block);
     }
 
     /// Sets each reading and each last report back to the value 0 with the flags 02 (RESTART) and
@@ -194,8 +183,31 @@ impl PointDb {
         ensures after { self.new ≡ spec.restarted self.old }
         ensures sound { IsSound self.new }
     {
-        self.binary.restart();
-        self.counter.restart();
-        self.analog.restart();
+        restart_each(&mut self.banks);
+    }
+}
+
+/// The points of this kind of the plan, of which nothing was read.
+fn bank_of(alloc: Global, plan: &PointPlan, kind: Kind) -> Result<Bank, AllocError>
+    ensures { IfOk result (λ bank. bank ≡ map spec.new_block (plan_words.blocks_of plan.now kind)) }
+{
+    Bank::new(alloc, plan.blocks(kind))
+}
+
+/// The communication of the block with this number was lost, in each bank that has one.
+fn lose_in(banks: &mut [Bank; KINDS], number: usize)
+    ensures { banks.new ≡ map (λ blocks. spec.updated spec.lost_block blocks number) banks.old }
+{
+    for bank in banks {
+        bank.lose(number);
+    }
+}
+
+/// Nothing was read of any point of the banks.
+fn restart_each(banks: &mut [Bank; KINDS])
+    ensures { banks.new ≡ map (map spec.restarted_block) banks.old }
+{
+    for bank in banks {
+        bank.restart();
     }
 }

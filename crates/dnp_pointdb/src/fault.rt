@@ -1,3 +1,5 @@
+//! Why a plan or a reading is refused.
+
 use thiserror::Error;
 
 /// Why blocks of points are no plan, in the order in which the causes are looked for. Each cause is

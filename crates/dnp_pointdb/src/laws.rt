@@ -1,7 +1,9 @@
-//! Laws of the points: each function does nothing, and its contract is a law.
+//! Laws of the words of `specs/`: each function does nothing, and its contract is a law.
+
 ghost use Rattle.std.specs.Prelude.{◌≡◌, ◌≢◌, ℕ, ◌≤◌, ◌<◌, ◌+◌, ◌-◌, ◌⊎◌, ◌↔◌, List, Bool, true, IsSome, IfSome, IfOk, IsTrue, IsNone, Contains, Any, length, slice_get};
 ghost use Rattle.std.specs.Option.{option_map, IsSomeAnd};
 ghost use Rattle.std.specs.Int.{bit_at};
+ghost use Rattle.dnp_objects.specs.declared.limits.TheConstants.{CLASSES};
 ghost use Rattle.dnp_objects.specs.declared.row.Kind.{Kind as KindValue};
 ghost use Rattle.dnp_objects.specs.Objects.{shape_written};
 ghost use Rattle.dnp_objects.specs.Rows.{row_fits, Fits};
@@ -27,7 +29,7 @@ ghost use Rattle.dnp_pointdb.specs.Runs.{Move, rows_of, rows_at, happened_at, ha
 pub fn a_change_of_note_is_an_event()
     ensures event { (kind : KindValue) (index : ℕ) (point : PointValue) (last : ReportValue) (reading : ReadingValue)
         → IsSome (event_of kind index point last reading)
-        ↔ ((1 ≤ point.class) × (point.class ≤ 3)
+        ↔ ((1 ≤ point.class) × (point.class ≤ CLASSES)
         × ((reading.flags ≢ last.flags) ⊎ (point.deadband < distance reading.value last.value))) }
     ensures row { (kind : KindValue) (index : ℕ) (point : PointValue) (last : ReportValue) (reading : ReadingValue)
         → IfSome (event_of kind index point last reading)

@@ -4,10 +4,12 @@
 #![tactic(auto)]
 
 mod bank;
+mod blocks;
 mod database;
 mod event;
 mod fault;
 pub mod laws;
+mod limits;
 mod order;
 mod plan;
 mod point;
@@ -18,6 +20,7 @@ mod times;
 
 pub use database::PointDb;
 pub use fault::{ChangeFault, PlanFault};
+pub use limits::{INDICES, MAX_POINTS};
 pub use plan::PointPlan;
 pub use point::{Block, Point, Points};
 pub use reading::{Reading, Report};

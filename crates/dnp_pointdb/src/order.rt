@@ -10,8 +10,11 @@ use std::alloc::{AllocError, Global};
 /// Where a block's points stand: the index of the first, how many they are, and the block's number.
 #[derive(Clone, Copy, Debug)]
 pub struct Place {
+    /// The index of the block's first point.
     pub first: u16,
+    /// How many points it has, at least 1.
     pub count: usize,
+    /// The block's number in the plan, from 0.
     pub block: usize,
 }
 

@@ -1,24 +1,20 @@
+//! The plan of a station's points.
+
 ghost use Rattle.std.specs.Prelude.{◌≡◌, ◌↔◌, List, MatchOption, IfOk, IfErr, IsTrue, Any, Ok, Err};
 ghost use Rattle.dnp_pointdb.specs.declared.point.Block.{Block as BlockValue};
 ghost use Rattle.dnp_pointdb.specs.declared.fault.PlanFault.{PlanFault as FaultValue};
 ghost use Rattle.dnp_pointdb.specs.Blocks.{ShareIndex};
-ghost use Rattle.dnp_pointdb.specs.Plan.{plan_of, IsPlanFault, IsFirst, IsSound, HasWrongPoint, HasTooMany, IsTooWide, IsWrong};
+ghost use Rattle.dnp_pointdb.specs.Classes as classes;
+ghost use Rattle.dnp_pointdb.specs.Plan.{plan_of, blocks_of, IsPlanFault, IsFirst, IsSound, HasWrongPoint, HasTooMany, IsTooWide, IsWrong};
 
+use crate::blocks::Blocks;
 use crate::fault::PlanFault;
+use crate::limits::{INDICES, MAX_POINTS};
 use crate::point::{Block, Point};
 use crate::taken::share_index;
-use dnp_objects::Kind;
+use dnp_objects::{CLASSES, Kind};
 use std::alloc::{AllocError, Global};
 use std::marker::Model;
-
-/// The highest class of a point.
-const HIGHEST_CLASS: u8 = 3;
-
-/// The most points of a block.
-const MOST_POINTS: usize = 1_024;
-
-/// The number after the highest index.
-const INDICES: usize = 65_536;
 
 /// The points of a station by kind and index (IEEE Std 1815-2012, object library): for each kind a
 /// list of blocks, in any order, of which no two share an index. A block is known by its number in
@@ -27,22 +23,21 @@ const INDICES: usize = 65_536;
 /// A clause sees the three lists.
 #[derive(Debug, Drop)]
 pub struct PointPlan {
-    binary: Vec<Block>,
-    counter: Vec<Block>,
-    analog: Vec<Block>,
+    /// The blocks of each kind, in the plan's order.
+    blocks: Blocks,
 }
 
 impl Model for PointPlan {
-    ghost use Rattle.dnp_pointdb.specs.Plan.{Plan, plan_of, IsSound};
+    ghost use Rattle.dnp_pointdb.specs.Plan.{Plan, IsSound};
 
     ghost Value = { Plan };
 
-    ghost view = { λ plan. plan_of plan.binary.items plan.counter.items plan.analog.items };
+    ghost view = { λ plan. plan.blocks };
 
-    ghost invariant = { λ plan. IsSound (plan_of plan.binary.items plan.counter.items plan.analog.items) };
+    ghost invariant = { λ plan. IsSound plan.blocks };
 }
 
-/// Whether a point of this kind has a class over 3, or a deadband that is none of its kind's.
+/// Whether a point of this kind has a class over `CLASSES`, or a deadband that is none of its kind's.
 fn is_wrong(kind: Kind, point: &Point) -> bool
     ensures { IsTrue result ↔ IsWrong kind point.now }
 {
@@ -50,9 +45,10 @@ fn is_wrong(kind: Kind, point: &Point) -> bool
         Kind::Binary | Kind::Counter => point.deadband > 0,
         Kind::Analog => false,
     };
-    point.class > HIGHEST_CLASS || has_deadband
+    point.class > CLASSES || has_deadband
 }
 
+/// Whether a point of the block, which is of this kind, has a wrong class or deadband.
 fn has_wrong_point(kind: Kind, block: &Block) -> bool
     ensures { IsTrue result ↔ HasWrongPoint kind block.now }
 {
@@ -63,73 +59,102 @@ fn has_wrong_point(kind: Kind, block: &Block) -> bool
         .any(|point| is_wrong(kind, point))
 }
 
-fn some_wrong_point(kind: Kind, blocks: &[Block]) -> bool
-    ensures { IsTrue result ↔ Any (HasWrongPoint kind) blocks.now }
-{
-    blocks.iter().any(|block| has_wrong_point(kind, block))
-}
-
-fn some_too_many(blocks: &[Block]) -> bool
-    ensures { IsTrue result ↔ Any HasTooMany blocks.now }
+/// Whether some point of this kind has a wrong class or deadband.
+fn some_wrong_point(blocks: &Blocks, kind: Kind) -> bool
+    ensures { IsTrue result ↔ Any (HasWrongPoint kind) (blocks_of blocks.now kind) }
 {
     blocks
+        .of(kind)
         .iter()
-        .any(|block| block.points.as_slice().len() > MOST_POINTS)
+        .any(|block| has_wrong_point(kind, block))
 }
 
-fn some_too_wide(blocks: &[Block]) -> bool
-    ensures { IsTrue result ↔ Any IsTooWide blocks.now }
+/// Whether a block of this kind has too many points.
+fn some_too_many(blocks: &Blocks, kind: Kind) -> bool
+    ensures { IsTrue result ↔ Any HasTooMany (blocks_of blocks.now kind) }
 {
-    blocks.iter().any(|block| usize::from(block.base) + block.points.as_slice().len() > INDICES)
+    blocks
+        .of(kind)
+        .iter()
+        .any(|block| block.points.as_slice().len() > MAX_POINTS)
+}
+
+/// Whether a block of this kind has an index over the highest.
+fn some_too_wide(blocks: &Blocks, kind: Kind) -> bool
+    ensures { IsTrue result ↔ Any IsTooWide (blocks_of blocks.now kind) }
+{
+    blocks.of(kind).iter().any(|block| usize::from(block.base) + block.points.as_slice().len()
+        > INDICES)
+}
+
+/// Whether two blocks of this kind, whose indices are below `INDICES`, share an index.
+fn some_overlap(blocks: &Blocks, kind: Kind) -> bool
+    requires { Any IsTooWide (blocks_of blocks.now kind) → ⊥ }
+    ensures { IsTrue result ↔ ShareIndex (blocks_of blocks.now kind) }
+{
+    share_index(blocks.of(kind))
 }
 
 /// Whether a class or a deadband is wrong.
-fn has_wrong_points(binary: &[Block], counter: &[Block], analog: &[Block]) -> bool
-    ensures { IsTrue result ↔ IsPlanFault (plan_of binary.now counter.now analog.now) PlanFault.Class }
+fn has_wrong_points(blocks: &Blocks) -> bool
+    ensures { IsTrue result ↔ IsPlanFault blocks.now PlanFault.Class }
 {
-    some_wrong_point(Kind::Binary, binary)
-        || some_wrong_point(Kind::Counter, counter)
-        || some_wrong_point(Kind::Analog, analog)
+    Kind::ALL.iter().any(|kind| some_wrong_point(blocks, *kind))
 }
 
 /// Whether a block has too many points.
-fn has_too_many(binary: &[Block], counter: &[Block], analog: &[Block]) -> bool
-    ensures { IsTrue result ↔ IsPlanFault (plan_of binary.now counter.now analog.now) PlanFault.TooMany }
+fn has_too_many(blocks: &Blocks) -> bool
+    ensures { IsTrue result ↔ IsPlanFault blocks.now PlanFault.TooMany }
 {
-    some_too_many(binary) || some_too_many(counter) || some_too_many(analog)
+    Kind::ALL.iter().any(|kind| some_too_many(blocks, *kind))
 }
 
 /// Whether an index is over the highest.
-fn is_too_wide(binary: &[Block], counter: &[Block], analog: &[Block]) -> bool
-    ensures { IsTrue result ↔ IsPlanFault (plan_of binary.now counter.now analog.now) PlanFault.TooWide }
+fn is_too_wide(blocks: &Blocks) -> bool
+    ensures { IsTrue result ↔ IsPlanFault blocks.now PlanFault.TooWide }
 {
-    some_too_wide(binary) || some_too_wide(counter) || some_too_wide(analog)
+    Kind::ALL.iter().any(|kind| some_too_wide(blocks, *kind))
 }
 
 /// Whether two blocks of one kind share an index.
-fn has_overlap(binary: &[Block], counter: &[Block], analog: &[Block]) -> bool
-    requires { IsPlanFault (plan_of binary.now counter.now analog.now) PlanFault.TooWide → ⊥ }
-    ensures { IsTrue result ↔ IsPlanFault (plan_of binary.now counter.now analog.now) PlanFault.Overlap }
+fn has_overlap(blocks: &Blocks) -> bool
+    requires { IsPlanFault blocks.now PlanFault.TooWide → ⊥ }
+    ensures { IsTrue result ↔ IsPlanFault blocks.now PlanFault.Overlap }
 {
-    share_index(binary) || share_index(counter) || share_index(analog)
+    Kind::ALL.iter().any(|kind| some_overlap(blocks, *kind))
 }
 
 /// The first thing that is wrong with the blocks, if anything is.
-fn first_fault(binary: &[Block], counter: &[Block], analog: &[Block]) -> Option<PlanFault>
-    ensures { MatchOption result (IsSound (plan_of binary.now counter.now analog.now))
-        (IsFirst (plan_of binary.now counter.now analog.now)) }
+fn first_fault(blocks: &Blocks) -> Option<PlanFault>
+    ensures { MatchOption result (IsSound blocks.now)
+        (IsFirst blocks.now) }
 {
-    if has_wrong_points(binary, counter, analog) {
+    if has_wrong_points(blocks) {
         return Some(PlanFault::Class);
     }
-    if has_too_many(binary, counter, analog) {
+    if has_too_many(blocks) {
         return Some(PlanFault::TooMany);
     }
-    if is_too_wide(binary, counter, analog) {
+    if is_too_wide(blocks) {
         return Some(PlanFault::TooWide);
     }
-    if has_overlap(binary, counter, analog) {
+    if has_overlap(blocks) {
         return Some(PlanFault::Overlap);
+    }
+    None
+}
+
+/// The point of this index, if one of the blocks has it.
+fn point_in(blocks: &[Block], index: u16) -> Option<Point>
+    ensures { result ≡ classes.point_in blocks.now index }
+{
+    for block in blocks {
+        if block.base <= index {
+            let place = usize::from(index - block.base);
+            if let Some(point) = block.points.as_slice().get(place) {
+                return Some(*point);
+            }
+        }
     }
     None
 }
@@ -155,14 +180,11 @@ impl PointPlan {
         ensures only_fault { (fault : FaultValue) → IsFirst (plan_of binary.items counter.items analog.items) fault
             → result ≡ Err fault }
     {
-        if let Some(fault) = first_fault(&binary, &counter, &analog) {
-            return Err(fault);
+        let blocks = Blocks::new(binary, counter, analog);
+        match first_fault(&blocks) {
+            Some(fault) => Err(fault),
+            None => Ok(PointPlan { blocks }),
         }
-        Ok(PointPlan {
-            binary,
-            counter,
-            analog,
-        })
     }
 
     /// The blocks of a kind, in the plan's order.
@@ -170,32 +192,22 @@ impl PointPlan {
         ensures value { result.now ≡ blocks_of self.now kind }
         ensures sound { IsSound self.now }
     {
-        match kind {
-            Kind::Binary => &self.binary,
-            Kind::Counter => &self.counter,
-            Kind::Analog => &self.analog,
-        }
+        self.blocks.of(kind)
     }
 
-    /// The same plan once more. An error says that it ran out of memory.
+    /// The class of the point, 0 to 3, if the plan has it.
+    pub fn class_of(&self, kind: Kind, index: u16) -> Option<u8>
+        ensures { result ≡ classes.class_at self.now kind index }
+    {
+        point_in(self.blocks(kind), index).map(|point| point.class)
+    }
+
+    /// The same plan again. An error says that it ran out of memory.
     pub fn try_clone(&self, alloc: Global) -> Result<PointPlan, AllocError>
         ensures { IfOk result (λ copy. copy ≡ self.now) }
     {
         Ok(PointPlan {
-            binary: clones(alloc, &self.binary)?,
-            counter: clones(alloc, &self.counter)?,
-            analog: clones(alloc, &self.analog)?,
+            blocks: self.blocks.try_clone(alloc)?,
         })
     }
-}
-
-/// The same blocks once more.
-fn clones(alloc: Global, blocks: &[Block]) -> Result<Vec<Block>, AllocError>
-    ensures { IfOk result (λ copies. copies.items ≡ blocks.now) }
-{
-    let mut copies = Vec::with_capacity(alloc, blocks.len())?;
-    for block in blocks {
-        copies.push(block.try_clone(alloc)?)?;
-    }
-    Ok(copies)
 }

@@ -1,3 +1,5 @@
+//! The points of a plan, and blocks of them.
+
 ghost use Rattle.std.specs.Prelude.{◌≡◌, length, IfOk};
 
 use std::alloc::{AllocError, Global};
@@ -17,6 +19,7 @@ pub struct Point {
 /// A clause sees them as a list.
 #[derive(Debug, Drop)]
 pub struct Points {
+    /// The points, in the order of their indices.
     items: Vec<Point>,
 }
 
@@ -44,7 +47,7 @@ impl Points {
         self.items.as_slice()
     }
 
-    /// The same points once more. An error says that it ran out of memory.
+    /// The same points again. An error says that it ran out of memory.
     pub fn try_clone(&self, alloc: Global) -> Result<Self, AllocError>
         ensures { IfOk result (λ copy. copy ≡ self.now) }
     {
@@ -64,7 +67,7 @@ pub struct Block {
 }
 
 impl Block {
-    /// The same block once more. An error says that it ran out of memory.
+    /// The same block again. An error says that it ran out of memory.
     pub fn try_clone(&self, alloc: Global) -> Result<Self, AllocError>
         ensures { IfOk result (λ copy. copy ≡ self.now) }
     {

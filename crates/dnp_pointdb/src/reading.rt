@@ -1,8 +1,10 @@
+//! What a point reads, and what was last reported of it.
+
 ghost use Rattle.std.specs.Prelude.{◌≡◌};
 ghost use Rattle.dnp_pointdb.specs.Ranges as range;
 ghost use Rattle.dnp_pointdb.specs.Events as event;
 
-use dnp_objects::{Kind, flags};
+use dnp_objects::{Kind, MAX_TIME, flags};
 
 /// What a point reads at a moment (IEEE Std 1815-2012, object library).
 #[derive(Clone, Copy, Debug, PartialEq, Eq, Hash)]
@@ -11,7 +13,7 @@ pub struct Reading {
     pub value: i64,
     /// The flags octet. A binary's lacks bit 7.
     pub flags: u8,
-    /// Milliseconds since 1970-01-01 00:00 UTC, below 2^48, or `None`.
+    /// Milliseconds since 1970-01-01 00:00 UTC, below `MAX_TIME`, or `None`.
     pub time: Option<u64>,
 }
 
@@ -50,13 +52,13 @@ impl Reading {
         }
     }
 
-    /// Whether the time is below 2^48 ms, or absent.
+    /// Whether the time is below `MAX_TIME`, or absent.
     pub(crate) fn is_in_time(self) -> bool
         ensures { result ≡ range.is_in_time self.time }
     {
         match self.time {
             None => true,
-            Some(time) => time < 0x1_0000_0000_0000,
+            Some(time) => time < MAX_TIME,
         }
     }
 }

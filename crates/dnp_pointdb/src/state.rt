@@ -1,3 +1,5 @@
+//! Points and blocks as they stand.
+
 ghost use Rattle.std.specs.Prelude.{◌≡◌, ◌<◌, length, map, IfOk, slice_index_or, slice_set};
 ghost use Rattle.dnp_pointdb.specs.Database as spec;
 
@@ -91,6 +93,7 @@ impl PointState {
 /// A clause sees them as a list.
 #[derive(Debug, Drop)]
 pub struct PointStates {
+    /// The points, in the order of their indices.
     items: Vec<PointState>,
 }
 
@@ -123,6 +126,7 @@ impl PointStates {
         self.items.as_slice()
     }
 
+    /// Puts the point at this place.
     fn set(&mut self, place: usize, state: PointState)
         requires { place < length self.old }
         ensures { self.new ≡ slice_set self.old place state }
@@ -130,12 +134,14 @@ impl PointStates {
         self.items[place] = state;
     }
 
+    /// Nothing was read of any of the points.
     fn restart(&mut self)
         ensures { self.new ≡ map spec.restarted_state self.old }
     {
         restart_all(&mut self.items);
     }
 
+    /// The communication of each of the points was lost.
     fn lose(&mut self)
         ensures { self.new ≡ map spec.lost_state self.old }
     {

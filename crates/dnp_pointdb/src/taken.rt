@@ -4,10 +4,8 @@ ghost use Rattle.std.specs.Prelude.{◌≡◌, ◌+◌, ◌≤◌, ◌<◌, ◌�
 ghost use Rattle.std.specs.Bool.{OnFalse};
 ghost use Rattle.dnp_pointdb.specs.Blocks.{ShareIndex, HasIndex};
 
+use crate::limits::INDICES;
 use crate::point::Block;
-
-/// How many indices a kind has.
-const INDICES: usize = 65_536;
 
 /// No index is taken.
 fn no_marks() -> [bool; INDICES]
@@ -34,9 +32,9 @@ fn meets(marks: &mut [bool], block: &Block) -> bool
     false
 }
 
-/// Whether two of the blocks, whose indices are below 65,536, have an index in common.
+/// Whether two of the blocks, whose indices are below `INDICES`, have an index in common.
 pub fn share_index(blocks: &[Block]) -> bool
-    requires { All (λ block. block.base + length block.points ≤ 65536) blocks.now }
+    requires { All (λ block. block.base + length block.points ≤ INDICES) blocks.now }
     ensures { IsTrue result ↔ ShareIndex blocks.now }
 {
     let mut marks = no_marks();

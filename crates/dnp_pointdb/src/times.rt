@@ -1,3 +1,5 @@
+//! The timers of a station.
+
 /// The timers and the retries of an outstation or a master (IEEE Std 1815-2012, application layer).
 ///
 /// The type keeps none of the ranges below: what reads a plan does.

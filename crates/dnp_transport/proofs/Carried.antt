@@ -12,26 +12,28 @@ use Rattle.dnp_transport.specs.Cuts.{cut_count, cut_header, cut, cuts, begun_cut
 use Rattle.dnp_transport.specs.Series.{repeats, is_left_out, kept, IsSeries, joined, IsOpen, IsWhole, IsNothing}
 use Rattle.dnp_transport.specs.Laws.{pushed_after, IsCarried, SaysItsPlace}
 use Rattle.dnp_transport.proofs.Histories.{kept_stays, open_not_whole, dropped_not_open}
+use Rattle.dnp_transport.specs.declared.limits.TheConstants.{MAX_FRAGMENT, MAX_SEGMENT, SEGMENT_DATA, SEGMENT_NUMBERS}
+use Rattle.dnp_transport.specs.declared.header.TheConstants.{FINAL, FIRST}
 
 -- the bits and the number of a header
 
-fir_set : (b : Bool) (n : ℕ) → n < 64 → bit_at (64 + cond b 128 0 + n) 6 ≡ 1
+fir_set : (b : Bool) (n : ℕ) → n < SEGMENT_NUMBERS → bit_at (FIRST + cond b FINAL 0 + n) 6 ≡ 1
 fir_set true n h = omega arith
 fir_set false n h = omega arith
 
-fir_clear : (b : Bool) (n : ℕ) → n < 64 → bit_at (0 + cond b 128 0 + n) 6 ≡ 0
+fir_clear : (b : Bool) (n : ℕ) → n < SEGMENT_NUMBERS → bit_at (0 + cond b FINAL 0 + n) 6 ≡ 0
 fir_clear true n h = omega arith
 fir_clear false n h = omega arith
 
-fin_set : (a : Bool) (n : ℕ) → n < 64 → bit_at (cond a 64 0 + 128 + n) 7 ≡ 1
+fin_set : (a : Bool) (n : ℕ) → n < SEGMENT_NUMBERS → bit_at (cond a FIRST 0 + FINAL + n) 7 ≡ 1
 fin_set true n h = omega arith
 fin_set false n h = omega arith
 
-fin_clear : (a : Bool) (n : ℕ) → n < 64 → bit_at (cond a 64 0 + 0 + n) 7 ≡ 0
+fin_clear : (a : Bool) (n : ℕ) → n < SEGMENT_NUMBERS → bit_at (cond a FIRST 0 + 0 + n) 7 ≡ 0
 fin_clear true n h = omega arith
 fin_clear false n h = omega arith
 
-low_bits : (a b : Bool) (n : ℕ) → n < 64 → (cond a 64 0 + cond b 128 0 + n) % 64 ≡ n
+low_bits : (a b : Bool) (n : ℕ) → n < SEGMENT_NUMBERS → (cond a FIRST 0 + cond b FINAL 0 + n) % SEGMENT_NUMBERS ≡ n
 low_bits true true n h = omega arith
 low_bits true false n h = omega arith
 low_bits false true n h = omega arith
@@ -40,55 +42,55 @@ low_bits false false n h = omega arith
 clear_bit : (b : ℕ) → b ≡ 0 → (b == 1) ≡ false
 clear_bit b e = ne_eqb b 1 (λ h. omega arith)
 
-number_fits : (n : ℕ) → n % 64 < 64
+number_fits : (n : ℕ) → n % SEGMENT_NUMBERS < SEGMENT_NUMBERS
 number_fits n = omega arith
 
 cut_is_first : (f : List ℕ) (first k : ℕ) → k ≡ 0 → is_first (cut f first k) ≡ true
 cut_is_first f first k e =
-    let n : ℕ = (first + k) % 64 in
+    let n : ℕ = (first + k) % SEGMENT_NUMBERS in
     let last : Bool = k + 1 == cut_count (length f) in
-    let a : cond (k == 0) 64 0 ≡ 64 = cond-true (k == 0) 64 0 (eq-eqb k 0 e) in
+    let a : cond (k == 0) FIRST 0 ≡ FIRST = cond-true (k == 0) FIRST 0 (eq-eqb k 0 e) in
     eq-eqb (bit_at (cut_header (cut_count (length f)) first k) 6) 1
-    (subst (λ (x : ℕ). bit_at (x + cond last 128 0 + n) 6 ≡ 1) (sym a) (fir_set last n (number_fits (first + k))))
+    (subst (λ (x : ℕ). bit_at (x + cond last FINAL 0 + n) 6 ≡ 1) (sym a) (fir_set last n (number_fits (first + k))))
 
 cut_is_not_first : (f : List ℕ) (first k : ℕ) → 0 < k → is_first (cut f first k) ≡ false
 cut_is_not_first f first k h =
-    let n : ℕ = (first + k) % 64 in
+    let n : ℕ = (first + k) % SEGMENT_NUMBERS in
     let last : Bool = k + 1 == cut_count (length f) in
     let later : k ≡ 0 → ⊥ = λ e. omega arith in
-    let a : cond (k == 0) 64 0 ≡ 0 = cond-false (k == 0) 64 0 (ne_eqb k 0 later) in
+    let a : cond (k == 0) FIRST 0 ≡ 0 = cond-false (k == 0) FIRST 0 (ne_eqb k 0 later) in
     let clear : bit_at (cut_header (cut_count (length f)) first k) 6 ≡ 0 =
-    subst (λ (x : ℕ). bit_at (x + cond last 128 0 + n) 6 ≡ 0) (sym a) (fir_clear last n (number_fits (first + k))) in
+    subst (λ (x : ℕ). bit_at (x + cond last FINAL 0 + n) 6 ≡ 0) (sym a) (fir_clear last n (number_fits (first + k))) in
     clear_bit (bit_at (cut_header (cut_count (length f)) first k) 6) clear
 
 cut_is_last : (f : List ℕ) (first k : ℕ) → k + 1 ≡ cut_count (length f) → is_last (cut f first k) ≡ true
 cut_is_last f first k e =
-    let n : ℕ = (first + k) % 64 in
-    let a : cond (k + 1 == cut_count (length f)) 128 0 ≡ 128 =
-    cond-true (k + 1 == cut_count (length f)) 128 0 (eq-eqb (k + 1) (cut_count (length f)) e) in
+    let n : ℕ = (first + k) % SEGMENT_NUMBERS in
+    let a : cond (k + 1 == cut_count (length f)) FINAL 0 ≡ FINAL =
+    cond-true (k + 1 == cut_count (length f)) FINAL 0 (eq-eqb (k + 1) (cut_count (length f)) e) in
     eq-eqb (bit_at (cut_header (cut_count (length f)) first k) 7) 1
-    (subst (λ (x : ℕ). bit_at (cond (k == 0) 64 0 + x + n) 7 ≡ 1) (sym a) (fin_set (k == 0) n (number_fits (first + k))))
+    (subst (λ (x : ℕ). bit_at (cond (k == 0) FIRST 0 + x + n) 7 ≡ 1) (sym a) (fin_set (k == 0) n (number_fits (first + k))))
 
 cut_is_other : (f : List ℕ) (first k : ℕ) → (k + 1 ≡ cut_count (length f) → ⊥) → is_last (cut f first k) ≡ false
 cut_is_other f first k other =
-    let n : ℕ = (first + k) % 64 in
-    let a : cond (k + 1 == cut_count (length f)) 128 0 ≡ 0 =
-    cond-false (k + 1 == cut_count (length f)) 128 0 (ne_eqb (k + 1) (cut_count (length f)) other) in
+    let n : ℕ = (first + k) % SEGMENT_NUMBERS in
+    let a : cond (k + 1 == cut_count (length f)) FINAL 0 ≡ 0 =
+    cond-false (k + 1 == cut_count (length f)) FINAL 0 (ne_eqb (k + 1) (cut_count (length f)) other) in
     let clear : bit_at (cut_header (cut_count (length f)) first k) 7 ≡ 0 =
-    subst (λ (x : ℕ). bit_at (cond (k == 0) 64 0 + x + n) 7 ≡ 0) (sym a) (fin_clear (k == 0) n (number_fits (first + k))) in
+    subst (λ (x : ℕ). bit_at (cond (k == 0) FIRST 0 + x + n) 7 ≡ 0) (sym a) (fin_clear (k == 0) n (number_fits (first + k))) in
     clear_bit (bit_at (cut_header (cut_count (length f)) first k) 7) clear
 
 cut_is_not_last : (f : List ℕ) (first k : ℕ) → k + 1 < cut_count (length f) → is_last (cut f first k) ≡ false
 cut_is_not_last f first k h = cut_is_other f first k (λ e. omega (arith, h, e))
 
-number_of_cut : (f : List ℕ) (first k : ℕ) → number (cut f first k) ≡ (first + k) % 64
+number_of_cut : (f : List ℕ) (first k : ℕ) → number (cut f first k) ≡ (first + k) % SEGMENT_NUMBERS
 number_of_cut f first k =
-    low_bits (k == 0) (k + 1 == cut_count (length f)) ((first + k) % 64) (number_fits (first + k))
+    low_bits (k == 0) (k + 1 == cut_count (length f)) ((first + k) % SEGMENT_NUMBERS) (number_fits (first + k))
 
-next_number : (a k : ℕ) → (a + suc k) % 64 ≡ ((a + k) % 64 + 1) % 64
+next_number : (a k : ℕ) → (a + suc k) % SEGMENT_NUMBERS ≡ ((a + k) % SEGMENT_NUMBERS + 1) % SEGMENT_NUMBERS
 next_number a k = omega arith
 
-other_number : (a k : ℕ) → (a + suc k) % 64 ≡ (a + k) % 64 → ⊥
+other_number : (a k : ℕ) → (a + suc k) % SEGMENT_NUMBERS ≡ (a + k) % SEGMENT_NUMBERS → ⊥
 other_number a k e = omega arith
 
 first_says : (f : List ℕ) (first k : ℕ) → is_first (cut f first k) ≡ true → k ≡ 0
@@ -99,18 +101,18 @@ first_says f first (suc k) h =
 -- each cut is of a segment's size
 cut_sized : (f : List ℕ) (first k : ℕ) → k < cut_count (length f) → has_no_size (cut f first k) ≡ false
 cut_sized f first k h =
-    let n : length (take 249 (drop (249 * k) f)) ≡ min 249 (length f - 249 * k) =
-    length-take 249 (drop (249 * k) f) ∙ ap (λ (m : ℕ). min 249 m) (length-drop (249 * k) f) in
-    or_from (nat_lt (length (cut f first k)) 2) (nat_lt 250 (length (cut f first k)))
+    let n : length (take SEGMENT_DATA (drop (SEGMENT_DATA * k) f)) ≡ min SEGMENT_DATA (length f - SEGMENT_DATA * k) =
+    length-take SEGMENT_DATA (drop (SEGMENT_DATA * k) f) ∙ ap (λ (m : ℕ). min SEGMENT_DATA m) (length-drop (SEGMENT_DATA * k) f) in
+    or_from (nat_lt (length (cut f first k)) 2) (nat_lt MAX_SEGMENT (length (cut f first k)))
     (le-ltb (length (cut f first k)) 2 (omega (arith, n, h)))
-    (le-ltb 250 (length (cut f first k)) (omega (arith, n, h)))
+    (le-ltb MAX_SEGMENT (length (cut f first k)) (omega (arith, n, h)))
 
 -- what the first k + 1 cuts make
 record IsSent (f : List ℕ) (first k : ℕ) : Type 0 where
   earlier_kept : kept (begun_cuts f first k) ≡ begun_cuts f first k
   stays : is_left_out (begun_cuts f first k) (cut f first k) ≡ false
   in_series : IsSeries (begun_cuts f first (suc k))
-  joined_are : joined (begun_cuts f first (suc k)) ≡ take (249 * (k + 1)) f
+  joined_are : joined (begun_cuts f first (suc k)) ≡ take (SEGMENT_DATA * (k + 1)) f
 
 all_kept : (f : List ℕ) (first k : ℕ) → IsSent f first k → kept (begun_cuts f first (suc k)) ≡ begun_cuts f first (suc k)
 all_kept f first k i =
@@ -136,13 +138,13 @@ is_sent f first zero h =
 is_sent f first (suc k) h =
     let i : IsSent f first k = is_sent f first k (omega (arith, h)) in
     let no_first : is_first (cut f first (suc k)) ≡ false = cut_is_not_first f first (suc k) (omega arith) in
-    let turn : number (cut f first (suc k)) ≡ (number (cut f first k) + 1) % 64 =
-    number_of_cut f first (suc k) ∙ next_number first k ∙ ap (λ (n : ℕ). (n + 1) % 64) (sym (number_of_cut f first k)) in
+    let turn : number (cut f first (suc k)) ≡ (number (cut f first k) + 1) % SEGMENT_NUMBERS =
+    number_of_cut f first (suc k) ∙ next_number first k ∙ ap (λ (n : ℕ). (n + 1) % SEGMENT_NUMBERS) (sym (number_of_cut f first k)) in
     let fresh : cut f first (suc k) ≡ cut f first k → ⊥ =
     λ e. other_number first k
     (sym (number_of_cut f first (suc k)) ∙ ap (λ (l : List ℕ). number l) e ∙ number_of_cut f first k) in
-    let size : 249 * (k + 1) ≡ 249 * suc k = omega arith in
-    let more : 249 * suc k + 249 ≡ 249 * (suc k + 1) = omega arith in
+    let size : SEGMENT_DATA * (k + 1) ≡ SEGMENT_DATA * suc k = omega arith in
+    let more : SEGMENT_DATA * suc k + SEGMENT_DATA ≡ SEGMENT_DATA * (suc k + 1) = omega arith in
     record {
       earlier_kept = all_kept f first k i;
       stays =
@@ -154,14 +156,14 @@ is_sent f first (suc k) h =
       in_series =
           (record { unended = cut_is_not_last f first k (omega (arith, h)); no_first = no_first; in_turn = turn }, i.in_series);
       joined_are =
-          ap (λ (l : List ℕ). l ++ take 249 (drop (249 * suc k) f)) i.joined_are
-          ∙ ap (λ (m : ℕ). take m f ++ take 249 (drop (249 * suc k) f)) size
-          ∙ take_two (249 * suc k) 249 f
+          ap (λ (l : List ℕ). l ++ take SEGMENT_DATA (drop (SEGMENT_DATA * suc k) f)) i.joined_are
+          ∙ ap (λ (m : ℕ). take m f ++ take SEGMENT_DATA (drop (SEGMENT_DATA * suc k) f)) size
+          ∙ take_two (SEGMENT_DATA * suc k) SEGMENT_DATA f
           ∙ ap (λ (m : ℕ). take m f) more;
     }
 
 -- a series waits until the last cut
-sent_open : (f : List ℕ) (first k : ℕ) (before : List (List ℕ)) → length f ≤ 2048 → k + 1 < cut_count (length f)
+sent_open : (f : List ℕ) (first k : ℕ) (before : List (List ℕ)) → length f ≤ MAX_FRAGMENT → k + 1 < cut_count (length f)
     → IsOpen (begun_cuts f first (suc k) ++ before) (begun_cuts f first (suc k))
 sent_open f first k before most h =
     let i : IsSent f first k = is_sent f first k (omega (arith, h)) in
@@ -172,11 +174,11 @@ sent_open f first k before most h =
       kept_are = all_kept f first k i;
       in_series = i.in_series;
       unended = cut_is_not_last f first k h;
-      fits = omega (arith, ap length i.joined_are, length-take (249 * (k + 1)) f, most);
+      fits = omega (arith, ap length i.joined_are, length-take (SEGMENT_DATA * (k + 1)) f, most);
     }
 
 -- the last cut completes the fragment
-sent_whole : (f : List ℕ) (first k : ℕ) (before : List (List ℕ)) → length f ≤ 2048 → k + 1 ≡ cut_count (length f)
+sent_whole : (f : List ℕ) (first k : ℕ) (before : List (List ℕ)) → length f ≤ MAX_FRAGMENT → k + 1 ≡ cut_count (length f)
     → IsWhole (begun_cuts f first (suc k) ++ before) f
 sent_whole f first k before most h =
     let i : IsSent f first k = is_sent f first k (omega (arith, h)) in
@@ -192,7 +194,7 @@ sent_whole f first k before most h =
       joined_is =
           ap (λ (l : List (List ℕ)). joined (cut f first k ∷ l)) i.earlier_kept
           ∙ i.joined_are
-          ∙ take_all (249 * (k + 1)) f (omega (arith, h));
+          ∙ take_all (SEGMENT_DATA * (k + 1)) f (omega (arith, h));
       fits = most;
     }
 
@@ -215,7 +217,7 @@ after_cuts f first k before h =
     ap (λ (l : List (List ℕ)). reverse l ++ before) (take-map-range_with_len (cut f first) 0 (cut_count (length f)) k h)
     ∙ ap (λ (l : List (List ℕ)). l ++ before) (sent_reversed f first k)
 
-earlier_nothing : (before : List (List ℕ)) (f : List ℕ) (first k : ℕ) → length f ≤ 2048 → 0 < k → k < cut_count (length f)
+earlier_nothing : (before : List (List ℕ)) (f : List ℕ) (first k : ℕ) → length f ≤ MAX_FRAGMENT → 0 < k → k < cut_count (length f)
     → IsNothing (pushed_after before (take k (cuts f first)))
 earlier_nothing before f first zero most some h = absurd (omega (arith, some))
 earlier_nothing before f first (suc k) most some h =
@@ -227,7 +229,7 @@ earlier_nothing before f first (suc k) most some h =
     } in
     subst (λ (l : List (List ℕ)). IsNothing l) (sym (after_cuts f first (suc k) before (omega (arith, h)))) n
 
-last_whole : (before : List (List ℕ)) (f : List ℕ) (first count : ℕ) → length f ≤ 2048 → 0 < count → count ≡ cut_count (length f)
+last_whole : (before : List (List ℕ)) (f : List ℕ) (first count : ℕ) → length f ≤ MAX_FRAGMENT → 0 < count → count ≡ cut_count (length f)
     → IsWhole (pushed_after before (cuts f first)) f
 last_whole before f first zero most some e = absurd (omega (arith, some))
 last_whole before f first (suc k) most some e =
@@ -239,7 +241,7 @@ last_whole before f first (suc k) most some e =
     subst (λ (l : List (List ℕ)). IsWhole l f) (sym all) w
 
 -- the law
-pub carries : (before : List (List ℕ)) (f : List ℕ) (first : ℕ) → 0 < length f → length f ≤ 2048 → IsCarried before f first
+pub carries : (before : List (List ℕ)) (f : List ℕ) (first : ℕ) → 0 < length f → length f ≤ MAX_FRAGMENT → IsCarried before f first
 carries before f first some most =
     record {
       earlier = λ k h l. earlier_nothing before f first k most h l;
@@ -270,4 +272,4 @@ length-cuts f first = length-map-range_with_len (cut f first) 0 (cut_count (leng
 pub joined_all : (f : List ℕ) (first k : ℕ) → k ≡ cut_count (length f) → joined (begun_cuts f first k) ≡ f
 joined_all f first zero e = take_all 0 f (omega (arith, e))
 joined_all f first (suc k) e =
-    (is_sent f first k (omega (arith, e))).joined_are ∙ take_all (249 * (k + 1)) f (omega (arith, e))
+    (is_sent f first k (omega (arith, e))).joined_are ∙ take_all (SEGMENT_DATA * (k + 1)) f (omega (arith, e))

@@ -6,12 +6,13 @@ use Rattle.std.specs.Str.{bytes_eq}
 use Rattle.dnp_transport.specs.Segments.{is_first, is_last, number, carried, has_no_size}
 use Rattle.dnp_transport.specs.Series.{repeats, is_left_out, kept, Follows, IsSeries, newest, joined, IsOpen, IsWhole, IsDropped, IsNothing}
 use Rattle.dnp_transport.specs.Assembly.{Assembly, Idle, Joining, Complete, IsJoining, IsIdle, Stands, Answers, Shows}
-use Rattle.dnp_transport.specs.Stages.{assembly, HasHistory, MayGoOn, First, Next, GoesOn, Passes, Completes, Waits, stage_after}
+use Rattle.dnp_transport.specs.steps.Stages.{assembly, HasHistory, MayGoOn, First, Next, GoesOn, Passes, Completes, Waits, stage_after}
 use Rattle.dnp_transport.specs.declared.assembler.Stage.{Stage}
 use Rattle.dnp_transport.specs.declared.assembler.Stage.TheVariants as stage
 use Rattle.dnp_transport.specs.declared.assembler.Pushed.{Pushed}
 use Rattle.dnp_transport.specs.declared.assembler.Pushed.TheVariants.{Nothing, Whole, Dropped}
 use Rattle.dnp_transport.proofs.Histories.{kept_left_out, kept_stays, first_stays, one_whole, open_not_whole, Continues, whole_back, open_back, dropped_not_open, whole_not_dropped}
+use Rattle.dnp_transport.specs.declared.limits.TheConstants.{MAX_FRAGMENT, MAX_SEGMENT, SEGMENT_NUMBERS}
 
 -- the right answers
 
@@ -179,7 +180,7 @@ fresh_stays (last ∷ earlier) s h z n =
 -- a series ends without a fragment
 
 pub drops_series : (before : List (List ℕ)) (s last octets : List ℕ) → IsJoining before last octets → has_no_size s ≡ false → is_first s ≡ false
-    → (s ≡ last → ⊥) → (number s ≡ (number last + 1) % 64 → 2048 < length (octets ++ carried s)) → IsDropped (s ∷ before)
+    → (s ≡ last → ⊥) → (number s ≡ (number last + 1) % SEGMENT_NUMBERS → MAX_FRAGMENT < length (octets ++ carried s)) → IsDropped (s ∷ before)
 drops_series before s last octets j z n fresh unfit =
     record {
       segment = s;
@@ -191,8 +192,8 @@ drops_series before s last octets j z n fresh unfit =
       no_first = n;
       unfit =
           λ turn.
-          subst (λ (l : List ℕ). 2048 < length (l ++ carried s)) j.octets_are
-          (unfit (turn ∙ ap (λ (l : List ℕ). (number l + 1) % 64) (sym j.last_is)));
+          subst (λ (l : List ℕ). MAX_FRAGMENT < length (l ++ carried s)) j.octets_are
+          (unfit (turn ∙ ap (λ (l : List ℕ). (number l + 1) % SEGMENT_NUMBERS) (sym j.last_is)));
     }
 
 pub dropped_idle : (pushed : List (List ℕ)) → IsDropped pushed → IsIdle pushed
@@ -209,13 +210,13 @@ pub record Accepted (before : List (List ℕ)) (s octets : List ℕ) : Type 0 wh
   pub stays : is_left_out (kept recent) s ≡ false
   pub in_series : IsSeries (s ∷ kept recent)
   pub octets_are : octets ≡ joined (s ∷ kept recent)
-  pub fits : length octets ≤ 2048
+  pub fits : length octets ≤ MAX_FRAGMENT
 
 -- the data of one segment fits a fragment
-pub one_fits : (s : List ℕ) → has_no_size s ≡ false → length (carried s) ≤ 2048
+pub one_fits : (s : List ℕ) → has_no_size s ≡ false → length (carried s) ≤ MAX_FRAGMENT
 one_fits s z =
-    let short : length s ≤ 250 =
-    ltb-false 250 (length s) (or_parts (nat_lt (length s) 2) (nat_lt 250 (length s)) z).1 in
+    let short : length s ≤ MAX_SEGMENT =
+    ltb-false MAX_SEGMENT (length s) (or_parts (nat_lt (length s) 2) (nat_lt MAX_SEGMENT (length s)) z).1 in
     omega (arith, length-drop 1 s)
 
 pub accepts_first : (before : List (List ℕ)) (s octets : List ℕ) → is_first s ≡ true → has_no_size s ≡ false → octets ≡ carried s
@@ -228,7 +229,7 @@ accepts_first before s octets h z e =
       stays = first_stays [] s h z;
       in_series = h;
       octets_are = e;
-      fits = subst (λ (l : List ℕ). length l ≤ 2048) (sym e) (one_fits s z);
+      fits = subst (λ (l : List ℕ). length l ≤ MAX_FRAGMENT) (sym e) (one_fits s z);
     }
 
 follows_series : (series : List (List ℕ)) (s : List ℕ) → IsSeries series → Follows (newest series) s → IsSeries (s ∷ series)
@@ -236,14 +237,14 @@ follows_series [] s h f = absurd h
 follows_series (last ∷ earlier) s h f = (f, h)
 
 pub accepts_next : (before : List (List ℕ)) (s last before_octets octets : List ℕ) → IsJoining before last before_octets → has_no_size s ≡ false
-    → is_first s ≡ false → (s ≡ last → ⊥) → number s ≡ (number last + 1) % 64 → octets ≡ before_octets ++ carried s → length octets ≤ 2048
+    → is_first s ≡ false → (s ≡ last → ⊥) → number s ≡ (number last + 1) % SEGMENT_NUMBERS → octets ≡ before_octets ++ carried s → length octets ≤ MAX_FRAGMENT
     → Accepted before s octets
 accepts_next before s last before_octets octets j z n fresh turn e fits =
     let o : IsOpen before j.series = j.opened in
     let back : j.series ≡ kept o.recent = sym o.kept_are in
     let stays : is_left_out j.series s ≡ false = fresh_stays j.series s o.in_series z (λ e. fresh (e ∙ sym j.last_is)) in
     let follows : Follows (newest j.series) s =
-    record { unended = o.unended; no_first = n; in_turn = turn ∙ ap (λ (l : List ℕ). (number l + 1) % 64) j.last_is } in
+    record { unended = o.unended; no_first = n; in_turn = turn ∙ ap (λ (l : List ℕ). (number l + 1) % SEGMENT_NUMBERS) j.last_is } in
     record {
       recent = o.recent;
       older = o.older;
@@ -282,7 +283,7 @@ accepted_joining before s octets last a h e =
         kept_are = kept_stays s a.recent a.stays;
         in_series = a.in_series;
         unended = h;
-        fits = subst (λ (l : List ℕ). length l ≤ 2048) a.octets_are a.fits;
+        fits = subst (λ (l : List ℕ). length l ≤ MAX_FRAGMENT) a.octets_are a.fits;
       };
       last_is = e;
       octets_are = a.octets_are;
@@ -290,8 +291,8 @@ accepted_joining before s octets last a h e =
 
 -- the newest pushes are a series of these data, and the segment is its next; or there are none, and it is a first one
 pub record IsNext (before : List (List ℕ)) (s so_far : List ℕ) : Type 0 where
-  pub accepted : (octets : List ℕ) → octets ≡ so_far ++ carried s → length octets ≤ 2048 → Accepted before s octets
-  pub dropped : 2048 < length (so_far ++ carried s) → IsDropped (s ∷ before)
+  pub accepted : (octets : List ℕ) → octets ≡ so_far ++ carried s → length octets ≤ MAX_FRAGMENT → Accepted before s octets
+  pub dropped : MAX_FRAGMENT < length (so_far ++ carried s) → IsDropped (s ∷ before)
 
 pub next_first : (before : List (List ℕ)) (s : List ℕ) → is_first s ≡ true → has_no_size s ≡ false → IsNext before s []
 next_first before s h z =
@@ -301,7 +302,7 @@ next_first before s h z =
     }
 
 pub next_after : (before : List (List ℕ)) (s last so_far : List ℕ) → IsJoining before last so_far → has_no_size s ≡ false → is_first s ≡ false
-    → (s ≡ last → ⊥) → number s ≡ (number last + 1) % 64 → IsNext before s so_far
+    → (s ≡ last → ⊥) → number s ≡ (number last + 1) % SEGMENT_NUMBERS → IsNext before s so_far
 next_after before s last so_far j z n fresh turn =
     record {
       accepted = λ octets e fits. accepts_next before s last so_far octets j z n fresh turn e fits;

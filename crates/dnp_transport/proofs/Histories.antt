@@ -6,6 +6,7 @@ use Rattle.std.proofs.lemmas.List.{append-nil}
 use Rattle.std.specs.Str.{bytes_eq}
 use Rattle.dnp_transport.specs.Segments.{is_first, is_last, number, carried, has_no_size}
 use Rattle.dnp_transport.specs.Series.{repeats, is_left_out, kept, Follows, IsSeries, newest, joined, IsOpen, IsWhole, IsDropped}
+use Rattle.dnp_transport.specs.declared.limits.TheConstants.{MAX_FRAGMENT, SEGMENT_NUMBERS}
 
 -- a string that is left out changes nothing
 pub kept_left_out : (s : List ℕ) (r : List (List ℕ)) → is_left_out (kept r) s ≡ true → kept (s ∷ r) ≡ kept r
@@ -167,16 +168,16 @@ pub record Continues (before : List (List ℕ)) (s : List ℕ) : Type 0 where
   pub opened : IsOpen before series
   pub stays : is_left_out series s ≡ false
   pub follows : Follows (newest series) s
-  pub fits : length (joined (s ∷ series)) ≤ 2048
+  pub fits : length (joined (s ∷ series)) ≤ MAX_FRAGMENT
 
 -- the newest segment of a series begins it or goes on with it
 pub begins_or_goes_on : (before r older : List (List ℕ)) (s : List ℕ) → before ≡ r ++ older → is_left_out (kept r) s ≡ false → IsSeries (s ∷ kept r)
-    → length (joined (s ∷ kept r)) ≤ 2048 → ((is_first s ≡ true) × (has_no_size s ≡ false)) ⊎ Continues before s
+    → length (joined (s ∷ kept r)) ≤ MAX_FRAGMENT → ((is_first s ≡ true) × (has_no_size s ≡ false)) ⊎ Continues before s
 begins_or_goes_on before r older s e stays h fits =
     elim (series_front s (kept r) h) [
       | inl front ↦ inl (front.1, stays_sized (kept r) s stays)
       | inr back ↦
-          let shorter : length (joined (kept r)) ≤ 2048 = omega (arith, length-append (joined (kept r)) (carried s)) in
+          let shorter : length (joined (kept r)) ≤ MAX_FRAGMENT = omega (arith, length-append (joined (kept r)) (carried s)) in
           inr record {
             series = kept r;
             opened = record { recent = r; older = older; split = e; kept_are = refl; in_series = back.1; unended = back.0.unended; fits = shorter };
@@ -193,14 +194,14 @@ whole_back before s f w =
     let split : s ∷ before ≡ w.segment ∷ (w.recent ++ w.older) = w.split in
     let heads : w.segment ≡ s = cc in
     let tails : before ≡ w.recent ++ w.older = cc in
-    let fits : length (joined (w.segment ∷ kept w.recent)) ≤ 2048 = omega (arith, ap length w.joined_is, w.fits) in
+    let fits : length (joined (w.segment ∷ kept w.recent)) ≤ MAX_FRAGMENT = omega (arith, ap length w.joined_is, w.fits) in
     begins_or_goes_on before w.recent w.older s tails
     (subst (λ (x : List ℕ). is_left_out (kept w.recent) x ≡ false) heads w.stays)
     (subst (λ (x : List ℕ). IsSeries (x ∷ kept w.recent)) heads w.in_series)
-    (subst (λ (x : List ℕ). length (joined (x ∷ kept w.recent)) ≤ 2048) heads fits)
+    (subst (λ (x : List ℕ). length (joined (x ∷ kept w.recent)) ≤ MAX_FRAGMENT) heads fits)
 
 open_back_at : (before t r older : List (List ℕ)) (s : List ℕ) → s ∷ before ≡ r ++ older → kept r ≡ t → IsSeries t → is_last (newest t) ≡ false
-    → length (joined t) ≤ 2048 → ((is_left_out t s ≡ true) × IsOpen before t) ⊎ (((is_first s ≡ true) × (has_no_size s ≡ false)) ⊎ Continues before s)
+    → length (joined t) ≤ MAX_FRAGMENT → ((is_left_out t s ≡ true) × IsOpen before t) ⊎ (((is_first s ≡ true) × (has_no_size s ≡ false)) ⊎ Continues before s)
 open_back_at before t [] older s e k h u f = absurd (subst (λ (l : List (List ℕ)). IsSeries l) (sym k) h)
 open_back_at before t (x ∷ r) older s e k h u f =
     let heads : x ≡ s = cc in
@@ -218,7 +219,7 @@ open_back_at before t (x ∷ r) older s e k h u f =
           inr
           (begins_or_goes_on before r older s tails stays
           (subst (λ (l : List (List ℕ)). IsSeries l) same h)
-          (subst (λ (l : List (List ℕ)). length (joined l) ≤ 2048) same f))
+          (subst (λ (l : List (List ℕ)). length (joined l) ≤ MAX_FRAGMENT) same f))
     ]
 
 -- where a series is open after a push
@@ -228,13 +229,13 @@ open_back before t s o = open_back_at before t o.recent o.older s o.split o.kept
 
 -- a push that ends a series does not continue it
 dropped_not_continues : (before series : List (List ℕ)) (s : List ℕ) → IsOpen before series
-    → (number s ≡ (number (newest series) + 1) % 64 → 2048 < length (joined (s ∷ series))) → Continues before s → ⊥
+    → (number s ≡ (number (newest series) + 1) % SEGMENT_NUMBERS → MAX_FRAGMENT < length (joined (s ∷ series))) → Continues before s → ⊥
 dropped_not_continues before series s o unfit c =
     let same : c.series ≡ series = one_open before c.series series c.opened o in
-    let turn : number s ≡ (number (newest series) + 1) % 64 =
-    subst (λ (l : List (List ℕ)). number s ≡ (number (newest l) + 1) % 64) same c.follows.in_turn in
-    let fits : length (joined (s ∷ series)) ≤ 2048 = subst (λ (l : List (List ℕ)). length (joined (s ∷ l)) ≤ 2048) same c.fits in
-    let long : 2048 < length (joined (s ∷ series)) = unfit turn in
+    let turn : number s ≡ (number (newest series) + 1) % SEGMENT_NUMBERS =
+    subst (λ (l : List (List ℕ)). number s ≡ (number (newest l) + 1) % SEGMENT_NUMBERS) same c.follows.in_turn in
+    let fits : length (joined (s ∷ series)) ≤ MAX_FRAGMENT = subst (λ (l : List (List ℕ)). length (joined (s ∷ l)) ≤ MAX_FRAGMENT) same c.fits in
+    let long : MAX_FRAGMENT < length (joined (s ∷ series)) = unfit turn in
     omega arith
 
 -- the parts of `IsDropped` at a longer list
@@ -243,7 +244,7 @@ pub record Drops (before : List (List ℕ)) (s : List ℕ) : Type 0 where
   pub opened : IsOpen before series
   pub stays : is_left_out series s ≡ false
   pub no_first : is_first s ≡ false
-  pub unfit : number s ≡ (number (newest series) + 1) % 64 → 2048 < length (joined (s ∷ series))
+  pub unfit : number s ≡ (number (newest series) + 1) % SEGMENT_NUMBERS → MAX_FRAGMENT < length (joined (s ∷ series))
 
 pub drops : (before : List (List ℕ)) (s : List ℕ) → IsDropped (s ∷ before) → Drops before s
 drops before s d =
@@ -257,7 +258,7 @@ drops before s d =
       no_first = subst (λ (x : List ℕ). is_first x ≡ false) heads d.no_first;
       unfit =
           subst
-          (λ (x : List ℕ). number x ≡ (number (newest d.series) + 1) % 64 → 2048 < length (joined (x ∷ d.series)))
+          (λ (x : List ℕ). number x ≡ (number (newest d.series) + 1) % SEGMENT_NUMBERS → MAX_FRAGMENT < length (joined (x ∷ d.series)))
           heads d.unfit;
     }
 

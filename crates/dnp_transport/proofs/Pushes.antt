@@ -5,9 +5,10 @@ use Rattle.dnp_transport.specs.Segments.{is_last, carried}
 use Rattle.dnp_transport.specs.Series.{is_left_out, kept, IsSeries, newest, joined, IsOpen, IsWhole}
 use Rattle.dnp_transport.specs.Laws.{OpenBy, LeftOut, Begins, GoesOn, WholeBy, Alone, Ends}
 use Rattle.dnp_transport.proofs.Histories.{kept_left_out, kept_stays, series_front}
+use Rattle.dnp_transport.specs.declared.limits.TheConstants.{MAX_FRAGMENT}
 
 open_by_at : (before t r older : List (List ℕ)) (s : List ℕ) → s ∷ before ≡ r ++ older → kept r ≡ t → IsSeries t → is_last (newest t) ≡ false
-    → length (joined t) ≤ 2048 → OpenBy before s t
+    → length (joined t) ≤ MAX_FRAGMENT → OpenBy before s t
 open_by_at before t [] older s e k h u f = absurd (subst (λ (l : List (List ℕ)). IsSeries l) (sym k) h)
 open_by_at before t (x ∷ r) older s e k h u f =
     let heads : x ≡ s = cc in
@@ -25,8 +26,8 @@ open_by_at before t (x ∷ r) older s e k h u f =
           elim (series_front s (kept r) (subst (λ (l : List (List ℕ)). IsSeries l) same h)) [
             | inl front ↦ Begins front.1 unended (same ∙ ap (λ (l : List (List ℕ)). s ∷ l) front.0)
             | inr back ↦
-                let long : length (joined (s ∷ kept r)) ≤ 2048 = subst (λ (l : List (List ℕ)). length (joined l) ≤ 2048) same f in
-                let shorter : length (joined (kept r)) ≤ 2048 = omega (arith, long, length-append (joined (kept r)) (carried s)) in
+                let long : length (joined (s ∷ kept r)) ≤ MAX_FRAGMENT = subst (λ (l : List (List ℕ)). length (joined l) ≤ MAX_FRAGMENT) same f in
+                let shorter : length (joined (kept r)) ≤ MAX_FRAGMENT = omega (arith, long, length-append (joined (kept r)) (carried s)) in
                 GoesOn (kept r)
                 record { recent = r; older = older; split = tails; kept_are = refl; in_series = back.1; unended = back.0.unended; fits = shorter }
                 back.0 unended same
@@ -37,12 +38,12 @@ pub open_by : (before t : List (List ℕ)) (s : List ℕ) → IsOpen (s ∷ befo
 open_by before t s o = open_by_at before t o.recent o.older s o.split o.kept_are o.in_series o.unended o.fits
 
 whole_by_at : (before r older : List (List ℕ)) (s f : List ℕ) → before ≡ r ++ older → IsSeries (s ∷ kept r) → is_last s ≡ true
-    → joined (s ∷ kept r) ≡ f → length f ≤ 2048 → WholeBy before s f
+    → joined (s ∷ kept r) ≡ f → length f ≤ MAX_FRAGMENT → WholeBy before s f
 whole_by_at before r older s f e h u j fits =
     elim (series_front s (kept r) h) [
       | inl front ↦ Alone front.1 u (sym j ∙ ap (λ (l : List (List ℕ)). joined l ++ carried s) front.0)
       | inr back ↦
-          let shorter : length (joined (kept r)) ≤ 2048 = omega (arith, fits, ap length j, length-append (joined (kept r)) (carried s)) in
+          let shorter : length (joined (kept r)) ≤ MAX_FRAGMENT = omega (arith, fits, ap length j, length-append (joined (kept r)) (carried s)) in
           Ends (kept r)
           record { recent = r; older = older; split = e; kept_are = refl; in_series = back.1; unended = back.0.unended; fits = shorter }
           back.0 u (sym j)

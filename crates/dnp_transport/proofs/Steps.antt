@@ -6,11 +6,12 @@ use Rattle.std.specs.Str.{bytes_eq}
 use Rattle.dnp_transport.specs.Segments.{is_first, is_last, number, carried, has_no_size}
 use Rattle.dnp_transport.specs.Series.{newest, joined}
 use Rattle.dnp_transport.specs.Assembly.{Assembly, Idle, Joining, Complete, IsJoining, Stands, Answers, Shows}
-use Rattle.dnp_transport.specs.Stages.{Passes, Completes, Waits}
+use Rattle.dnp_transport.specs.steps.Stages.{Passes, Completes, Waits}
 use Rattle.dnp_transport.specs.declared.assembler.Pushed.{Pushed}
 use Rattle.dnp_transport.specs.declared.assembler.Pushed.TheVariants.{Nothing, Whole, Dropped}
 use Rattle.dnp_transport.proofs.Histories.{one_open, one_whole, open_not_whole}
 use Rattle.dnp_transport.proofs.Exits.{NoSeries, IsNext, IsAfter, answers_nothing, answers_dropped, idle_stands, idle_stays, idle_nothing, at_joining, joining_nothing, unsized_joining, repeat_joining, drops_series, dropped_idle, next_first, next_after, settled}
+use Rattle.dnp_transport.specs.declared.limits.TheConstants.{MAX_FRAGMENT, SEGMENT_NUMBERS}
 
 -- a list of pushes makes one assembler
 
@@ -45,7 +46,7 @@ record Steps (a : Assembly) (s : List ℕ) : Type 0 where
 taken : (a : Assembly) (s so_far : List ℕ) → ((before : List (List ℕ)) → Stands before a → IsNext before s so_far) → Steps a s
 taken a s so_far next =
     let octets : List ℕ = so_far ++ carried s in
-    elim (cases_lt 2048 (length octets)) [
+    elim (cases_lt MAX_FRAGMENT (length octets)) [
       | inl long ↦
           record { next = Idle; answer = Dropped; after = λ before h. settled before s so_far octets s Dropped (next before h) (Passes refl long) refl }
       | inr short ↦
@@ -110,7 +111,7 @@ stays last octets s goes =
 step_later : (last octets s : List ℕ) → has_no_size s ≡ false → is_first s ≡ false → (s ≡ last → ⊥) → Steps (Joining last octets) s
 unfolding Stands
 step_later last octets s sized no_first fresh =
-    elim (cases_eq (number s) ((number last + 1) % 64)) [
+    elim (cases_eq (number s) ((number last + 1) % SEGMENT_NUMBERS)) [
       | inl turn ↦ taken (Joining last octets) s octets (λ before h. next_after before s last octets h sized no_first fresh turn)
       | inr astray ↦
           record {

@@ -1,4 +1,4 @@
--- What a contract sees of an assembler, and which pushed strings of octets it stands for.
+-- Definition: what a contract sees of an assembler, and which pushed strings of octets it stands for.
 use Rattle.std.specs.Prelude.{◌≡◌, ℕ, ◌↔◌, List, []}
 use Rattle.dnp_transport.specs.Series.{newest, joined, IsOpen, IsWhole, IsDropped, IsNothing}
 use Rattle.dnp_transport.specs.declared.assembler.Pushed.{Pushed}

@@ -1,8 +1,9 @@
--- What follows from the definitions, for segments and for whole fragments.
+-- Definition: what laws say of segments and of whole fragments.
 use Rattle.std.specs.Prelude.{◌≡◌, ℕ, ◌+◌, ◌*◌, ◌%◌, ◌<◌, ◌≤◌, ◌↔◌, true, false, IsTrue, List, [], ◌∷◌, ◌++◌, length, take, drop, reverse}
 use Rattle.dnp_transport.specs.Segments.{is_first, is_last, number, carried, has_no_size}
 use Rattle.dnp_transport.specs.Cuts.{cut_count, cut, cuts}
 use Rattle.dnp_transport.specs.Series.{is_left_out, newest, joined, Follows, IsOpen, IsWhole, IsDropped, IsNothing}
+use Rattle.dnp_transport.specs.declared.limits.TheConstants.{MAX_FRAGMENT, SEGMENT_DATA, SEGMENT_NUMBERS}
 
 -- the pushed strings, newest first, once these were pushed in order after the ones before
 abbrev pub pushed_after : List (List ℕ) → List (List ℕ) → List (List ℕ)
@@ -16,7 +17,7 @@ pub record IsCarried (before : List (List ℕ)) (fragment : List ℕ) (first : �
 
 abbrev pub CutsGiveWhole : Type 0
 CutsGiveWhole =
-    (before : List (List ℕ)) (fragment : List ℕ) (first : ℕ) → 0 < length fragment → length fragment ≤ 2048 → IsCarried before fragment first
+    (before : List (List ℕ)) (fragment : List ℕ) (first : ℕ) → 0 < length fragment → length fragment ≤ MAX_FRAGMENT → IsCarried before fragment first
 
 -- the pushes determine the fragment that the last of them completes
 abbrev pub OneFragment : Type 0
@@ -27,12 +28,13 @@ abbrev pub WholeOrDropped : Type 0
 WholeOrDropped = (pushed : List (List ℕ)) (f : List ℕ) → IsWhole pushed f → IsDropped pushed → ⊥
 
 -- what a fragment's segment k says: FIR exactly if it is the first, FIN exactly if it is the last, and a number that
--- follows modulo 64; it carries the fragment's octets from 249 k on, at least one and at most 249
+-- follows modulo SEGMENT_NUMBERS; it carries at most SEGMENT_DATA of the fragment's octets, at least one, from where those
+-- of the segments before it end
 pub record SaysItsPlace (fragment : List ℕ) (first k : ℕ) : Type 0 where
   pub first_says : IsTrue (is_first (cut fragment first k)) ↔ (k ≡ 0)
   pub last_says : IsTrue (is_last (cut fragment first k)) ↔ (k + 1 ≡ cut_count (length fragment))
-  pub number_is : number (cut fragment first k) ≡ (first + k) % 64
-  pub carries : carried (cut fragment first k) ≡ take 249 (drop (249 * k) fragment)
+  pub number_is : number (cut fragment first k) ≡ (first + k) % SEGMENT_NUMBERS
+  pub carries : carried (cut fragment first k) ≡ take SEGMENT_DATA (drop (SEGMENT_DATA * k) fragment)
   pub sized : k < cut_count (length fragment) → has_no_size (cut fragment first k) ≡ false
 
 -- a series that is open after a push was open before it, and the push is left out of it; or the push begins the series,

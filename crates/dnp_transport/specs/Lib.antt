@@ -3,4 +3,4 @@ pub mod Cuts
 pub mod Series
 pub mod Assembly
 pub mod Laws
-pub mod Stages
+pub mod steps

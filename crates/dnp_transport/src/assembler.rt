@@ -2,9 +2,10 @@
 ghost use Rattle.std.specs.Prelude.{◌≡◌, ◌≤◌, ◌↔◌, IsTrue, ℕ, List, [], ◌∷◌, length, false};
 ghost use Rattle.dnp_transport.specs.Assembly.{Idle, Stands, Answers, Shows};
 ghost use Rattle.dnp_transport.specs.Segments.{has_no_size as no_size_of};
-ghost use Rattle.dnp_transport.specs.Stages.{MayGoOn, GoesOn, stage_after};
+ghost use Rattle.dnp_transport.specs.steps.Stages.{MayGoOn, GoesOn, stage_after};
 
-use crate::header::{NUMBERS, has_no_size, is_first, is_last, number};
+use crate::header::{has_no_size, is_first, is_last, number};
+use crate::limits::{MAX_FRAGMENT, MAX_SEGMENT, SEGMENT_NUMBERS};
 use arrayvec::ArrayVec;
 use std::marker::Model;
 
@@ -21,26 +22,28 @@ pub enum Pushed {
     Dropped,
 }
 
+/// Where an assembler stands between two pushes.
 #[derive(Clone, Copy, Debug)]
 enum Stage {
-    // There is no series.
+    /// There is no series.
     Idle,
 
-    // A series waits for its next segment.
+    /// A series waits for its next segment.
     Joining,
 
-    // The last push completed a fragment.
+    /// The last push completed a fragment.
     Complete,
 }
 
 impl Stage {
+    /// Whether a series is in progress.
     fn is_joining(self) -> bool
         ensures { IsTrue result ↔ (self ≡ Stage.Joining) }
     {
         matches!(self, Stage::Joining)
     }
 
-    // Where the answer to a segment that went on with a series leaves the assembler.
+    /// Where the answer to a segment that went on with a series leaves the assembler.
     fn after(pushed: Pushed) -> Stage
         ensures { result ≡ stage_after pushed }
     {
@@ -52,20 +55,19 @@ impl Stage {
     }
 }
 
-/// Joins segments to fragments of 1 to 2,048 octets (IEEE Std 1815-2012, transport function).
+/// Joins segments to fragments of 1 to [`MAX_FRAGMENT`] octets (IEEE Std 1815-2012, transport function).
 ///
 /// A segment with FIR begins a series, whatever its number, and ends one in progress. The segments after it have
-/// numbers that follow modulo 64, and the one with FIN completes the fragment. A segment without FIR that equals the
-/// last accepted one is a repeat, and is ignored.
+/// numbers that follow modulo [`SEGMENT_NUMBERS`], and the one with FIN completes the fragment. A segment without FIR
+/// that equals the last accepted one is a repeat, and is ignored.
 #[derive(Debug, Drop)]
 pub struct Assembler {
+    /// Whether there is a series or a fragment.
     stage: Stage,
-
-    // The last accepted segment.
-    last: ArrayVec<u8, 250>,
-
-    // The data of the series in progress, or the fragment.
-    octets: ArrayVec<u8, 2048>,
+    /// The last accepted segment.
+    last: ArrayVec<u8, MAX_SEGMENT>,
+    /// The data of the series in progress, or the fragment.
+    octets: ArrayVec<u8, MAX_FRAGMENT>,
 }
 
 impl Model for Assembler {
@@ -73,7 +75,7 @@ impl Model for Assembler {
 
     ghost Value = { Assembly };
 
-    ghost use Rattle.dnp_transport.specs.Stages.{assembly, HasHistory};
+    ghost use Rattle.dnp_transport.specs.steps.Stages.{assembly, HasHistory};
 
     ghost view = { λ a. assembly a.stage a.last.items a.octets.items };
 
@@ -95,9 +97,9 @@ impl Assembler {
 
     /// Takes in a string of octets that the link layer gave.
     ///
-    /// What is no segment, of under 2 or over 250 octets, is ignored, as is a segment without FIR where no series is in
-    /// progress. `Dropped` says that a series in progress is gone: its next number did not come, or it would have
-    /// passed 2,048 octets.
+    /// What is no segment, of under 2 octets or more than [`MAX_SEGMENT`], is ignored, as is a segment without FIR
+    /// where no series is in progress. `Dropped` says that a series in progress is gone: its next number did not come,
+    /// or it would have passed the longest fragment.
     pub fn push(&mut self, segment: &[u8]) -> Pushed
         ensures stands { (before : List (List ℕ)) → Stands before self.old → Stands (segment.now ∷ before) self.new }
         ensures answers { (before : List (List ℕ)) → Stands before self.old → Answers (segment.now ∷ before) result }
@@ -123,14 +125,14 @@ impl Assembler {
         if segment == self.last.as_slice() {
             return Pushed::Nothing;
         }
-        if number(segment) != (number(&self.last) + 1) % NUMBERS {
+        if number(segment) != (number(&self.last) + 1) % SEGMENT_NUMBERS {
             self.stage = Stage::Idle;
             return Pushed::Dropped;
         }
         self.go_on(segment)
     }
 
-    // Takes in a segment that begins a series or is the next of the one in progress.
+    /// Takes in a segment that begins a series or is the next of the one in progress.
     fn go_on(&mut self, segment: &[u8]) -> Pushed
         requires sized { no_size_of segment.now ≡ false }
         requires goes_on { MayGoOn self.old segment.now }
@@ -149,7 +151,7 @@ impl Assembler {
     /// The fragment that the last push completed, until the next push, and else no octets.
     pub fn fragment(&self) -> &[u8]
         ensures shown { (pushed : List (List ℕ)) → Stands pushed self.now → Shows pushed result.now }
-        ensures fits { length result.now ≤ 2048 }
+        ensures fits { length result.now ≤ MAX_FRAGMENT }
     {
         match self.stage {
             Stage::Complete => self.octets.as_slice(),
@@ -193,8 +195,8 @@ impl Default for Assembler {
     }
 }
 
-// Puts the data of a segment behind those of the series so far, if they fit the longest fragment.
-fn join(octets: &mut ArrayVec<u8, 2048>, segment: &[u8]) -> Pushed
+/// Puts the data of a segment after those of the series so far, if they fit the longest fragment.
+fn join(octets: &mut ArrayVec<u8, MAX_FRAGMENT>, segment: &[u8]) -> Pushed
     requires { no_size_of segment.now ≡ false }
     ensures { GoesOn octets.old.items segment.now octets.new.items result }
 {
@@ -207,7 +209,7 @@ fn join(octets: &mut ArrayVec<u8, 2048>, segment: &[u8]) -> Pushed
     Pushed::Nothing
 }
 
-// A vector of these octets, for which it has room.
+/// A vector of these octets, for which it has room.
 fn copied<const N: usize>(octets: &[u8]) -> ArrayVec<u8, N>
     requires { length octets.now ≤ N }
     ensures { result.items ≡ octets.now }

@@ -1,4 +1,4 @@
-//! Laws of the definitions: a function here does nothing, and its contract is the theorem.
+//! Laws of pushes and cuts, each the contract of a function that does nothing.
 ghost use Rattle.std.specs.Prelude.{◌≡◌, ℕ, List, [], ◌∷◌, length};
 ghost use Rattle.dnp_transport.specs.Assembly.{Assembly, Idle, Stands, Answers, Shows};
 ghost use Rattle.dnp_transport.specs.Cuts.{cut_count, cuts, begun_cuts};
@@ -6,7 +6,7 @@ ghost use Rattle.dnp_transport.specs.Laws.{CutsGiveWhole, OneFragment, WholeOrDr
 ghost use Rattle.dnp_transport.specs.Series.{joined, IsOpen, IsWhole};
 ghost use Rattle.dnp_transport.specs.declared.assembler.Pushed.{Pushed as PushedValue};
 
-/// Whatever was pushed before: where the segments of a fragment of 1 to 2,048 octets are pushed in order, the last push
+/// Whatever was pushed before: where the segments of a fragment are pushed in order, the last push
 /// completes that fragment, and each earlier one gives nothing.
 pub fn cuts_give_whole()
     ensures { CutsGiveWhole }
@@ -38,8 +38,8 @@ pub fn a_push_goes_on()
     ensures idle { Stands [] Idle }
 {}
 
-/// Some pushes make one assembler. Which of the lists of pushes that make the same assembler was pushed does not matter:
-/// the next push does the same after each, and the fragment that is shown is the same.
+/// Some pushes make one assembler. Which of the lists of pushes that make the same assembler was pushed does not
+/// matter: the next push does the same after each, and the fragment that is shown is the same.
 pub fn history_does_not_matter()
     ensures one { (pushed : List (List ℕ)) (a b : Assembly) → Stands pushed a → Stands pushed b → a ≡ b }
     ensures answers { (a : Assembly) (before other : List (List ℕ)) (segment : List ℕ) (answer answer' : PushedValue) →

@@ -5,6 +5,8 @@ mod assembler;
 mod cutting;
 mod header;
 pub mod laws;
+mod limits;
 
 pub use assembler::{Assembler, Pushed};
 pub use cutting::{segment, segment_count};
+pub use limits::{MAX_FRAGMENT, MAX_SEGMENT, SEGMENT_DATA, SEGMENT_NUMBERS};

@@ -11,7 +11,7 @@ const READ: &[u8] =
 
 const ANSWER: &[u8] = b"05 64 0A 44 01 00 0A 00 6E 25 C0 C0 81 80 00 B3 F3\n";
 
-/// The same with digits of either case, and a line feed behind them.
+/// The same with digits of either case, and a line feed after them.
 const READ_IN_ANY_CASE: &[u8] =
     b"05 64 14 c4 0a 00 01 00 8f eD c0 C0 01 3c 02 06 3c 03 06 3c 04 06 3C 01 06 8a 51\n";
 
@@ -59,7 +59,7 @@ const NO_LINES: [&[u8]; 19] = [
     b"05 \xFF4",
 ];
 
-/// The character behind the 2,000 of "4a 4a .. 4a", how many characters of the text are taken, and
+/// The character after the 2,000 of "4a 4a .. 4a", how many characters of the text are taken, and
 /// the line that is written: with 2,000, and a line feed more, the text is a line of 667 octets.
 const LONGEST: [(u8, usize, &[u8]); 4] = [
     (b' ', 2_000, START),
@@ -70,7 +70,7 @@ const LONGEST: [(u8, usize, &[u8]); 4] = [
 
 /// Asserts what is written for the text, and what is answered.
 fn answers(
-    rt: &impl Abort,
+    rt: &(impl Abort + AllocGlobal),
     case: usize,
     text: &[u8],
     own: u16,
@@ -79,7 +79,7 @@ fn answers(
     is_frame: bool,
 ) {
     let mut written = ArrayVec::<u8, 64>::new();
-    let answer = answer_line(text, own, peer, &mut written);
+    let answer = answer_line(rt.alloc(), text, own, peer, &mut written);
     assert!(rt;
         answer == Ok(is_frame) && written.as_slice() == line,
         "case {case}"
@@ -138,7 +138,7 @@ fn failing_writers(rt: HostRuntime) {
             taken: ArrayVec::new(),
             left,
         };
-        let answer = answer_line(READ, 10, 1, &mut writer);
+        let answer = answer_line(rt.alloc(), READ, 10, 1, &mut writer);
         let fits = left == ANSWER.len();
         let wanted = if fits {
             Ok(true)

@@ -2,6 +2,7 @@
 ghost use Rattle.std.specs.Prelude.{◌↔◌, IsTrue};
 ghost use Rattle.dnp_line.specs.Comes.{Comes};
 
+use dnp_line::laws::{comes_after_another, comes_of_more, nothing_comes};
 use dnp_line::{Line, Port};
 use dnp_linkframe::{read_frame, write_frame};
 use dnp_transport::segment_count;
@@ -100,6 +101,9 @@ fn takes_confirmed_data_once(rt: HostRuntime) {
 fn came_of(came: &[u8], sent: &[u8]) -> bool
     ensures { IsTrue result ↔ Comes came.now sent.now }
 {
+    nothing_comes::<u8>();
+    comes_of_more::<u8>();
+    comes_after_another::<u8>();
     if came.is_empty() {
         return true;
     }

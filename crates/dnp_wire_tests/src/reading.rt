@@ -18,7 +18,7 @@ const NO_REQUESTS: [(&[u8], AppFault, u8); 13] = [
     (&[0xC0, 0x01, 0x01, 0x02, 0x00, 0x05, 0x04], AppFault::RangeBackward, 6),
     (&[0xC0, 0x01, 0x01, 0x02, 0x00, 0x05], AppFault::HeaderCut, 3),
     (&[0xC0, 0x03, 0x0C, 0x01, 0x28, 1, 0, 5, 0], AppFault::ObjectsCut, 7),
-    // The first fault counts, whatever comes behind it.
+    // The first fault counts, whatever comes after it.
     (&[0xC0, 0x01, 0x6E, 0x00], AppFault::HeaderCut, 3),
     (&[0xC0, 0x01, 0x3C, 0x02, 0x06, 0x6E, 0x00, 0x06, 0x3C], AppFault::ObjectUnknown, 5),
     // 65,535 commands are claimed and none is there.
@@ -103,7 +103,7 @@ const BLOCK: Command = Command::Block {
 
 type Asked = (Command, Status);
 
-/// One object behind its index of two octets, and one without.
+/// One object after its index of two octets, and one without.
 const INDEXED: Range = Range::Indexed { wide: true, n: 1 };
 
 const COUNTED: Range = Range::Count { wide: false, n: 1 };

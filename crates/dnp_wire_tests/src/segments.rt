@@ -3,7 +3,7 @@
 use dnp_transport::{Assembler, Pushed, segment, segment_count};
 
 /// The header and the number of octets, the header's among them, of each segment of a fragment of
-/// so many octets, from number 0 on.
+/// this length, from number 0 on.
 #[rattlefmt::skip]
 const CUTS: [(usize, &[(u8, usize)]); 3] = [
     (249, &[(0xC0, 250)]),

@@ -1,17 +1,17 @@
-use Rattle.std.proofs.Common.{refl, sym, ◌∙◌}
+use Rattle.std.proofs.Common.{refl, sym}
 use Rattle.dnp_daemons.specs.AnswerLine.{is_frame}
 use Rattle.dnp_daemons.proofs.answer.answer_line.Goals as goal
 
-pub returns-in-Err-clause-part : goal.returns-in-Err-clause-part
-returns-in-Err-clause-part g c =
+pub returns-clause-part : goal.returns-clause-part
+returns-clause-part g c _ =
     let (part, rest, split, appended) = c.in-Err.ensures.part in (
       part,
       rest,
-      is_frame c.to-answer.result,
+      is_frame c.in-Ok.answer,
       record {
-        answer = c.to-answer.result;
-        given = c.to-answer.ensures;
-        text_is = sym split ∙ c.deref.ensures.0 ∙ c.line.ensures;
+        answer = c.in-Ok.answer;
+        given = c.in-Ok.ensures;
+        text_is = sym split;
         accepted_is = refl;
       },
       appended,

@@ -16,7 +16,8 @@ loop-index-preserved c =
     let high = c.digit_of.ensures in
     let low = c.digit_of-in-loop-index.ensures in
     let was = c.loop-index.invariant.0 in
-    let next : c.push-in-loop-index-2.new.self.items ≡ (before ++ digit (slice_index_or octets i 0 / 16) ∷ []) ++ digit (slice_index_or octets i 0 % 16) ∷ [] = cc in
+    let next : c.push-in-loop-index-2.new.self.items ≡ (before ++ digit (slice_index_or octets i 0 / 16) ∷ []) ++ digit (slice_index_or octets i 0 % 16) ∷ [] =
+    cc in
     elim c.if-index-gt0.branch [
       | then-index-gt0 w ↦
           let space = w.push.ensures.items in

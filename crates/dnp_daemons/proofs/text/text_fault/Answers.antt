@@ -5,13 +5,15 @@ use Rattle.dnp_daemons.specs.TextFaults.{IsDigit, AreInPlace}
 use Rattle.dnp_daemons.proofs.TextPlaces.{none_in_place, more_in_place, whole_in_place, line_of_text}
 use Rattle.dnp_daemons.proofs.text.text_fault.Goals as goal
 use Rattle.dnp_daemons.proofs.text.text_fault.Goals.{then-is_empty-via-then-is_empty, then-is_empty-via-else-is_empty+then-line-eq2}
+use Rattle.dnp_daemons.specs.declared.octets.TheConstants.{MAX_CHARACTERS}
 
 pub loop-place-init : goal.loop-place-init
 loop-place-init c = (none_in_place c.line_in-line.result.now, omega arith)
 
 pub loop-place-preserved : goal.loop-place-preserved
 loop-place-preserved c =
-    let is_digit : IsDigit (slice_index c.line_in-line.result.now c.loop-place.place) = (c.in_default.field-0, c.in_default.ensures.found, c.in_default.ensures.same) in (
+    let is_digit : IsDigit (slice_index c.line_in-line.result.now c.loop-place.place) =
+    (c.in_default.field-0, c.in_default.ensures.found, c.in_default.ensures.same) in (
       more_in_place c.line_in-line.result.now c.loop-place.place c.loop-place.invariant.0
           (λ is. absurd (c.if-place-eq2.false is), λ other. is_digit),
       omega arith,
@@ -21,7 +23,7 @@ pub returns-then-is_empty-clause-none : goal.returns-then-is_empty-clause-none
 returns-then-is_empty-clause-none c =
     let line = c.line_in-line.result.now in
     let all : AreInPlace line (length line) = whole_in_place line c.loop-place.place c.loop-place.invariant.0 c.loop-place-test.false in
-    let short : length line ≤ 2000 = omega (arith, c.loop-place.invariant.1, c.loop-place-test.false) in
+    let short : length line ≤ MAX_CHARACTERS = omega (arith, c.loop-place.invariant.1, c.loop-place-test.false) in
     elim c.then-is_empty.branch [
       | then-is_empty-via-then-is_empty w ↦
           let none : length line ≡ 0 = grind (arith, nat_tests) in

@@ -1,4 +1,5 @@
 use Rattle.std.proofs.Common.{◌≡◌, ◌+◌, ◌<◌, ◌∷◌, [], ◌∙◌, ap₂, arith, sym, rules, drop, get_or, length, add-one, drop-cons}
+use Rattle.dnp_objects.specs.declared.limits.TheConstants.{LANES}
 use Rattle.dnp_eventbuf.specs.Stock.{LaneState, lanes_up_to, up_to}
 use Rattle.dnp_eventbuf.proofs.Remaining.{on_err, front_there, whole_there}
 use Rattle.dnp_eventbuf.proofs.plain.push_all_up_to.Goals as goal
@@ -9,8 +10,8 @@ returns-in_err-push_up_to-clause-memory c =
     let lanes = c.args.lanes.now in
     let upto = c.args.upto.now in
     let lane : LaneState = get_or lanes k c.index-lanes-k.result in
-    let nine : length lanes ≡ 9 = search rules in
-    let nine' : length upto ≡ 9 = search rules in
+    let nine : length lanes ≡ LANES = search rules in
+    let nine' : length upto ≡ LANES = search rules in
     let low : k < length lanes = let test = c.loop-k-test.true in omega arith in
     let low' : k < length upto = omega arith in
     let here : drop k lanes ≡ lane ∷ drop (k + 1) lanes = rw (add-one, drop-cons lanes k c.index-lanes-k.result) in

@@ -3,24 +3,13 @@ use Rattle.std.specs.Prelude.{replicate}
 use Rattle.dnp_transport.specs.Cuts.{cut_count}
 use Rattle.dnp_line.specs.Lines.{quiet_line}
 use Rattle.dnp_line.specs.Ways.{Runs, Deliver}
-use Rattle.dnp_line.proofs.Lower.{Lower}
+use Rattle.dnp_line.specs.steps.Lower.{Lower}
 use Rattle.dnp_line.proofs.Delivering.{ComesOut, comes_out}
 use Rattle.dnp_line.proofs.laws.a_clear_way_delivers.Goals as goal
 
 pub returns : goal.returns
 returns c =
-    let low : Lower =
-    record {
-      one_frame = c.a_unit_spells_one_frame.ensures;
-      to_peer = c.what_is_sent_is_for_the_peer.ensures;
-      gives = c.cuts_give_whole.ensures;
-      places = c.segments_say_their_places.ensures.places;
-      joins = c.segments_say_their_places.ensures.joined;
-      opens = c.a_push_goes_on.ensures.opens;
-      completes = c.a_push_goes_on.ensures.completes;
-      none_open = c.a_push_goes_on.ensures.none_open;
-      idle = c.a_push_goes_on.ensures.idle;
-    } in
+    let low : Lower = c.what_lies_below.ensures in
     record {
       one = λ old sent new fragment clear sends delivers.
           let all : Runs sent (replicate (cut_count (length fragment) + 0) Deliver) new =

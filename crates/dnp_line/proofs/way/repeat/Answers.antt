@@ -1,9 +1,10 @@
 -- What the calls of the line and the port did is what `Brings` says.
-use Rattle.std.proofs.Common.{◌≡◌, List, ℕ, [], ◌∷◌, ◌++◌, refl, sym, ap, ◌∙◌, subst, Some, None}
-use Rattle.std.specs.Prelude.{Option, if◌then◌else◌}
-use Rattle.dnp_line.specs.Lines.{LineState, HeldLine, front_of, repeated_on}
+use Rattle.std.proofs.Common.{List, ℕ, [], ◌∷◌, ◌++◌, sym, subst}
+use Rattle.std.specs.Prelude.{if◌then◌else◌}
+use Rattle.dnp_line.specs.Lines.{LineState, repeated_on}
 use Rattle.dnp_line.specs.Ports.{PortState}
-use Rattle.dnp_line.specs.Ways.{Hears, HearsIfAny}
+use Rattle.dnp_line.specs.Ways.{Hears}
+use Rattle.dnp_line.proofs.Bringing.{brings, brings_none}
 use Rattle.dnp_line.proofs.way.repeat.Goals as goal
 
 pub returns-in-Some-clause-happens : goal.returns-in-Some-clause-happens
@@ -11,30 +12,14 @@ returns-in-Some-clause-happens c =
     λ way fragment e f shown.
     let unit : List ℕ = c.in-Some.copy.items in
     let given : List (List ℕ) = if c.hear.result then way.given ++ fragment ∷ [] else way.given in
-    let front : front_of way.line ≡ Some unit = ap (λ (l : LineState). front_of l) e ∙ sym c.in-Some.ensures.unit in
-    let line_is : c.repeat.new.self.state ≡ repeated_on way.line =
-    ap (λ (l : HeldLine). l.state) c.repeat.ensures.line ∙ ap (λ (l : LineState). repeated_on l) (sym e) in
-    let h : Hears c.as_slice.result.now c.args.receiver.now c.hear.new.port way.given given =
-    c.hear.ensures way.given fragment shown in
-    let heard : HearsIfAny (Some unit) way.receiver c.hear.new.port way.given given =
-    subst (λ (p : PortState). Hears unit p c.hear.new.port way.given given) (sym f)
-    (subst (λ (u : List ℕ). Hears u c.args.receiver.now c.hear.new.port way.given given) c.as_slice.ensures.value h) in
-    record {
-      receiver = c.hear.new.port;
-      given = given;
-      heard = subst (λ (o : Option (List ℕ)). HearsIfAny o way.receiver c.hear.new.port way.given given) (sym front) heard;
-      after = ap (λ (l : LineState). record way { line = l; receiver = c.hear.new.port; given = given }) line_is;
-    }
+    brings (λ (l : LineState). repeated_on l) c.args.line.now c.repeat.new.self unit way c.hear.new.port given
+    (record { line = c.repeat.ensures.line; front = c.in-Some.ensures.unit }) e
+    (subst (λ (p : PortState). Hears unit p c.hear.new.port way.given given) (sym f)
+    (subst (λ (u : List ℕ). Hears u c.args.receiver.now c.hear.new.port way.given given) c.as_slice.ensures.value
+    (c.hear.ensures way.given fragment shown)))
 
 pub returns-in-None-clause-happens : goal.returns-in-None-clause-happens
 returns-in-None-clause-happens c =
     λ way fragment e f shown.
-    let front : front_of way.line ≡ None = ap (λ (l : LineState). front_of l) e ∙ sym c.in-None.ensures.unit in
-    let line_is : c.repeat.new.self.state ≡ repeated_on way.line =
-    ap (λ (l : HeldLine). l.state) c.repeat.ensures.line ∙ ap (λ (l : LineState). repeated_on l) (sym e) in
-    record {
-      receiver = c.args.receiver.now;
-      given = way.given;
-      heard = subst (λ (o : Option (List ℕ)). HearsIfAny o way.receiver c.args.receiver.now way.given way.given) (sym front) (sym f, refl);
-      after = ap (λ (l : LineState). record way { line = l; receiver = c.args.receiver.now }) line_is;
-    }
+    brings_none (λ (l : LineState). repeated_on l) c.args.line.now c.repeat.new.self way c.args.receiver.now
+    (record { line = c.repeat.ensures.line; front = c.in-None.ensures.unit }) e f

@@ -2,7 +2,8 @@ use Rattle.std.proofs.Common.{ℕ, ◌+◌, ◌*◌, ◌/◌, ◌<◌, ◌≤◌
 use Rattle.std.proofs.lemmas.List.{take_all}
 use Rattle.std.specs.Int.{bit_not, w16}
 use Rattle.std.specs.Simd.{first_chunks}
-use Rattle.dnp_linkframe.specs.CheckWord.{Continues, Leaves, message, remainder}
+use Rattle.dnp_linkframe.specs.CheckWord.{message, remainder}
+use Rattle.dnp_linkframe.specs.steps.Division.{Continues, Leaves}
 use Rattle.dnp_linkframe.specs.Polynomials.{times_x}
 use Rattle.dnp_linkframe.proofs.EightOctets.{block_more, octet_more}
 use Rattle.dnp_linkframe.proofs.Octets.{octets_done}

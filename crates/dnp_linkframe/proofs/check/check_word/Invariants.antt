@@ -1,5 +1,6 @@
 use Rattle.std.proofs.Common.{◌+◌, ◌*◌, ◌/◌, ◌<◌, ◌^◌, length, take}
-use Rattle.dnp_linkframe.specs.CheckWord.{Leaves, message, remainder}
+use Rattle.dnp_linkframe.specs.CheckWord.{message, remainder}
+use Rattle.dnp_linkframe.specs.steps.Division.{Leaves}
 use Rattle.dnp_linkframe.specs.Polynomials.{times_x}
 use Rattle.dnp_linkframe.proofs.check.check_word.Given as goal
 

@@ -7,6 +7,7 @@ use Rattle.dnp_linkframe.specs.Stream.{Gives}
 use Rattle.dnp_linkframe.proofs.Pieces.{gives_both, rest_gives, GoesOn}
 use Rattle.dnp_linkframe.proofs.Refused.{on_err}
 use Rattle.dnp_linkframe.proofs.reader.read_on.Goals as goal
+use Rattle.dnp_linkframe.specs.declared.frame.TheConstants.{MAX_UNIT}
 
 -- the octets that are looked at first: those that wait, and the first of the piece
 looked_at : (octets piece all : List ℕ) (start first : ℕ) → start ≤ length octets → all ≡ octets ++ take first piece
@@ -15,8 +16,8 @@ looked_at octets piece all start first begun is =
     take_rest all start ∙ ap (λ (t : List ℕ). drop start t) is ∙ drop-append-le start octets (take first piece) begun
 
 -- a longer piece is past what waited
-passed : (held piece : List ℕ) (first done : ℕ) → first ≡ min (length piece) 292 → 292 < length piece
-    → length (drop done (held ++ take first piece)) < 292 → length held ≤ done
+passed : (held piece : List ℕ) (first done : ℕ) → first ≡ min (length piece) MAX_UNIT → MAX_UNIT < length piece
+    → length (drop done (held ++ take first piece)) < MAX_UNIT → length held ≤ done
 passed held piece first done is long fewer =
     omega (
       arith,
@@ -30,8 +31,8 @@ rest_here : (held piece : List ℕ) (before done : ℕ) → before ≡ length he
     → take (length piece - (done - before)) (drop (done - before) piece) ≡ drop (done - length held) piece
 rest_here held piece before done size = take_rest piece (done - before) ∙ ap (λ (n : ℕ). drop (done - n) piece) size
 
-pub returns-then-piece-le-MAX_FRAME-clause-given : goal.returns-then-piece-le-MAX_FRAME-clause-given
-returns-then-piece-le-MAX_FRAME-clause-given c =
+pub returns-then-piece-le-MAX_UNIT-clause-given : goal.returns-then-piece-le-MAX_UNIT-clause-given
+returns-then-piece-le-MAX_UNIT-clause-given c =
     let octets = c.args.octets.now.items in
     let start = c.args.start in
     let piece = c.args.piece.now in
@@ -41,7 +42,7 @@ returns-then-piece-le-MAX_FRAME-clause-given c =
     let seen = take (length all - start) (drop start all) in
     let joint : c.try_extend_from_slice.new.self.items ≡ octets ++ take first piece = search rules in
     let is : all ≡ octets ++ take first piece = c.deref.ensures.0 ∙ joint in
-    let short : length piece ≤ 292 = c.if-piece-le-MAX_FRAME.true in
+    let short : length piece ≤ MAX_UNIT = c.if-piece-le-MAX_UNIT.true in
     let whole : take first piece ≡ piece = take_all first piece (omega (arith, c.min-first.ensures)) in
     let looked : seen ≡ drop start octets ++ piece =
     looked_at octets piece all start first c.requires.begun is ∙ ap (λ (t : List ℕ). drop start octets ++ t) whole in
@@ -73,10 +74,10 @@ returns-clause-given c =
     let h = c.in_ok-done-2.ensures.given in
     let within : done ≤ length (held ++ take first piece) = subst (λ (t : List ℕ). done ≤ length t) looked c.in_ok-done.ensures.within in
     let size : before ≡ length held = omega (arith, c.len.ensures.value, length-drop start octets) in
-    let fewer : length (drop done (held ++ take first piece)) < 292 =
-    subst (λ (t : List ℕ). length (drop done t) < 292) looked c.in_ok-done.ensures.fewer in
+    let fewer : length (drop done (held ++ take first piece)) < MAX_UNIT =
+    subst (λ (t : List ℕ). length (drop done t) < MAX_UNIT) looked c.in_ok-done.ensures.fewer in
     let past : length held ≤ done =
-    passed held piece first done c.min-first.ensures c.if-piece-le-MAX_FRAME.false fewer in
+    passed held piece first done c.min-first.ensures c.if-piece-le-MAX_UNIT.false fewer in
     let p : Gives (held ++ take first piece) g.0 (drop done (held ++ take first piece)) =
     subst (λ (t : List ℕ). Gives t g.0 (drop done t)) looked g.2 in
     let waits : Gives rest h.0 c.try_extend_from_slice-2.new.self.items =
@@ -122,10 +123,10 @@ returns-in_err-done-2-clause-full c =
     let looked : seen ≡ held ++ take first piece = looked_at octets piece all start first c.requires.begun (c.deref.ensures.0 ∙ joint) in
     let within : done ≤ length (held ++ take first piece) = subst (λ (t : List ℕ). done ≤ length t) looked c.in_ok-done.ensures.within in
     let size : before ≡ length held = omega (arith, c.len.ensures.value, length-drop start octets) in
-    let fewer : length (drop done (held ++ take first piece)) < 292 =
-    subst (λ (t : List ℕ). length (drop done t) < 292) looked c.in_ok-done.ensures.fewer in
+    let fewer : length (drop done (held ++ take first piece)) < MAX_UNIT =
+    subst (λ (t : List ℕ). length (drop done t) < MAX_UNIT) looked c.in_ok-done.ensures.fewer in
     let past : length held ≤ done =
-    passed held piece first done c.min-first.ensures c.if-piece-le-MAX_FRAME.false fewer in
+    passed held piece first done c.min-first.ensures c.if-piece-le-MAX_UNIT.false fewer in
     let given = c.in_ok-done.ensures.given in
     let p : Gives (held ++ take first piece) given.0 (drop done (held ++ take first piece)) =
     subst (λ (t : List ℕ). Gives t given.0 (drop done t)) looked given.2 in

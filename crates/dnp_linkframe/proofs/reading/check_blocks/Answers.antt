@@ -1,5 +1,6 @@
 use Rattle.std.proofs.Common.{rules, ◌≡◌, ℕ, length, subst, sym, ap, ◌∙◌, arith, min, suc}
-use Rattle.dnp_linkframe.specs.Frames.{IsFirstUnchecked, IsChecked}
+use Rattle.dnp_linkframe.specs.Frames.{IsChecked}
+use Rattle.dnp_linkframe.specs.steps.Checks.{IsFirstUnchecked}
 use Rattle.dnp_linkframe.proofs.ReadBlocks.{Checks, checks_none, checks_more, checks_all, checks_bad}
 use Rattle.dnp_linkframe.proofs.reading.check_blocks.Goals as goal
 

@@ -1,7 +1,7 @@
 -- The tests before have ruled out each earlier fault.
 use Rattle.std.proofs.Common.{ℕ, List, subst, arith}
 use Rattle.std.proofs.lemmas.List.{take_rest}
-use Rattle.dnp_linkframe.specs.Frames.{IsFirstUnchecked, EachChecked}
+use Rattle.dnp_linkframe.specs.steps.Checks.{IsFirstUnchecked, EachChecked}
 use Rattle.dnp_linkframe.proofs.Units.{first_unchecked, start_is}
 use Rattle.dnp_linkframe.proofs.reading.check_unit.Goals as goal
 

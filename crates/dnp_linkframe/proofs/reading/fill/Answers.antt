@@ -1,7 +1,8 @@
 -- What is read is what the cells say.
 use Rattle.std.proofs.Common.{◌≡◌, ℕ, ◌-◌, List, length, drop, get_or, subst, sym, arith, refl, ap}
 use Rattle.std.proofs.lemmas.List.{take_rest, length-drop}
-use Rattle.dnp_linkframe.specs.Frames.{AreChecked, EachChecked, blocks}
+use Rattle.dnp_linkframe.specs.Frames.{AreChecked, blocks}
+use Rattle.dnp_linkframe.specs.steps.Checks.{EachChecked}
 use Rattle.dnp_linkframe.proofs.Units.{spells_from, first_octet, second_octet}
 use Rattle.dnp_linkframe.proofs.ReadBlocks.{one_size}
 use Rattle.dnp_linkframe.proofs.reading.fill.Goals as goal

@@ -1,6 +1,6 @@
 use Rattle.std.proofs.Common.{rules, ℕ, ◌≡◌, List, IfErr, is_err, true, subst, refl, inr}
 use Rattle.std.proofs.lemmas.List.{take_rest}
-use Rattle.dnp_linkframe.specs.Frames.{IsFirstUnchecked}
+use Rattle.dnp_linkframe.specs.steps.Checks.{IsFirstUnchecked}
 use Rattle.dnp_linkframe.proofs.Units.{bad_block}
 use Rattle.dnp_linkframe.proofs.stream.push_frame.Goals as goal
 

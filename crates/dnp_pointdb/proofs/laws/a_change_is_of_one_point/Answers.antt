@@ -1,4 +1,4 @@
-use Rattle.dnp_pointdb.proofs.Runs.{changed_here, set_here, changed_elsewhere, set_elsewhere}
+use Rattle.dnp_pointdb.proofs.Readings.{changed_here, set_here, changed_elsewhere, set_elsewhere}
 use Rattle.dnp_pointdb.proofs.Histories.{state_at-restarted}
 use Rattle.dnp_pointdb.proofs.laws.a_change_is_of_one_point.Goals as goal
 

@@ -1,5 +1,6 @@
+use Rattle.dnp_pointdb.specs.declared.limits.TheConstants.{INDICES}
 use Rattle.dnp_pointdb.proofs.Mapped.{unmarked}
 use Rattle.dnp_pointdb.proofs.taken.no_marks.Goals as goal
 
 pub returns : goal.returns
-returns c = λ k. unmarked 65536 k
+returns c = λ k. unmarked INDICES k

@@ -1,11 +1,12 @@
-use Rattle.std.proofs.Common.{◌≡◌, ◌∙◌, ap, subst, refl, sym, true, ℕ, ◌+◌, ◌≤◌, List, length, ◌++◌, Some, None, arith}
-use Rattle.dnp_appfragment.specs.Headers.{Head, NumbersFit, IsHeader, number, header_octets}
+use Rattle.std.proofs.Common.{rules, ◌≡◌, ◌∙◌, ap, subst, refl, sym, true, ℕ, ◌+◌, ◌≤◌, length, Some, None, arith}
+use Rattle.dnp_objects.specs.declared.limits.TheConstants.{MAX_FRAGMENT}
+use Rattle.dnp_appfragment.specs.Headers.{Head, NumbersFit, IsHeader, number}
 use Rattle.dnp_appfragment.specs.Table.{form_of}
 use Rattle.dnp_appfragment.specs.Overwriting.{written_over}
 use Rattle.dnp_appfragment.specs.Built.{size}
 use Rattle.dnp_appfragment.specs.Building.{ended_in, objects_in, range_end, longer}
 use Rattle.dnp_appfragment.proofs.Joins.{joined_size, begun_with, begun_size}
-use Rattle.dnp_appfragment.proofs.Laid.{joined_laid, object_laid, header_behind, size-header}
+use Rattle.dnp_appfragment.proofs.Laid.{joined_laid}
 use Rattle.dnp_appfragment.proofs.builder.Builder.put.Goals as goal
 
 -- ---- the object joins the run
@@ -27,7 +28,7 @@ invariant_of-self g c =
     c.requires.fits (subst (λ (h : Head). NumbersFit h.range) c.run-begun.ensures.value c.run-begun.ensures.fits) in
     let join : longer c.self.inside.run (g.O.Object.head c.args.object.now) ≡ Some c.in-Some.longer =
     sym (ap (longer c.self.inside.run) c.run-begun.ensures.value) ∙ sym c.longer.ensures ∙ c.in-Some.is in
-    let room : size c.args.self.now + length (g.O.Object.head c.args.object.now).octets ≤ 2048 =
+    let room : size c.args.self.now + length (g.O.Object.head c.args.object.now).octets ≤ MAX_FRAGMENT =
     omega (arith, c.left.ensures, c.if-left-size.false, c.size-size.ensures.value) in
     let place : c.self.inside.ended + 3 + c.end-place.result.0 ≡ c.self.inside.ended + 3 + (range_end c.in-Some.longer.range).0 =
     ap (λ (p : ℕ × ℕ). c.self.inside.ended + 3 + p.0) c.end-place.ensures in
@@ -45,7 +46,7 @@ returns-else-left-size-clause-ok g c =
     c.requires.fits (subst (λ (h : Head). NumbersFit h.range) c.run-begun.ensures.value c.run-begun.ensures.fits) in
     let join : longer c.self.inside.run (g.O.Object.head c.args.object.now) ≡ Some c.in-Some.longer =
     sym (ap (longer c.self.inside.run) c.run-begun.ensures.value) ∙ sym c.longer.ensures ∙ c.in-Some.is in
-    let room : size c.args.self.now + length (g.O.Object.head c.args.object.now).octets ≤ 2048 =
+    let room : size c.args.self.now + length (g.O.Object.head c.args.object.now).octets ≤ MAX_FRAGMENT =
     omega (arith, c.left.ensures, c.if-left-size.false, c.size-size.ensures.value) in
     let place : c.self.inside.ended + 3 + c.end-place.result.0 ≡ c.self.inside.ended + 3 + (range_end c.in-Some.longer.range).0 =
     ap (λ (p : ℕ × ℕ). c.self.inside.ended + 3 + p.0) c.end-place.ensures in
@@ -70,60 +71,18 @@ returns-else-left-size-clause-full g c =
 
 -- ---- the object begins a run
 
-pub returns-then-left-range_size-clause-full : goal.returns-then-left-range_size-clause-full
-returns-then-left-range_size-clause-full g c =
+pub returns-in-None-clause-ok : goal.returns-in-None-clause-ok
+returns-in-None-clause-ok g c =
+    let none : longer c.self.inside.run (g.O.Object.head c.args.object.now) ≡ None =
+    sym (ap (longer c.self.inside.run) c.run-begun.ensures.value) ∙ sym c.longer.ensures ∙ c.in-None.is in
+    let same = begun_with c.args.self.now c.self.inside.function (ended_in c.self.inside.function c.self.inside.octets.items c.self.inside.ended) c.self.inside.run
+    (objects_in c.self.inside.octets.items c.self.inside.ended c.self.inside.run) (g.O.Object.head c.args.object.now) c.self.view_is none in
+    search rules
+
+pub returns-in-None-clause-full : goal.returns-in-None-clause-full
+returns-in-None-clause-full g c =
     let none : longer c.self.inside.run (g.O.Object.head c.args.object.now) ≡ None =
     sym (ap (longer c.self.inside.run) c.run-begun.ensures.value) ∙ sym c.longer.ensures ∙ c.in-None.is in
     let sizes = begun_size c.args.self.now c.self.inside.function (ended_in c.self.inside.function c.self.inside.octets.items c.self.inside.ended) c.self.inside.run
     (objects_in c.self.inside.octets.items c.self.inside.ended c.self.inside.run) (g.O.Object.head c.args.object.now) c.self.view_is none in
-    let whole = size-header c.run-begun.result (g.O.Object.head c.args.object.now) c.run-begun.ensures.value in
-    (λ _. omega (arith, sizes, whole, c.left-in-None.ensures, c.if-left-range_size.true, c.range_size.ensures.size, c.size-size.ensures.value), λ _. refl)
-
-pub invariant_of-self-in-None : goal.invariant_of-self-in-None
-invariant_of-self-in-None g c =
-    let fits : IsHeader (form_of c.args.self.now.function) (g.O.Object.head c.args.object.now) =
-    c.requires.fits (subst (λ (h : Head). NumbersFit h.range) c.run-begun.ensures.value c.run-begun.ensures.fits) in
-    let sizes = size-header c.run-begun.result (g.O.Object.head c.args.object.now) c.run-begun.ensures.value in
-    let room : size c.args.self.now + length (header_octets (g.O.Object.head c.args.object.now)) ≤ 2048 =
-    omega (arith, sizes, c.left-in-None.ensures, c.if-left-range_size.false, c.range_size.ensures.size, c.size-size.ensures.value) in
-    let whole = header_behind c.self-in-None.inside.octets.items c.append-in-None.new.octets.items c.run-begun.result (g.O.Object.head c.args.object.now) c.run-begun.ensures.value
-    (c.append-in-None.ensures ∙ ap (λ (l : List ℕ). l ++ (g.O.Object.head c.args.object.now).octets) c.push_run.ensures) in
-    (object_laid c.args.self.now c.self-in-None.inside.function c.self-in-None.inside.octets.items c.append-in-None.new.octets.items
-    c.self-in-None.inside.ended c.self-in-None.inside.run c.run-begun.result (g.O.Object.head c.args.object.now) (c.self-in-None.view_is ∙ c.break_run.ensures)
-    c.self-in-None.invariant c.run-begun.ensures.value fits whole room).0
-
-pub returns-else-left-range_size-clause-ok : goal.returns-else-left-range_size-clause-ok
-returns-else-left-range_size-clause-ok g c =
-    let fits : IsHeader (form_of c.args.self.now.function) (g.O.Object.head c.args.object.now) =
-    c.requires.fits (subst (λ (h : Head). NumbersFit h.range) c.run-begun.ensures.value c.run-begun.ensures.fits) in
-    let none : longer c.self.inside.run (g.O.Object.head c.args.object.now) ≡ None =
-    sym (ap (longer c.self.inside.run) c.run-begun.ensures.value) ∙ sym c.longer.ensures ∙ c.in-None.is in
-    let sizes = size-header c.run-begun.result (g.O.Object.head c.args.object.now) c.run-begun.ensures.value in
-    let room : size c.args.self.now + length (header_octets (g.O.Object.head c.args.object.now)) ≤ 2048 =
-    omega (arith, sizes, c.left-in-None.ensures, c.if-left-range_size.false, c.range_size.ensures.size, c.size-size.ensures.value) in
-    let whole = header_behind c.self-in-None.inside.octets.items c.append-in-None.new.octets.items c.run-begun.result (g.O.Object.head c.args.object.now) c.run-begun.ensures.value
-    (c.append-in-None.ensures ∙ ap (λ (l : List ℕ). l ++ (g.O.Object.head c.args.object.now).octets) c.push_run.ensures) in
-    (object_laid c.args.self.now c.self-in-None.inside.function c.self-in-None.inside.octets.items c.append-in-None.new.octets.items
-    c.self-in-None.inside.ended c.self-in-None.inside.run c.run-begun.result (g.O.Object.head c.args.object.now) (c.self-in-None.view_is ∙ c.break_run.ensures)
-    c.self-in-None.invariant c.run-begun.ensures.value fits whole room).1
-    ∙ sym (begun_with c.args.self.now c.self.inside.function (ended_in c.self.inside.function c.self.inside.octets.items c.self.inside.ended) c.self.inside.run (objects_in c.self.inside.octets.items c.self.inside.ended c.self.inside.run) (g.O.Object.head c.args.object.now) c.self.view_is none)
-
-pub returns-else-left-range_size-clause-full : goal.returns-else-left-range_size-clause-full
-returns-else-left-range_size-clause-full g c =
-    let none : longer c.self.inside.run (g.O.Object.head c.args.object.now) ≡ None =
-    sym (ap (longer c.self.inside.run) c.run-begun.ensures.value) ∙ sym c.longer.ensures ∙ c.in-None.is in
-    let sizes = begun_size c.args.self.now c.self.inside.function (ended_in c.self.inside.function c.self.inside.octets.items c.self.inside.ended) c.self.inside.run
-    (objects_in c.self.inside.octets.items c.self.inside.ended c.self.inside.run) (g.O.Object.head c.args.object.now) c.self.view_is none in
-    let whole = size-header c.run-begun.result (g.O.Object.head c.args.object.now) c.run-begun.ensures.value in (
-      λ no. cc,
-      λ late. absurd (omega (
-        arith,
-        late,
-        sizes,
-        whole,
-        c.left-in-None.ensures,
-        c.if-left-range_size.false,
-        c.range_size.ensures.size,
-        c.size-size.ensures.value,
-      )),
-    )
+    search rules

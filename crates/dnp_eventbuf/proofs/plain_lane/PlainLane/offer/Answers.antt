@@ -1,4 +1,4 @@
-use Rattle.std.proofs.Common.{rules, arith, ◌≡◌, ◌<◌, ◌∙◌, ap, sym, refl, [], nat_lt, filter, take, true, false, List}
+use Rattle.std.proofs.Common.{arith, ◌≡◌, ◌∙◌, ap, sym, nat_lt, filter, take, true, false}
 use Rattle.std.specs.List.{list_any}
 use Rattle.dnp_eventbuf.specs.declared.numbered.Numbered.{Numbered}
 use Rattle.dnp_eventbuf.proofs.Over.{filter-none, filter-some, take-none, take-some}

@@ -1,7 +1,8 @@
 use Rattle.std.proofs.Common.{rules, ◌≡◌, ℕ, ◌<◌, ◌≤◌, ◌-◌, List, [], ◌++◌, length, drop, sym, ◌∙◌, ap, subst, arith}
 use Rattle.std.proofs.lemmas.List.{append_cancel_left, append-nil, length-append, length-drop, drop-append-le}
 use Rattle.dnp_linkframe.specs.declared.frame.Frame.{Frame}
-use Rattle.dnp_linkframe.specs.Stream.{Awaits, Gives}
+use Rattle.dnp_linkframe.specs.Stream.{Gives}
+use Rattle.dnp_linkframe.specs.steps.Checks.{Awaits}
 use Rattle.dnp_linkframe.proofs.Pieces.{pieces, gives_nothing}
 use Rattle.dnp_linkframe.proofs.reader.FrameReader.feed.Goals as goal
 

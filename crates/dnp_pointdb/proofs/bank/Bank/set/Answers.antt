@@ -1,77 +1,20 @@
-use Rattle.std.proofs.Common.{◌≡◌, length, get_or, sym, ◌∙◌, ap, Some, None, Option, List, Result, Err, arith, rules}
-use Rattle.dnp_pointdb.specs.declared.state.PointState.{PointState}
-use Rattle.dnp_pointdb.specs.declared.state.BlockState.{BlockState}
-use Rattle.dnp_pointdb.specs.declared.fault.ChangeFault.{ChangeFault}
-use Rattle.dnp_pointdb.specs.Database.{checked, set_from, set_answer_in, set_state}
-use Rattle.dnp_pointdb.specs.Order.{extents, place_in}
-use Rattle.dnp_pointdb.proofs.Lookups.{lookup_lacks}
-use Rattle.dnp_pointdb.proofs.Changes.{checked_ok, set_in-lacks, in_blocks, in_points, in_points_of, state_in-place, set_in-place}
+use Rattle.std.proofs.Common.{sym}
+use Rattle.dnp_pointdb.specs.Database.{set_state}
+use Rattle.dnp_pointdb.proofs.Changes.{in_blocks, in_points, read_at, read_refused}
 use Rattle.dnp_pointdb.proofs.bank.Bank.set.Goals as goal
 
-pub returns-in_default-clause-answer : goal.returns-in_default-clause-answer
-returns-in_default-clause-answer c =
-    let none : place_in (extents c.args.self.now) c.args.index ≡ None = sym c.find.ensures ∙ c.in_default.is in
-    sym (ap (λ (o : Option PointState). set_from (checked o c.args.kind c.args.reading)) ((lookup_lacks c.args.self.now c.args.index none).state))
-
-pub returns-in_default-clause-after : goal.returns-in_default-clause-after
-returns-in_default-clause-after c =
-    let none : place_in (extents c.args.self.now) c.args.index ≡ None = sym c.find.ensures ∙ c.in_default.is in
-    sym (set_in-lacks c.args.self.now c.args.kind c.args.index c.args.reading none)
-
-pub index-requires : goal.index-requires
-index-requires c =
-    let at : place_in (extents c.args.self.now) c.args.index ≡ Some (c.in-Some.block, c.in-Some.place) = sym c.in-Some.ensures in
-    omega (arith, in_blocks c.args.self.now c.args.index c.in-Some.block c.in-Some.place at, ap (λ (bs : List BlockState). length bs) c.self.view_is)
-
-pub state-requires : goal.state-requires
-state-requires c =
-    let at : place_in (extents c.args.self.now) c.args.index ≡ Some (c.in-Some.block, c.in-Some.place) = sym c.in-Some.ensures in
-    let block_is : c.index.result.now ≡ get_or c.args.self.now c.in-Some.block c.index.result.now =
-    c.index.ensures ∙ ap (λ (bs : List BlockState). get_or bs c.in-Some.block c.index.result.now) c.self.view_is in
-    in_points_of c.args.self.now c.args.index c.in-Some.block c.in-Some.place c.index.result.now at block_is
-
-pub returns-in_err-state-clause-answer : goal.returns-in_err-state-clause-answer
-returns-in_err-state-clause-answer c =
-    let at : place_in (extents c.args.self.now) c.args.index ≡ Some (c.in-Some.block, c.in-Some.place) = sym c.in-Some.ensures in
-    let block_is : c.index.result.now ≡ get_or c.args.self.now c.in-Some.block c.index.result.now =
-    c.index.ensures ∙ ap (λ (bs : List BlockState). get_or bs c.in-Some.block c.index.result.now) c.self.view_is in
-    let there = state_in-place c.args.self.now c.args.index c.in-Some.block c.in-Some.place c.index.result.now c.state.result at block_is c.state.ensures in
-    let asked : set_answer_in c.args.self.now c.args.kind c.args.index c.args.reading ≡ set_from c.checked.result =
-    ap (λ (o : Option PointState). set_from (checked o c.args.kind c.args.reading)) there
-    ∙ ap (λ (r : Result PointState ChangeFault). set_from r) (sym c.checked.ensures) in
-    let refused : set_answer_in c.args.self.now c.args.kind c.args.index c.args.reading ≡ Err c.in_err-state.field-0.0 =
-    asked ∙ ap (λ (r : Result PointState ChangeFault). set_from r) c.in_err-state.was in
-    search (rules, refused)
+pub returns-in_err-block-clause-after : goal.returns-in_err-block-clause-after
+returns-in_err-block-clause-after c =
+    sym (read_refused (set_state c.args.reading) c.args.self.now c.args.kind c.args.index c.args.reading c.in_err-block.field-0.0 c.in_err-block.ensures.fault)
 
 pub put-requires-clause-block : goal.put-requires-clause-block
-put-requires-clause-block c =
-    let at : place_in (extents c.args.self.now) c.args.index ≡ Some (c.in-Some.block, c.in-Some.place) = sym c.in-Some.ensures in
-    in_blocks c.args.self.now c.args.index c.in-Some.block c.in-Some.place at
+put-requires-clause-block c = in_blocks c.args.self.now c.args.index c.in_ok-block.block c.in_ok-block.place c.in_ok-block.ensures.place
 
 pub put-requires-clause-place : goal.put-requires-clause-place
-put-requires-clause-place c =
-    let at : place_in (extents c.args.self.now) c.args.index ≡ Some (c.in-Some.block, c.in-Some.place) = sym c.in-Some.ensures in
-    λ d. in_points c.args.self.now c.args.index c.in-Some.block c.in-Some.place d at
-
-pub returns-clause-answer : goal.returns-clause-answer
-returns-clause-answer c =
-    let at : place_in (extents c.args.self.now) c.args.index ≡ Some (c.in-Some.block, c.in-Some.place) = sym c.in-Some.ensures in
-    let block_is : c.index.result.now ≡ get_or c.args.self.now c.in-Some.block c.index.result.now =
-    c.index.ensures ∙ ap (λ (bs : List BlockState). get_or bs c.in-Some.block c.index.result.now) c.self.view_is in
-    let there = state_in-place c.args.self.now c.args.index c.in-Some.block c.in-Some.place c.index.result.now c.state.result at block_is c.state.ensures in
-    let asked : set_answer_in c.args.self.now c.args.kind c.args.index c.args.reading ≡ set_from c.checked.result =
-    ap (λ (o : Option PointState). set_from (checked o c.args.kind c.args.reading)) there
-    ∙ ap (λ (r : Result PointState ChangeFault). set_from r) (sym c.checked.ensures) in
-    let made = asked ∙ ap (λ (r : Result PointState ChangeFault). set_from r) c.in_ok-state.was in
-    sym made
+put-requires-clause-place c = λ d. in_points c.args.self.now c.args.index c.in_ok-block.block c.in_ok-block.place d c.in_ok-block.ensures.place
 
 pub returns-clause-after : goal.returns-clause-after
 returns-clause-after c =
-    let at : place_in (extents c.args.self.now) c.args.index ≡ Some (c.in-Some.block, c.in-Some.place) = sym c.in-Some.ensures in
-    let block_is : c.index.result.now ≡ get_or c.args.self.now c.in-Some.block c.index.result.now =
-    c.index.ensures ∙ ap (λ (bs : List BlockState). get_or bs c.in-Some.block c.index.result.now) c.self.view_is in
-    let passed = checked_ok c.state.result c.in_ok-state.state c.args.kind c.args.reading (sym c.checked.ensures ∙ c.in_ok-state.was) in
-    set_in-place c.args.self.now c.put.new.self c.args.kind c.args.index c.args.reading c.in-Some.block c.in-Some.place c.index.result.now
-    c.state.result c.set.result at block_is c.state.ensures passed.0
-    (c.set.ensures ∙ ap (λ (s : PointState). set_state c.args.reading s) passed.1)
-    (c.put.ensures c.index.result.now)
+    read_at (set_state c.args.reading) c.args.self.now c.put.new.self c.args.kind c.args.index c.args.reading c.in_ok-block.block c.in_ok-block.place
+    c.in_ok-block.state c.set.result c.in_ok-block.ensures.place c.in_ok-block.ensures.state c.in_ok-block.ensures.checked
+    c.set.ensures c.put.ensures

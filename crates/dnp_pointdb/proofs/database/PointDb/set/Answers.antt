@@ -1,57 +1,21 @@
-use Rattle.std.proofs.Common.{◌≡◌, ◌∙◌, rules}
-use Rattle.dnp_objects.specs.declared.row.Kind.TheVariants.{Binary, Counter, Analog}
-use Rattle.dnp_pointdb.specs.Database.{Database, database_of, set_answer_of}
+use Rattle.std.proofs.Common.{◌≡◌, ◌∙◌, arith}
+use Rattle.std.proofs.lemmas.Grind.{common_steps}
+use Rattle.dnp_pointdb.specs.Database.{Database, set_answer_of}
 use Rattle.dnp_pointdb.proofs.FirstFaults.{first_set_answer}
-use Rattle.dnp_pointdb.proofs.Sound.{set_bank}
+use Rattle.dnp_pointdb.proofs.Sound.{set_is_sound, sound_same}
 use Rattle.dnp_pointdb.proofs.database.PointDb.set.Goals as goal
-
-pub returns-in-Binary-clause-only_fault : goal.returns-in-Binary-clause-only_fault
-returns-in-Binary-clause-only_fault c = λ fault first.
-    let exact : c.set.result ≡ set_answer_of c.args.self.now c.args.kind c.args.index c.args.reading = search rules in
-    exact ∙ first_set_answer c.args.self.now c.args.kind c.args.index c.args.reading fault first
-
-pub returns-in-Counter-clause-only_fault : goal.returns-in-Counter-clause-only_fault
-returns-in-Counter-clause-only_fault c = λ fault first.
-    let exact : c.set-in-Counter.result ≡ set_answer_of c.args.self.now c.args.kind c.args.index c.args.reading = search rules in
-    exact ∙ first_set_answer c.args.self.now c.args.kind c.args.index c.args.reading fault first
-
-pub returns-in-Analog-clause-only_fault : goal.returns-in-Analog-clause-only_fault
-returns-in-Analog-clause-only_fault c = λ fault first.
-    let exact : c.set-in-Analog.result ≡ set_answer_of c.args.self.now c.args.kind c.args.index c.args.reading = search rules in
-    exact ∙ first_set_answer c.args.self.now c.args.kind c.args.index c.args.reading fault first
 
 pub invariant_of-self : goal.invariant_of-self
 invariant_of-self c =
-    let before : Database = database_of c.self.inside.binary c.self.inside.counter c.self.inside.analog in
-    set_bank before c.args.kind Binary c.args.index c.args.reading c.set.new.self
-    c.in-Binary.is c.set.ensures.after c.self.invariant
+    let before : Database = record { banks = c.self.inside.banks } in
+    sound_same _ _ (grind (arith, common_steps)) (set_is_sound before c.args.kind c.args.index c.args.reading c.self.invariant)
 
-pub returns-in-Binary-clause-sound : goal.returns-in-Binary-clause-sound
-returns-in-Binary-clause-sound c =
-    let before : Database = database_of c.self.inside.binary c.self.inside.counter c.self.inside.analog in
-    set_bank before c.args.kind Binary c.args.index c.args.reading c.set.new.self
-    c.in-Binary.is c.set.ensures.after c.self.invariant
+pub returns-clause-only_fault : goal.returns-clause-only_fault
+returns-clause-only_fault c = λ fault first.
+    let exact : c.set.result ≡ set_answer_of c.args.self.now c.args.kind c.args.index c.args.reading = grind (arith, common_steps) in
+    exact ∙ first_set_answer c.args.self.now c.args.kind c.args.index c.args.reading fault first
 
-pub invariant_of-self-in-Counter : goal.invariant_of-self-in-Counter
-invariant_of-self-in-Counter c =
-    let before : Database = database_of c.self.inside.binary c.self.inside.counter c.self.inside.analog in
-    set_bank before c.args.kind Counter c.args.index c.args.reading c.set-in-Counter.new.self
-    c.in-Counter.is c.set-in-Counter.ensures.after c.self.invariant
-
-pub returns-in-Counter-clause-sound : goal.returns-in-Counter-clause-sound
-returns-in-Counter-clause-sound c =
-    let before : Database = database_of c.self.inside.binary c.self.inside.counter c.self.inside.analog in
-    set_bank before c.args.kind Counter c.args.index c.args.reading c.set-in-Counter.new.self
-    c.in-Counter.is c.set-in-Counter.ensures.after c.self.invariant
-
-pub invariant_of-self-in-Analog : goal.invariant_of-self-in-Analog
-invariant_of-self-in-Analog c =
-    let before : Database = database_of c.self.inside.binary c.self.inside.counter c.self.inside.analog in
-    set_bank before c.args.kind Analog c.args.index c.args.reading c.set-in-Analog.new.self
-    c.in-Analog.is c.set-in-Analog.ensures.after c.self.invariant
-
-pub returns-in-Analog-clause-sound : goal.returns-in-Analog-clause-sound
-returns-in-Analog-clause-sound c =
-    let before : Database = database_of c.self.inside.binary c.self.inside.counter c.self.inside.analog in
-    set_bank before c.args.kind Analog c.args.index c.args.reading c.set-in-Analog.new.self
-    c.in-Analog.is c.set-in-Analog.ensures.after c.self.invariant
+pub returns-clause-sound : goal.returns-clause-sound
+returns-clause-sound c =
+    let before : Database = record { banks = c.self.inside.banks } in
+    sound_same _ _ (grind (arith, common_steps)) (set_is_sound before c.args.kind c.args.index c.args.reading c.self.invariant)

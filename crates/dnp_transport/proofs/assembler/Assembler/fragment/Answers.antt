@@ -1,6 +1,6 @@
 use Rattle.std.proofs.Common.{◌≡◌, ℕ, List, ap, ◌∙◌, sym, subst, arith}
 use Rattle.dnp_transport.specs.Assembly.{Assembly, Complete, Stands, Shows}
-use Rattle.dnp_transport.specs.Stages.{assembly}
+use Rattle.dnp_transport.specs.steps.Stages.{assembly}
 use Rattle.dnp_transport.specs.declared.assembler.Stage.{Stage}
 use Rattle.dnp_transport.proofs.Exits.{shows_complete, unfinished_shows_none}
 use Rattle.dnp_transport.proofs.assembler.Assembler.fragment.Goals as goal

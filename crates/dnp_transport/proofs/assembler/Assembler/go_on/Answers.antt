@@ -1,7 +1,7 @@
 -- The one exit of `go_on`: the segment begins a series or goes on with the one in progress.
 use Rattle.std.proofs.Common.{ℕ, inl, inr, List, ◌∷◌, sym, ap, ◌∙◌, subst}
 use Rattle.dnp_transport.specs.Assembly.{Stands}
-use Rattle.dnp_transport.specs.Stages.{assembly, stage_after}
+use Rattle.dnp_transport.specs.steps.Stages.{assembly, stage_after}
 use Rattle.dnp_transport.specs.declared.assembler.Stage.{Stage}
 use Rattle.dnp_transport.specs.declared.assembler.Assembler.TheInside.{Inside}
 use Rattle.dnp_transport.proofs.Exits.{GoesOnWith, IsAfter, went_on}
@@ -19,7 +19,8 @@ invariant_of-self c =
           inr (sym c.is_first.ensures ∙ w.if-is_first.false, ap (λ (i : Inside). i.octets.items) w.self-inside-is)
     ] in
     let pushed : List (List ℕ) = c.self.invariant.0 in
-    let after : IsAfter pushed s (assembly (stage_after c.join-pushed.result) c.copied-self-inside.result.items c.join-pushed.new.octets.items) c.join-pushed.result =
+    let after : IsAfter pushed s (assembly (stage_after c.join-pushed.result) c.copied-self-inside.result.items c.join-pushed.new.octets.items)
+    c.join-pushed.result =
     went_on c.self.inside.stage c.self.inside.last.items c.self.inside.octets.items c.args.self.now s
     c.if-is_first.self-inside.octets.items c.join-pushed.new.octets.items c.copied-self-inside.result.items
     c.join-pushed.result c.self.view_is c.requires.sized c.requires.goes_on onto c.join-pushed.ensures
@@ -36,7 +37,8 @@ returns c =
       | else-is_first w ↦
           inr (sym c.is_first.ensures ∙ w.if-is_first.false, ap (λ (i : Inside). i.octets.items) w.self-inside-is)
     ] in
-    let after : (before : List (List ℕ)) → Stands before c.args.self.now → IsAfter before s (assembly (stage_after c.join-pushed.result) c.copied-self-inside.result.items c.join-pushed.new.octets.items) c.join-pushed.result =
+    let after : (before : List (List ℕ)) → Stands before c.args.self.now
+    → IsAfter before s (assembly (stage_after c.join-pushed.result) c.copied-self-inside.result.items c.join-pushed.new.octets.items) c.join-pushed.result =
     went_on c.self.inside.stage c.self.inside.last.items c.self.inside.octets.items c.args.self.now s
     c.if-is_first.self-inside.octets.items c.join-pushed.new.octets.items c.copied-self-inside.result.items
     c.join-pushed.result c.self.view_is c.requires.sized c.requires.goes_on onto c.join-pushed.ensures

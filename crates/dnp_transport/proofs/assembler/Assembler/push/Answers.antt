@@ -6,9 +6,10 @@ use Rattle.dnp_transport.specs.Segments.{is_first, number, has_no_size}
 use Rattle.dnp_transport.specs.Series.{IsDropped}
 use Rattle.dnp_transport.specs.Assembly.{IsJoining, Stands}
 use Rattle.dnp_transport.proofs.Exits.{NoSeries, Accepted}
-use Rattle.dnp_transport.specs.Stages.{Next}
+use Rattle.dnp_transport.specs.steps.Stages.{Next}
 use Rattle.dnp_transport.proofs.Exits as exits
 use Rattle.dnp_transport.proofs.assembler.Assembler.push.Goals as goal
+use Rattle.dnp_transport.specs.declared.limits.TheConstants.{SEGMENT_NUMBERS}
 
 -- no segment, and no series in progress
 pub returns-then-not-joining-clause-stands : goal.returns-then-not-joining-clause-stands
@@ -56,7 +57,8 @@ returns-then-eq c =
     let no_first : is_first c.args.segment.now ≡ false = sym c.is_first.ensures ∙ c.if-is_first.false in
     let same : c.args.segment.now ≡ c.self.inside.last.items =
     (bytes_eq-Decides c.args.segment.now c.as_slice.result.now).0 (sym c.eq.ensures ∙ c.if-eq.true) ∙ c.as_slice.ensures.value in
-    let joining : (before : List (List ℕ)) → Stands before c.args.self.now → IsJoining (c.args.segment.now ∷ before) c.self.inside.last.items c.self.inside.octets.items =
+    let joining : (before : List (List ℕ)) → Stands before c.args.self.now
+    → IsJoining (c.args.segment.now ∷ before) c.self.inside.last.items c.self.inside.octets.items =
     λ before h.
     exits.repeat_joining before c.args.segment.now c.self.inside.last.items c.self.inside.octets.items
     (exits.is_joining c.self.inside.stage c.self.inside.last.items c.self.inside.octets.items c.args.self.now before
@@ -84,8 +86,8 @@ returns-then-number c =
     (c.eq.ensures ∙ (bytes_eq-Decides c.args.segment.now c.as_slice.result.now).1 (e ∙ sym c.as_slice.ensures.value)) in
     let same_number : c.number-2.result ≡ number c.self.inside.last.items =
     c.number-2.ensures ∙ ap (λ (l : List ℕ). number l) c.deref.ensures.0 in
-    let astray : number c.args.segment.now ≡ (number c.self.inside.last.items + 1) % 64 → ⊥ =
-    λ e. c.if-number.true (c.number.ensures ∙ e ∙ ap (λ (n : ℕ). (n + 1) % 64) (sym same_number)) in
+    let astray : number c.args.segment.now ≡ (number c.self.inside.last.items + 1) % SEGMENT_NUMBERS → ⊥ =
+    λ e. c.if-number.true (c.number.ensures ∙ e ∙ ap (λ (n : ℕ). (n + 1) % SEGMENT_NUMBERS) (sym same_number)) in
     let dropped : (before : List (List ℕ)) → Stands before c.args.self.now → IsDropped (c.args.segment.now ∷ before) =
     λ before h.
     exits.drops_series before c.args.segment.now c.self.inside.last.items c.self.inside.octets.items
@@ -122,4 +124,4 @@ go_on-requires-2-clause-goes_on c =
     (exits.joining_is c.self.inside.stage c.self.inside.last.items c.self.inside.octets.items c.args.self.now
     c.is_joining-joining.result c.self.view_is c.is_joining-joining.ensures c.if-not-joining-2.false)
     (sym c.is_first.ensures ∙ c.if-is_first.false) fresh
-    (sym c.number.ensures ∙ c.if-number.false ∙ ap (λ (n : ℕ). (n + 1) % 64) same_number)
+    (sym c.number.ensures ∙ c.if-number.false ∙ ap (λ (n : ℕ). (n + 1) % SEGMENT_NUMBERS) same_number)

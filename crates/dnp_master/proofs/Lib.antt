@@ -1,0 +1,3 @@
+pub mod RequestHeaders
+pub mod Gatherings
+pub mod Walks

@@ -1,0 +1,201 @@
+//! The rows of a response that the sink is given.
+
+ghost use Rattle.std.specs.Prelude.{◌≡◌, ◌≢◌, ◌≤◌, vec_len, ◌<◌, ◌^◌, ◌++◌, ◌⊎◌, true, false, [], ◌∷◌, All, IsTrue, IfOk, IfErr, filter};
+ghost use Rattle.std.specs.List.{list_all};
+ghost use Rattle.dnp_objects.specs.Events.{IsEvent};
+ghost use Rattle.dnp_appfragment.specs.Seen.{head};
+ghost use Rattle.dnp_master.specs.Gathering.{Gathers, Holds};
+ghost use Rattle.dnp_master.specs.Rows as spec;
+ghost use Rattle.dnp_master.specs.Taking.{events_of, statics_of};
+
+use crate::fault::MasterFault;
+use dnp_appfragment::laws::{objects_say_rows_and_commands, rows_are_events};
+use dnp_appfragment::{Header, Headers, RowWalk};
+use dnp_objects::Row;
+use dnp_pointdb::PointPlan;
+use std::alloc::Global;
+
+/// Rows that are being gathered.
+#[derive(Drop)]
+pub(crate) struct Gathering {
+    rows: Vec<Row>,
+    /// Whether there was no memory for one of them. From then on no row is gathered.
+    is_cut: bool,
+}
+
+impl Gathering {
+    /// Gathers a row, if there is memory for it and was for those before.
+    fn put(&mut self, row: Row)
+        ensures { Gathers self.old (row ∷ []) self.new }
+    {
+        if !self.is_cut && self.rows.push(row).is_err() {
+            self.is_cut = true;
+        }
+    }
+}
+
+/// Whether the row's point is in the plan, and has events.
+fn is_reported(plan: &PointPlan, row: &Row) -> bool
+    ensures { result ≡ spec.is_reported plan.now row.now }
+{
+    plan.class_of(row.kind, row.index)
+        .is_some_and(|class| class > 0)
+}
+
+/// Whether the row's point is in the plan.
+fn is_planned(plan: &PointPlan, row: &Row) -> bool
+    ensures { result ≡ spec.is_planned plan.now row.now }
+{
+    plan.class_of(row.kind, row.index).is_some()
+}
+
+/// Whether the header's objects are events.
+fn is_event_header(header: &Header<'_>) -> bool
+    ensures { result ≡ spec.is_event_header (head header.now) }
+{
+    matches!(header.group, 2 | 22 | 32)
+}
+
+/// Gathers events, in order. Whether each is of a point that has events; where one is not, it ends
+/// there.
+fn gather_rows(plan: &PointPlan, rows: RowWalk<'_>, gathering: &mut Gathering) -> bool
+    ensures checked { result ≡ list_all (spec.is_reported plan.now) rows.entry }
+    ensures gathered { IsTrue result → Gathers gathering.old rows.entry gathering.new }
+{
+    for row in rows {
+        if !is_reported(plan, &row) {
+            return false;
+        }
+        gathering.put(row);
+    }
+    true
+}
+
+/// Gathers the rows whose points are in the plan, in order.
+fn gather_planned(plan: &PointPlan, rows: RowWalk<'_>, gathering: &mut Gathering)
+    ensures { Gathers gathering.old (filter (spec.is_planned plan.now) rows.entry) gathering.new }
+{
+    for row in rows {
+        if is_planned(plan, &row) {
+            gathering.put(row);
+        }
+    }
+}
+
+/// An octet is below 2^8, wherever it is read.
+fn octets_are_small(octets: &[u8])
+    ensures { All (λ octet. octet < 2 ^ 8) octets.now }
+{
+}
+
+/// The rows of a header, in order. Each can be reported as an event.
+fn rows_of<'a>(header: &Header<'a>) -> RowWalk<'a>
+    ensures value { result ≡ spec.header_rows (head header.now) }
+    ensures events { All IsEvent result }
+{
+    objects_say_rows_and_commands();
+    rows_are_events();
+    octets_are_small(header.octets);
+    header.rows()
+}
+
+/// Gathers the events of these headers, in order. Whether each is of a point that has events; where
+/// one is not, it ends there.
+fn gather_events(plan: &PointPlan, headers: Headers<'_>, gathering: &mut Gathering) -> bool
+    ensures checked { result ≡ spec.is_from_plan plan.now headers.entry.headers }
+    ensures gathered { IsTrue result → Gathers gathering.old (spec.events_in headers.entry.headers) gathering.new }
+    ensures carried { IsTrue result → All IsEvent (spec.events_in headers.entry.headers) }
+{
+    for header in headers {
+        if !is_event_header(&header) {
+            continue;
+        }
+        if !gather_rows(plan, rows_of(&header), gathering) {
+            return false;
+        }
+    }
+    true
+}
+
+/// Gathers the present values of these headers whose points are in the plan, in order.
+fn gather_statics(plan: &PointPlan, headers: Headers<'_>, gathering: &mut Gathering)
+    ensures { Gathers gathering.old (spec.statics_in plan.now headers.entry.headers) gathering.new }
+{
+    for header in headers {
+        if !is_event_header(&header) {
+            gather_planned(plan, rows_of(&header), gathering);
+        }
+    }
+}
+
+/// The rows of a response for the sink.
+#[derive(Drop)]
+pub(crate) struct Gathered {
+    /// The events, and behind them the present values.
+    pub rows: Vec<Row>,
+    /// How many events there are.
+    pub events: usize,
+}
+
+impl Gathered {
+    /// No rows.
+    pub fn none(alloc: Global) -> Gathered
+        ensures rows { result.rows.items ≡ [] }
+        ensures events { result.events ≡ 0 }
+    {
+        Gathered {
+            rows: Vec::new(alloc),
+            events: 0,
+        }
+    }
+
+    /// The events, in order.
+    pub fn events(&self) -> &[Row]
+        requires { self.now.events ≤ vec_len self.now.rows }
+        ensures { result.now ≡ events_of self.now }
+    {
+        &self.rows[..self.events]
+    }
+
+    /// The present values, in order.
+    pub fn statics(&self) -> &[Row]
+        requires { self.now.events ≤ vec_len self.now.rows }
+        ensures { result.now ≡ statics_of self.now }
+    {
+        &self.rows[self.events..]
+    }
+
+    /// The rows of these headers, all of them or none.
+    ///
+    /// Refused is, first of all, an event of a point that the plan lacks, or that has no class
+    /// (`Stranger`), and then want of memory for the rows (`Memory`).
+    pub fn of(
+        alloc: Global,
+        plan: &PointPlan,
+        headers: &Headers<'_>,
+    ) -> Result<Gathered, MasterFault>
+        ensures found { IfOk result (Holds plan.now headers.now.headers) }
+        ensures named { IfErr result (λ e. (e ≡ MasterFault.Stranger) ⊎ (e ≡ MasterFault.Memory)) }
+        ensures stranger { IfErr result (λ e. e ≡ MasterFault.Stranger → spec.is_from_plan plan.now headers.now.headers ≡ false) }
+        ensures known { IfErr result (λ e. e ≡ MasterFault.Memory → spec.is_from_plan plan.now headers.now.headers ≡ true) }
+        ensures memory { IfErr result (λ e. e ≡ MasterFault.Memory
+            → spec.events_in headers.now.headers ++ spec.statics_in plan.now headers.now.headers ≢ []) }
+    {
+        let mut gathering = Gathering {
+            rows: Vec::new(alloc),
+            is_cut: false,
+        };
+        if !gather_events(plan, headers.after(0), &mut gathering) {
+            return Err(MasterFault::Stranger);
+        }
+        let events = gathering.rows.len();
+        gather_statics(plan, headers.after(0), &mut gathering);
+        if gathering.is_cut {
+            return Err(MasterFault::Memory);
+        }
+        Ok(Gathered {
+            rows: gathering.rows,
+            events,
+        })
+    }
+}

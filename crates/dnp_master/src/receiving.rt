@@ -1,0 +1,101 @@
+//! What a master does with what comes.
+
+ghost use Rattle.std.specs.Prelude.{◌≡◌, ◌≢◌, ◌+◌, ◌<◌, ◌⊎◌, false, true, [], All, IsTrue, OnOk, IfOk, IfErr, OnErr, Err, length};
+ghost use Rattle.std.specs.Result.{IsOkAnd};
+ghost use Rattle.dnp_objects.specs.Events.{IsEvent};
+ghost use Rattle.dnp_master.specs.Calls.{actions_of, has_rows, receive_of};
+ghost use Rattle.dnp_master.specs.Sinks.{IsSinkFault, LeavesSink};
+
+use crate::actions::{MasterActions, Rows};
+use crate::fault::MasterFault;
+use crate::master::Master;
+use dnp_eventbuf::Sink;
+use dnp_objects::Row;
+use std::alloc::Global;
+
+/// Gives rows to the sink by one append, if there are any: those that it dropped for them.
+fn give<S: Sink>(
+    sink: &mut S,
+    alloc: Global,
+    events: &[Row],
+    statics: &[Row],
+) -> Result<Rows, MasterFault>
+    requires { All IsEvent events.now }
+    ensures sink { LeavesSink S.honest S.is_stopped S.keeps sink.old sink.new result }
+    ensures spared { length events.now + length statics.now ≡ 0 → (sink.new ≡ sink.old) × IsOkAnd result (λ dropped. dropped ≡ []) }
+    ensures taken { 0 < length events.now + length statics.now → S.honest sink.new
+        → IfOk result (λ dropped. S.takes sink.old events.now statics.now dropped sink.new) }
+    ensures stopped { 0 < length events.now + length statics.now → IsTrue (S.is_stopped sink.old) → result ≡ Err MasterFault.Device }
+    ensures not_exhausted { 0 < length events.now + length statics.now → S.honest sink.new
+        → OnOk result (S.exhausts sink.old events.now ≡ false) }
+    ensures exhausted { S.honest sink.new → IfErr result (λ e. e ≡ MasterFault.Exhausted → IsTrue (S.exhausts sink.old events.now)) }
+    ensures named { IfErr result IsSinkFault }
+{
+    if events.is_empty() && statics.is_empty() {
+        return Ok(Rows::none(alloc));
+    }
+    let dropped = sink.append(alloc, events, statics)?;
+    Ok(Rows::of(dropped))
+}
+
+impl Master {
+    /// Takes in octets that came at this moment, in milliseconds: what a closed master, and one that awaits
+    /// none of this, passes over, is answered Ok too, and nothing has happened then.
+    ///
+    /// Taken is the next fragment of the response that is awaited, and, at any time, a response in one
+    /// fragment that nobody asked for. Its events, and beside them its present values of points that the
+    /// plan has, are given to the sink by one append, in order, if there are any. Only then is the
+    /// fragment confirmed, if it asks for that, and only then does anything change.
+    ///
+    /// Refused is, first of all, what is no response (`Malformed`), and then an event of a point that the
+    /// plan lacks, or that has no class (`Stranger`): nothing was asked of the sink. Last come want of
+    /// memory for the rows (`Memory`), and what the sink refuses (`Exhausted`, `Memory`, `Device`).
+    pub fn receive<S: Sink>(
+        &mut self,
+        alloc: Global,
+        now: u64,
+        octets: &[u8],
+        sink: &mut S,
+    ) -> Result<MasterActions, MasterFault>
+        // What is refused for itself, whatever the sink.
+        ensures refused { IfErr (receive_of self.old now octets.now) (λ fault. result ≡ Err fault) }
+        // All else is refused for want of memory or by the sink, and only where there are rows.
+        ensures named { IfErr result (λ fault. (receive_of self.old now octets.now ≡ Err fault)
+            ⊎ (IsSinkFault fault × IsOkAnd (receive_of self.old now octets.now) (λ t. IsTrue (has_rows t)))) }
+        ensures unchanged { OnErr result (self.new ≡ self.old) }
+        ensures after { OnOk result (IfOk (receive_of self.old now octets.now) (λ t. self.new ≡ t.state)) }
+        ensures actions { IfOk result (λ a. IfOk (receive_of self.old now octets.now) (λ t. a ≡ actions_of t a.dropped)) }
+        // The rows are given to the sink by one append.
+        ensures taken { S.honest sink.new → IfOk result (λ a. IfOk (receive_of self.old now octets.now) (λ t.
+            IsTrue (has_rows t) → S.takes sink.old t.events t.statics a.dropped sink.new)) }
+        // Where there are none, nothing is asked of the sink, and nothing refused.
+        ensures spared { IfOk (receive_of self.old now octets.now) (λ t. has_rows t ≡ false
+            → (sink.new ≡ sink.old) × IsOkAnd result (λ a. a.dropped ≡ [])) }
+        ensures unasked { OnErr (receive_of self.old now octets.now) (sink.new ≡ sink.old) }
+        ensures sink { LeavesSink S.honest S.is_stopped S.keeps sink.old sink.new result }
+        // Once the sink's device has failed, no rows are taken.
+        ensures stopped { IsTrue (S.is_stopped sink.old)
+            → OnOk result (IfOk (receive_of self.old now octets.now) (λ t. has_rows t ≡ false)) }
+        ensures not_exhausted { S.honest sink.new → OnOk result (IfOk (receive_of self.old now octets.now) (λ t.
+            IsTrue (has_rows t) → S.exhausts sink.old t.events ≡ false)) }
+        ensures exhausted { S.honest sink.new → IfErr result (λ fault. fault ≡ MasterFault.Exhausted
+            → IfOk (receive_of self.old now octets.now) (λ t. IsTrue (S.exhausts sink.old t.events))) }
+    {
+        let taken = self.take(alloc, now, octets)?;
+        let events = taken.gathered.events();
+        let statics = taken.gathered.statics();
+        let dropped = give(sink, alloc, events, statics)?;
+        let count = events.len();
+        let next = taken.next;
+        self.seq = next.seq;
+        self.request = next.request;
+        self.selected = next.selected;
+        Ok(MasterActions {
+            send: taken.send,
+            taken: count,
+            dropped,
+            outcome: next.outcome,
+            restart: taken.restart,
+        })
+    }
+}

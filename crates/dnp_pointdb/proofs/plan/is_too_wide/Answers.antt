@@ -1,0 +1,8 @@
+use Rattle.std.proofs.Common.{rules}
+use Rattle.std.specs.List.{Any}
+use Rattle.dnp_pointdb.specs.Plan.{blocks_of, IsTooWide}
+use Rattle.dnp_pointdb.proofs.ByKind.{any_kind}
+use Rattle.dnp_pointdb.proofs.plan.is_too_wide.Goals as goal
+
+pub returns : goal.returns
+returns c = any_kind (λ kind. Any IsTooWide (blocks_of c.args.blocks.now kind)) c.any.result c.iter.result.rest.now c.iter.ensures.rest (search rules)
