@@ -17,7 +17,7 @@ use Rattle.dnp_outstation.specs.declared.offer.place.Place.{Place}
 use Rattle.dnp_outstation.specs.Items.{Item, Source, no_ids, given_after, place_after, rows_left, items_left}
 use Rattle.dnp_outstation.specs.Offer.{held_of, last_ids, offered_of, offered}
 use Rattle.dnp_outstation.specs.Layout.{fits_fragment}
-use Rattle.dnp_outstation.specs.Laws.{rows_in_lane, AreNext, IsOnward, AreGiven, AreBefore, IsTidy, LeavesNothing}
+use Rattle.dnp_outstation.specs.Laws.{rows_in_lane, AreNext, IsOnward, AreGiven, AreBefore, IsTidy, LeavesOnly}
 use Rattle.dnp_outstation.proofs.Rising.{Rising, last_or, over, upto, rising_filter, rising_begins, rising_from, last_is_over, all_over, pairs_from}
 use Rattle.dnp_outstation.proofs.LaneRows.{Starts, last_given, length_given}
 use Rattle.dnp_outstation.proofs.Longest.{longest_whole}
@@ -132,10 +132,11 @@ from_first low low' (x ∷ xs) = inr refl
 
 -- of what a READ was given nothing is left but what its new fragment carries
 pub new_leaves_nothing : (s : Source) (stood : ℕ) (place next : Place) (headers : List Head) → IsSound s.lanes → IsTidy s.lanes place.given → length place.given ≡ 9
-    → All (λ id. id ≤ s.lanes.last_id) place.given → (offered s stood place headers).left ≡ Some next → LeavesNothing s.lanes next.given (offered s stood place headers).upto
+    → All (λ id. id ≤ s.lanes.last_id) place.given → (offered s stood place headers).left ≡ Some next → LeavesOnly s.lanes next.given (offered s stood place headers).upto
 unfolding offered_of
 new_leaves_nothing s stood place next headers sound tidy nine used is = record {
   nine = nine_after s stood place next headers nine is;
+  nine_upto = length_given no_ids items;
   used = All-from_get_or (λ (id : ℕ). id ≤ s.lanes.last_id) next.given 0 (λ lane low. used_at lane (let e = nine_after s stood place next headers nine is in omega arith));
   carried = carried;
 }
@@ -178,12 +179,12 @@ new_leaves_nothing s stood place next headers sound tidy nine used is = record {
         ]
 
 -- after the release of its ids nothing that was given is left
-pub released_is_tidy : (s : Stock) (given ids : List ℕ) → length s.lanes ≡ 9 → length ids ≡ 9 → LeavesNothing s given ids → IsTidy (without s ids) given
-released_is_tidy s given ids nine nine_ids leaves = λ lane low.
+pub released_is_tidy : (s : Stock) (given ids : List ℕ) → length s.lanes ≡ 9 → LeavesOnly s given ids → IsTidy (without s ids) given
+released_is_tidy s given ids nine leaves = λ lane low.
     let rows = (lane_at s lane).rows in
     let id = slice_index ids lane in
     let P : Numbered → Type 0 = λ x. slice_index given lane < x.id in
-    let lane_is : lane_at (without s ids) lane ≡ above id (lane_at s lane) = get_or-lanes_above s.lanes ids lane (nine ∙ sym nine_ids) (omega arith) in
+    let lane_is : lane_at (without s ids) lane ≡ above id (lane_at s lane) = get_or-lanes_above s.lanes ids lane (nine ∙ sym leaves.nine_upto) (omega arith) in
     let carried : All (λ (x : Numbered). x.id ≤ slice_index given lane → x.id ≤ id) (filter (over id) rows) = All-filter (over id) (λ (x : Numbered). x.id ≤ slice_index given lane → x.id ≤ id) rows (leaves.carried lane low) in
     let passed : All (λ (x : Numbered). over id x ≡ true) (filter (over id) rows) = filter_passes (over id) rows in
     let all : All P (filter (over id) rows) = λ k d short. after (get_or (filter (over id) rows) k d) id (slice_index given lane) (carried k d short) (passed k d short) in
@@ -199,9 +200,10 @@ released_is_tidy s given ids nine nine_ids leaves = λ lane low.
 
 -- ---- what changes of the lanes keep
 
-pub appended_leaves : (s : Stock) (rows : List LaneRow) (given ids : List ℕ) → LeavesNothing s given ids → LeavesNothing (with_rows s rows) given ids
+pub appended_leaves : (s : Stock) (rows : List LaneRow) (given ids : List ℕ) → LeavesOnly s given ids → LeavesOnly (with_rows s rows) given ids
 appended_leaves s rows given ids leaves = record {
   nine = leaves.nine;
+  nine_upto = leaves.nine_upto;
   used = λ k d low. let few : get_or given k d ≤ s.last_id = leaves.used k d low in omega (arith, last_id-with_rows s rows);
   carried = λ lane low.
       let P : Numbered → Type 0 = λ x. x.id ≤ slice_index given lane → x.id ≤ slice_index ids lane in
@@ -214,9 +216,10 @@ appended_leaves s rows given ids leaves = record {
       (lane_at (with_rows s rows) lane).rows (new_ids s rows lane);
 }
 
-pub released_leaves : (s : Stock) (others given ids : List ℕ) → LeavesNothing s given ids → LeavesNothing (without s others) given ids
+pub released_leaves : (s : Stock) (others given ids : List ℕ) → LeavesOnly s given ids → LeavesOnly (without s others) given ids
 released_leaves s others given ids leaves = record {
   nine = leaves.nine;
+  nine_upto = leaves.nine_upto;
   used = leaves.used;
   carried = λ lane low.
       let P : Numbered → Type 0 = λ x. x.id ≤ slice_index given lane → x.id ≤ slice_index ids lane in
@@ -231,9 +234,10 @@ no_row s P lane = by (cases_lt lane (length s.lanes))
     by (inl low) = subst (λ (l : LaneState). All P l.rows) (sym (get_or-map emptied s.lanes lane no_lane no_lane low)) (All-nil P)
     by (inr past) = subst (λ (l : LaneState). All P l.rows) (sym (get_or_past (map emptied s.lanes) lane no_lane (let e = length-map s.lanes emptied in omega arith))) (All-nil P)
 
-pub emptied_leaves : (s : Stock) (given ids : List ℕ) → LeavesNothing s given ids → LeavesNothing (without_all s) given ids
+pub emptied_leaves : (s : Stock) (given ids : List ℕ) → LeavesOnly s given ids → LeavesOnly (without_all s) given ids
 emptied_leaves s given ids leaves = record {
   nine = leaves.nine;
+  nine_upto = leaves.nine_upto;
   used = leaves.used;
   carried = λ lane low. no_row s (λ x. x.id ≤ slice_index given lane → x.id ≤ slice_index ids lane) lane;
 }

@@ -45,11 +45,11 @@ pub held_fits : (items : List Item) → fits_fragment (held_of items) ≡ true
 unfolding held_of
 held_fits items = (longest_longest fits_fragment items refl).fits
 
-nine_ids : (items : List Item) → length (last_ids items) ≡ 9
+pub nine_ids : (items : List Item) → length (last_ids items) ≡ 9
 nine_ids items = length_given no_ids items
 
 -- the rows said of items are those that a release of their ids takes
-said_and_released : (s : Stock) (items : List Item) → IsSound s → All CanStand items → All IsLow items → fits_fragment items ≡ true → AreRowsUpto s (last_ids items) items
+pub said_and_released : (s : Stock) (items : List Item) → IsSound s → All CanStand items → All IsLow items → fits_fragment items ≡ true → AreRowsUpto s (last_ids items) items
     → IsPermutation (rows_said (headers_of items)) (all_up_to s (last_ids items))
 said_and_released s items sound can low fit are =
     subst (λ (rows : List Row). IsPermutation rows (all_up_to s (last_ids items))) (sym (rows_are_said items can fit))

@@ -72,8 +72,9 @@ abbrev pub IsTidy : Stock → List ℕ → Type 0
 IsTidy s given = (lane : ℕ) → lane < 9 → All (λ x. slice_index given lane < x.id) (lane_at s lane).rows
 
 -- of what was given nothing is left but what the fragment with these ids carries, and no id is given twice
-pub record LeavesNothing (s : Stock) (given upto : List ℕ) : Type 0 where
+pub record LeavesOnly (s : Stock) (given upto : List ℕ) : Type 0 where
   pub nine : length given ≡ 9
+  pub nine_upto : length upto ≡ 9
   pub used : All (λ id. id ≤ s.last_id) given
   pub carried : (lane : ℕ) → lane < 9
       → All (λ x. x.id ≤ slice_index given lane → x.id ≤ slice_index upto lane) (lane_at s lane).rows

@@ -1,7 +1,10 @@
 //! Laws of the words of `specs/`: each function does nothing, and its contract is a law.
-ghost use Rattle.std.specs.Prelude.{◌≡◌, ◌↔◌, ◌≤◌, ℕ, Bool, true, All, List, [], ◌++◌, length, map, None, Some, Ok};
+ghost use Rattle.std.specs.Prelude.{◌≡◌, ◌↔◌, ◌≤◌, ℕ, Bool, true, All, List, [], ◌++◌, length, map, Option, None, Some, Ok};
 ghost use Rattle.std.specs.List.Sorted.{IsPermutation};
 ghost use Rattle.dnp_objects.specs.declared.lane.LaneRow.{LaneRow};
+ghost use Rattle.dnp_objects.specs.declared.row.Kind.{Kind};
+ghost use Rattle.dnp_pointdb.specs.declared.reading.Reading.{Reading};
+ghost use Rattle.dnp_controls.specs.Panel.{Panel};
 ghost use Rattle.dnp_appfragment.specs.Control.{IsControl};
 ghost use Rattle.dnp_appfragment.specs.Fragments.{Answered, response_octets};
 ghost use Rattle.dnp_appfragment.specs.Headers.{Head};
@@ -11,11 +14,17 @@ ghost use Rattle.dnp_appfragment.specs.Table.{is_response};
 ghost use Rattle.dnp_eventbuf.specs.Sound.{IsSound};
 ghost use Rattle.dnp_eventbuf.specs.Stock.{Stock, all_up_to, with_rows, without, without_all};
 ghost use Rattle.dnp_outstation.specs.declared.offer.place.Place.{Place};
+ghost use Rattle.dnp_outstation.specs.declared.session.Awaited.{Awaited};
+ghost use Rattle.dnp_outstation.specs.declared.session.LastRequest.{LastRequest};
 ghost use Rattle.dnp_outstation.specs.Items.{Source, Item, no_ids, items_left, enabled_lanes, lane_items};
 ghost use Rattle.dnp_outstation.specs.Layout.{object_of, headers_of, response_size, fits_fragment};
 ghost use Rattle.dnp_outstation.specs.Offer.{held_of, offered_of, offered, pushed};
-ghost use Rattle.dnp_outstation.specs.Laws.{IsLongest, rows_by_lane, AreRowsUpto, IsTidy, LeavesNothing, AreNext, IsOnward, AreGiven, AreBefore};
+ghost use Rattle.dnp_outstation.specs.Laws.{IsLongest, rows_by_lane, AreRowsUpto, IsTidy, LeavesOnly, AreNext, IsOnward, AreGiven, AreBefore};
 ghost use Rattle.dnp_outstation.specs.Said.{rows_said, events_in, CanStand, HaveIndexes, AreWritable};
+ghost use Rattle.dnp_outstation.specs.State.{State};
+ghost use Rattle.dnp_outstation.specs.Connection.{closed};
+ghost use Rattle.dnp_outstation.specs.Calls.{connection_after, tick_of, change_of, opened_of, restart_of};
+ghost use Rattle.dnp_outstation.specs.Tidy.{LeavesNothing};
 
 /// A fragment holds the longest beginning of the items left that fits: with one item more it wouldn't,
 /// since a response with more items is no smaller. Nothing is left exactly where it holds them all, and
@@ -64,15 +73,15 @@ pub fn nothing_else_given_is_left()
     ensures new { (s : Source) (stood : ℕ) (place left : Place) (headers : List Head) → IsSound s.lanes
         → IsTidy s.lanes place.given → length place.given ≡ 9 → All (λ id. id ≤ s.lanes.last_id) place.given
         → (offered s stood place headers).left ≡ Some left
-        → LeavesNothing s.lanes left.given (offered s stood place headers).upto }
-    ensures released { (s : Stock) (given upto : List ℕ) → length s.lanes ≡ 9 → length upto ≡ 9
-        → LeavesNothing s given upto → IsTidy (without s upto) given }
-    ensures appended { (s : Stock) (rows : List LaneRow) (given upto : List ℕ) → LeavesNothing s given upto
-        → LeavesNothing (with_rows s rows) given upto }
-    ensures others_released { (s : Stock) (others given upto : List ℕ) → LeavesNothing s given upto
-        → LeavesNothing (without s others) given upto }
-    ensures emptied { (s : Stock) (given upto : List ℕ) → LeavesNothing s given upto
-        → LeavesNothing (without_all s) given upto }
+        → LeavesOnly s.lanes left.given (offered s stood place headers).upto }
+    ensures released { (s : Stock) (given upto : List ℕ) → length s.lanes ≡ 9 → LeavesOnly s given upto
+        → IsTidy (without s upto) given }
+    ensures appended { (s : Stock) (rows : List LaneRow) (given upto : List ℕ) → LeavesOnly s given upto
+        → LeavesOnly (with_rows s rows) given upto }
+    ensures others_released { (s : Stock) (others given upto : List ℕ) → LeavesOnly s given upto
+        → LeavesOnly (without s others) given upto }
+    ensures emptied { (s : Stock) (given upto : List ℕ) → LeavesOnly s given upto
+        → LeavesOnly (without_all s) given upto }
 {}
 
 /// Items that can be written and fit are a response, whose headers hold just these, and the rows that its
@@ -107,4 +116,25 @@ pub fn a_release_takes_what_the_octets_said()
         → response_at (response_octets answered) ≡ Ok answered }
     ensures unsolicited { (s : Stock) (enabled : List Bool) → IsSound s → length enabled ≤ 3 → HaveIndexes s
         → IsPermutation (rows_said (pushed s enabled).headers) (all_up_to s (pushed s enabled).upto) }
+{}
+
+/// So it is at all times: where a connection begins, and after each call and each change of the lanes. So where
+/// a response goes on behind a confirm, nothing that it gave before is left.
+pub fn calls_leave_nothing_else_given()
+    ensures further { (s : State) (w : Awaited) (last : LastRequest) (place : Place) → IsSound s.lanes → LeavesNothing s
+        → s.core.session.awaited ≡ Some w → s.core.session.last ≡ Some last → last.left ≡ Some place
+        → IsTidy (without s.lanes w.upto) place.given × (length place.given ≡ 9) }
+    ensures opened { (s : State) (now : ℕ) → LeavesNothing (opened_of s now).state }
+    ensures received { (s : State) (o : Panel) (now : ℕ) (octets : List ℕ) → IsSound s.lanes → LeavesNothing s
+        → LeavesNothing (connection_after s o now octets).state }
+    ensures ticked { (s : State) (now : ℕ) → LeavesNothing s → LeavesNothing (tick_of s now).state }
+    ensures changed { (s : State) (now : ℕ) (kind : Kind) (index : ℕ) (reading : Reading) (made : Option LaneRow)
+        → LeavesNothing s → LeavesNothing (change_of s now kind index reading made).state }
+    ensures closed { (s : State) → LeavesNothing (record s { core = closed s.core }) }
+    ensures restarted { (s : State) (keep : Bool) → LeavesNothing (restart_of s keep) }
+    ensures appended { (s : State) (rows : List LaneRow) → LeavesNothing s
+        → LeavesNothing (record s { lanes = with_rows s.lanes rows }) }
+    ensures released { (s : State) (upto : List ℕ) → LeavesNothing s
+        → LeavesNothing (record s { lanes = without s.lanes upto }) }
+    ensures emptied { (s : State) → LeavesNothing s → LeavesNothing (record s { lanes = without_all s.lanes }) }
 {}

@@ -13,6 +13,7 @@ mod fault_from;
 mod indications;
 mod kept;
 pub mod laws;
+pub mod link_laws;
 mod offer;
 mod outstation;
 mod outstation_core;

@@ -1,0 +1,166 @@
+-- What the fragments of an outstation report.
+use Rattle.std.proofs.Common.{◌≡◌, ◌⊎◌, inl, inr, Bool, true, false, if◌then◌else◌, refl, sym, ◌∙◌, ap, subst, ℕ, ◌<◌, ◌≤◌, ◌^◌, ◌==◌, List, [], ◌∷◌, map, length, arith, Option, None, Some, IfSome, IsSome, Result, Ok, Err}
+use Rattle.std.specs.Prelude.{slice_index}
+use Rattle.std.specs.List.{All, filter, list_all}
+use Rattle.std.specs.List.Sorted.{IsPermutation}
+use Rattle.std.proofs.lemmas.Bool.{cases_lt}
+use Rattle.std.proofs.lemmas.List.{get_or_past}
+use Rattle.std.proofs.lemmas.List.Elements.{All-nil, All-head, All-tail, All-filter}
+use Rattle.dnp_objects.specs.declared.row.Row.{Row}
+use Rattle.dnp_appfragment.specs.declared.fault.AppFault.{AppFault}
+use Rattle.dnp_appfragment.specs.declared.function.Function.{Function}
+use Rattle.dnp_appfragment.specs.declared.function.Function.TheVariants as function
+use Rattle.dnp_appfragment.specs.Control.{ControlBits, IsControl}
+use Rattle.dnp_appfragment.specs.Fragments.{Asked, Answered, response_octets}
+use Rattle.dnp_appfragment.specs.Headers.{Head}
+use Rattle.dnp_appfragment.specs.Meaning.{request_at}
+use Rattle.dnp_appfragment.specs.Table.{is_response}
+use Rattle.dnp_controls.specs.Panel.{Panel}
+use Rattle.dnp_eventbuf.specs.declared.numbered.Numbered.{Numbered}
+use Rattle.dnp_eventbuf.specs.Buffered.{buffered_in, buffered_row, id_limit, is_upto}
+use Rattle.dnp_eventbuf.specs.Sound.{IsSound}
+use Rattle.dnp_eventbuf.specs.Stock.{Stock, lane_at}
+use Rattle.dnp_eventbuf.proofs.BufferedCalls.{release_seen}
+use Rattle.dnp_outstation.specs.declared.offer.place.Place.{Place}
+use Rattle.dnp_outstation.specs.Items.{Item, no_ids, first_place, last_in, is_inside, items_left, enabled_lanes, lane_items}
+use Rattle.dnp_outstation.specs.Layout.{headers_of, fits_fragment}
+use Rattle.dnp_outstation.specs.Offer.{held_of, last_ids, offered_of, pushed}
+use Rattle.dnp_outstation.specs.Laws.{rows_in_lane, AreRowsUpto, IsTidy}
+use Rattle.dnp_outstation.specs.Said.{rows_said, CanStand, AreWritable, HaveIndexes}
+use Rattle.dnp_outstation.specs.Links.{Reports}
+use Rattle.dnp_outstation.specs.State.{State}
+use Rattle.dnp_outstation.specs.Content.{Content, Executed, plain, answered, content_from, content_of, for_request, by_function, read_content, source_of, refused, written, write_bits, bits_of, parameter_error, no_func_code_support, indications}
+use Rattle.dnp_outstation.specs.Connection.{control_for, fragment_of, unsolicited_of}
+use Rattle.dnp_outstation.proofs.Rising.{last_or, upto, upto_none}
+use Rattle.dnp_outstation.proofs.ByLanes.{IsLow}
+use Rattle.dnp_outstation.proofs.Carried.{lane_rises, last_id_is, fragment_rows, pushed_rows}
+use Rattle.dnp_outstation.proofs.ItemsOf.{held_stand, held_low, pushed_stand, pushed_low}
+use Rattle.dnp_outstation.proofs.Left.{begins_tidy}
+use Rattle.dnp_outstation.proofs.Reported.{response_is, held_fits, nine_ids, said_and_released}
+
+-- ---- the ids of a fragment were used
+
+last_within : (low most : ℕ) (xs : List Numbered) → low ≤ most → All (λ x. x.id ≤ most) xs → last_or low xs ≤ most
+last_within low most [] few all = few
+last_within low most (x ∷ xs) few all = last_within x.id most xs (All-head (λ (y : Numbered). y.id ≤ most) x xs all) (All-tail (λ (y : Numbered). y.id ≤ most) x xs all)
+
+ids_used : (s : Stock) (items : List Item) → IsSound s → AreRowsUpto s (last_ids items) items → (lane : ℕ) → id_limit (last_ids items) lane ≤ s.last_id
+ids_used s items sound are lane = by (cases_lt lane 9)
+  where
+    by : (lane < 9) ⊎ (9 ≤ lane) → id_limit (last_ids items) lane ≤ s.last_id
+    by (inl low) =
+        let P : Numbered → Type 0 = λ x. x.id ≤ s.last_id in
+        let all : All P (rows_in_lane lane items) =
+        subst (All P) (sym (are lane low)) (All-filter (upto (slice_index (last_ids items) lane)) P (lane_at s lane).rows (sound.each lane low).up_to_last)
+        in
+        let is = last_id_is items lane low in
+        let most = last_within 0 s.last_id (rows_in_lane lane items) (omega arith) all in
+        omega arith
+    by (inr past) = let none = get_or_past (last_ids items) lane 0 (omega (arith, nine_ids items)) in omega arith
+
+-- ---- a response with these items
+
+reports : (s : Stock) (answered : Answered) (items : List Item) → IsSound s → answered.headers ≡ headers_of items → IsControl answered.control → is_response answered.function ≡ true
+    → All CanStand items → All IsLow items → fits_fragment items ≡ true → AreRowsUpto s (last_ids items) items → Reports s (response_octets answered) answered.control (last_ids items)
+reports s answered items sound headers control function can low fit are = record {
+  answered = answered;
+  read = response_is answered items headers control function can fit;
+  control_is = refl;
+  rows =
+  subst (λ (hs : List Head). IsPermutation (rows_said hs) (map buffered_row (filter (is_upto (last_ids items)) (buffered_in s)))) (sym headers)
+  (subst (IsPermutation (rows_said (headers_of items))) (release_seen s (last_ids items) (nine_ids items ∙ sym sound.nine)).1 (said_and_released s items sound can low fit are));
+  used = ids_used s items sound are;
+}
+
+-- a fragment of a READ whose place is tidy
+read_reports : (s : State) (o : Panel) (stood : ℕ) (place : Place) (headers : List Head) (answered : Answered) → IsSound s.lanes → AreWritable (source_of s o)
+    → IsTidy s.lanes place.given → length place.given ≡ 9 → answered.headers ≡ (read_content s o stood place headers).headers → IsControl answered.control
+    → is_response answered.function ≡ true → Reports s.lanes (response_octets answered) answered.control (read_content s o stood place headers).upto
+unfolding offered_of
+read_reports s o stood place headers answered sound writable tidy nine same control function =
+    let items = items_left (source_of s o) stood place headers in
+    reports s.lanes answered (held_of items) sound same control function (held_stand (source_of s o) stood place headers sound writable)
+    (held_low (source_of s o) stood place headers) (held_fits items) (fragment_rows (source_of s o) stood place headers sound tidy nine)
+
+-- an unsolicited response
+pushed_reports : (s : Stock) (enabled : List Bool) (answered : Answered) → IsSound s → HaveIndexes s → length enabled ≤ 3 → answered.headers ≡ (pushed s enabled).headers
+    → IsControl answered.control → is_response answered.function ≡ true → Reports s (response_octets answered) answered.control (pushed s enabled).upto
+unfolding offered_of
+pushed_reports s enabled answered sound indexes few same control function =
+    let items = lane_items s (enabled_lanes 0 enabled) in
+    reports s answered (held_of items) sound same control function (pushed_stand s enabled sound few indexes) (pushed_low s enabled few) (held_fits items) (pushed_rows s enabled sound)
+
+-- a response without objects
+plain_reports : (s : Stock) (answered : Answered) → IsSound s → answered.headers ≡ [] → IsControl answered.control → is_response answered.function ≡ true
+    → Reports s (response_octets answered) answered.control no_ids
+plain_reports s answered sound same control function =
+    reports s answered [] sound same control function (All-nil CanStand) (All-nil IsLow) refl
+    (λ lane low. sym (ap (λ (id : ℕ). filter (upto id) (lane_at s lane).rows) (last_id_is [] lane low) ∙ upto_none 0 0 (lane_at s lane).rows (omega arith) (lane_rises s lane sound low)))
+
+-- ---- what content is made of
+
+-- fragments of this content, whatever the indications, report it
+abbrev IsReported : State → Content → Type 0
+IsReported s content = (answered : Answered) → answered.headers ≡ content.headers → IsControl answered.control → is_response answered.function ≡ true
+    → Reports s.lanes (response_octets answered) answered.control content.upto
+
+abbrev ReportsAll : State → Executed → Type 0
+ReportsAll s x = IfSome x.content (IsReported s)
+
+refused_reports : (s : State) (bits : ℕ) → IsSound s.lanes → ReportsAll s (refused s bits)
+refused_reports s bits sound = λ answered same control function. plain_reports s.lanes answered sound same control function
+
+either : (s : State) (b : Bool) (x y : Executed) → ReportsAll s x → ReportsAll s y → ReportsAll s (if b then x else y)
+either s true x y first second = first
+either s false x y first second = second
+
+function_reports : (s : State) (o : Panel) (headers : List Head) (f : Function) → IsSound s.lanes → AreWritable (source_of s o) → ReportsAll s (by_function s o headers f)
+function_reports s o headers function.Read sound writable =
+    either s (list_all (is_inside (source_of s o)) headers) (answered s (read_content s o (last_in s.lanes) first_place headers)) (refused s parameter_error)
+    (λ answer same control function. read_reports s o (last_in s.lanes) first_place headers answer sound writable (begins_tidy s.lanes sound) refl same control function)
+    (refused_reports s parameter_error sound)
+function_reports s o headers function.Write sound writable =
+    either s (write_bits headers == 0) (answered (written s headers) (plain 0 [])) (refused s (write_bits headers))
+    (λ answer same control function. plain_reports s.lanes answer sound same control function) (refused_reports s (write_bits headers) sound)
+function_reports s o headers _ sound writable = refused_reports s no_func_code_support sound
+
+content_reports : (s : State) (o : Panel) (octets : List ℕ) → IsSound s.lanes → AreWritable (source_of s o) → ReportsAll s (content_of s o octets)
+content_reports s o octets sound writable = by (request_at octets)
+  where
+    by : (r : Result Asked AppFault) → ReportsAll s (for_request s o r)
+    by (Ok r) = function_reports s o r.headers r.function sound writable
+    by (Err fault) = refused_reports s (bits_of fault) sound
+
+-- ---- the fragments
+
+pub answer_reports : (s after : State) (o : Panel) (octets : List ℕ) (seq : ℕ) (content : Content) → IsSound s.lanes → AreWritable (source_of s o) → seq < 16
+    → (content_of s o octets).content ≡ Some content → Reports s.lanes (fragment_of after true seq content) (control_for true seq content) content.upto
+answer_reports s after o octets seq content sound writable small is =
+    let all : IfSome (Some content) (IsReported s) = subst (λ (c : Option Content). IfSome c (IsReported s)) is (content_reports s o octets sound writable) in
+    all (record { control = control_for true seq content; function = function.Response; iin = indications after content.upto content.bits; headers = content.headers }) refl small refl
+
+pub further_reports : (s : State) (o : Panel) (stood : ℕ) (place : Place) (headers : List Head) (seq : ℕ) → IsSound s.lanes → AreWritable (source_of s o) → IsTidy s.lanes place.given
+    → length place.given ≡ 9 → seq < 16
+    → (let content = read_content s o stood place headers in Reports s.lanes (fragment_of s false seq content) (control_for false seq content) content.upto)
+further_reports s o stood place headers seq sound writable tidy nine small =
+    let content = read_content s o stood place headers in
+    read_reports s o stood place headers (record { control = control_for false seq content; function = function.Response; iin = indications s content.upto content.bits; headers = content.headers })
+    sound writable tidy nine refl small refl
+
+abbrev pub unsolicited_control : ℕ → ControlBits
+unsolicited_control seq = record { fir = true; fin = true; con = true; uns = true; seq = seq }
+
+pub unsolicited_reports : (s : State) → IsSound s.lanes → HaveIndexes s.lanes → length s.core.enabled ≤ 3 → s.core.session.next < 16
+    → (let content = content_from (pushed s.lanes s.core.enabled) in
+    Reports s.lanes (unsolicited_of s content) (record { fir = true; fin = true; con = true; uns = true; seq = s.core.session.next }) content.upto)
+unsolicited_reports s sound indexes few small =
+    let content = content_from (pushed s.lanes s.core.enabled) in
+    pushed_reports s.lanes s.core.enabled
+    (record { control = unsolicited_control s.core.session.next; function = function.UnsolicitedResponse; iin = indications s content.upto content.bits; headers = content.headers })
+    sound indexes few refl small refl
+
+pub first_unsolicited_reports : (s : State) → IsSound s.lanes → s.core.session.next < 16
+    → Reports s.lanes (unsolicited_of s (plain 0 [])) (record { fir = true; fin = true; con = true; uns = true; seq = s.core.session.next }) no_ids
+first_unsolicited_reports s sound small =
+    plain_reports s.lanes
+    (record { control = unsolicited_control s.core.session.next; function = function.UnsolicitedResponse; iin = indications s no_ids 0; headers = [] }) sound refl small refl
