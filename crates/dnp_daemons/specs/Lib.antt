@@ -1,3 +1,4 @@
+-- Definitions, by which contracts promise.
 pub mod Address
 pub mod OctetLines
 pub mod TextFaults

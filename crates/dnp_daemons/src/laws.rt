@@ -1,4 +1,4 @@
-//! Laws of answers, each the contract of a function that does nothing.
+//! Laws of the words of `specs/`: each function does nothing, and its contract is a law.
 ghost use Rattle.std.specs.Prelude.{◌≡◌, ℕ, Bool, List};
 ghost use Rattle.dnp_daemons.specs.AnswerLine.{IsPrinted};
 

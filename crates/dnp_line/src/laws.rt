@@ -1,4 +1,4 @@
-//! Laws of ways of a link and of lists that came of others, each the contract of a function that does nothing.
+//! Laws of the words of `specs/`: each function does nothing, and its contract is a law.
 
 ghost use Rattle.std.specs.Prelude.{◌≡◌, ℕ, ◌↔◌, Bool, IsTrue, List, [], ◌∷◌, ◌++◌, drop, slice_get, All, Contains, length, replicate};
 ghost use Rattle.dnp_transport.specs.Cuts.{cut_count};

@@ -1,3 +1,4 @@
+-- Definitions, by which contracts promise.
 pub mod Polynomials
 pub mod CheckWord
 pub mod Frames

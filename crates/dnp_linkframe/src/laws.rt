@@ -1,4 +1,4 @@
-//! Laws of spellings, faults and streams, each the contract of a function that does nothing.
+//! Laws of the words of `specs/`: each function does nothing, and its contract is a law.
 ghost use Rattle.std.specs.Prelude.{◌≡◌, ℕ, List, [], ◌++◌};
 ghost use Rattle.std.specs.List.{concat};
 ghost use Rattle.dnp_linkframe.specs.Frames.{Spells, IsFault, IsFirstFault};

@@ -1,2 +1,3 @@
+-- Definitions, by which contracts promise.
 pub mod Control
 pub mod Station

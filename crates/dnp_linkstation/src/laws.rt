@@ -1,4 +1,4 @@
-//! Laws of link stations, each the contract of a function that does nothing.
+//! Laws of the words of `specs/`: each function does nothing, and its contract is a law.
 ghost use Rattle.std.specs.Prelude.{◌≡◌, ℕ, List, ◌∷◌, Bool, true, false, not, if◌then◌else◌, Some};
 ghost use Rattle.dnp_linkframe.specs.declared.frame.Frame.{Frame as FrameValue};
 ghost use Rattle.dnp_linkstation.specs.Control.{primary_function, frame_count_bit};

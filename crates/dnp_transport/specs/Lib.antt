@@ -1,3 +1,4 @@
+-- Definitions, by which contracts promise.
 pub mod Segments
 pub mod Cuts
 pub mod Series

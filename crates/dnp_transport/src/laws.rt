@@ -1,4 +1,4 @@
-//! Laws of pushes and cuts, each the contract of a function that does nothing.
+//! Laws of the words of `specs/`: each function does nothing, and its contract is a law.
 ghost use Rattle.std.specs.Prelude.{◌≡◌, ℕ, List, [], ◌∷◌, length};
 ghost use Rattle.dnp_transport.specs.Assembly.{Assembly, Idle, Stands, Answers, Shows};
 ghost use Rattle.dnp_transport.specs.Cuts.{cut_count, cuts, begun_cuts};
