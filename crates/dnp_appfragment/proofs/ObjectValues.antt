@@ -12,7 +12,7 @@ use Rattle.dnp_objects.specs.declared.table.Content.{Content}
 use Rattle.dnp_objects.specs.declared.table.Content.TheVariants as content
 use Rattle.dnp_objects.specs.declared.table.Shape.{Shape}
 use Rattle.dnp_objects.specs.Objects.{objects, content_of, content_size, object_size, readable, shape_read, shape_size, IsShape, IsContent}
-use Rattle.dnp_objects.specs.Rows.{IsReading}
+use Rattle.dnp_objects.specs.Rows.{Reads, IsReading}
 use Rattle.dnp_objects.specs.Parts.{row_of, command_of}
 use Rattle.dnp_objects.specs.Commands.{size_read, IsCommandOf}
 use Rattle.dnp_objects.proofs.Values.{AreOctets as AreBytes}
@@ -20,7 +20,6 @@ use Rattle.dnp_objects.proofs.Lines.{content_sound}
 use Rattle.dnp_objects.proofs.Spelling.{is_reading, only_reading}
 use Rattle.dnp_objects.proofs.RowFaults.{shape_read_sound}
 use Rattle.dnp_objects.specs.Events.{IsEvent}
-use Rattle.dnp_objects.proofs.ReadEvents.{read_is_event}
 use Rattle.dnp_objects.proofs.CommandsBack.{command_again, command_reads}
 use Rattle.dnp_appfragment.specs.declared.header.Range.{Range}
 use Rattle.dnp_appfragment.specs.declared.header.Range.TheVariants as range
@@ -349,10 +348,12 @@ command_there_in h k has here =
 
 -- ---- events
 
-pub row_is_event : (h : Head) (k : ℕ) (row : Row) → IsRow h k row → IsEvent row
+-- by the law that a row that was read is one that an event carries
+pub row_is_event : ((g v index : ℕ) (octets : List ℕ) (row : Row) → Reads g v index octets row → IsEvent row)
+    → (h : Head) (k : ℕ) (row : Row) → IsRow h k row → IsEvent row
 unfolding content_of objects bit_row
-row_is_event h k row (inl bit) =
+row_is_event law h k row (inl bit) =
     let value = bit_at (slice_index h.octets (k / 8)) (k % 8) in
     let small : nat_lt value 2 ≡ true = lt-ltb value 2 (bit_at-lt (slice_index h.octets (k / 8)) (k % 8)) in
     subst IsEvent (sym bit.row_is) (and_from _ _ (and_from _ _ (and_from _ _ refl small) refl) refl)
-row_is_event h k row (inr is) = read_is_event h.group h.variation is.index is.octets row is.reads
+row_is_event law h k row (inr is) = law h.group h.variation is.index is.octets row is.reads

@@ -3,12 +3,11 @@ use Rattle.std.proofs.Common.{◌≡◌, Bool, true, false, IsTrue, refl, sym, s
 use Rattle.std.specs.Prelude.{slice_get}
 use Rattle.dnp_objects.specs.Objects.{objects, content_of}
 use Rattle.dnp_objects.specs.Rows.{Reads, written}
-use Rattle.dnp_objects.specs.Commands.{IsInRange, ReadsCommand}
+use Rattle.dnp_objects.specs.Commands.{IsInRange, ReadsCommand, object_of, index_of, command_octets}
 use Rattle.dnp_objects.specs.declared.command.Command.{Command}
 use Rattle.dnp_objects.specs.declared.row.Kind.{Kind}
 use Rattle.dnp_objects.specs.declared.row.Kind.TheVariants.{Binary, Counter, Analog}
 use Rattle.dnp_objects.specs.declared.row.Row.{Row}
-use Rattle.dnp_objects.proofs.Lines.{command_read}
 use Rattle.dnp_appfragment.specs.Headers.{Head}
 use Rattle.dnp_appfragment.specs.Objects.{IsRow, IsCommand}
 use Rattle.dnp_objects.specs.Rows.{Fits}
@@ -79,9 +78,12 @@ pub point_back : (h : Head) (items : List Item) (k g : ℕ) (row : Row) → Hold
 point_back h items k g row holds fits other at =
     row_of h k (point_item g row) (untimed row) (has_object h items k (point_item g row) holds at) (point_reads g row fits.group_is other fits.row_fits)
 
-pub command_back : (h : Head) (items : List Item) (k : ℕ) (command : Command) (status : ℕ) → Holds h items → IsInRange command → status < 128
+-- by the law that a command that was written is read
+pub command_back : ((command : Command) (status : ℕ) → IsInRange command → status < 128
+    → ReadsCommand (object_of command).0 (object_of command).1 (index_of command) (command_octets command status) (command, status))
+    → (h : Head) (items : List Item) (k : ℕ) (command : Command) (status : ℕ) → Holds h items → IsInRange command → status < 128
     → slice_get items k ≡ Some (command_item command status) → IsCommand h k (command, status)
-command_back h items k command status holds in_range small at =
+command_back law h items k command status holds in_range small at =
     let item = command_item command status in
     let has = has_object h items k item holds at in
     record {
@@ -91,5 +93,5 @@ command_back h items k command status holds in_range small at =
       octets = item.octets;
       object = has.object;
       reads = subst (λ (p : ℕ × ℕ). ReadsCommand p.0 p.1 item.index item.octets (command, status)) (λ i. (has.is_of.group i, has.is_of.variation i))
-          (command_read command status in_range small);
+          (law command status in_range small);
     }

@@ -10,6 +10,8 @@ ghost use Rattle.dnp_appfragment.specs.Built.{Built, heads, broken, with_header,
 ghost use Rattle.dnp_appfragment.specs.Written.{FitsPoint, event, point, order};
 ghost use Rattle.dnp_appfragment.specs.Items.{Item, Holds, HoldAll, event_item, point_item, command_item};
 
+use dnp_objects::laws::a_written_command_is_read;
+
 /// A row or a command that is put is one object, as a header of its own.
 pub fn a_header_holds_what_was_put()
     ensures event { (row : Row) → IsEvent row → row.index < 2 ^ 16 → Holds (event row) (event_item row ∷ []) }
@@ -39,4 +41,6 @@ pub fn what_is_held_is_read()
     ensures command { (header : Head) (items : List Item) (k : ℕ) (command : Command) (status : ℕ) → Holds header items
         → IsInRange command → status < 128 → slice_get items k ≡ Some (command_item command status)
         → IsCommand header k (command, status) }
-{}
+{
+    a_written_command_is_read();
+}

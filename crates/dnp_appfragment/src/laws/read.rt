@@ -11,6 +11,8 @@ ghost use Rattle.dnp_appfragment.specs.Headers.{Head, count_of};
 ghost use Rattle.dnp_appfragment.specs.Meaning.{request_at, response_at, row_in, command_in};
 ghost use Rattle.dnp_appfragment.specs.Objects.{IsRow, IsCommand, HasRows, HasCommands};
 
+use dnp_objects::laws::a_read_row_is_an_event;
+
 /// `request_at` gives the request that octets are, and the fault that they have.
 pub fn octets_say_a_request()
     ensures request { (octets : List ℕ) (asked : Asked) → All (λ octet. octet < 2 ^ 8) octets
@@ -41,4 +43,6 @@ pub fn objects_say_rows_and_commands()
 /// A row of a header, of packed bits too, is one that an event object of its kind carries.
 pub fn rows_are_events()
     ensures { (header : Head) (k : ℕ) (row : Row) → IsRow header k row → IsEvent row }
-{}
+{
+    a_read_row_is_an_event();
+}

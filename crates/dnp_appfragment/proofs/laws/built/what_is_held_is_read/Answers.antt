@@ -8,4 +8,4 @@ pub returns-clause-point : goal.returns-clause-point
 returns-clause-point c = point_back
 
 pub returns-clause-command : goal.returns-clause-command
-returns-clause-command c = command_back
+returns-clause-command c = command_back c.a_written_command_is_read.ensures.read
