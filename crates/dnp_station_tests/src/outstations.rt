@@ -1,13 +1,14 @@
 //! What an outstation answers to polls and their confirms, octet for octet.
 
+use Step::{Gets, Reads, Ticks};
 use crate::plans::{Alike, plan_of};
 use dnp_controls::NoOutputs;
 use dnp_eventbuf::PlainLanes;
+use dnp_objects::Kind::{Analog, Binary, Counter};
 use dnp_objects::{Kind, Row};
 use dnp_outstation::{Actions, Fragment, Outstation};
 use dnp_pointdb::{PointDb, Reading, Times};
 use std::alloc::Global;
-use std::test::Fail;
 
 /// A call on an outstation, and what it does.
 #[derive(Clone, Copy)]
@@ -101,102 +102,103 @@ const CLEARS: Step<'static> = Step::Gets(
     &[],
 );
 
-/// Points of one kind from index 0 on, of a class.
-fn points(kind: Kind, count: usize, class: u8) -> Alike {
-    Alike {
-        kind,
-        base: 0,
-        count,
-        class,
-        deadband: 0,
-    }
-}
+// Points from index 0 on.
+#[rattlefmt::skip]
+const BINARIES_3_OF_CLASS_0: Alike = Alike { kind: Kind::Binary, base: 0, count: 3, class: 0, deadband: 0 };
+#[rattlefmt::skip]
+const BINARIES_4: Alike = Alike { kind: Kind::Binary, base: 0, count: 4, class: 1, deadband: 0 };
+#[rattlefmt::skip]
+const BINARY: Alike = Alike { kind: Kind::Binary, base: 0, count: 1, class: 1, deadband: 0 };
+#[rattlefmt::skip]
+const COUNTER: Alike = Alike { kind: Kind::Counter, base: 0, count: 1, class: 2, deadband: 0 };
+#[rattlefmt::skip]
+const ANALOGS_3: Alike = Alike { kind: Kind::Analog, base: 0, count: 3, class: 3, deadband: 0 };
+#[rattlefmt::skip]
+const ANALOG: Alike = Alike { kind: Kind::Analog, base: 0, count: 1, class: 1, deadband: 0 };
+
+/// The points of an outstation, the capacity of its lanes, and what it does, from its opening on.
+#[rattlefmt::skip]
+const CASES: [(&[Alike], u32, &[Step<'static>]); 6] = [
+    // Nothing but the indications: the restart, and what is unknown, or is no point.
+    (&[], 100, &[
+        Gets(&[0xC0, 0x0D], &[0xC0, 0x81, 0x80, 0x01], &[]),
+        Gets(&[0xC0, 0x01, 0x6E, 0x00, 0x06], &[0xC0, 0x81, 0x80, 0x02], &[]),
+        Gets(&[0xC0, 0x01, 0x01, 0x02, 0x00, 0x00, 0x00], &[0xC0, 0x81, 0x80, 0x04], &[]),
+        Gets(&[0xC0, 0x03, 0x0C, 0x01, 0x28, 0xFF, 0xFF], &[0xC0, 0x81, 0x80, 0x04], &[]),
+        Gets(&[0xC0, 0x01, 0x01, 0x02, 0x01, 0x00, 0x00, 0xFF, 0xFF], &[0xC0, 0x81, 0x80, 0x04], &[]),
+        CLEARS,
+        Gets(&[0xC1, 0x02, 0x50, 0x01, 0x00, 0x06, 0x06, 0x00], &[0xC1, 0x81, 0x00, 0x04], &[]),
+    ]),
+    // Present values of a block.
+    (&[BINARIES_3_OF_CLASS_0], 100, &[
+        Gets(&[0xC0, 0x01, 0x01, 0x00, 0x00, 0x01, 0x02],
+            &[0xC0, 0x81, 0x80, 0x00, 0x01, 0x02, 0x01, 0x01, 0x00, 0x02, 0x00, 0x02, 0x02], &[]),
+    ]),
+    // An event is read, confirmed and gone; the same READ again executes nothing.
+    (&[BINARIES_4], 100, &[
+        CLEARS,
+        Reads(Binary, 3, 1, Some(1_000), &[]),
+        Gets(&[0xC1, 0x01, 0x3C, 0x02, 0x06],
+            &[0xE1, 0x81, 0x00, 0x00, 0x02, 0x02, 0x28, 0x01, 0x00, 0x03, 0x00, 0x81, 0xE8, 0x03, 0, 0, 0, 0], &[]),
+        Gets(&[0xC1, 0x00], &[], &[(3, 1)]),
+        Gets(&[0xC1, 0x01, 0x3C, 0x02, 0x06],
+            &[0xE1, 0x81, 0x00, 0x00, 0x02, 0x02, 0x28, 0x01, 0x00, 0x03, 0x00, 0x81, 0xE8, 0x03, 0, 0, 0, 0], &[]),
+        Gets(&[0xC1, 0x00], &[], &[]),
+        Gets(&[0xC2, 0x01, 0x3C, 0x02, 0x06], &[0xC2, 0x81, 0x00, 0x00], &[]),
+    ]),
+    // An event that comes between a READ and its repetition is left for the next one. A confirm
+    // that comes after its timer ended releases nothing, and after the READ was repeated it does.
+    (&[BINARIES_4], 100, &[
+        CLEARS,
+        Reads(Binary, 3, 1, Some(1_000), &[]),
+        Gets(&[0xC1, 0x01, 0x3C, 0x02, 0x06],
+            &[0xE1, 0x81, 0x00, 0x00, 0x02, 0x02, 0x28, 0x01, 0x00, 0x03, 0x00, 0x81, 0xE8, 0x03, 0, 0, 0, 0], &[]),
+        Reads(Binary, 3, 0, Some(2_000), &[]),
+        Ticks(5_000),
+        Gets(&[0xC1, 0x00], &[], &[]),
+        Gets(&[0xC1, 0x01, 0x3C, 0x02, 0x06],
+            &[0xE1, 0x81, 0x00, 0x00, 0x02, 0x02, 0x28, 0x01, 0x00, 0x03, 0x00, 0x81, 0xE8, 0x03, 0, 0, 0, 0], &[]),
+        Ticks(4_999),
+        Gets(&[0xC1, 0x00], &[], &[(3, 1)]),
+        Gets(&[0xC2, 0x01, 0x3C, 0x02, 0x06],
+            &[0xE2, 0x81, 0x00, 0x00, 0x02, 0x02, 0x28, 0x01, 0x00, 0x03, 0x00, 0x01, 0xD0, 0x07, 0, 0, 0, 0], &[]),
+    ]),
+    // A lane of two rows takes three: the overflow is told until a release leaves no lane full.
+    (&[BINARY], 2, &[
+        CLEARS,
+        Reads(Binary, 0, 1, Some(1), &[]),
+        Reads(Binary, 0, 0, Some(2), &[]),
+        Reads(Binary, 0, 1, Some(3), &[(0, 1)]),
+        Gets(&[0xC1, 0x01, 0x3C, 0x02, 0x06],
+            &[0xE1, 0x81, 0x00, 0x08, 0x02, 0x02, 0x28, 0x02, 0x00, 0x00, 0x00, 0x01, 0x02, 0, 0, 0, 0, 0,
+                0x00, 0x00, 0x81, 0x03, 0, 0, 0, 0, 0], &[]),
+        Gets(&[0xC1, 0x00], &[], &[(0, 0), (0, 1)]),
+        Gets(&[0xC2, 0x01, 0x3C, 0x02, 0x06], &[0xC2, 0x81, 0x00, 0x00], &[]),
+    ]),
+    // Two classes in one READ, the second up to one row, without times; and a negative value.
+    (&[BINARY, COUNTER, ANALOGS_3], 100, &[
+        CLEARS,
+        Reads(Binary, 0, 1, None, &[]),
+        Reads(Counter, 0, 7, None, &[]),
+        Gets(&[0xC1, 0x01, 0x3C, 0x02, 0x06, 0x3C, 0x03, 0x07, 0x01],
+            &[0xE1, 0x81, 0x00, 0x00, 0x02, 0x01, 0x28, 0x01, 0x00, 0x00, 0x00, 0x81,
+                0x16, 0x01, 0x28, 0x01, 0x00, 0x00, 0x00, 0x01, 0x07, 0x00, 0x00, 0x00], &[]),
+        Gets(&[0xC1, 0x00], &[], &[(0, 1), (0, 7)]),
+        Reads(Analog, 2, -5, None, &[]),
+        Gets(&[0xC2, 0x01, 0x3C, 0x04, 0x06],
+            &[0xE2, 0x81, 0x00, 0x00, 0x20, 0x01, 0x28, 0x01, 0x00, 0x02, 0x00, 0x01, 0xFB, 0xFF, 0xFF, 0xFF], &[]),
+    ]),
+];
 
 #[test]
-fn polls_step_by_step(rt: HostRuntime) -> Result<(), Fail> {
-    use Kind::{Analog, Binary, Counter};
-    use Step::{Gets, Reads, Ticks};
-
+fn polls_step_by_step(rt: HostRuntime) {
     let alloc = rt.alloc();
-    #[rattlefmt::skip]
-    let cases = [
-        // Nothing but the indications: the restart, and what is unknown, or is no point.
-        (&[] as &[Alike], [100; 9], &[
-            Gets(&[0xC0, 0x0D], &[0xC0, 0x81, 0x80, 0x01], &[]),
-            Gets(&[0xC0, 0x01, 0x6E, 0x00, 0x06], &[0xC0, 0x81, 0x80, 0x02], &[]),
-            Gets(&[0xC0, 0x01, 0x01, 0x02, 0x00, 0x00, 0x00], &[0xC0, 0x81, 0x80, 0x04], &[]),
-            Gets(&[0xC0, 0x03, 0x0C, 0x01, 0x28, 0xFF, 0xFF], &[0xC0, 0x81, 0x80, 0x04], &[]),
-            Gets(&[0xC0, 0x01, 0x01, 0x02, 0x01, 0x00, 0x00, 0xFF, 0xFF], &[0xC0, 0x81, 0x80, 0x04], &[]),
-            CLEARS,
-            Gets(&[0xC1, 0x02, 0x50, 0x01, 0x00, 0x06, 0x06, 0x00], &[0xC1, 0x81, 0x00, 0x04], &[]),
-        ] as &[Step<'_>]),
-        // Present values of a block.
-        (&[points(Binary, 3, 0)], [100; 9], &[
-            Gets(&[0xC0, 0x01, 0x01, 0x00, 0x00, 0x01, 0x02],
-                &[0xC0, 0x81, 0x80, 0x00, 0x01, 0x02, 0x01, 0x01, 0x00, 0x02, 0x00, 0x02, 0x02], &[]),
-        ]),
-        // An event is read, confirmed and gone; the same READ again executes nothing.
-        (&[points(Binary, 4, 1)], [100; 9], &[
-            CLEARS,
-            Reads(Binary, 3, 1, Some(1_000), &[]),
-            Gets(&[0xC1, 0x01, 0x3C, 0x02, 0x06],
-                &[0xE1, 0x81, 0x00, 0x00, 0x02, 0x02, 0x28, 0x01, 0x00, 0x03, 0x00, 0x81, 0xE8, 0x03, 0, 0, 0, 0], &[]),
-            Gets(&[0xC1, 0x00], &[], &[(3, 1)]),
-            Gets(&[0xC1, 0x01, 0x3C, 0x02, 0x06],
-                &[0xE1, 0x81, 0x00, 0x00, 0x02, 0x02, 0x28, 0x01, 0x00, 0x03, 0x00, 0x81, 0xE8, 0x03, 0, 0, 0, 0], &[]),
-            Gets(&[0xC1, 0x00], &[], &[]),
-            Gets(&[0xC2, 0x01, 0x3C, 0x02, 0x06], &[0xC2, 0x81, 0x00, 0x00], &[]),
-        ]),
-        // An event that comes between a READ and its repetition is left for the next one. A confirm
-        // that comes after its timer ended releases nothing, and after the READ was repeated it does.
-        (&[points(Binary, 4, 1)], [100; 9], &[
-            CLEARS,
-            Reads(Binary, 3, 1, Some(1_000), &[]),
-            Gets(&[0xC1, 0x01, 0x3C, 0x02, 0x06],
-                &[0xE1, 0x81, 0x00, 0x00, 0x02, 0x02, 0x28, 0x01, 0x00, 0x03, 0x00, 0x81, 0xE8, 0x03, 0, 0, 0, 0], &[]),
-            Reads(Binary, 3, 0, Some(2_000), &[]),
-            Ticks(5_000),
-            Gets(&[0xC1, 0x00], &[], &[]),
-            Gets(&[0xC1, 0x01, 0x3C, 0x02, 0x06],
-                &[0xE1, 0x81, 0x00, 0x00, 0x02, 0x02, 0x28, 0x01, 0x00, 0x03, 0x00, 0x81, 0xE8, 0x03, 0, 0, 0, 0], &[]),
-            Ticks(4_999),
-            Gets(&[0xC1, 0x00], &[], &[(3, 1)]),
-            Gets(&[0xC2, 0x01, 0x3C, 0x02, 0x06],
-                &[0xE2, 0x81, 0x00, 0x00, 0x02, 0x02, 0x28, 0x01, 0x00, 0x03, 0x00, 0x01, 0xD0, 0x07, 0, 0, 0, 0], &[]),
-        ]),
-        // A lane of two rows takes three: the overflow is told until a release leaves no lane full.
-        (&[points(Binary, 1, 1)], [2; 9], &[
-            CLEARS,
-            Reads(Binary, 0, 1, Some(1), &[]),
-            Reads(Binary, 0, 0, Some(2), &[]),
-            Reads(Binary, 0, 1, Some(3), &[(0, 1)]),
-            Gets(&[0xC1, 0x01, 0x3C, 0x02, 0x06],
-                &[0xE1, 0x81, 0x00, 0x08, 0x02, 0x02, 0x28, 0x02, 0x00, 0x00, 0x00, 0x01, 0x02, 0, 0, 0, 0, 0,
-                    0x00, 0x00, 0x81, 0x03, 0, 0, 0, 0, 0], &[]),
-            Gets(&[0xC1, 0x00], &[], &[(0, 0), (0, 1)]),
-            Gets(&[0xC2, 0x01, 0x3C, 0x02, 0x06], &[0xC2, 0x81, 0x00, 0x00], &[]),
-        ]),
-        // Two classes in one READ, the second up to one row, without times; and a negative value.
-        (&[points(Binary, 1, 1), points(Counter, 1, 2), points(Analog, 3, 3)], [100; 9], &[
-            CLEARS,
-            Reads(Binary, 0, 1, None, &[]),
-            Reads(Counter, 0, 7, None, &[]),
-            Gets(&[0xC1, 0x01, 0x3C, 0x02, 0x06, 0x3C, 0x03, 0x07, 0x01],
-                &[0xE1, 0x81, 0x00, 0x00, 0x02, 0x01, 0x28, 0x01, 0x00, 0x00, 0x00, 0x81,
-                    0x16, 0x01, 0x28, 0x01, 0x00, 0x00, 0x00, 0x01, 0x07, 0x00, 0x00, 0x00], &[]),
-            Gets(&[0xC1, 0x00], &[], &[(0, 1), (0, 7)]),
-            Reads(Analog, 2, -5, None, &[]),
-            Gets(&[0xC2, 0x01, 0x3C, 0x04, 0x06],
-                &[0xE2, 0x81, 0x00, 0x00, 0x20, 0x01, 0x28, 0x01, 0x00, 0x02, 0x00, 0x01, 0xFB, 0xFF, 0xFF, 0xFF], &[]),
-        ]),
-    ];
-    for (case, (blocks, capacities, steps)) in cases.iter().enumerate() {
-        let mut station = station_of(alloc, blocks, *capacities).expect(&rt, "a station");
+    for (case, (blocks, capacity, steps)) in CASES.into_iter().enumerate() {
+        let mut station = station_of(alloc, blocks, [capacity; 9]).expect(&rt, "a station");
         for (number, step) in steps.iter().enumerate() {
             assert!(rt; does(&mut station, alloc, *step), "case {case}, step {number}");
         }
     }
-    Ok(())
 }
 
 /// Whether a READ of class 1 or its confirm is answered by so many octets that begin so.
@@ -213,10 +215,10 @@ fn answers(station: &mut Station, alloc: Global, octets: &[u8], len: usize, begi
 }
 
 #[test]
-fn a_response_in_two_fragments(rt: HostRuntime) -> Result<(), Fail> {
+fn a_response_in_two_fragments(rt: HostRuntime) {
     let alloc = rt.alloc();
     let mut station =
-        station_of(alloc, &[points(Kind::Analog, 1, 1)], [200; 9]).expect(&rt, "a station");
+        station_of(alloc, &[ANALOG], [200; 9]).expect(&rt, "a station");
     assert!(rt; does(&mut station, alloc, CLEARS));
     for value in 1..158 {
         let reads = Step::Reads(Kind::Analog, 0, value, Some(1_000), &[]);
@@ -226,5 +228,4 @@ fn a_response_in_two_fragments(rt: HostRuntime) -> Result<(), Fail> {
     assert!(rt; answers(&mut station, alloc, &[0xC0, 0x01, 0x3C, 0x02, 0x06], 2_037, &first));
     let second = [0x61, 0x81, 0x00, 0x00, 0x20, 0x03, 0x28, 0x01, 0x00];
     assert!(rt; answers(&mut station, alloc, &[0xC0, 0x00], 22, &second));
-    Ok(())
 }
