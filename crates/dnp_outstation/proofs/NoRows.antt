@@ -1,8 +1,8 @@
--- What is released stands in the lanes.
-use Rattle.std.proofs.Common.{◌≡◌, ◌≢◌, ℕ, List, [], ◌∷◌, ◌++◌, map, filter, nat_le, refl, ap, ◌∙◌}
+-- Lanes without rows offer none and release none.
+use Rattle.std.proofs.Common.{rules, ◌≡◌, ◌≢◌, ℕ, zero, suc, List, [], ◌∷◌, ◌++◌, map, filter, take, length, nat_lt, nat_le, slice_index_or, refl, ap, sym, ◌∙◌}
 use Rattle.dnp_objects.specs.declared.row.Row.{Row}
 use Rattle.dnp_eventbuf.specs.declared.numbered.Numbered.{Numbered}
-use Rattle.dnp_eventbuf.specs.Stock.{Stock, LaneState, lane_rows, rows_in, row_of, up_to, lanes_up_to, all_up_to}
+use Rattle.dnp_eventbuf.specs.Stock.{Stock, LaneState, no_lane, lane_at, lane_rows, rows_in, row_of, offered, up_to, lanes_up_to, all_up_to}
 
 -- two lists that are none together are none
 first_none : {A : Type 0} (xs ys : List A) → xs ++ ys ≡ [] → xs ≡ []
@@ -17,6 +17,21 @@ none_mapped : (xs : List Numbered) → map row_of xs ≡ [] → xs ≡ []
 none_mapped [] none = refl
 none_mapped (x ∷ xs) none = absurd (cc)
 
+-- each lane has none
+none_in : (lanes : List LaneState) (number : ℕ) → lane_rows lanes ≡ [] → (slice_index_or lanes number no_lane).rows ≡ []
+none_in [] zero none = refl
+none_in [] (suc number) none = refl
+none_in (lane ∷ lanes) zero none = none_mapped lane.rows (first_none (map row_of lane.rows) (lane_rows lanes) none)
+none_in (lane ∷ lanes) (suc number) none = none_in lanes number (second_none (map row_of lane.rows) (lane_rows lanes) none)
+
+take_none : {A : Type 0} (n : ℕ) → take n (let xs : List A = [] in xs) ≡ []
+take_none zero = refl
+take_none (suc n) = refl
+
+pub none_offered : (s : Stock) (number after most : ℕ) → rows_in s ≡ [] → offered s number after most ≡ []
+none_offered s number after most none =
+    ap (λ (rows : List Numbered). take most (filter (λ x. nat_lt after x.id) rows)) (none_in s.lanes number none) ∙ take_none most
+
 none_up_to : (lanes : List LaneState) (upto : List ℕ) → lane_rows lanes ≡ [] → lanes_up_to lanes upto ≡ []
 none_up_to [] upto none = refl
 none_up_to (lane ∷ lanes) [] none = refl
@@ -27,6 +42,6 @@ none_up_to (lane ∷ lanes) (u ∷ us) none =
 pub none_released : (s : Stock) (upto : List ℕ) → rows_in s ≡ [] → all_up_to s upto ≡ []
 none_released s upto none = none_up_to s.lanes upto none
 
--- the other way round
+-- the other way round: what is released stands in the lanes
 pub released_is_there : (s : Stock) (upto : List ℕ) → all_up_to s upto ≢ [] → rows_in s ≢ []
 released_is_there s upto some none = some (none_released s upto none)
