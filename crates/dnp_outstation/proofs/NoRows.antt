@@ -42,9 +42,6 @@ none_up_to (lane ∷ lanes) (u ∷ us) none =
 pub none_released : (s : Stock) (upto : List ℕ) → rows_in s ≡ [] → all_up_to s upto ≡ []
 none_released s upto none = none_up_to s.lanes upto none
 
--- the other way round: what is offered or released stands in the lanes
-pub offered_is_there : (s : Stock) (number after most : ℕ) → offered s number after most ≢ [] → rows_in s ≢ []
-offered_is_there s number after most some none = some (none_offered s number after most none)
-
+-- the other way round: what is released stands in the lanes
 pub released_is_there : (s : Stock) (upto : List ℕ) → all_up_to s upto ≢ [] → rows_in s ≢ []
 released_is_there s upto some none = some (none_released s upto none)

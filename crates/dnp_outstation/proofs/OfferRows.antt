@@ -1,39 +1,21 @@
 -- Rows of lanes that a READ gives.
-use Rattle.std.proofs.Common.{◌≡◌, ℕ, ◌<◌, suc, zero, Bool, true, false, not, cond, List, [], ◌∷◌, ◌++◌, length, take, filter, map, max, get_or, nat_lt, nat_le, refl, ap, sym, ◌∙◌, arith, Option, None, Some, IfSome, ◌+◌}
+use Rattle.std.proofs.Common.{◌≡◌, ℕ, ◌<◌, suc, zero, Bool, true, false, cond, List, [], ◌∷◌, ◌++◌, length, take, filter, map, max, get_or, nat_lt, nat_le, refl, ap, sym, ◌∙◌, arith, Option, None, Some, IfSome, ◌+◌, drop}
 use Rattle.std.specs.List.{AllPairs}
 use Rattle.std.proofs.lemmas.Bool.Decides.{nat_tests}
 use Rattle.std.proofs.lemmas.List.Kept.{AllPairs-filter}
-use Rattle.std.proofs.lemmas.List.{take_all}
-use Rattle.std.proofs.lemmas.List.Filters.{length-filter_both}
-use Rattle.dnp_objects.specs.declared.row.Row.{Row}
+use Rattle.std.proofs.lemmas.List.{take_all, take-append-drop, map-append}
 use Rattle.dnp_eventbuf.specs.declared.numbered.Numbered.{Numbered}
-use Rattle.dnp_eventbuf.specs.Stock.{Stock, LaneState, lane_at, no_lane, lane_rows, rows_in, row_of, offered, without}
+use Rattle.dnp_eventbuf.specs.Stock.{Stock, lane_at, offered, without}
 use Rattle.dnp_eventbuf.specs.Sound.{IsSound}
-use Rattle.dnp_outstation.specs.Items.{at_most, rows_left}
-use Rattle.dnp_outstation.specs.Filling.{after_release, over_of}
-
--- a lane's length is room for all of its rows that pass a test
-pub take_filter : (p : Numbered → Bool) (rows : List Numbered) → take (length rows) (filter p rows) ≡ filter p rows
-take_filter p rows = take_all (length rows) (filter p rows) (let both = length-filter_both p (λ x. not (p x)) (λ x. refl) rows in omega arith)
-
--- where lanes hold no row none is offered
-no_rows : (rows : List Numbered) (others : List Row) → map row_of rows ++ others ≡ [] → (rows ≡ []) × (others ≡ [])
-no_rows [] others none = (refl, none)
-no_rows (x ∷ xs) others none = absurd (cc)
-
-empty_at : (lanes : List LaneState) (number : ℕ) → lane_rows lanes ≡ [] → (get_or lanes number no_lane).rows ≡ []
-empty_at [] zero none = refl
-empty_at [] (suc number) none = refl
-empty_at (lane ∷ lanes) zero none = (no_rows lane.rows (lane_rows lanes) none).0
-empty_at (lane ∷ lanes) (suc number) none = empty_at lanes number (no_rows lane.rows (lane_rows lanes) none).1
+use Rattle.dnp_outstation.specs.declared.offer.writer.Writer.{Writer}
+use Rattle.dnp_outstation.specs.Items.{Item, event_of, at_most, rows_left}
+use Rattle.dnp_outstation.specs.Filling.{after_release, over_of, fill, ended}
+use Rattle.dnp_outstation.specs.Putting.{Puts}
+use Rattle.dnp_outstation.proofs.OfferPresent.{puts_full}
 
 take_none : (n : ℕ) → take n (let none : List Numbered = [] in none) ≡ []
 take_none zero = refl
 take_none (suc n) = refl
-
-pub nothing_offered : (s : Stock) (number after most : ℕ) → rows_in s ≡ [] → offered s number after most ≡ []
-nothing_offered s number after most none =
-    ap (λ (rows : List Numbered). take most (filter (λ x. nat_lt after x.id) rows)) (empty_at s.lanes number none) ∙ take_none most
 
 -- ---- rows that stood in the lanes
 
@@ -99,3 +81,16 @@ rows_given s released stood given number most sound low nine law =
     by_release None nine = refl
     by_release (Some upto) nine =
         sym (left_after s upto number (get_or given number 0) (over_of given (Some upto) number) (λ limit. law s upto number (get_or given number 0) limit (nine ∙ sym sound.nine) (omega (arith, sound.nine))))
+
+-- ---- the first rows of a lane
+
+-- where the first of them don't all fit, neither do they
+pub lane_full : (w w' : Writer) (fit : Bool) (header lane lane' few : ℕ) (all rows : List Numbered) (more : List Item)
+    → lane' ≡ lane → rows ≡ take few all → Puts w (map (event_of header lane') rows) fit w' → fit ≡ false
+    → fill w (map (event_of header lane) all ++ more) ≡ ended false w'
+lane_full w w' fit header lane lane' few all rows more same is put full =
+    ap (λ (xs : List Numbered). fill w (map (event_of header lane) xs ++ more)) (sym (take-append-drop few all))
+    ∙ ap (λ (xs : List Item). fill w (xs ++ more)) (map-append (event_of header lane) (take few all) (drop few all))
+    ∙ ap (λ (xs : List Numbered). fill w ((map (event_of header lane) xs ++ map (event_of header lane) (drop few all)) ++ more)) (sym is)
+    ∙ ap (λ (n : ℕ). fill w ((map (event_of header n) rows ++ map (event_of header lane) (drop few all)) ++ more)) (sym same)
+    ∙ puts_full w w' fit (map (event_of header lane') rows) (map (event_of header lane) (drop few all)) more put full

@@ -26,7 +26,7 @@ content_by w a = record { headers = heads w.builder; bits = a.bits; upto = w.upt
 
 -- the state in which it is sent
 abbrev pub state_by : State → Answer → State
-state_by s a = record s { core = record s.core { restart = a.restart } }
+state_by s a = record s { core = record s.core { restart = a.switches.restart; enabled = a.switches.enabled } }
 
 abbrev pub executed_by : State → Writer → Answer → Executed
 executed_by s w a = answered (state_by s a) (content_by w a)

@@ -45,7 +45,8 @@ is_looked_at c octets =
 
 -- the number of the fragment whose confirm is awaited
 abbrev pub awaited_number : Session → Bool → Option ℕ
-awaited_number session uns = if uns then option_map (λ w. w.seq) session.unsolicited else option_map (λ w. w.seq) session.awaited
+awaited_number session uns =
+    if uns then option_map (λ w. w.seq) session.unsolicited else option_map (λ w. w.seq) session.awaited
 
 abbrev pub is_number : Option ℕ → ℕ → Bool
 is_number None seq = false
@@ -81,7 +82,12 @@ control_for is_first seq content = record { fir = is_first; fin = is_none conten
 
 abbrev pub fragment_of : State → Bool → ℕ → Content → List ℕ
 fragment_of s is_first seq content =
-    response_octets (record { control = control_for is_first seq content; function = function.Response; iin = indications s content.upto content.bits; headers = content.headers })
+    response_octets (record {
+      control = control_for is_first seq content;
+      function = function.Response;
+      iin = indications s content.upto content.bits;
+      headers = content.headers;
+    })
 
 -- its confirm is awaited from now on, for so many milliseconds
 abbrev pub awaits : ℕ → ℕ → ℕ → List ℕ → Option Awaited
@@ -218,14 +224,20 @@ answers_held s o now (Some last) = by_reply last.reply
 
 abbrev pub on_unsolicited_confirm : State → Panel → ℕ → Unsolicited → Step
 on_unsolicited_confirm s o now w =
-    let after = record s { core = record s.core { announced = true; session = record s.core.session { unsolicited = None } }; lanes = without s.lanes w.upto } in
+    let session = record s.core.session { unsolicited = None } in
+    let after = record s { core = record s.core { announced = true; session = session }; lanes = without s.lanes w.upto } in
     discarding s w.upto (answers_held after o now s.core.session.last)
 
 -- ---- unsolicited responses
 
 abbrev pub unsolicited_of : State → Content → List ℕ
 unsolicited_of s content =
-    response_octets (record { control = record { fir = true; fin = true; con = true; uns = true; seq = s.core.session.next }; function = function.UnsolicitedResponse; iin = indications s content.upto content.bits; headers = content.headers })
+    response_octets (record {
+      control = record { fir = true; fin = true; con = true; uns = true; seq = s.core.session.next };
+      function = function.UnsolicitedResponse;
+      iin = indications s content.upto content.bits;
+      headers = content.headers;
+    })
 
 -- one is sent after what the call has sent so far
 abbrev pub starts : Step → ℕ → Content → Step
@@ -234,7 +246,12 @@ starts step now content =
     record {
       state = with_session s (record s.core.session {
         unsolicited_response = unsolicited_of s content;
-        unsolicited = Some (record { seq = s.core.session.next; upto = content.upto; ends = deadline now s.core.times.confirm_ms; repeats = 0 });
+        unsolicited = Some (record {
+          seq = s.core.session.next;
+          upto = content.upto;
+          ends = deadline now s.core.times.confirm_ms;
+          repeats = 0;
+        });
         next = (s.core.session.next + 1) % 16;
       });
       does = record step.does { send = step.does.send ++ unsolicited_of s content ∷ [] };
@@ -246,8 +263,9 @@ has_enabled_rows s = list_any (λ lane. nat_lt 0 (length (lane_at s.lanes lane).
 -- at the end of a call: what is open, free and has rows of an enabled class starts one
 abbrev pub at_end : ℕ → Step → Step
 at_end now step =
-    if is_unsolicited step.state.core.times.unsolicited && (step.state.core.announced && (step.state.core.is_open && (is_free step.state.core && has_enabled_rows step.state)))
-    then starts step now (content_from (pushed step.state.lanes step.state.core.enabled))
+    let s = step.state in
+    if is_unsolicited s.core.times.unsolicited && (s.core.announced && (s.core.is_open && (is_free s.core && has_enabled_rows s)))
+    then starts step now (content_from (pushed s.lanes s.core.enabled))
     else step
 
 -- ---- timers
@@ -277,6 +295,8 @@ unsolicited_timer s now = by_wait s.core.session.unsolicited
         else if holds_read s.core.session.last || nat_le s.core.times.retries w.repeats
         then record { state = record s { core = closed s.core }; does = record nothing { close = true } }
         else record {
-          state = with_session s (record s.core.session { unsolicited = Some (record w { ends = deadline now s.core.times.confirm_ms; repeats = w.repeats + 1 }) });
+          state = with_session s (record s.core.session {
+            unsolicited = Some (record w { ends = deadline now s.core.times.confirm_ms; repeats = w.repeats + 1 });
+          });
           does = sending s.core.session.unsolicited_response;
         }

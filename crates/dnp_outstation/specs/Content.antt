@@ -1,6 +1,6 @@
 -- Definition: what a request makes of an outstation, and the content of its answer (IEEE Std 1815-2012, application
--- layer: function codes READ and WRITE, internal indications).
-use Rattle.std.specs.Prelude.{ℕ, ◌+◌, ◌==◌, Bool, true, false, not, ◌&&◌, ◌||◌, ◌*◌, if◌then◌else◌, nat_lt, List, [], ◌∷◌, slice_index, Option, None, Some, Result, Ok, Err}
+-- layer: function codes READ, WRITE, ENABLE_UNSOLICITED and DISABLE_UNSOLICITED, internal indications).
+use Rattle.std.specs.Prelude.{ℕ, ◌+◌, ◌==◌, Bool, true, false, not, ◌&&◌, ◌||◌, ◌*◌, if◌then◌else◌, nat_lt, List, [], ◌∷◌, slice_index, slice_set, Option, None, Some, Result, Ok, Err}
 use Rattle.std.specs.Int.{bit_at}
 use Rattle.std.specs.List.{list_any, list_all}
 use Rattle.dnp_appfragment.specs.declared.fault.AppFault.{AppFault}
@@ -147,12 +147,36 @@ abbrev pub write_executed : State → List Head → Executed
 write_executed s headers =
     if write_bits headers == 0 then answered (written s headers) (plain 0 []) else refused s (write_bits headers)
 
+-- ---- ENABLE_UNSOLICITED and DISABLE_UNSOLICITED
+
+-- the class that a header names (60.2 to 60.4), counted from 0
+abbrev pub class_in : Head → Option ℕ
+class_in h =
+    if h.variation == 2 then Some 0
+    else if h.variation == 3 then Some 1
+    else if h.variation == 4 then Some 2
+    else None
+
+abbrev pub switched : Bool → List Bool → Option ℕ → List Bool
+switched on enabled None = enabled
+switched on enabled (Some class) = slice_set enabled class on
+
+-- the classes whose unsolicited responses are enabled, once those that the headers name are, or aren't any more
+abbrev pub enabled_after : Bool → List Bool → List Head → List Bool
+enabled_after on enabled [] = enabled
+enabled_after on enabled (h ∷ hs) = enabled_after on (switched on enabled (class_in h)) hs
+
+abbrev pub switch_executed : Bool → State → List Head → Executed
+switch_executed on s headers = answered (record s { core = record s.core { enabled = enabled_after on s.core.enabled headers } }) (plain 0 [])
+
 -- ---- one request
 
 -- the functions that aren't written yet are unknown ones
 abbrev pub by_function : State → Panel → List Head → Function → Executed
 by_function s o headers function.Read = read_executed s o headers
 by_function s o headers function.Write = write_executed s headers
+by_function s o headers function.EnableUnsolicited = switch_executed true s headers
+by_function s o headers function.DisableUnsolicited = switch_executed false s headers
 by_function s o headers _ = refused s no_func_code_support
 
 abbrev pub for_request : State → Panel → Result Asked AppFault → Executed

@@ -11,7 +11,7 @@ ghost use Rattle.dnp_outstation.specs.State.{State};
 ghost use Rattle.dnp_outstation.specs.Station.{state_of, actions_of};
 
 use crate::actions::Actions;
-use crate::answer::Answer;
+use crate::answer::{Answer, Switches};
 use crate::connection::deadline;
 use crate::execute::{left, request_in};
 use crate::offer::parts::put_parts;
@@ -32,7 +32,7 @@ fn write_next<L: Lanes, O: Outputs>(
     points: &PointDb,
     lanes: &mut L,
     outputs: &O,
-    restart: bool,
+    switches: Switches,
     session: &Session,
     released: Upto,
 ) -> Result<Option<Answer>, StoreFault>
@@ -42,7 +42,7 @@ fn write_next<L: Lanes, O: Outputs>(
     ensures written { L.honest lanes.new → IfOk result (λ next. (s : State) (now seq : ℕ) → s.core.points ≡ points.now
         → s.core.session.request ≡ session.now.request → s.lanes ≡ without (L.contents lanes.old) released
         → goes_on s (O.panel outputs.now) now seq session.now.last ≡ goes_on_by s now seq writer.new next) }
-    ensures restart { IfOk result (λ next. IfSome next (λ a. a.restart ≡ restart)) }
+    ensures switches { IfOk result (λ next. IfSome next (λ a. a.switches ≡ switches)) }
     ensures none { IfOk result (λ next. IfSome next (λ a. a.bits ≡ 0)) }
     ensures response { IfOk result (λ next. IfSome next (λ a. writer.new.builder.function ≡ function.Response)) }
     ensures device { result ≡ Err StoreFault.Device → IsTrue (L.is_stopped lanes.new) }
@@ -72,7 +72,7 @@ fn write_next<L: Lanes, O: Outputs>(
     )?;
     Ok(Some(Answer {
         bits: 0,
-        restart,
+        switches,
         stood: last.stood,
         left: left(is_last, writer.place),
     }))
@@ -104,13 +104,18 @@ impl OutstationCore {
         let Some(awaited) = self.session.awaited else {
             return Ok(Actions::none(alloc));
         };
+        let enabled = self.enabled;
+        let switches = Switches {
+            restart: self.restart,
+            enabled,
+        };
         let next = write_next(
             &mut self.writer,
             alloc,
             &self.points,
             lanes,
             outputs,
-            self.restart,
+            switches,
             &self.session,
             awaited.upto,
         )?;

@@ -15,9 +15,9 @@ ghost use Rattle.dnp_outstation.specs.Items.{last_in as last_in_stock, first_pla
 ghost use Rattle.dnp_outstation.specs.Filling.{empty_from};
 ghost use Rattle.dnp_outstation.specs.declared.offer.writer.Writer.{Writer as WriterValue};
 ghost use Rattle.dnp_outstation.specs.State.{State};
-ghost use Rattle.dnp_outstation.specs.Content.{content_of, bits_of, clears_restart, header_bits, write_bits, read_executed, write_executed};
+ghost use Rattle.dnp_outstation.specs.Content.{content_of, bits_of, clears_restart, header_bits, write_bits, enabled_after, read_executed, write_executed, switch_executed};
 
-use crate::answer::Answer;
+use crate::answer::{Answer, Switches};
 use crate::indications::last_in;
 use crate::offer::inside::are_inside;
 use crate::offer::parts::put_parts;
@@ -115,12 +115,12 @@ fn restart_after(headers: Headers<'_>, restart: bool) -> Result<bool, u8>
 }
 
 /// An answer without objects.
-fn plain(bits: u8, restart: bool, stood: u64) -> Answer
-    ensures { result ≡ record { bits = bits; restart = restart; stood = stood; left = None } }
+fn plain(bits: u8, switches: Switches, stood: u64) -> Answer
+    ensures { result ≡ record { bits = bits; switches = switches; stood = stood; left = None } }
 {
     Answer {
         bits,
-        restart,
+        switches,
         stood,
         left: None,
     }
@@ -140,7 +140,7 @@ fn read<L: Lanes, O: Outputs>(
     points: &PointDb,
     lanes: &mut L,
     outputs: &O,
-    restart: bool,
+    switches: Switches,
     headers: &Headers<'_>,
 ) -> Result<Answer, StoreFault>
     requires empty { writer.old ≡ empty_from first_place }
@@ -148,7 +148,7 @@ fn read<L: Lanes, O: Outputs>(
     ensures held { L.honest lanes.new → L.honest lanes.old }
     ensures beside { L.honest lanes.new → L.beside lanes.new ≡ L.beside lanes.old }
     ensures same { L.honest lanes.new → L.contents lanes.new ≡ L.contents lanes.old }
-    ensures executed { L.honest lanes.new → IfOk result (λ a. (s : State) → s.core.points ≡ points.now → s.core.restart ≡ restart
+    ensures executed { L.honest lanes.new → IfOk result (λ a. (s : State) → s.core.points ≡ points.now → s.core.restart ≡ switches.restart → s.core.enabled ≡ switches.enabled
         → s.lanes ≡ L.contents lanes.old → read_executed s (O.panel outputs.now) headers.now.headers ≡ executed_by s writer.new a) }
     ensures stood { L.honest lanes.new → IfOk result (λ a. a.stood ≡ last_in_stock (L.contents lanes.old)) }
     ensures small { IfOk result (λ a. a.bits < 8) }
@@ -160,7 +160,7 @@ fn read<L: Lanes, O: Outputs>(
 {
     let stood = last_in(lanes);
     if !are_inside(points, outputs, headers.after(0)) {
-        return Ok(plain(4, restart, stood));
+        return Ok(plain(4, switches, stood));
     }
     let is_last = put_parts(
         writer,
@@ -174,25 +174,58 @@ fn read<L: Lanes, O: Outputs>(
     )?;
     Ok(Answer {
         bits: 0,
-        restart,
+        switches,
         stood,
         left: left(is_last, writer.place),
     })
 }
 
 /// Executes a WRITE, which has to be of DEVICE_RESTART alone.
-fn write<L: Lanes>(lanes: &mut L, restart: bool, headers: Headers<'_>) -> Answer
+fn write<L: Lanes>(lanes: &mut L, switches: Switches, headers: Headers<'_>) -> Answer
     ensures same { lanes.new ≡ lanes.old }
-    ensures executed { (s : State) (w : WriterValue) → s.core.restart ≡ restart → w ≡ empty_from first_place
+    ensures executed { (s : State) (w : WriterValue) → s.core.restart ≡ switches.restart → s.core.enabled ≡ switches.enabled → w ≡ empty_from first_place
         → write_executed s headers.entry.headers ≡ executed_by s w result }
     ensures stood { L.honest lanes.new → result.stood ≡ last_in_stock (L.contents lanes.new) }
     ensures small { result.bits < 8 }
 {
     let stood = last_in(lanes);
-    match restart_after(headers, restart) {
-        Ok(restart) => plain(0, restart, stood),
-        Err(bits) => plain(bits, restart, stood),
+    match restart_after(headers, switches.restart) {
+        Ok(restart) => {
+            let enabled = switches.enabled;
+            plain(0, Switches { restart, enabled }, stood)
+        }
+        Err(bits) => plain(bits, switches, stood),
     }
+}
+
+/// The classes whose unsolicited responses are enabled, once those that these headers name are switched on,
+/// or off.
+fn enabled_after(on: bool, enabled: [bool; 3], headers: Headers<'_>) -> [bool; 3]
+    ensures { result ≡ enabled_after on enabled headers.entry.headers }
+{
+    let mut enabled = enabled;
+    for header in headers {
+        match header.variation {
+            2 => enabled[0] = on,
+            3 => enabled[1] = on,
+            4 => enabled[2] = on,
+            _ => {}
+        }
+    }
+    enabled
+}
+
+/// Executes an ENABLE_UNSOLICITED, where `on` is set, or a DISABLE_UNSOLICITED.
+fn switch<L: Lanes>(lanes: &mut L, switches: Switches, on: bool, headers: Headers<'_>) -> Answer
+    ensures same { lanes.new ≡ lanes.old }
+    ensures executed { (s : State) (w : WriterValue) → s.core.restart ≡ switches.restart → s.core.enabled ≡ switches.enabled → w ≡ empty_from first_place
+        → switch_executed on s headers.entry.headers ≡ executed_by s w result }
+    ensures stood { L.honest lanes.new → result.stood ≡ last_in_stock (L.contents lanes.new) }
+    ensures small { result.bits < 8 }
+{
+    let restart = switches.restart;
+    let enabled = enabled_after(on, switches.enabled, headers);
+    plain(0, Switches { restart, enabled }, last_in(lanes))
 }
 
 /// Executes a request, and writes the first fragment of its response.
@@ -202,13 +235,13 @@ pub(crate) fn execute<L: Lanes, O: Outputs>(
     points: &PointDb,
     lanes: &mut L,
     outputs: &O,
-    restart: bool,
+    switches: Switches,
     octets: &[u8],
 ) -> Result<Answer, StoreFault>
     ensures held { L.honest lanes.new → L.honest lanes.old }
     ensures beside { L.honest lanes.new → L.beside lanes.new ≡ L.beside lanes.old }
     ensures same { L.honest lanes.new → L.contents lanes.new ≡ L.contents lanes.old }
-    ensures executed { L.honest lanes.new → IfOk result (λ a. (s : State) → s.core.points ≡ points.now → s.core.restart ≡ restart
+    ensures executed { L.honest lanes.new → IfOk result (λ a. (s : State) → s.core.points ≡ points.now → s.core.restart ≡ switches.restart → s.core.enabled ≡ switches.enabled
         → s.lanes ≡ L.contents lanes.old → content_of s (O.panel outputs.now) octets.now ≡ executed_by s writer.new a) }
     ensures stood { L.honest lanes.new → IfOk result (λ a. a.stood ≡ last_in_stock (L.contents lanes.old)) }
     ensures small { IfOk result (λ a. a.bits < 8) }
@@ -222,7 +255,7 @@ pub(crate) fn execute<L: Lanes, O: Outputs>(
     writer.restart(FIRST_PLACE);
     let request = match request_in(octets) {
         Ok(request) => request,
-        Err(fault) => return Ok(plain(bits_of(fault), restart, last_in(lanes))),
+        Err(fault) => return Ok(plain(bits_of(fault), switches, last_in(lanes))),
     };
     match request.function {
         Function::Read => read(
@@ -231,10 +264,12 @@ pub(crate) fn execute<L: Lanes, O: Outputs>(
             points,
             lanes,
             outputs,
-            restart,
+            switches,
             &request.headers,
         ),
-        Function::Write => Ok(write(lanes, restart, request.headers)),
-        _ => Ok(plain(1, restart, last_in(lanes))),
+        Function::Write => Ok(write(lanes, switches, request.headers)),
+        Function::EnableUnsolicited => Ok(switch(lanes, switches, true, request.headers)),
+        Function::DisableUnsolicited => Ok(switch(lanes, switches, false, request.headers)),
+        _ => Ok(plain(1, switches, last_in(lanes))),
     }
 }

@@ -10,6 +10,7 @@ ghost use Rattle.dnp_outstation.specs.Connection.{function_in, waiting, on_reque
 ghost use Rattle.dnp_outstation.specs.Station.{state_of, actions_of};
 
 use crate::actions::Actions;
+use crate::answer::Switches;
 use crate::connection::deadline;
 use crate::execute::execute;
 use crate::outstation_core::OutstationCore;
@@ -47,16 +48,23 @@ impl OutstationCore {
         ensures named { result ≢ Err StoreFault.Exhausted }
         ensures reads { IsErr result → function_in octets.now ≡ function_octet function.Read }
     {
+        let enabled = self.enabled;
+        let switches = Switches {
+            restart: self.restart,
+            enabled,
+        };
         let answer = execute(
             &mut self.writer,
             alloc,
             &self.points,
             lanes,
             outputs,
-            self.restart,
+            switches,
             octets,
         )?;
-        self.restart = answer.restart;
+        self.restart = answer.switches.restart;
+        let enabled = answer.switches.enabled;
+        self.enabled = enabled;
         self.session.new_request(octets);
         let fragment = respond(
             &mut self.session,

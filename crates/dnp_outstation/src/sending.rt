@@ -77,10 +77,10 @@ fn fragment<L: Lanes>(
     ensures same { lanes.new ≡ lanes.old }
     ensures whole { 4 ≤ length result.items }
     ensures upto { writer.new.upto ≡ writer.old.upto }
-    ensures value { L.honest lanes.new → (s : State) → s.lanes ≡ L.contents lanes.new → s.core.restart ≡ answer.now.restart
+    ensures value { L.honest lanes.new → (s : State) → s.lanes ≡ L.contents lanes.new → s.core.restart ≡ answer.now.switches.restart
         → result.items ≡ fragment_of s is_first seq (content_by writer.old answer.now) }
 {
-    let iin = indications(lanes, answer.restart, &writer.upto, answer.bits);
+    let iin = indications(lanes, answer.switches.restart, &writer.upto, answer.bits);
     let asks_confirm = asks_confirm(writer, answer);
     let control = control(is_first, asks_confirm, seq, answer);
     finished(&mut writer.builder, control, iin)
@@ -159,7 +159,7 @@ pub(crate) fn respond<L: Lanes>(
     requires response { writer.old.builder.function ≡ function.Response }
     requires bits { answer.now.bits < 8 }
     ensures same { lanes.new ≡ lanes.old }
-    ensures sends { L.honest lanes.new → (s : State) (now : ℕ) → s.lanes ≡ L.contents lanes.new → s.core.restart ≡ answer.now.restart
+    ensures sends { L.honest lanes.new → (s : State) (now : ℕ) → s.lanes ≡ L.contents lanes.new → s.core.restart ≡ answer.now.switches.restart
         → s.core.session ≡ session.old → ends ≡ deadline now s.core.times.confirm_ms
         → responds s now answer.now.stood seq (content_by writer.old answer.now)
         ≡ record { state = with_session s session.new; does = sending result.items } }
@@ -184,7 +184,7 @@ pub(crate) fn respond_further<L: Lanes>(
     requires response { writer.old.builder.function ≡ function.Response }
     requires bits { answer.now.bits < 8 }
     ensures same { lanes.new ≡ lanes.old }
-    ensures sends { L.honest lanes.new → (s : State) (now : ℕ) → s.lanes ≡ L.contents lanes.new → s.core.restart ≡ answer.now.restart
+    ensures sends { L.honest lanes.new → (s : State) (now : ℕ) → s.lanes ≡ L.contents lanes.new → s.core.restart ≡ answer.now.switches.restart
         → s.core.session ≡ session.old → ends ≡ deadline now s.core.times.confirm_ms
         → responds_further s now answer.now.stood seq (content_by writer.old answer.now)
         ≡ record { state = with_session s session.new; does = sending result.items } }

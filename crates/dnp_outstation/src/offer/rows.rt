@@ -1,13 +1,13 @@
 //! Rows of lanes that a READ gives.
 
-ghost use Rattle.std.specs.Prelude.{◌≡◌, ◌≢◌, ◌<◌, ◌++◌, map, fold, filter, nat_lt, nat_le, IsTrue, IfOk, IfErr, IfSome, length, All, List, [], ℕ, if◌then◌else◌, false};
+ghost use Rattle.std.specs.Prelude.{◌≡◌, ◌≤◌, ◌<◌, ◌+◌, ◌*◌, map, fold, filter, take, nat_le, IsTrue, IsSome, is_some, IfOk, IfSome, length, All, List};
 ghost use Rattle.dnp_objects.specs.Events.{IsEvent};
 ghost use Rattle.dnp_objects.specs.Lanes.{lane_number};
-ghost use Rattle.dnp_eventbuf.specs.Sound.{IsSound};
-ghost use Rattle.dnp_eventbuf.specs.Stock.{lane_at, rows_in, offered};
+ghost use Rattle.dnp_eventbuf.specs.declared.numbered.Numbered.{Numbered as NumberedRow};
+ghost use Rattle.dnp_appfragment.specs.Built.{size};
 ghost use Rattle.dnp_appfragment.specs.Table.{is_response};
-ghost use Rattle.dnp_outstation.specs.Items.{Item, event_of, given_after, event_items, rows_left, at_most, less};
-ghost use Rattle.dnp_outstation.specs.Filling.{fill, ended, after_release, over_of};
+ghost use Rattle.dnp_outstation.specs.Items.{event_of, given_after, event_items, rows_left, at_most, less};
+ghost use Rattle.dnp_outstation.specs.Filling.{after_release, over_of};
 ghost use Rattle.dnp_outstation.specs.Putting.{Puts, IsLook};
 
 use crate::offer::place::RowPart;
@@ -39,37 +39,14 @@ impl<'a> Bounds<'a> {
     }
 }
 
-/// How many rows of a lane to ask for, where a header has this limit.
-#[tactic(auto, using(crate::proofs::OfferRows::take_filter))]
-fn wanted_of<L: Lanes>(lanes: &mut L, lane: Lane, most: Option<usize>) -> usize
-    ensures same { lanes.new ≡ lanes.old }
-    ensures enough { L.honest lanes.new → (over : ℕ)
-        → offered (L.contents lanes.new) (lane_number lane) over result
-        ≡ at_most most (filter (λ x. nat_lt over x.id) (lane_at (L.contents lanes.new) (lane_number lane)).rows) }
+/// How many rows to ask for where a header has this limit and no more than so many fit.
+fn asked(most: Option<usize>, few: usize) -> usize
+    ensures { (rows : List NumberedRow) → take result rows ≡ take few (at_most most rows) }
 {
     match most {
-        Some(most) => most,
-        None => lanes.len(lane) as usize,
+        Some(most) => most.min(few),
+        None => few,
     }
-}
-
-/// The first rows of a lane over an id, at most so many where there is a limit.
-fn rows_over<L: Lanes>(
-    lanes: &mut L,
-    alloc: Global,
-    lane: Lane,
-    over: u64,
-    most: Option<usize>,
-) -> Result<Vec<Numbered>, StoreFault>
-    ensures rows { L.honest lanes.new → IfOk result (λ rows. rows.items
-        ≡ at_most most (filter (λ x. nat_lt over x.id) (lane_at (L.contents lanes.new) (lane_number lane)).rows)) }
-    ensures events { IfOk result (λ rows. All (λ x. IsEvent x.row) rows.items) }
-    ensures sound { L.honest lanes.new → IsSound (L.contents lanes.new) }
-    ensures look { IsLook L.honest L.is_stopped L.contents L.beside L.asks_memory lanes.old lanes.new result }
-{
-    let most = wanted_of(lanes, lane, most);
-    let rows = lanes.offer(alloc, lane, over, most)?;
-    Ok(rows)
 }
 
 /// Keeps the rows that stood in the lanes when the READ was first answered.
@@ -80,22 +57,24 @@ fn keep_stood(rows: &mut Vec<Numbered>, stood: u64)
     rows.retain(|x| x.id <= stood);
 }
 
-/// The rows of a lane that a header of a READ may still give, at most so many where it has a limit.
+/// The first rows of a lane that a header of a READ may still give, within its limit, but no more than
+/// so many.
 fn rows_to_give<L: Lanes>(
     lanes: &mut L,
     alloc: Global,
     lane: Lane,
     bounds: &Bounds<'_>,
     most: Option<usize>,
+    few: usize,
 ) -> Result<Vec<Numbered>, StoreFault>
     ensures rows { L.honest lanes.new → IfOk result (λ rows. rows.items
-        ≡ at_most most (rows_left (after_release (L.contents lanes.new) bounds.now.released.now) bounds.now.stood bounds.now.given.now (lane_number lane))) }
+        ≡ take few (at_most most (rows_left (after_release (L.contents lanes.new) bounds.now.released.now) bounds.now.stood bounds.now.given.now (lane_number lane)))) }
     ensures events { IfOk result (λ rows. All (λ x. IsEvent x.row) rows.items) }
     ensures look { IsLook L.honest L.is_stopped L.contents L.beside L.asks_memory lanes.old lanes.new result }
 {
     an_offer_after_a_release();
     let over = bounds.over(lane.number());
-    let mut rows = rows_over(lanes, alloc, lane, over, most)?;
+    let mut rows = lanes.offer(alloc, lane, over, asked(most, few))?;
     keep_stood(&mut rows, bounds.stood);
     Ok(rows)
 }
@@ -115,6 +94,7 @@ impl Writer {
         requires events { All (λ x. IsEvent x.row) rows.now }
         ensures given { IsTrue result → self.new.place.given ≡ fold given_after self.old.place.given (map (event_of header lane) rows.now) }
         ensures written { Puts self.old (map (event_of header lane) rows.now) result self.new }
+        ensures room { IsTrue result → size self.old.builder ≤ 2048 → size self.old.builder + 2 * length rows.now ≤ 2048 }
         ensures response { self.new.builder.function ≡ self.old.builder.function }
     {
         for x in rows {
@@ -123,6 +103,36 @@ impl Writer {
             }
         }
         true
+    }
+
+    /// Puts the rows of a lane that a header may still give, within its limit, as far as they fit;
+    /// answers how many they are, or nothing where not all of them fit.
+    fn put_lane<L: Lanes>(
+        &mut self,
+        alloc: Global,
+        lanes: &mut L,
+        header: usize,
+        lane: Lane,
+        bounds: &Bounds<'_>,
+        most: Option<usize>,
+    ) -> Result<Option<usize>, StoreFault>
+        requires { IsTrue (is_response self.old.builder.function) }
+        ensures written { L.honest lanes.new → IfOk result (λ given. Puts self.old (map (event_of header (lane_number lane))
+            (at_most most (rows_left (after_release (L.contents lanes.new) bounds.now.released.now) bounds.now.stood bounds.now.given.now (lane_number lane)))) (is_some given) self.new) }
+        ensures given { L.honest lanes.new → IfOk result (λ given. IsSome given → self.new.place.given ≡ fold given_after self.old.place.given (map (event_of header (lane_number lane))
+            (at_most most (rows_left (after_release (L.contents lanes.new) bounds.now.released.now) bounds.now.stood bounds.now.given.now (lane_number lane))))) }
+        ensures counted { L.honest lanes.new → IfOk result (λ given. IfSome given (λ n.
+            n ≡ length (at_most most (rows_left (after_release (L.contents lanes.new) bounds.now.released.now) bounds.now.stood bounds.now.given.now (lane_number lane))))) }
+        ensures response { self.new.builder.function ≡ self.old.builder.function }
+        ensures look { IsLook L.honest L.is_stopped L.contents L.beside L.asks_memory lanes.old lanes.new result }
+    {
+        // A row has two octets at least, those of its index: so one of these has no room.
+        let few = self.builder.left() / 2 + 1;
+        let rows = rows_to_give(lanes, alloc, lane, bounds, most, few)?;
+        if !self.put_rows(header, lane.number(), rows.as_slice()) {
+            return Ok(None);
+        }
+        Ok(Some(rows.len()))
     }
 
     /// Puts the rows that a header may still give, one lane after another, as far as its limit goes and
@@ -146,11 +156,10 @@ impl Writer {
     {
         let mut left = part.most;
         for lane in &part.lanes {
-            let rows = rows_to_give(lanes, alloc, *lane, bounds, left)?;
-            if !self.put_rows(header, lane.number(), rows.as_slice()) {
+            let Some(given) = self.put_lane(alloc, lanes, header, *lane, bounds, left)? else {
                 return Ok(false);
-            }
-            left = less(left, rows.len());
+            };
+            left = less(left, given);
         }
         Ok(true)
     }

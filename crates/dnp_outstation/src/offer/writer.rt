@@ -1,7 +1,8 @@
 //! A fragment that is written, item by item, as far as they fit.
 
-ghost use Rattle.std.specs.Prelude.{◌≡◌, ◌<◌, false, true, IsTrue};
+ghost use Rattle.std.specs.Prelude.{◌≡◌, ◌<◌, ◌≤◌, ◌+◌, false, true, IsTrue};
 ghost use Rattle.dnp_objects.specs.Events.{IsEvent};
+ghost use Rattle.dnp_appfragment.specs.Built.{size};
 ghost use Rattle.dnp_appfragment.specs.Table.{is_response};
 ghost use Rattle.dnp_appfragment.specs.Written.{FitsPoint};
 ghost use Rattle.dnp_outstation.specs.Items.{first_place, event_of, present_of, passed, place_after};
@@ -112,6 +113,8 @@ impl Writer {
         requires event { IsEvent x.now.row }
         ensures fits { IsTrue result → self.new ≡ put self.old (event_of header lane x.now) }
         ensures room { result ≡ fits (put self.old (event_of header lane x.now)) }
+        ensures longer { IsTrue result → size self.old.builder + 2 ≤ size self.new.builder }
+        ensures short { IsTrue result → size self.new.builder ≤ 2048 }
         ensures full { result ≡ false → ended false self.new ≡ ended false self.old }
         ensures response { self.new.builder.function ≡ self.old.builder.function }
     {

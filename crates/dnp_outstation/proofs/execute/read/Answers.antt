@@ -7,9 +7,9 @@ use Rattle.dnp_outstation.proofs.Steps.{read_answered}
 use Rattle.dnp_outstation.proofs.execute.read.Goals as goal
 
 pub returns-clause-executed : goal.returns-clause-executed
-returns-clause-executed g c = λ honest s points_is restart_is lanes_is.
+returns-clause-executed g c = λ honest s points_is restart_is enabled_is lanes_is.
     let source : Source = record { points = c.args.points.now; panel = g.O.Outputs.panel c.args.outputs.now; lanes = g.L.Lanes.contents c.args.lanes.now } in
-    let a : Answer = record { bits = 0; restart = c.args.restart; stood = c.last_in-stood.result; left = c.left.result } in
+    let a : Answer = record { bits = 0; switches = c.args.switches; stood = c.last_in-stood.result; left = c.left.result } in
     let are : true ≡ c.are_inside.result = search rules in
     let inside : true ≡ list_all (is_inside source) c.args.headers.now.headers =
     are ∙ c.are_inside.ensures source refl refl ∙ ap (λ (hs : List Head). list_all (is_inside source) hs) c.after.ensures.headers in

@@ -1,23 +1,43 @@
-use Rattle.std.proofs.Common.{◌≡◌, ℕ, filter, nat_lt, ap, ◌∙◌, arith, ◌<◌}
+use Rattle.std.proofs.Common.{rules, ◌≡◌, ℕ, Some, Err, filter, ap, sym, ◌∙◌, arith, ◌<◌}
 use Rattle.dnp_objects.specs.Lanes.{lane_number}
-use Rattle.dnp_eventbuf.specs.declared.numbered.Numbered.{Numbered}
-use Rattle.dnp_eventbuf.specs.Stock.{lane_at}
-use Rattle.dnp_outstation.specs.Items.{at_most}
-use Rattle.dnp_outstation.specs.Filling.{over_of}
+use Rattle.dnp_objects.specs.declared.store.StoreFault.TheVariants.{Memory}
+use Rattle.dnp_eventbuf.specs.Stock.{Stock, offered, rows_in}
+use Rattle.dnp_outstation.specs.Items.{rows_left}
+use Rattle.dnp_outstation.specs.Filling.{after_release, over_of}
+use Rattle.dnp_outstation.proofs.NoRows.{none_offered}
 use Rattle.dnp_outstation.proofs.OfferRows.{rows_given, stood_at}
 use Rattle.dnp_outstation.proofs.offer.rows.rows_to_give.Goals as goal
 
+pub returns-in_err-rows-clause-look : goal.returns-in_err-rows-clause-look
+returns-in_err-rows-clause-look g c = record {
+  held = search rules;
+  same = search rules;
+  beside = search rules;
+  stopped = search rules;
+  device = search rules;
+  runs_on = search rules;
+  memory = λ honest is asks none.
+      let old = g.L.Lanes.contents c.args.lanes.now in
+      let same : g.L.Lanes.contents c.offer.new.self ≡ old = search rules in
+      let memory : c.offer.result ≡ Err Memory = search rules in
+      c.offer.ensures.memory memory asks (none_offered old (lane_number c.args.lane) c.over-over.result c.asked.result (ap rows_in (sym same) ∙ none));
+  named = search rules;
+}
+
 pub returns-clause-rows : goal.returns-clause-rows
 returns-clause-rows g c = λ honest.
-    let s = g.L.Lanes.contents c.rows_over.new.lanes in
+    let s = g.L.Lanes.contents c.offer.new.self in
     let bounds = c.args.bounds.now in
     let number = lane_number c.args.lane in
     let stood = stood_at bounds.stood in
     let low : number < 9 = omega (arith, c.number.ensures.value, c.number.ensures.range) in
     let over : c.over-over.result ≡ over_of bounds.given.now bounds.released.now number =
     c.over-over.ensures.over ∙ ap (over_of bounds.given.now bounds.released.now) c.number.ensures.value in
+    let ask = c.asked.result in
     c.keep_stood.ensures.kept
     ∙ ap (filter stood) (c.in_ok-rows.ensures.rows honest)
-    ∙ ap (λ (n : ℕ). filter stood (at_most c.args.most (filter (λ (x : Numbered). nat_lt n x.id) (lane_at s number).rows))) over
-    ∙ rows_given s bounds.released.now bounds.stood bounds.given.now number c.args.most (c.in_ok-rows.ensures.sound honest) low
+    ∙ ap (λ (t : Stock). filter stood (offered t number c.over-over.result ask)) (sym (c.in_ok-rows.ensures.same honest))
+    ∙ ap (λ (n : ℕ). filter stood (offered s number n ask)) over
+    ∙ rows_given s bounds.released.now bounds.stood bounds.given.now number (Some ask) (c.in_ok-rows.ensures.call.sound honest) low
     c.over-over.ensures.nine c.an_offer_after_a_release.ensures
+    ∙ c.asked.ensures (rows_left (after_release s bounds.released.now) bounds.stood bounds.given.now number)

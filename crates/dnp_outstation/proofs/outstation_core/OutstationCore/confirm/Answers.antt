@@ -18,7 +18,15 @@ returns-in_default-next-clause-confirmed g c = λ honest p.
     let new = g.L.Lanes.contents c.release.new.self in
     let w = c.in-Some.awaited in
     let seq = (w.seq + 1) % 16 in
-    let core : Core = record { is_open = c.self.inside.is_open; session = c.self.inside.session; restart = c.self.inside.restart; enabled = c.self.inside.enabled; announced = c.self.inside.announced; points = c.self.inside.points; times = c.self.inside.times } in
+    let core : Core = record {
+      is_open = c.self.inside.is_open;
+      session = c.self.inside.session;
+      restart = c.self.inside.restart;
+      enabled = c.self.inside.enabled;
+      announced = c.self.inside.announced;
+      points = c.self.inside.points;
+      times = c.self.inside.times;
+    } in
     let s : State = state_of core old p in
     let after : State = state_of (record core { session = c.confirm.new.self }) new p in
     let honest' = c.in_ok-release.ensures.call.held honest in
@@ -38,7 +46,15 @@ returns-clause-confirmed g c = λ honest p.
     let w = c.in-Some.awaited in
     let seq = c.next.result in
     let last = c.self.inside.session.last in
-    let core : Core = record { is_open = c.self.inside.is_open; session = c.self.inside.session; restart = c.self.inside.restart; enabled = c.self.inside.enabled; announced = c.self.inside.announced; points = c.self.inside.points; times = c.self.inside.times } in
+    let core : Core = record {
+      is_open = c.self.inside.is_open;
+      session = c.self.inside.session;
+      restart = c.self.inside.restart;
+      enabled = c.self.inside.enabled;
+      announced = c.self.inside.announced;
+      points = c.self.inside.points;
+      times = c.self.inside.times;
+    } in
     let s : State = state_of core old p in
     let after : State = state_of (record core { session = c.confirm.new.self }) new p in
     let released = subst (λ l. g.L.Lanes.honest l) c.respond_further-fragment.ensures.same honest in

@@ -1,0 +1,102 @@
+-- How much longer a fragment is with a row more.
+use Rattle.std.proofs.Common.{◌≡◌, ℕ, ◌+◌, ◌≤◌, ◌^◌, Bool, true, false, cond, nat_lt, ◌==◌, ◌&&◌, List, [], ◌∷◌, ◌++◌, length, option_to_list, Option, None, Some, refl, sym, ap, ◌∙◌, arith, append-nil}
+use Rattle.std.specs.Option.{option_map, option_and_then}
+use Rattle.std.proofs.lemmas.List.{length-append}
+use Rattle.std.proofs.lemmas.List.Concat.{flat_map-append}
+use Rattle.dnp_appfragment.specs.declared.header.Range.{Range}
+use Rattle.dnp_appfragment.specs.declared.header.Range.TheVariants as range
+use Rattle.dnp_appfragment.specs.Headers.{Head, number, range_octets, header_octets, spelled}
+use Rattle.dnp_appfragment.specs.Joining.{joined, joined_range}
+use Rattle.dnp_appfragment.specs.Built.{Built, heads, size, broken, with_run, with_object, front_size}
+use Rattle.dnp_appfragment.specs.Written.{indexed, event}
+use Rattle.dnp_objects.specs.Rows.{written}
+use Rattle.dnp_eventbuf.specs.declared.numbered.Numbered.{Numbered}
+use Rattle.dnp_outstation.specs.declared.offer.writer.Writer.{Writer}
+use Rattle.dnp_outstation.specs.declared.offer.writer.Run.TheVariants.{OfLane}
+use Rattle.dnp_outstation.specs.Items.{event_of}
+use Rattle.dnp_outstation.specs.Filling.{put, is_same_run}
+use Rattle.dnp_outstation.proofs.OfferLemmas.{heads_broken}
+
+-- a range that one object more joins has as many octets as before
+same_range : (first joint : Range) → joined_range first (range.Indexed true 1) ≡ Some joint → length (range_octets joint) ≡ length (range_octets first)
+same_range (range.Indexed true n) joint is = by (nat_lt (n + 1) (2 ^ 16)) is
+  where
+    by : (b : Bool) → cond b (Some (range.Indexed true (n + 1))) None ≡ Some joint → length (range_octets joint) ≡ 2
+    by true it = let same : range.Indexed true (n + 1) ≡ joint = cc in ap (λ (r : Range). length (range_octets r)) (sym same)
+    by false it = cc
+same_range (range.Indexed false n) joint is = cc
+same_range (range.Span true first last) joint is = cc
+same_range (range.Span false first last) joint is = cc
+same_range _ joint is = cc
+
+header_size : (h : Head) → length (header_octets h) ≡ 3 + length (range_octets h.range) + length h.octets
+header_size h = let both = length-append (range_octets h.range) h.octets in omega arith
+
+-- a header that an object joins is longer by the object's octets
+joined_size : (run longer : Head) (group variation index : ℕ) (octets : List ℕ) → joined run (indexed group variation index octets) ≡ Some longer
+    → length (header_octets run) + 2 ≤ length (header_octets longer)
+joined_size run longer group variation index octets is = by ((run.group == group) && (run.variation == variation)) (joined_range run.range (range.Indexed true 1)) refl is
+  where
+    object : List ℕ
+    object = number true index ++ octets
+
+    by : (b : Bool) (o : Option Range) → joined_range run.range (range.Indexed true 1) ≡ o
+        → cond b (option_map (λ (r : Range). let h : Head = record { group = run.group; variation = run.variation; range = r; octets = run.octets ++ object } in h) o) None ≡ Some longer
+        → length (header_octets run) + 2 ≤ length (header_octets longer)
+    by true (Some r) joint it =
+        let same : (let h : Head = record { group = run.group; variation = run.variation; range = r; octets = run.octets ++ object } in h) ≡ longer = cc in
+        let old = header_size run in
+        let new = header_size longer in
+        let range_is : length (range_octets longer.range) ≡ length (range_octets run.range) = ap (λ (h : Head). length (range_octets h.range)) (sym same) ∙ same_range run.range r joint in
+        let octets_are : length longer.octets ≡ length (run.octets ++ object) = ap (λ (h : Head). length h.octets) (sym same) in
+        let both = length-append run.octets object in
+        let own = length-append (number true index) octets in
+        omega arith
+    by true None joint it = cc
+    by false o joint it = cc
+
+one_more : (hs : List Head) (h : Head) → length (spelled (hs ++ h ∷ [])) ≡ length (spelled hs) + length (header_octets h)
+one_more hs h =
+    ap length (flat_map-append header_octets hs (h ∷ []))
+    ∙ length-append (spelled hs) (header_octets h ++ [])
+    ∙ ap (λ (l : List ℕ). length (spelled hs) + length l) (append-nil (header_octets h))
+
+-- a fragment is at least two octets longer with an object behind its index
+event_grows : (b : Built) (group variation index : ℕ) (octets : List ℕ) → size b + 2 ≤ size (with_object b (indexed group variation index octets))
+unfolding with_object
+event_grows b group variation index octets = by_run b.run refl
+  where
+    object : Head
+    object = indexed group variation index octets
+
+    anew : size b + 2 ≤ size (with_run b None object)
+    anew =
+        let more = one_more (heads b) object in
+        let own = header_size object in
+        omega arith
+
+    by_join : (run : Head) → b.run ≡ Some run → (o : Option Head) → joined run object ≡ o → size b + 2 ≤ size (with_run b o object)
+    by_join run is None joins = anew
+    by_join run is (Some longer) joins =
+        let old = ap (λ (o : Option Head). length (spelled (b.ended ++ option_to_list o))) is ∙ one_more b.ended run in
+        let new = one_more b.ended longer in
+        let longer_by = joined_size run longer group variation index octets joins in
+        omega arith
+
+    by_run : (o : Option Head) → b.run ≡ o → size b + 2 ≤ size (with_run b (option_and_then (λ run. joined run object) o) object)
+    by_run None is = anew
+    by_run (Some run) is = by_join run is (joined run object) refl
+
+-- so is a writer with a row more
+put_grows : (w : Writer) (header lane : ℕ) (x : Numbered) → size w.builder + 2 ≤ size (put w (event_of header lane x)).builder
+put_grows w header lane x = by (is_same_run w.run (OfLane lane))
+  where
+    by : (same : Bool) → size w.builder + 2 ≤ size (with_object (cond same w.builder (broken w.builder)) (event x.row))
+    by true = event_grows w.builder (event x.row).group (event x.row).variation x.row.index (written (event x.row).group (event x.row).variation x.row)
+    by false =
+        let more = event_grows (broken w.builder) (event x.row).group (event x.row).variation x.row.index (written (event x.row).group (event x.row).variation x.row) in
+        let same : size (broken w.builder) ≡ size w.builder = ap (λ (hs : List Head). front_size w.builder.function + length (spelled hs)) (heads_broken w.builder) in
+        omega arith
+
+pub put_room : (w w' : Writer) (header lane : ℕ) (x : Numbered) → w' ≡ put w (event_of header lane x) → size w.builder + 2 ≤ size w'.builder
+put_room w w' header lane x is = let same = ap (λ (v : Writer). size v.builder) is in let more = put_grows w header lane x in omega arith
