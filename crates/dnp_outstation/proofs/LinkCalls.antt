@@ -24,54 +24,15 @@ use Rattle.dnp_outstation.specs.Content.{Executed, plain, answered, content_from
 use Rattle.dnp_outstation.specs.Connection.{is_looked_at, control_in, function_in, case_of, starts, at_end, has_enabled_rows}
 use Rattle.dnp_outstation.specs.Calls.{received, connection_after, tick_of, change_of}
 use Rattle.dnp_outstation.specs.Links.{KeepsConnection, StartsOne, EndsAs}
+use Rattle.dnp_outstation.proofs.ContentOf.{content_done}
 
 -- ---- content
 
-record IsAnswered (s : State) (x : Executed) : Type 0 where
-  keeps : KeepsConnection s x.state
-  some : IsSome x.content
-
-plainly : (s : State) (x : Executed) → x.state.core.is_open ≡ s.core.is_open → x.state.core.session ≡ s.core.session → x.state.lanes ≡ s.lanes → IsSome x.content → IsAnswered s x
-plainly s x opened session lanes some = record {
-  keeps = record {
-    is_open = opened;
-    last = ap (λ q. q.last) session;
-    awaited = ap (λ q. q.awaited) session;
-    unsolicited = ap (λ q. q.unsolicited) session;
-    next = ap (λ q. q.next) session;
-    lanes = lanes;
-  };
-  some = some;
-}
-
-refused_is : (s : State) (bits : ℕ) → IsAnswered s (refused s bits)
-refused_is s bits = plainly s (refused s bits) refl refl refl refl
-
-either : (s : State) (b : Bool) (x y : Executed) → IsAnswered s x → IsAnswered s y → IsAnswered s (if b then x else y)
-either s true x y first second = first
-either s false x y first second = second
-
-function_is : (s : State) (o : Panel) (headers : List Head) (f : Function) → IsAnswered s (by_function s o headers f)
-function_is s o headers function.Read =
-    let read = answered s (read_content s o (last_in s.lanes) first_place headers) in
-    either s (list_all (is_inside (source_of s o)) headers) read (refused s parameter_error) (plainly s read refl refl refl refl) (refused_is s parameter_error)
-function_is s o headers function.Write =
-    let done = answered (written s headers) (plain 0 []) in
-    either s (write_bits headers == 0) done (refused s (write_bits headers)) (plainly s done refl refl refl refl) (refused_is s (write_bits headers))
-function_is s o headers _ = refused_is s no_func_code_support
-
-content_is : (s : State) (o : Panel) (octets : List ℕ) → IsAnswered s (content_of s o octets)
-content_is s o octets = by (request_at octets)
-  where
-    by : (r : Result Asked AppFault) → IsAnswered s (for_request s o r)
-    by (Ok r) = function_is s o r.headers r.function
-    by (Err fault) = refused_is s (bits_of fault)
-
 pub content_keeps : (s : State) (o : Panel) (octets : List ℕ) → KeepsConnection s (content_of s o octets).state
-content_keeps s o octets = (content_is s o octets).keeps
+content_keeps s o octets = (content_done s o octets).keeps
 
 pub content_some : (s : State) (o : Panel) (octets : List ℕ) → IsSome (content_of s o octets).content
-content_some s o octets = (content_is s o octets).some
+content_some s o octets = (content_done s o octets).some
 
 -- ---- closed
 
@@ -79,8 +40,8 @@ closed_case : (c : Core) (octets : List ℕ) → c.is_open ≡ false → case_of
 closed_case c octets closed =
     let none : is_looked_at c octets ≡ false =
     ap (λ (opened : Bool). (opened && (nat_le 2 (length octets) && nat_le (length octets) 2048))
-        && (((control_in octets).fir && (control_in octets).fin)
-        && (nat_lt (function_in octets) 129 && (not (control_in octets).uns || function_in octets == 0)))) closed
+    && (((control_in octets).fir && (control_in octets).fin)
+    && (nat_lt (function_in octets) 129 && (not (control_in octets).uns || function_in octets == 0)))) closed
     in
     rw none refl
 

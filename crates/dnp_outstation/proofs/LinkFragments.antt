@@ -31,8 +31,10 @@ use Rattle.dnp_outstation.specs.Laws.{rows_in_lane, AreRowsUpto, IsTidy}
 use Rattle.dnp_outstation.specs.Said.{rows_said, CanStand, AreWritable, HaveIndexes}
 use Rattle.dnp_outstation.specs.Links.{Reports}
 use Rattle.dnp_outstation.specs.State.{State}
-use Rattle.dnp_outstation.specs.Content.{Content, Executed, plain, answered, content_from, content_of, for_request, by_function, read_content, source_of, refused, written, write_bits, bits_of, parameter_error, no_func_code_support, indications}
+use Rattle.dnp_outstation.specs.Content.{Content, plain, content_from, content_of, read_content, source_of, indications}
 use Rattle.dnp_outstation.specs.Connection.{has_rows, control_for, fragment_of, unsolicited_of}
+use Rattle.dnp_outstation.proofs.ContentOf.{IsContent, content_done}
+use Rattle.dnp_outstation.proofs.ContentOf.IsContent.{Reads, Plain}
 use Rattle.dnp_outstation.proofs.Rising.{last_or, upto, upto_none}
 use Rattle.dnp_outstation.proofs.ByLanes.{IsLow}
 use Rattle.dnp_outstation.proofs.Carried.{lane_rises, last_id_is, fragment_rows, pushed_rows}
@@ -69,8 +71,8 @@ reports s answered items sound headers control function can low fit are = record
   read = response_is answered items headers control function can fit;
   control_is = refl;
   rows =
-  subst (λ (hs : List Head). IsPermutation (rows_said hs) (map buffered_row (filter (is_upto (last_ids items)) (buffered_in s)))) (sym headers)
-  (subst (IsPermutation (rows_said (headers_of items))) (release_seen s (last_ids items) (nine_ids items ∙ sym sound.nine)).1 (said_and_released s items sound can low fit are));
+      subst (λ (hs : List Head). IsPermutation (rows_said hs) (map buffered_row (filter (is_upto (last_ids items)) (buffered_in s)))) (sym headers)
+      (subst (IsPermutation (rows_said (headers_of items))) (release_seen s (last_ids items) (nine_ids items ∙ sym sound.nine)).1 (said_and_released s items sound can low fit are));
   used = ids_used s items sound are;
 }
 
@@ -106,40 +108,18 @@ abbrev IsReported : State → Content → Type 0
 IsReported s content = (answered : Answered) → answered.headers ≡ content.headers → IsControl answered.control → is_response answered.function ≡ true
     → Reports s.lanes (response_octets answered) answered.control content.upto
 
-abbrev ReportsAll : State → Executed → Type 0
-ReportsAll s x = IfSome x.content (IsReported s)
-
-refused_reports : (s : State) (bits : ℕ) → IsSound s.lanes → ReportsAll s (refused s bits)
-refused_reports s bits sound = λ answered same control function. plain_reports s.lanes answered sound same control function
-
-either : (s : State) (b : Bool) (x y : Executed) → ReportsAll s x → ReportsAll s y → ReportsAll s (if b then x else y)
-either s true x y first second = first
-either s false x y first second = second
-
-function_reports : (s : State) (o : Panel) (headers : List Head) (f : Function) → IsSound s.lanes → AreWritable (source_of s o) → ReportsAll s (by_function s o headers f)
-function_reports s o headers function.Read sound writable =
-    either s (list_all (is_inside (source_of s o)) headers) (answered s (read_content s o (last_in s.lanes) first_place headers)) (refused s parameter_error)
-    (λ answer same control function. read_reports s o (last_in s.lanes) first_place headers answer sound writable (begins_tidy s.lanes sound) refl same control function)
-    (refused_reports s parameter_error sound)
-function_reports s o headers function.Write sound writable =
-    either s (write_bits headers == 0) (answered (written s headers) (plain 0 [])) (refused s (write_bits headers))
-    (λ answer same control function. plain_reports s.lanes answer sound same control function) (refused_reports s (write_bits headers) sound)
-function_reports s o headers _ sound writable = refused_reports s no_func_code_support sound
-
-content_reports : (s : State) (o : Panel) (octets : List ℕ) → IsSound s.lanes → AreWritable (source_of s o) → ReportsAll s (content_of s o octets)
-content_reports s o octets sound writable = by (request_at octets)
-  where
-    by : (r : Result Asked AppFault) → ReportsAll s (for_request s o r)
-    by (Ok r) = function_reports s o r.headers r.function sound writable
-    by (Err fault) = refused_reports s (bits_of fault) sound
+is_reported : (s : State) (o : Panel) (content : Content) → IsSound s.lanes → AreWritable (source_of s o) → IsContent s o content → IsReported s content
+is_reported s o _ sound writable (Reads headers) =
+    λ answer same control function. read_reports s o (last_in s.lanes) first_place headers answer sound writable (begins_tidy s.lanes sound) refl same control function
+is_reported s o _ sound writable (Plain bits) = λ answer same control function. plain_reports s.lanes answer sound same control function
 
 -- ---- the fragments
 
 pub answer_reports : (s after : State) (o : Panel) (octets : List ℕ) (seq : ℕ) (content : Content) → IsSound s.lanes → AreWritable (source_of s o) → seq < 16
     → (content_of s o octets).content ≡ Some content → Reports s.lanes (fragment_of after true seq content) (control_for true seq content) content.upto
 answer_reports s after o octets seq content sound writable small is =
-    let all : IfSome (Some content) (IsReported s) = subst (λ (c : Option Content). IfSome c (IsReported s)) is (content_reports s o octets sound writable) in
-    all (record { control = control_for true seq content; function = function.Response; iin = indications after content.upto content.bits; headers = content.headers }) refl small refl
+    let made : IsContent s o content = subst (λ (c : Option Content). IfSome c (IsContent s o)) is (content_done s o octets).content in
+    is_reported s o content sound writable made (record { control = control_for true seq content; function = function.Response; iin = indications after content.upto content.bits; headers = content.headers }) refl small refl
 
 pub further_reports : (s : State) (o : Panel) (stood : ℕ) (place : Place) (headers : List Head) (seq : ℕ) → IsSound s.lanes → AreWritable (source_of s o) → IsTidy s.lanes place.given
     → length place.given ≡ 9 → seq < 16
