@@ -1,11 +1,12 @@
 -- What the fragments of an outstation report.
-use Rattle.std.proofs.Common.{◌≡◌, ◌⊎◌, inl, inr, Bool, true, false, if◌then◌else◌, refl, sym, ◌∙◌, ap, subst, ℕ, ◌<◌, ◌≤◌, ◌^◌, ◌==◌, List, [], ◌∷◌, map, length, arith, Option, None, Some, IfSome, IsSome, Result, Ok, Err}
+use Rattle.std.proofs.Common.{◌≡◌, ◌⊎◌, inl, inr, Bool, true, false, if◌then◌else◌, refl, sym, ◌∙◌, ap, subst, ℕ, ◌<◌, ◌≤◌, ◌^◌, ◌==◌, ◌||◌, nat_le, nat_lt, zero, suc, cond, List, [], ◌∷◌, map, length, arith, Option, None, Some, IfSome, IsSome, Result, Ok, Err}
 use Rattle.std.specs.Prelude.{slice_index}
 use Rattle.std.specs.List.{All, filter, list_all}
 use Rattle.std.specs.List.Sorted.{IsPermutation}
-use Rattle.std.proofs.lemmas.Bool.{cases_lt}
-use Rattle.std.proofs.lemmas.List.{get_or_past}
-use Rattle.std.proofs.lemmas.List.Elements.{All-nil, All-head, All-tail, All-filter}
+use Rattle.std.proofs.lemmas.Bool.{cases_lt, lt-ltb, leb-true}
+use Rattle.std.proofs.lemmas.List.{get_or_past, nil_from_length}
+use Rattle.std.proofs.lemmas.List.Elements.{All-nil, All-head, All-tail, All-filter, All-weaker}
+use Rattle.std.proofs.lemmas.List.Sorted.{length_permutation}
 use Rattle.dnp_objects.specs.declared.row.Row.{Row}
 use Rattle.dnp_appfragment.specs.declared.fault.AppFault.{AppFault}
 use Rattle.dnp_appfragment.specs.declared.function.Function.{Function}
@@ -17,25 +18,28 @@ use Rattle.dnp_appfragment.specs.Meaning.{request_at}
 use Rattle.dnp_appfragment.specs.Table.{is_response}
 use Rattle.dnp_controls.specs.Panel.{Panel}
 use Rattle.dnp_eventbuf.specs.declared.numbered.Numbered.{Numbered}
-use Rattle.dnp_eventbuf.specs.Buffered.{buffered_in, buffered_row, id_limit, is_upto}
+use Rattle.dnp_eventbuf.specs.Buffered.{Buffered, buffered_in, buffered_row, id_limit, is_upto}
 use Rattle.dnp_eventbuf.specs.Sound.{IsSound}
 use Rattle.dnp_eventbuf.specs.Stock.{Stock, lane_at}
 use Rattle.dnp_eventbuf.proofs.BufferedCalls.{release_seen}
+use Rattle.dnp_eventbuf.proofs.BufferedOnce.{sound_numbered}
 use Rattle.dnp_outstation.specs.declared.offer.place.Place.{Place}
 use Rattle.dnp_outstation.specs.Items.{Item, no_ids, first_place, last_in, is_inside, items_left, enabled_lanes, lane_items}
 use Rattle.dnp_outstation.specs.Layout.{headers_of, fits_fragment}
-use Rattle.dnp_outstation.specs.Offer.{held_of, last_ids, offered_of, pushed}
+use Rattle.dnp_outstation.specs.Offer.{held_of, last_ids, Filled, offered_of, pushed}
 use Rattle.dnp_outstation.specs.Laws.{rows_in_lane, AreRowsUpto, IsTidy}
 use Rattle.dnp_outstation.specs.Said.{rows_said, CanStand, AreWritable, HaveIndexes}
 use Rattle.dnp_outstation.specs.Links.{Reports}
 use Rattle.dnp_outstation.specs.State.{State}
-use Rattle.dnp_outstation.specs.Content.{Content, Executed, plain, answered, content_from, content_of, for_request, by_function, read_content, source_of, refused, written, write_bits, bits_of, parameter_error, no_func_code_support, indications}
-use Rattle.dnp_outstation.specs.Connection.{control_for, fragment_of, unsolicited_of}
+use Rattle.dnp_outstation.specs.Content.{Content, plain, content_from, content_of, read_content, source_of, indications}
+use Rattle.dnp_outstation.specs.Connection.{has_rows, control_for, fragment_of, unsolicited_of}
+use Rattle.dnp_outstation.proofs.ContentOf.{IsContent, content_done}
+use Rattle.dnp_outstation.proofs.ContentOf.IsContent.{Reads, Plain}
 use Rattle.dnp_outstation.proofs.Rising.{last_or, upto, upto_none}
 use Rattle.dnp_outstation.proofs.ByLanes.{IsLow}
 use Rattle.dnp_outstation.proofs.Carried.{lane_rises, last_id_is, fragment_rows, pushed_rows}
 use Rattle.dnp_outstation.proofs.ItemsOf.{held_stand, held_low, pushed_stand, pushed_low}
-use Rattle.dnp_outstation.proofs.Left.{begins_tidy}
+use Rattle.dnp_outstation.proofs.Left.{begins_tidy, none_left}
 use Rattle.dnp_outstation.proofs.Reported.{response_is, held_fits, nine_ids, said_and_released}
 
 -- ---- the ids of a fragment were used
@@ -67,8 +71,8 @@ reports s answered items sound headers control function can low fit are = record
   read = response_is answered items headers control function can fit;
   control_is = refl;
   rows =
-  subst (λ (hs : List Head). IsPermutation (rows_said hs) (map buffered_row (filter (is_upto (last_ids items)) (buffered_in s)))) (sym headers)
-  (subst (IsPermutation (rows_said (headers_of items))) (release_seen s (last_ids items) (nine_ids items ∙ sym sound.nine)).1 (said_and_released s items sound can low fit are));
+      subst (λ (hs : List Head). IsPermutation (rows_said hs) (map buffered_row (filter (is_upto (last_ids items)) (buffered_in s)))) (sym headers)
+      (subst (IsPermutation (rows_said (headers_of items))) (release_seen s (last_ids items) (nine_ids items ∙ sym sound.nine)).1 (said_and_released s items sound can low fit are));
   used = ids_used s items sound are;
 }
 
@@ -104,40 +108,18 @@ abbrev IsReported : State → Content → Type 0
 IsReported s content = (answered : Answered) → answered.headers ≡ content.headers → IsControl answered.control → is_response answered.function ≡ true
     → Reports s.lanes (response_octets answered) answered.control content.upto
 
-abbrev ReportsAll : State → Executed → Type 0
-ReportsAll s x = IfSome x.content (IsReported s)
-
-refused_reports : (s : State) (bits : ℕ) → IsSound s.lanes → ReportsAll s (refused s bits)
-refused_reports s bits sound = λ answered same control function. plain_reports s.lanes answered sound same control function
-
-either : (s : State) (b : Bool) (x y : Executed) → ReportsAll s x → ReportsAll s y → ReportsAll s (if b then x else y)
-either s true x y first second = first
-either s false x y first second = second
-
-function_reports : (s : State) (o : Panel) (headers : List Head) (f : Function) → IsSound s.lanes → AreWritable (source_of s o) → ReportsAll s (by_function s o headers f)
-function_reports s o headers function.Read sound writable =
-    either s (list_all (is_inside (source_of s o)) headers) (answered s (read_content s o (last_in s.lanes) first_place headers)) (refused s parameter_error)
-    (λ answer same control function. read_reports s o (last_in s.lanes) first_place headers answer sound writable (begins_tidy s.lanes sound) refl same control function)
-    (refused_reports s parameter_error sound)
-function_reports s o headers function.Write sound writable =
-    either s (write_bits headers == 0) (answered (written s headers) (plain 0 [])) (refused s (write_bits headers))
-    (λ answer same control function. plain_reports s.lanes answer sound same control function) (refused_reports s (write_bits headers) sound)
-function_reports s o headers _ sound writable = refused_reports s no_func_code_support sound
-
-content_reports : (s : State) (o : Panel) (octets : List ℕ) → IsSound s.lanes → AreWritable (source_of s o) → ReportsAll s (content_of s o octets)
-content_reports s o octets sound writable = by (request_at octets)
-  where
-    by : (r : Result Asked AppFault) → ReportsAll s (for_request s o r)
-    by (Ok r) = function_reports s o r.headers r.function sound writable
-    by (Err fault) = refused_reports s (bits_of fault) sound
+is_reported : (s : State) (o : Panel) (content : Content) → IsSound s.lanes → AreWritable (source_of s o) → IsContent s o content → IsReported s content
+is_reported s o _ sound writable (Reads headers) =
+    λ answer same control function. read_reports s o (last_in s.lanes) first_place headers answer sound writable (begins_tidy s.lanes sound) refl same control function
+is_reported s o _ sound writable (Plain bits) = λ answer same control function. plain_reports s.lanes answer sound same control function
 
 -- ---- the fragments
 
 pub answer_reports : (s after : State) (o : Panel) (octets : List ℕ) (seq : ℕ) (content : Content) → IsSound s.lanes → AreWritable (source_of s o) → seq < 16
     → (content_of s o octets).content ≡ Some content → Reports s.lanes (fragment_of after true seq content) (control_for true seq content) content.upto
 answer_reports s after o octets seq content sound writable small is =
-    let all : IfSome (Some content) (IsReported s) = subst (λ (c : Option Content). IfSome c (IsReported s)) is (content_reports s o octets sound writable) in
-    all (record { control = control_for true seq content; function = function.Response; iin = indications after content.upto content.bits; headers = content.headers }) refl small refl
+    let made : IsContent s o content = subst (λ (c : Option Content). IfSome c (IsContent s o)) is (content_done s o octets).content in
+    is_reported s o content sound writable made (record { control = control_for true seq content; function = function.Response; iin = indications after content.upto content.bits; headers = content.headers }) refl small refl
 
 pub further_reports : (s : State) (o : Panel) (stood : ℕ) (place : Place) (headers : List Head) (seq : ℕ) → IsSound s.lanes → AreWritable (source_of s o) → IsTidy s.lanes place.given
     → length place.given ≡ 9 → seq < 16
@@ -164,3 +146,51 @@ pub first_unsolicited_reports : (s : State) → IsSound s.lanes → s.core.sessi
 first_unsolicited_reports s sound small =
     plain_reports s.lanes
     (record { control = unsolicited_control s.core.session.next; function = function.UnsolicitedResponse; iin = indications s no_ids 0; headers = [] }) sound refl small refl
+
+-- ---- a fragment that asks for no confirm
+
+no_id : (ids : List ℕ) (lane : ℕ) → has_rows ids ≡ false → id_limit ids lane ≡ 0
+no_id [] lane none = refl
+no_id (id ∷ ids) lane none = by lane (λ k rest. no_id ids k rest) (or_parts (nat_lt 0 id) (has_rows ids) none)
+  where
+    or_parts : (a b : Bool) → (a || b) ≡ false → (a ≡ false) × (b ≡ false)
+    or_parts true b is = cc
+    or_parts false b is = (refl, is)
+
+    by : (lane : ℕ) → ((k : ℕ) → has_rows ids ≡ false → id_limit ids k ≡ 0) → (nat_lt 0 id ≡ false) × (has_rows ids ≡ false) → id_limit (id ∷ ids) lane ≡ 0
+    by zero behind both = elim (cases_lt 0 id) [
+      | inl some ↦ absurd (let t : nat_lt 0 id ≡ true = lt-ltb 0 id some in let b : nat_lt 0 id ≡ false = both.0 in cc)
+      | inr few ↦ omega arith
+    ]
+    by (suc lane) behind both = behind lane both.1
+
+none_upto : (ids : List ℕ) (xs : List Buffered) → has_rows ids ≡ false → All (λ x. 1 ≤ x.id) xs → filter (is_upto ids) xs ≡ []
+none_upto ids [] none all = refl
+none_upto ids (x ∷ xs) none all =
+    let first : 1 ≤ x.id = All-head (λ (y : Buffered). 1 ≤ y.id) x xs all in
+    let limit : id_limit ids x.lane ≡ 0 = no_id ids x.lane none in
+    let past : is_upto ids x ≡ false = not_at (nat_le x.id (id_limit ids x.lane)) (leb-true x.id (id_limit ids x.lane)) (omega arith) in
+    ap (λ (b : Bool). cond b (x ∷ filter (is_upto ids) xs) (filter (is_upto ids) xs)) past ∙ none_upto ids xs none (All-tail (λ (y : Buffered). 1 ≤ y.id) x xs all)
+  where
+    not_at : (b : Bool) → (b ≡ true → x.id ≤ id_limit ids x.lane) → id_limit ids x.lane < x.id → b ≡ false
+    not_at true within past = absurd (let w : x.id ≤ id_limit ids x.lane = within refl in omega arith)
+    not_at false within past = refl
+
+permutes_none : {A : Type 0} (xs : List A) → IsPermutation xs [] → xs ≡ []
+permutes_none xs same = nil_from_length xs (sym (length_permutation xs [] same))
+
+-- what asks for no confirm reports no rows
+pub unconfirmed_reports_none : (s : Stock) (octets : List ℕ) (control : ControlBits) (ids : List ℕ) (r : Reports s octets control ids) → IsSound s → has_rows ids ≡ false
+    → rows_said r.answered.headers ≡ []
+unconfirmed_reports_none s octets control ids r sound none =
+    let all : All (λ (x : Buffered). 1 ≤ x.id) (buffered_in s) = All-weaker (λ (x : Buffered). (1 ≤ x.id) × (x.id ≤ s.last_id)) (λ (x : Buffered). 1 ≤ x.id) (λ x h. h.0) (buffered_in s) (sound_numbered s sound) in
+    let no_rows : map buffered_row (filter (is_upto ids) (buffered_in s)) ≡ [] = ap (map buffered_row) (none_upto ids (buffered_in s) none all) in
+    permutes_none (rows_said r.answered.headers) (subst (IsPermutation (rows_said r.answered.headers)) no_rows r.rows)
+
+-- where no item is left, the fragment is the last one, without objects and without a confirm
+pub emptied_ends : (s : State) (o : Panel) (stood seq : ℕ) (place : Place) (headers : List Head) (first : Bool) → items_left (source_of s o) stood place headers ≡ []
+    → (let content = read_content s o stood place headers in
+    (content.headers ≡ []) × (control_for first seq content ≡ record { fir = first; fin = true; con = false; uns = false; seq = seq }))
+emptied_ends s o stood seq place headers first none =
+    let empty = none_left place (items_left (source_of s o) stood place headers) none in
+    (ap (λ (f : Filled). f.headers) empty, ap (λ (f : Filled). control_for first seq (content_from f)) empty)

@@ -34,6 +34,8 @@ use Rattle.dnp_outstation.specs.Content.{Content, Executed, plain, answered, con
 use Rattle.dnp_outstation.specs.Connection.{responds_further, replied, asked, on_request, on_again, marked, confirmed, goes_on, on_confirm, awaits, asks_confirm, control_in, answers_held, on_unsolicited_confirm, starts, at_end, has_enabled_rows, closed, solicited_timer, unsolicited_timer, has_ended, case_of}
 use Rattle.dnp_outstation.specs.Calls.{with_that, answered_by, received, connection_after, tick_of, change_of, opened_of, restart_of}
 use Rattle.dnp_outstation.specs.Tidy.{IsLastGiven, IsFirstGiven, LeavesNothing}
+use Rattle.dnp_outstation.proofs.ContentOf.{IsContent, IsDone, content_done}
+use Rattle.dnp_outstation.proofs.ContentOf.IsContent.{Reads, Plain}
 use Rattle.dnp_outstation.proofs.LaneRows.{length_given}
 use Rattle.dnp_outstation.proofs.Left.{begins_tidy, begins_used, new_leaves_nothing, released_is_tidy, appended_leaves, released_leaves, emptied_leaves}
 
@@ -90,35 +92,9 @@ read_given s o stood place headers sound tidy nine used =
 first_given : (s : State) (o : Panel) (headers : List Head) → IsSound s.lanes → IsGiven s.lanes (read_content s o (last_in s.lanes) first_place headers)
 first_given s o headers sound = read_given s o (last_in s.lanes) first_place headers sound (begins_tidy s.lanes sound) refl (begins_used s.lanes)
 
--- a request's answer, in the state that it makes, which is the one before but for the restart bit
-record IsDone (s : State) (x : Executed) : Type 0 where
-  lanes_are : x.state.lanes ≡ s.lanes
-  session_is : x.state.core.session ≡ s.core.session
-  given : IfSome x.content (IsGiven s.lanes)
-
-either : (s : State) (b : Bool) (x y : Executed) → IsDone s x → IsDone s y → IsDone s (if b then x else y)
-either s true x y first second = first
-either s false x y first second = second
-
-answered_done : (s s' : State) (content : Content) → s'.lanes ≡ s.lanes → s'.core.session ≡ s.core.session → IsGiven s.lanes content → IsDone s (answered s' content)
-answered_done s s' content lanes session given = record { lanes_are = lanes; session_is = session; given = given }
-
-refused_done : (s : State) (bits : ℕ) → IsDone s (refused s bits)
-refused_done s bits = answered_done s s (plain bits []) refl refl tt
-
-by_function_done : (s : State) (o : Panel) (headers : List Head) (f : Function) → IsSound s.lanes → IsDone s (by_function s o headers f)
-by_function_done s o headers function.Read sound =
-    let content = read_content s o (last_in s.lanes) first_place headers in
-    either s (list_all (is_inside (source_of s o)) headers) (answered s content) (refused s parameter_error)
-    (answered_done s s content refl refl (first_given s o headers sound)) (refused_done s parameter_error)
-by_function_done s o headers function.Write sound =
-    either s (write_bits headers == 0) (answered (written s headers) (plain 0 [])) (refused s (write_bits headers))
-    (answered_done s (written s headers) (plain 0 []) refl refl tt) (refused_done s (write_bits headers))
-by_function_done s o headers _ sound = refused_done s no_func_code_support
-
-request_done : (s : State) (o : Panel) (r : Result Asked AppFault) → IsSound s.lanes → IsDone s (for_request s o r)
-request_done s o (Ok r) sound = by_function_done s o r.headers r.function sound
-request_done s o (Err fault) sound = refused_done s (bits_of fault)
+content_given : (s : State) (o : Panel) (content : Content) → IsSound s.lanes → IsContent s o content → IsGiven s.lanes content
+content_given s o _ sound (Reads headers) = first_given s o headers sound
+content_given s o _ sound (Plain bits) = tt
 
 -- ---- a response is sent
 
@@ -126,22 +102,22 @@ awaited_if : (s : Stock) (b : Bool) (w : Awaited) (last : LastRequest) → IsLas
 awaited_if s true w last is = is
 awaited_if s false w last is = tt
 
-replied_tidy : (s : State) (now seq : ℕ) (x : Executed) → IsDone s x
+replied_tidy : (s : State) (o : Panel) (now seq : ℕ) (x : Executed) → IsSound s.lanes → IsDone s o x
     → IfSome s.core.session.unsolicited (λ w. length w.upto ≡ 9) → LeavesNothing (replied now seq x).state
-replied_tidy s now seq x done unsolicited = go x.content done.given
+replied_tidy s o now seq x sound done unsolicited = go x.content done.content
   where
     unsolicited' : IfSome x.state.core.session.unsolicited (λ w. length w.upto ≡ 9)
-    unsolicited' = subst (λ (q : Session). IfSome q.unsolicited (λ w. length w.upto ≡ 9)) (sym done.session_is) unsolicited
+    unsolicited' = subst (λ (q : Option Unsolicited). IfSome q (λ w. length w.upto ≡ 9)) (sym done.keeps.unsolicited) unsolicited
 
     none_left : (awaited : Option Awaited) → AwaitedIs x.state.lanes awaited (Some (record { reply = Silent; stood = 0; left = None }))
     none_left None = tt
     none_left (Some w) = tt
 
-    go : (content : Option Content) → IfSome content (IsGiven s.lanes)
+    go : (content : Option Content) → IfSome content (IsContent s o)
         → LeavesNothing (replied now seq (record { state = x.state; content = content; time = x.time })).state
     go None given = record { awaited = none_left x.state.core.session.awaited; first = tt; unsolicited = unsolicited' }
     go (Some content) given =
-        let here : IsGiven x.state.lanes content = subst (λ (lanes : Stock). IsGiven lanes content) (sym done.lanes_are) given in
+        let here : IsGiven x.state.lanes content = subst (λ (lanes : Stock). IsGiven lanes content) (sym done.keeps.lanes) (content_given s o content sound given) in
         record {
           awaited = awaited_if x.state.lanes (asks_confirm content) (record { seq = seq; upto = content.upto; ends = deadline now x.state.core.times.confirm_ms })
               (record { reply = First (record { upto = content.upto; is_awaited = asks_confirm content }); stood = last_in x.state.lanes; left = content.left }) here;
@@ -153,7 +129,7 @@ replied_tidy s now seq x done unsolicited = go x.content done.given
 
 asks_tidy : (s : State) (o : Panel) (now : ℕ) (octets : List ℕ) → IsSound s.lanes → LeavesNothing s → LeavesNothing (on_request s o now octets).state
 asks_tidy s o now octets sound tidy =
-    replied_tidy (asked s octets) now (control_in octets).seq (content_of (asked s octets) o octets) (request_done (asked s octets) o (request_at octets) sound) tidy.unsolicited
+    replied_tidy (asked s octets) o now (control_in octets).seq (content_of (asked s octets) o octets) sound (content_done (asked s octets) o octets) tidy.unsolicited
 
 again_tidy : (s : State) (now : ℕ) (octets : List ℕ) (last : LastRequest) → s.core.session.last ≡ Some last → LeavesNothing s → LeavesNothing (on_again s now octets last).state
 again_tidy s now octets last is tidy = go last.reply (subst (FirstIs s.lanes) is tidy.first)
@@ -257,7 +233,7 @@ held_tidy s o now (Some last) sound tidy = go last.reply
   where
     go : (reply : Reply) → LeavesNothing (answers_held s o now (Some (record { reply = reply; stood = last.stood; left = last.left }))).state
     go Held =
-        replied_tidy s now (control_in s.core.session.request).seq (content_of s o s.core.session.request) (request_done s o (request_at s.core.session.request) sound) tidy.unsolicited
+        replied_tidy s o now (control_in s.core.session.request).seq (content_of s o s.core.session.request) sound (content_done s o s.core.session.request) tidy.unsolicited
     go Silent = tidy
     go (First f) = tidy
     go Further = tidy
