@@ -15,7 +15,8 @@ goes_with-Decides select seq octets =
     let next : ℕ = (select.seq + 1) % SEQUENCE_NUMBERS in
     go (eqb now next) (pointwise nat_eq octets select.octets) (Decides-eqb now next) (bytes_eq-Decides octets select.octets)
   where
-    go : (a b : Bool) → Decides a (seq % SEQUENCE_NUMBERS ≡ (select.seq + 1) % SEQUENCE_NUMBERS) → Decides b (octets ≡ select.octets) → Decides (a && b) (GoesWith select seq octets)
+    go : (a b : Bool) → Decides a (seq % SEQUENCE_NUMBERS ≡ (select.seq + 1) % SEQUENCE_NUMBERS) → Decides b (octets ≡ select.octets)
+        → Decides (a && b) (GoesWith select seq octets)
     go true true da db = (λ _. record { next_number = da.0 refl; same_octets = db.0 refl }, λ _. refl)
     go true false da db = (λ h. cc, λ with'. db.1 with'.same_octets)
     go false b da db = (λ h. cc, λ with'. da.1 with'.next_number)

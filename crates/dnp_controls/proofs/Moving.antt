@@ -66,7 +66,8 @@ has-push entries new id test has =
     go None p has = absurd has
     go (Some entry) p has = has
 
-has-set : (entries : List Entry) (id : ℕ) (state : State) (before after' : State → Bool) → Has entries id before → after' state ≡ true → Has (in_state entries id state) id after'
+has-set : (entries : List Entry) (id : ℕ) (state : State) (before after' : State → Bool) → Has entries id before → after' state ≡ true
+    → Has (in_state entries id state) id after'
 has-set entries id state before after' has passes =
     let P : Option Entry → Type 0 = λ o. Passes o after' in
     subst P (sym (entry_of-in_state-same entries id state)) (go (entry_of entries id) has)
@@ -75,7 +76,8 @@ has-set entries id state before after' has passes =
     go None has = absurd has
     go (Some entry) has = passes
 
-has-other : (entries : List Entry) (other id : ℕ) (state : State) (test : State → Bool) → (other ≡ id → ⊥) → Has entries id test → Has (in_state entries other state) id test
+has-other : (entries : List Entry) (other id : ℕ) (state : State) (test : State → Bool) → (other ≡ id → ⊥) → Has entries id test
+    → Has (in_state entries other state) id test
 has-other entries other id state test ne has =
     let P : Option Entry → Type 0 = λ o. Passes o test in
     subst P (sym (entry_of-in_state-other entries other id state ne)) has
@@ -97,7 +99,8 @@ has-both entries id test has has_not = go (entry_of entries id) has has_not
 abbrev IsPast : List Entry → ℕ → Type 0
 IsPast entries id = Has entries id (λ state. not (is_pending state))
 
-past-in_state : (entries : List Entry) (other id : ℕ) (state : State) (before : State → Bool) → is_pending state ≡ false → Has entries other before → IsPast entries id → IsPast (in_state entries other state) id
+past-in_state : (entries : List Entry) (other id : ℕ) (state : State) (before : State → Bool) → is_pending state ≡ false → Has entries other before
+    → IsPast entries id → IsPast (in_state entries other state) id
 past-in_state entries other id state before done has past = go (eqb other id) (Decides-eqb other id)
   where
     go : (b : Bool) → (b ≡ true → other ≡ id) × (other ≡ id → b ≡ true) → IsPast (in_state entries other state) id
@@ -112,7 +115,8 @@ past-moved book (Spend other) id granted past = past-in_state book.entries other
 past-moved book (Finish other status) id granted past = past-in_state book.entries other id (Finished status) (λ s. not (is_finished s)) refl granted past
 
 -- how often an entry is spent by one call and those behind it
-spends-cons : (id : ℕ) (move : Move) (moves : List Move) → count_by (is_spend_of id) (move ∷ moves) ≡ cond (is_spend_of id move) 1 0 + count_by (is_spend_of id) moves
+spends-cons : (id : ℕ) (move : Move) (moves : List Move)
+    → count_by (is_spend_of id) (move ∷ moves) ≡ cond (is_spend_of id move) 1 0 + count_by (is_spend_of id) moves
 spends-cons id move moves = sum_by-cons (λ m. cond (is_spend_of id m) 1 0) move moves
 
 -- it is spent by none of the calls
@@ -155,7 +159,8 @@ spends-once book (Spend other ∷ moves) id granted =
 
 -- ---- an entry that is finished
 
-finished-moved : (book : Ledger) (move : Move) (id : ℕ) (entry : Entry) → IsGranted book move → entry_of book.entries id ≡ Some entry → is_finished entry.state ≡ true
+finished-moved : (book : Ledger) (move : Move) (id : ℕ) (entry : Entry) → IsGranted book move → entry_of book.entries id ≡ Some entry
+    → is_finished entry.state ≡ true
     → entry_of (moved book move).entries id ≡ Some entry
 finished-moved book (Add target command) id entry granted is done =
     entry_of-push book.entries _ id ∙ ap (λ o. option_or o (entry_of (record { id = book.last_id + 1; target = target; command = command; state = Pending } ∷ []) id)) is
@@ -186,7 +191,8 @@ finished-moved book (Finish other status) id entry granted is done = go (eqb oth
     go false decides = entry_of-in_state-other book.entries other id (Finished status) (λ e. let h : false ≡ true = decides.1 e in cc) ∙ is
 
 -- a finished entry stays as it is
-pub finished-stays : (book : Ledger) (moves : List Move) (id : ℕ) (entry : Entry) → AreGranted book moves → entry_of book.entries id ≡ Some entry → is_finished entry.state ≡ true
+pub finished-stays : (book : Ledger) (moves : List Move) (id : ℕ) (entry : Entry) → AreGranted book moves → entry_of book.entries id ≡ Some entry
+    → is_finished entry.state ≡ true
     → entry_of (after book moves).entries id ≡ Some entry
 finished-stays book [] id entry granted is done = is
 finished-stays book (move ∷ moves) id entry granted is done =
@@ -194,7 +200,8 @@ finished-stays book (move ∷ moves) id entry granted is done =
 
 -- ---- the ids
 
-in_state-at : (entries : List Entry) (id : ℕ) (state : State) (k : ℕ) (d : Entry) → k < length (in_state entries id state) → (get_or (in_state entries id state) k d).id ≡ (get_or entries k d).id
+in_state-at : (entries : List Entry) (id : ℕ) (state : State) (k : ℕ) (d : Entry) → k < length (in_state entries id state)
+    → (get_or (in_state entries id state) k d).id ≡ (get_or entries k d).id
 in_state-at [] id state k d low = absurd (omega arith)
 in_state-at (entry ∷ entries) id state zero d low = head-id (eqb entry.id id) entry state
 in_state-at (entry ∷ entries) id state (suc k) d low = in_state-at entries id state k d (omega arith)

@@ -80,7 +80,8 @@ in_state-below (entry ∷ entries) first id state numbered low =
     (in_state-below entries (first + 1) id state numbered.1 (omega arith))
 
 -- to come into a state is to be written at the place
-pub in_state-at : (entries : List Entry) (first id place : ℕ) (d : Entry) (state : State) → AreNumberedFrom first entries → place < length entries → id ≡ first + place
+pub in_state-at : (entries : List Entry) (first id place : ℕ) (d : Entry) (state : State) → AreNumberedFrom first entries → place < length entries
+    → id ≡ first + place
     → set entries place (with_state (get_or entries place d) state) ≡ in_state entries id state
 in_state-at [] first id place d state numbered low is = absurd (omega arith)
 in_state-at (entry ∷ entries) first id zero d state numbered low is =
@@ -93,7 +94,8 @@ in_state-at (entry ∷ entries) first id (suc place) d state numbered low is =
     (in_state-at entries (first + 1) id place d state numbered.1 (omega arith) (omega arith))
 
 -- the ids stay
-pub in_state-numbered : (entries : List Entry) (first id : ℕ) (state : State) → AreNumberedFrom first entries → AreNumberedFrom first (in_state entries id state)
+pub in_state-numbered : (entries : List Entry) (first id : ℕ) (state : State) → AreNumberedFrom first entries
+    → AreNumberedFrom first (in_state entries id state)
 in_state-numbered [] first id state numbered = tt
 in_state-numbered (entry ∷ entries) first id state numbered =
     (go (eqb entry.id id), in_state-numbered entries (first + 1) id state numbered.1)
@@ -102,7 +104,8 @@ in_state-numbered (entry ∷ entries) first id state numbered =
     go true = numbered.0
     go false = numbered.0
 
-pub numbered-push : (entries : List Entry) (first : ℕ) (entry : Entry) → AreNumberedFrom first entries → entry.id ≡ first + length entries → AreNumberedFrom first (entries ++ entry ∷ [])
+pub numbered-push : (entries : List Entry) (first : ℕ) (entry : Entry) → AreNumberedFrom first entries → entry.id ≡ first + length entries
+    → AreNumberedFrom first (entries ++ entry ∷ [])
 numbered-push [] first entry numbered is = (omega arith, tt)
 numbered-push (e ∷ entries) first entry numbered is = (numbered.0, numbered-push entries (first + 1) entry numbered.1 (omega arith))
 
@@ -114,7 +117,8 @@ over-all (entry ∷ entries) first from numbered low =
     (ltb-holds from entry.id (let h : entry.id ≡ first = numbered.0 in omega arith))
     ∙ ap (λ es. entry ∷ es) (over-all entries (first + 1) from numbered.1 (omega arith))
 
-pub over-drop : (entries : List Entry) (first from k : ℕ) → AreNumberedFrom first entries → from + 1 ≡ first + k → filter (λ entry. nat_lt from entry.id) entries ≡ drop k entries
+pub over-drop : (entries : List Entry) (first from k : ℕ) → AreNumberedFrom first entries → from + 1 ≡ first + k
+    → filter (λ entry. nat_lt from entry.id) entries ≡ drop k entries
 over-drop entries first from zero numbered is = over-all entries first from numbered (omega arith)
 over-drop [] first from (suc k) numbered is = refl
 over-drop (entry ∷ entries) first from (suc k) numbered is =
@@ -123,7 +127,8 @@ over-drop (entry ∷ entries) first from (suc k) numbered is =
     ∙ over-drop entries (first + 1) from k numbered.1 (omega arith)
 
 -- no id is over a number that none passes
-pub over-none : (entries : List Entry) (first from : ℕ) → AreNumberedFrom first entries → first + length entries ≤ from + 1 → filter (λ entry. nat_lt from entry.id) entries ≡ []
+pub over-none : (entries : List Entry) (first from : ℕ) → AreNumberedFrom first entries → first + length entries ≤ from + 1
+    → filter (λ entry. nat_lt from entry.id) entries ≡ []
 over-none [] first from numbered high = refl
 over-none (entry ∷ entries) first from numbered high =
     ap (λ b. cond b (entry ∷ filter (λ e. nat_lt from e.id) entries) (filter (λ e. nat_lt from e.id) entries))
@@ -139,14 +144,16 @@ take-at_most (x ∷ xs) (suc m) (suc n) is = ap (λ ys. x ∷ ys) (take-at_most 
 
 -- ---- what is past pending
 
-next_of-past : (front rest : List Entry) (target : ℕ) → All (λ entry. is_pending entry.state ≡ false) front → next_of (front ++ rest) target ≡ next_of rest target
+next_of-past : (front rest : List Entry) (target : ℕ) → All (λ entry. is_pending entry.state ≡ false) front
+    → next_of (front ++ rest) target ≡ next_of rest target
 next_of-past [] rest target past = refl
 next_of-past (entry ∷ front) rest target past =
     ap (λ b. cond (b && eqb entry.target target) (Some entry) (next_of (front ++ rest) target)) (All-head (λ entry. is_pending entry.state ≡ false) entry front past)
     ∙ next_of-past front rest target (All-tail (λ entry. is_pending entry.state ≡ false) entry front past)
 
 -- the next one is found behind those that are past pending
-pub next_of-drop : (entries : List Entry) (first target : ℕ) → All (λ entry. is_pending entry.state ≡ false) (take first entries) → next_of (drop first entries) target ≡ next_of entries target
+pub next_of-drop : (entries : List Entry) (first target : ℕ) → All (λ entry. is_pending entry.state ≡ false) (take first entries)
+    → next_of (drop first entries) target ≡ next_of entries target
 next_of-drop entries first target past =
     sym (next_of-past (take first entries) (drop first entries) target past) ∙ ap (λ es. next_of es target) (take-append-drop first entries)
 
@@ -158,7 +165,8 @@ past-more entries first more past then =
     subst P (sym (take-add first more entries)) (All-append (λ entry. is_pending entry.state ≡ false) (take first entries) (take more (drop first entries)) past then)
 
 -- an entry that comes into a state other than pending leaves them past
-pub past-in_state : (entries : List Entry) (first id : ℕ) (state : State) → is_pending state ≡ false → All (λ entry. is_pending entry.state ≡ false) (take first entries)
+pub past-in_state : (entries : List Entry) (first id : ℕ) (state : State) → is_pending state ≡ false
+    → All (λ entry. is_pending entry.state ≡ false) (take first entries)
     → All (λ entry. is_pending entry.state ≡ false) (take first (in_state entries id state))
 past-in_state entries zero id state done past = past
 past-in_state [] (suc first) id state done past = past
@@ -178,14 +186,16 @@ pub refilled : (new old : List Entry) (len : ℕ) → len ≡ length old → len
 refilled new old len is same =
     take-append-le len new (drop (length new) old) (omega arith) ∙ ap (λ n. take n new) (let e : len ≡ length new = omega arith in e) ∙ take_all (length new) new (omega arith)
 
-pub IsKept-in_state : (entries : List Entry) (first id : ℕ) (state : State) → is_pending state ≡ false → IsKept entries first → IsKept (in_state entries id state) first
+pub IsKept-in_state : (entries : List Entry) (first id : ℕ) (state : State) → is_pending state ≡ false → IsKept entries first
+    → IsKept (in_state entries id state) first
 IsKept-in_state entries first id state done kept = record {
   numbered = in_state-numbered entries 1 id state kept.numbered;
   within = simp length-map kept.within;
   past = past-in_state entries first id state done kept.past;
 }
 
-pub IsKept-push : (entries : List Entry) (first : ℕ) (entry : Entry) → entry.id ≡ length entries + 1 → IsKept entries first → IsKept (entries ++ entry ∷ []) first
+pub IsKept-push : (entries : List Entry) (first : ℕ) (entry : Entry) → entry.id ≡ length entries + 1 → IsKept entries first
+    → IsKept (entries ++ entry ∷ []) first
 IsKept-push entries first entry is kept = record {
   numbered = numbered-push entries 1 entry kept.numbered (omega arith);
   within = (let h : first ≤ length entries = kept.within in omega (arith, length-append entries (entry ∷ [])));

@@ -61,7 +61,7 @@ rows_of entries from most = take most (filter (λ entry. nat_lt from entry.id) e
 
 -- ---- what calls make of them
 
--- a command for a target is put behind the entries, pending under the next id
+-- a command for a target is put after the entries, pending under the next id
 abbrev pub added : Ledger → ℕ → Command → Ledger
 added book target command = record {
   entries = book.entries ++ record { id = book.last_id + 1; target = target; command = command; state = Pending } ∷ [];

@@ -5,7 +5,7 @@ use Rattle.dnp_objects.specs.declared.command.Command.{Command}
 use Rattle.dnp_objects.specs.declared.command.Command.TheVariants.{Block, Set16, Set32}
 use Rattle.dnp_controls.specs.Latches.{is_latched}
 
--- the commands, in order, and how many more can be put behind them without more memory
+-- the commands, in order, and how many more can be put after them without more memory
 pub record History : Type 0 where
   pub commands : List Command
   pub room : ℕ

@@ -49,13 +49,13 @@ pub record PlainState : Type 0 where
   pub setpoints : ℕ
   pub performed : List Command
 
--- of so many binary outputs and so many setpoints the command's is there, and a block obeys the code rule
+-- of this many binary outputs and this many setpoints the command's is there, and a block obeys the code rule
 abbrev pub can_perform : ℕ → ℕ → Command → Bool
 can_perform outputs setpoints (Block index code count on off) = nat_lt index outputs && obeys_code_rule code count
 can_perform outputs setpoints (Set16 index value) = nat_lt index setpoints
 can_perform outputs setpoints (Set32 index value) = nat_lt index setpoints
 
--- the status of a command to so many binary outputs and so many setpoints
+-- the status of a command to this many binary outputs and this many setpoints
 abbrev pub plain_check : ℕ → ℕ → Command → ℕ
 plain_check outputs setpoints command =
     (if can_perform outputs setpoints command then status.success else status.not_supported)

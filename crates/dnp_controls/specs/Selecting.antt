@@ -30,7 +30,7 @@ standing (Forgetting ∷ before) = None
 abbrev pub Stands : List SelectCall → Option Select → Type 0
 Stands calls kept = kept ≡ standing calls
 
--- the moment at which a timer ends that was started at a moment and runs so many milliseconds, or the
+-- the moment at which a timer ends that was started at a moment and runs this many milliseconds, or the
 -- last moment there is
 abbrev pub deadline : ℕ → ℕ → ℕ
 deadline start time = min (start + time) (2 ^ 64 - 1)
@@ -45,7 +45,7 @@ pub record GoesWith (select : Select) (seq : ℕ) (octets : List ℕ) : Type 0 w
 abbrev pub goes_with : Select → ℕ → List ℕ → Bool
 goes_with select seq octets = seq % SEQUENCE_NUMBERS == (select.seq + 1) % SEQUENCE_NUMBERS && pointwise nat_eq octets select.octets
 
--- the select's timer of so many milliseconds still runs
+-- the select's timer of this many milliseconds still runs
 abbrev pub IsRunning : Select → ℕ → ℕ → Type 0
 IsRunning select time now = now < deadline select.at time
 

@@ -88,8 +88,8 @@ pub trait Book {
     /// It has answered Device.
     ghost is_stopped: { Self → Bool };
 
-    /// Calls that need no memory here, since they put nothing behind the others and answer no entry, may want it, as
-    /// those of a database do.
+    /// Calls that need no memory here, since they put nothing after the others and answer no entry, may be
+    /// out of memory all the same, as those of a database may.
     ghost asks_memory: { Bool };
 
     /// Adds a command for a target, below `TARGETS`, as pending, and answers its id. Exhausted where the id would

@@ -39,7 +39,7 @@ none_below : (xs : List Buffered) → All (λ y. y.lane < 0) xs → xs ≡ []
 none_below [] h = refl
 none_below (x ∷ xs) h = let first : x.lane < 0 = All-head (λ (y : Buffered). y.lane < 0) x xs h in absurd (omega (arith, first))
 
--- so many lanes, one after the other
+-- this many lanes, one after the other
 pub same_by_lanes : (n : ℕ) (xs ys : List Buffered) → All (λ x. x.lane < n) xs → All (λ x. x.lane < n) ys →
     ((k : ℕ) → k < n → filter (in_lane k) xs ≡ filter (in_lane k) ys) → IsPermutation xs ys
 same_by_lanes zero xs ys low low' same = same_list xs ys (none_below xs low ∙ sym (none_below ys low'))

@@ -68,7 +68,8 @@ put_conserves lane x true =
 put_conserves lane x false =
     IsPermutation-same (map row_of lane.rows ++ x.row ∷ []) (map row_of (lane.rows ++ x ∷ []) ++ []) (sym (map-append row_of lane.rows (x ∷ [])) ∙ sym (append-nil (map row_of (lane.rows ++ x ∷ []))))
 
-row_conserves : (s : Stock) (x : LaneRow) → lane_number x.lane < length s.lanes → IsPermutation (rows_in s ++ x.row ∷ []) (rows_in (with_row s x) ++ dropped_from (lane_at s (lane_number x.lane)))
+row_conserves : (s : Stock) (x : LaneRow) → lane_number x.lane < length s.lanes
+    → IsPermutation (rows_in s ++ x.row ∷ []) (rows_in (with_row s x) ++ dropped_from (lane_at s (lane_number x.lane)))
 row_conserves s x low =
     let n = lane_number x.lane in
     let r : Numbered = record { id = s.last_id + 1; row = x.row } in
@@ -76,7 +77,8 @@ row_conserves s x low =
 
 -- ---- all rows of an append
 
-pub append_conserves : (s : Stock) (rows : List LaneRow) → length s.lanes ≡ LANES → IsPermutation (rows_in s ++ arriving rows) (rows_in (with_rows s rows) ++ dropped_by s rows)
+pub append_conserves : (s : Stock) (rows : List LaneRow) → length s.lanes ≡ LANES
+    → IsPermutation (rows_in s ++ arriving rows) (rows_in (with_rows s rows) ++ dropped_by s rows)
 append_conserves s [] nine = IsPermutation-refl (rows_in s ++ [])
 append_conserves s (x ∷ xs) nine =
     let s' = with_row s x in
@@ -101,7 +103,8 @@ append_conserves s (x ∷ xs) nine =
     (IsPermutation-trans ((rows_in s' ++ more) ++ d) ((final ++ later) ++ d) (final ++ (d ++ later)) e
     (IsPermutation-trans ((final ++ later) ++ d) ((final ++ d) ++ later) (final ++ (d ++ later)) f g))))
 
-count_by-lists : (test : Row → Bool) (a b c d : List Row) → IsPermutation (a ++ b) (c ++ d) → count_by test a + count_by test b ≡ count_by test c + count_by test d
+count_by-lists : (test : Row → Bool) (a b c d : List Row) → IsPermutation (a ++ b) (c ++ d)
+    → count_by test a + count_by test b ≡ count_by test c + count_by test d
 count_by-lists test a b c d p =
     let one : Row → ℕ = λ r. cond (test r) 1 0 in
     omega (arith, sum_by-IsPermutation one (a ++ b) (c ++ d) p, sum_by-append one a b, sum_by-append one c d)
@@ -134,7 +137,8 @@ middle_two a b c d =
     (IsPermutation-trans (((a ++ b) ++ c) ++ d) (((a ++ c) ++ b) ++ d) ((a ++ c) ++ (b ++ d)) (IsPermutation-append_left d ((a ++ b) ++ c) ((a ++ c) ++ b) (last_two a b c))
     (IsPermutation-same (((a ++ c) ++ b) ++ d) ((a ++ c) ++ (b ++ d)) (append_assoc (a ++ c) b d)))
 
-lanes_conserve : (lanes : List LaneState) (upto : List ℕ) → length upto ≡ length lanes → IsPermutation (lane_rows lanes) (lanes_up_to lanes upto ++ lane_rows (lanes_above lanes upto))
+lanes_conserve : (lanes : List LaneState) (upto : List ℕ) → length upto ≡ length lanes
+    → IsPermutation (lane_rows lanes) (lanes_up_to lanes upto ++ lane_rows (lanes_above lanes upto))
 lanes_conserve [] upto long = IsPermutation-refl []
 lanes_conserve (lane ∷ lanes) [] long = absurd (omega arith)
 lanes_conserve (lane ∷ lanes) (u ∷ us) long =
@@ -166,7 +170,8 @@ no_rows_left (lane ∷ lanes) = no_rows_left lanes
 abbrev lost_of : LaneState → ℕ
 lost_of lane = lane.lost
 
-sum_by-map : (f : LaneState → LaneState) → ((lane : LaneState) → (f lane).lost ≡ lane.lost) → (lanes : List LaneState) → sum_by lost_of (map f lanes) ≡ sum_by lost_of lanes
+sum_by-map : (f : LaneState → LaneState) → ((lane : LaneState) → (f lane).lost ≡ lane.lost) → (lanes : List LaneState)
+    → sum_by lost_of (map f lanes) ≡ sum_by lost_of lanes
 sum_by-map f same [] = refl
 sum_by-map f same (lane ∷ lanes) = omega (arith, sum_by-cons lost_of lane lanes, sum_by-cons lost_of (f lane) (map f lanes), same lane, sum_by-map f same lanes)
 
@@ -181,7 +186,8 @@ lanes_above_lose_none (lane ∷ lanes) (u ∷ us) = omega (arith, sum_by-cons lo
 pub release_loses_none : (s : Stock) (upto : List ℕ) → lost_in (without s upto) ≡ lost_in s
 release_loses_none s upto = lanes_above_lose_none s.lanes upto
 
-sum_by-set : (lanes : List LaneState) (n : ℕ) (new : LaneState) (more : ℕ) → n < length lanes → new.lost ≡ (get_or lanes n no_lane).lost + more → sum_by lost_of (set lanes n new) ≡ sum_by lost_of lanes + more
+sum_by-set : (lanes : List LaneState) (n : ℕ) (new : LaneState) (more : ℕ) → n < length lanes → new.lost ≡ (get_or lanes n no_lane).lost + more
+    → sum_by lost_of (set lanes n new) ≡ sum_by lost_of lanes + more
 sum_by-set [] n new more low is = absurd (omega arith)
 sum_by-set (lane ∷ lanes) zero new more low is = omega (arith, sum_by-cons lost_of lane lanes, sum_by-cons lost_of new lanes)
 sum_by-set (lane ∷ lanes) (suc n) new more low is =

@@ -57,7 +57,8 @@ pub record IsRoomy (s : Stock) : Type 0 where
   pub nine : length s.lanes ≡ LANES
   pub least : All (λ lane. 1 ≤ lane.capacity) s.lanes
 
-capacity_by : (b : Bool) (c : ℕ) (p q : List Numbered) (m n : ℕ) → (let lane : LaneState = cond b (record { capacity = c; rows = p; lost = m }) (record { capacity = c; rows = q; lost = n }) in lane.capacity) ≡ c
+capacity_by : (b : Bool) (c : ℕ) (p q : List Numbered) (m n : ℕ)
+    → (let lane : LaneState = cond b (record { capacity = c; rows = p; lost = m }) (record { capacity = c; rows = q; lost = n }) in lane.capacity) ≡ c
 capacity_by true c p q m n = refl
 capacity_by false c p q m n = refl
 
@@ -91,7 +92,8 @@ Tells s dropped rows answer =
     (λ total. (total ≡ dropped + length (dropped_by s rows)) × LostWithin (with_rows s rows).lanes)
 
 -- one row more in front
-more_tells : (s : Stock) (dropped : ℕ) (x : LaneRow) (xs : List LaneRow) (answer : Option ℕ) → (n : ℕ) → length (dropped_from (lane_at s (lane_number x.lane))) ≡ n
+more_tells : (s : Stock) (dropped : ℕ) (x : LaneRow) (xs : List LaneRow) (answer : Option ℕ) → (n : ℕ)
+    → length (dropped_from (lane_at s (lane_number x.lane))) ≡ n
     → Tells (with_row s x) (dropped + n) xs answer → Tells s dropped (x ∷ xs) answer
 more_tells s dropped x xs None n one told = told
 more_tells s dropped x xs (Some total) n one told =
@@ -164,7 +166,8 @@ walk_step s dropped x xs roomy within rest false false none many = λ after.
     let here : (put_in lane r).lost ≤ MAX_ID = subst (λ (l : LaneState). l.lost ≤ MAX_ID) is there in
     absurd (omega (arith, here, lost-full lane r (is_full-true lane none), ltb-false lane.lost MAX_ID many))
 
-walk_tells : (s : Stock) (dropped : ℕ) (rows : List LaneRow) → IsRoomy s → LostWithin s.lanes → Tells s dropped rows (drops_from dropped (map tally_of s.lanes) rows)
+walk_tells : (s : Stock) (dropped : ℕ) (rows : List LaneRow) → IsRoomy s → LostWithin s.lanes
+    → Tells s dropped rows (drops_from dropped (map tally_of s.lanes) rows)
 walk_tells s dropped [] roomy within = (omega arith, within)
 walk_tells s dropped (x ∷ xs) roomy within =
     let n = lane_number x.lane in
@@ -190,7 +193,8 @@ walked : (s : Stock) (rows : List LaneRow) (answer : Option ℕ) → IsSound s �
 walked s rows answer sound is = subst (Tells s 0 rows) (sym is) (walk_tells s 0 rows (IsRoomy-from_sound s sound) (LostWithin-from_sound s sound))
 
 -- where the ids suffice, the walk answers the number of rows that are dropped
-pub drops-Some : (s : Stock) (rows : List LaneRow) (answer : Option ℕ) → IsSound s → s.last_id + length rows ≤ MAX_ID → answer ≡ drops_from 0 (map tally_of s.lanes) rows
+pub drops-Some : (s : Stock) (rows : List LaneRow) (answer : Option ℕ) → IsSound s → s.last_id + length rows ≤ MAX_ID
+    → answer ≡ drops_from 0 (map tally_of s.lanes) rows
     → IfSome answer (λ total. (total ≡ length (dropped_by s rows)) × (exhausts s rows ≡ false))
 drops-Some s rows None sound few is = tt
 drops-Some s rows (Some total) sound few is =
@@ -198,7 +202,8 @@ drops-Some s rows (Some total) sound few is =
     (omega (arith, told.0), is_past-false (with_rows s rows) (omega (arith, last_id-with_rows s rows)) told.1)
 
 -- and none where a count of lost rows would pass 2^62
-pub drops-None : (s : Stock) (rows : List LaneRow) (answer : Option ℕ) → IsSound s → answer ≡ drops_from 0 (map tally_of s.lanes) rows → IfNone answer (exhausts s rows ≡ true)
+pub drops-None : (s : Stock) (rows : List LaneRow) (answer : Option ℕ) → IsSound s → answer ≡ drops_from 0 (map tally_of s.lanes) rows
+    → IfNone answer (exhausts s rows ≡ true)
 drops-None s rows (Some total) sound is = tt
 drops-None s rows None sound is =
     let told : Tells s 0 rows None = walked s rows None sound is in

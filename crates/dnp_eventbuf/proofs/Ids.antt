@@ -45,12 +45,14 @@ one_row s x number = by (cases_eq number n)
     by (inl same) = subst (λ (k : ℕ). P k (get_or (set s.lanes n new) k no_lane)) (sym same) (by_length (cases_lt n (length s.lanes)))
     by (inr other) = subst (P number) (sym (get_or-set_other s.lanes n number new no_lane other)) (all_old s.last_id (lane_at s number).rows)
 
-old_or_after : (old middle : List Numbered) (last : ℕ) → All (IsOldOrAfter old last) middle → (x : Numbered) → IsOldOrAfter middle (last + 1) x → IsOldOrAfter old last x
+old_or_after : (old middle : List Numbered) (last : ℕ) → All (IsOldOrAfter old last) middle → (x : Numbered) → IsOldOrAfter middle (last + 1) x
+    → IsOldOrAfter old last x
 old_or_after old middle last h x (inl stood) = All-contains (IsOldOrAfter old last) middle x h stood
 old_or_after old middle last h x (inr after) = inr (omega arith)
 
 -- after an append a row stood there, or has a new id
-pub new_ids : (s : Stock) (rows : List LaneRow) (number : ℕ) → All (λ x. Contains (lane_at s number).rows x ⊎ (s.last_id < x.id)) (lane_at (with_rows s rows) number).rows
+pub new_ids : (s : Stock) (rows : List LaneRow) (number : ℕ)
+    → All (λ x. Contains (lane_at s number).rows x ⊎ (s.last_id < x.id)) (lane_at (with_rows s rows) number).rows
 new_ids s [] number = all_old s.last_id (lane_at s number).rows
 new_ids s (x ∷ xs) number =
     All-weaker (IsOldOrAfter (lane_at (with_row s x) number).rows (s.last_id + 1)) (IsOldOrAfter (lane_at s number).rows s.last_id)
@@ -58,7 +60,8 @@ new_ids s (x ∷ xs) number =
     (lane_at (with_rows s (x ∷ xs)) number).rows (new_ids (with_row s x) xs number)
 
 -- after a release each row stood there
-left_in : (lanes : List LaneState) (upto : List ℕ) (number : ℕ) → All (Contains (get_or lanes number no_lane).rows) (get_or (lanes_above lanes upto) number no_lane).rows
+left_in : (lanes : List LaneState) (upto : List ℕ) (number : ℕ)
+    → All (Contains (get_or lanes number no_lane).rows) (get_or (lanes_above lanes upto) number no_lane).rows
 left_in [] upto number = All-nil (Contains [])
 left_in (lane ∷ lanes) [] number = All-contains_itself (get_or (lane ∷ lanes) number no_lane).rows
 left_in (lane ∷ lanes) (u ∷ us) zero = All-filter (λ x. nat_lt u x.id) (Contains lane.rows) lane.rows (All-contains_itself lane.rows)

@@ -34,7 +34,8 @@ keeps_none lane short = record {
   capacity = refl;
 }
 
-keeps_both : (old middle new : LaneState) (first second : List Numbered) → KeepsLatest old first middle → KeepsLatest middle second new → KeepsLatest old (first ++ second) new
+keeps_both : (old middle new : LaneState) (first second : List Numbered) → KeepsLatest old first middle → KeepsLatest middle second new
+    → KeepsLatest old (first ++ second) new
 keeps_both old middle new first second one two =
     let n = old.capacity in
     let xs = old.rows ++ first in
@@ -100,7 +101,8 @@ step s x xs number low within rest false other =
     let apart : number ≡ n → ⊥ = λ e. eqb-false n number other (sym e) in
     rest (lane_at s number) (get_or-set_other s.lanes n number (put_in (lane_at s n) r) no_lane apart) within
 
-keeps_latest : (s : Stock) (rows : List LaneRow) (number : ℕ) → number < length s.lanes → IsWithin (lane_at s number) → KeepsLatest (lane_at s number) (numbered_for number s.last_id rows) (lane_at (with_rows s rows) number)
+keeps_latest : (s : Stock) (rows : List LaneRow) (number : ℕ) → number < length s.lanes → IsWithin (lane_at s number)
+    → KeepsLatest (lane_at s number) (numbered_for number s.last_id rows) (lane_at (with_rows s rows) number)
 keeps_latest s [] number low within = keeps_none (lane_at s number) within.short
 keeps_latest s (x ∷ xs) number low within =
     let r : Numbered = record { id = s.last_id + 1; row = x.row } in
@@ -111,7 +113,8 @@ keeps_latest s (x ∷ xs) number low within =
     (keeps_latest (with_row s x) xs number low' (subst IsWithin (sym is) fits)))
     (nat_eq (lane_number x.lane) number) refl
 
-pub append_keeps_latest : (s : Stock) (rows : List LaneRow) (number : ℕ) → IsSound s → number < LANES → KeepsLatest (lane_at s number) (numbered_for number s.last_id rows) (lane_at (with_rows s rows) number)
+pub append_keeps_latest : (s : Stock) (rows : List LaneRow) (number : ℕ) → IsSound s → number < LANES
+    → KeepsLatest (lane_at s number) (numbered_for number s.last_id rows) (lane_at (with_rows s rows) number)
 append_keeps_latest s rows number sound low =
     let lane : IsSoundLane number s.last_id (lane_at s number) = sound.each number low in
     keeps_latest s rows number (omega (arith, sound.nine)) (record { least = lane.takes_one; short = lane.has_room })

@@ -57,7 +57,8 @@ pub lost-put_in : (lane : LaneState) (x : Numbered) → lane.lost ≤ (put_in la
 lost-put_in lane x = lost_by (is_full lane) lane.lost (drop 1 lane.rows ++ x ∷ []) (lane.rows ++ x ∷ []) lane.capacity
 
 -- where one lane has changed and lost no less
-before_set : (lanes : List LaneState) (n : ℕ) (new : LaneState) → ((d : LaneState) → n < length lanes → (get_or lanes n d).lost ≤ new.lost) → LostWithin (set lanes n new) → LostWithin lanes
+before_set : (lanes : List LaneState) (n : ℕ) (new : LaneState) → ((d : LaneState) → n < length lanes → (get_or lanes n d).lost ≤ new.lost)
+    → LostWithin (set lanes n new) → LostWithin lanes
 before_set lanes n new less within = record { each = λ k d low. at k d low (cases_eq k n) }
   where
     at : (k : ℕ) (d : LaneState) → k < length lanes → (k ≡ n) ⊎ (k ≡ n → ⊥) → (get_or lanes k d).lost ≤ MAX_ID

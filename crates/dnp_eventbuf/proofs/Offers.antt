@@ -47,7 +47,8 @@ last_of-none [] none = refl
 last_of-none (x ∷ rows) none = absurd (omega arith)
 
 -- the last of the first rows is one of them, or 0
-last_of-take : (most : ℕ) (rows : List Numbered) (d : Numbered) → (k : ℕ) → k < length rows → most ≤ k → Rises rows → 0 < (get_or rows k d).id → last_of (take most rows) < (get_or rows k d).id
+last_of-take : (most : ℕ) (rows : List Numbered) (d : Numbered) → (k : ℕ) → k < length rows → most ≤ k → Rises rows → 0 < (get_or rows k d).id
+    → last_of (take most rows) < (get_or rows k d).id
 last_of-take zero rows d k low beyond rising from_1 = omega (arith, last_of-none (take zero rows) (omega (arith, length-take zero rows)))
 last_of-take (suc m) rows d k low beyond rising from_1 =
     let long : length (take (suc m) rows) ≡ suc m = omega (arith, length-take (suc m) rows) in
@@ -101,7 +102,8 @@ pub record Covering : Type 0 where
   pub members : (xs ys : List Numbered) → HasNoRepeat xs → All (Contains ys) xs → IsCoveredBy xs ys
   pub mapped : (f : Numbered → Row) (xs ys : List Numbered) → IsCoveredBy xs ys → IsCoveredBy (map f xs) (map f ys)
 
-pub release_takes_offered : Covering → (s : Stock) (xs : List LaneRow) (number after most : ℕ) → IsSound s → All IsCarried xs → exhausts s xs ≡ false → number < LANES
+pub release_takes_offered : Covering → (s : Stock) (xs : List LaneRow) (number after most : ℕ) → IsSound s → All IsCarried xs → exhausts s xs ≡ false
+    → number < LANES
     → IsCoveredBy (up_to (last_of (offered s number after most)) (lane_at (with_rows s xs) number)) (up_to after (lane_at (with_rows s xs) number) ++ map row_of (offered s number after most))
 release_takes_offered laws s xs number after most sound carried within low =
     let now = (lane_at (with_rows s xs) number).rows in
@@ -143,7 +145,8 @@ none_at_0 (x ∷ rows) from_1 =
     go false low h = refl
 
 -- from the oldest row on, nothing else is taken
-pub release_takes_offered_alone : Covering → (s : Stock) (xs : List LaneRow) (number most : ℕ) → IsSound s → All IsCarried xs → exhausts s xs ≡ false → number < LANES
+pub release_takes_offered_alone : Covering → (s : Stock) (xs : List LaneRow) (number most : ℕ) → IsSound s → All IsCarried xs → exhausts s xs ≡ false
+    → number < LANES
     → IsCoveredBy (up_to (last_of (offered s number 0 most)) (lane_at (with_rows s xs) number)) (map row_of (offered s number 0 most))
 release_takes_offered_alone laws s xs number most sound carried within low =
     let now = lane_at (with_rows s xs) number in
@@ -153,7 +156,8 @@ release_takes_offered_alone laws s xs number most sound carried within low =
 
 -- ---- what is offered is an event
 
-pub offered_events : (s : Stock) (of : Lane) (after most : ℕ) → IsSound s → lane_number of < LANES → All (λ x. IsEvent x.row) (offered s (lane_number of) after most)
+pub offered_events : (s : Stock) (of : Lane) (after most : ℕ) → IsSound s → lane_number of < LANES
+    → All (λ x. IsEvent x.row) (offered s (lane_number of) after most)
 offered_events s of after most sound low =
     let rows = (lane_at s (lane_number of)).rows in
     let Fits : Numbered → Type 0 = λ x. IsEvent x.row in

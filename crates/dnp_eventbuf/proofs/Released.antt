@@ -22,7 +22,8 @@ not_less m n h = go (nat_lt m n) (Decides-ltb m n).0
 -- ---- an offer after a release
 
 -- two bounds are one
-over_both : (after upto : ℕ) (rows : List Numbered) → filter (λ x. nat_lt after x.id) (filter (λ x. nat_lt upto x.id) rows) ≡ filter (λ x. nat_lt (max after upto) x.id) rows
+over_both : (after upto : ℕ) (rows : List Numbered)
+    → filter (λ x. nat_lt after x.id) (filter (λ x. nat_lt upto x.id) rows) ≡ filter (λ x. nat_lt (max after upto) x.id) rows
 over_both after upto [] = refl
 over_both after upto (x ∷ rows) =
     first (nat_lt upto x.id)
@@ -79,7 +80,8 @@ any_over (x ∷ rows) u rising =
           | inr is ↦ (let e : k ≡ length (x ∷ rows) - 1 = omega arith in let f : (get_or (x ∷ rows) k d).id ≡ (get_or (x ∷ rows) (length (x ∷ rows) - 1) d).id = ap (λ j. (get_or (x ∷ rows) j d).id) e in omega arith)
         ]
 
-pub any_over_lane : (s : Stock) (number u : ℕ) → IsSound s → number < LANES → list_any (λ x. nat_lt u x.id) (lane_at s number).rows ≡ nat_lt u (last_of (lane_at s number).rows)
+pub any_over_lane : (s : Stock) (number u : ℕ) → IsSound s → number < LANES
+    → list_any (λ x. nat_lt u x.id) (lane_at s number).rows ≡ nat_lt u (last_of (lane_at s number).rows)
 any_over_lane s number u sound low = any_over (lane_at s number).rows u (sound.each number low).rising
 
 pub none_over_last : (s : Stock) (number : ℕ) → IsSound s → number < LANES → All (λ x. x.id ≤ s.last_id) (lane_at s number).rows

@@ -63,7 +63,8 @@ pushed number last lane n lost row sound room few fits =
       lost_at_most = few;
     }
 
-put_by : (number last : ℕ) (lane : LaneState) (row : Row) → IsSoundLane number last lane → ((of : Lane) → lane_number of ≡ number → IsCarried (record { lane = of; row = row }))
+put_by : (number last : ℕ) (lane : LaneState) (row : Row) → IsSoundLane number last lane
+    → ((of : Lane) → lane_number of ≡ number → IsCarried (record { lane = of; row = row }))
     → (b : Bool) → is_full lane ≡ b
     → (let new : LaneState = cond b (moved_on lane (record { id = last + 1; row = row }))
     (added_in lane (record { id = last + 1; row = row }))
@@ -75,7 +76,8 @@ put_by number last lane row sound fits true full few =
 put_by number last lane row sound fits false room few =
     pushed number last lane 0 lane.lost row sound (leb-false lane.capacity (length lane.rows) room) few fits
 
-IsSoundLane-put_in : (number last : ℕ) (lane : LaneState) (row : Row) → IsSoundLane number last lane → ((of : Lane) → lane_number of ≡ number → IsCarried (record { lane = of; row = row }))
+IsSoundLane-put_in : (number last : ℕ) (lane : LaneState) (row : Row) → IsSoundLane number last lane
+    → ((of : Lane) → lane_number of ≡ number → IsCarried (record { lane = of; row = row }))
     → (put_in lane (record { id = last + 1; row = row })).lost ≤ MAX_ID → IsSoundLane number (last + 1) (put_in lane (record { id = last + 1; row = row }))
 IsSoundLane-put_in number last lane row sound fits few = put_by number last lane row sound fits (is_full lane) refl few
 
@@ -152,7 +154,8 @@ IsSoundLane-above number last u lane sound =
       lost_at_most = sound.lost_at_most;
     }
 
-pub get_or-lanes_above : (lanes : List LaneState) (upto : List ℕ) (k : ℕ) → length lanes ≡ length upto → k < length lanes → get_or (lanes_above lanes upto) k no_lane ≡ above (get_or upto k 0) (get_or lanes k no_lane)
+pub get_or-lanes_above : (lanes : List LaneState) (upto : List ℕ) (k : ℕ) → length lanes ≡ length upto → k < length lanes
+    → get_or (lanes_above lanes upto) k no_lane ≡ above (get_or upto k 0) (get_or lanes k no_lane)
 get_or-lanes_above [] upto k same low = absurd (omega arith)
 get_or-lanes_above (lane ∷ lanes) [] k same low = absurd (omega arith)
 get_or-lanes_above (lane ∷ lanes) (u ∷ us) zero same low = refl

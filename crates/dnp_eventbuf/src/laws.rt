@@ -95,7 +95,7 @@ pub fn a_release_takes_what_was_offered()
     covered_is_kept_by_map::<Numbered, Row>();
 }
 
-/// What is offered after a release was offered before it, from behind the id up to which the lane's rows
+/// What is offered after a release was offered before it, from after the id up to which the lane's rows
 /// are released, where that is the larger one.
 pub fn an_offer_after_a_release()
     ensures { (s : Stock) (upto : List ℕ) (number after most : ℕ) → length upto ≡ length s.lanes → number < length s.lanes

@@ -15,6 +15,7 @@ mod points;
 
 use std::io;
 
+/// Runs each case and prints its line.
 fn main(rt: HostRuntime) -> io::Result<()> {
     let alloc = rt.alloc();
     print(&rt, "feed", frames::feed(alloc))?;

@@ -35,7 +35,7 @@ fn answers<O: Outputs>(
     Ok(outputs.operate(alloc, commands)?.as_slice() == statuses)
 }
 
-/// Whether there are so many outputs, and the one of this index shows these flags.
+/// Whether there are this many outputs, and the one of this index shows these flags.
 fn shows<O: Outputs>(outputs: &O, count: u16, index: u16, flags: u8) -> bool {
     outputs.outputs() == count && outputs.status(index) == flags
 }

@@ -8,10 +8,15 @@ use std::test::Fail;
 /// Points of one kind that are alike and follow one another.
 #[derive(Clone, Copy)]
 pub struct Alike {
+    /// The kind of its points.
     pub kind: Kind,
+    /// The index of the first.
     pub base: u16,
+    /// How many there are.
     pub count: usize,
+    /// The class of each.
     pub class: u8,
+    /// The deadband of each.
     pub deadband: u32,
 }
 

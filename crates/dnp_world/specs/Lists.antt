@@ -12,7 +12,7 @@ abbrev pub Each : {X : Type 0} → (X → Type 0) → List X → Type 0
 Each P [] = ⊤
 Each P (x ∷ xs) = P x × Each P xs
 
--- some old ones, and behind them only new ones
+-- some old ones, and after them only new ones
 abbrev pub Turns : {X : Type 0} → (X → Type 0) → (X → Type 0) → List X → Type 0
 Turns Old New [] = ⊤
 Turns Old New (x ∷ xs) = (New x × Each New xs) ⊎ (Old x × Turns Old New xs)

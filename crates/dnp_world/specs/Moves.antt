@@ -138,7 +138,7 @@ continued q f more awaited l = record l {
   current = f;
 }
 
--- the first fragment once more
+-- the first fragment again
 abbrev pub repeated : Option Awaited → Link → Link
 repeated awaited l = record l {
   outstation = record l.outstation { awaited = awaited };

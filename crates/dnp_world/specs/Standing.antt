@@ -138,7 +138,7 @@ reporting_of l = record {
   took = l.took;
 }
 
--- of the confirms and then the reports that may come, some have the number before, and behind them all have this one;
+-- of the confirms and then the reports that may come, some have the number before, and after them all have this one;
 -- where no confirm is awaited all have this one
 abbrev pub IsInOrder : Option AwaitedReport → ℕ → List ℕ → Type 0
 IsInOrder None seq numbers = Each (λ n. n ≡ seq) numbers
