@@ -85,8 +85,7 @@ fn gather_planned(plan: &PointPlan, rows: RowWalk<'_>, gathering: &mut Gathering
 /// An octet is below 2^8, wherever it is read.
 fn octets_are_small(octets: &[u8])
     ensures { All (λ octet. octet < 2 ^ 8) octets.now }
-{
-}
+{}
 
 /// The rows of a header, in order. Each can be reported as an event.
 fn rows_of<'a>(header: &Header<'a>) -> RowWalk<'a>
