@@ -16,14 +16,12 @@ use dnp_appfragment::laws::{octets_say_a_request, what_is_spelled_is_a_fragment}
 pub fn what_comes_is_taken_or_passed_over()
     ensures { (s : State) (now : ℕ) (octets : List ℕ) → IfOk (receive_of s now octets) (λ t.
         PassesOver s t ⊎ (TakesResponse s octets t ⊎ TakesReport s octets t)) }
-{
-}
+{}
 
 /// A master asks while it is open and idle alone, with its own number, and is busy then.
 pub fn an_idle_master_asks()
     ensures { (s : State) (now : ℕ) (task : TaskValue) → IfOk (ask_answer s task) (λ octets. Asks s task octets (asked s now task)) }
-{
-}
+{}
 
 /// A closed master stays closed whatever comes, and neither asks nor confirms: so no request goes out
 /// on a connection whose response timer has ended.
@@ -33,8 +31,7 @@ pub fn a_closed_master_is_silent()
     ensures receives { (s : State) (now : ℕ) (octets : List ℕ) → s.is_open ≡ false → receive_of s now octets ≡ Ok (unheeded s) }
     ensures ticks { (s : State) (now : ℕ) → s.is_open ≡ false → (is_timed_out s now ≡ false) × (ticked s now ≡ s) }
     ensures timed_out { (s : State) (now : ℕ) → is_timed_out s now ≡ true → ticked s now ≡ closed s }
-{
-}
+{}
 
 /// The two octets of a confirm read as the CONFIRM of that number, with that UNS.
 pub fn a_confirm_reads_as_one()

@@ -39,6 +39,15 @@ fn give<S: Sink>(
 }
 
 impl Master {
+    /// Makes look-ups in the plan quick, while the master is open.
+    fn prepare(&mut self, alloc: Global)
+        ensures { self.new ≡ self.old }
+    {
+        if self.is_open {
+            self.plan.prepare(alloc);
+        }
+    }
+
     /// Takes in octets that came at this moment, in milliseconds: what a closed master, and one that awaits
     /// none of this, passes over, is answered Ok too, and nothing has happened then.
     ///
@@ -81,6 +90,7 @@ impl Master {
         ensures exhausted { S.honest sink.new → IfErr result (λ fault. fault ≡ MasterFault.Exhausted
             → IfOk (receive_of self.old now octets.now) (λ t. IsTrue (S.exhausts sink.old t.events))) }
     {
+        self.prepare(alloc);
         let taken = self.take(alloc, now, octets)?;
         let events = taken.gathered.events();
         let statics = taken.gathered.statics();
