@@ -18,12 +18,14 @@ uint64_t dnp_bench_feed(const uint8_t *stream, size_t size, size_t piece);
 uint64_t dnp_bench_walk(const uint8_t *fragment, size_t size);
 uint64_t dnp_bench_build(uint64_t count, uint16_t most);
 uint64_t dnp_bench_build_apart(uint64_t count, uint16_t most);
+uint64_t dnp_bench_take(const uint8_t *response, size_t size, uint64_t count);
 
 // The same in plain Rust: plain_rust/.
 uint64_t plain_feed(const uint8_t *stream, size_t size, size_t piece);
 uint64_t plain_walk(const uint8_t *fragment, size_t size);
 uint64_t plain_build(uint64_t count, uint16_t most);
 uint64_t plain_build_apart(uint64_t count, uint16_t most);
+uint64_t plain_take(const uint8_t *response, size_t size, uint64_t count);
 
 enum { WAYS = 4, UNITS = 64, MOST_OCTETS = 4096 };
 
@@ -224,6 +226,9 @@ static uint64_t built_apart(int way, uint64_t count) { return (way ? plain_build
 
 static uint64_t built_empty(int way, uint64_t count) { return (way ? plain_build : dnp_bench_build)(count, 0); }
 
+// A master asks, and takes the response.
+static uint64_t taken(int way, uint64_t count) { return (way ? plain_take : dnp_bench_take)(fragment, fragment_size, count); }
+
 static void fragment_row(const char *what, uint64_t (*work)(int, uint64_t), uint64_t count) {
     double best[2] = {0};
     uint64_t sums[2];
@@ -270,6 +275,21 @@ static void fragment_rows(void) {
     fragment_row("built: an empty response", built_empty, 2000000);
 }
 
+static void master_rows(void) {
+    static const uint8_t events[] = {0xE0, 0x81, 0x00, 0x00, 0x20, 0x03, 0x28, 0x9C, 0x00};
+    static const uint8_t values[] = {0xC0, 0x81, 0x00, 0x00, 0x1E, 0x01, 0x01, 0x00, 0x00, 0x8F, 0x01};
+    printf("\n%-33s %23s   beside plain Rust\n", "a master", "proved");
+    begin_fragment(events, sizeof events, 156, 13);
+    // the points of the plan have the indices 0 to 399
+    for (size_t i = 0; i < 156; i++) {
+        fragment[sizeof events + 13 * i] = i & 0xFF;
+        fragment[sizeof events + 13 * i + 1] = i >> 8;
+    }
+    fragment_row("taken: 156 analog events", taken, 40000);
+    begin_fragment(values, sizeof values, 400, 5);
+    fragment_row("taken: 400 analog values", taken, 40000);
+}
+
 int main(int argc, char **argv) {
     if (argc > 1 && !strcmp(argv[1], "--quick")) rounds = 2, scale = 10;
     if (argc > 2 && !strcmp(argv[1], "--rounds")) rounds = atoi(argv[2]), scale = 20;
@@ -297,6 +317,7 @@ int main(int argc, char **argv) {
     }
     stream_rows();
     fragment_rows();
+    master_rows();
     printf("\nsum of all that was made: %016llx, %s\n", (unsigned long long)all_sums, failed ? "AND NOT ONE FOR ALL" : "the same for all");
     return failed;
 }

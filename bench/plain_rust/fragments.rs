@@ -1,7 +1,7 @@
 //! Application fragments: responses are read and their rows walked, and event responses are built.
 
 #[derive(Clone, Copy)]
-enum Fault {
+pub enum Fault {
     Short,
     Function,
     HeaderCut,
@@ -12,7 +12,7 @@ enum Fault {
 }
 
 #[derive(Clone, Copy)]
-enum Range {
+pub enum Range {
     All,
     Span { first: u16, last: u16 },
     Count { n: u16 },
@@ -20,15 +20,15 @@ enum Range {
 }
 
 #[derive(Clone, Copy)]
-struct Header<'a> {
-    group: u8,
-    variation: u8,
-    range: Range,
-    octets: &'a [u8],
+pub struct Header<'a> {
+    pub group: u8,
+    pub variation: u8,
+    pub range: Range,
+    pub octets: &'a [u8],
 }
 
 #[derive(Clone, Copy, PartialEq)]
-enum Form {
+pub enum Form {
     Read,
     Response,
 }
@@ -113,7 +113,7 @@ fn header(form: Form, octets: &[u8]) -> Result<(Header<'_>, &[u8]), Fault> {
     Ok((Header { group: *group, variation: *variation, range, octets }, rest))
 }
 
-fn count(range: Range) -> usize {
+pub fn count(range: Range) -> usize {
     match range {
         Range::All => 0,
         Range::Span { first, last } => usize::from(last - first) + 1,
@@ -122,7 +122,7 @@ fn count(range: Range) -> usize {
 }
 
 /// The headers of a fragment that was read.
-struct Headers<'a> {
+pub struct Headers<'a> {
     form: Form,
     rest: &'a [u8],
 }
@@ -138,7 +138,7 @@ impl<'a> Iterator for Headers<'a> {
 }
 
 /// The headers of a READ or of a response, or the first fault.
-fn headers(octets: &[u8]) -> Result<Headers<'_>, Fault> {
+pub fn headers(octets: &[u8]) -> Result<Headers<'_>, Fault> {
     let (form, rest) = match octets {
         [_, 1, rest @ ..] => (Form::Read, rest),
         [_, 129 | 130, _, _, rest @ ..] => (Form::Response, rest),
@@ -153,11 +153,11 @@ fn headers(octets: &[u8]) -> Result<Headers<'_>, Fault> {
 }
 
 #[derive(Clone, Copy)]
-struct Row {
-    index: u16,
-    flags: u8,
-    value: i64,
-    time: Option<u64>,
+pub struct Row {
+    pub index: u16,
+    pub flags: u8,
+    pub value: i64,
+    pub time: Option<u64>,
 }
 
 fn time(octets: &[u8]) -> u64 {
@@ -165,7 +165,7 @@ fn time(octets: &[u8]) -> u64 {
 }
 
 /// The rows of a header whose objects are rows.
-fn rows<'a>(header: Header<'a>) -> Option<impl Iterator<Item = Row> + 'a> {
+pub fn rows<'a>(header: Header<'a>) -> Option<impl Iterator<Item = Row> + 'a> {
     let (kind, flags, width, timed) = match (header.group, header.variation) {
         (1, 2) | (2, 1) => (1, 1, 0, 0),
         (2, 2) => (1, 1, 0, 6),

@@ -2,4 +2,5 @@
 //! library is held against.
 
 mod fragments;
+mod master;
 mod streams;

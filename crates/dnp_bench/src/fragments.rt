@@ -20,7 +20,7 @@ fn headers_of(fragment: &[u8]) -> Option<Headers<'_>> {
 }
 
 /// A row in one number.
-fn number_of(row: &Row) -> u64 {
+pub(crate) fn number_of(row: &Row) -> u64 {
     let value = u64::from_le_bytes(row.value.to_le_bytes());
     u64::from(row.index)
         ^ u64::from(row.flags) << 16

@@ -4,3 +4,4 @@
 
 mod fragments;
 mod frames;
+mod masters;

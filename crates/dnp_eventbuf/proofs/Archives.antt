@@ -1,14 +1,15 @@
 -- Rows under ids that go on from a number, and journals of them.
-use Rattle.std.proofs.Common.{◌≡◌, ℕ, zero, suc, ◌+◌, ◌^◌, ◌<◌, ◌≤◌, Bool, true, false, cond, List, [], ◌∷◌, ◌++◌, length, drop, take, refl, sym, ap, ap₂, subst, ◌∙◌, arith, append_assoc, append-nil, length-append, min}
+use Rattle.std.proofs.Common.{◌≡◌, ℕ, zero, suc, ◌+◌, ◌^◌, ◌<◌, ◌≤◌, Bool, true, false, cond, List, [], ◌∷◌, ◌++◌, length, drop, take, refl, sym, ap, ap₂, subst, ◌∙◌, arith, append_assoc, append-nil, length-append, map, min}
 use Rattle.std.specs.Prelude.{filter, nat_lt}
 use Rattle.std.specs.List.{All}
 use Rattle.std.proofs.lemmas.Bool.Decides.{Decides-ltb}
 use Rattle.std.proofs.lemmas.List.{take_min}
-use Rattle.std.proofs.lemmas.List.Elements.{All-push, All-weaker}
+use Rattle.std.proofs.lemmas.List.Elements.{All-head, All-push, All-tail, All-weaker}
 use Rattle.std.proofs.lemmas.List.Quantifiers.{all_pairs_push}
 use Rattle.dnp_objects.specs.declared.row.Row.{Row}
 use Rattle.dnp_eventbuf.specs.declared.numbered.Numbered.{Numbered}
 use Rattle.dnp_eventbuf.specs.Archive.{Archive, IsSoundArchive, with_events, numbered}
+use Rattle.dnp_eventbuf.specs.Stock.{row_of}
 
 abbrev first_of : ℕ → Row → Numbered
 first_of last row = record { id = last + 1; row = row }
@@ -105,3 +106,22 @@ placed_with rows events all is =
 pub placed_sound : (rows events all : List Row) → all ≡ rows ++ events → length rows + length events ≤ 2 ^ 62 → IsSoundArchive (placed rows)
     → IsSoundArchive (placed all)
 placed_sound rows events all is low sound = subst IsSoundArchive (sym (placed_with rows events all is)) (sound_with (placed rows) events sound low)
+
+-- ---- laws of journals
+
+pub rows-numbered : (last : ℕ) (rows : List Row) → map row_of (numbered last rows) ≡ rows
+rows-numbered last [] = refl
+rows-numbered last (x ∷ rows) = ap (λ (l : List Row). x ∷ l) (rows-numbered (last + 1) rows)
+
+pub with_both : (a : Archive) (first second : List Row) → with_events a (first ++ second) ≡ with_events (with_events a first) second
+with_both a first second =
+    let numbers : a.rows ++ numbered a.last_id (first ++ second) ≡ (a.rows ++ numbered a.last_id first) ++ numbered (a.last_id + length first) second =
+    ap (λ (l : List Numbered). a.rows ++ l) (numbered-append a.last_id first second)
+    ∙ sym (append_assoc a.rows (numbered a.last_id first) (numbered (a.last_id + length first) second)) in
+    ap₂ (λ (xs : List Numbered) (n : ℕ). record { rows = xs; last_id = n }) numbers (omega (arith, length-append first second))
+
+pub all_from_0 : (rows : List Numbered) → All (λ x. 1 ≤ x.id) rows → filter (λ x. nat_lt 0 x.id) rows ≡ rows
+all_from_0 [] from_1 = refl
+all_from_0 (x ∷ rows) from_1 =
+    ap₂ (λ (b : Bool) (l : List Numbered). cond b (x ∷ l) l) (under 0 x.id (All-head (λ (y : Numbered). 1 ≤ y.id) x rows from_1))
+    (all_from_0 rows (All-tail (λ (y : Numbered). 1 ≤ y.id) x rows from_1))

@@ -1,5 +1,5 @@
--- A journal: the events that came, in order, each under the next id (an own rule: IEEE Std 1815-2012 knows
--- no journal). Nothing leaves it.
+-- Definition: a journal, the events that came, in order, each under the next id (an own rule: IEEE Std
+-- 1815-2012 knows no journal). Nothing leaves it.
 use Rattle.std.specs.Prelude.{ℕ, ◌+◌, ◌^◌, ◌<◌, ◌≤◌, Bool, nat_lt, List, [], ◌∷◌, ◌++◌, length, filter, take, All, AllPairs}
 use Rattle.dnp_objects.specs.declared.row.Row.{Row}
 use Rattle.dnp_eventbuf.specs.declared.numbered.Numbered.{Numbered}

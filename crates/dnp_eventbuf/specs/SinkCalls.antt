@@ -1,4 +1,4 @@
--- What a call of a sink or of a journal leaves, whatever the call is for.
+-- Definition: what a call of a sink or of a journal leaves, whatever the call is for.
 use Rattle.std.specs.Prelude.{◌≡◌, Bool, Result, ⊤}
 use Rattle.dnp_objects.specs.declared.store.StoreFault.{StoreFault}
 use Rattle.dnp_objects.specs.declared.store.StoreFault.TheVariants.{Device}

@@ -4,6 +4,7 @@
 
 mod carried;
 mod journal;
+pub mod journal_laws;
 mod lanes;
 pub mod laws;
 pub mod link_laws;

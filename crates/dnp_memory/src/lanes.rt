@@ -23,7 +23,7 @@ fn counted(lanes: &mut PlainLanes, lane: Lane) -> Counts {
 }
 
 /// A number with one more decimal digit.
-fn with_digit(number: u64, digit: u64) -> u64 {
+pub(crate) fn with_digit(number: u64, digit: u64) -> u64 {
     number.wrapping_mul(10).wrapping_add(digit)
 }
 

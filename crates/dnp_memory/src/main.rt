@@ -6,8 +6,10 @@
 
 mod controls;
 mod frames;
+mod journals;
 mod lanes;
 mod lines;
+mod masters;
 mod points;
 
 use std::io;
@@ -18,6 +20,8 @@ fn main(rt: HostRuntime) -> io::Result<()> {
     print(&rt, "reserve", lines::reserve(alloc))?;
     print(&rt, "points", points::change_all(alloc))?;
     print(&rt, "lanes", lanes::fill_and_empty(alloc))?;
+    print(&rt, "journal", journals::append_and_list(alloc))?;
+    print(&rt, "master", masters::poll(alloc))?;
     print(&rt, "book", controls::add_and_list(alloc))?;
     print(&rt, "outputs", controls::operate(alloc))
 }

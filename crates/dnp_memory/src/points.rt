@@ -20,7 +20,7 @@ fn block(alloc: Global, base: u16) -> Result<Block, AllocError> {
 }
 
 /// Two blocks of binaries, and nothing else.
-fn plan(alloc: Global) -> Option<PointPlan> {
+pub(crate) fn plan(alloc: Global) -> Option<PointPlan> {
     let mut binary = Vec::new(alloc);
     for base in [8, 0] {
         binary.push(block(alloc, base).ok()?).ok()?;

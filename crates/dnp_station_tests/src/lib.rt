@@ -1,5 +1,5 @@
-//! Tests of a station's parts: `dnp_pointdb`, `dnp_eventbuf` and `dnp_controls`. They stand apart
-//! from those crates, since a crate with tests is proved twice.
+//! Tests of a station's parts: `dnp_pointdb`, `dnp_eventbuf` and `dnp_controls`, and of `dnp_master`.
+//! They stand apart from those crates, since a crate with tests is proved twice.
 //!
 //! They are few: worked values that no clause has, each call that asks for memory once where there
 //! is some, and each trait once through its bound, at a type that has it. What a clause says of every
@@ -9,7 +9,11 @@
 #[cfg(test)]
 mod books;
 #[cfg(test)]
+mod journals;
+#[cfg(test)]
 mod lanes;
+#[cfg(test)]
+mod masters;
 #[cfg(test)]
 mod outputs;
 #[cfg(test)]
