@@ -1,6 +1,6 @@
 -- What a master makes of octets that come, as the law of a link sees it.
-use Rattle.std.proofs.Common.{◌≡◌, ℕ, zero, suc, ◌+◌, ◌<◌, ◌^◌, Bool, true, false, not, cond, ◌&&◌, ◌⊎◌, inl, inr, List, [], ◌∷◌, length, get_or, Option, Some, None, Result, Ok, Err, IfOk, refl, sym, ◌∙◌, ap, subst, arith}
-use Rattle.std.specs.Prelude.{is_some, nat_eq}
+use Rattle.std.proofs.Common.{◌≡◌, ℕ, zero, suc, ◌<◌, ◌^◌, Bool, true, false, not, cond, ◌&&◌, ◌⊎◌, inl, inr, List, [], ◌∷◌, Option, Some, None, Result, Ok, Err, IfOk, refl, sym, ◌∙◌, ap, arith}
+use Rattle.std.specs.Prelude.{is_some}
 use Rattle.std.specs.List.{All}
 use Rattle.std.proofs.lemmas.Bool.{false≢true}
 use Rattle.std.proofs.lemmas.Bool.Decides.{nat_tests}
@@ -18,10 +18,10 @@ use Rattle.dnp_master.specs.declared.fault.MasterFault.{MasterFault}
 use Rattle.dnp_master.specs.declared.request.Case.{Case}
 use Rattle.dnp_master.specs.declared.request.Case.TheVariants.{Unheeded, Awaited, Report}
 use Rattle.dnp_master.specs.declared.request.OpenRequest.{OpenRequest}
-use Rattle.dnp_master.specs.Calls.{Taking, unheeded, is_report, is_solicited, is_next, case_by, case_of, report_taken, ended, going_on, taken_as, if_from_plan, checked, response_of, heard, receive_of, confirm_for}
+use Rattle.dnp_master.specs.Calls.{Taking, unheeded, is_report, is_solicited, is_next, case_by, case_of, report_taken, ended, going_on, taken_as, checked, heard, receive_of, confirm_for}
 use Rattle.dnp_master.specs.Rows.{is_from_plan}
 use Rattle.dnp_master.specs.State.{State}
-use Rattle.dnp_master.specs.Steps.{control_in, answered_events, events_at, PassesOver, TakesResponse, TakesReport}
+use Rattle.dnp_master.specs.Steps.{control_in, answered_events, PassesOver, TakesResponse, TakesReport}
 
 -- ---- the control octet
 

@@ -1,6 +1,6 @@
--- What the law of a link sees of a master's calls: what laws promise of them, by octets alone (IEEE Std 1815-2012,
+-- Definition: what the law of a link sees of a master's calls, by octets alone (IEEE Std 1815-2012,
 -- application layer: control octet, responses, confirmation).
-use Rattle.std.specs.Prelude.{◌≡◌, ℕ, Bool, true, false, not, List, [], Option, Some, None, is_some, Result, Ok, Err, slice_index_or}
+use Rattle.std.specs.Prelude.{◌≡◌, ℕ, true, false, not, List, [], None, is_some, Result, Ok, Err, slice_index_or}
 use Rattle.dnp_objects.specs.declared.row.Row.{Row}
 use Rattle.dnp_appfragment.specs.declared.fault.AppFault.{AppFault}
 use Rattle.dnp_appfragment.specs.Control.{ControlBits}

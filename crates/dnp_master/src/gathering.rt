@@ -167,7 +167,8 @@ impl Gathered {
     /// The rows of these headers, all of them or none.
     ///
     /// Refused is, first of all, an event of a point that the plan lacks, or that has no class
-    /// (`Stranger`), and then want of memory for the rows (`Memory`).
+    /// (`Stranger`), and then being out of memory for the rows
+    /// (`Memory`).
     pub fn of(
         alloc: Global,
         plan: &PointPlan,

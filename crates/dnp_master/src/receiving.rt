@@ -57,8 +57,8 @@ impl Master {
     /// fragment confirmed, if it asks for that, and only then does anything change.
     ///
     /// Refused is, first of all, what is no response (`Malformed`), and then an event of a point that the
-    /// plan lacks, or that has no class (`Stranger`): nothing was asked of the sink. Last come want of
-    /// memory for the rows (`Memory`), and what the sink refuses (`Exhausted`, `Memory`, `Device`).
+    /// plan lacks, or that has no class (`Stranger`): nothing was asked of the sink. Last comes being out
+    /// of memory for the rows (`Memory`), and what the sink refuses (`Exhausted`, `Memory`, `Device`).
     pub fn receive<S: Sink>(
         &mut self,
         alloc: Global,
@@ -68,7 +68,7 @@ impl Master {
     ) -> Result<MasterActions, MasterFault>
         // What is refused for itself, whatever the sink.
         ensures refused { IfErr (receive_of self.old now octets.now) (λ fault. result ≡ Err fault) }
-        // All else is refused for want of memory or by the sink, and only where there are rows.
+        // All else is refused out of memory or by the sink, and only where there are rows.
         ensures named { IfErr result (λ fault. (receive_of self.old now octets.now ≡ Err fault)
             ⊎ (IsSinkFault fault × IsOkAnd (receive_of self.old now octets.now) (λ t. IsTrue (has_rows t)))) }
         ensures unchanged { OnErr result (self.new ≡ self.old) }
