@@ -94,7 +94,7 @@ there_in blocks index block apart found has =
 
 -- ---- the plan
 
-blocks-new : (plan : Plan) (kind : Kind) → blocks_of (new_database plan) kind ≡ map new_block (plan_words.blocks_of plan kind)
+pub blocks-new : (plan : Plan) (kind : Kind) → blocks_of (new_database plan) kind ≡ map new_block (plan_words.blocks_of plan kind)
 blocks-new plan Binary = refl
 blocks-new plan Counter = refl
 blocks-new plan Analog = refl

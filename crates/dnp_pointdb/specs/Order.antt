@@ -4,9 +4,13 @@ use Rattle.std.specs.Prelude.{◌≡◌, ℕ, suc, ◌+◌, ◌-◌, ◌<◌, Bo
 use Rattle.std.specs.Option.{option_map}
 use Rattle.std.specs.List.{HoldsAt}
 use Rattle.std.specs.List.Sorted.{IsNonDecreasingBy}
+use Rattle.dnp_objects.specs.declared.row.Kind.{Kind}
+use Rattle.dnp_objects.specs.Lanes.{kind_number}
 use Rattle.dnp_pointdb.specs.declared.point.Block.{Block}
+use Rattle.dnp_pointdb.specs.declared.order.Orders.{Orders}
 use Rattle.dnp_pointdb.specs.declared.order.Place.{Place}
 use Rattle.dnp_pointdb.specs.declared.state.BlockState.{BlockState}
+use Rattle.dnp_pointdb.specs.Plan.{Plan, blocks_of}
 
 -- where a block begins, and how many points it has
 pub record Extent : Type 0 where
@@ -50,3 +54,11 @@ pub record IsOrder (es : List Extent) (order : List Place) : Type 0 where
   pub listed : All (IsPlaceOf es) order
   pub complete : (j : ℕ) → j < length es → HoldsAt (λ e. 0 < e.count → Any (λ place. place.block ≡ j) order) es j
   pub apart : AreApart es
+
+-- the order of a kind
+abbrev pub order_in : Orders → Kind → List Place
+order_in orders kind = slice_index_or (map (λ order. order.items) orders.of_kinds) (kind_number kind) []
+
+-- each kind's is one of its blocks
+abbrev pub AreOrders : Plan → Orders → Type 0
+AreOrders plan orders = (kind : Kind) → IsOrder (map extent_of (blocks_of plan kind)) (order_in orders kind)

@@ -1,10 +1,12 @@
 //! How a point is looked up by its index.
 
-ghost use Rattle.std.specs.Prelude.{◌≡◌, List, IfOk};
+ghost use Rattle.std.specs.Prelude.{◌≡◌, List, IfOk, map};
 ghost use Rattle.std.specs.List.Sorted.{IsNonDecreasingBy};
-ghost use Rattle.dnp_pointdb.specs.Order.{Extent, IsOrder, AreApart, extents, place_in};
+ghost use Rattle.dnp_pointdb.specs.Classes.{point_in};
+ghost use Rattle.dnp_pointdb.specs.Order.{Extent, IsOrder, AreApart, extent_of, order_in, place_in};
 
-use crate::state::BlockState;
+use crate::point::{Block, Point};
+use dnp_objects::{KINDS, Kind};
 use std::alloc::{AllocError, Global};
 
 /// Where a block's points stand: the index of the first, how many they are, and the block's number.
@@ -19,9 +21,9 @@ pub struct Place {
 }
 
 /// The places of the blocks that have points, by rising base.
-pub fn order_of(alloc: Global, blocks: &[BlockState]) -> Result<Vec<Place>, AllocError>
-    requires { AreApart (extents blocks.now) }
-    ensures { IfOk result (λ order. IsOrder (extents blocks.now) order.items) }
+pub fn order_of(alloc: Global, blocks: &[Block]) -> Result<Vec<Place>, AllocError>
+    requires { AreApart (map extent_of blocks.now) }
+    ensures { IfOk result (λ order. IsOrder (map extent_of blocks.now) order.items) }
 {
     let mut order = Vec::new(alloc);
     for (number, block) in blocks.iter().enumerate() {
@@ -36,6 +38,31 @@ pub fn order_of(alloc: Global, blocks: &[BlockState]) -> Result<Vec<Place>, Allo
     }
     order.sort_unstable_by_key(|place| place.first);
     Ok(order)
+}
+
+/// How the points of each kind of a plan are looked up, by the kind's number.
+#[derive(Debug, Drop)]
+pub struct Orders {
+    /// The places of each kind's blocks.
+    pub of_kinds: [Vec<Place>; KINDS],
+}
+
+impl Orders {
+    /// Those of this kind.
+    pub fn of(&self, kind: Kind) -> &[Place]
+        ensures { result.now ≡ order_in self.now kind }
+    {
+        self.of_kinds[kind.number()].as_slice()
+    }
+}
+
+/// The point with the index, if one of the blocks has it.
+pub fn point_by(order: &[Place], blocks: &[Block], index: u16) -> Option<Point>
+    requires { IsOrder (map extent_of blocks.now) order.now }
+    ensures { result ≡ point_in blocks.now index }
+{
+    let (block, place) = find(order, index)?;
+    Some(blocks[block].points.as_slice()[place])
 }
 
 /// The number of the block that has the index, and the point's place in it.

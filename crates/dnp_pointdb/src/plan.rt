@@ -5,11 +5,13 @@ ghost use Rattle.dnp_pointdb.specs.declared.point.Block.{Block as BlockValue};
 ghost use Rattle.dnp_pointdb.specs.declared.fault.PlanFault.{PlanFault as FaultValue};
 ghost use Rattle.dnp_pointdb.specs.Blocks.{ShareIndex};
 ghost use Rattle.dnp_pointdb.specs.Classes as classes;
+ghost use Rattle.dnp_pointdb.specs.Order.{AreOrders};
 ghost use Rattle.dnp_pointdb.specs.Plan.{plan_of, blocks_of, IsPlanFault, IsFirst, IsSound, HasWrongPoint, HasTooMany, IsTooWide, IsWrong};
 
 use crate::blocks::Blocks;
 use crate::fault::PlanFault;
 use crate::limits::{INDICES, MAX_POINTS};
+use crate::order::{Orders, order_of, point_by};
 use crate::point::{Block, Point};
 use crate::taken::share_index;
 use dnp_objects::{CLASSES, Kind};
@@ -25,16 +27,20 @@ use std::marker::Model;
 pub struct PointPlan {
     /// The blocks of each kind, in the plan's order.
     blocks: Blocks,
+    /// How the points are looked up, once `prepare` was called.
+    orders: Option<Orders>,
 }
 
 impl Model for PointPlan {
+    ghost use Rattle.std.specs.Prelude.{IfSome};
     ghost use Rattle.dnp_pointdb.specs.Plan.{Plan, IsSound};
+    ghost use Rattle.dnp_pointdb.specs.Order.{AreOrders};
 
     ghost Value = { Plan };
 
     ghost view = { λ plan. plan.blocks };
 
-    ghost invariant = { λ plan. IsSound plan.blocks };
+    ghost invariant = { λ plan. IsSound plan.blocks × IfSome plan.orders (AreOrders plan.blocks) };
 }
 
 /// Whether a point of this kind has a class over `CLASSES`, or a deadband that is none of its kind's.
@@ -144,6 +150,20 @@ fn first_fault(blocks: &Blocks) -> Option<PlanFault>
     None
 }
 
+/// How the points of these blocks are looked up.
+fn orders_of(alloc: Global, blocks: &Blocks) -> Result<Orders, AllocError>
+    requires { IsSound blocks.now }
+    ensures { IfOk result (AreOrders blocks.now) }
+{
+    Ok(Orders {
+        of_kinds: [
+            order_of(alloc, blocks.of(Kind::Binary))?,
+            order_of(alloc, blocks.of(Kind::Counter))?,
+            order_of(alloc, blocks.of(Kind::Analog))?,
+        ],
+    })
+}
+
 /// The point of this index, if one of the blocks has it.
 fn point_in(blocks: &[Block], index: u16) -> Option<Point>
     ensures { result ≡ classes.point_in blocks.now index }
@@ -183,7 +203,10 @@ impl PointPlan {
         let blocks = Blocks::new(binary, counter, analog);
         match first_fault(&blocks) {
             Some(fault) => Err(fault),
-            None => Ok(PointPlan { blocks }),
+            None => Ok(PointPlan {
+                blocks,
+                orders: None,
+            }),
         }
     }
 
@@ -195,11 +218,33 @@ impl PointPlan {
         self.blocks.of(kind)
     }
 
-    /// The class of the point, 0 to 3, if the plan has it.
+    /// Makes look-ups quick, if there is memory for that: from then on they take logarithmic time, and
+    /// before that they go through the blocks one by one. What is asked again costs nothing.
+    pub fn prepare(&mut self, alloc: Global)
+        ensures { self.new ≡ self.old }
+    {
+        if self.orders.is_none() {
+            if let Ok(orders) = orders_of(alloc, &self.blocks) {
+                self.orders = Some(orders);
+            }
+        }
+    }
+
+    /// The point of this kind and index, if the plan has it.
+    fn point(&self, kind: Kind, index: u16) -> Option<Point>
+        ensures { result ≡ classes.point_in (blocks_of self.now kind) index }
+    {
+        match &self.orders {
+            Some(orders) => point_by(orders.of(kind), self.blocks.of(kind), index),
+            None => point_in(self.blocks.of(kind), index),
+        }
+    }
+
+    /// The class of the point, if the plan has it.
     pub fn class_of(&self, kind: Kind, index: u16) -> Option<u8>
         ensures { result ≡ classes.class_at self.now kind index }
     {
-        point_in(self.blocks(kind), index).map(|point| point.class)
+        self.point(kind, index).map(|point| point.class)
     }
 
     /// The same plan again. An error says that it ran out of memory.
@@ -208,6 +253,7 @@ impl PointPlan {
     {
         Ok(PointPlan {
             blocks: self.blocks.try_clone(alloc)?,
+            orders: None,
         })
     }
 }
