@@ -43,13 +43,15 @@ one_at header lane number row xs same = ap (λ (b : Bool). cons_option (if b the
 
 one_off : (header lane number : ℕ) (row : Numbered) (xs : List Item) → (number ≡ lane → ⊥)
     → rows_in_lane number ((record { header = header; thing = Event lane row }) ∷ xs) ≡ rows_in_lane number xs
-one_off header lane number row xs other = ap (λ (b : Bool). cons_option (if b then Some row else None) (rows_in_lane number xs)) (ne_eqb lane number (λ e. other (sym e)))
+one_off header lane number row xs other =
+    ap (λ (b : Bool). cons_option (if b then Some row else None) (rows_in_lane number xs)) (ne_eqb lane number (λ e. other (sym e)))
 
 not_there : (header lane : ℕ) (row : Numbered) (xs : List Item) (numbers : List ℕ) → IsApart lane numbers
     → rows_over ((record { header = header; thing = Event lane row }) ∷ xs) numbers ≡ rows_over xs numbers
 not_there header lane row xs [] apart = refl
 not_there header lane row xs (number ∷ numbers) apart =
-    ap (λ (rows : List Numbered). map row_of rows ++ rows_over ((record { header = header; thing = Event lane row }) ∷ xs) numbers) (one_off header lane number row xs apart.0)
+    ap (λ (rows : List Numbered). map row_of rows ++ rows_over ((record { header = header; thing = Event lane row }) ∷ xs) numbers)
+    (one_off header lane number row xs apart.0)
     ∙ ap (λ (rest : List Row). map row_of (rows_in_lane number xs) ++ rest) (not_there header lane row xs numbers apart.1)
 
 once_more : (header lane : ℕ) (row : Numbered) (xs : List Item) (numbers : List ℕ) → IsAmong lane numbers
@@ -61,7 +63,8 @@ once_more header lane row xs (number ∷ numbers) (inl here) =
     ap (λ (rows : List Numbered). map row_of rows ++ rows_over more numbers) (one_at header lane number row xs here.0)
     ∙ ap (λ (rest : List Row). row.row ∷ (map row_of (rows_in_lane number xs) ++ rest)) (not_there header lane row xs numbers here.1)
     in
-    subst (λ (rows : List Row). IsPermutation (row.row ∷ rows_over xs (number ∷ numbers)) rows) (sym is) (IsPermutation-refl (row.row ∷ rows_over xs (number ∷ numbers)))
+    subst (λ (rows : List Row). IsPermutation (row.row ∷ rows_over xs (number ∷ numbers)) rows) (sym is)
+    (IsPermutation-refl (row.row ∷ rows_over xs (number ∷ numbers)))
 once_more header lane row xs (number ∷ numbers) (inr there) =
     let more : List Item = (record { header = header; thing = Event lane row }) ∷ xs in
     let own = map row_of (rows_in_lane number xs) in
@@ -70,7 +73,8 @@ once_more header lane row xs (number ∷ numbers) (inr there) =
     in
     subst (λ (rows : List Row). IsPermutation (row.row ∷ rows_over xs (number ∷ numbers)) rows) (sym is)
     (IsPermutation-trans (row.row ∷ (own ++ rows_over xs numbers)) (own ++ row.row ∷ rows_over xs numbers) (own ++ rows_over more numbers)
-    (IsPermutation-sym (own ++ row.row ∷ rows_over xs numbers) (row.row ∷ (own ++ rows_over xs numbers)) (IsPermutation-middle own row.row (rows_over xs numbers)))
+    (IsPermutation-sym (own ++ row.row ∷ rows_over xs numbers) (row.row ∷ (own ++ rows_over xs numbers))
+    (IsPermutation-middle own row.row (rows_over xs numbers)))
     (IsPermutation-append_right own (row.row ∷ rows_over xs numbers) (rows_over more numbers) (once_more header lane row xs numbers there.1)))
 
 -- an event is in one of the nine lanes

@@ -52,7 +52,8 @@ rows_upto rows items lane low rising starts =
 -- ---- of a READ
 
 -- the rows left of a tidy lane are a beginning of it
-left_starts : (s : Stock) (stood : ℕ) (given : List ℕ) (lane : ℕ) → IsSound s → IsTidy s given → lane < 9 → Starts (rows_left s stood given lane) (lane_at s lane).rows
+left_starts : (s : Stock) (stood : ℕ) (given : List ℕ) (lane : ℕ) → IsSound s → IsTidy s given → lane < 9
+    → Starts (rows_left s stood given lane) (lane_at s lane).rows
 left_starts s stood given lane sound tidy low =
     let rows = (lane_at s lane).rows in
     let id = slice_index given lane in
@@ -65,7 +66,8 @@ pub read_rows : (s : Source) (stood : ℕ) (place : Place) (headers : List Head)
 read_rows s stood place headers lane sound nine low =
     let items = items_left s stood place headers in
     starts_of_start (rows_in_lane lane (held_of items)) (rows_in_lane lane items) (rows_left s.lanes stood place.given lane) (held_rows items lane)
-    (item_rows s stood place.given place.header (parts_left place.count (map (part_of s) (drop place.header headers))) lane (lane_rises s.lanes lane sound low) (omega arith)
+    (item_rows s stood place.given place.header (parts_left place.count (map (part_of s) (drop place.header headers))) lane
+    (lane_rises s.lanes lane sound low) (omega arith)
     (read_once s place.count place.header headers lane))
 
 pub fragment_rows : (s : Source) (stood : ℕ) (place : Place) (headers : List Head) → IsSound s.lanes → IsTidy s.lanes place.given → length place.given ≡ 9
@@ -123,7 +125,8 @@ unfolding offered_of
 pushed_rows s enabled sound = λ lane low.
     let items = lane_items s (enabled_lanes 0 enabled) in
     rows_upto (lane_at s lane).rows (held_of items) lane low (lane_rises s lane sound low)
-    (starts_of_start (rows_in_lane lane (held_of items)) (rows_in_lane lane items) (lane_at s lane).rows (held_rows items lane) (once_lane s (enabled_lanes 0 enabled) lane (enabled_once 0 lane enabled)))
+    (starts_of_start (rows_in_lane lane (held_of items)) (rows_in_lane lane items) (lane_at s lane).rows (held_rows items lane)
+    (once_lane s (enabled_lanes 0 enabled) lane (enabled_once 0 lane enabled)))
 
 -- ---- a release of these ids
 
@@ -139,11 +142,13 @@ flat_map_map f (k ∷ ks) = ap (λ l. f (suc k) ++ l) (flat_map_map f ks)
 abbrev taken_rows : List LaneState → List ℕ → ℕ → List Row
 taken_rows lanes ids k = up_to (get_or ids k 0) (get_or lanes k no_lane)
 
-each_lane : (lanes : List LaneState) (ids : List ℕ) → length ids ≡ length lanes → lanes_up_to lanes ids ≡ flat_map (taken_rows lanes ids) (counted (length lanes))
+each_lane : (lanes : List LaneState) (ids : List ℕ) → length ids ≡ length lanes
+    → lanes_up_to lanes ids ≡ flat_map (taken_rows lanes ids) (counted (length lanes))
 each_lane [] ids same = refl
 each_lane (lane ∷ lanes) [] same = absurd (omega arith)
 each_lane (lane ∷ lanes) (id ∷ ids) same =
-    ap (λ (l : List Row). up_to id lane ++ l) (each_lane lanes ids (omega arith) ∙ sym (flat_map_map (taken_rows (lane ∷ lanes) (id ∷ ids)) (counted (length lanes))))
+    ap (λ (l : List Row). up_to id lane ++ l)
+    (each_lane lanes ids (omega arith) ∙ sym (flat_map_map (taken_rows (lane ∷ lanes) (id ∷ ids)) (counted (length lanes))))
 
 abbrev AllBelow : ℕ → List ℕ → Type 0
 AllBelow n [] = Unit {0}
@@ -157,8 +162,10 @@ nine_below : AllBelow 9 lane_numbers
 nine_below = (omega arith, (omega arith, (omega arith, (omega arith, (omega arith, (omega arith, (omega arith, (omega arith, (omega arith, tt)))))))))
 
 -- a release of ids takes the rows up to them
-pub released_rows : (s : Stock) (ids : List ℕ) (items : List Item) → length s.lanes ≡ 9 → length ids ≡ 9 → AreRowsUpto s ids items → all_up_to s ids ≡ rows_by_lane items
+pub released_rows : (s : Stock) (ids : List ℕ) (items : List Item) → length s.lanes ≡ 9 → length ids ≡ 9 → AreRowsUpto s ids items
+    → all_up_to s ids ≡ rows_by_lane items
 released_rows s ids items nine nine_ids are =
     each_lane s.lanes ids (nine_ids ∙ sym nine)
     ∙ ap (λ (n : ℕ). flat_map (taken_rows s.lanes ids) (counted n)) nine
-    ∙ flat_map_agree 9 (taken_rows s.lanes ids) (λ lane. map row_of (rows_in_lane lane items)) lane_numbers nine_below (λ lane low. ap (map row_of) (sym (are lane low)))
+    ∙ flat_map_agree 9 (taken_rows s.lanes ids) (λ lane. map row_of (rows_in_lane lane items)) lane_numbers nine_below
+    (λ lane low. ap (map row_of) (sym (are lane low)))

@@ -1,5 +1,5 @@
 -- What a request makes of an outstation: the connection and the lanes stay, and the answer is that of a READ or plain.
-use Rattle.std.proofs.Common.{◌≡◌, ◌⊎◌, inl, inr, Bool, true, false, if◌then◌else◌, refl, ℕ, ◌==◌, List, [], Option, None, Some, IfSome, IsSome, Result, Ok, Err}
+use Rattle.std.proofs.Common.{Bool, true, false, if◌then◌else◌, refl, ℕ, ◌==◌, List, [], IfSome, IsSome, Result, Ok, Err}
 use Rattle.std.specs.List.{list_all}
 use Rattle.dnp_appfragment.specs.declared.fault.AppFault.{AppFault}
 use Rattle.dnp_appfragment.specs.declared.function.Function.{Function}
@@ -24,7 +24,8 @@ pub record IsDone (s : State) (o : Panel) (x : Executed) : Type 0 where
   pub content : IfSome x.content (IsContent s o)
 
 -- another restart bit, or other classes enabled
-others_keep : (s : State) (restart : Bool) (enabled : List Bool) → KeepsConnection s (record s { core = record s.core { restart = restart; enabled = enabled } })
+others_keep : (s : State) (restart : Bool) (enabled : List Bool)
+    → KeepsConnection s (record s { core = record s.core { restart = restart; enabled = enabled } })
 others_keep s restart enabled = record { is_open = refl; last = refl; awaited = refl; unsolicited = refl; next = refl; lanes = refl }
 
 plain_done : (s after : State) (o : Panel) (bits : ℕ) → KeepsConnection s after → IsDone s o (answered after (plain bits []))
@@ -39,7 +40,8 @@ either s o false x y first second = second
 
 function_done : (s : State) (o : Panel) (headers : List Head) (f : Function) → IsDone s o (by_function s o headers f)
 function_done s o headers function.Read =
-    either s o (list_all (is_inside (source_of s o)) headers) (answered s (read_content s o (last_in s.lanes) first_place headers)) (refused s parameter_error)
+    either s o (list_all (is_inside (source_of s o)) headers) (answered s (read_content s o (last_in s.lanes) first_place headers))
+    (refused s parameter_error)
     (record { keeps = others_keep s s.core.restart s.core.enabled; some = refl; content = Reads headers }) (refused_done s o parameter_error)
 function_done s o headers function.Write =
     either s o (write_bits headers == 0) (answered (written s headers) (plain 0 [])) (refused s (write_bits headers))

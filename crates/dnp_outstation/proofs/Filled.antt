@@ -15,9 +15,20 @@ use Rattle.dnp_outstation.proofs.Taken.{Holds, heads_are, empty_holds, put_holds
 -- what ends with these items
 ended_is : (is_last : Bool) (place : Place) (w : Writer) (items : List Item) → Holds place w items → ended is_last w ≡ filled_with is_last place items
 ended_is is_last place w items holds =
-    ap (λ (hs : List Head). let f : Filled = record { headers = hs; upto = w.upto; left = if is_last then None else Some w.place } in f) (heads_are place w items holds)
-    ∙ ap (λ (ids : List ℕ). let f : Filled = record { headers = (filled_with is_last place items).headers; upto = ids; left = if is_last then None else Some w.place } in f) holds.upto_is
-    ∙ ap (λ (p : Place). let f : Filled = record { headers = (filled_with is_last place items).headers; upto = (filled_with is_last place items).upto; left = if is_last then None else Some p } in f) holds.place_is
+    ap (λ (hs : List Head). let f : Filled = record { headers = hs; upto = w.upto; left = if is_last then None else Some w.place } in f)
+    (heads_are place w items holds)
+    ∙ ap (λ (ids : List ℕ). let f : Filled = record {
+      headers =
+          (filled_with is_last place items).headers;
+      upto = ids;
+      left = if is_last then None else Some w.place;
+    } in f) holds.upto_is
+    ∙ ap (λ (p : Place). let f : Filled = record {
+      headers = (filled_with is_last place items).headers;
+      upto =
+          (filled_with is_last place items).upto;
+      left = if is_last then None else Some p;
+    } in f) holds.place_is
 
 -- the longest beginning of these items, put together
 abbrev offered_with : Place → List Item → List Item → Filled
@@ -53,7 +64,8 @@ filled place w items (y ∷ ys) holds fit = by (filled place (put w y) (items ++
     by behind false past_end =
         let fits_now : fits_fragment items ≡ true = sym (fits_is place w items holds) ∙ fit in
         let past : fits_fragment (items ++ y ∷ []) ≡ false = sym more_fits ∙ past_end in
-        let none : longest fits_fragment (items ++ y ∷ ys) ≡ items = longest_is fits_fragment items (y ∷ ys) fits_now (λ m low. over (take m ys) past (fits_fragment (items ++ y ∷ take m ys)) refl) in
+        let none : longest fits_fragment (items ++ y ∷ ys) ≡ items =
+        longest_is fits_fragment items (y ∷ ys) fits_now (λ m low. over (take m ys) past (fits_fragment (items ++ y ∷ take m ys)) refl) in
         let fewer : (length items == length (items ++ y ∷ ys)) ≡ false = ne_eqb _ _ (λ e. let l = length-append items (y ∷ ys) in omega arith) in
         ap (λ (b : Bool). if b then fill (put w y) ys else ended false w) past_end
         ∙ ended_is false place w items holds
@@ -61,7 +73,9 @@ filled place w items (y ∷ ys) holds fit = by (filled place (put w y) (items ++
         ∙ ap (λ (held : List Item). offered_with place (items ++ y ∷ ys) held) (sym none)
       where
         over : (zs : List Item) → fits_fragment (items ++ y ∷ []) ≡ false → (b : Bool) → fits_fragment (items ++ y ∷ zs) ≡ b → b ≡ false
-        over zs past true it = absurd (let short : fits_fragment (items ++ y ∷ []) ≡ true = fits_begins (items ++ y ∷ []) zs (ap fits_fragment (append_assoc items (y ∷ []) zs) ∙ it) in cc)
+        over zs past true it =
+            absurd (let short : fits_fragment (items ++ y ∷ [])
+            ≡ true = fits_begins (items ++ y ∷ []) zs (ap fits_fragment (append_assoc items (y ∷ []) zs) ∙ it) in cc)
         over zs past false it = refl
 
 -- from a place on

@@ -59,8 +59,10 @@ alike x y on = go x.header y.header x.thing y.thing on
 size_in_front : (x : Item) (found : List Stretch) → size_of (in_front x found) ≡ own x + added x (goes_first x found) + size_of found
 size_in_front x [] =
     let one = one_header (alone x) in
-    let plain : length (header_octets (header_of (alone x)) ++ []) ≡ length (header_octets (header_of (alone x))) = ap length (append-nil (header_octets (header_of (alone x)))) in
-    let alone_body : length (item_octets (range_of x.thing 0) (object_of x) ++ []) ≡ own x = ap length (append-nil (item_octets (range_of x.thing 0) (object_of x))) in
+    let plain : length (header_octets (header_of (alone x)) ++ []) ≡ length (header_octets (header_of (alone x))) =
+    ap length (append-nil (header_octets (header_of (alone x)))) in
+    let alone_body : length (item_octets (range_of x.thing 0) (object_of x) ++ []) ≡ own x =
+    ap length (append-nil (item_octets (range_of x.thing 0) (object_of x))) in
     omega arith
 size_in_front x (next ∷ others) = by (goes_on x next.first) refl
   where
@@ -81,15 +83,19 @@ size_in_front x (next ∷ others) = by (goes_on x next.first) refl
         let b = split next in
         let one = one_header longer in
         let two = one_header next in
-        let body_is : length (body x.thing (x ∷ next.first ∷ next.more)) ≡ own x + length (body x.thing (next.first ∷ next.more)) = length-append (item_octets (range_of x.thing 0) (object_of x)) (body x.thing (next.first ∷ next.more)) in
-        let moved : length (body x.thing (next.first ∷ next.more)) ≡ length (body next.first.thing (next.first ∷ next.more)) = ap length (same.bodies (next.first ∷ next.more)) in
+        let body_is : length (body x.thing (x ∷ next.first ∷ next.more)) ≡ own x + length (body x.thing (next.first ∷ next.more)) =
+        length-append (item_octets (range_of x.thing 0) (object_of x)) (body x.thing (next.first ∷ next.more)) in
+        let moved : length (body x.thing (next.first ∷ next.more)) ≡ length (body next.first.thing (next.first ∷ next.more)) =
+        ap length (same.bodies (next.first ∷ next.more)) in
         let heads : overhead x.thing ≡ overhead next.first.thing = same.overheads in
         omega arith
     by false off =
         let front : size_of (in_front x (next ∷ others)) ≡ size_of (alone x ∷ next ∷ others) = ap size_of (in_front_off x next.first next.more others off) in
-        let a : size_of (alone x ∷ next ∷ others) ≡ length (header_octets (header_of (alone x))) + size_of (next ∷ others) = length-append (header_octets (header_of (alone x))) (spelled (map header_of (next ∷ others))) in
+        let a : size_of (alone x ∷ next ∷ others) ≡ length (header_octets (header_of (alone x))) + size_of (next ∷ others) =
+        length-append (header_octets (header_of (alone x))) (spelled (map header_of (next ∷ others))) in
         let one = one_header (alone x) in
-        let alone_body : length (item_octets (range_of x.thing 0) (object_of x) ++ []) ≡ own x = ap length (append-nil (item_octets (range_of x.thing 0) (object_of x))) in
+        let alone_body : length (item_octets (range_of x.thing 0) (object_of x) ++ []) ≡ own x =
+        ap length (append-nil (item_octets (range_of x.thing 0) (object_of x))) in
         omega arith
 
 -- whether an item goes on with the first of other items
@@ -114,11 +120,13 @@ at_least x (y ∷ ys) = by (at_least y ys) (goes_on x y) refl
   where
     by : overhead y.thing ≤ size_with (y ∷ ys) → (b : Bool) → goes_on x y ≡ b → overhead x.thing ≤ size_with (x ∷ y ∷ ys)
     by behind true on =
-        let more : size_with (x ∷ y ∷ ys) ≡ own x + added x true + size_with (y ∷ ys) = size_more x (y ∷ ys) ∙ ap (λ (b : Bool). own x + added x b + size_with (y ∷ ys)) on in
+        let more : size_with (x ∷ y ∷ ys) ≡ own x + added x true + size_with (y ∷ ys) =
+        size_more x (y ∷ ys) ∙ ap (λ (b : Bool). own x + added x b + size_with (y ∷ ys)) on in
         let same : overhead x.thing ≡ overhead y.thing = (alike x y on).overheads in
         omega arith
     by behind false off =
-        let more : size_with (x ∷ y ∷ ys) ≡ own x + added x false + size_with (y ∷ ys) = size_more x (y ∷ ys) ∙ ap (λ (b : Bool). own x + added x b + size_with (y ∷ ys)) off in
+        let more : size_with (x ∷ y ∷ ys) ≡ own x + added x false + size_with (y ∷ ys) =
+        size_more x (y ∷ ys) ∙ ap (λ (b : Bool). own x + added x b + size_with (y ∷ ys)) off in
         omega arith
 
 sizes_grow : (xs ys : List Item) → size_with xs ≤ size_with (xs ++ ys)
@@ -129,13 +137,15 @@ sizes_grow (x ∷ []) (y ∷ ys) = by (goes_on x y) refl
     by : (b : Bool) → goes_on x y ≡ b → size_with (x ∷ []) ≤ size_with (x ∷ y ∷ ys)
     by true on =
         let one = size_more x [] in
-        let more : size_with (x ∷ y ∷ ys) ≡ own x + added x true + size_with (y ∷ ys) = size_more x (y ∷ ys) ∙ ap (λ (b : Bool). own x + added x b + size_with (y ∷ ys)) on in
+        let more : size_with (x ∷ y ∷ ys) ≡ own x + added x true + size_with (y ∷ ys) =
+        size_more x (y ∷ ys) ∙ ap (λ (b : Bool). own x + added x b + size_with (y ∷ ys)) on in
         let behind = at_least y ys in
         let same : overhead x.thing ≡ overhead y.thing = (alike x y on).overheads in
         omega arith
     by false off =
         let one = size_more x [] in
-        let more : size_with (x ∷ y ∷ ys) ≡ own x + added x false + size_with (y ∷ ys) = size_more x (y ∷ ys) ∙ ap (λ (b : Bool). own x + added x b + size_with (y ∷ ys)) off in
+        let more : size_with (x ∷ y ∷ ys) ≡ own x + added x false + size_with (y ∷ ys) =
+        size_more x (y ∷ ys) ∙ ap (λ (b : Bool). own x + added x b + size_with (y ∷ ys)) off in
         omega arith
 sizes_grow (x ∷ z ∷ xs) ys =
     let few = size_more x (z ∷ xs) in

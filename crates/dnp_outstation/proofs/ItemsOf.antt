@@ -49,10 +49,12 @@ is_part Q s h all =
     let P : Static → Type 0 = λ x. (header : ℕ) → Q (present_of header x) in
     let four : All P (statics_of s 1 ++ statics_of s 10 ++ statics_of s 20 ++ statics_of s 30) =
     All-append P (statics_of s 1 ++ statics_of s 10 ++ statics_of s 20) (statics_of s 30)
-    (All-append P (statics_of s 1 ++ statics_of s 10) (statics_of s 20) (All-append P (statics_of s 1) (statics_of s 10) (all.present 1) (all.present 10)) (all.present 20))
+    (All-append P (statics_of s 1 ++ statics_of s 10) (statics_of s 20) (All-append P (statics_of s 1) (statics_of s 10) (all.present 1) (all.present 10))
+    (all.present 20))
     (all.present 30)
     in
-    let own : All P (in_range h.range (statics_of s h.group)) = All-filter (λ (x : Static). is_within h.range x.row.index) P (statics_of s h.group) (all.present h.group) in
+    let own : All P (in_range h.range (statics_of s h.group)) =
+    All-filter (λ (x : Static). is_within h.range x.row.index) P (statics_of s h.group) (all.present h.group) in
     either Q (h.group == 60 && h.variation == 2) _ _ (omega arith, (omega arith, (omega arith, tt)))
     (either Q (h.group == 60 && h.variation == 3) _ _ (omega arith, (omega arith, (omega arith, tt)))
     (either Q (h.group == 60 && h.variation == 4) _ _ (omega arith, (omega arith, (omega arith, tt)))
@@ -86,19 +88,24 @@ event_items_are Q s stood given header most (lane ∷ lanes) all low =
     let P : Numbered → Type 0 = λ x. (h : ℕ) → Q (event_of h lane x) in
     let rows = (lane_at s.lanes lane).rows in
     let left : All P (rows_left s.lanes stood given lane) =
-    All-filter (λ (x : Numbered). nat_le x.id stood) P (filter (λ x. nat_lt (slice_index given lane) x.id) rows) (All-filter (λ (x : Numbered). nat_lt (slice_index given lane) x.id) P rows (all.events lane low.0))
+    All-filter (λ (x : Numbered). nat_le x.id stood) P (filter (λ x. nat_lt (slice_index given lane) x.id) rows)
+    (All-filter (λ (x : Numbered). nat_lt (slice_index given lane) x.id) P rows (all.events lane low.0))
     in
     let own = at_most most (rows_left s.lanes stood given lane) in
     All-append Q (map (event_of header lane) own) (event_items s.lanes stood given header (less most (length own)) lanes)
-    (All-map Q (event_of header lane) own (All-weaker P (λ (x : Numbered). Q (event_of header lane x)) (λ x h. h header) own (all_most P most (rows_left s.lanes stood given lane) left)))
+    (All-map Q (event_of header lane) own
+    (All-weaker P (λ (x : Numbered). Q (event_of header lane x)) (λ x h. h header) own (all_most P most (rows_left s.lanes stood given lane) left)))
     (event_items_are Q s stood given header (less most (length own)) lanes all low.1)
 
-part_items_are : (Q : Item → Type 0) (s : Source) (stood : ℕ) (given : List ℕ) (header : ℕ) (part : Part) → AreAll Q s → IsPart Q part → All Q (part_items s stood given header part)
+part_items_are : (Q : Item → Type 0) (s : Source) (stood : ℕ) (given : List ℕ) (header : ℕ) (part : Part) → AreAll Q s → IsPart Q part
+    → All Q (part_items s stood given header part)
 part_items_are Q s stood given header (RowsOf lanes most) all low = event_items_are Q s stood given header most lanes all low
 part_items_are Q s stood given header (StaticsOf statics) all own =
-    All-map Q (present_of header) statics (All-weaker (λ (x : Static). (h : ℕ) → Q (present_of h x)) (λ (x : Static). Q (present_of header x)) (λ x h. h header) statics own)
+    All-map Q (present_of header) statics
+    (All-weaker (λ (x : Static). (h : ℕ) → Q (present_of h x)) (λ (x : Static). Q (present_of header x)) (λ x h. h header) statics own)
 
-items_are : (Q : Item → Type 0) (s : Source) (stood : ℕ) (given : List ℕ) (header : ℕ) (parts : List Part) → AreAll Q s → AreParts Q parts → All Q (items_of s stood given header parts)
+items_are : (Q : Item → Type 0) (s : Source) (stood : ℕ) (given : List ℕ) (header : ℕ) (parts : List Part) → AreAll Q s → AreParts Q parts
+    → All Q (items_of s stood given header parts)
 items_are Q s stood given header [] all parts = All-nil Q
 items_are Q s stood given header (part ∷ parts) all are =
     let own = part_items s stood given header part in
@@ -111,16 +118,19 @@ unfolding held_of
 held_are Q items all =
     All-first Q (held_of items) (drop (length (held_of items)) items) (subst (All Q) (begins_with fits_fragment items refl) all)
 
-read_are : (Q : Item → Type 0) (s : Source) (stood : ℕ) (place : Place) (headers : List Head) → AreAll Q s → All Q (held_of (items_left s stood place headers))
+read_are : (Q : Item → Type 0) (s : Source) (stood : ℕ) (place : Place) (headers : List Head) → AreAll Q s
+    → All Q (held_of (items_left s stood place headers))
 read_are Q s stood place headers all =
     held_are Q (items_left s stood place headers)
     (items_are Q s stood place.given place.header (parts_left place.count (map (part_of s) (drop place.header headers))) all
     (left_parts Q place.count (map (part_of s) (drop place.header headers)) (are_parts Q s (drop place.header headers) all)))
 
-lane_items_are : (Q : Item → Type 0) (s : Stock) (lanes : List ℕ) → ((lane : ℕ) → lane < 9 → All (λ x. Q (event_of 0 lane x)) (lane_at s lane).rows) → AreLow lanes → All Q (lane_items s lanes)
+lane_items_are : (Q : Item → Type 0) (s : Stock) (lanes : List ℕ) → ((lane : ℕ) → lane < 9 → All (λ x. Q (event_of 0 lane x)) (lane_at s lane).rows)
+    → AreLow lanes → All Q (lane_items s lanes)
 lane_items_are Q s [] all low = All-nil Q
 lane_items_are Q s (lane ∷ lanes) all low =
-    All-append Q (map (event_of 0 lane) (lane_at s lane).rows) (lane_items s lanes) (All-map Q (event_of 0 lane) (lane_at s lane).rows (all lane low.0)) (lane_items_are Q s lanes all low.1)
+    All-append Q (map (event_of 0 lane) (lane_at s lane).rows) (lane_items s lanes) (All-map Q (event_of 0 lane) (lane_at s lane).rows (all lane low.0))
+    (lane_items_are Q s lanes all low.1)
 
 enabled_low : (class : ℕ) (enabled : List Bool) → class + length enabled ≤ 3 → AreLow (enabled_lanes class enabled)
 enabled_low class [] few = tt
@@ -138,19 +148,22 @@ lane_of (suc (suc (suc (suc zero)))) low = (record { class = 2; kind = Counter; 
 lane_of (suc (suc (suc (suc (suc zero))))) low = (record { class = 2; kind = Analog; at_least_1 = omega arith; at_most_3 = omega arith }, refl)
 lane_of (suc (suc (suc (suc (suc (suc zero)))))) low = (record { class = 3; kind = Binary; at_least_1 = omega arith; at_most_3 = omega arith }, refl)
 lane_of (suc (suc (suc (suc (suc (suc (suc zero))))))) low = (record { class = 3; kind = Counter; at_least_1 = omega arith; at_most_3 = omega arith }, refl)
-lane_of (suc (suc (suc (suc (suc (suc (suc (suc zero)))))))) low = (record { class = 3; kind = Analog; at_least_1 = omega arith; at_most_3 = omega arith }, refl)
+lane_of (suc (suc (suc (suc (suc (suc (suc (suc zero)))))))) low =
+    (record { class = 3; kind = Analog; at_least_1 = omega arith; at_most_3 = omega arith }, refl)
 lane_of (suc (suc (suc (suc (suc (suc (suc (suc (suc n))))))))) low = absurd (omega arith)
 
 lane_events : (s : Stock) (lane : ℕ) → IsSound s → lane < 9 → All (λ x. IsEvent x.row) (lane_at s lane).rows
 lane_events s lane sound low =
     let of = lane_of lane low in
-    All-weaker (λ (x : Numbered). IsCarried (record { lane = of.0; row = x.row })) (λ (x : Numbered). IsEvent x.row) (λ x h. h.fits) (lane_at s lane).rows ((sound.each lane low).carried of.0 of.1)
+    All-weaker (λ (x : Numbered). IsCarried (record { lane = of.0; row = x.row })) (λ (x : Numbered). IsEvent x.row) (λ x h. h.fits) (lane_at s lane).rows
+    ((sound.each lane low).carried of.0 of.1)
 
 events_stand : (s : Stock) (lane : ℕ) → IsSound s → lane < 9 → All (λ x. x.row.index < 2 ^ 16) (lane_at s lane).rows
     → All (λ x. (header : ℕ) → CanStand (event_of header lane x)) (lane_at s lane).rows
 events_stand s lane sound low short = λ k d within header. (lane_events s lane sound low k d within, short k d within)
 
-pub held_stand : (s : Source) (stood : ℕ) (place : Place) (headers : List Head) → IsSound s.lanes → AreWritable s → All CanStand (held_of (items_left s stood place headers))
+pub held_stand : (s : Source) (stood : ℕ) (place : Place) (headers : List Head) → IsSound s.lanes → AreWritable s
+    → All CanStand (held_of (items_left s stood place headers))
 held_stand s stood place headers sound writable = read_are CanStand s stood place headers (record {
   events = λ lane low. events_stand s.lanes lane sound low (writable.events lane low);
   present = λ group k d within header. writable.present group k d within;
@@ -162,12 +175,15 @@ held_low s stood place headers = read_are IsLow s stood place headers (record {
   present = λ group k d within header. tt;
 })
 
-pub pushed_stand : (s : Stock) (enabled : List Bool) → IsSound s → length enabled ≤ 3 → ((lane : ℕ) → lane < 9 → All (λ x. x.row.index < 2 ^ 16) (lane_at s lane).rows)
+pub pushed_stand : (s : Stock) (enabled : List Bool) → IsSound s → length enabled ≤ 3
+    → ((lane : ℕ) → lane < 9 → All (λ x. x.row.index < 2 ^ 16) (lane_at s lane).rows)
     → All CanStand (held_of (lane_items s (enabled_lanes 0 enabled)))
 pushed_stand s enabled sound few short =
     held_are CanStand (lane_items s (enabled_lanes 0 enabled))
-    (lane_items_are CanStand s (enabled_lanes 0 enabled) (λ lane low k d within. events_stand s lane sound low (short lane low) k d within 0) (enabled_low 0 enabled (omega arith)))
+    (lane_items_are CanStand s (enabled_lanes 0 enabled) (λ lane low k d within. events_stand s lane sound low (short lane low) k d within 0)
+    (enabled_low 0 enabled (omega arith)))
 
 pub pushed_low : (s : Stock) (enabled : List Bool) → length enabled ≤ 3 → All IsLow (held_of (lane_items s (enabled_lanes 0 enabled)))
 pushed_low s enabled few =
-    held_are IsLow (lane_items s (enabled_lanes 0 enabled)) (lane_items_are IsLow s (enabled_lanes 0 enabled) (λ lane low k d within. low) (enabled_low 0 enabled (omega arith)))
+    held_are IsLow (lane_items s (enabled_lanes 0 enabled))
+    (lane_items_are IsLow s (enabled_lanes 0 enabled) (λ lane low k d within. low) (enabled_low 0 enabled (omega arith)))

@@ -89,7 +89,8 @@ behind_next x y on = go x.header y.header x.thing y.thing on
 pub chain_behind : (x : Item) (more : List Item) → IsChain x more → IsBehind x (length more) (last_item x more)
 chain_behind x [] chain = behind_itself x
 chain_behind x (y ∷ ys) chain =
-    let far : IsBehind x (1 + length ys) (last_item y ys) = behind_on x y (last_item y ys) 1 (length ys) (behind_next x y chain.0) (chain_behind y ys chain.1) in
+    let far : IsBehind x (1 + length ys) (last_item y ys) =
+    behind_on x y (last_item y ys) 1 (length ys) (behind_next x y chain.0) (chain_behind y ys chain.1) in
     let e : 1 + length ys ≡ length (y ∷ ys) = omega arith in
     rw (sym e) far
 
@@ -124,7 +125,8 @@ joined_by : (a b : Head) (r : Range) (octets : List ℕ) → a.group ≡ b.group
     → joined a b ≡ Some (record { group = a.group; variation = a.variation; range = r; octets = octets })
 joined_by a b r octets group variation range_is octets_are =
     let same : ((a.group == b.group) && (a.variation == b.variation)) ≡ true = and_from _ _ (eq-eqb _ _ group) (eq-eqb _ _ variation) in
-    ap (λ (t : Bool). if t then option_map (λ (q : Range). record { group = a.group; variation = a.variation; range = q; octets = a.octets ++ b.octets }) (joined_range a.range b.range) else None) same
+    ap (λ (t : Bool). if t then option_map (λ (q : Range). record { group = a.group; variation = a.variation; range = q; octets = a.octets ++ b.octets })
+    (joined_range a.range b.range) else None) same
     ∙ ap (option_map (λ (q : Range). record { group = a.group; variation = a.variation; range = q; octets = a.octets ++ b.octets })) range_is
     ∙ ap (λ (o : List ℕ). Some (record { group = a.group; variation = a.variation; range = r; octets = o })) (sym octets_are)
 
@@ -146,7 +148,8 @@ joins x more y behind few = go x.header y.header x.thing y.thing behind few
         ap (λ (t : Bool). if t then Some (range.Indexed true ((length more + 1) + 1)) else None) (lt-ltb ((length more + 1) + 1) (2 ^ 16) small)
         ∙ ap (λ (k : ℕ). Some (range.Indexed true k)) long
         in
-        joined_by (header_of (record { first = x'; more = more })) (written_of y') (range.Indexed true n) (header_of (record { first = x'; more = more ++ y' ∷ [] })).octets p.1 p.2 range_is
+        joined_by (header_of (record { first = x'; more = more })) (written_of y') (range.Indexed true n)
+        (header_of (record { first = x'; more = more ++ y' ∷ [] })).octets p.1 p.2 range_is
         (octets_more (range.Indexed true n) x' more y')
     go h h' (Event lane a) (Present b) p low = absurd p
     go h h' (Present a) (Event lane' b) p low = absurd p
@@ -157,18 +160,21 @@ joins x more y behind few = go x.header y.header x.thing y.thing behind few
         let at : a.row.index + (length more + 1) ≡ b.row.index = p.3 in
         let next : a.row.index + length more + 1 ≡ b.row.index = omega arith in
         let end : b.row.index ≡ n = omega (arith, length_push more y') in
-        let range_is : joined_range (range.Span true a.row.index (a.row.index + length more)) (range.Span true b.row.index b.row.index) ≡ Some (range.Span true a.row.index n) =
+        let range_is : joined_range (range.Span true a.row.index (a.row.index + length more)) (range.Span true b.row.index b.row.index)
+        ≡ Some (range.Span true a.row.index n) =
         ap (λ (t : Bool). if t then Some (range.Span true a.row.index b.row.index) else None) (eq-eqb (a.row.index + length more + 1) b.row.index next)
         ∙ ap (λ (k : ℕ). Some (range.Span true a.row.index k)) end
         in
-        joined_by (header_of (record { first = x'; more = more })) (written_of y') (range.Span true a.row.index n) (header_of (record { first = x'; more = more ++ y' ∷ [] })).octets p.1
+        joined_by (header_of (record { first = x'; more = more })) (written_of y') (range.Span true a.row.index n)
+        (header_of (record { first = x'; more = more ++ y' ∷ [] })).octets p.1
         (ap written.point_variation p.1) range_is (octets_more (range.Span true a.row.index n) x' more y')
 
 -- ---- headers that don't
 
 no_join_by : (a b : Head) → ((a.group == b.group) && (a.variation == b.variation)) ≡ false → joined a b ≡ None
 no_join_by a b other =
-    ap (λ (t : Bool). if t then option_map (λ (q : Range). record { group = a.group; variation = a.variation; range = q; octets = a.octets ++ b.octets }) (joined_range a.range b.range) else None) other
+    ap (λ (t : Bool). if t then option_map (λ (q : Range). record { group = a.group; variation = a.variation; range = q; octets = a.octets ++ b.octets })
+    (joined_range a.range b.range) else None) other
 
 none_either_way : (t : Bool) (f : Range → Head) (o : Option Range) → o ≡ None → (if t then option_map f o else None) ≡ None
 none_either_way true f o none = ap (option_map f) none
@@ -187,8 +193,10 @@ no_join x more last y behind same off = go x.header last.header y.header x.thing
         → goes_on (record { header = h'; thing = t' }) (record { header = h''; thing = t'' }) ≡ false
         → joined (header_of (record { first = record { header = h; thing = t }; more = more })) (written_of (record { header = h''; thing = t'' })) ≡ None
     go h h' h'' (Event lane a) (Event lane' b) (Event lane'' c) p one other =
-        let apart : (((event_item b.row).group == (event_item c.row).group) && ((event_item b.row).variation == (event_item c.row).variation)) ≡ false = other_by _ _ one other in
-        no_join_by (header_of (record { first = record { header = h; thing = Event lane a }; more = more })) (written_of (record { header = h''; thing = Event lane'' c }))
+        let apart : (((event_item b.row).group == (event_item c.row).group) && ((event_item b.row).variation == (event_item c.row).variation)) ≡ false =
+        other_by _ _ one other in
+        no_join_by (header_of (record { first = record { header = h; thing = Event lane a }; more = more }))
+        (written_of (record { header = h''; thing = Event lane'' c }))
         (ap (λ (g : ℕ). (g == (event_item c.row).group) && ((event_item a.row).variation == (event_item c.row).variation)) p.1
         ∙ ap (λ (v : ℕ). ((event_item b.row).group == (event_item c.row).group) && (v == (event_item c.row).variation)) p.2 ∙ apart)
     go h h' h'' (Event lane a) (Event lane' b) (Present c) p one other = cc
@@ -201,5 +209,6 @@ no_join x more last y behind same off = go x.header last.header y.header x.thing
         let apart' : (a.row.index + length more + 1 == c.row.index) ≡ false = ap (λ (i : ℕ). i + 1 == c.row.index) at ∙ apart in
         let a' = header_of (record { first = record { header = h; thing = Present a }; more = more }) in
         let c' = written_of (record { header = h''; thing = Present c }) in
-        none_either_way ((a'.group == c'.group) && (a'.variation == c'.variation)) (λ (q : Range). record { group = a'.group; variation = a'.variation; range = q; octets = a'.octets ++ c'.octets })
+        none_either_way ((a'.group == c'.group) && (a'.variation == c'.variation))
+        (λ (q : Range). record { group = a'.group; variation = a'.variation; range = q; octets = a'.octets ++ c'.octets })
         (joined_range a'.range c'.range) (ap (λ (t : Bool). if t then Some (range.Span true a.row.index c.row.index) else None) apart')

@@ -71,7 +71,8 @@ apart_rows s stood given header most (number ∷ numbers) lane apart =
 event_rows : (s : Stock) (stood : ℕ) (given : List ℕ) (header : ℕ) (most : Option ℕ) (numbers : List ℕ) (lane : ℕ) → IsOnce lane numbers
     → Starts (rows_in_lane lane (event_items s stood given header most numbers)) (rows_left s stood given lane)
 event_rows s stood given header most [] lane once = record { rest = rows_left s stood given lane; is = refl }
-event_rows s stood given header most (number ∷ numbers) lane once = by (event_rows s stood given header (less most (length rows)) numbers lane once.1) (cases_eq number lane)
+event_rows s stood given header most (number ∷ numbers) lane once =
+    by (event_rows s stood given header (less most (length rows)) numbers lane once.1) (cases_eq number lane)
   where
     rows : List Numbered
     rows = at_most most (rows_left s stood given number)
@@ -131,11 +132,14 @@ last_given given (x ∷ xs) lane low =
             ap (λ (k : ℕ). get_or (set given k row.id) lane 0) same ∙ get_or-set_same given lane row.id 0 low
             in
             ap (λ (id : ℕ). last_or id (rows_in_lane lane xs)) written
-            ∙ ap (λ (b : Bool). last_or (slice_index given lane) (cons_option (if b then Some row else None) (rows_in_lane lane xs))) (sym (eq-eqb number lane same))
+            ∙ ap (λ (b : Bool). last_or (slice_index given lane) (cons_option (if b then Some row else None) (rows_in_lane lane xs)))
+            (sym (eq-eqb number lane same))
         by (inr other) =
-            let as_before : slice_index (slice_set given number row.id) lane ≡ slice_index given lane = get_or-set_other given number lane row.id 0 (λ e. other (sym e)) in
+            let as_before : slice_index (slice_set given number row.id) lane ≡ slice_index given lane =
+            get_or-set_other given number lane row.id 0 (λ e. other (sym e)) in
             ap (λ (id : ℕ). last_or id (rows_in_lane lane xs)) as_before
-            ∙ ap (λ (b : Bool). last_or (slice_index given lane) (cons_option (if b then Some row else None) (rows_in_lane lane xs))) (sym (ne_eqb number lane other))
+            ∙ ap (λ (b : Bool). last_or (slice_index given lane) (cons_option (if b then Some row else None) (rows_in_lane lane xs)))
+            (sym (ne_eqb number lane other))
     go (Present static) = refl
 
 -- ---- all items of a READ
@@ -160,11 +164,13 @@ pub filter_swap : {A : Type 0} (p q : A → Bool) (xs : List A) → filter p (fi
 filter_swap p q [] = refl
 filter_swap p q (x ∷ xs) = by (p x) (q x) refl refl (filter_swap p q xs)
   where
-    left : (b : Bool) → filter p (cond b (x ∷ filter q xs) (filter q xs)) ≡ cond b (cond (p x) (x ∷ filter p (filter q xs)) (filter p (filter q xs))) (filter p (filter q xs))
+    left : (b : Bool) → filter p (cond b (x ∷ filter q xs) (filter q xs))
+        ≡ cond b (cond (p x) (x ∷ filter p (filter q xs)) (filter p (filter q xs))) (filter p (filter q xs))
     left true = refl
     left false = refl
 
-    right : (b : Bool) → filter q (cond b (x ∷ filter p xs) (filter p xs)) ≡ cond b (cond (q x) (x ∷ filter q (filter p xs)) (filter q (filter p xs))) (filter q (filter p xs))
+    right : (b : Bool) → filter q (cond b (x ∷ filter p xs) (filter p xs))
+        ≡ cond b (cond (q x) (x ∷ filter q (filter p xs)) (filter q (filter p xs))) (filter q (filter p xs))
     right true = refl
     right false = refl
 
@@ -185,14 +191,17 @@ left_behind : (s : Stock) (stood : ℕ) (given given' : List ℕ) (lane : ℕ) (
 left_behind s stood given given' lane xs rest rising last is =
     let rows = (lane_at s lane).rows in
     let up : Rising 0 (filter (upto stood) rows) = rising_filter (upto stood) 0 rows rising in
-    let now : filter (over (slice_index given lane)) (filter (upto stood) rows) ≡ xs ++ rest = filter_swap (over (slice_index given lane)) (upto stood) rows ∙ is in
-    let later : filter (over (last_or (slice_index given lane) xs)) (filter (upto stood) rows) ≡ rest = over_rest 0 (slice_index given lane) (filter (upto stood) rows) xs rest up now in
+    let now : filter (over (slice_index given lane)) (filter (upto stood) rows) ≡ xs ++ rest =
+    filter_swap (over (slice_index given lane)) (upto stood) rows ∙ is in
+    let later : filter (over (last_or (slice_index given lane) xs)) (filter (upto stood) rows) ≡ rest =
+    over_rest 0 (slice_index given lane) (filter (upto stood) rows) xs rest up now in
     ap (λ (id : ℕ). filter (upto stood) (filter (over id) rows)) last
     ∙ filter_swap (upto stood) (over (last_or (slice_index given lane) xs)) rows
     ∙ later
 
 -- lane by lane, the items of a READ are a beginning of the rows left
-pub item_rows : (s : Source) (stood : ℕ) (given : List ℕ) (header : ℕ) (parts : List Part) (lane : ℕ) → Rising 0 (lane_at s.lanes lane).rows → lane < length given → AllOnce lane parts
+pub item_rows : (s : Source) (stood : ℕ) (given : List ℕ) (header : ℕ) (parts : List Part) (lane : ℕ) → Rising 0 (lane_at s.lanes lane).rows
+    → lane < length given → AllOnce lane parts
     → Starts (rows_in_lane lane (items_of s stood given header parts)) (rows_left s.lanes stood given lane)
 item_rows s stood given header [] lane rising low once = record { rest = rows_left s.lanes stood given lane; is = refl }
 item_rows s stood given header (part ∷ parts) lane rising low once =
@@ -202,7 +211,8 @@ item_rows s stood given header (part ∷ parts) lane rising low once =
     let here : Starts (rows_in_lane lane items) (rows_left s.lanes stood given lane) = part_rows s stood given header part lane once.0 in
     let low' : lane < length given' = (let e = length_given given items in omega arith) in
     let there : Starts (rows_in_lane lane more) (rows_left s.lanes stood given' lane) = item_rows s stood given' (header + 1) parts lane rising low' once.1 in
-    let rest_is : rows_left s.lanes stood given' lane ≡ here.rest = left_behind s.lanes stood given given' lane (rows_in_lane lane items) here.rest rising (last_given given items lane low) here.is in
+    let rest_is : rows_left s.lanes stood given' lane ≡ here.rest =
+    left_behind s.lanes stood given given' lane (rows_in_lane lane items) here.rest rising (last_given given items lane low) here.is in
     let split : rows_in_lane lane (items ++ more) ≡ rows_in_lane lane items ++ rows_in_lane lane more = filter_map-append (row_in lane) items more in
     subst (λ (l : List Numbered). Starts l (rows_left s.lanes stood given lane)) (sym split)
     (record {

@@ -34,15 +34,18 @@ given_rise s stood given lane sound low =
     let id = slice_index given lane in
     let passed : List Numbered = filter (over id) rows in
     let up : Rising 0 (filter (upto stood) passed) = rising_filter (upto stood) 0 passed (rising_filter (over id) 0 rows (lane_rises s lane sound low)) in
-    let behind : All (λ (x : Numbered). id < x.id) passed = All-weaker (λ (x : Numbered). over id x ≡ true) (λ (x : Numbered). id < x.id) (λ x h. ltb-true id x.id h) passed (filter_passes (over id) rows) in
-    rising_from id (filter (upto stood) passed) (pairs_from 0 (filter (upto stood) passed) up) (All-filter (upto stood) (λ (x : Numbered). id < x.id) passed behind)
+    let behind : All (λ (x : Numbered). id < x.id) passed =
+    All-weaker (λ (x : Numbered). over id x ≡ true) (λ (x : Numbered). id < x.id) (λ x h. ltb-true id x.id h) passed (filter_passes (over id) rows) in
+    rising_from id (filter (upto stood) passed) (pairs_from 0 (filter (upto stood) passed) up)
+    (All-filter (upto stood) (λ (x : Numbered). id < x.id) passed behind)
 
 held_rise : (s : Source) (stood : ℕ) (place : Place) (headers : List Head) (lane : ℕ) → IsSound s.lanes → length place.given ≡ 9 → lane < 9
     → Rising (slice_index place.given lane) (rows_in_lane lane (held_of (items_left s stood place headers)))
 held_rise s stood place headers lane sound nine low =
     let held = rows_in_lane lane (held_of (items_left s stood place headers)) in
     let starts = read_rows s stood place headers lane sound nine low in
-    rising_begins (slice_index place.given lane) held starts.rest (subst (Rising (slice_index place.given lane)) starts.is (given_rise s.lanes stood place.given lane sound low))
+    rising_begins (slice_index place.given lane) held starts.rest
+    (subst (Rising (slice_index place.given lane)) starts.is (given_rise s.lanes stood place.given lane sound low))
 
 held_stood : (s : Source) (stood : ℕ) (place : Place) (headers : List Head) (lane : ℕ) → IsSound s.lanes → length place.given ≡ 9 → lane < 9
     → All (λ x. x.id ≤ stood) (rows_in_lane lane (held_of (items_left s stood place headers)))
@@ -51,7 +54,9 @@ held_stood s stood place headers lane sound nine low =
     let held = rows_in_lane lane (held_of (items_left s stood place headers)) in
     let starts = read_rows s stood place headers lane sound nine low in
     let passed : List Numbered = filter (over (slice_index place.given lane)) (lane_at s.lanes lane).rows in
-    let all : All P (rows_left s.lanes stood place.given lane) = All-weaker (λ (x : Numbered). upto stood x ≡ true) P (λ x h. leb-true x.id stood h) (filter (upto stood) passed) (filter_passes (upto stood) passed) in
+    let all : All P (rows_left s.lanes stood place.given lane) =
+    All-weaker (λ (x : Numbered). upto stood x ≡ true) P (λ x h. leb-true x.id stood h) (filter (upto stood) passed)
+    (filter_passes (upto stood) passed) in
     All-first P held starts.rest (subst (All P) starts.is all)
 
 pub held_next : (s : Source) (stood : ℕ) (place : Place) (headers : List Head) → IsSound s.lanes → length place.given ≡ 9
@@ -90,25 +95,29 @@ given_is s stood place next headers lane nine low is =
     ∙ ap (λ (ids : List ℕ). slice_index ids lane) (place_given place held)
     ∙ last_given place.given held lane (omega arith)
 
-nine_after : (s : Source) (stood : ℕ) (place next : Place) (headers : List Head) → length place.given ≡ 9 → (offered s stood place headers).left ≡ Some next → length next.given ≡ 9
+nine_after : (s : Source) (stood : ℕ) (place next : Place) (headers : List Head) → length place.given ≡ 9 → (offered s stood place headers).left ≡ Some next
+    → length next.given ≡ 9
 unfolding offered_of
 nine_after s stood place next headers nine is =
     let held = held_of (items_left s stood place headers) in
     let p : fold place_after place held ≡ next = chosen (length held == length (items_left s stood place headers)) (fold place_after place held) next is in
     ap (λ (q : Place). length q.given) (sym p) ∙ ap length (place_given place held) ∙ length_given place.given held ∙ nine
 
-pub moves_onward : (s : Source) (stood : ℕ) (place next : Place) (headers : List Head) → IsSound s.lanes → length place.given ≡ 9 → (offered s stood place headers).left ≡ Some next
+pub moves_onward : (s : Source) (stood : ℕ) (place next : Place) (headers : List Head) → IsSound s.lanes → length place.given ≡ 9
+    → (offered s stood place headers).left ≡ Some next
     → IsOnward place.given next.given
 moves_onward s stood place next headers sound nine is = record {
   nine = nine_after s stood place next headers nine is;
   rises = λ lane low.
       let held = rows_in_lane lane (held_of (items_left s stood place headers)) in
       let e = given_is s stood place next headers lane nine low is in
-      let up : slice_index place.given lane ≤ last_or (slice_index place.given lane) held = last_is_over (slice_index place.given lane) held (held_rise s stood place headers lane sound nine low) in
+      let up : slice_index place.given lane ≤ last_or (slice_index place.given lane) held =
+      last_is_over (slice_index place.given lane) held (held_rise s stood place headers lane sound nine low) in
       omega arith;
 }
 
-pub all_given : (s : Source) (stood : ℕ) (place next : Place) (headers : List Head) → IsSound s.lanes → length place.given ≡ 9 → (offered s stood place headers).left ≡ Some next
+pub all_given : (s : Source) (stood : ℕ) (place next : Place) (headers : List Head) → IsSound s.lanes → length place.given ≡ 9
+    → (offered s stood place headers).left ≡ Some next
     → AreGiven next.given (held_of (items_left s stood place headers))
 all_given s stood place next headers sound nine is = λ lane low.
     let held = rows_in_lane lane (held_of (items_left s stood place headers)) in
@@ -117,7 +126,8 @@ all_given s stood place next headers sound nine is = λ lane low.
     subst (λ (id : ℕ). All (λ (x : Numbered). x.id ≤ id) held) (sym e) all
 
 -- rows of one fragment, and of any later one
-pub given_before : (given later : List ℕ) (stood : ℕ) (items others : List Item) → AreGiven given items → IsOnward given later → AreNext later stood others → AreBefore items others
+pub given_before : (given later : List ℕ) (stood : ℕ) (items others : List Item) → AreGiven given items → IsOnward given later → AreNext later stood others
+    → AreBefore items others
 given_before given later stood items others reached onward next = λ lane low k d short j e within.
     let r : (get_or (rows_in_lane lane items) k d).id ≤ slice_index given lane = reached lane low k d short in
     let u : slice_index given lane ≤ slice_index later lane = onward.rises lane low in
@@ -131,13 +141,16 @@ from_first low low' [] = inl refl
 from_first low low' (x ∷ xs) = inr refl
 
 -- of what a READ was given nothing is left but what its new fragment carries
-pub new_leaves_nothing : (s : Source) (stood : ℕ) (place next : Place) (headers : List Head) → IsSound s.lanes → IsTidy s.lanes place.given → length place.given ≡ 9
-    → All (λ id. id ≤ s.lanes.last_id) place.given → (offered s stood place headers).left ≡ Some next → LeavesOnly s.lanes next.given (offered s stood place headers).upto
+pub new_leaves_nothing : (s : Source) (stood : ℕ) (place next : Place) (headers : List Head) → IsSound s.lanes → IsTidy s.lanes place.given
+    → length place.given ≡ 9
+    → All (λ id. id ≤ s.lanes.last_id) place.given → (offered s stood place headers).left ≡ Some next
+    → LeavesOnly s.lanes next.given (offered s stood place headers).upto
 unfolding offered_of
 new_leaves_nothing s stood place next headers sound tidy nine used is = record {
   nine = nine_after s stood place next headers nine is;
   nine_upto = length_given no_ids items;
-  used = All-from_get_or (λ (id : ℕ). id ≤ s.lanes.last_id) next.given 0 (λ lane low. used_at lane (let e = nine_after s stood place next headers nine is in omega arith));
+  used = All-from_get_or (λ (id : ℕ). id ≤ s.lanes.last_id) next.given 0
+      (λ lane low. used_at lane (let e = nine_after s stood place next headers nine is in omega arith));
   carried = carried;
 }
   where
@@ -159,7 +172,8 @@ new_leaves_nothing s stood place next headers sound tidy nine used is = record {
         let starts : Starts held (rows_left s.lanes stood place.given lane) = read_rows s stood place headers lane sound nine low in
         let rows = (lane_at s.lanes lane).rows in
         let all : All P (rows_left s.lanes stood place.given lane) =
-        All-filter (upto stood) P (filter (over (slice_index place.given lane)) rows) (All-filter (over (slice_index place.given lane)) P rows (sound.each lane low).up_to_last)
+        All-filter (upto stood) P (filter (over (slice_index place.given lane)) rows)
+        (All-filter (over (slice_index place.given lane)) P rows (sound.each lane low).up_to_last)
         in
         let few : All P held = All-first P held starts.rest (subst (All P) starts.is all) in
         let first : slice_index place.given lane ≤ s.lanes.last_id = used lane 0 (omega arith) in
@@ -184,10 +198,13 @@ released_is_tidy s given ids nine leaves = λ lane low.
     let rows = (lane_at s lane).rows in
     let id = slice_index ids lane in
     let P : Numbered → Type 0 = λ x. slice_index given lane < x.id in
-    let lane_is : lane_at (without s ids) lane ≡ above id (lane_at s lane) = get_or-lanes_above s.lanes ids lane (nine ∙ sym leaves.nine_upto) (omega arith) in
-    let carried : All (λ (x : Numbered). x.id ≤ slice_index given lane → x.id ≤ id) (filter (over id) rows) = All-filter (over id) (λ (x : Numbered). x.id ≤ slice_index given lane → x.id ≤ id) rows (leaves.carried lane low) in
+    let lane_is : lane_at (without s ids) lane ≡ above id (lane_at s lane) =
+    get_or-lanes_above s.lanes ids lane (nine ∙ sym leaves.nine_upto) (omega arith) in
+    let carried : All (λ (x : Numbered). x.id ≤ slice_index given lane → x.id ≤ id) (filter (over id) rows) =
+    All-filter (over id) (λ (x : Numbered). x.id ≤ slice_index given lane → x.id ≤ id) rows (leaves.carried lane low) in
     let passed : All (λ (x : Numbered). over id x ≡ true) (filter (over id) rows) = filter_passes (over id) rows in
-    let all : All P (filter (over id) rows) = λ k d short. after (get_or (filter (over id) rows) k d) id (slice_index given lane) (carried k d short) (passed k d short) in
+    let all : All P (filter (over id) rows) =
+    λ k d short. after (get_or (filter (over id) rows) k d) id (slice_index given lane) (carried k d short) (passed k d short) in
     subst (λ (l : LaneState). All P l.rows) (sym lane_is) all
   where
     after : (x : Numbered) (id given : ℕ) → (x.id ≤ given → x.id ≤ id) → over id x ≡ true → given < x.id
@@ -223,7 +240,8 @@ released_leaves s others given ids leaves = record {
   used = leaves.used;
   carried = λ lane low.
       let P : Numbered → Type 0 = λ x. x.id ≤ slice_index given lane → x.id ≤ slice_index ids lane in
-      All-weaker (Contains (lane_at s lane).rows) P (λ x there. All-contains P (lane_at s lane).rows x (leaves.carried lane low) there) (lane_at (without s others) lane).rows (left s others lane);
+      All-weaker (Contains (lane_at s lane).rows) P (λ x there. All-contains P (lane_at s lane).rows x (leaves.carried lane low) there)
+      (lane_at (without s others) lane).rows (left s others lane);
 }
 
 -- an emptied lane has no row
@@ -232,7 +250,9 @@ no_row s P lane = by (cases_lt lane (length s.lanes))
   where
     by : (lane < length s.lanes) ⊎ (length s.lanes ≤ lane) → All P (lane_at (without_all s) lane).rows
     by (inl low) = subst (λ (l : LaneState). All P l.rows) (sym (get_or-map emptied s.lanes lane no_lane no_lane low)) (All-nil P)
-    by (inr past) = subst (λ (l : LaneState). All P l.rows) (sym (get_or_past (map emptied s.lanes) lane no_lane (let e = length-map s.lanes emptied in omega arith))) (All-nil P)
+    by (inr past) =
+        subst (λ (l : LaneState). All P l.rows) (sym (get_or_past (map emptied s.lanes) lane no_lane (let e = length-map s.lanes emptied in omega arith)))
+        (All-nil P)
 
 pub emptied_leaves : (s : Stock) (given ids : List ℕ) → LeavesOnly s given ids → LeavesOnly (without_all s) given ids
 emptied_leaves s given ids leaves = record {
@@ -266,6 +286,7 @@ whole_by false x is = cc
 pub left_none : (place : Place) (items : List Item) → ((offered_of place items).left ≡ None) ↔ (held_of items ≡ items)
 unfolding offered_of held_of
 left_none place items = (
-  (λ is. longest_whole fits_fragment items refl (eqb-true _ _ (whole_by (length (held_of items) == length items) (fold place_after place (held_of items)) is))),
+  (λ is. longest_whole fits_fragment items refl
+      (eqb-true _ _ (whole_by (length (held_of items) == length items) (fold place_after place (held_of items)) is))),
   (λ all. ap (λ (b : Bool). if b then None else Some (fold place_after place (held_of items))) (eq-eqb _ _ (ap length all))),
 )

@@ -1,29 +1,20 @@
 -- What calls leave alone, and when they send nothing.
-use Rattle.std.proofs.Common.{◌≡◌, ◌⊎◌, inl, inr, Bool, true, false, if◌then◌else◌, refl, sym, ◌∙◌, ap, ℕ, ◌==◌, ◌&&◌, ◌||◌, not, nat_le, nat_lt, is_none, List, [], length, Option, None, Some, IsSome, Result, Ok, Err, option_to_list}
-use Rattle.std.specs.List.{list_all}
+use Rattle.std.proofs.Common.{◌≡◌, inl, inr, Bool, true, false, if◌then◌else◌, refl, ap, ℕ, ◌==◌, ◌&&◌, ◌||◌, not, nat_le, nat_lt, is_none, List, [], length, Option, None, Some, IsSome, option_to_list}
 use Rattle.std.proofs.lemmas.Bool.{and_parts, and_left, and_right}
 use Rattle.dnp_objects.specs.declared.lane.LaneRow.{LaneRow}
 use Rattle.dnp_objects.specs.declared.row.Kind.{Kind}
 use Rattle.dnp_pointdb.specs.Database.{changed_of}
 use Rattle.dnp_pointdb.specs.declared.reading.Reading.{Reading}
-use Rattle.dnp_appfragment.specs.declared.fault.AppFault.{AppFault}
-use Rattle.dnp_appfragment.specs.declared.function.Function.{Function}
-use Rattle.dnp_appfragment.specs.declared.function.Function.TheVariants as function
-use Rattle.dnp_appfragment.specs.Fragments.{Asked}
-use Rattle.dnp_appfragment.specs.Headers.{Head}
-use Rattle.dnp_appfragment.specs.Meaning.{request_at}
 use Rattle.dnp_controls.specs.Panel.{Panel}
 use Rattle.dnp_eventbuf.specs.Stock.{with_rows, dropped_by}
-use Rattle.dnp_outstation.specs.declared.case.Case.{Case}
 use Rattle.dnp_outstation.specs.declared.case.Case.TheVariants.{PassedOver}
-use Rattle.dnp_outstation.specs.Items.{first_place, last_in, is_inside}
 use Rattle.dnp_outstation.specs.Offer.{pushed}
 use Rattle.dnp_outstation.specs.Stage.{is_unsolicited}
 use Rattle.dnp_outstation.specs.State.{Core, State, Step, nothing, still, holds_read, is_free}
-use Rattle.dnp_outstation.specs.Content.{Executed, plain, answered, content_from, content_of, for_request, by_function, read_content, source_of, refused, written, write_bits, bits_of, parameter_error, no_func_code_support}
+use Rattle.dnp_outstation.specs.Content.{content_from, content_of}
 use Rattle.dnp_outstation.specs.Connection.{is_looked_at, control_in, function_in, case_of, starts, at_end, has_enabled_rows}
 use Rattle.dnp_outstation.specs.Calls.{received, connection_after, tick_of, change_of}
-use Rattle.dnp_outstation.specs.Links.{KeepsConnection, StartsOne, EndsAs}
+use Rattle.dnp_outstation.specs.Links.{KeepsConnection, EndsAs}
 use Rattle.dnp_outstation.proofs.ContentOf.{content_done}
 
 -- ---- content
@@ -55,14 +46,18 @@ closed_ticked s now closed = rw closed refl
 closed_end : (now : ℕ) (step : Step) → step.state.core.is_open ≡ false → at_end now step ≡ step
 closed_end now step closed =
     ap (λ (b : Bool). if b then starts step now (content_from (pushed step.state.lanes step.state.core.enabled)) else step)
-    (and_right (is_unsolicited step.state.core.times.unsolicited) (step.state.core.announced && (step.state.core.is_open && (is_free step.state.core && has_enabled_rows step.state)))
-    (and_right step.state.core.announced (step.state.core.is_open && (is_free step.state.core && has_enabled_rows step.state)) (and_left step.state.core.is_open (is_free step.state.core && has_enabled_rows step.state) closed)))
+    (and_right (is_unsolicited step.state.core.times.unsolicited)
+    (step.state.core.announced && (step.state.core.is_open && (is_free step.state.core && has_enabled_rows step.state)))
+    (and_right step.state.core.announced (step.state.core.is_open && (is_free step.state.core && has_enabled_rows step.state))
+    (and_left step.state.core.is_open (is_free step.state.core && has_enabled_rows step.state) closed)))
 
 pub closed_changed : (s : State) (now : ℕ) (kind : Kind) (index : ℕ) (reading : Reading) (made : Option LaneRow) → s.core.is_open ≡ false
     → (change_of s now kind index reading made).does.send ≡ []
 closed_changed s now kind index reading made closed =
-    let after : State = record s { core = record s.core { points = changed_of s.core.points kind index reading }; lanes = with_rows s.lanes (option_to_list made) } in
-    ap (λ (step : Step). step.does.send) (closed_end now (record { state = after; does = record nothing { overwritten = dropped_by s.lanes (option_to_list made) } }) closed)
+    let after : State =
+    record s { core = record s.core { points = changed_of s.core.points kind index reading }; lanes = with_rows s.lanes (option_to_list made) } in
+    ap (λ (step : Step). step.does.send)
+    (closed_end now (record { state = after; does = record nothing { overwritten = dropped_by s.lanes (option_to_list made) } }) closed)
 
 -- ---- the end of a call
 
@@ -79,15 +74,21 @@ starts_by on announced opened free rows is =
     (c.0, d.0)
 
 pub ends_as : (now : ℕ) (step : Step) → EndsAs now step
-ends_as now step = by (is_unsolicited step.state.core.times.unsolicited && (step.state.core.announced && (step.state.core.is_open && (is_free step.state.core && has_enabled_rows step.state)))) refl
+ends_as now step =
+    by (is_unsolicited step.state.core.times.unsolicited &&
+    (step.state.core.announced && (step.state.core.is_open && (is_free step.state.core && has_enabled_rows step.state)))) refl
   where
     by : (b : Bool)
-        → (is_unsolicited step.state.core.times.unsolicited && (step.state.core.announced && (step.state.core.is_open && (is_free step.state.core && has_enabled_rows step.state)))) ≡ b
+        → (is_unsolicited step.state.core.times.unsolicited &&
+        (step.state.core.announced && (step.state.core.is_open && (is_free step.state.core && has_enabled_rows step.state)))) ≡ b
         → EndsAs now step
     by false is = inl (ap (λ (b : Bool). if b then starts step now (content_from (pushed step.state.lanes step.state.core.enabled)) else step) is)
     by true is =
-        let both = starts_by (is_unsolicited step.state.core.times.unsolicited) step.state.core.announced step.state.core.is_open (is_free step.state.core) (has_enabled_rows step.state) is in
-        let awaits = and_parts (is_none step.state.core.session.awaited) (is_none step.state.core.session.unsolicited && not (holds_read step.state.core.session.last)) both.1 in
+        let both = starts_by (is_unsolicited step.state.core.times.unsolicited) step.state.core.announced step.state.core.is_open (is_free step.state.core)
+        (has_enabled_rows step.state) is in
+        let awaits =
+        and_parts (is_none step.state.core.session.awaited)
+        (is_none step.state.core.session.unsolicited && not (holds_read step.state.core.session.last)) both.1 in
         let others = and_parts (is_none step.state.core.session.unsolicited) (not (holds_read step.state.core.session.last)) awaits.1 in
         inr (record {
           is_open = both.0;

@@ -1,20 +1,16 @@
 -- What the fragments of an outstation report.
-use Rattle.std.proofs.Common.{◌≡◌, ◌⊎◌, inl, inr, Bool, true, false, if◌then◌else◌, refl, sym, ◌∙◌, ap, subst, ℕ, ◌<◌, ◌≤◌, ◌^◌, ◌==◌, ◌||◌, nat_le, nat_lt, zero, suc, cond, List, [], ◌∷◌, map, length, arith, Option, None, Some, IfSome, IsSome, Result, Ok, Err}
+use Rattle.std.proofs.Common.{◌≡◌, ◌⊎◌, inl, inr, Bool, true, false, refl, sym, ◌∙◌, ap, subst, ℕ, ◌<◌, ◌≤◌, ◌||◌, nat_le, nat_lt, zero, suc, cond, List, [], ◌∷◌, map, length, arith, Option, Some, IfSome}
 use Rattle.std.specs.Prelude.{slice_index}
-use Rattle.std.specs.List.{All, filter, list_all}
+use Rattle.std.specs.List.{All, filter}
 use Rattle.std.specs.List.Sorted.{IsPermutation}
 use Rattle.std.proofs.lemmas.Bool.{cases_lt, lt-ltb, leb-true}
 use Rattle.std.proofs.lemmas.List.{get_or_past, nil_from_length}
 use Rattle.std.proofs.lemmas.List.Elements.{All-nil, All-head, All-tail, All-filter, All-weaker}
 use Rattle.std.proofs.lemmas.List.Sorted.{length_permutation}
-use Rattle.dnp_objects.specs.declared.row.Row.{Row}
-use Rattle.dnp_appfragment.specs.declared.fault.AppFault.{AppFault}
-use Rattle.dnp_appfragment.specs.declared.function.Function.{Function}
 use Rattle.dnp_appfragment.specs.declared.function.Function.TheVariants as function
 use Rattle.dnp_appfragment.specs.Control.{ControlBits, IsControl}
-use Rattle.dnp_appfragment.specs.Fragments.{Asked, Answered, response_octets}
+use Rattle.dnp_appfragment.specs.Fragments.{Answered, response_octets}
 use Rattle.dnp_appfragment.specs.Headers.{Head}
-use Rattle.dnp_appfragment.specs.Meaning.{request_at}
 use Rattle.dnp_appfragment.specs.Table.{is_response}
 use Rattle.dnp_controls.specs.Panel.{Panel}
 use Rattle.dnp_eventbuf.specs.declared.numbered.Numbered.{Numbered}
@@ -24,7 +20,7 @@ use Rattle.dnp_eventbuf.specs.Stock.{Stock, lane_at}
 use Rattle.dnp_eventbuf.proofs.BufferedCalls.{release_seen}
 use Rattle.dnp_eventbuf.proofs.BufferedOnce.{sound_numbered}
 use Rattle.dnp_outstation.specs.declared.offer.place.Place.{Place}
-use Rattle.dnp_outstation.specs.Items.{Item, no_ids, first_place, last_in, is_inside, items_left, enabled_lanes, lane_items}
+use Rattle.dnp_outstation.specs.Items.{Item, no_ids, first_place, last_in, items_left, enabled_lanes, lane_items}
 use Rattle.dnp_outstation.specs.Layout.{headers_of, fits_fragment}
 use Rattle.dnp_outstation.specs.Offer.{held_of, last_ids, Filled, offered_of, pushed}
 use Rattle.dnp_outstation.specs.Laws.{rows_in_lane, AreRowsUpto, IsTidy}
@@ -46,7 +42,8 @@ use Rattle.dnp_outstation.proofs.Reported.{response_is, held_fits, nine_ids, sai
 
 last_within : (low most : ℕ) (xs : List Numbered) → low ≤ most → All (λ x. x.id ≤ most) xs → last_or low xs ≤ most
 last_within low most [] few all = few
-last_within low most (x ∷ xs) few all = last_within x.id most xs (All-head (λ (y : Numbered). y.id ≤ most) x xs all) (All-tail (λ (y : Numbered). y.id ≤ most) x xs all)
+last_within low most (x ∷ xs) few all =
+    last_within x.id most xs (All-head (λ (y : Numbered). y.id ≤ most) x xs all) (All-tail (λ (y : Numbered). y.id ≤ most) x xs all)
 
 ids_used : (s : Stock) (items : List Item) → IsSound s → AreRowsUpto s (last_ids items) items → (lane : ℕ) → id_limit (last_ids items) lane ≤ s.last_id
 ids_used s items sound are lane = by (cases_lt lane 9)
@@ -64,15 +61,18 @@ ids_used s items sound are lane = by (cases_lt lane 9)
 
 -- ---- a response with these items
 
-reports : (s : Stock) (answered : Answered) (items : List Item) → IsSound s → answered.headers ≡ headers_of items → IsControl answered.control → is_response answered.function ≡ true
-    → All CanStand items → All IsLow items → fits_fragment items ≡ true → AreRowsUpto s (last_ids items) items → Reports s (response_octets answered) answered.control (last_ids items)
+reports : (s : Stock) (answered : Answered) (items : List Item) → IsSound s → answered.headers ≡ headers_of items → IsControl answered.control
+    → is_response answered.function ≡ true
+    → All CanStand items → All IsLow items → fits_fragment items ≡ true → AreRowsUpto s (last_ids items) items
+    → Reports s (response_octets answered) answered.control (last_ids items)
 reports s answered items sound headers control function can low fit are = record {
   answered = answered;
   read = response_is answered items headers control function can fit;
   control_is = refl;
   rows =
       subst (λ (hs : List Head). IsPermutation (rows_said hs) (map buffered_row (filter (is_upto (last_ids items)) (buffered_in s)))) (sym headers)
-      (subst (IsPermutation (rows_said (headers_of items))) (release_seen s (last_ids items) (nine_ids items ∙ sym sound.nine)).1 (said_and_released s items sound can low fit are));
+      (subst (IsPermutation (rows_said (headers_of items))) (release_seen s (last_ids items) (nine_ids items ∙ sym sound.nine)).1
+      (said_and_released s items sound can low fit are));
   used = ids_used s items sound are;
 }
 
@@ -87,19 +87,23 @@ read_reports s o stood place headers answered sound writable tidy nine same cont
     (held_low (source_of s o) stood place headers) (held_fits items) (fragment_rows (source_of s o) stood place headers sound tidy nine)
 
 -- an unsolicited response
-pushed_reports : (s : Stock) (enabled : List Bool) (answered : Answered) → IsSound s → HaveIndexes s → length enabled ≤ 3 → answered.headers ≡ (pushed s enabled).headers
+pushed_reports : (s : Stock) (enabled : List Bool) (answered : Answered) → IsSound s → HaveIndexes s → length enabled ≤ 3
+    → answered.headers ≡ (pushed s enabled).headers
     → IsControl answered.control → is_response answered.function ≡ true → Reports s (response_octets answered) answered.control (pushed s enabled).upto
 unfolding offered_of
 pushed_reports s enabled answered sound indexes few same control function =
     let items = lane_items s (enabled_lanes 0 enabled) in
-    reports s answered (held_of items) sound same control function (pushed_stand s enabled sound few indexes) (pushed_low s enabled few) (held_fits items) (pushed_rows s enabled sound)
+    reports s answered (held_of items) sound same control function (pushed_stand s enabled sound few indexes) (pushed_low s enabled few) (held_fits items)
+    (pushed_rows s enabled sound)
 
 -- a response without objects
 plain_reports : (s : Stock) (answered : Answered) → IsSound s → answered.headers ≡ [] → IsControl answered.control → is_response answered.function ≡ true
     → Reports s (response_octets answered) answered.control no_ids
 plain_reports s answered sound same control function =
     reports s answered [] sound same control function (All-nil CanStand) (All-nil IsLow) refl
-    (λ lane low. sym (ap (λ (id : ℕ). filter (upto id) (lane_at s lane).rows) (last_id_is [] lane low) ∙ upto_none 0 0 (lane_at s lane).rows (omega arith) (lane_rises s lane sound low)))
+    (λ lane low. sym
+    (ap (λ (id : ℕ). filter (upto id) (lane_at s lane).rows) (last_id_is [] lane low)
+    ∙ upto_none 0 0 (lane_at s lane).rows (omega arith) (lane_rises s lane sound low)))
 
 -- ---- what content is made of
 
@@ -110,7 +114,8 @@ IsReported s content = (answered : Answered) → answered.headers ≡ content.he
 
 is_reported : (s : State) (o : Panel) (content : Content) → IsSound s.lanes → AreWritable (source_of s o) → IsContent s o content → IsReported s content
 is_reported s o _ sound writable (Reads headers) =
-    λ answer same control function. read_reports s o (last_in s.lanes) first_place headers answer sound writable (begins_tidy s.lanes sound) refl same control function
+    λ answer same control function. read_reports s o (last_in s.lanes) first_place headers answer sound writable
+    (begins_tidy s.lanes sound) refl same control function
 is_reported s o _ sound writable (Plain bits) = λ answer same control function. plain_reports s.lanes answer sound same control function
 
 -- ---- the fragments
@@ -119,14 +124,17 @@ pub answer_reports : (s after : State) (o : Panel) (octets : List ℕ) (seq : �
     → (content_of s o octets).content ≡ Some content → Reports s.lanes (fragment_of after true seq content) (control_for true seq content) content.upto
 answer_reports s after o octets seq content sound writable small is =
     let made : IsContent s o content = subst (λ (c : Option Content). IfSome c (IsContent s o)) is (content_done s o octets).content in
-    is_reported s o content sound writable made (record { control = control_for true seq content; function = function.Response; iin = indications after content.upto content.bits; headers = content.headers }) refl small refl
+    is_reported s o content sound writable made
+    (record { control = control_for true seq content; function = function.Response; iin = indications after content.upto content.bits; headers = content.headers }) refl small refl
 
-pub further_reports : (s : State) (o : Panel) (stood : ℕ) (place : Place) (headers : List Head) (seq : ℕ) → IsSound s.lanes → AreWritable (source_of s o) → IsTidy s.lanes place.given
+pub further_reports : (s : State) (o : Panel) (stood : ℕ) (place : Place) (headers : List Head) (seq : ℕ) → IsSound s.lanes → AreWritable (source_of s o)
+    → IsTidy s.lanes place.given
     → length place.given ≡ 9 → seq < 16
     → (let content = read_content s o stood place headers in Reports s.lanes (fragment_of s false seq content) (control_for false seq content) content.upto)
 further_reports s o stood place headers seq sound writable tidy nine small =
     let content = read_content s o stood place headers in
-    read_reports s o stood place headers (record { control = control_for false seq content; function = function.Response; iin = indications s content.upto content.bits; headers = content.headers })
+    read_reports s o stood place headers
+    (record { control = control_for false seq content; function = function.Response; iin = indications s content.upto content.bits; headers = content.headers })
     sound writable tidy nine refl small refl
 
 abbrev pub unsolicited_control : ℕ → ControlBits
@@ -170,7 +178,8 @@ none_upto ids (x ∷ xs) none all =
     let first : 1 ≤ x.id = All-head (λ (y : Buffered). 1 ≤ y.id) x xs all in
     let limit : id_limit ids x.lane ≡ 0 = no_id ids x.lane none in
     let past : is_upto ids x ≡ false = not_at (nat_le x.id (id_limit ids x.lane)) (leb-true x.id (id_limit ids x.lane)) (omega arith) in
-    ap (λ (b : Bool). cond b (x ∷ filter (is_upto ids) xs) (filter (is_upto ids) xs)) past ∙ none_upto ids xs none (All-tail (λ (y : Buffered). 1 ≤ y.id) x xs all)
+    ap (λ (b : Bool). cond b (x ∷ filter (is_upto ids) xs) (filter (is_upto ids) xs)) past
+    ∙ none_upto ids xs none (All-tail (λ (y : Buffered). 1 ≤ y.id) x xs all)
   where
     not_at : (b : Bool) → (b ≡ true → x.id ≤ id_limit ids x.lane) → id_limit ids x.lane < x.id → b ≡ false
     not_at true within past = absurd (let w : x.id ≤ id_limit ids x.lane = within refl in omega arith)
@@ -180,15 +189,18 @@ permutes_none : {A : Type 0} (xs : List A) → IsPermutation xs [] → xs ≡ []
 permutes_none xs same = nil_from_length xs (sym (length_permutation xs [] same))
 
 -- what asks for no confirm reports no rows
-pub unconfirmed_reports_none : (s : Stock) (octets : List ℕ) (control : ControlBits) (ids : List ℕ) (r : Reports s octets control ids) → IsSound s → has_rows ids ≡ false
+pub unconfirmed_reports_none : (s : Stock) (octets : List ℕ) (control : ControlBits) (ids : List ℕ) (r : Reports s octets control ids) → IsSound s
+    → has_rows ids ≡ false
     → rows_said r.answered.headers ≡ []
 unconfirmed_reports_none s octets control ids r sound none =
-    let all : All (λ (x : Buffered). 1 ≤ x.id) (buffered_in s) = All-weaker (λ (x : Buffered). (1 ≤ x.id) × (x.id ≤ s.last_id)) (λ (x : Buffered). 1 ≤ x.id) (λ x h. h.0) (buffered_in s) (sound_numbered s sound) in
+    let all : All (λ (x : Buffered). 1 ≤ x.id) (buffered_in s) =
+    All-weaker (λ (x : Buffered). (1 ≤ x.id) × (x.id ≤ s.last_id)) (λ (x : Buffered). 1 ≤ x.id) (λ x h. h.0) (buffered_in s) (sound_numbered s sound) in
     let no_rows : map buffered_row (filter (is_upto ids) (buffered_in s)) ≡ [] = ap (map buffered_row) (none_upto ids (buffered_in s) none all) in
     permutes_none (rows_said r.answered.headers) (subst (IsPermutation (rows_said r.answered.headers)) no_rows r.rows)
 
 -- where no item is left, the fragment is the last one, without objects and without a confirm
-pub emptied_ends : (s : State) (o : Panel) (stood seq : ℕ) (place : Place) (headers : List Head) (first : Bool) → items_left (source_of s o) stood place headers ≡ []
+pub emptied_ends : (s : State) (o : Panel) (stood seq : ℕ) (place : Place) (headers : List Head) (first : Bool)
+    → items_left (source_of s o) stood place headers ≡ []
     → (let content = read_content s o stood place headers in
     (content.headers ≡ []) × (control_for first seq content ≡ record { fir = first; fin = true; con = false; uns = false; seq = seq }))
 emptied_ends s o stood seq place headers first none =

@@ -57,7 +57,8 @@ longest_up_to_is {A} p (suc n) xs none short = by (p front) refl (longest_up_to_
     long = length-take-le (suc n) xs short
 
     whole : p front ≡ true → IsLongestUpTo p (suc n) xs front
-    whole fits = record { short = omega (arith, long); begins = ap (λ (k : ℕ). take k xs) long; fits = fits; more = λ m past within. absurd (omega (arith, long)) }
+    whole fits =
+        record { short = omega (arith, long); begins = ap (λ (k : ℕ). take k xs) long; fits = fits; more = λ m past within. absurd (omega (arith, long)) }
 
     fewer : (held : List A) → p front ≡ false → IsLongestUpTo p n xs held → IsLongestUpTo p (suc n) xs held
     fewer held past_end behind = record {

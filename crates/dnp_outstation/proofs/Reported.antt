@@ -33,7 +33,8 @@ rows_are_said items can fit =
     let each = recursion_from_All CanStand items can in
     headers_say (headers_of items) items each (items_written items each fit).hold
 
-pub response_is : (answered : Answered) (items : List Item) → answered.headers ≡ headers_of items → IsControl answered.control → is_response answered.function ≡ true
+pub response_is : (answered : Answered) (items : List Item) → answered.headers ≡ headers_of items → IsControl answered.control
+    → is_response answered.function ≡ true
     → All CanStand items → fits_fragment items ≡ true → response_at (response_octets answered) ≡ Ok answered
 response_is answered items headers_are control function can fit =
     response_again (response_octets answered) answered
@@ -49,14 +50,16 @@ pub nine_ids : (items : List Item) → length (last_ids items) ≡ 9
 nine_ids items = length_given no_ids items
 
 -- the rows said of items are those that a release of their ids takes
-pub said_and_released : (s : Stock) (items : List Item) → IsSound s → All CanStand items → All IsLow items → fits_fragment items ≡ true → AreRowsUpto s (last_ids items) items
+pub said_and_released : (s : Stock) (items : List Item) → IsSound s → All CanStand items → All IsLow items → fits_fragment items ≡ true
+    → AreRowsUpto s (last_ids items) items
     → IsPermutation (rows_said (headers_of items)) (all_up_to s (last_ids items))
 said_and_released s items sound can low fit are =
     subst (λ (rows : List Row). IsPermutation rows (all_up_to s (last_ids items))) (sym (rows_are_said items can fit))
     (subst (λ (rows : List Row). IsPermutation (events_in items) rows) (sym (released_rows s (last_ids items) items sound.nine (nine_ids items) are))
     (same_by_lanes items (recursion_from_All IsLow items low)))
 
-pub fragment_says : (s : Source) (stood : ℕ) (place : Place) (headers : List Head) → IsSound s.lanes → AreWritable s → IsTidy s.lanes place.given → length place.given ≡ 9
+pub fragment_says : (s : Source) (stood : ℕ) (place : Place) (headers : List Head) → IsSound s.lanes → AreWritable s → IsTidy s.lanes place.given
+    → length place.given ≡ 9
     → IsPermutation (rows_said (offered s stood place headers).headers) (all_up_to s.lanes (offered s stood place headers).upto)
 unfolding offered_of
 fragment_says s stood place headers sound writable tidy nine =
@@ -64,15 +67,19 @@ fragment_says s stood place headers sound writable tidy nine =
     said_and_released s.lanes (held_of items) sound (held_stand s stood place headers sound writable) (held_low s stood place headers) (held_fits items)
     (fragment_rows s stood place headers sound tidy nine)
 
-pub pushed_says : (s : Stock) (enabled : List Bool) → IsSound s → length enabled ≤ 3 → ((lane : ℕ) → lane < 9 → All (λ x. x.row.index < 2 ^ 16) (lane_at s lane).rows)
+pub pushed_says : (s : Stock) (enabled : List Bool) → IsSound s → length enabled ≤ 3
+    → ((lane : ℕ) → lane < 9 → All (λ x. x.row.index < 2 ^ 16) (lane_at s lane).rows)
     → IsPermutation (rows_said (pushed s enabled).headers) (all_up_to s (pushed s enabled).upto)
 unfolding offered_of
 pushed_says s enabled sound few short =
     let items = lane_items s (enabled_lanes 0 enabled) in
-    said_and_released s (held_of items) sound (pushed_stand s enabled sound few short) (pushed_low s enabled few) (held_fits items) (pushed_rows s enabled sound)
+    said_and_released s (held_of items) sound (pushed_stand s enabled sound few short) (pushed_low s enabled few) (held_fits items)
+    (pushed_rows s enabled sound)
 
-pub fragment_is : (answered : Answered) (s : Source) (stood : ℕ) (place : Place) (headers : List Head) → answered.headers ≡ (offered s stood place headers).headers
-    → IsControl answered.control → is_response answered.function ≡ true → IsSound s.lanes → AreWritable s → response_at (response_octets answered) ≡ Ok answered
+pub fragment_is : (answered : Answered) (s : Source) (stood : ℕ) (place : Place) (headers : List Head)
+    → answered.headers ≡ (offered s stood place headers).headers
+    → IsControl answered.control → is_response answered.function ≡ true → IsSound s.lanes → AreWritable s
+    → response_at (response_octets answered) ≡ Ok answered
 unfolding offered_of
 fragment_is answered s stood place headers same control function sound writable =
     let items = items_left s stood place headers in

@@ -47,13 +47,15 @@ rising_from low (x ∷ xs) pairs all = (
 
 pub all_over : (low : ℕ) (xs : List Numbered) → Rising low xs → All (λ x. low < x.id) xs
 all_over low [] rising = All-nil (λ (y : Numbered). low < y.id)
-all_over low (x ∷ xs) rising = All-cons (λ (y : Numbered). low < y.id) x xs rising.0 (all_over low xs (rising_lower low x.id xs (let h : low < x.id = rising.0 in omega arith) rising.1))
+all_over low (x ∷ xs) rising =
+    All-cons (λ (y : Numbered). low < y.id) x xs rising.0 (all_over low xs (rising_lower low x.id xs (let h : low < x.id = rising.0 in omega arith) rising.1))
 
 pub pairs_from : (low : ℕ) (xs : List Numbered) → Rising low xs → AllPairs (λ x y. x.id < y.id) xs
 pairs_from low [] rising = λ i j d before short. absurd (omega arith)
 pairs_from low (x ∷ xs) rising = λ i j d before short. go i j d before short (all_over x.id xs rising.1) (pairs_from x.id xs rising.1)
   where
-    go : (i j : ℕ) (d : Numbered) → i < j → j < length (x ∷ xs) → All (λ y. x.id < y.id) xs → AllPairs (λ y z. y.id < z.id) xs → (get_or (x ∷ xs) i d).id < (get_or (x ∷ xs) j d).id
+    go : (i j : ℕ) (d : Numbered) → i < j → j < length (x ∷ xs) → All (λ y. x.id < y.id) xs → AllPairs (λ y z. y.id < z.id) xs
+        → (get_or (x ∷ xs) i d).id < (get_or (x ∷ xs) j d).id
     go i zero d before short over_x pairs = absurd (omega arith)
     go zero (suc j) d before short over_x pairs = over_x j d (omega arith)
     go (suc i) (suc j) d before short over_x pairs = pairs i j d (omega arith) (omega arith)
@@ -133,13 +135,16 @@ over_rest low id all (x ∷ xs) rest rising is = over_rest low x.id all xs rest 
   where
     -- the first of them is over the number
     first_over : (ys : List Numbered) → filter (over id) ys ≡ x ∷ (xs ++ rest) → id < x.id
-    first_over ys here = ltb-true id x.id (All-head (λ (y : Numbered). over id y ≡ true) x (xs ++ rest) (subst (All (λ (y : Numbered). over id y ≡ true)) here (filter_passes (over id) ys)))
+    first_over ys here =
+        ltb-true id x.id
+        (All-head (λ (y : Numbered). over id y ≡ true) x (xs ++ rest) (subst (All (λ (y : Numbered). over id y ≡ true)) here (filter_passes (over id) ys)))
 
     behind : (from : ℕ) (ys : List Numbered) → Rising from ys → filter (over id) ys ≡ x ∷ (xs ++ rest) → filter (over x.id) ys ≡ xs ++ rest
     behind from [] up here = absurd (omega (arith, ap length here))
     behind from (y ∷ ys) up here = by (over id y) refl (behind y.id ys up.1)
       where
-        by : (b : Bool) → over id y ≡ b → (filter (over id) ys ≡ x ∷ (xs ++ rest) → filter (over x.id) ys ≡ xs ++ rest) → filter (over x.id) (y ∷ ys) ≡ xs ++ rest
+        by : (b : Bool) → over id y ≡ b → (filter (over id) ys ≡ x ∷ (xs ++ rest) → filter (over x.id) ys ≡ xs ++ rest)
+            → filter (over x.id) (y ∷ ys) ≡ xs ++ rest
         by true passes deeper =
             let id_low : id < y.id = ltb-true id y.id passes in
             let same : y ∷ filter (over id) ys ≡ x ∷ (xs ++ rest) = sym (kept (over id) y ys passes) ∙ here in

@@ -75,12 +75,15 @@ one_of h x b is can of = go x.header x.thing b is can of
         → (let y : Item = record { header = header; thing = thing } in CanStand y → IsOf h (object_of y) → IsOne b y)
     go header (Event lane row) true is can of = λ none. cc
     go header (Event lane row) false is can of =
-        absurd (let t : is_event_header h ≡ true = ap (λ (g : ℕ). (g == 2) || (g == 22) || (g == 32)) (sym of.group) ∙ is_event_group row.row.kind row.row.time in let f : true ≡ false = sym t ∙ is in cc)
+        absurd (let t : is_event_header h ≡ true = ap (λ (g : ℕ). (g == 2) || (g == 22) || (g == 32)) (sym of.group)
+        ∙ is_event_group row.row.kind row.row.time in let f : true ≡ false = sym t ∙ is in cc)
     go header (Present static) true is can of =
-        absurd (let t : is_event_header h ≡ false = ap (λ (g : ℕ). (g == 2) || (g == 22) || (g == 32)) (sym of.group) ∙ not_event_group static.group can.0.group_is in let f : false ≡ true = sym t ∙ is in cc)
+        absurd (let t : is_event_header h ≡ false = ap (λ (g : ℕ). (g == 2) || (g == 22) || (g == 32)) (sym of.group)
+        ∙ not_event_group static.group can.0.group_is in let f : false ≡ true = sym t ∙ is in cc)
     go header (Present static) false is can of = refl
 
-all_one_of : (h : Head) (xs : List Item) (b : Bool) → is_event_header h ≡ b → AllByRecursion CanStand xs → AllByRecursion (IsOf h) (map object_of xs) → AllOne b xs
+all_one_of : (h : Head) (xs : List Item) (b : Bool) → is_event_header h ≡ b → AllByRecursion CanStand xs → AllByRecursion (IsOf h) (map object_of xs)
+    → AllOne b xs
 all_one_of h [] b is can of = tt
 all_one_of h (x ∷ xs) b is can of = (one_of h x b is can.0 of.0, all_one_of h xs b is can.1 of.1)
 
@@ -97,7 +100,8 @@ event_at (x ∷ xs) k row all can at = go x.header x.thing k all.0 can.0 at (λ 
   where
     go : (header : ℕ) (thing : Thing) (k : ℕ)
         → (let y : Item = record { header = header; thing = thing } in
-        IsOne true y → CanStand y → slice_get (events_in (y ∷ xs)) k ≡ Some row → ((j : ℕ) → slice_get (events_in xs) j ≡ Some row → EventAt xs j row) → EventAt (y ∷ xs) k row)
+        IsOne true y → CanStand y → slice_get (events_in (y ∷ xs)) k ≡ Some row → ((j : ℕ) → slice_get (events_in xs) j ≡ Some row → EventAt xs j row)
+        → EventAt (y ∷ xs) k row)
     go header (Event lane r) zero one fits at behind =
         let same : r.row ≡ row = cc in
         record { is_event = subst IsEvent same fits.0; at = ap (λ (q : Row). Some (event_item q)) same }

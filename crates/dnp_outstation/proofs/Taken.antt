@@ -73,11 +73,18 @@ function_is place w items holds = go holds.stands
 -- ---- an item is put
 
 pub put_is : (w : Writer) (x : Item)
-    → put w x ≡ record { builder = with_object (built_for w (run_at x)) (written_of x); run = run_at x; place = place_after w.place x; upto = given_after w.upto x }
+    → put w x
+    ≡ record { builder = with_object (built_for w (run_at x)) (written_of x); run = run_at x; place = place_after w.place x; upto = given_after w.upto x }
 put_is w x = go x.header x.thing
   where
     go : (header : ℕ) (thing : Thing) → (let y : Item = record { header = header; thing = thing } in
-        put w y ≡ record { builder = with_object (built_for w (run_at y)) (written_of y); run = run_at y; place = place_after w.place y; upto = given_after w.upto y })
+        put w y ≡ record {
+          builder = with_object (built_for w (run_at y))
+              (written_of y);
+          run = run_at y;
+          place = place_after w.place y;
+          upto = given_after w.upto y;
+        })
     go header (Event lane row) = refl
     go header (Present static) = refl
 
@@ -174,13 +181,15 @@ went_on w items y s few on =
     same = ap (λ (run : Run). is_same_run run (run_at y)) s.run_at_is ∙ same_run (last_item s.first s.more) y on
 
     behind : IsBehind s.first (length s.more + 1) y
-    behind = behind_on s.first (last_item s.first s.more) y (length s.more) 1 (chain_behind s.first s.more s.chain) (behind_next (last_item s.first s.more) y on)
+    behind = behind_on s.first (last_item s.first s.more) y (length s.more) 1 (chain_behind s.first s.more s.chain)
+        (behind_next (last_item s.first s.more) y on)
 
     is : with_object (built_for w (run_at y)) (written_of y)
         ≡ record { function = w.builder.function; ended = w.builder.ended; run = Some (header_of (record { first = s.first; more = s.more ++ y ∷ [] })) }
     is =
         ap (λ (b : Built). with_object b (written_of y)) (built_same w (run_at y) same)
-        ∙ put_joined w.builder (written_of y) (header_of (record { first = s.first; more = s.more })) (header_of (record { first = s.first; more = s.more ++ y ∷ [] })) s.run_is
+        ∙ put_joined w.builder (written_of y) (header_of (record { first = s.first; more = s.more }))
+        (header_of (record { first = s.first; more = s.more ++ y ∷ [] })) s.run_is
         (joins s.first s.more y behind few)
 
 began_anew : (w : Writer) (items : List Item) (y : Item) (s : Stands w.builder w.run items) → goes_on (last_item s.first s.more) y ≡ false
@@ -224,14 +233,17 @@ indexed_octets n (o ∷ objects) =
     let behind = indexed_octets n objects in
     let first : List ℕ = item_octets (range.Indexed true n) o in
     let two : length first ≡ length o.octets + 2 = omega (arith, length-append (number true o.index) o.octets) in
-    let both : length (first ++ flat_map (item_octets (range.Indexed true n)) objects) ≡ length first + length (flat_map (item_octets (range.Indexed true n)) objects) = length-append first (flat_map (item_octets (range.Indexed true n)) objects) in
+    let both : length (first ++ flat_map (item_octets (range.Indexed true n)) objects)
+    ≡ length first + length (flat_map (item_octets (range.Indexed true n)) objects) =
+    length-append first (flat_map (item_octets (range.Indexed true n)) objects) in
     omega arith
 
 within_size : (b : Built) (h : Head) → b.run ≡ Some h → length h.octets ≤ size b
 within_size b h run_is =
     let heads_is : heads b ≡ b.ended ++ h ∷ [] = ap (λ (o : Option Head). b.ended ++ option_to_list o) run_is in
     let spelled_is : spelled (heads b) ≡ spelled b.ended ++ (header_octets h ++ []) = ap spelled heads_is ∙ flat_map-append header_octets b.ended (h ∷ []) in
-    let parts : length (spelled (heads b)) ≡ length (spelled b.ended) + length (header_octets h ++ []) = ap length spelled_is ∙ length-append (spelled b.ended) (header_octets h ++ []) in
+    let parts : length (spelled (heads b)) ≡ length (spelled b.ended) + length (header_octets h ++ []) =
+    ap length spelled_is ∙ length-append (spelled b.ended) (header_octets h ++ []) in
     let plain : length (header_octets h ++ []) ≡ length (header_octets h) = ap length (append-nil (header_octets h)) in
     let inner : length (range_octets h.range ++ h.octets) ≡ length (range_octets h.range) + length h.octets = length-append (range_octets h.range) h.octets in
     omega arith
@@ -239,7 +251,8 @@ within_size b h run_is =
 pub few : (b : Built) (first : Item) (more : List Item) → b.run ≡ Some (header_of (record { first = first; more = more })) → size b ≤ 2048 → IsFew first more
 few b first more run_is small = go first.header first.thing run_is
   where
-    go : (header : ℕ) (thing : Thing) → (let x : Item = record { header = header; thing = thing } in b.run ≡ Some (header_of (record { first = x; more = more })) → IsFew x more)
+    go : (header : ℕ) (thing : Thing)
+        → (let x : Item = record { header = header; thing = thing } in b.run ≡ Some (header_of (record { first = x; more = more })) → IsFew x more)
     go header (Event lane row) is =
         let x : Item = record { header = header; thing = Event lane row } in
         let objects = map object_of (x ∷ more) in
@@ -266,7 +279,8 @@ put_holds place w items y holds fit = subst (λ (v : Writer). Holds place v (ite
     by s true on = went_on w items y s (few w.builder s.first s.more s.run_is small) on
     by s false off = began_anew w items y s off
 
-    after : IsEmpty w.builder w.run items ⊎ Stands w.builder w.run items → Stands (with_object (built_for w (run_at y)) (written_of y)) (run_at y) (items ++ y ∷ [])
+    after : IsEmpty w.builder w.run items ⊎ Stands w.builder w.run items
+        → Stands (with_object (built_for w (run_at y)) (written_of y)) (run_at y) (items ++ y ∷ [])
     after (inl empty) = begun w items y empty
     after (inr s) = by s (goes_on (last_item s.first s.more) y) refl
 
@@ -275,5 +289,6 @@ empty_holds place = record { place_is = refl; upto_is = refl; stands = inl (reco
 
 pub fits_is : (place : Place) (w : Writer) (items : List Item) → Holds place w items → fits w ≡ fits_fragment items
 fits_is place w items holds =
-    let front : size w.builder ≡ 4 + length (spelled (heads w.builder)) = ap (λ (f : Function). front_size f + length (spelled (heads w.builder))) (function_is place w items holds) in
+    let front : size w.builder ≡ 4 + length (spelled (heads w.builder)) =
+    ap (λ (f : Function). front_size f + length (spelled (heads w.builder))) (function_is place w items holds) in
     ap (λ (n : ℕ). nat_le n 2048) front ∙ ap (λ (hs : List Head). nat_le (4 + length (spelled hs)) 2048) (heads_are place w items holds)

@@ -1,13 +1,11 @@
 -- Each call leaves of what a response gave only what may still be confirmed.
-use Rattle.std.proofs.Common.{◌≡◌, Bool, true, false, if◌then◌else◌, refl, sym, subst, ℕ, ◌+◌, ◌≤◌, ◌%◌, ◌==◌, ◌&&◌, ◌||◌, not, nat_le, is_none, List, [], length, Option, None, Some, IfSome, Result, Ok, Err, option_map, option_to_list}
-use Rattle.std.specs.List.{All, list_all}
+use Rattle.std.proofs.Common.{◌≡◌, Bool, true, false, if◌then◌else◌, refl, sym, subst, ℕ, ◌+◌, ◌≤◌, ◌%◌, ◌&&◌, ◌||◌, not, nat_le, is_none, List, [], length, Option, None, Some, IfSome, Result, Ok, Err, option_map, option_to_list}
+use Rattle.std.specs.List.{All}
 use Rattle.dnp_objects.specs.declared.lane.LaneRow.{LaneRow}
 use Rattle.dnp_objects.specs.declared.row.Kind.{Kind}
 use Rattle.dnp_pointdb.specs.Database.{changed_of}
 use Rattle.dnp_pointdb.specs.declared.reading.Reading.{Reading}
 use Rattle.dnp_appfragment.specs.declared.fault.AppFault.{AppFault}
-use Rattle.dnp_appfragment.specs.declared.function.Function.{Function}
-use Rattle.dnp_appfragment.specs.declared.function.Function.TheVariants as function
 use Rattle.dnp_appfragment.specs.Fragments.{Asked}
 use Rattle.dnp_appfragment.specs.Headers.{Head}
 use Rattle.dnp_appfragment.specs.Meaning.{request_at}
@@ -25,12 +23,12 @@ use Rattle.dnp_outstation.specs.declared.session.LastRequest.{LastRequest}
 use Rattle.dnp_outstation.specs.declared.session.Awaited.{Awaited}
 use Rattle.dnp_outstation.specs.declared.session.Unsolicited.{Unsolicited}
 use Rattle.dnp_outstation.specs.declared.session.Session.{Session}
-use Rattle.dnp_outstation.specs.Items.{no_ids, first_place, last_in, is_inside, enabled_lanes, lane_items}
+use Rattle.dnp_outstation.specs.Items.{no_ids, first_place, last_in, enabled_lanes, lane_items}
 use Rattle.dnp_outstation.specs.Offer.{held_of, offered_of, offered, pushed}
 use Rattle.dnp_outstation.specs.Stage.{is_unsolicited}
 use Rattle.dnp_outstation.specs.Laws.{IsTidy, LeavesOnly}
 use Rattle.dnp_outstation.specs.State.{State, Step, nothing, sending, still, with_session, new_session, is_free, holds_read}
-use Rattle.dnp_outstation.specs.Content.{Content, Executed, plain, answered, content_from, content_of, for_request, by_function, read_content, source_of, refused, written, write_bits, bits_of, parameter_error, no_func_code_support}
+use Rattle.dnp_outstation.specs.Content.{Content, Executed, plain, content_from, content_of, read_content, source_of}
 use Rattle.dnp_outstation.specs.Connection.{responds_further, replied, asked, on_request, on_again, marked, confirmed, goes_on, on_confirm, awaits, asks_confirm, control_in, answers_held, on_unsolicited_confirm, starts, at_end, has_enabled_rows, closed, solicited_timer, unsolicited_timer, has_ended, case_of}
 use Rattle.dnp_outstation.specs.Calls.{with_that, answered_by, received, connection_after, tick_of, change_of, opened_of, restart_of}
 use Rattle.dnp_outstation.specs.Tidy.{IsLastGiven, IsFirstGiven, LeavesNothing}
@@ -68,7 +66,8 @@ first_kept : (old new : Stock) (last : Option LastRequest) → Keeps old new →
 first_kept old new None keeps is = tt
 first_kept old new (Some last) keeps is = reply_kept old new last keeps is
 
-awaited_kept : (old new : Stock) (awaited : Option Awaited) (last : Option LastRequest) → Keeps old new → AwaitedIs old awaited last → AwaitedIs new awaited last
+awaited_kept : (old new : Stock) (awaited : Option Awaited) (last : Option LastRequest) → Keeps old new → AwaitedIs old awaited last
+    → AwaitedIs new awaited last
 awaited_kept old new None last keeps is = tt
 awaited_kept old new (Some w) None keeps is = tt
 awaited_kept old new (Some w) (Some last) keeps is = last_kept old new last.left w.upto keeps is
@@ -86,7 +85,8 @@ if_some P (Some x) each = each x refl
 read_given : (s : State) (o : Panel) (stood : ℕ) (place : Place) (headers : List Head) → IsSound s.lanes → IsTidy s.lanes place.given → length place.given ≡ 9
     → All (λ id. id ≤ s.lanes.last_id) place.given → IsGiven s.lanes (read_content s o stood place headers)
 read_given s o stood place headers sound tidy nine used =
-    if_some (λ (next : Place). LeavesOnly s.lanes next.given (offered (source_of s o) stood place headers).upto) (offered (source_of s o) stood place headers).left
+    if_some (λ (next : Place). LeavesOnly s.lanes next.given (offered (source_of s o) stood place headers).upto)
+    (offered (source_of s o) stood place headers).left
     (λ next is. new_leaves_nothing (source_of s o) stood place next headers sound tidy nine used is)
 
 first_given : (s : State) (o : Panel) (headers : List Head) → IsSound s.lanes → IsGiven s.lanes (read_content s o (last_in s.lanes) first_place headers)
@@ -117,10 +117,17 @@ replied_tidy s o now seq x sound done unsolicited = go x.content done.content
         → LeavesNothing (replied now seq (record { state = x.state; content = content; time = x.time })).state
     go None given = record { awaited = none_left x.state.core.session.awaited; first = tt; unsolicited = unsolicited' }
     go (Some content) given =
-        let here : IsGiven x.state.lanes content = subst (λ (lanes : Stock). IsGiven lanes content) (sym done.keeps.lanes) (content_given s o content sound given) in
+        let here : IsGiven x.state.lanes content =
+        subst (λ (lanes : Stock). IsGiven lanes content) (sym done.keeps.lanes) (content_given s o content sound given) in
         record {
-          awaited = awaited_if x.state.lanes (asks_confirm content) (record { seq = seq; upto = content.upto; ends = deadline now x.state.core.times.confirm_ms })
-              (record { reply = First (record { upto = content.upto; is_awaited = asks_confirm content }); stood = last_in x.state.lanes; left = content.left }) here;
+          awaited = awaited_if x.state.lanes (asks_confirm content)
+              (record { seq = seq; upto = content.upto; ends = deadline now x.state.core.times.confirm_ms })
+              (record {
+                reply = First
+                    (record { upto = content.upto; is_awaited = asks_confirm content });
+                stood = last_in x.state.lanes;
+                left = content.left;
+              }) here;
           first = here;
           unsolicited = unsolicited';
         }
@@ -129,12 +136,16 @@ replied_tidy s o now seq x sound done unsolicited = go x.content done.content
 
 asks_tidy : (s : State) (o : Panel) (now : ℕ) (octets : List ℕ) → IsSound s.lanes → LeavesNothing s → LeavesNothing (on_request s o now octets).state
 asks_tidy s o now octets sound tidy =
-    replied_tidy (asked s octets) o now (control_in octets).seq (content_of (asked s octets) o octets) sound (content_done (asked s octets) o octets) tidy.unsolicited
+    replied_tidy (asked s octets) o now (control_in octets).seq (content_of (asked s octets) o octets) sound
+    (content_done (asked s octets) o octets) tidy.unsolicited
 
-again_tidy : (s : State) (now : ℕ) (octets : List ℕ) (last : LastRequest) → s.core.session.last ≡ Some last → LeavesNothing s → LeavesNothing (on_again s now octets last).state
+again_tidy : (s : State) (now : ℕ) (octets : List ℕ) (last : LastRequest) → s.core.session.last ≡ Some last → LeavesNothing s
+    → LeavesNothing (on_again s now octets last).state
 again_tidy s now octets last is tidy = go last.reply (subst (FirstIs s.lanes) is tidy.first)
   where
-    go : (reply : Reply) → (let l : LastRequest = record { reply = reply; stood = last.stood; left = last.left } in IsFirstGiven s.lanes l → LeavesNothing (on_again s now octets l).state)
+    go : (reply : Reply) →
+        (let l : LastRequest = record { reply = reply; stood = last.stood; left = last.left } in IsFirstGiven s.lanes l
+        → LeavesNothing (on_again s now octets l).state)
     go Held given = tidy
     go Silent given = tidy
     go Further given = tidy
@@ -155,7 +166,8 @@ marked_first : (s : Stock) (last : Option LastRequest) → FirstIs s last → Fi
 marked_first s None is = tt
 marked_first s (Some last) is = go last.reply is
   where
-    go : (reply : Reply) → (let l : LastRequest = record { reply = reply; stood = last.stood; left = last.left } in IsFirstGiven s l → IsFirstGiven s (marked l))
+    go : (reply : Reply) →
+        (let l : LastRequest = record { reply = reply; stood = last.stood; left = last.left } in IsFirstGiven s l → IsFirstGiven s (marked l))
     go Held is = tt
     go Silent is = tt
     go (First f) is = is
@@ -215,7 +227,8 @@ marked_places s (Some last) upto sound given = go last.left given
     go None given = tt
     go (Some place) given = place_tidy s place upto sound given
 
-confirms_tidy : (s : State) (o : Panel) (now : ℕ) (w : Awaited) → IsSound s.lanes → IfSome s.core.session.last (λ l. IsLastGiven s.lanes l.left w.upto) → LeavesNothing s
+confirms_tidy : (s : State) (o : Panel) (now : ℕ) (w : Awaited) → IsSound s.lanes → IfSome s.core.session.last (λ l. IsLastGiven s.lanes l.left w.upto)
+    → LeavesNothing s
     → LeavesNothing (on_confirm s o now w).state
 confirms_tidy s o now w sound given tidy =
     let after : State = record (with_session s (confirmed s.core.session)) { lanes = without s.lanes w.upto } in
@@ -227,13 +240,15 @@ confirms_tidy s o now w sound given tidy =
     })
 
 -- a held READ is answered
-held_tidy : (s : State) (o : Panel) (now : ℕ) (last : Option LastRequest) → IsSound s.lanes → LeavesNothing s → LeavesNothing (answers_held s o now last).state
+held_tidy : (s : State) (o : Panel) (now : ℕ) (last : Option LastRequest) → IsSound s.lanes → LeavesNothing s
+    → LeavesNothing (answers_held s o now last).state
 held_tidy s o now None sound tidy = tidy
 held_tidy s o now (Some last) sound tidy = go last.reply
   where
     go : (reply : Reply) → LeavesNothing (answers_held s o now (Some (record { reply = reply; stood = last.stood; left = last.left }))).state
     go Held =
-        replied_tidy s o now (control_in s.core.session.request).seq (content_of s o s.core.session.request) sound (content_done s o s.core.session.request) tidy.unsolicited
+        replied_tidy s o now (control_in s.core.session.request).seq (content_of s o s.core.session.request) sound
+        (content_done s o s.core.session.request) tidy.unsolicited
     go Silent = tidy
     go (First f) = tidy
     go Further = tidy
@@ -242,7 +257,8 @@ unsolicited_confirms_tidy : (s : State) (o : Panel) (now : ℕ) (w : Unsolicited
     → LeavesNothing (on_unsolicited_confirm s o now w).state
 unsolicited_confirms_tidy s o now w sound nine tidy =
     let lanes = without s.lanes w.upto in
-    let after : State = record s { core = record s.core { announced = true; session = record s.core.session { unsolicited = None } }; lanes = without s.lanes w.upto } in
+    let after : State =
+    record s { core = record s.core { announced = true; session = record s.core.session { unsolicited = None } }; lanes = without s.lanes w.upto } in
     held_tidy after o now s.core.session.last (IsSound-without s.lanes w.upto nine sound)
     (record {
       awaited = awaited_kept s.lanes lanes s.core.session.awaited s.core.session.last (released s.lanes w.upto) tidy.awaited;
@@ -261,15 +277,18 @@ starts_tidy step now content nine tidy = record { awaited = tidy.awaited; first 
 
 end_tidy : (now : ℕ) (step : Step) → LeavesNothing step.state → LeavesNothing (at_end now step).state
 end_tidy now step tidy =
-    by (is_unsolicited step.state.core.times.unsolicited && (step.state.core.announced && (step.state.core.is_open && (is_free step.state.core && has_enabled_rows step.state))))
+    by (is_unsolicited step.state.core.times.unsolicited &&
+    (step.state.core.announced && (step.state.core.is_open && (is_free step.state.core && has_enabled_rows step.state))))
   where
     by : (b : Bool) → LeavesNothing (if b then starts step now (content_from (pushed step.state.lanes step.state.core.enabled)) else step).state
-    by true = starts_tidy step now (content_from (pushed step.state.lanes step.state.core.enabled)) (pushed_nine step.state.lanes step.state.core.enabled) tidy
+    by true = starts_tidy step now (content_from (pushed step.state.lanes step.state.core.enabled))
+        (pushed_nine step.state.lanes step.state.core.enabled) tidy
     by false = tidy
 
 -- ---- the calls
 
-answered_tidy : (s : State) (o : Panel) (now : ℕ) (octets : List ℕ) (case : Case) → IsSound s.lanes → LeavesNothing s → LeavesNothing (answered_by s o now octets case).state
+answered_tidy : (s : State) (o : Panel) (now : ℕ) (octets : List ℕ) (case : Case) → IsSound s.lanes → LeavesNothing s
+    → LeavesNothing (answered_by s o now octets case).state
 answered_tidy s o now octets PassedOver sound tidy = tidy
 answered_tidy s o now octets Confirms sound tidy = go s.core.session.awaited tidy.awaited
   where
@@ -290,16 +309,19 @@ answered_tidy s o now octets Again sound tidy = go s.core.session.last refl
 answered_tidy s o now octets Waits sound tidy = record { awaited = tt; first = tt; unsolicited = tidy.unsolicited }
 answered_tidy s o now octets Asks sound tidy = asks_tidy s o now octets sound tidy
 
-received_by : (s : State) (o : Panel) (now : ℕ) (octets : List ℕ) (case : Case) → IsSound s.lanes → LeavesNothing s → LeavesNothing (received s o now octets case).state
+received_by : (s : State) (o : Panel) (now : ℕ) (octets : List ℕ) (case : Case) → IsSound s.lanes → LeavesNothing s
+    → LeavesNothing (received s o now octets case).state
 received_by s o now octets PassedOver sound tidy = tidy
 received_by s o now octets Confirms sound tidy = end_tidy now (answered_by s o now octets Confirms) (answered_tidy s o now octets Confirms sound tidy)
-received_by s o now octets ConfirmsUnsolicited sound tidy = end_tidy now (answered_by s o now octets ConfirmsUnsolicited) (answered_tidy s o now octets ConfirmsUnsolicited sound tidy)
+received_by s o now octets ConfirmsUnsolicited sound tidy =
+    end_tidy now (answered_by s o now octets ConfirmsUnsolicited) (answered_tidy s o now octets ConfirmsUnsolicited sound tidy)
 received_by s o now octets Stray sound tidy = end_tidy now (answered_by s o now octets Stray) (answered_tidy s o now octets Stray sound tidy)
 received_by s o now octets Again sound tidy = end_tidy now (answered_by s o now octets Again) (answered_tidy s o now octets Again sound tidy)
 received_by s o now octets Waits sound tidy = end_tidy now (answered_by s o now octets Waits) (answered_tidy s o now octets Waits sound tidy)
 received_by s o now octets Asks sound tidy = end_tidy now (answered_by s o now octets Asks) (answered_tidy s o now octets Asks sound tidy)
 
-pub received_tidy : (s : State) (o : Panel) (now : ℕ) (octets : List ℕ) → IsSound s.lanes → LeavesNothing s → LeavesNothing (connection_after s o now octets).state
+pub received_tidy : (s : State) (o : Panel) (now : ℕ) (octets : List ℕ) → IsSound s.lanes → LeavesNothing s
+    → LeavesNothing (connection_after s o now octets).state
 received_tidy s o now octets sound tidy = received_by s o now octets (case_of s.core octets) sound tidy
 
 -- a connection that begins remembers nothing
@@ -331,13 +353,19 @@ solicited_tidy s now tidy = solicited_by s now s.core.session.awaited tidy
 abbrev with_unsolicited : State → Option Unsolicited → State
 with_unsolicited s o = record s { core = record s.core { session = record s.core.session { unsolicited = o } } }
 
-unsolicited_by : (s : State) (now : ℕ) (o : Option Unsolicited) → LeavesNothing (with_unsolicited s o) → LeavesNothing (unsolicited_timer (with_unsolicited s o) now).state
+unsolicited_by : (s : State) (now : ℕ) (o : Option Unsolicited) → LeavesNothing (with_unsolicited s o)
+    → LeavesNothing (unsolicited_timer (with_unsolicited s o) now).state
 unsolicited_by s now None tidy = tidy
 unsolicited_by s now (Some w) tidy = by (not (has_ended now w.ends)) (holds_read s.core.session.last || nat_le s.core.times.retries w.repeats)
   where
     by : (a b : Bool)
         → LeavesNothing (if a then still (with_unsolicited s (Some w))
-        else if b then (record { state = record (with_unsolicited s (Some w)) { core = closed (with_unsolicited s (Some w)).core }; does = record nothing { close = true } })
+        else if b then
+        (record {
+          state = record
+              (with_unsolicited s (Some w)) { core = closed (with_unsolicited s (Some w)).core };
+          does = record nothing { close = true };
+        })
         else (record {
           state = with_unsolicited s (Some (record w { ends = deadline now s.core.times.confirm_ms; repeats = w.repeats + 1 }));
           does = sending s.core.session.unsolicited_response;
@@ -353,7 +381,8 @@ pub ticked_tidy : (s : State) (now : ℕ) → LeavesNothing s → LeavesNothing 
 ticked_tidy s now tidy = by s.core.is_open
   where
     by : (b : Bool) → LeavesNothing (if b then at_end now (unsolicited_timer (record s { core = solicited_timer s.core now }) now) else still s).state
-    by true = end_tidy now (unsolicited_timer (record s { core = solicited_timer s.core now }) now) (unsolicited_tidy (record s { core = solicited_timer s.core now }) now (solicited_tidy s now tidy))
+    by true = end_tidy now (unsolicited_timer (record s { core = solicited_timer s.core now }) now)
+        (unsolicited_tidy (record s { core = solicited_timer s.core now }) now (solicited_tidy s now tidy))
     by false = tidy
 
 -- ---- the lanes alone change
@@ -377,7 +406,8 @@ emptied_tidy s tidy = lanes_tidy s (without_all s.lanes) (λ given upto leaves. 
 pub changed_tidy : (s : State) (now : ℕ) (kind : Kind) (index : ℕ) (reading : Reading) (made : Option LaneRow) → LeavesNothing s
     → LeavesNothing (change_of s now kind index reading made).state
 changed_tidy s now kind index reading made tidy =
-    let after : State = record s { core = record s.core { points = changed_of s.core.points kind index reading }; lanes = with_rows s.lanes (option_to_list made) } in
+    let after : State =
+    record s { core = record s.core { points = changed_of s.core.points kind index reading }; lanes = with_rows s.lanes (option_to_list made) } in
     let more = appended_tidy s (option_to_list made) tidy in
     end_tidy now (record { state = after; does = record nothing { overwritten = dropped_by s.lanes (option_to_list made) } })
     (record { awaited = more.awaited; first = more.first; unsolicited = more.unsolicited })
@@ -406,7 +436,8 @@ goes_on_tidily s w last place sound tidy awaited_is last_is left_is =
     let given : IfSome s.core.session.last (λ l. IsLastGiven s.lanes l.left w.upto) =
     subst (λ (o : Option Awaited). AwaitedIs s.lanes o s.core.session.last) awaited_is tidy.awaited
     in
-    let of_last : IsLastGiven s.lanes last.left w.upto = subst (λ (o : Option LastRequest). IfSome o (λ l. IsLastGiven s.lanes l.left w.upto)) last_is given in
+    let of_last : IsLastGiven s.lanes last.left w.upto =
+    subst (λ (o : Option LastRequest). IfSome o (λ l. IsLastGiven s.lanes l.left w.upto)) last_is given in
     let of_place : LeavesOnly s.lanes place.given w.upto = subst (λ (o : Option Place). IsLastGiven s.lanes o w.upto) left_is of_last in
     let at = place_tidy s.lanes place w.upto sound of_place in
     (at.tidy, at.nine)

@@ -77,7 +77,8 @@ stands_alone x can = go x.header x.thing can
         let k = row.row.kind in
         let time = row.row.time in
         let octets = written (event_object k time).0 (event_object k time).1 row.row in
-        let sized : IsSized (event_object k time).0 (event_object k time).1 octets = written_sized (event_object k time).0 (event_object k time).1 row.row fits.0 in
+        let sized : IsSized (event_object k time).0 (event_object k time).1 octets =
+        written_sized (event_object k time).0 (event_object k time).1 row.row fits.0 in
         record {
           header = event_header function.Response k time row.row.index octets refl sized;
           sized = has_size (event_object k time).0 (event_object k time).1 octets sized;
@@ -109,7 +110,8 @@ written_for w run items all = by (is_same_run w.run run)
     by true = all
     by false = written_broken w.builder items all
 
-written_more : (b : Built) (x : Item) (items : List Item) → CanStand x → AreWritten (heads b) items → AreWritten (heads (with_object b (written_of x))) (items ++ x ∷ [])
+written_more : (b : Built) (x : Item) (items : List Item) → CanStand x → AreWritten (heads b) items
+    → AreWritten (heads (with_object b (written_of x))) (items ++ x ∷ [])
 written_more b x items can all =
     let one = stands_alone x can in
     record {
@@ -118,7 +120,8 @@ written_more b x items can all =
       stand = object_stands b (written_of x) one.header one.sized all.stand;
     }
 
-all_written : (w : Writer) (items left : List Item) → Holds first_place w items → fits w ≡ true → AreWritten (heads w.builder) items → AllByRecursion CanStand left
+all_written : (w : Writer) (items left : List Item) → Holds first_place w items → fits w ≡ true → AreWritten (heads w.builder) items
+    → AllByRecursion CanStand left
     → fits_fragment (items ++ left) ≡ true → AreWritten (headers_of (items ++ left)) (items ++ left)
 all_written w items [] holds fit written can fits_all =
     subst (λ (all : List Item). AreWritten (headers_of all) all) (sym (append-nil items))
@@ -126,9 +129,11 @@ all_written w items [] holds fit written can fits_all =
 all_written w items (y ∷ ys) holds fit written can fits_all =
     let after : Holds first_place (put w y) (items ++ y ∷ []) = put_holds first_place w items y holds fit in
     let same : (items ++ y ∷ []) ++ ys ≡ items ++ y ∷ ys = append_assoc items (y ∷ []) ys in
-    let fits_more : fits (put w y) ≡ true = fits_is first_place (put w y) (items ++ y ∷ []) after ∙ fits_begins (items ++ y ∷ []) ys (ap fits_fragment same ∙ fits_all) in
+    let fits_more : fits (put w y) ≡ true =
+    fits_is first_place (put w y) (items ++ y ∷ []) after ∙ fits_begins (items ++ y ∷ []) ys (ap fits_fragment same ∙ fits_all) in
     let more : AreWritten (heads (put w y).builder) (items ++ y ∷ []) =
-    subst (λ (v : Writer). AreWritten (heads v.builder) (items ++ y ∷ [])) (sym (put_is w y)) (written_more (built_for w (run_at y)) y items can.0 (written_for w (run_at y) items written))
+    subst (λ (v : Writer). AreWritten (heads v.builder) (items ++ y ∷ [])) (sym (put_is w y))
+    (written_more (built_for w (run_at y)) y items can.0 (written_for w (run_at y) items written))
     in
     subst (λ (all : List Item). AreWritten (headers_of all) all) same
     (all_written (put w y) (items ++ y ∷ []) ys after fits_more more can.1 (ap fits_fragment same ∙ fits_all))
