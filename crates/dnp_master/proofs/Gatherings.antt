@@ -6,13 +6,10 @@ use Rattle.std.proofs.lemmas.List.Folds.{list_all-append}
 use Rattle.dnp_objects.specs.declared.row.Row.{Row}
 use Rattle.dnp_master.specs.declared.gathering.Gathering.{Gathering}
 use Rattle.dnp_master.specs.Gathering.{Gathers}
-use Rattle.dnp_master.specs.Rows.{header_rows, is_event_header, event_rows, static_rows, is_reported, is_planned, events_in, statics_in, is_from_plan}
+use Rattle.dnp_master.specs.Rows.{header_rows, is_event_header, static_rows, is_reported, is_planned, events_in, statics_in, is_from_plan}
 use Rattle.dnp_objects.specs.Events.{IsEvent}
 use Rattle.dnp_appfragment.specs.Headers.{Head}
 use Rattle.dnp_pointdb.specs.Plan.{Plan}
-
-pub gathers_none : (g : Gathering) → Gathers g [] g
-gathers_none g = record { behind = λ h. (h, sym (append-nil g.rows.items)); still = λ _. refl }
 
 both_none : {A : Type 0} (xs ys : List A) → xs ++ ys ≡ [] → (xs ≡ []) × (ys ≡ [])
 both_none [] ys is = (refl, is)
@@ -26,9 +23,6 @@ gathers_both a b c xs ys first second = record {
       (sooner.0, later.1 ∙ ap (λ (zs : List Row). zs ++ ys) sooner.1 ∙ append_assoc a.rows.items xs ys);
   still = λ none. second.still (both_none xs ys none).1 ∙ first.still (both_none xs ys none).0;
 }
-
-pub gathers_more : (a b c : Gathering) (x : Row) (ys : List Row) → Gathers a (x ∷ []) b → Gathers b ys c → Gathers a (x ∷ ys) c
-gathers_more a b c x ys first second = gathers_both a b c (x ∷ []) ys first second
 
 -- ---- one header more
 

@@ -1,3 +1,4 @@
 pub mod RequestHeaders
 pub mod Gatherings
 pub mod Walks
+pub mod LinkSteps

@@ -1,6 +1,6 @@
--- What contracts promise of `ask` and `receive`: a function of the master and of what came, case by case (IEEE Std
+-- Definition: `ask` and `receive`: a function of the master and of what came, case by case (IEEE Std
 -- 1815-2012, application layer: the master's side of a transaction, unsolicited responses, confirmation).
-use Rattle.std.specs.Prelude.{ℕ, ◌+◌, nat_lt, Bool, true, false, not, ◌&&◌, ◌||◌, ◌==◌, if◌then◌else◌, List, [], ◌∷◌, length, Option, Some, None, is_some, Result, Ok, Err}
+use Rattle.std.specs.Prelude.{ℕ, ◌+◌, nat_lt, Bool, true, false, not, ◌&&◌, ◌==◌, if◌then◌else◌, List, [], length, Option, Some, None, is_some, Result, Ok, Err}
 use Rattle.std.specs.Int.{bit_at}
 use Rattle.dnp_objects.specs.Equality.{command_eq}
 use Rattle.dnp_objects.specs.declared.row.Row.{Row}
@@ -147,7 +147,10 @@ abbrev pub going_on : State → ℕ → OpenRequest → Answered → Taking
 going_on s now request answered =
     let echo = echo_after (command_for request.task) request.echo answered.headers in
     taking answered
-    (record s { seq = after s.seq; request = Some (record { task = request.task; has_begun = true; echo = echo; ends = deadline now s.times.response_ms }) })
+    (record s {
+      seq = after s.seq;
+      request = Some (record { task = request.task; has_begun = true; echo = echo; ends = deadline now s.times.response_ms });
+    })
     s.plan None
 
 abbrev pub taken_as : Case → State → ℕ → Answered → Taking

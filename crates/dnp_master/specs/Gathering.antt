@@ -1,5 +1,5 @@
--- Words of private steps: rows that are gathered for the sink, as far as there is memory for them.
-use Rattle.std.specs.Prelude.{◌≡◌, ◌≢◌, ◌≤◌, Bool, true, false, List, [], ◌∷◌, ◌++◌, length, All, Vec}
+-- Private steps: rows that are gathered for the sink, as far as there is memory for them.
+use Rattle.std.specs.Prelude.{◌≡◌, true, false, List, [], ◌++◌, length, All}
 use Rattle.dnp_objects.specs.Events.{IsEvent}
 use Rattle.dnp_objects.specs.declared.row.Row.{Row}
 use Rattle.dnp_appfragment.specs.Headers.{Head}

@@ -4,5 +4,6 @@ pub mod Outcomes
 pub mod Requests
 pub mod Rows
 pub mod State
+pub mod Steps
 pub mod Taking
 pub mod Sinks

@@ -1,4 +1,4 @@
--- What contracts promise of the outcome of a task (IEEE Std 1815-2012, application layer: select, operate and their
+-- Definition: the outcome of a task (IEEE Std 1815-2012, application layer: select, operate and their
 -- responses, which repeat the objects of the request with a status put in).
 use Rattle.std.specs.Prelude.{ℕ, ◌==◌, if◌then◌else◌, List, [], ◌∷◌, Option, Some, None}
 use Rattle.dnp_objects.specs.Equality.{command_eq}

@@ -1,4 +1,4 @@
--- What contracts promise of the requests that a master sends (IEEE Std 1815-2012, application layer: functions, class
+-- Definition: the requests that a master sends (IEEE Std 1815-2012, application layer: functions, class
 -- data, internal indications, time; object library: groups 12, 41, 50, 60 and 80).
 use Rattle.std.specs.Prelude.{ℕ, ◌+◌, ◌^◌, Bool, true, false, not, ◌&&◌, ◌||◌, nat_lt, if◌then◌else◌, List, [], ◌∷◌, slice_index_or}
 use Rattle.std.specs.List.{flat_map}

@@ -1,4 +1,4 @@
--- What contracts promise of the rows of a response (IEEE Std 1815-2012, application layer: event classes; object
+-- Definition: the rows of a response (IEEE Std 1815-2012, application layer: event classes; object
 -- library: groups 1 to 32): all of them, in order, as whole lists.
 use Rattle.std.specs.Prelude.{Bool, false, nat_lt, ◌||◌, ◌==◌, if◌then◌else◌, List, [], filter, option_to_list, is_some}
 use Rattle.std.specs.List.{flat_map, list_all, range_with_len}

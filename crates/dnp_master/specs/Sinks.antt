@@ -1,4 +1,4 @@
--- What contracts promise of the sink that a master gives rows to.
+-- Definition: the sink that a master gives rows to.
 use Rattle.std.specs.Prelude.{◌≡◌, ◌≢◌, Bool, IsTrue, Result, Err, IfErr, ⊤}
 use Rattle.dnp_objects.specs.declared.store.StoreFault.{StoreFault}
 use Rattle.dnp_objects.specs.declared.store.StoreFault.TheVariants as store

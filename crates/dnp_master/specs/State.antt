@@ -1,4 +1,4 @@
--- What contracts see of a master: closed, or open and idle, or open with a request whose response is awaited (IEEE Std
+-- Definition: a master: closed, or open and idle, or open with a request whose response is awaited (IEEE Std
 -- 1815-2012, application layer: the master's side of a transaction).
 use Rattle.std.specs.Prelude.{ℕ, ◌+◌, ◌%◌, ◌^◌, ◌-◌, Bool, true, false, ◌&&◌, nat_le, min, if◌then◌else◌, Option, Some, None, is_none}
 use Rattle.dnp_objects.specs.declared.command.Command.{Command}

@@ -1,5 +1,5 @@
--- Words of private steps: what a fragment makes of a master, in the parts in which it is worked out.
-use Rattle.std.specs.Prelude.{◌≡◌, ◌≢◌, ℕ, ◌≤◌, Bool, true, List, ◌++◌, length, take, drop, Option, All, vec_len, ◌<◌, ◌⊎◌, Result, Ok, Err, IfOk, IfErr}
+-- Private steps: what a fragment makes of a master, in the parts in which it is worked out.
+use Rattle.std.specs.Prelude.{◌≡◌, ◌≢◌, ◌≤◌, true, List, take, drop, All, vec_len, ◌<◌, ◌⊎◌, Result, Ok, Err, IfOk, IfErr}
 use Rattle.std.specs.Result.{IsOkAnd}
 use Rattle.dnp_objects.specs.Events.{IsEvent}
 use Rattle.dnp_objects.specs.declared.row.Row.{Row}

@@ -85,8 +85,7 @@ fn gather_planned(plan: &PointPlan, rows: RowWalk<'_>, gathering: &mut Gathering
 /// An octet is below 2^8, wherever it is read.
 fn octets_are_small(octets: &[u8])
     ensures { All (λ octet. octet < 2 ^ 8) octets.now }
-{
-}
+{}
 
 /// The rows of a header, in order. Each can be reported as an event.
 fn rows_of<'a>(header: &Header<'a>) -> RowWalk<'a>
@@ -168,7 +167,8 @@ impl Gathered {
     /// The rows of these headers, all of them or none.
     ///
     /// Refused is, first of all, an event of a point that the plan lacks, or that has no class
-    /// (`Stranger`), and then want of memory for the rows (`Memory`).
+    /// (`Stranger`), and then being out of memory for the rows
+    /// (`Memory`).
     pub fn of(
         alloc: Global,
         plan: &PointPlan,

@@ -46,8 +46,10 @@ impl Model for Master {
 }
 
 impl Master {
-    ghost use Rattle.std.specs.Prelude.{◌≡◌, Ok, Err, MatchResult};
+    ghost use Rattle.std.specs.Prelude.{◌≡◌, Ok, Err, IfOk, MatchResult};
+    ghost use Rattle.dnp_appfragment.specs.Fragments.{IsRequest};
     ghost use Rattle.dnp_master.specs.Calls.{asked, ask_answer, may_follow};
+    ghost use Rattle.dnp_master.specs.Requests.{request_for};
     ghost use Rattle.dnp_master.specs.State as state;
 
     /// A closed master of the outstation with these points. Of the times it has its response timer by.
@@ -128,6 +130,8 @@ impl Master {
     pub fn ask(&mut self, now: u64, task: Task) -> Result<Fragment, AskFault>
         ensures answer { MatchResult result (λ request. ask_answer self.old task ≡ Ok request.items)
             (λ fault. ask_answer self.old task ≡ Err fault) }
+        // The outstation reads it as that request.
+        ensures reads { IfOk result (λ request. IsRequest request.items (request_for self.old.seq task)) }
         ensures after { self.new ≡ asked self.old now task }
     {
         if !self.is_open {

@@ -39,6 +39,15 @@ fn give<S: Sink>(
 }
 
 impl Master {
+    /// Makes look-ups in the plan quick, while the master is open.
+    fn prepare(&mut self, alloc: Global)
+        ensures { self.new ≡ self.old }
+    {
+        if self.is_open {
+            self.plan.prepare(alloc);
+        }
+    }
+
     /// Takes in octets that came at this moment, in milliseconds: what a closed master, and one that awaits
     /// none of this, passes over, is answered Ok too, and nothing has happened then.
     ///
@@ -48,8 +57,8 @@ impl Master {
     /// fragment confirmed, if it asks for that, and only then does anything change.
     ///
     /// Refused is, first of all, what is no response (`Malformed`), and then an event of a point that the
-    /// plan lacks, or that has no class (`Stranger`): nothing was asked of the sink. Last come want of
-    /// memory for the rows (`Memory`), and what the sink refuses (`Exhausted`, `Memory`, `Device`).
+    /// plan lacks, or that has no class (`Stranger`): nothing was asked of the sink. Last comes being out
+    /// of memory for the rows (`Memory`), and what the sink refuses (`Exhausted`, `Memory`, `Device`).
     pub fn receive<S: Sink>(
         &mut self,
         alloc: Global,
@@ -59,7 +68,7 @@ impl Master {
     ) -> Result<MasterActions, MasterFault>
         // What is refused for itself, whatever the sink.
         ensures refused { IfErr (receive_of self.old now octets.now) (λ fault. result ≡ Err fault) }
-        // All else is refused for want of memory or by the sink, and only where there are rows.
+        // All else is refused out of memory or by the sink, and only where there are rows.
         ensures named { IfErr result (λ fault. (receive_of self.old now octets.now ≡ Err fault)
             ⊎ (IsSinkFault fault × IsOkAnd (receive_of self.old now octets.now) (λ t. IsTrue (has_rows t)))) }
         ensures unchanged { OnErr result (self.new ≡ self.old) }
@@ -81,6 +90,7 @@ impl Master {
         ensures exhausted { S.honest sink.new → IfErr result (λ fault. fault ≡ MasterFault.Exhausted
             → IfOk (receive_of self.old now octets.now) (λ t. IsTrue (S.exhausts sink.old t.events))) }
     {
+        self.prepare(alloc);
         let taken = self.take(alloc, now, octets)?;
         let events = taken.gathered.events();
         let statics = taken.gathered.statics();

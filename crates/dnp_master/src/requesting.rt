@@ -3,7 +3,7 @@
 ghost use Rattle.std.specs.Prelude.{◌≡◌, ◌+◌, ◌≤◌, ◌<◌, ◌++◌, [], ◌∷◌, true, ℕ, IsTrue, None, length};
 ghost use Rattle.byteorder.specs.Endian.{little_bytes};
 ghost use Rattle.dnp_appfragment.specs.Built.{carries_commands, heads, size, with_header};
-ghost use Rattle.dnp_appfragment.specs.Fragments.{request_octets};
+ghost use Rattle.dnp_appfragment.specs.Fragments.{IsRequest, request_octets};
 ghost use Rattle.dnp_appfragment.specs.Headers.{IsHeader, header_octets};
 ghost use Rattle.dnp_appfragment.specs.Seen.{head};
 ghost use Rattle.dnp_appfragment.specs.Table.{form_of};
@@ -144,7 +144,8 @@ fn function_for(task: &Task) -> Function
 pub(crate) fn request_for(task: &Task, seq: u8) -> Fragment
     requires seq { seq < 16 }
     requires good { IsTrue (spec.is_good task.now) }
-    ensures { result.items ≡ request_octets (spec.request_for seq task.now) }
+    ensures octets { result.items ≡ request_octets (spec.request_for seq task.now) }
+    ensures reads { IsRequest result.items (spec.request_for seq task.now) }
 {
     let mut builder = Builder::new(function_for(task), false);
     put_headers(&mut builder, task);

@@ -155,7 +155,7 @@ impl Master {
         ensures state { with_next self.now result
             ≡ record self.now {
               seq = after self.now.seq;
-              request = Some (record { task = task.now; has_begun = true; echo = echo; ends = deadline_of now self.now.times.response_ms })
+              request = Some (record { task = task.now; has_begun = true; echo = echo; ends = deadline_of now self.now.times.response_ms });
             } }
         ensures outcome { result.outcome ≡ None }
         ensures seq { result.seq < 16 }
@@ -244,12 +244,7 @@ impl Master {
 
     /// Octets came at this moment.
     #[tactic(auto, unfolding(crate::specs::Calls::receive_of))]
-    pub(crate) fn take(
-        &self,
-        alloc: Global,
-        now: u64,
-        octets: &[u8],
-    ) -> Result<Taken, MasterFault>
+    pub(crate) fn take(&self, alloc: Global, now: u64, octets: &[u8]) -> Result<Taken, MasterFault>
         ensures { WorksOut self.now (spec.receive_of self.now now octets.now) result }
     {
         if !self.is_open {

@@ -10,6 +10,7 @@ pub mod Marks
 pub mod Orders
 pub mod Places
 pub mod PlanFaults
+pub mod PlanPoints
 pub mod Plans
 pub mod Ranges
 pub mod Runs

@@ -75,10 +75,10 @@ placed_sorted es n order order' p all moves rising apart = record {
 -- ---- the extents of blocks
 
 -- that of the block at n
-pub extent_at : (blocks : List BlockState) (n : ℕ) (b : BlockState) (d : Extent) → n < length blocks → b ≡ get_or blocks n b
-    → get_or (extents blocks) n d ≡ extent b
+pub extent_at : (blocks : List Block) (n : ℕ) (b : Block) (d : Extent) → n < length blocks → b ≡ get_or blocks n b
+    → get_or (map extent_of blocks) n d ≡ extent_of b
 extent_at blocks n b d lt is =
-    get_or-map extent blocks n b d lt ∙ ap (λ (x : BlockState). extent x) (sym is)
+    get_or-map extent_of blocks n b d lt ∙ ap (λ (x : Block). extent_of x) (sym is)
 
 -- another block in its place with as many points
 pub extents-set : (blocks : List BlockState) (n : ℕ) (b : BlockState) (d : BlockState) → n < length blocks
@@ -114,7 +114,8 @@ has_from blocks i index d lt has x =
       before_end = covers_high (extent_of (get_or blocks i x)) index there;
     }
 
-apart_plan : (blocks : List Block) → (ShareIndex blocks → ⊥) → AreApart (map extent_of blocks)
+-- they share no index
+pub apart_plan : (blocks : List Block) → (ShareIndex blocks → ⊥) → AreApart (map extent_of blocks)
 apart_plan blocks none i j index d d' before lt of_i of_j =
     let inside : j < length blocks = omega (arith, length-map blocks extent_of) in
     none (record {
@@ -127,7 +128,6 @@ apart_plan blocks none i j index d d' before lt of_i of_j =
       of_second = has_from blocks j index d' inside of_j;
     })
 
--- they share no index
 pub apart_new : (blocks : List Block) → (ShareIndex blocks → ⊥) → AreApart (extents (map new_block blocks))
 apart_new blocks none = subst (λ (es : List Extent). AreApart es) (sym (extents-new blocks)) (apart_plan blocks none)
 

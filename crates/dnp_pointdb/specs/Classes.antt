@@ -1,4 +1,4 @@
--- What contracts promise of the classes of points, as a plan gives them (IEEE Std 1815-2012, application layer:
+-- Definition: the classes of points, as a plan gives them (IEEE Std 1815-2012, application layer:
 -- event classes).
 use Rattle.std.specs.Prelude.{ℕ, ◌+◌, ◌-◌, Bool, ◌&&◌, nat_lt, nat_le, if◌then◌else◌, List, [], ◌∷◌, length, Option, None, slice_get}
 use Rattle.std.specs.Option.{option_map}

@@ -5,8 +5,10 @@ use Rattle.std.specs.Option.{option_map}
 use Rattle.std.specs.List.{HoldsAt}
 use Rattle.std.specs.List.Sorted.{IsNonDecreasingBy}
 use Rattle.dnp_pointdb.specs.declared.point.Block.{Block}
+use Rattle.dnp_pointdb.specs.declared.order.Orders.{Orders}
 use Rattle.dnp_pointdb.specs.declared.order.Place.{Place}
 use Rattle.dnp_pointdb.specs.declared.state.BlockState.{BlockState}
+use Rattle.dnp_pointdb.specs.Plan.{Plan}
 
 -- where a block begins, and how many points it has
 pub record Extent : Type 0 where
@@ -50,3 +52,9 @@ pub record IsOrder (es : List Extent) (order : List Place) : Type 0 where
   pub listed : All (IsPlaceOf es) order
   pub complete : (j : ℕ) → j < length es → HoldsAt (λ e. 0 < e.count → Any (λ place. place.block ≡ j) order) es j
   pub apart : AreApart es
+
+-- the orders of a plan's kinds, where they are there
+pub record AreOrders (plan : Plan) (orders : Orders) : Type 0 where
+  pub binary : IsOrder (map extent_of plan.binary) orders.binary.items
+  pub counter : IsOrder (map extent_of plan.counter) orders.counter.items
+  pub analog : IsOrder (map extent_of plan.analog) orders.analog.items

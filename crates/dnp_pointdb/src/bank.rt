@@ -68,7 +68,7 @@ impl Bank {
         for block in blocks {
             states.push(BlockState::new(alloc, block)?)?;
         }
-        let order = order_of(alloc, &states)?;
+        let order = order_of(alloc, blocks)?;
         Ok(Bank {
             blocks: states,
             order,

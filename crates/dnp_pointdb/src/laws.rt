@@ -12,6 +12,7 @@ ghost use Rattle.dnp_pointdb.specs.declared.point.Block.{Block as BlockValue};
 ghost use Rattle.dnp_pointdb.specs.declared.reading.Reading.{Reading as ReadingValue};
 ghost use Rattle.dnp_pointdb.specs.declared.reading.Report.{Report as ReportValue};
 ghost use Rattle.dnp_pointdb.specs.Blocks.{HasIndex};
+ghost use Rattle.dnp_pointdb.specs.Classes.{class_at};
 ghost use Rattle.dnp_pointdb.specs.Plan.{Plan, blocks_of, IsSound};
 ghost use Rattle.dnp_pointdb.specs.Sound as sound;
 ghost use Rattle.dnp_pointdb.specs.Events.{event_of, row_of, distance};
@@ -61,6 +62,8 @@ pub fn points_are_those_of_the_plan()
     ensures nowhere { (plan : Plan) (kind : KindValue) (index : ℕ)
         → (Any (λ block. HasIndex block index) (blocks_of plan kind) → ⊥)
         → IsNone (state_at (new_database plan) kind index) }
+    ensures class { (plan : Plan) (kind : KindValue) (index : ℕ)
+        → option_map (λ state. state.point.class) (state_at (new_database plan) kind index) ≡ class_at plan kind index }
 {}
 
 /// A run of changes and restarts, whatever points they are of, makes of each point exactly the

@@ -1,10 +1,11 @@
 //! How a point is looked up by its index.
 
-ghost use Rattle.std.specs.Prelude.{◌≡◌, List, IfOk};
+ghost use Rattle.std.specs.Prelude.{◌≡◌, List, IfOk, map};
 ghost use Rattle.std.specs.List.Sorted.{IsNonDecreasingBy};
-ghost use Rattle.dnp_pointdb.specs.Order.{Extent, IsOrder, AreApart, extents, place_in};
+ghost use Rattle.dnp_pointdb.specs.Classes.{point_in};
+ghost use Rattle.dnp_pointdb.specs.Order.{Extent, IsOrder, AreApart, extent_of, place_in};
 
-use crate::state::BlockState;
+use crate::point::{Block, Point};
 use std::alloc::{AllocError, Global};
 
 /// Where a block's points stand: the index of the first, how many they are, and the block's number.
@@ -16,9 +17,9 @@ pub struct Place {
 }
 
 /// The places of the blocks that have points, by rising base.
-pub fn order_of(alloc: Global, blocks: &[BlockState]) -> Result<Vec<Place>, AllocError>
-    requires { AreApart (extents blocks.now) }
-    ensures { IfOk result (λ order. IsOrder (extents blocks.now) order.items) }
+pub fn order_of(alloc: Global, blocks: &[Block]) -> Result<Vec<Place>, AllocError>
+    requires { AreApart (map extent_of blocks.now) }
+    ensures { IfOk result (λ order. IsOrder (map extent_of blocks.now) order.items) }
 {
     let mut order = Vec::new(alloc);
     for (number, block) in blocks.iter().enumerate() {
@@ -33,6 +34,23 @@ pub fn order_of(alloc: Global, blocks: &[BlockState]) -> Result<Vec<Place>, Allo
     }
     order.sort_unstable_by_key(|place| place.first);
     Ok(order)
+}
+
+/// How the points of each kind of a plan are looked up.
+#[derive(Debug, Drop)]
+pub struct Orders {
+    pub binary: Vec<Place>,
+    pub counter: Vec<Place>,
+    pub analog: Vec<Place>,
+}
+
+/// The point with the index, if one of the blocks has it.
+pub fn point_by(order: &[Place], blocks: &[Block], index: u16) -> Option<Point>
+    requires { IsOrder (map extent_of blocks.now) order.now }
+    ensures { result ≡ point_in blocks.now index }
+{
+    let (block, place) = find(order, index)?;
+    Some(blocks[block].points.as_slice()[place])
 }
 
 /// The number of the block that has the index, and the point's place in it.

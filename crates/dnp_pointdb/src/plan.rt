@@ -3,9 +3,11 @@ ghost use Rattle.dnp_pointdb.specs.declared.point.Block.{Block as BlockValue};
 ghost use Rattle.dnp_pointdb.specs.declared.fault.PlanFault.{PlanFault as FaultValue};
 ghost use Rattle.dnp_pointdb.specs.Blocks.{ShareIndex};
 ghost use Rattle.dnp_pointdb.specs.Classes as classes;
+ghost use Rattle.dnp_pointdb.specs.Order.{AreOrders};
 ghost use Rattle.dnp_pointdb.specs.Plan.{plan_of, IsPlanFault, IsFirst, IsSound, HasWrongPoint, HasTooMany, IsTooWide, IsWrong};
 
 use crate::fault::PlanFault;
+use crate::order::{Orders, order_of, point_by};
 use crate::point::{Block, Point};
 use crate::taken::share_index;
 use dnp_objects::Kind;
@@ -31,16 +33,21 @@ pub struct PointPlan {
     binary: Vec<Block>,
     counter: Vec<Block>,
     analog: Vec<Block>,
+    /// How the points are looked up, once `prepare` was called.
+    orders: Option<Orders>,
 }
 
 impl Model for PointPlan {
+    ghost use Rattle.std.specs.Prelude.{IfSome};
     ghost use Rattle.dnp_pointdb.specs.Plan.{Plan, plan_of, IsSound};
+    ghost use Rattle.dnp_pointdb.specs.Order.{AreOrders};
 
     ghost Value = { Plan };
 
     ghost view = { λ plan. plan_of plan.binary.items plan.counter.items plan.analog.items };
 
-    ghost invariant = { λ plan. IsSound (plan_of plan.binary.items plan.counter.items plan.analog.items) };
+    ghost invariant = { λ plan. IsSound (plan_of plan.binary.items plan.counter.items plan.analog.items)
+        × IfSome plan.orders (AreOrders (plan_of plan.binary.items plan.counter.items plan.analog.items)) };
 }
 
 /// Whether a point of this kind has a class over 3, or a deadband that is none of its kind's.
@@ -135,6 +142,23 @@ fn first_fault(binary: &[Block], counter: &[Block], analog: &[Block]) -> Option<
     None
 }
 
+/// How the points of these blocks are looked up.
+fn orders_of(
+    alloc: Global,
+    binary: &[Block],
+    counter: &[Block],
+    analog: &[Block],
+) -> Result<Orders, AllocError>
+    requires { IsSound (plan_of binary.now counter.now analog.now) }
+    ensures { IfOk result (AreOrders (plan_of binary.now counter.now analog.now)) }
+{
+    Ok(Orders {
+        binary: order_of(alloc, binary)?,
+        counter: order_of(alloc, counter)?,
+        analog: order_of(alloc, analog)?,
+    })
+}
+
 /// The point of this index, if one of the blocks has it.
 fn point_in(blocks: &[Block], index: u16) -> Option<Point>
     ensures { result ≡ classes.point_in blocks.now index }
@@ -178,6 +202,7 @@ impl PointPlan {
             binary,
             counter,
             analog,
+            orders: None,
         })
     }
 
@@ -193,11 +218,35 @@ impl PointPlan {
         }
     }
 
-    /// The class of the point, 0 to 3, if the plan has it.
+    /// Makes look-ups quick, if there is memory for that: from then on they take logarithmic time, and
+    /// before that they go through the blocks one by one. What is asked again costs nothing.
+    pub fn prepare(&mut self, alloc: Global)
+        ensures { self.new ≡ self.old }
+    {
+        if self.orders.is_none() {
+            self.orders = orders_of(alloc, &self.binary, &self.counter, &self.analog).ok();
+        }
+    }
+
+    /// The point of this kind and index, if the plan has it.
+    fn point(&self, kind: Kind, index: u16) -> Option<Point>
+        ensures { result ≡ classes.point_in (blocks_of self.now kind) index }
+    {
+        let Some(orders) = &self.orders else {
+            return point_in(self.blocks(kind), index);
+        };
+        match kind {
+            Kind::Binary => point_by(&orders.binary, &self.binary, index),
+            Kind::Counter => point_by(&orders.counter, &self.counter, index),
+            Kind::Analog => point_by(&orders.analog, &self.analog, index),
+        }
+    }
+
+    /// The class of the point, if the plan has it.
     pub fn class_of(&self, kind: Kind, index: u16) -> Option<u8>
         ensures { result ≡ classes.class_at self.now kind index }
     {
-        point_in(self.blocks(kind), index).map(|point| point.class)
+        self.point(kind, index).map(|point| point.class)
     }
 
     /// The same plan once more. An error says that it ran out of memory.
@@ -208,6 +257,7 @@ impl PointPlan {
             binary: clones(alloc, &self.binary)?,
             counter: clones(alloc, &self.counter)?,
             analog: clones(alloc, &self.analog)?,
+            orders: None,
         })
     }
 }

@@ -1,4 +1,4 @@
-use Rattle.std.proofs.Common.{◌≡◌, true, List, ◌∷◌, IsTrue, sym, ◌∙◌, ap, subst, rules}
+use Rattle.std.proofs.Common.{◌≡◌, true, List, sym, ◌∙◌, subst}
 use Rattle.std.specs.List.{All, list_all}
 use Rattle.dnp_objects.specs.Events.{IsEvent}
 use Rattle.dnp_objects.specs.declared.row.Row.{Row}
@@ -15,7 +15,8 @@ loop-header-preserved c =
     let event : is_event_header h ≡ true = sym c.is_event_header.ensures ∙ c.if-not-is_event_header.false in
     let rows : c.rows_of.result ≡ header_rows h = c.rows_of.ensures.value in
     let reported : list_all (is_reported c.args.plan.now) c.rows_of.result ≡ true = sym c.gather_rows.ensures.checked ∙ c.if-not-gather_rows.false in
-    let left : EventsLeft c.args.plan.now c.loop-header.gathering c.loop-header.header-iterator.headers c.gather_rows.new.gathering c.next.new.self.headers =
+    let left : EventsLeft c.args.plan.now c.loop-header.gathering c.loop-header.header-iterator.headers
+    c.gather_rows.new.gathering c.next.new.self.headers =
     event_header c.args.plan.now c.loop-header.gathering c.gather_rows.new.gathering h c.next.new.self.headers c.loop-header.header-iterator.headers
     c.in-Some.ensures.steps.0 event (subst (λ (xs : List Row). list_all (is_reported c.args.plan.now) xs ≡ true) rows reported)
     (subst (λ (xs : List Row). Gathers c.loop-header.gathering xs c.gather_rows.new.gathering) rows (c.gather_rows.ensures.gathered c.if-not-gather_rows.false))

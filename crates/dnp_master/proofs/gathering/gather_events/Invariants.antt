@@ -9,6 +9,7 @@ use Rattle.dnp_master.proofs.gathering.gather_events.Given as goal
 abbrev pub invariant-loop-header : goal.invariant-loop-header
 invariant-loop-header l = record {
   all : is_from_plan l.plan l.header-iterator.headers ≡ is_from_plan l.plan l.initial.header-iterator.headers;
-  rest : (n : Gathering) → Gathers l.gathering (events_in l.header-iterator.headers) n → Gathers l.initial.gathering (events_in l.initial.header-iterator.headers) n;
+  rest : (n : Gathering) → Gathers l.gathering (events_in l.header-iterator.headers) n
+      → Gathers l.initial.gathering (events_in l.initial.header-iterator.headers) n;
   carried : All IsEvent (events_in l.header-iterator.headers) → All IsEvent (events_in l.initial.header-iterator.headers);
 }

@@ -1,4 +1,4 @@
-use Rattle.std.proofs.Common.{◌≡◌, filter}
+use Rattle.std.proofs.Common.{filter}
 use Rattle.dnp_master.specs.declared.gathering.Gathering.{Gathering}
 use Rattle.dnp_master.specs.Gathering.{Gathers}
 use Rattle.dnp_master.specs.Rows.{is_planned}
@@ -6,4 +6,5 @@ use Rattle.dnp_master.proofs.gathering.gather_planned.Given as goal
 
 abbrev pub invariant-loop-row : goal.invariant-loop-row
 invariant-loop-row l =
-    (n : Gathering) → Gathers l.gathering (filter (is_planned l.plan) l.row-iterator) n → Gathers l.initial.gathering (filter (is_planned l.plan) l.initial.row-iterator) n
+    (n : Gathering) → Gathers l.gathering (filter (is_planned l.plan) l.row-iterator) n
+    → Gathers l.initial.gathering (filter (is_planned l.plan) l.initial.row-iterator) n

@@ -1,10 +1,10 @@
-use Rattle.std.proofs.Common.{◌≡◌, Bool, false, ◌∙◌, List, ◌∷◌, sym, subst}
+use Rattle.std.proofs.Common.{◌≡◌, Bool, false, ◌∙◌, List, sym, subst}
 use Rattle.std.specs.List.{filter}
 use Rattle.dnp_objects.specs.declared.row.Row.{Row}
 use Rattle.dnp_appfragment.specs.Headers.{Head}
 use Rattle.dnp_appfragment.specs.Seen.{head}
 use Rattle.dnp_master.specs.Gathering.{Gathers}
-use Rattle.dnp_master.specs.Rows.{header_rows, is_event_header, is_planned}
+use Rattle.dnp_master.specs.Rows.{is_event_header, is_planned}
 use Rattle.dnp_master.proofs.Gatherings.{static_header}
 use Rattle.dnp_master.proofs.gathering.gather_statics.Goals as goal
 
@@ -16,4 +16,5 @@ loop-header-preserved-then-not-is_event_header c = λ n later.
     c.loop-header.invariant n
     (static_header c.args.plan.now c.loop-header.gathering c.gather_planned.new.gathering n h c.next.new.self.headers c.loop-header.header-iterator.headers
     c.in-Some.ensures.steps.0 static
-    (subst (λ (xs : List Row). Gathers c.loop-header.gathering (filter p xs) c.gather_planned.new.gathering) c.rows_of.ensures.value c.gather_planned.ensures) later)
+    (subst (λ (xs : List Row). Gathers c.loop-header.gathering (filter p xs) c.gather_planned.new.gathering)
+    c.rows_of.ensures.value c.gather_planned.ensures) later)

@@ -1,4 +1,3 @@
-use Rattle.std.proofs.Common.{◌≡◌}
 use Rattle.dnp_master.specs.declared.gathering.Gathering.{Gathering}
 use Rattle.dnp_master.specs.Gathering.{Gathers}
 use Rattle.dnp_master.specs.Rows.{statics_in}
@@ -6,4 +5,5 @@ use Rattle.dnp_master.proofs.gathering.gather_statics.Given as goal
 
 abbrev pub invariant-loop-header : goal.invariant-loop-header
 invariant-loop-header l =
-    (n : Gathering) → Gathers l.gathering (statics_in l.plan l.header-iterator.headers) n → Gathers l.initial.gathering (statics_in l.plan l.initial.header-iterator.headers) n
+    (n : Gathering) → Gathers l.gathering (statics_in l.plan l.header-iterator.headers) n
+    → Gathers l.initial.gathering (statics_in l.plan l.initial.header-iterator.headers) n

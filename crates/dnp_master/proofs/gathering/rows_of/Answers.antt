@@ -1,4 +1,4 @@
-use Rattle.std.proofs.Common.{ℕ, sym}
+use Rattle.std.proofs.Common.{sym}
 use Rattle.dnp_objects.specs.Events.{IsEvent}
 use Rattle.dnp_appfragment.specs.Headers.{count_of}
 use Rattle.dnp_appfragment.specs.Meaning.{row_in}
@@ -12,4 +12,5 @@ returns-clause-value c = sym (walked c.rows.result (row_in (head c.args.header.n
 pub returns-clause-events : goal.returns-clause-events
 returns-clause-events c =
     all_walked IsEvent c.rows.result (row_in (head c.args.header.now)) c.rows.ensures.items
-    (λ k row is. c.rows_are_events.ensures (head c.args.header.now) k row ((c.objects_say_rows_and_commands.ensures.row (head c.args.header.now) k row c.octets_are_small.ensures).0 is))
+    (λ k row is. c.rows_are_events.ensures (head c.args.header.now) k row
+    ((c.objects_say_rows_and_commands.ensures.row (head c.args.header.now) k row c.octets_are_small.ensures).0 is))

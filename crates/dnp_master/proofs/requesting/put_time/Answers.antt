@@ -4,14 +4,18 @@ use Rattle.byteorder.specs.Endian.{little_bytes}
 use Rattle.dnp_appfragment.specs.declared.table.Form.{Form}
 use Rattle.dnp_appfragment.specs.declared.table.Form.TheVariants as form
 use Rattle.dnp_appfragment.specs.declared.header.Range.TheVariants as range
-use Rattle.dnp_appfragment.specs.Headers.{IsHeader}
+use Rattle.dnp_appfragment.specs.Headers.{Head, IsHeader}
 use Rattle.dnp_master.proofs.RequestHeaders.{time_fits}
 use Rattle.dnp_master.proofs.requesting.put_time.Goals as goal
+
+-- the header of these octets
+abbrev made : List ℕ → Head
+made octets = record { group = 50; variation = 1; range = range.Count false 1; octets = octets }
 
 pub put-requires-clause-fits : goal.put-requires-clause-fits
 put-requires-clause-fits c =
     let six : take 6 c.to_le_bytes-octets.result ≡ little_bytes 6 c.args.time =
     ap (λ (xs : List ℕ). take 6 xs) c.to_le_bytes-octets.ensures ∙ take-bytes_low_first 0 8 6 c.args.time (omega arith) in
-    let here : IsHeader form.Write (record { group = 50; variation = 1; range = range.Count false 1; octets = take 6 c.to_le_bytes-octets.result }) =
-    subst (λ (xs : List ℕ). IsHeader form.Write (record { group = 50; variation = 1; range = range.Count false 1; octets = xs })) (sym six) (time_fits c.args.time) in
-    subst (λ (f : Form). IsHeader f (record { group = 50; variation = 1; range = range.Count false 1; octets = take 6 c.to_le_bytes-octets.result })) (sym c.requires.function) here
+    let here : IsHeader form.Write (made (take 6 c.to_le_bytes-octets.result)) =
+    subst (λ (xs : List ℕ). IsHeader form.Write (made xs)) (sym six) (time_fits c.args.time) in
+    subst (λ (f : Form). IsHeader f (made (take 6 c.to_le_bytes-octets.result))) (sym c.requires.function) here
