@@ -10,9 +10,30 @@ use dnp_pointdb::Times;
 use std::alloc::Global;
 use std::test::Fail;
 
-/// What a fragment makes a master do: the confirm, how many events are taken, the outcome, and whether a
-/// restart is indicated.
-type Did = (Option<[u8; 2]>, usize, Option<Outcome>, bool);
+/// What a master tells of a task.
+#[derive(Clone, Copy)]
+enum Told {
+    /// It isn't at its end.
+    Nothing,
+    /// It is done, with these indications.
+    Done(u8, u8),
+    /// It was answered with this status.
+    Control(u8),
+    /// It was answered with something else.
+    Unlike,
+}
+
+/// What a fragment makes a master do.
+#[derive(Clone, Copy)]
+struct Did {
+    /// The confirm.
+    send: Option<[u8; 2]>,
+    /// How many events are taken.
+    taken: usize,
+    told: Told,
+    /// Whether a restart is indicated.
+    restart: bool,
+}
 
 /// A call of a master, and what it does.
 #[derive(Clone, Copy)]
@@ -20,9 +41,13 @@ enum Step<'a> {
     Opens,
     HangsUp,
     /// A task is asked at this moment, and this request is sent.
-    Asks(u64, Task, Result<&'a [u8], AskFault>),
+    Asks(u64, Task, &'a [u8]),
+    /// A task is refused.
+    Refuses(Task, AskFault),
     /// These octets come at this moment.
-    Gets(u64, &'a [u8], Result<Did, MasterFault>),
+    Gets(u64, &'a [u8], Did),
+    /// These octets are refused.
+    Rejects(&'a [u8], MasterFault),
     /// The timer is looked at at this moment, and has ended or not.
     Ticks(u64, bool),
     /// Whether it is open and idle, and the command that stands selected.
@@ -41,28 +66,49 @@ fn keeps<J: JournalStore>(
     match journal.rows(alloc, from, 99) {
         Ok(rows) => rows
             .iter()
-            .map(|x| (x.row.kind, x.row.index, x.row.flags, x.row.value, x.row.time))
+            .map(|x| (
+                x.row.kind,
+                x.row.index,
+                x.row.flags,
+                x.row.value,
+                x.row.time,
+            ))
             .eq(wanted.iter().copied()),
         Err(_) => false,
     }
 }
 
-/// Whether the fragment makes the master do this.
+/// Whether this is the outcome of a task.
+fn is_told(outcome: Option<Outcome>, told: Told) -> bool {
+    match told {
+        Told::Nothing => outcome.is_none(),
+        Told::Done(one, two) => outcome == Some(Outcome::Done(Iin { one, two })),
+        Told::Control(code) => match Status::new(code) {
+            Some(status) => outcome == Some(Outcome::Control(status)),
+            None => false,
+        },
+        Told::Unlike => outcome == Some(Outcome::Unlike),
+    }
+}
+
+/// Whether the fragment makes the master do this, and its sink drops no row.
 fn gets<J: JournalStore>(
     master: &mut Master,
     journal: &mut J,
     alloc: Global,
     now: u64,
     octets: &[u8],
-    wanted: Result<Did, MasterFault>,
+    wanted: Did,
 ) -> bool {
-    let did = master
-        .receive(alloc, now, octets, journal)
-        .map(|it| (it.dropped.as_slice().len(), (it.send, it.taken, it.outcome, it.restart)));
-    match (did, wanted) {
-        (Ok((dropped, did)), Ok(wanted)) => dropped == 0 && did == wanted,
-        (Err(fault), Err(wanted)) => fault == wanted,
-        _ => false,
+    match master.receive(alloc, now, octets, journal) {
+        Ok(actions) => {
+            actions.dropped.as_slice().is_empty()
+                && actions.send == wanted.send
+                && actions.taken == wanted.taken
+                && is_told(actions.outcome, wanted.told)
+                && actions.restart == wanted.restart
+        }
+        Err(_) => false,
     }
 }
 
@@ -82,12 +128,19 @@ fn does<J: JournalStore>(
             master.hung_up();
             !master.is_open()
         }
-        Step::Asks(now, task, wanted) => match (master.ask(now, task), wanted) {
-            (Ok(request), Ok(wanted)) => request.as_slice() == wanted,
-            (Err(fault), Err(wanted)) => fault == wanted,
-            _ => false,
+        Step::Asks(now, task, wanted) => match master.ask(now, task) {
+            Ok(request) => request.as_slice() == wanted,
+            Err(_) => false,
+        },
+        Step::Refuses(task, wanted) => match master.ask(0, task) {
+            Ok(_) => false,
+            Err(fault) => fault == wanted,
         },
         Step::Gets(now, octets, wanted) => gets(master, journal, alloc, now, octets, wanted),
+        Step::Rejects(octets, wanted) => match master.receive(alloc, 0, octets, journal) {
+            Ok(_) => false,
+            Err(fault) => fault == wanted,
+        },
         Step::Ticks(now, has_ended) => master.tick(now) == has_ended,
         Step::Shows(is_idle, selected) => master.idle() == is_idle && master.selected() == selected,
         Step::Keeps(from, wanted) => keeps(journal, alloc, from, wanted),
@@ -126,11 +179,31 @@ fn master_of(alloc: Global) -> Option<Master> {
     Some(Master::new(plan, times))
 }
 
+/// This is done.
+fn acts(send: Option<[u8; 2]>, taken: usize, told: Told, restart: bool) -> Did {
+    Did {
+        send,
+        taken,
+        told,
+        restart,
+    }
+}
+
 /// Nothing is done.
-const NOTHING: Did = (None, 0, None, false);
+const NOTHING: Did = Did {
+    send: None,
+    taken: 0,
+    told: Told::Nothing,
+    restart: false,
+};
 
 /// The task is done, and the outstation indicates nothing.
-const DONE: Option<Outcome> = Some(Outcome::Done(Iin { one: 0, two: 0 }));
+const DONE: Told = Told::Done(0, 0);
+
+/// The command is answered with this status.
+fn control(code: u8) -> Did {
+    acts(None, 0, Told::Control(code), false)
+}
 
 /// Classes 1, 2 and 3.
 const EVENTS: Classes = Classes([false, true, true, true]);
@@ -141,62 +214,62 @@ const CLASS_1: Classes = Classes([false, true, false, false]);
 #[test]
 fn rows_are_asked_for_and_confirmed(rt: HostRuntime) -> Result<(), Fail> {
     use Kind::{Analog, Binary, Counter};
-    use Step::{Asks, Gets, HangsUp, Keeps, Opens, Shows, Ticks};
+    use Step::{Asks, Gets, HangsUp, Keeps, Opens, Refuses, Shows, Rejects, Ticks};
     use Task::{ClearRestart, Disable, Enable, Poll};
 
-    let restarted = Some(Outcome::Done(Iin { one: 0x80, two: 0 }));
+    let restarted = Told::Done(0x80, 0);
     let class_0 = Classes([true, false, false, false]);
     let none = Classes([false; 4]);
     #[rattlefmt::skip]
     let steps = [
-        Asks(0, Poll(EVENTS), Err(AskFault::Closed)),
-        Gets(0, &[0xC0], Ok(NOTHING)),
+        Refuses(Poll(EVENTS), AskFault::Closed),
+        Gets(0, &[0xC0], NOTHING),
         Opens,
-        Asks(0, Poll(none), Err(AskFault::BadTask)),
-        Asks(0, Enable(class_0), Err(AskFault::BadTask)),
-        Asks(0, Poll(EVENTS), Ok(&[0xC0, 0x01, 0x3C, 0x02, 0x06, 0x3C, 0x03, 0x06, 0x3C, 0x04, 0x06])),
-        Asks(0, Poll(EVENTS), Err(AskFault::Busy)),
+        Refuses(Poll(none), AskFault::BadTask),
+        Refuses(Enable(class_0), AskFault::BadTask),
+        Asks(0, Poll(EVENTS), &[0xC0, 0x01, 0x3C, 0x02, 0x06, 0x3C, 0x03, 0x06, 0x3C, 0x04, 0x06]),
+        Refuses(Poll(EVENTS), AskFault::Busy),
         // An event of an outstation that has started again.
         Gets(0, &[0xE0, 0x81, 0x80, 0x00, 0x02, 0x02, 0x28, 0x01, 0x00, 0x03, 0x00, 0x81, 0xE8, 0x03, 0x00, 0x00, 0x00, 0x00],
-            Ok((Some([0xC0, 0x00]), 1, restarted, true))),
+            acts(Some([0xC0, 0x00]), 1, restarted, true)),
         Keeps(0, &[(Binary, 3, 0x01, 1, Some(1_000))]),
-        Asks(0, ClearRestart, Ok(&[0xC1, 0x02, 0x50, 0x01, 0x00, 0x07, 0x07, 0x00])),
-        Gets(0, &[0xC0, 0x81, 0x00, 0x00], Ok(NOTHING)),
-        Gets(0, &[0xC1, 0x81, 0x00, 0x00], Ok((None, 0, DONE, false))),
+        Asks(0, ClearRestart, &[0xC1, 0x02, 0x50, 0x01, 0x00, 0x07, 0x07, 0x00]),
+        Gets(0, &[0xC0, 0x81, 0x00, 0x00], NOTHING),
+        Gets(0, &[0xC1, 0x81, 0x00, 0x00], acts(None, 0, DONE, false)),
         // Present values are passed over by a journal; a confirm is sent where one is asked for.
-        Asks(0, Poll(class_0), Ok(&[0xC2, 0x01, 0x3C, 0x01, 0x06])),
-        Gets(0, &[0xE2, 0x81, 0x00, 0x00, 0x01, 0x02, 0x00, 0x00, 0x01, 0x81, 0x01], Ok((Some([0xC2, 0x00]), 0, DONE, false))),
+        Asks(0, Poll(class_0), &[0xC2, 0x01, 0x3C, 0x01, 0x06]),
+        Gets(0, &[0xE2, 0x81, 0x00, 0x00, 0x01, 0x02, 0x00, 0x00, 0x01, 0x81, 0x01], acts(Some([0xC2, 0x00]), 0, DONE, false)),
         Keeps(1, &[]),
         // Two fragments, the first of which has a counter without class beside an event.
-        Asks(0, Poll(EVENTS), Ok(&[0xC3, 0x01, 0x3C, 0x02, 0x06, 0x3C, 0x03, 0x06, 0x3C, 0x04, 0x06])),
+        Asks(0, Poll(EVENTS), &[0xC3, 0x01, 0x3C, 0x02, 0x06, 0x3C, 0x03, 0x06, 0x3C, 0x04, 0x06]),
         Gets(7_000, &[0xA3, 0x81, 0x00, 0x00, 0x02, 0x01, 0x17, 0x01, 0x02, 0x81, 0x14, 0x01, 0x00, 0x01, 0x01, 0x01, 0x07, 0x00, 0x00, 0x00],
-            Ok((Some([0xC3, 0x00]), 1, None, false))),
-        Gets(7_000, &[0xE4, 0x81, 0x00, 0x00], Ok(NOTHING)),
+            acts(Some([0xC3, 0x00]), 1, Told::Nothing, false)),
+        Gets(7_000, &[0xE4, 0x81, 0x00, 0x00], NOTHING),
         Ticks(16_999, false),
         Gets(17_000, &[0x64, 0x81, 0x00, 0x00, 0x20, 0x01, 0x28, 0x01, 0x00, 0x02, 0x00, 0x01, 0xFB, 0xFF, 0xFF, 0xFF],
-            Ok((Some([0xC4, 0x00]), 1, DONE, false))),
+            acts(Some([0xC4, 0x00]), 1, DONE, false)),
         Keeps(1, &[(Binary, 2, 0x01, 1, None), (Analog, 2, 0x01, -5, None)]),
         // What comes unasked, without rows and with one, before an answer and after it.
-        Asks(20_000, Enable(CLASS_1), Ok(&[0xC5, 0x14, 0x3C, 0x02, 0x06])),
-        Gets(20_000, &[0xF0, 0x82, 0x80, 0x00], Ok((Some([0xD0, 0x00]), 0, None, true))),
+        Asks(20_000, Enable(CLASS_1), &[0xC5, 0x14, 0x3C, 0x02, 0x06]),
+        Gets(20_000, &[0xF0, 0x82, 0x80, 0x00], acts(Some([0xD0, 0x00]), 0, Told::Nothing, true)),
         Shows(false, None),
-        Gets(20_000, &[0xE5, 0x81, 0x00, 0x00], Ok((Some([0xC5, 0x00]), 0, DONE, false))),
+        Gets(20_000, &[0xE5, 0x81, 0x00, 0x00], acts(Some([0xC5, 0x00]), 0, DONE, false)),
         Gets(20_000, &[0xF1, 0x82, 0x00, 0x00, 0x02, 0x02, 0x28, 0x01, 0x00, 0x03, 0x00, 0x81, 0xE8, 0x03, 0x00, 0x00, 0x00, 0x00],
-            Ok((Some([0xD1, 0x00]), 1, None, false))),
+            acts(Some([0xD1, 0x00]), 1, Told::Nothing, false)),
         Keeps(3, &[(Binary, 3, 0x01, 1, Some(1_000))]),
-        Asks(20_000, Disable(EVENTS), Ok(&[0xC6, 0x15, 0x3C, 0x02, 0x06, 0x3C, 0x03, 0x06, 0x3C, 0x04, 0x06])),
+        Asks(20_000, Disable(EVENTS), &[0xC6, 0x15, 0x3C, 0x02, 0x06, 0x3C, 0x03, 0x06, 0x3C, 0x04, 0x06]),
         // Refused octets, and events of points that have none, change nothing.
-        Gets(20_000, &[0xC6, 0x81, 0x00], Err(MasterFault::Malformed)),
-        Gets(20_000, &[0xE6, 0x81, 0x00, 0x00, 0x02, 0x01, 0x17, 0x01, 0x04, 0x81], Err(MasterFault::Stranger)),
-        Gets(20_000, &[0xE6, 0x81, 0x00, 0x00, 0x16, 0x01, 0x17, 0x01, 0x01, 0x01, 0x07, 0x00, 0x00, 0x00], Err(MasterFault::Stranger)),
+        Rejects(&[0xC6, 0x81, 0x00], MasterFault::Malformed),
+        Rejects(&[0xE6, 0x81, 0x00, 0x00, 0x02, 0x01, 0x17, 0x01, 0x04, 0x81], MasterFault::Stranger),
+        Rejects(&[0xE6, 0x81, 0x00, 0x00, 0x16, 0x01, 0x17, 0x01, 0x01, 0x01, 0x07, 0x00, 0x00, 0x00], MasterFault::Stranger),
         Keeps(4, &[]),
         Ticks(29_999, false),
         Ticks(30_000, true),
         Ticks(30_000, false),
-        Asks(30_000, Poll(CLASS_1), Err(AskFault::Closed)),
-        Gets(30_000, &[0xC6, 0x81, 0x00, 0x00], Ok(NOTHING)),
+        Refuses(Poll(CLASS_1), AskFault::Closed),
+        Gets(30_000, &[0xC6, 0x81, 0x00, 0x00], NOTHING),
         Opens,
-        Asks(30_000, Poll(CLASS_1), Ok(&[0xC0, 0x01, 0x3C, 0x02, 0x06])),
+        Asks(30_000, Poll(CLASS_1), &[0xC0, 0x01, 0x3C, 0x02, 0x06]),
         HangsUp,
         Shows(false, None),
     ];
@@ -204,14 +277,17 @@ fn rows_are_asked_for_and_confirmed(rt: HostRuntime) -> Result<(), Fail> {
     let mut journal = PlainJournal::new(alloc);
     let mut master = master_of(alloc).expect(&rt, "a master");
     for (number, step) in steps.iter().enumerate() {
-        assert!(rt; does(&mut master, &mut journal, alloc, *step), "step {number}");
+        assert!(rt;
+            does(&mut master, &mut journal, alloc, *step),
+            "step {number}"
+        );
     }
     Ok(())
 }
 
 #[test]
 fn commands_are_selected_and_operated(rt: HostRuntime) -> Result<(), Fail> {
-    use Step::{Asks, Gets, Opens, Shows};
+    use Step::{Asks, Gets, Opens, Refuses, Shows};
     use Task::{Operate, Poll, Select, WriteTime};
 
     let set = |value| Command::Set16 { index: 2, value };
@@ -219,45 +295,47 @@ fn commands_are_selected_and_operated(rt: HostRuntime) -> Result<(), Fail> {
         index: 5,
         value: 70_000,
     };
-    let control = |status| Ok((None, 0, Some(Outcome::Control(status)), false));
-    let unlike = Ok((None, 0, Some(Outcome::Unlike), false));
-    let done = Ok((None, 0, DONE, false));
+    let unlike = acts(None, 0, Told::Unlike, false);
+    let done = acts(None, 0, DONE, false);
     #[rattlefmt::skip]
     let steps = [
         Opens,
-        Asks(0, Operate(set(-1)), Err(AskFault::NotSelected)),
-        Asks(0, Select(set(-1)), Ok(&[0xC0, 0x03, 0x29, 0x02, 0x28, 0x01, 0x00, 0x02, 0x00, 0xFF, 0xFF, 0x00])),
-        Asks(0, Operate(set(-1)), Err(AskFault::Busy)),
-        Gets(0, &[0xC0, 0x81, 0x00, 0x00, 0x29, 0x02, 0x28, 0x01, 0x00, 0x02, 0x00, 0xFF, 0xFF, 0x00], control(Status::SUCCESS)),
+        Refuses(Operate(set(-1)), AskFault::NotSelected),
+        Asks(0, Select(set(-1)), &[0xC0, 0x03, 0x29, 0x02, 0x28, 0x01, 0x00, 0x02, 0x00, 0xFF, 0xFF, 0x00]),
+        Refuses(Operate(set(-1)), AskFault::Busy),
+        Gets(0, &[0xC0, 0x81, 0x00, 0x00, 0x29, 0x02, 0x28, 0x01, 0x00, 0x02, 0x00, 0xFF, 0xFF, 0x00], control(0)),
         Shows(true, Some(set(-1))),
-        Asks(0, Operate(set(-2)), Err(AskFault::NotSelected)),
-        Asks(0, Operate(set(-1)), Ok(&[0xC1, 0x04, 0x29, 0x02, 0x28, 0x01, 0x00, 0x02, 0x00, 0xFF, 0xFF, 0x00])),
+        Refuses(Operate(set(-2)), AskFault::NotSelected),
+        Asks(0, Operate(set(-1)), &[0xC1, 0x04, 0x29, 0x02, 0x28, 0x01, 0x00, 0x02, 0x00, 0xFF, 0xFF, 0x00]),
         Gets(0, &[0xC1, 0x81, 0x00, 0x00, 0x29, 0x02, 0x28, 0x01, 0x00, 0x02, 0x00, 0xFE, 0xFF, 0x00], unlike),
         Shows(true, None),
-        Asks(0, Operate(set(-1)), Err(AskFault::NotSelected)),
-        Asks(0, WriteTime(1_000), Ok(&[0xC2, 0x02, 0x32, 0x01, 0x07, 0x01, 0xE8, 0x03, 0x00, 0x00, 0x00, 0x00])),
+        Refuses(Operate(set(-1)), AskFault::NotSelected),
+        Asks(0, WriteTime(1_000), &[0xC2, 0x02, 0x32, 0x01, 0x07, 0x01, 0xE8, 0x03, 0x00, 0x00, 0x00, 0x00]),
         Gets(0, &[0xC2, 0x81, 0x00, 0x00], done),
-        Asks(0, WriteTime(281_474_976_710_656), Err(AskFault::BadTask)),
+        Refuses(WriteTime(281_474_976_710_656), AskFault::BadTask),
         // A select that is refused does not stand, nor one that another task comes behind.
         Asks(0, Select(block(5, 0x03, 1)),
-            Ok(&[0xC3, 0x03, 0x0C, 0x01, 0x28, 0x01, 0x00, 0x05, 0x00, 0x03, 0x01, 0x00, 0x00, 0x00, 0x00, 0x00, 0x00, 0x00, 0x00, 0x00])),
+            &[0xC3, 0x03, 0x0C, 0x01, 0x28, 0x01, 0x00, 0x05, 0x00, 0x03, 0x01, 0x00, 0x00, 0x00, 0x00, 0x00, 0x00, 0x00, 0x00, 0x00]),
         Gets(0, &[0xC3, 0x81, 0x00, 0x00, 0x0C, 0x01, 0x28, 0x01, 0x00, 0x05, 0x00, 0x03, 0x01, 0x00, 0x00, 0x00, 0x00, 0x00, 0x00, 0x00, 0x00, 0x04],
-            control(Status::NOT_SUPPORTED)),
-        Asks(0, Operate(block(5, 0x03, 1)), Err(AskFault::NotSelected)),
-        Asks(0, Select(wide), Ok(&[0xC4, 0x03, 0x29, 0x01, 0x28, 0x01, 0x00, 0x05, 0x00, 0x70, 0x11, 0x01, 0x00, 0x00])),
-        Gets(0, &[0xC4, 0x81, 0x00, 0x00, 0x29, 0x01, 0x28, 0x01, 0x00, 0x05, 0x00, 0x70, 0x11, 0x01, 0x00, 0x00], control(Status::SUCCESS)),
-        Asks(0, Poll(CLASS_1), Ok(&[0xC5, 0x01, 0x3C, 0x02, 0x06])),
+            control(4)),
+        Refuses(Operate(block(5, 0x03, 1)), AskFault::NotSelected),
+        Asks(0, Select(wide), &[0xC4, 0x03, 0x29, 0x01, 0x28, 0x01, 0x00, 0x05, 0x00, 0x70, 0x11, 0x01, 0x00, 0x00]),
+        Gets(0, &[0xC4, 0x81, 0x00, 0x00, 0x29, 0x01, 0x28, 0x01, 0x00, 0x05, 0x00, 0x70, 0x11, 0x01, 0x00, 0x00], control(0)),
+        Asks(0, Poll(CLASS_1), &[0xC5, 0x01, 0x3C, 0x02, 0x06]),
         Gets(0, &[0xC5, 0x81, 0x00, 0x00], done),
-        Asks(0, Operate(wide), Err(AskFault::NotSelected)),
+        Refuses(Operate(wide), AskFault::NotSelected),
         // An answer without objects is none.
-        Asks(0, Select(wide), Ok(&[0xC6, 0x03, 0x29, 0x01, 0x28, 0x01, 0x00, 0x05, 0x00, 0x70, 0x11, 0x01, 0x00, 0x00])),
+        Asks(0, Select(wide), &[0xC6, 0x03, 0x29, 0x01, 0x28, 0x01, 0x00, 0x05, 0x00, 0x70, 0x11, 0x01, 0x00, 0x00]),
         Gets(0, &[0xC6, 0x81, 0x00, 0x04], unlike),
     ];
     let alloc = rt.alloc();
     let mut journal = PlainJournal::new(alloc);
     let mut master = master_of(alloc).expect(&rt, "a master");
     for (number, step) in steps.iter().enumerate() {
-        assert!(rt; does(&mut master, &mut journal, alloc, *step), "step {number}");
+        assert!(rt;
+            does(&mut master, &mut journal, alloc, *step),
+            "step {number}"
+        );
     }
     Ok(())
 }
