@@ -1,5 +1,6 @@
 -- Definition: what a request makes of an outstation, and the content of its answer (IEEE Std 1815-2012, application
--- layer: function codes READ, WRITE, ENABLE_UNSOLICITED and DISABLE_UNSOLICITED, internal indications).
+-- layer: function codes READ, WRITE, ENABLE_UNSOLICITED, DISABLE_UNSOLICITED and DELAY_MEASURE, internal
+-- indications).
 use Rattle.std.specs.Prelude.{ℕ, ◌+◌, ◌==◌, Bool, true, false, not, ◌&&◌, ◌||◌, ◌*◌, if◌then◌else◌, nat_lt, List, [], ◌∷◌, slice_index, slice_set, Option, None, Some, Result, Ok, Err}
 use Rattle.std.specs.Int.{bit_at}
 use Rattle.std.specs.List.{list_any, list_all}
@@ -169,6 +170,15 @@ enabled_after on enabled (h ∷ hs) = enabled_after on (switched on enabled (cla
 abbrev pub switch_executed : Bool → State → List Head → Executed
 switch_executed on s headers = answered (record s { core = record s.core { enabled = enabled_after on s.core.enabled headers } }) (plain 0 [])
 
+-- ---- DELAY_MEASURE
+
+-- the time between a request and its answer is not measured: a delay (52.2), counted, of 0 milliseconds
+abbrev pub no_delay : Head
+no_delay = record { group = 52; variation = 2; range = range.Count false 1; octets = 0 ∷ 0 ∷ [] }
+
+abbrev pub delay_executed : State → Executed
+delay_executed s = answered s (plain 0 (no_delay ∷ []))
+
 -- ---- one request
 
 -- the functions that aren't written yet are unknown ones
@@ -177,6 +187,7 @@ by_function s o headers function.Read = read_executed s o headers
 by_function s o headers function.Write = write_executed s headers
 by_function s o headers function.EnableUnsolicited = switch_executed true s headers
 by_function s o headers function.DisableUnsolicited = switch_executed false s headers
+by_function s o headers function.DelayMeasure = delay_executed s
 by_function s o headers _ = refused s no_func_code_support
 
 abbrev pub for_request : State → Panel → Result Asked AppFault → Executed

@@ -15,7 +15,7 @@ ghost use Rattle.dnp_outstation.specs.Items.{last_in as last_in_stock, first_pla
 ghost use Rattle.dnp_outstation.specs.Filling.{empty_from};
 ghost use Rattle.dnp_outstation.specs.declared.offer.writer.Writer.{Writer as WriterValue};
 ghost use Rattle.dnp_outstation.specs.State.{State};
-ghost use Rattle.dnp_outstation.specs.Content.{content_of, bits_of, clears_restart, header_bits, write_bits, enabled_after, read_executed, write_executed, switch_executed};
+ghost use Rattle.dnp_outstation.specs.Content.{content_of, bits_of, clears_restart, header_bits, write_bits, enabled_after, read_executed, write_executed, switch_executed, delay_executed};
 
 use crate::answer::{Answer, Switches};
 use crate::indications::last_in;
@@ -228,6 +228,20 @@ fn switch<L: Lanes>(lanes: &mut L, switches: Switches, on: bool, headers: Header
     plain(0, Switches { restart, enabled }, last_in(lanes))
 }
 
+/// Executes a DELAY_MEASURE: writes that no delay was measured.
+fn delay<L: Lanes>(writer: &mut Writer, lanes: &mut L, switches: Switches) -> Answer
+    requires { writer.old ≡ empty_from first_place }
+    ensures same { lanes.new ≡ lanes.old }
+    ensures executed { (s : State) → s.core.restart ≡ switches.restart → s.core.enabled ≡ switches.enabled
+        → delay_executed s ≡ executed_by s writer.new result }
+    ensures stood { L.honest lanes.new → result.stood ≡ last_in_stock (L.contents lanes.new) }
+    ensures small { result.bits < 8 }
+    ensures response { writer.new.builder.function ≡ function.Response }
+{
+    writer.put_delay();
+    plain(0, switches, last_in(lanes))
+}
+
 /// Executes a request, and writes the first fragment of its response.
 pub(crate) fn execute<L: Lanes, O: Outputs>(
     writer: &mut Writer,
@@ -270,6 +284,7 @@ pub(crate) fn execute<L: Lanes, O: Outputs>(
         Function::Write => Ok(write(lanes, switches, request.headers)),
         Function::EnableUnsolicited => Ok(switch(lanes, switches, true, request.headers)),
         Function::DisableUnsolicited => Ok(switch(lanes, switches, false, request.headers)),
+        Function::DelayMeasure => Ok(delay(writer, lanes, switches)),
         _ => Ok(plain(1, switches, last_in(lanes))),
     }
 }
