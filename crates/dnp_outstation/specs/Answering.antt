@@ -29,7 +29,7 @@ abbrev pub state_by : State → Answer → State
 state_by s a = record s { core = record s.core { restart = a.switches.restart; enabled = a.switches.enabled } }
 
 abbrev pub executed_by : State → Writer → Answer → Executed
-executed_by s w a = answered (state_by s a) (content_by w a)
+executed_by s w a = record (answered (state_by s a) (content_by w a)) { time = a.time }
 
 -- the fragment that goes on with the response, if there is one
 abbrev pub goes_on_by : State → ℕ → ℕ → Writer → Option Answer → Step

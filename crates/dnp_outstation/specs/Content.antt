@@ -1,6 +1,8 @@
 -- Definition: what a request makes of an outstation, and the content of its answer (IEEE Std 1815-2012, application
--- layer: function codes READ, WRITE, ENABLE_UNSOLICITED and DISABLE_UNSOLICITED, internal indications).
-use Rattle.std.specs.Prelude.{ℕ, ◌+◌, ◌==◌, Bool, true, false, not, ◌&&◌, ◌||◌, ◌*◌, if◌then◌else◌, nat_lt, List, [], ◌∷◌, slice_index, slice_set, Option, None, Some, Result, Ok, Err}
+-- layer: function codes READ, WRITE, ENABLE_UNSOLICITED, DISABLE_UNSOLICITED and DELAY_MEASURE, internal
+-- indications).
+use Rattle.std.specs.Prelude.{ℕ, ◌+◌, ◌==◌, Bool, true, false, not, ◌&&◌, ◌||◌, ◌*◌, if◌then◌else◌, nat_lt, List, [], ◌∷◌, slice_index, slice_set, Option, None, Some, is_some, length, fold, Result, Ok, Err}
+use Rattle.byteorder.specs.Endian.{little_number}
 use Rattle.std.specs.Int.{bit_at}
 use Rattle.std.specs.List.{list_any, list_all}
 use Rattle.dnp_appfragment.specs.declared.fault.AppFault.{AppFault}
@@ -131,12 +133,34 @@ clears_restart h = clears h.range
     clears (range.Count wide n) = false
     clears (range.Indexed wide n) = false
 
+-- the time that a header of a WRITE gives (50.1), where it counts one, of six octets: in milliseconds, low octet first
+abbrev pub time_in : Head → Option ℕ
+time_in h = given h.range
+  where
+    given : Range → Option ℕ
+    given range.All = None
+    given (range.Span wide first last) = None
+    given (range.Count wide n) = if h.group == 50 && (n == 1 && length h.octets == 6) then Some (little_number 6 h.octets) else None
+    given (range.Indexed wide n) = None
+
+-- of two times the later one given, if there is one
+abbrev pub later : Option ℕ → Option ℕ → Option ℕ
+later before (Some time) = Some time
+later before None = before
+
+-- the time that a WRITE gives: that of the last header which gives one
+abbrev pub time_written : List Head → Option ℕ
+time_written headers = fold (λ time h. later time (time_in h)) None headers
+
 abbrev pub written : State → List Head → State
 written s headers = record s { core = record s.core { restart = s.core.restart && not (list_any clears_restart headers) } }
 
--- the bit that a header of a WRITE is answered, if it is in error. The time (50.1) isn't written yet: it is unknown
+-- the bit that a header of a WRITE is answered, if it is in error
 abbrev pub header_bits : Head → ℕ
-header_bits h = if h.group == 80 then (if clears_restart h then 0 else parameter_error) else object_unknown
+header_bits h =
+    if h.group == 80 then (if clears_restart h then 0 else parameter_error)
+    else if h.group == 50 then (if is_some (time_in h) then 0 else parameter_error)
+    else object_unknown
 
 -- the first header in error decides
 abbrev pub write_bits : List Head → ℕ
@@ -145,7 +169,9 @@ write_bits (h ∷ hs) = if header_bits h == 0 then write_bits hs else header_bit
 
 abbrev pub write_executed : State → List Head → Executed
 write_executed s headers =
-    if write_bits headers == 0 then answered (written s headers) (plain 0 []) else refused s (write_bits headers)
+    if write_bits headers == 0
+    then record (answered (written s headers) (plain 0 [])) { time = time_written headers }
+    else refused s (write_bits headers)
 
 -- ---- ENABLE_UNSOLICITED and DISABLE_UNSOLICITED
 
@@ -169,6 +195,15 @@ enabled_after on enabled (h ∷ hs) = enabled_after on (switched on enabled (cla
 abbrev pub switch_executed : Bool → State → List Head → Executed
 switch_executed on s headers = answered (record s { core = record s.core { enabled = enabled_after on s.core.enabled headers } }) (plain 0 [])
 
+-- ---- DELAY_MEASURE
+
+-- the time between a request and its answer is not measured: a delay (52.2), counted, of 0 milliseconds
+abbrev pub no_delay : Head
+no_delay = record { group = 52; variation = 2; range = range.Count false 1; octets = 0 ∷ 0 ∷ [] }
+
+abbrev pub delay_executed : State → Executed
+delay_executed s = answered s (plain 0 (no_delay ∷ []))
+
 -- ---- one request
 
 -- the functions that aren't written yet are unknown ones
@@ -177,6 +212,7 @@ by_function s o headers function.Read = read_executed s o headers
 by_function s o headers function.Write = write_executed s headers
 by_function s o headers function.EnableUnsolicited = switch_executed true s headers
 by_function s o headers function.DisableUnsolicited = switch_executed false s headers
+by_function s o headers function.DelayMeasure = delay_executed s
 by_function s o headers _ = refused s no_func_code_support
 
 abbrev pub for_request : State → Panel → Result Asked AppFault → Executed

@@ -21,4 +21,6 @@ pub(crate) struct Answer {
     pub stood: u64,
     /// Where the next fragment begins, if there is one.
     pub left: Option<Place>,
+    /// The time that the request writes, in milliseconds since 1970-01-01 00:00 UTC.
+    pub time: Option<u64>,
 }

@@ -75,6 +75,7 @@ fn write_next<L: Lanes, O: Outputs>(
         switches,
         stood: last.stood,
         left: left(is_last, writer.place),
+        time: None,
     }))
 }
 

@@ -15,7 +15,7 @@ ghost use Rattle.dnp_outstation.specs.Items.{last_in as last_in_stock, first_pla
 ghost use Rattle.dnp_outstation.specs.Filling.{empty_from};
 ghost use Rattle.dnp_outstation.specs.declared.offer.writer.Writer.{Writer as WriterValue};
 ghost use Rattle.dnp_outstation.specs.State.{State};
-ghost use Rattle.dnp_outstation.specs.Content.{content_of, bits_of, clears_restart, header_bits, write_bits, enabled_after, read_executed, write_executed, switch_executed};
+ghost use Rattle.dnp_outstation.specs.Content.{content_of, bits_of, clears_restart, header_bits, write_bits, enabled_after, read_executed, write_executed, switch_executed, delay_executed, time_in, later, time_written};
 
 use crate::answer::{Answer, Switches};
 use crate::indications::last_in;
@@ -23,6 +23,7 @@ use crate::offer::inside::are_inside;
 use crate::offer::parts::put_parts;
 use crate::offer::place::Place;
 use crate::offer::writer::Writer;
+use byteorder::{ByteOrder, LittleEndian};
 use dnp_appfragment::{AppFault, Function, Header, Headers, Range, Request, read_request};
 use dnp_controls::Outputs;
 use dnp_eventbuf::{Lanes, StoreFault};
@@ -81,48 +82,82 @@ fn clears_restart(header: &Header<'_>) -> bool
     }
 }
 
+/// The time that a header of a WRITE gives, if it gives one.
+fn time_in(header: &Header<'_>) -> Option<u64>
+    ensures { result ≡ time_in (head header.now) }
+{
+    match header.range {
+        Range::Count { n: 1, .. } if header.group == 50 && header.octets.len() == 6 => {
+            Some(LittleEndian::read_u48(header.octets))
+        }
+        _ => None,
+    }
+}
+
 /// The bit that a header of a WRITE is answered, or 0.
 fn header_bits(header: &Header<'_>) -> u8
     ensures value { result ≡ header_bits (head header.now) }
     ensures small { result < 8 }
-    ensures clears { result ≡ 0 → clears_restart (head header.now) ≡ true }
 {
-    if header.group != 80 {
-        2
-    } else if clears_restart(header) {
-        0
-    } else {
-        4
+    match header.group {
+        80 if clears_restart(header) => 0,
+        50 if time_in(header).is_some() => 0,
+        80 | 50 => 4,
+        _ => 2,
     }
 }
 
-/// Whether DEVICE_RESTART is still set after a WRITE of these headers, or the bit that tells of the first one
-/// in error.
-fn restart_after(headers: Headers<'_>, restart: bool) -> Result<bool, u8>
+/// What a WRITE changes: whether DEVICE_RESTART is still set, and the time that is written.
+#[derive(Clone, Copy)]
+struct Changes {
+    restart: bool,
+    time: Option<u64>,
+}
+
+impl Changes {
+    /// The same with one header more.
+    fn with(self, header: &Header<'_>) -> Changes
+        ensures restart { result.restart ≡ (self.restart && not (clears_restart (head header.now))) }
+        ensures time { result.time ≡ later self.time (time_in (head header.now)) }
+    {
+        Changes {
+            restart: self.restart && !clears_restart(header),
+            time: time_in(header).or(self.time),
+        }
+    }
+}
+
+/// What a WRITE of these headers changes, or the bit that tells of the first one in error.
+fn written(headers: Headers<'_>, restart: bool) -> Result<Changes, u8>
     ensures value { result ≡ (if write_bits headers.entry.headers == 0
-        then Ok (restart && not (list_any clears_restart headers.entry.headers)) else Err (write_bits headers.entry.headers)) }
+        then Ok (record { restart = restart && not (list_any clears_restart headers.entry.headers); time = time_written headers.entry.headers })
+        else Err (write_bits headers.entry.headers)) }
     ensures small { IfErr result (λ bits. bits < 8) }
 {
-    let mut restart = restart;
+    let mut changes = Changes {
+        restart,
+        time: None,
+    };
     for header in headers {
         let bits = header_bits(&header);
         if bits != 0 {
             return Err(bits);
         }
-        restart = false;
+        changes = changes.with(&header);
     }
-    Ok(restart)
+    Ok(changes)
 }
 
 /// An answer without objects.
 fn plain(bits: u8, switches: Switches, stood: u64) -> Answer
-    ensures { result ≡ record { bits = bits; switches = switches; stood = stood; left = None } }
+    ensures { result ≡ record { bits = bits; switches = switches; stood = stood; left = None; time = None } }
 {
     Answer {
         bits,
         switches,
         stood,
         left: None,
+        time: None,
     }
 }
 
@@ -177,10 +212,11 @@ fn read<L: Lanes, O: Outputs>(
         switches,
         stood,
         left: left(is_last, writer.place),
+        time: None,
     })
 }
 
-/// Executes a WRITE, which has to be of DEVICE_RESTART alone.
+/// Executes a WRITE, which has to be of DEVICE_RESTART and of times alone.
 fn write<L: Lanes>(lanes: &mut L, switches: Switches, headers: Headers<'_>) -> Answer
     ensures same { lanes.new ≡ lanes.old }
     ensures executed { (s : State) (w : WriterValue) → s.core.restart ≡ switches.restart → s.core.enabled ≡ switches.enabled → w ≡ empty_from first_place
@@ -189,10 +225,17 @@ fn write<L: Lanes>(lanes: &mut L, switches: Switches, headers: Headers<'_>) -> A
     ensures small { result.bits < 8 }
 {
     let stood = last_in(lanes);
-    match restart_after(headers, switches.restart) {
-        Ok(restart) => {
+    match written(headers, switches.restart) {
+        Ok(changes) => {
+            let restart = changes.restart;
             let enabled = switches.enabled;
-            plain(0, Switches { restart, enabled }, stood)
+            Answer {
+                bits: 0,
+                switches: Switches { restart, enabled },
+                stood,
+                left: None,
+                time: changes.time,
+            }
         }
         Err(bits) => plain(bits, switches, stood),
     }
@@ -226,6 +269,20 @@ fn switch<L: Lanes>(lanes: &mut L, switches: Switches, on: bool, headers: Header
     let restart = switches.restart;
     let enabled = enabled_after(on, switches.enabled, headers);
     plain(0, Switches { restart, enabled }, last_in(lanes))
+}
+
+/// Executes a DELAY_MEASURE: writes that no delay was measured.
+fn delay<L: Lanes>(writer: &mut Writer, lanes: &mut L, switches: Switches) -> Answer
+    requires { writer.old ≡ empty_from first_place }
+    ensures same { lanes.new ≡ lanes.old }
+    ensures executed { (s : State) → s.core.restart ≡ switches.restart → s.core.enabled ≡ switches.enabled
+        → delay_executed s ≡ executed_by s writer.new result }
+    ensures stood { L.honest lanes.new → result.stood ≡ last_in_stock (L.contents lanes.new) }
+    ensures small { result.bits < 8 }
+    ensures response { writer.new.builder.function ≡ function.Response }
+{
+    writer.put_delay();
+    plain(0, switches, last_in(lanes))
 }
 
 /// Executes a request, and writes the first fragment of its response.
@@ -270,6 +327,7 @@ pub(crate) fn execute<L: Lanes, O: Outputs>(
         Function::Write => Ok(write(lanes, switches, request.headers)),
         Function::EnableUnsolicited => Ok(switch(lanes, switches, true, request.headers)),
         Function::DisableUnsolicited => Ok(switch(lanes, switches, false, request.headers)),
+        Function::DelayMeasure => Ok(delay(writer, lanes, switches)),
         _ => Ok(plain(1, switches, last_in(lanes))),
     }
 }

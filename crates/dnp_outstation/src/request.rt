@@ -74,7 +74,7 @@ impl OutstationCore {
             SequenceNumber::of(Control::read(octets[0])),
             deadline(now, self.times.confirm_ms),
         );
-        Ok(Actions::sending(alloc, fragment))
+        Ok(Actions::answering(alloc, fragment, answer.time))
     }
 
     /// The last request again: its first fragment goes out again, unless the response has gone past it.

@@ -1,4 +1,4 @@
-use Rattle.std.proofs.Common.{rules, ◌≡◌, true, List, refl, ap, sym, ◌∙◌}
+use Rattle.std.proofs.Common.{rules, None, ◌≡◌, true, List, refl, ap, sym, ◌∙◌}
 use Rattle.std.specs.List.{list_all}
 use Rattle.dnp_appfragment.specs.Headers.{Head}
 use Rattle.dnp_outstation.specs.Items.{Source, first_place, is_inside}
@@ -9,7 +9,7 @@ use Rattle.dnp_outstation.proofs.execute.read.Goals as goal
 pub returns-clause-executed : goal.returns-clause-executed
 returns-clause-executed g c = λ honest s points_is restart_is enabled_is lanes_is.
     let source : Source = record { points = c.args.points.now; panel = g.O.Outputs.panel c.args.outputs.now; lanes = g.L.Lanes.contents c.args.lanes.now } in
-    let a : Answer = record { bits = 0; switches = c.args.switches; stood = c.last_in-stood.result; left = c.left.result } in
+    let a : Answer = record { bits = 0; switches = c.args.switches; stood = c.last_in-stood.result; left = c.left.result; time = None } in
     let are : true ≡ c.are_inside.result = search rules in
     let inside : true ≡ list_all (is_inside source) c.args.headers.now.headers =
     are ∙ c.are_inside.ensures source refl refl ∙ ap (λ (hs : List Head). list_all (is_inside source) hs) c.after.ensures.headers in
