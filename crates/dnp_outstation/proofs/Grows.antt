@@ -14,14 +14,14 @@ abbrev size_of : List Stretch → ℕ
 size_of found = length (spelled (map header_of found))
 
 -- the octets of a header without its objects
-abbrev overhead : Thing → ℕ
+abbrev pub overhead : Thing → ℕ
 overhead (Event lane row) = 5
 overhead (Present static) = 7
 
 abbrev body : Thing → List Item → List ℕ
 body t xs = flat_map (item_octets (range_of t 0)) (map object_of xs)
 
-abbrev own : Item → ℕ
+abbrev pub own : Item → ℕ
 own x = length (item_octets (range_of x.thing 0) (object_of x))
 
 one_header : (s : Stretch) → length (header_octets (header_of s)) ≡ overhead s.first.thing + length (body s.first.thing (s.first ∷ s.more))
@@ -161,3 +161,7 @@ fits_begins xs ys fit =
     let within = leb-true (response_size (xs ++ ys)) 2048 fit in
     let grows = response_grows xs ys in
     le-leb (response_size xs) 2048 (omega arith)
+
+-- one item's response: the front, a header, the object
+pub one_size : (x : Item) → response_size (x ∷ []) ≡ 4 + (own x + overhead x.thing)
+one_size x = omega (arith, size_more x [])

@@ -118,12 +118,15 @@ unfolding held_of
 held_are Q items all =
     All-first Q (held_of items) (drop (length (held_of items)) items) (subst (All Q) (begins_with fits_fragment items refl) all)
 
+left_are : (Q : Item → Type 0) (s : Source) (stood : ℕ) (place : Place) (headers : List Head) → AreAll Q s
+    → All Q (items_left s stood place headers)
+left_are Q s stood place headers all =
+    items_are Q s stood place.given place.header (parts_left place.count (map (part_of s) (drop place.header headers))) all
+    (left_parts Q place.count (map (part_of s) (drop place.header headers)) (are_parts Q s (drop place.header headers) all))
+
 read_are : (Q : Item → Type 0) (s : Source) (stood : ℕ) (place : Place) (headers : List Head) → AreAll Q s
     → All Q (held_of (items_left s stood place headers))
-read_are Q s stood place headers all =
-    held_are Q (items_left s stood place headers)
-    (items_are Q s stood place.given place.header (parts_left place.count (map (part_of s) (drop place.header headers))) all
-    (left_parts Q place.count (map (part_of s) (drop place.header headers)) (are_parts Q s (drop place.header headers) all)))
+read_are Q s stood place headers all = held_are Q (items_left s stood place headers) (left_are Q s stood place headers all)
 
 lane_items_are : (Q : Item → Type 0) (s : Stock) (lanes : List ℕ) → ((lane : ℕ) → lane < 9 → All (λ x. Q (event_of 0 lane x)) (lane_at s lane).rows)
     → AreLow lanes → All Q (lane_items s lanes)
@@ -162,12 +165,19 @@ events_stand : (s : Stock) (lane : ℕ) → IsSound s → lane < 9 → All (λ x
     → All (λ x. (header : ℕ) → CanStand (event_of header lane x)) (lane_at s lane).rows
 events_stand s lane sound low short = λ k d within header. (lane_events s lane sound low k d within, short k d within)
 
-pub held_stand : (s : Source) (stood : ℕ) (place : Place) (headers : List Head) → IsSound s.lanes → AreWritable s
-    → All CanStand (held_of (items_left s stood place headers))
-held_stand s stood place headers sound writable = read_are CanStand s stood place headers (record {
+all_stand : (s : Source) → IsSound s.lanes → AreWritable s → AreAll CanStand s
+all_stand s sound writable = record {
   events = λ lane low. events_stand s.lanes lane sound low (writable.events lane low);
   present = λ group k d within header. writable.present group k d within;
-})
+}
+
+pub left_stand : (s : Source) (stood : ℕ) (place : Place) (headers : List Head) → IsSound s.lanes → AreWritable s
+    → All CanStand (items_left s stood place headers)
+left_stand s stood place headers sound writable = left_are CanStand s stood place headers (all_stand s sound writable)
+
+pub held_stand : (s : Source) (stood : ℕ) (place : Place) (headers : List Head) → IsSound s.lanes → AreWritable s
+    → All CanStand (held_of (items_left s stood place headers))
+held_stand s stood place headers sound writable = read_are CanStand s stood place headers (all_stand s sound writable)
 
 pub held_low : (s : Source) (stood : ℕ) (place : Place) (headers : List Head) → All IsLow (held_of (items_left s stood place headers))
 held_low s stood place headers = read_are IsLow s stood place headers (record {

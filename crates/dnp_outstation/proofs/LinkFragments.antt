@@ -6,12 +6,16 @@ use Rattle.std.specs.List.Sorted.{IsPermutation}
 use Rattle.std.proofs.lemmas.Bool.{cases_lt, lt-ltb, leb-true}
 use Rattle.std.proofs.lemmas.List.{get_or_past, nil_from_length}
 use Rattle.std.proofs.lemmas.List.Elements.{All-nil, All-head, All-tail, All-filter, All-weaker}
-use Rattle.std.proofs.lemmas.List.Sorted.{length_permutation}
+use Rattle.std.proofs.lemmas.List.Sorted.{IsPermutation-refl, length_permutation}
 use Rattle.dnp_appfragment.specs.declared.function.Function.TheVariants as function
+use Rattle.dnp_objects.specs.declared.row.Row.{Row}
 use Rattle.dnp_appfragment.specs.Control.{ControlBits, IsControl}
 use Rattle.dnp_appfragment.specs.Fragments.{Answered, response_octets}
-use Rattle.dnp_appfragment.specs.Headers.{Head}
+use Rattle.dnp_appfragment.specs.declared.table.Form.TheVariants as form
+use Rattle.dnp_appfragment.specs.Headers.{Head, AreHeaders, begin}
 use Rattle.dnp_appfragment.specs.Table.{is_response}
+use Rattle.dnp_appfragment.proofs.OneFragment.{spelled_response}
+use Rattle.dnp_appfragment.proofs.Requests.{response_again}
 use Rattle.dnp_controls.specs.Panel.{Panel}
 use Rattle.dnp_eventbuf.specs.declared.numbered.Numbered.{Numbered}
 use Rattle.dnp_eventbuf.specs.Buffered.{Buffered, buffered_in, buffered_row, id_limit, is_upto}
@@ -96,14 +100,58 @@ pushed_reports s enabled answered sound indexes few same control function =
     reports s answered (held_of items) sound same control function (pushed_stand s enabled sound few indexes) (pushed_low s enabled few) (held_fits items)
     (pushed_rows s enabled sound)
 
--- a response without objects
-plain_reports : (s : Stock) (answered : Answered) → IsSound s → answered.headers ≡ [] → IsControl answered.control → is_response answered.function ≡ true
+-- ---- no rows
+
+no_id : (ids : List ℕ) (lane : ℕ) → has_rows ids ≡ false → id_limit ids lane ≡ 0
+no_id [] lane none = refl
+no_id (id ∷ ids) lane none = by lane (λ k rest. no_id ids k rest) (or_parts (nat_lt 0 id) (has_rows ids) none)
+  where
+    or_parts : (a b : Bool) → (a || b) ≡ false → (a ≡ false) × (b ≡ false)
+    or_parts true b is = cc
+    or_parts false b is = (refl, is)
+
+    by : (lane : ℕ) → ((k : ℕ) → has_rows ids ≡ false → id_limit ids k ≡ 0) → (nat_lt 0 id ≡ false) × (has_rows ids ≡ false) → id_limit (id ∷ ids) lane ≡ 0
+    by zero behind both = elim (cases_lt 0 id) [
+      | inl some ↦ absurd (let t : nat_lt 0 id ≡ true = lt-ltb 0 id some in let b : nat_lt 0 id ≡ false = both.0 in cc)
+      | inr few ↦ omega arith
+    ]
+    by (suc lane) behind both = behind lane both.1
+
+none_upto : (ids : List ℕ) (xs : List Buffered) → has_rows ids ≡ false → All (λ x. 1 ≤ x.id) xs → filter (is_upto ids) xs ≡ []
+none_upto ids [] none all = refl
+none_upto ids (x ∷ xs) none all =
+    let first : 1 ≤ x.id = All-head (λ (y : Buffered). 1 ≤ y.id) x xs all in
+    let limit : id_limit ids x.lane ≡ 0 = no_id ids x.lane none in
+    let past : is_upto ids x ≡ false = not_at (nat_le x.id (id_limit ids x.lane)) (leb-true x.id (id_limit ids x.lane)) (omega arith) in
+    ap (λ (b : Bool). cond b (x ∷ filter (is_upto ids) xs) (filter (is_upto ids) xs)) past
+    ∙ none_upto ids xs none (All-tail (λ (y : Buffered). 1 ≤ y.id) x xs all)
+  where
+    not_at : (b : Bool) → (b ≡ true → x.id ≤ id_limit ids x.lane) → id_limit ids x.lane < x.id → b ≡ false
+    not_at true within past = absurd (let w : x.id ≤ id_limit ids x.lane = within refl in omega arith)
+    not_at false within past = refl
+
+no_rows_upto : (s : Stock) (ids : List ℕ) → IsSound s → has_rows ids ≡ false → map buffered_row (filter (is_upto ids) (buffered_in s)) ≡ []
+no_rows_upto s ids sound none =
+    let all : All (λ (x : Buffered). 1 ≤ x.id) (buffered_in s) =
+    All-weaker (λ (x : Buffered). (1 ≤ x.id) × (x.id ≤ s.last_id)) (λ (x : Buffered). 1 ≤ x.id) (λ x h. h.0) (buffered_in s)
+    (sound_numbered s sound) in
+    ap (map buffered_row) (none_upto ids (buffered_in s) none all)
+
+-- a response with objects, of which none is an event
+plain_reports : (s : Stock) (answered : Answered) (headers : List Head) → IsSound s → answered.headers ≡ headers → AreHeaders form.Response begin headers
+    → rows_said headers ≡ [] → IsControl answered.control → is_response answered.function ≡ true
     → Reports s (response_octets answered) answered.control no_ids
-plain_reports s answered sound same control function =
-    reports s answered [] sound same control function (All-nil CanStand) (All-nil IsLow) refl
-    (λ lane low. sym
-    (ap (λ (id : ℕ). filter (upto id) (lane_at s lane).rows) (last_id_is [] lane low)
-    ∙ upto_none 0 0 (lane_at s lane).rows (omega arith) (lane_rises s lane sound low)))
+plain_reports s answered headers sound same stand none control function =
+    let stands : AreHeaders form.Response begin answered.headers = subst (λ (hs : List Head). AreHeaders form.Response begin hs) (sym same) stand in
+    record {
+      answered = answered;
+      read = response_again (response_octets answered) answered (spelled_response answered control function stands);
+      control_is = refl;
+      rows =
+          subst (λ (rows : List Row). IsPermutation rows (map buffered_row (filter (is_upto no_ids) (buffered_in s)))) (sym (ap rows_said same ∙ none))
+          (subst (IsPermutation []) (sym (no_rows_upto s no_ids sound refl)) (IsPermutation-refl []));
+      used = λ lane. let e = no_id no_ids lane refl in omega arith;
+    }
 
 -- ---- what content is made of
 
@@ -116,7 +164,8 @@ is_reported : (s : State) (o : Panel) (content : Content) → IsSound s.lanes �
 is_reported s o _ sound writable (Reads headers) =
     λ answer same control function. read_reports s o (last_in s.lanes) first_place headers answer sound writable
     (begins_tidy s.lanes sound) refl same control function
-is_reported s o _ sound writable (Plain bits) = λ answer same control function. plain_reports s.lanes answer sound same control function
+is_reported s o _ sound writable (Plain bits headers stand none) =
+    λ answer same control function. plain_reports s.lanes answer headers sound same stand none control function
 
 -- ---- the fragments
 
@@ -153,37 +202,9 @@ pub first_unsolicited_reports : (s : State) → IsSound s.lanes → s.core.sessi
     → Reports s.lanes (unsolicited_of s (plain 0 [])) (record { fir = true; fin = true; con = true; uns = true; seq = s.core.session.next }) no_ids
 first_unsolicited_reports s sound small =
     plain_reports s.lanes
-    (record { control = unsolicited_control s.core.session.next; function = function.UnsolicitedResponse; iin = indications s no_ids 0; headers = [] }) sound refl small refl
+    (record { control = unsolicited_control s.core.session.next; function = function.UnsolicitedResponse; iin = indications s no_ids 0; headers = [] }) [] sound refl tt refl small refl
 
 -- ---- a fragment that asks for no confirm
-
-no_id : (ids : List ℕ) (lane : ℕ) → has_rows ids ≡ false → id_limit ids lane ≡ 0
-no_id [] lane none = refl
-no_id (id ∷ ids) lane none = by lane (λ k rest. no_id ids k rest) (or_parts (nat_lt 0 id) (has_rows ids) none)
-  where
-    or_parts : (a b : Bool) → (a || b) ≡ false → (a ≡ false) × (b ≡ false)
-    or_parts true b is = cc
-    or_parts false b is = (refl, is)
-
-    by : (lane : ℕ) → ((k : ℕ) → has_rows ids ≡ false → id_limit ids k ≡ 0) → (nat_lt 0 id ≡ false) × (has_rows ids ≡ false) → id_limit (id ∷ ids) lane ≡ 0
-    by zero behind both = elim (cases_lt 0 id) [
-      | inl some ↦ absurd (let t : nat_lt 0 id ≡ true = lt-ltb 0 id some in let b : nat_lt 0 id ≡ false = both.0 in cc)
-      | inr few ↦ omega arith
-    ]
-    by (suc lane) behind both = behind lane both.1
-
-none_upto : (ids : List ℕ) (xs : List Buffered) → has_rows ids ≡ false → All (λ x. 1 ≤ x.id) xs → filter (is_upto ids) xs ≡ []
-none_upto ids [] none all = refl
-none_upto ids (x ∷ xs) none all =
-    let first : 1 ≤ x.id = All-head (λ (y : Buffered). 1 ≤ y.id) x xs all in
-    let limit : id_limit ids x.lane ≡ 0 = no_id ids x.lane none in
-    let past : is_upto ids x ≡ false = not_at (nat_le x.id (id_limit ids x.lane)) (leb-true x.id (id_limit ids x.lane)) (omega arith) in
-    ap (λ (b : Bool). cond b (x ∷ filter (is_upto ids) xs) (filter (is_upto ids) xs)) past
-    ∙ none_upto ids xs none (All-tail (λ (y : Buffered). 1 ≤ y.id) x xs all)
-  where
-    not_at : (b : Bool) → (b ≡ true → x.id ≤ id_limit ids x.lane) → id_limit ids x.lane < x.id → b ≡ false
-    not_at true within past = absurd (let w : x.id ≤ id_limit ids x.lane = within refl in omega arith)
-    not_at false within past = refl
 
 permutes_none : {A : Type 0} (xs : List A) → IsPermutation xs [] → xs ≡ []
 permutes_none xs same = nil_from_length xs (sym (length_permutation xs [] same))
@@ -193,10 +214,8 @@ pub unconfirmed_reports_none : (s : Stock) (octets : List ℕ) (control : Contro
     → has_rows ids ≡ false
     → rows_said r.answered.headers ≡ []
 unconfirmed_reports_none s octets control ids r sound none =
-    let all : All (λ (x : Buffered). 1 ≤ x.id) (buffered_in s) =
-    All-weaker (λ (x : Buffered). (1 ≤ x.id) × (x.id ≤ s.last_id)) (λ (x : Buffered). 1 ≤ x.id) (λ x h. h.0) (buffered_in s) (sound_numbered s sound) in
-    let no_rows : map buffered_row (filter (is_upto ids) (buffered_in s)) ≡ [] = ap (map buffered_row) (none_upto ids (buffered_in s) none all) in
-    permutes_none (rows_said r.answered.headers) (subst (IsPermutation (rows_said r.answered.headers)) no_rows r.rows)
+    permutes_none (rows_said r.answered.headers)
+    (subst (IsPermutation (rows_said r.answered.headers)) (no_rows_upto s ids sound none) r.rows)
 
 -- where no item is left, the fragment is the last one, without objects and without a confirm
 pub emptied_ends : (s : State) (o : Panel) (stood seq : ℕ) (place : Place) (headers : List Head) (first : Bool)

@@ -94,7 +94,7 @@ first_given s o headers sound = read_given s o (last_in s.lanes) first_place hea
 
 content_given : (s : State) (o : Panel) (content : Content) → IsSound s.lanes → IsContent s o content → IsGiven s.lanes content
 content_given s o _ sound (Reads headers) = first_given s o headers sound
-content_given s o _ sound (Plain bits) = tt
+content_given s o _ sound (Plain bits headers stand none) = tt
 
 -- ---- a response is sent
 

@@ -64,12 +64,12 @@ object_stands b object header sized all = go b.run refl (option_and_then (λ (r 
 
 -- ---- an item as a header of its own
 
-record StandsAlone (x : Item) : Type 0 where
-  header : IsHeader form.Response (written_of x)
-  sized : IsSome (object_size (written_of x).group (written_of x).variation)
-  holds : HoldsObjects (written_of x) (object_of x ∷ [])
+pub record StandsAlone (x : Item) : Type 0 where
+  pub header : IsHeader form.Response (written_of x)
+  pub sized : IsSome (object_size (written_of x).group (written_of x).variation)
+  pub holds : HoldsObjects (written_of x) (object_of x ∷ [])
 
-stands_alone : (x : Item) → CanStand x → StandsAlone x
+pub stands_alone : (x : Item) → CanStand x → StandsAlone x
 stands_alone x can = go x.header x.thing can
   where
     go : (h : ℕ) (thing : Thing) → (let y : Item = record { header = h; thing = thing } in CanStand y → StandsAlone y)

@@ -1,5 +1,5 @@
 //! Laws of the words of `specs/`: each function does nothing, and its contract is a law.
-ghost use Rattle.std.specs.Prelude.{◌≡◌, ◌↔◌, ◌≤◌, ℕ, Bool, true, All, List, [], ◌++◌, length, map, Option, None, Some, Ok};
+ghost use Rattle.std.specs.Prelude.{◌≡◌, ◌≢◌, ◌↔◌, ◌≤◌, ℕ, Bool, true, All, List, [], ◌++◌, length, map, Option, None, Some, Ok};
 ghost use Rattle.std.specs.List.Sorted.{IsPermutation};
 ghost use Rattle.dnp_objects.specs.declared.lane.LaneRow.{LaneRow};
 ghost use Rattle.dnp_objects.specs.declared.row.Kind.{Kind};
@@ -86,7 +86,7 @@ pub fn nothing_else_given_is_left()
 
 /// Items that can be written and fit are a response, whose headers hold just these, and the rows that its
 /// event headers say are the event rows among them, in order. The items of a READ can be written where the
-/// rows of the lanes and the present values can.
+/// rows of the lanes and the present values can, and then each fragment that leaves something holds something.
 pub fn octets_say_what_is_held()
     ensures held { (items : List Item) → All CanStand items → fits_fragment items ≡ true
         → HoldAll (headers_of items) (map object_of items) }
@@ -97,6 +97,8 @@ pub fn octets_say_what_is_held()
         → rows_said (headers_of items) ≡ events_in items }
     ensures written { (s : Source) (stood : ℕ) (place : Place) (headers : List Head) → IsSound s.lanes → AreWritable s
         → All CanStand (held_of (items_left s stood place headers)) }
+    ensures some { (s : Source) (stood : ℕ) (place left : Place) (headers : List Head) → IsSound s.lanes → AreWritable s
+        → (offered s stood place headers).left ≡ Some left → held_of (items_left s stood place headers) ≢ [] }
 {}
 
 /// A fragment is read as itself, and the event rows that its headers say are, but for order, those that a

@@ -1,6 +1,7 @@
 use Rattle.std.proofs.lemmas.List.Elements.{recursion_from_All}
 use Rattle.dnp_outstation.specs.Said.{CanStand}
 use Rattle.dnp_outstation.proofs.ItemsOf.{held_stand}
+use Rattle.dnp_outstation.proofs.Moves.{goes_on_behind_some}
 use Rattle.dnp_outstation.proofs.Reported.{rows_are_said, response_is}
 use Rattle.dnp_outstation.proofs.Written.{items_written}
 use Rattle.dnp_outstation.proofs.laws.octets_say_what_is_held.Goals as goal
@@ -16,3 +17,6 @@ returns-clause-rows c = rows_are_said
 
 pub returns-clause-written : goal.returns-clause-written
 returns-clause-written c = held_stand
+
+pub returns-clause-some : goal.returns-clause-some
+returns-clause-some c = goes_on_behind_some

@@ -1,0 +1,110 @@
+-- A fragment that leaves something holds something: each item fits alone.
+use Rattle.std.proofs.Common.{◌≡◌, Bool, true, false, IsTrue, refl, sym, ◌∙◌, ap, subst, ℕ, ◌+◌, ◌<◌, ◌≤◌, ◌==◌, ◌||◌, List, [], ◌∷◌, ◌++◌, take, length, arith, Option, None, Some, IfSome, eqb-true}
+use Rattle.std.specs.List.{All}
+use Rattle.std.proofs.lemmas.Bool.{le-leb}
+use Rattle.std.proofs.lemmas.List.{length-append}
+use Rattle.std.proofs.lemmas.List.Elements.{All-head}
+use Rattle.dnp_objects.specs.Objects.{objects, content_of, object_size}
+use Rattle.dnp_objects.specs.Events.{event_object}
+use Rattle.dnp_objects.specs.declared.row.Kind.{Kind}
+use Rattle.dnp_objects.specs.declared.row.Kind.TheVariants.{Binary, Counter, Analog}
+use Rattle.dnp_appfragment.specs.Headers.{Head, number}
+use Rattle.dnp_appfragment.specs.Items.{Item as Object}
+use Rattle.dnp_appfragment.specs.Written.{is_point_group, point_variation}
+use Rattle.dnp_eventbuf.specs.Sound.{IsSound}
+use Rattle.dnp_outstation.specs.declared.offer.place.Place.{Place}
+use Rattle.dnp_outstation.specs.Items.{Thing, Item, Source, items_left}
+use Rattle.dnp_outstation.specs.Items.Thing.{Event, Present}
+use Rattle.dnp_outstation.specs.Layout.{object_of, fits_fragment, response_size}
+use Rattle.dnp_outstation.specs.Offer.{held_of, offered_of, offered}
+use Rattle.dnp_outstation.specs.Said.{CanStand, AreWritable}
+use Rattle.dnp_outstation.proofs.Grows.{own, overhead, one_size}
+use Rattle.dnp_outstation.proofs.ItemsOf.{left_stand}
+use Rattle.dnp_outstation.proofs.Left.{left_none}
+use Rattle.dnp_outstation.proofs.Longest.{longest_longest}
+use Rattle.dnp_outstation.proofs.Written.{StandsAlone, stands_alone}
+
+-- ---- no object is long
+
+abbrev IsShort : Option ℕ → Type 0
+IsShort size = IfSome size (λ n. n ≤ 11)
+
+event_short : (k : Kind) (time : Option ℕ) → IsShort (object_size (event_object k time).0 (event_object k time).1)
+unfolding content_of objects
+event_short Binary (Some time) = omega arith
+event_short Binary None = omega arith
+event_short Counter (Some time) = omega arith
+event_short Counter None = omega arith
+event_short Analog (Some time) = omega arith
+event_short Analog None = omega arith
+
+point_short : (g : ℕ) → IsTrue (is_point_group g) → IsShort (object_size g (point_variation g))
+unfolding content_of objects
+point_short g is =
+    one 1 (1 == g) refl (omega arith) (λ a.
+    one 10 (10 == g) refl (omega arith) (λ b.
+    one 20 (20 == g) refl (omega arith) (λ c.
+    one 30 (30 == g) refl (omega arith) (λ d.
+    absurd (none (1 == g) (10 == g) (20 == g) (30 == g) a b c d is)))))
+  where
+    one : (n : ℕ) (b : Bool) → (n == g) ≡ b → IsShort (object_size n (point_variation n))
+        → (b ≡ false → IsShort (object_size g (point_variation g))) → IsShort (object_size g (point_variation g))
+    one n true same here rest = subst (λ (m : ℕ). IsShort (object_size m (point_variation m))) (eqb-true n g same) here
+    one n false same here rest = rest refl
+
+    none : (a b c d : Bool) → a ≡ false → b ≡ false → c ≡ false → d ≡ false → (a || (b || (c || (d || false)))) ≡ true → ⊥
+    none true b c d e f g h is = cc
+    none false true c d e f g h is = cc
+    none false false true d e f g h is = cc
+    none false false false true e f g h is = cc
+    none false false false false e f g h is = cc
+
+short_octets : (size : Option ℕ) (octets : List ℕ) → IsShort size → size ≡ Some (length octets) → length octets ≤ 11
+short_octets size octets short is = subst IsShort is short
+
+short_object : (x : Item) → CanStand x → length (object_of x).octets ≤ 11
+short_object x can = go x.header x.thing can (stands_alone x can).holds.each.0.size
+  where
+    go : (h : ℕ) (thing : Thing)
+        → (let y : Item = record { header = h; thing = thing } in
+        CanStand y → object_size (object_of y).group (object_of y).variation ≡ Some (length (object_of y).octets)
+        → length (object_of y).octets ≤ 11)
+    go h (Event lane row) fits size =
+        let y : Item = record { header = h; thing = Event lane row } in
+        short_octets (object_size (object_of y).group (object_of y).variation) (object_of y).octets (event_short row.row.kind row.row.time) size
+    go h (Present static) fits size =
+        let y : Item = record { header = h; thing = Present static } in
+        short_octets (object_size (object_of y).group (object_of y).variation) (object_of y).octets (point_short static.group fits.0.group_is) size
+
+-- ---- so one item fits
+
+one_fits : (x : Item) → CanStand x → fits_fragment (x ∷ []) ≡ true
+one_fits x can = le-leb (response_size (x ∷ [])) 2048 (small x.header x.thing (short_object x can))
+  where
+    small : (h : ℕ) (thing : Thing)
+        → (let y : Item = record { header = h; thing = thing } in length (object_of y).octets ≤ 11 → response_size (y ∷ []) ≤ 2048)
+    small h (Event lane row) short =
+        let y : Item = record { header = h; thing = Event lane row } in
+        let octets = length-append (number true row.row.index) (object_of y).octets in
+        omega (arith, one_size y)
+    small h (Present static) short =
+        let y : Item = record { header = h; thing = Present static } in
+        omega (arith, one_size y)
+
+held_some : (items : List Item) → All CanStand items → held_of items ≡ [] → items ≡ []
+unfolding held_of
+held_some [] can none = refl
+held_some (x ∷ xs) can none =
+    let found = longest_longest fits_fragment (x ∷ xs) refl in
+    let over : fits_fragment (x ∷ []) ≡ false = found.more 1 (omega (arith, ap length none)) (omega arith) in
+    absurd (let fits : fits_fragment (x ∷ []) ≡ true = one_fits x (All-head CanStand x xs can) in cc)
+
+-- a READ goes on only behind a fragment that holds something
+pub goes_on_behind_some : (s : Source) (stood : ℕ) (place next : Place) (headers : List Head) → IsSound s.lanes → AreWritable s
+    → (offered s stood place headers).left ≡ Some next → held_of (items_left s stood place headers) ≡ [] → ⊥
+goes_on_behind_some s stood place next headers sound writable left none =
+    let items = items_left s stood place headers in
+    let empty : items ≡ [] = held_some items (left_stand s stood place headers sound writable) none in
+    let ended : (offered_of place items).left ≡ None = (left_none place items).1 (none ∙ sym empty) in
+    let both : None ≡ Some next = sym ended ∙ left in
+    cc
