@@ -1,6 +1,6 @@
 //! Executes requests, and writes what they are answered.
 
-ghost use Rattle.std.specs.Prelude.{◌≡◌, ◌==◌, ◌^◌, length, true, Ok, ◌≢◌, ◌<◌, ◌&&◌, [], false, not, if◌then◌else◌, None, Some, IfOk, IfErr, IsErr, IsTrue, Err};
+ghost use Rattle.std.specs.Prelude.{◌≡◌, ◌≢◌, ◌<◌, ◌==◌, ◌&&◌, ◌^◌, [], length, true, false, not, if◌then◌else◌, None, Some, Ok, Err, IfOk, IfErr, IsErr, IsTrue};
 ghost use Rattle.std.specs.List.{list_any};
 ghost use Rattle.dnp_appfragment.specs.declared.function.Function.TheVariants as function;
 ghost use Rattle.dnp_appfragment.specs.Fragments.{IsRequest};
@@ -30,6 +30,15 @@ use dnp_eventbuf::{Lanes, StoreFault};
 use dnp_pointdb::PointDb;
 use std::alloc::Global;
 
+/// The bit of an unknown function (IIN2.0), of the second octet of indications.
+const NO_FUNC_CODE_SUPPORT: u8 = 0x01;
+
+/// The bit of an unknown object (IIN2.1).
+const OBJECT_UNKNOWN: u8 = 0x02;
+
+/// The bit of a header that is in error otherwise (IIN2.2).
+const PARAMETER_ERROR: u8 = 0x04;
+
 /// Where a READ begins.
 const FIRST_PLACE: Place = Place {
     header: 0,
@@ -55,13 +64,13 @@ fn bits_of(fault: AppFault) -> u8
     ensures small { result < 8 }
 {
     match fault {
-        AppFault::FunctionUnknown => 1,
-        AppFault::ObjectUnknown => 2,
+        AppFault::FunctionUnknown => NO_FUNC_CODE_SUPPORT,
+        AppFault::ObjectUnknown => OBJECT_UNKNOWN,
         AppFault::Short
         | AppFault::HeaderCut
         | AppFault::QualifierUnknown
         | AppFault::RangeBackward
-        | AppFault::ObjectsCut => 4,
+        | AppFault::ObjectsCut => PARAMETER_ERROR,
     }
 }
 
@@ -102,8 +111,8 @@ fn header_bits(header: &Header<'_>) -> u8
     match header.group {
         80 if clears_restart(header) => 0,
         50 if time_in(header).is_some() => 0,
-        80 | 50 => 4,
-        _ => 2,
+        80 | 50 => PARAMETER_ERROR,
+        _ => OBJECT_UNKNOWN,
     }
 }
 
@@ -195,7 +204,7 @@ fn read<L: Lanes, O: Outputs>(
 {
     let stood = last_in(lanes);
     if !are_inside(points, outputs, headers.after(0)) {
-        return Ok(plain(4, switches, stood));
+        return Ok(plain(PARAMETER_ERROR, switches, stood));
     }
     let is_last = put_parts(
         writer,
@@ -328,6 +337,6 @@ pub(crate) fn execute<L: Lanes, O: Outputs>(
         Function::EnableUnsolicited => Ok(switch(lanes, switches, true, request.headers)),
         Function::DisableUnsolicited => Ok(switch(lanes, switches, false, request.headers)),
         Function::DelayMeasure => Ok(delay(writer, lanes, switches)),
-        _ => Ok(plain(1, switches, last_in(lanes))),
+        _ => Ok(plain(NO_FUNC_CODE_SUPPORT, switches, last_in(lanes))),
     }
 }
