@@ -12,7 +12,8 @@ use Rattle.dnp_appfragment.specs.Reading.{◌>>=◌, header_at, headers_in, head
 use Rattle.dnp_appfragment.specs.Meaning.{control_of, function_at, request_at}
 
 -- one header more
-one_more : (n : ℕ) (h : Head) (found : Result (List Head) AppFault) → IfOk found (λ hs. length hs ≤ n) → IfOk (found >>= (λ hs. Ok (h ∷ hs))) (λ hs. length hs ≤ suc n)
+one_more : (n : ℕ) (h : Head) (found : Result (List Head) AppFault) → IfOk found (λ hs. length hs ≤ n)
+    → IfOk (found >>= (λ hs. Ok (h ∷ hs))) (λ hs. length hs ≤ suc n)
 one_more n h (Ok hs) few = omega arith
 one_more n h (Err e) few = tt
 
@@ -41,9 +42,11 @@ asked_with n m control f (Ok hs) less few = omega arith
 asked_with n m control f (Err e) less few = tt
 
 of_function : (control : ControlBits) (body : List ℕ) (found : Result Function AppFault)
-    → IfOk (found >>= (λ f. headers_at (form_of f) (looked_at (form_of f) body) >>= (λ hs. Ok (record { control = control; function = f; headers = hs })))) (λ (a : Asked). length a.headers ≤ length body)
+    → IfOk (found >>= (λ f. headers_at (form_of f) (looked_at (form_of f) body) >>= (λ hs. Ok (record { control = control; function = f; headers = hs }))))
+    (λ (a : Asked). length a.headers ≤ length body)
 of_function control body (Ok f) =
-    asked_with (length (looked_at (form_of f) body)) (length body) control f (headers_at (form_of f) (looked_at (form_of f) body)) (looked_short (form_of f) body)
+    asked_with (length (looked_at (form_of f) body)) (length body) control f (headers_at (form_of f) (looked_at (form_of f) body))
+    (looked_short (form_of f) body)
     (few_at (form_of f) (looked_at (form_of f) body))
 of_function control body (Err e) = tt
 

@@ -1,5 +1,6 @@
 -- What the headers of a READ ask for, one after the other.
-use Rattle.std.proofs.Common.{◌≡◌, ℕ, ◌+◌, ◌-◌, Bool, true, false, cond, List, [], ◌∷◌, ◌++◌, map, fold, None, Some, refl, sym, ap, ◌∙◌, arith, append-nil, drop}
+use Rattle.std.proofs.Common.{◌≡◌, ℕ, ◌+◌, ◌-◌, Bool, true, false, cond, List, [], ◌∷◌, ◌++◌, map, fold, None, Some, refl, sym, ap, ◌∙◌, arith, append-nil}
+use Rattle.std.proofs.Common.{drop}
 use Rattle.dnp_appfragment.specs.Headers.{Head}
 use Rattle.dnp_outstation.specs.declared.offer.place.Place.{Place}
 use Rattle.dnp_outstation.specs.declared.offer.writer.Writer.{Writer}
@@ -22,7 +23,8 @@ parts_fresh [] = refl
 parts_fresh (part ∷ parts) = ap (λ (p : Part). p ∷ parts) (none_given part)
 
 -- a header's part was put, and the others are left
-pub part_put : (s : Source) (stood : ℕ) (given given' : List ℕ) (at count : ℕ) (left : List Head) (h : Head) (hs : List Head) (w w' : Writer) (fit : Bool) (more : List Item)
+pub part_put : (s : Source) (stood : ℕ) (given given' : List ℕ) (at count : ℕ) (left : List Head) (h : Head) (hs : List Head) (w w' : Writer) (fit : Bool)
+    (more : List Item)
     → left ≡ h ∷ hs
     → Puts w (part_items s stood given at (part_after count (part_of s h))) fit w' → fit ≡ true
     → given' ≡ fold given_after given (part_items s stood given at (part_after count (part_of s h)))

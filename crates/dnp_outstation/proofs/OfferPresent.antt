@@ -1,5 +1,6 @@
 -- Present values: those that a range names of a row of points, those that are skipped, and what their objects take.
-use Rattle.std.proofs.Common.{◌≡◌, ◌<◌, ◌≤◌, ℕ, zero, suc, ◌+◌, ◌-◌, ◌*◌, pos, None, Bool, true, false, ◌&&◌, cond, nat_le, nat_lt, List, [], ◌∷◌, ◌++◌, length, get_or, min, map, take, drop, fold, refl, sym, ap, subst, ◌∙◌, arith, append_assoc, append-nil}
+use Rattle.std.proofs.Common.{◌≡◌, ◌<◌, ◌≤◌, ℕ, zero, suc, ◌+◌, ◌-◌, ◌*◌, pos, None, Bool, true, false, ◌&&◌, cond, nat_le, nat_lt, List, [], ◌∷◌, ◌++◌}
+use Rattle.std.proofs.Common.{length, get_or, min, map, take, drop, fold, refl, sym, ap, subst, ◌∙◌, arith, append_assoc, append-nil}
 use Rattle.std.proofs.lemmas.Bool.Decides.{nat_tests}
 use Rattle.std.proofs.lemmas.List.{map-append, length-append, drop_more}
 use Rattle.std.proofs.lemmas.List.Elements.{filter-append}
@@ -9,7 +10,8 @@ use Rattle.dnp_appfragment.specs.declared.header.Range.TheVariants as range
 use Rattle.dnp_pointdb.specs.declared.state.PointState.{PointState}
 use Rattle.dnp_pointdb.specs.declared.state.BlockState.{BlockState}
 use Rattle.dnp_outstation.specs.declared.offer.writer.Writer.{Writer}
-use Rattle.dnp_outstation.specs.Items.{Item, Static, present_of, given_after, is_within, in_range, statics_from, statics_in, output_row, outputs_from, statics_of, Source}
+use Rattle.dnp_outstation.specs.Items.{Item, Static, present_of, given_after, is_within, in_range, statics_from, statics_in, output_row, outputs_from}
+use Rattle.dnp_outstation.specs.Items.{statics_of, Source}
 use Rattle.dnp_objects.specs.declared.row.Kind.{Kind}
 use Rattle.dnp_objects.specs.declared.row.Kind.TheVariants.{Binary, Counter, Analog}
 use Rattle.dnp_objects.specs.declared.row.Row.{Row}
@@ -125,7 +127,8 @@ length_outputs status base (suc n) = ap (λ (k : ℕ). suc k) (length_outputs st
 
 -- the first of those that are left
 pub next_output : (status : ℕ → ℕ) (index end : ℕ) → index < end
-    → outputs_from status index (end - index) ≡ (let x : Static = record { group = 10; block = 0; row = output_row status index } in x) ∷ outputs_from status (index + 1) (end - (index + 1))
+    → outputs_from status index (end - index)
+    ≡ (let x : Static = record { group = 10; block = 0; row = output_row status index } in x) ∷ outputs_from status (index + 1) (end - (index + 1))
 next_output status index end less = ap (outputs_from status index) (let more : end - index ≡ suc (end - (index + 1)) = omega arith in more)
 
 -- ---- lists, one after the other
@@ -134,7 +137,8 @@ pub drop_both : {A : Type 0} (n : ℕ) (xs ys : List A) → drop n (xs ++ ys) �
 drop_both zero [] ys = refl
 drop_both (suc n) [] ys = ap (λ (k : ℕ). drop k ys) (let same : suc n ≡ suc n - 0 = omega arith in same)
 drop_both zero (x ∷ xs) ys = ap (λ (k : ℕ). x ∷ (xs ++ drop k ys)) (let same : 0 ≡ 0 - suc (length xs) = omega arith in same)
-drop_both (suc n) (x ∷ xs) ys = drop_both n xs ys ∙ ap (λ (k : ℕ). drop n xs ++ drop k ys) (let same : n - length xs ≡ suc n - suc (length xs) = omega arith in same)
+drop_both (suc n) (x ∷ xs) ys = drop_both n xs ys
+    ∙ ap (λ (k : ℕ). drop n xs ++ drop k ys) (let same : n - length xs ≡ suc n - suc (length xs) = omega arith in same)
 
 pub drop_min : {A : Type 0} (n m : ℕ) (xs : List A) → m ≡ min n (length xs) → drop n xs ≡ drop m xs
 drop_min zero m xs is = ap (λ (k : ℕ). drop k xs) (let same : 0 ≡ m = omega arith in same)
@@ -148,7 +152,8 @@ pub named_left : (r : Range) (group block : ℕ) (kind : Kind) (base lo hi n ski
     → passed ≡ min skip (length (take n (drop lo ps))) → at ≡ base + lo + passed
     → drop skip (in_range r (statics_from group block kind base ps)) ≡ statics_from group block kind at (drop passed (take n (drop lo ps)))
 named_left r group block kind base lo hi n skip passed at ps hi_is named passed_is at_is =
-    let all = in_range_from r group block kind base (base + lo) lo n ps refl (λ place less. named place less ∙ ap (λ (h : ℕ). nat_le lo place && nat_lt place h) hi_is) in
+    let all = in_range_from r group block kind base (base + lo) lo n ps refl
+    (λ place less. named place less ∙ ap (λ (h : ℕ). nat_le lo place && nat_lt place h) hi_is) in
     ap (drop skip) all
     ∙ drop_min skip passed (statics_from group block kind (base + lo) (take n (drop lo ps)))
     (passed_is ∙ ap (min skip) (sym (length_statics group block kind (base + lo) (take n (drop lo ps)))))
@@ -159,7 +164,8 @@ pub length_named : (r : Range) (group block : ℕ) (kind : Kind) (base lo hi n :
     → hi ≡ lo + n → ((place : ℕ) → place < length ps → is_within r (base + place) ≡ (nat_le lo place && nat_lt place hi))
     → length (in_range r (statics_from group block kind base ps)) ≡ length (take n (drop lo ps))
 length_named r group block kind base lo hi n ps hi_is named =
-    ap length (in_range_from r group block kind base (base + lo) lo n ps refl (λ place less. named place less ∙ ap (λ (h : ℕ). nat_le lo place && nat_lt place h) hi_is))
+    ap length (in_range_from r group block kind base (base + lo) lo n ps refl
+    (λ place less. named place less ∙ ap (λ (h : ℕ). nat_le lo place && nat_lt place h) hi_is))
     ∙ length_statics group block kind (base + lo) (take n (drop lo ps))
 
 -- ---- items, one after the other
@@ -207,7 +213,8 @@ pub block_first : (header skip skip' : ℕ) (r : Range) (kind : Kind) (number : 
     ++ presents header skip' (in_range r (statics_in (group_of kind) kind (number + 1) (drop (number + 1) blocks)))
 block_first header skip skip' r kind number block blocks less is skipped =
     ap (λ (bs : List BlockState). presents header skip (in_range r (statics_in (group_of kind) kind number bs))) (next_block blocks number block less is)
-    ∙ presents_both header skip skip' r (statics_from (group_of kind) number kind block.base block.points) (statics_in (group_of kind) kind (number + 1) (drop (number + 1) blocks)) skipped
+    ∙ presents_both header skip skip' r (statics_from (group_of kind) number kind block.base block.points)
+    (statics_in (group_of kind) kind (number + 1) (drop (number + 1) blocks)) skipped
 
 pub block_skipped : (skip skip' : ℕ) (r : Range) (kind : Kind) (number : ℕ) (block : BlockState) (blocks : List BlockState)
     → number < length blocks → block ≡ get_or blocks number block
@@ -216,7 +223,8 @@ pub block_skipped : (skip skip' : ℕ) (r : Range) (kind : Kind) (number : ℕ) 
     ≡ skip' - length (in_range r (statics_in (group_of kind) kind (number + 1) (drop (number + 1) blocks)))
 block_skipped skip skip' r kind number block blocks less is skipped =
     ap (λ (bs : List BlockState). skip - length (in_range r (statics_in (group_of kind) kind number bs))) (next_block blocks number block less is)
-    ∙ skipped_both skip skip' r (statics_from (group_of kind) number kind block.base block.points) (statics_in (group_of kind) kind (number + 1) (drop (number + 1) blocks)) skipped
+    ∙ skipped_both skip skip' r (statics_from (group_of kind) number kind block.base block.points)
+    (statics_in (group_of kind) kind (number + 1) (drop (number + 1) blocks)) skipped
 
 -- ---- outputs that are left
 
@@ -260,7 +268,8 @@ pub output_fits : (status : ℕ → ℕ) (index : ℕ) (row : Row) → status in
 output_fits status index row small is =
     subst (λ (r : Row). FitsPoint 10 r) (sym is) (record {
       group_is = refl;
-      row_fits = output_by_parts index (status index - 128 * cond (nat_le 128 (status index)) 1 0) (cond (nat_le 128 (status index)) 1 0) (bit_and_rest (status index) small);
+      row_fits = output_by_parts index (status index - 128 * cond (nat_le 128 (status index)) 1 0) (cond (nat_le 128 (status index)) 1 0)
+          (bit_and_rest (status index) small);
     })
 
 -- ---- groups, one after the other
@@ -291,5 +300,6 @@ given_by : (given : List ℕ) (header : ℕ) (statics : List Static) → given �
 given_by given header [] = refl
 given_by given header (x ∷ xs) = given_by given header xs
 
-pub given_presents : (given given' : List ℕ) (header skip : ℕ) (statics : List Static) → given' ≡ given → given' ≡ fold given_after given (presents header skip statics)
+pub given_presents : (given given' : List ℕ) (header skip : ℕ) (statics : List Static) → given' ≡ given
+    → given' ≡ fold given_after given (presents header skip statics)
 given_presents given given' header skip statics same = same ∙ given_by given header (drop skip statics)

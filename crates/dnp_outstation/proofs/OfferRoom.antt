@@ -1,5 +1,6 @@
 -- How much longer a fragment is with a row more.
-use Rattle.std.proofs.Common.{◌≡◌, ℕ, ◌+◌, ◌≤◌, ◌^◌, Bool, true, false, cond, nat_lt, ◌==◌, ◌&&◌, List, [], ◌∷◌, ◌++◌, length, option_to_list, Option, None, Some, refl, sym, ap, ◌∙◌, arith, append-nil}
+use Rattle.std.proofs.Common.{◌≡◌, ℕ, ◌+◌, ◌≤◌, ◌^◌, Bool, true, false, cond, nat_lt, ◌==◌, ◌&&◌, List, [], ◌∷◌, ◌++◌, length, option_to_list, Option, None}
+use Rattle.std.proofs.Common.{Some, refl, sym, ap, ◌∙◌, arith, append-nil}
 use Rattle.std.specs.Option.{option_map, option_and_then}
 use Rattle.std.proofs.lemmas.List.{length-append}
 use Rattle.std.proofs.lemmas.List.Concat.{flat_map-append}
@@ -35,19 +36,27 @@ header_size h = let both = length-append (range_octets h.range) h.octets in omeg
 -- a header that an object joins is longer by the object's octets
 joined_size : (run longer : Head) (group variation index : ℕ) (octets : List ℕ) → joined run (indexed group variation index octets) ≡ Some longer
     → length (header_octets run) + 2 ≤ length (header_octets longer)
-joined_size run longer group variation index octets is = by ((run.group == group) && (run.variation == variation)) (joined_range run.range (range.Indexed true 1)) refl is
+joined_size run longer group variation index octets is = by ((run.group == group) && (run.variation == variation))
+    (joined_range run.range (range.Indexed true 1)) refl is
   where
     object : List ℕ
     object = number true index ++ octets
 
     by : (b : Bool) (o : Option Range) → joined_range run.range (range.Indexed true 1) ≡ o
-        → cond b (option_map (λ (r : Range). let h : Head = record { group = run.group; variation = run.variation; range = r; octets = run.octets ++ object } in h) o) None ≡ Some longer
+        → cond b (option_map (λ (r : Range). let h : Head = record {
+          group = run.group;
+          variation = run.variation;
+          range = r;
+          octets = run.octets
+              ++ object;
+        } in h) o) None ≡ Some longer
         → length (header_octets run) + 2 ≤ length (header_octets longer)
     by true (Some r) joint it =
         let same : (let h : Head = record { group = run.group; variation = run.variation; range = r; octets = run.octets ++ object } in h) ≡ longer = cc in
         let old = header_size run in
         let new = header_size longer in
-        let range_is : length (range_octets longer.range) ≡ length (range_octets run.range) = ap (λ (h : Head). length (range_octets h.range)) (sym same) ∙ same_range run.range r joint in
+        let range_is : length (range_octets longer.range) ≡ length (range_octets run.range) = ap (λ (h : Head). length (range_octets h.range)) (sym same)
+        ∙ same_range run.range r joint in
         let octets_are : length longer.octets ≡ length (run.octets ++ object) = ap (λ (h : Head). length h.octets) (sym same) in
         let both = length-append run.octets object in
         let own = length-append (number true index) octets in
@@ -94,8 +103,10 @@ put_grows w header lane x = by (is_same_run w.run (OfLane lane))
     by : (same : Bool) → size w.builder + 2 ≤ size (with_object (cond same w.builder (broken w.builder)) (event x.row))
     by true = event_grows w.builder (event x.row).group (event x.row).variation x.row.index (written (event x.row).group (event x.row).variation x.row)
     by false =
-        let more = event_grows (broken w.builder) (event x.row).group (event x.row).variation x.row.index (written (event x.row).group (event x.row).variation x.row) in
-        let same : size (broken w.builder) ≡ size w.builder = ap (λ (hs : List Head). front_size w.builder.function + length (spelled hs)) (heads_broken w.builder) in
+        let more = event_grows (broken w.builder) (event x.row).group (event x.row).variation x.row.index
+        (written (event x.row).group (event x.row).variation x.row) in
+        let same : size (broken w.builder) ≡ size w.builder = ap (λ (hs : List Head). front_size w.builder.function + length (spelled hs))
+        (heads_broken w.builder) in
         omega arith
 
 pub put_room : (w w' : Writer) (header lane : ℕ) (x : Numbered) → w' ≡ put w (event_of header lane x) → size w.builder + 2 ≤ size w'.builder

@@ -1,5 +1,6 @@
 -- Rows of lanes that a READ gives.
-use Rattle.std.proofs.Common.{◌≡◌, ℕ, ◌<◌, suc, zero, Bool, true, false, cond, List, [], ◌∷◌, ◌++◌, length, take, filter, map, max, get_or, nat_lt, nat_le, refl, ap, sym, ◌∙◌, arith, Option, None, Some, IfSome, ◌+◌, drop}
+use Rattle.std.proofs.Common.{◌≡◌, ℕ, ◌<◌, suc, zero, Bool, true, false, cond, List, [], ◌∷◌, ◌++◌, length, take, filter, map, max, get_or, nat_lt, nat_le}
+use Rattle.std.proofs.Common.{refl, ap, sym, ◌∙◌, arith, Option, None, Some, IfSome, ◌+◌, drop}
 use Rattle.std.specs.List.{AllPairs}
 use Rattle.std.proofs.lemmas.Bool.Decides.{nat_tests}
 use Rattle.std.proofs.lemmas.List.Kept.{AllPairs-filter}
@@ -44,10 +45,12 @@ cut_stood stood (suc n) (x ∷ xs) rising =
     by_test (nat_le x.id stood) refl (cut_stood stood n xs (λ i j d low high. rising (suc i) (suc j) d (omega arith) (omega arith)))
   where
     by_test : (b : Bool) → nat_le x.id stood ≡ b → filter (stood_at stood) (take n xs) ≡ take n (filter (stood_at stood) xs)
-        → cond b (x ∷ filter (stood_at stood) (take n xs)) (filter (stood_at stood) (take n xs)) ≡ take (suc n) (cond b (x ∷ filter (stood_at stood) xs) (filter (stood_at stood) xs))
+        → cond b (x ∷ filter (stood_at stood) (take n xs)) (filter (stood_at stood) (take n xs))
+        ≡ take (suc n) (cond b (x ∷ filter (stood_at stood) xs) (filter (stood_at stood) xs))
     by_test true is rest = ap (λ (l : List Numbered). x ∷ l) rest
     by_test false is rest =
-        let none : filter (stood_at stood) xs ≡ [] = none_stood stood xs (λ k d less. let higher = rising 0 (suc k) d (omega arith) (omega arith) in grind (arith, nat_tests)) in
+        let none : filter (stood_at stood) xs ≡ [] = none_stood stood xs
+        (λ k d less. let higher = rising 0 (suc k) d (omega arith) (omega arith) in grind (arith, nat_tests)) in
         rest ∙ ap (take n) none ∙ take_none n ∙ sym (ap (take (suc n)) none)
 
 -- ---- rows that are left after a release
@@ -63,7 +66,8 @@ left_after s upto number after over law =
 -- the rows over an id that stood, at most so many, are those that a header may still give
 pub rows_given : (s : Stock) (released : Option (List ℕ)) (stood : ℕ) (given : List ℕ) (number : ℕ) (most : Option ℕ) → IsSound s → number < 9
     → IfSome released (λ upto. length upto ≡ 9)
-    → ((t : Stock) (upto : List ℕ) (n after limit : ℕ) → length upto ≡ length t.lanes → n < length t.lanes → offered (without t upto) n after limit ≡ offered t n (max after (get_or upto n 0)) limit)
+    → ((t : Stock) (upto : List ℕ) (n after limit : ℕ) → length upto ≡ length t.lanes → n < length t.lanes → offered (without t upto) n after limit
+    ≡ offered t n (max after (get_or upto n 0)) limit)
     → filter (stood_at stood) (at_most most (filter (λ x. nat_lt (over_of given released number) x.id) (lane_at s number).rows))
     ≡ at_most most (rows_left (after_release s released) stood given number)
 rows_given s released stood given number most sound low nine law =
@@ -74,13 +78,17 @@ rows_given s released stood given number most sound low nine law =
 
     by_limit : (m : Option ℕ) → filter (stood_at stood) (at_most m left) ≡ at_most m (filter (stood_at stood) left)
     by_limit None = refl
-    by_limit (Some n) = cut_stood stood n left (AllPairs-filter (λ (x y : Numbered). x.id < y.id) (λ x. nat_lt (over_of given released number) x.id) (lane_at s number).rows (sound.each number low).rising)
+    by_limit (Some n) = cut_stood stood n left
+        (AllPairs-filter (λ (x y : Numbered). x.id < y.id) (λ x. nat_lt (over_of given released number) x.id) (lane_at s number).rows
+        (sound.each number low).rising)
 
     by_release : (r : Option (List ℕ)) → IfSome r (λ upto. length upto ≡ 9)
-        → filter (λ x. nat_lt (over_of given r number) x.id) (lane_at s number).rows ≡ filter (λ x. nat_lt (get_or given number 0) x.id) (lane_at (after_release s r) number).rows
+        → filter (λ x. nat_lt (over_of given r number) x.id) (lane_at s number).rows
+        ≡ filter (λ x. nat_lt (get_or given number 0) x.id) (lane_at (after_release s r) number).rows
     by_release None nine = refl
     by_release (Some upto) nine =
-        sym (left_after s upto number (get_or given number 0) (over_of given (Some upto) number) (λ limit. law s upto number (get_or given number 0) limit (nine ∙ sym sound.nine) (omega (arith, sound.nine))))
+        sym (left_after s upto number (get_or given number 0) (over_of given (Some upto) number)
+        (λ limit. law s upto number (get_or given number 0) limit (nine ∙ sym sound.nine) (omega (arith, sound.nine))))
 
 -- ---- the first rows of a lane
 

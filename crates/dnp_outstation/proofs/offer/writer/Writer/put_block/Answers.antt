@@ -21,7 +21,8 @@ returns-clause-written c = λ more.
     ap (λ (ps : List PointState). filled (drop c.args.skip.now (in_range c.args.ask.range (statics c.args.block.now.base ps)))) (sym c.as_slice-points.ensures)
     ∙ ap filled (named_left c.args.ask.range group c.args.number c.args.kind c.args.block.now.base lo hi (hi - lo) c.args.skip.now passed at points
     (omega (arith, c.places-from.ensures.ordered)) c.places-from.ensures.named c.min-passed.ensures (omega (arith, c.from.ensures)))
-    ∙ ap (λ (ps : List PointState). filled (statics at ps)) (sym (take_all (length named - passed) (drop passed named) (omega (arith, length-drop passed named))))
+    ∙ ap (λ (ps : List PointState). filled (statics at ps))
+    (sym (take_all (length named - passed) (drop passed named) (omega (arith, length-drop passed named))))
     ∙ c.put_points.ensures.written more
 
 pub returns-clause-skipped : goal.returns-clause-skipped
@@ -29,8 +30,12 @@ returns-clause-skipped c =
     let lo = c.places-from.result.0 in
     let hi = c.places-from.result.1 in
     let points = c.as_slice-points.result.now in
-    let long : length (in_range c.args.ask.range (statics_from (group_of c.args.kind) c.args.number c.args.kind c.args.block.now.base c.args.block.now.points)) ≡ length (take (hi - lo) (drop lo points)) =
-    ap (λ (ps : List PointState). length (in_range c.args.ask.range (statics_from (group_of c.args.kind) c.args.number c.args.kind c.args.block.now.base ps))) (sym c.as_slice-points.ensures)
-    ∙ length_named c.args.ask.range (group_of c.args.kind) c.args.number c.args.kind c.args.block.now.base lo hi (hi - lo) points (omega (arith, c.places-from.ensures.ordered)) c.places-from.ensures.named in
+    let long : length (in_range c.args.ask.range
+    (statics_from (group_of c.args.kind) c.args.number c.args.kind c.args.block.now.base c.args.block.now.points))
+    ≡ length (take (hi - lo) (drop lo points)) =
+    ap (λ (ps : List PointState). length (in_range c.args.ask.range
+    (statics_from (group_of c.args.kind) c.args.number c.args.kind c.args.block.now.base ps))) (sym c.as_slice-points.ensures)
+    ∙ length_named c.args.ask.range (group_of c.args.kind) c.args.number c.args.kind c.args.block.now.base lo hi (hi - lo) points
+    (omega (arith, c.places-from.ensures.ordered)) c.places-from.ensures.named in
     let passed_is = c.min-passed.ensures in
     omega arith

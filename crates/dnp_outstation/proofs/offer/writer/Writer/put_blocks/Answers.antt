@@ -16,7 +16,8 @@ returns-then-not-put_block-clause-written c = λ more.
     let blocks = c.args.blocks.now in
     let skip' = c.put_block.new.skip in
     sym (l.invariant.written more)
-    ∙ ap (λ (items : List Item). fill l.self (items ++ more)) (block_first header l.skip skip' r kind l.number block blocks (search rules) c.index-blocks-number.is c.put_block.ensures.skipped)
+    ∙ ap (λ (items : List Item). fill l.self (items ++ more))
+    (block_first header l.skip skip' r kind l.number block blocks (search rules) c.index-blocks-number.is c.put_block.ensures.skipped)
     ∙ puts_full l.self c.put_block.new.self c.put_block.result
     (presents header l.skip (in_range r (statics_from (group_of kind) l.number kind block.base block.points)))
     (presents header skip' (in_range r (statics_in (group_of kind) kind (l.number + 1) (drop (l.number + 1) blocks)))) more
@@ -37,9 +38,11 @@ loop-number-preserved c =
           (presents header l.skip (in_range r (statics_from (group_of kind) l.number kind block.base block.points)))
           (presents header skip' (in_range r (statics_in (group_of kind) kind (l.number + 1) (drop (l.number + 1) blocks)))) more
           c.put_block.ensures.written (search rules))
-          ∙ ap (λ (items : List Item). fill l.self (items ++ more)) (sym (block_first header l.skip skip' r kind l.number block blocks (search rules) c.index-blocks-number.is c.put_block.ensures.skipped))
+          ∙ ap (λ (items : List Item). fill l.self (items ++ more))
+          (sym (block_first header l.skip skip' r kind l.number block blocks (search rules) c.index-blocks-number.is c.put_block.ensures.skipped))
           ∙ l.invariant.written more;
-      skipped = sym (block_skipped l.skip skip' r kind l.number block blocks (search rules) c.index-blocks-number.is c.put_block.ensures.skipped) ∙ l.invariant.skipped;
+      skipped = sym (block_skipped l.skip skip' r kind l.number block blocks (search rules) c.index-blocks-number.is c.put_block.ensures.skipped)
+          ∙ l.invariant.skipped;
       response = c.put_block.ensures.response ∙ l.invariant.response;
       given = c.put_block.ensures.given ∙ l.invariant.given;
     }

@@ -7,7 +7,8 @@ use Rattle.dnp_outstation.proofs.offer.writer.Writer.put_blocks.Given as goal
 -- what is written and what is left to write are the whole, whatever comes behind
 abbrev pub invariant-loop-number : goal.invariant-loop-number
 invariant-loop-number l = record {
-  written : (more : List Item) → fill l.self (presents l.ask.header l.skip (in_range l.ask.range (statics_in (group_of l.kind) l.kind l.number (drop l.number l.blocks))) ++ more)
+  written : (more : List Item) → fill l.self
+      (presents l.ask.header l.skip (in_range l.ask.range (statics_in (group_of l.kind) l.kind l.number (drop l.number l.blocks))) ++ more)
       ≡ fill l.fn.self (presents l.ask.header l.fn.skip (in_range l.ask.range (statics_in (group_of l.kind) l.kind 0 l.blocks)) ++ more);
   skipped : l.skip - length (in_range l.ask.range (statics_in (group_of l.kind) l.kind l.number (drop l.number l.blocks)))
       ≡ l.fn.skip - length (in_range l.ask.range (statics_in (group_of l.kind) l.kind 0 l.blocks));

@@ -1,7 +1,6 @@
-use Rattle.std.proofs.Common.{◌≡◌, refl, sym, subst, ap, arith}
+use Rattle.std.proofs.Common.{refl, sym, subst, ap, arith}
 use Rattle.dnp_objects.specs.Objects.{content_of, objects}
 use Rattle.dnp_appfragment.specs.declared.function.Function.{Function}
-use Rattle.dnp_appfragment.specs.declared.function.Function.TheVariants as function
 use Rattle.dnp_appfragment.specs.declared.table.Form.TheVariants as form
 use Rattle.dnp_appfragment.specs.Table.{form_of, rules, takes_of}
 use Rattle.dnp_appfragment.specs.Headers.{IsHeader}

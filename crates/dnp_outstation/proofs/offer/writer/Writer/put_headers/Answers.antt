@@ -18,8 +18,10 @@ loop-header-preserved g c =
           let before = put.look.held honest in
           let here : s.lanes ≡ after_release (g.L.Lanes.contents l.lanes) from.released.now =
           lanes ∙ ap (λ (t : Stock). after_release t from.released.now) (sym (l.invariant.same before)) in
-          part_put s from.stood l.self.place.given c.put_part.new.self.place.given l.at l.count l.header-iterator.headers (head c.in-Some.header) c.next.new.self.headers
-          l.self c.put_part.new.self c.in_ok-put_part.field-0 more left (put.written honest s points panel here) c.if-not-branch.false (put.given honest s points panel here fits)
+          part_put s from.stood l.self.place.given c.put_part.new.self.place.given l.at l.count l.header-iterator.headers
+          (head c.in-Some.header) c.next.new.self.headers
+          l.self c.put_part.new.self c.in_ok-put_part.field-0 more left (put.written honest s points panel here) c.if-not-branch.false
+          (put.given honest s points panel here fits)
           ∙ l.invariant.written before s points panel lanes more;
       response = put.response ∙ l.invariant.response;
       held = λ honest. l.invariant.held (put.look.held honest);

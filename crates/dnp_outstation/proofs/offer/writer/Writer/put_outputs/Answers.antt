@@ -20,6 +20,7 @@ returns-clause-skipped g c =
     let all : c.from.result ≡ panel.outputs = c.from.ensures ∙ c.outputs.ensures in
     let long : length (in_range c.args.ask.range (outputs_from panel.status 0 panel.outputs)) ≡ c.places-from.result.1 - c.places-from.result.0 =
     ap (λ (n : ℕ). length (in_range c.args.ask.range (outputs_from panel.status 0 n))) (sym all)
-    ∙ length_outputs_named c.args.ask.range panel.status c.places-from.result.0 c.places-from.result.1 c.from.result c.places-from.ensures.ordered c.places-from.ensures.short c.places-from.ensures.named in
+    ∙ length_outputs_named c.args.ask.range panel.status c.places-from.result.0 c.places-from.result.1 c.from.result
+    c.places-from.ensures.ordered c.places-from.ensures.short c.places-from.ensures.named in
     let passed_is = c.min-passed.ensures in
     omega arith
