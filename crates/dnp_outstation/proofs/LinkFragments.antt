@@ -5,7 +5,7 @@ use Rattle.std.specs.List.{All, filter}
 use Rattle.std.specs.List.Sorted.{IsPermutation}
 use Rattle.std.proofs.lemmas.Bool.{cases_lt, lt-ltb, leb-true}
 use Rattle.std.proofs.lemmas.List.{get_or_past, nil_from_length}
-use Rattle.std.proofs.lemmas.List.Elements.{All-nil, All-head, All-tail, All-filter, All-weaker}
+use Rattle.std.proofs.lemmas.List.Elements.{All-head, All-tail, All-filter, All-weaker}
 use Rattle.std.proofs.lemmas.List.Sorted.{IsPermutation-refl, length_permutation}
 use Rattle.dnp_appfragment.specs.declared.function.Function.TheVariants as function
 use Rattle.dnp_objects.specs.declared.row.Row.{Row}
@@ -35,9 +35,9 @@ use Rattle.dnp_outstation.specs.Content.{Content, plain, content_from, content_o
 use Rattle.dnp_outstation.specs.Connection.{has_rows, control_for, fragment_of, unsolicited_of}
 use Rattle.dnp_outstation.proofs.ContentOf.{IsContent, content_done}
 use Rattle.dnp_outstation.proofs.ContentOf.IsContent.{Reads, Plain}
-use Rattle.dnp_outstation.proofs.Rising.{last_or, upto, upto_none}
+use Rattle.dnp_outstation.proofs.Rising.{last_or, upto}
 use Rattle.dnp_outstation.proofs.ByLanes.{IsLow}
-use Rattle.dnp_outstation.proofs.Carried.{lane_rises, last_id_is, fragment_rows, pushed_rows}
+use Rattle.dnp_outstation.proofs.Carried.{last_id_is, fragment_rows, pushed_rows}
 use Rattle.dnp_outstation.proofs.ItemsOf.{held_stand, held_low, pushed_stand, pushed_low}
 use Rattle.dnp_outstation.proofs.Left.{begins_tidy, none_left}
 use Rattle.dnp_outstation.proofs.Reported.{response_is, held_fits, nine_ids, said_and_released}
@@ -174,7 +174,13 @@ pub answer_reports : (s after : State) (o : Panel) (octets : List ℕ) (seq : �
 answer_reports s after o octets seq content sound writable small is =
     let made : IsContent s o content = subst (λ (c : Option Content). IfSome c (IsContent s o)) is (content_done s o octets).content in
     is_reported s o content sound writable made
-    (record { control = control_for true seq content; function = function.Response; iin = indications after content.upto content.bits; headers = content.headers }) refl small refl
+    (record {
+      control = control_for true seq content;
+      function = function.Response;
+      iin = indications after content.upto content.bits;
+      headers = content.headers;
+    })
+    refl small refl
 
 pub further_reports : (s : State) (o : Panel) (stood : ℕ) (place : Place) (headers : List Head) (seq : ℕ) → IsSound s.lanes → AreWritable (source_of s o)
     → IsTidy s.lanes place.given
@@ -195,14 +201,20 @@ pub unsolicited_reports : (s : State) → IsSound s.lanes → HaveIndexes s.lane
 unsolicited_reports s sound indexes few small =
     let content = content_from (pushed s.lanes s.core.enabled) in
     pushed_reports s.lanes s.core.enabled
-    (record { control = unsolicited_control s.core.session.next; function = function.UnsolicitedResponse; iin = indications s content.upto content.bits; headers = content.headers })
+    (record {
+      control = unsolicited_control s.core.session.next;
+      function = function.UnsolicitedResponse;
+      iin = indications s content.upto content.bits;
+      headers = content.headers;
+    })
     sound indexes few refl small refl
 
 pub first_unsolicited_reports : (s : State) → IsSound s.lanes → s.core.session.next < 16
     → Reports s.lanes (unsolicited_of s (plain 0 [])) (record { fir = true; fin = true; con = true; uns = true; seq = s.core.session.next }) no_ids
 first_unsolicited_reports s sound small =
     plain_reports s.lanes
-    (record { control = unsolicited_control s.core.session.next; function = function.UnsolicitedResponse; iin = indications s no_ids 0; headers = [] }) [] sound refl tt refl small refl
+    (record { control = unsolicited_control s.core.session.next; function = function.UnsolicitedResponse; iin = indications s no_ids 0; headers = [] })
+    [] sound refl tt refl small refl
 
 -- ---- a fragment that asks for no confirm
 

@@ -1,5 +1,5 @@
 -- A fragment that leaves something holds something: each item fits alone.
-use Rattle.std.proofs.Common.{◌≡◌, Bool, true, false, IsTrue, refl, sym, ◌∙◌, ap, subst, ℕ, ◌+◌, ◌<◌, ◌≤◌, ◌==◌, ◌||◌, List, [], ◌∷◌, ◌++◌, take, length, arith, Option, None, Some, IfSome, eqb-true}
+use Rattle.std.proofs.Common.{◌≡◌, Bool, true, false, IsTrue, refl, sym, ◌∙◌, ap, subst, ℕ, ◌≤◌, ◌==◌, ◌||◌, List, [], ◌∷◌, length, arith, Option, None, Some, IfSome, eqb-true}
 use Rattle.std.specs.List.{All}
 use Rattle.std.proofs.lemmas.Bool.{le-leb}
 use Rattle.std.proofs.lemmas.List.{length-append}
@@ -9,7 +9,6 @@ use Rattle.dnp_objects.specs.Events.{event_object}
 use Rattle.dnp_objects.specs.declared.row.Kind.{Kind}
 use Rattle.dnp_objects.specs.declared.row.Kind.TheVariants.{Binary, Counter, Analog}
 use Rattle.dnp_appfragment.specs.Headers.{Head, number}
-use Rattle.dnp_appfragment.specs.Items.{Item as Object}
 use Rattle.dnp_appfragment.specs.Written.{is_point_group, point_variation}
 use Rattle.dnp_eventbuf.specs.Sound.{IsSound}
 use Rattle.dnp_outstation.specs.declared.offer.place.Place.{Place}
@@ -18,11 +17,11 @@ use Rattle.dnp_outstation.specs.Items.Thing.{Event, Present}
 use Rattle.dnp_outstation.specs.Layout.{object_of, fits_fragment, response_size}
 use Rattle.dnp_outstation.specs.Offer.{held_of, offered_of, offered}
 use Rattle.dnp_outstation.specs.Said.{CanStand, AreWritable}
-use Rattle.dnp_outstation.proofs.Grows.{own, overhead, one_size}
+use Rattle.dnp_outstation.proofs.Grows.{one_size}
 use Rattle.dnp_outstation.proofs.ItemsOf.{left_stand}
 use Rattle.dnp_outstation.proofs.Left.{left_none}
 use Rattle.dnp_outstation.proofs.Longest.{longest_longest}
-use Rattle.dnp_outstation.proofs.Written.{StandsAlone, stands_alone}
+use Rattle.dnp_outstation.proofs.Written.{stands_alone}
 
 -- ---- no object is long
 
