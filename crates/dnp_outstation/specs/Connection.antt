@@ -27,6 +27,7 @@ use Rattle.dnp_outstation.specs.declared.session.Session.{Session}
 use Rattle.dnp_outstation.specs.Items.{last_in, enabled_lanes}
 use Rattle.dnp_outstation.specs.Offer.{pushed}
 use Rattle.dnp_outstation.specs.Content.{Content, Executed, content_from, content_of, read_content, indications}
+use Rattle.dnp_outstation.specs.Controls.{content_at}
 
 -- ---- what came
 
@@ -149,7 +150,7 @@ abbrev pub asked : State → List ℕ → State
 asked s octets = with_session s (new_request s.core.session octets)
 
 abbrev pub on_request : State → Panel → ℕ → List ℕ → Step
-on_request s o now octets = replied now (control_in octets).seq (content_of (asked s octets) o octets)
+on_request s o now octets = replied now (control_in octets).seq (content_at (asked s octets) o now octets)
 
 -- a READ is held until the unsolicited response is confirmed
 abbrev pub held : Session → Session

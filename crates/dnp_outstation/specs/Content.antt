@@ -206,7 +206,7 @@ delay_executed s = answered s (plain 0 (no_delay ∷ []))
 
 -- ---- one request
 
--- the functions that aren't written yet are unknown ones
+-- controls are said in Controls.antt; other functions are unknown
 abbrev pub by_function : State → Panel → List Head → Function → Executed
 by_function s o headers function.Read = read_executed s o headers
 by_function s o headers function.Write = write_executed s headers
