@@ -57,7 +57,10 @@ fn taken(sent: &[Option<Fragment>; 2]) -> Option<(u64, Option<u8>)> {
     let fragment = sent[0].as_ref()?;
     let control = *fragment.as_slice().first()?;
     let asks = control & 0x20 != 0;
-    Some((number_of(fragment), if asks { Some(control & 15) } else { None }))
+    Some((
+        number_of(fragment),
+        if asks { Some(control & 15) } else { None },
+    ))
 }
 
 /// Sends a READ and each confirm that is asked for, looks at the timers, and makes a number of what
@@ -109,9 +112,12 @@ pub extern "C" fn dnp_bench_poll_events(alloc: Global, count: u64, events: u16) 
         let read = [
             control, 0x01, 0x3C, 0x02, 0x06, 0x3C, 0x03, 0x06, 0x3C, 0x04, 0x06,
         ];
-        let Some(number) = change(alloc, &mut station, turn, events)
-            .and_then(|_| poll(alloc, &mut station, &read, 2))
-        else {
+        let Some(number) = change(alloc, &mut station, turn, events).and_then(|_| poll(
+            alloc,
+            &mut station,
+            &read,
+            2,
+        )) else {
             return u64::MAX;
         };
         sum = sum.wrapping_mul(31).wrapping_add(number);

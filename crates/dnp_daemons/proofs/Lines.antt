@@ -53,9 +53,13 @@ all_begun e f n k count start text all past begun =
 -- lines behind lines
 pub lines_joined : (fs gs : List Frame) (a b : List ℕ) → AreLinesOf fs a → AreLinesOf gs b → AreLinesOf (fs ++ gs) (a ++ b)
 lines_joined [] gs a b first second = subst (λ (t : List ℕ). AreLinesOf gs (t ++ b)) (sym first) second
-lines_joined (f ∷ fs) gs a b (unit, rest, spells, later, is) second =
-    (unit, rest ++ b, spells, lines_joined fs gs rest b later second,
-      ap (λ (t : List ℕ). t ++ b) is ∙ append_assoc (line_of unit) (10 ∷ rest) b)
+lines_joined (f ∷ fs) gs a b (unit, rest, spells, later, is) second = (
+  unit,
+  rest ++ b,
+  spells,
+  lines_joined fs gs rest b later second,
+  ap (λ (t : List ℕ). t ++ b) is ∙ append_assoc (line_of unit) (10 ∷ rest) b,
+)
 
 pub appended_more : (start text new : List ℕ) (fs gs : List Frame) → AreAppended start fs text → AreAppended text gs new → AreAppended start (fs ++ gs) new
 appended_more start text new fs gs first second = record {

@@ -11,8 +11,8 @@ ghost use Rattle.dnp_daemons.specs.steps.Appended.{AreAppended};
 use crate::octets::line_of_octets;
 use arrayvec::ArrayVec;
 use dnp_line::Port;
-use dnp_outstation::Fragment;
 use dnp_linkframe::MAX_UNIT;
+use dnp_outstation::Fragment;
 use dnp_transport::{MAX_FRAGMENT, segment_count};
 use std::alloc::AllocError;
 

@@ -103,7 +103,7 @@ abbrev pub operate_executed : State → Panel → ℕ → List ℕ → List Head
 operate_executed s o now octets headers =
     if are_too_many o (commands_in headers) then direct_executed (with_select s None) o headers
     else operate_by (answer s.core.session.selects now (control_of (slice_index octets 0)).seq (objects_in octets) s.core.times.select_ms)
-        (with_select s None) o headers
+    (with_select s None) o headers
 
 -- DIRECT_OPERATE_NR has no response, in error either
 abbrev pub silently : Executed → Executed

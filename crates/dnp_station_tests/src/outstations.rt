@@ -1,7 +1,7 @@
 //! What an outstation answers to polls and their confirms, octet for octet.
 
-use Step::{Gets, Reads, Ticks};
 use crate::plans::{Alike, plan_of};
+use Step::{Gets, Reads, Ticks};
 use dnp_controls::NoOutputs;
 use dnp_eventbuf::PlainLanes;
 use dnp_objects::Kind::{Analog, Binary, Counter};
@@ -105,14 +105,19 @@ const CLEARS: Step<'static> = Step::Gets(
 // Points from index 0 on.
 #[rattlefmt::skip]
 const BINARIES_3_OF_CLASS_0: Alike = Alike { kind: Kind::Binary, base: 0, count: 3, class: 0, deadband: 0 };
+
 #[rattlefmt::skip]
 const BINARIES_4: Alike = Alike { kind: Kind::Binary, base: 0, count: 4, class: 1, deadband: 0 };
+
 #[rattlefmt::skip]
 const BINARY: Alike = Alike { kind: Kind::Binary, base: 0, count: 1, class: 1, deadband: 0 };
+
 #[rattlefmt::skip]
 const COUNTER: Alike = Alike { kind: Kind::Counter, base: 0, count: 1, class: 2, deadband: 0 };
+
 #[rattlefmt::skip]
 const ANALOGS_3: Alike = Alike { kind: Kind::Analog, base: 0, count: 3, class: 3, deadband: 0 };
+
 #[rattlefmt::skip]
 const ANALOG: Alike = Alike { kind: Kind::Analog, base: 0, count: 1, class: 1, deadband: 0 };
 
@@ -196,7 +201,10 @@ fn polls_step_by_step(rt: HostRuntime) {
     for (case, (blocks, capacity, steps)) in CASES.into_iter().enumerate() {
         let mut station = station_of(alloc, blocks, [capacity; 9]).expect(&rt, "a station");
         for (number, step) in steps.iter().enumerate() {
-            assert!(rt; does(&mut station, alloc, *step), "case {case}, step {number}");
+            assert!(rt;
+                does(&mut station, alloc, *step),
+                "case {case}, step {number}"
+            );
         }
     }
 }
@@ -217,15 +225,22 @@ fn answers(station: &mut Station, alloc: Global, octets: &[u8], len: usize, begi
 #[test]
 fn a_response_in_two_fragments(rt: HostRuntime) {
     let alloc = rt.alloc();
-    let mut station =
-        station_of(alloc, &[ANALOG], [200; 9]).expect(&rt, "a station");
+    let mut station = station_of(alloc, &[ANALOG], [200; 9]).expect(&rt, "a station");
     assert!(rt; does(&mut station, alloc, CLEARS));
     for value in 1..158 {
         let reads = Step::Reads(Kind::Analog, 0, value, Some(1_000), &[]);
         assert!(rt; does(&mut station, alloc, reads), "{value}");
     }
     let first = [0xA0, 0x81, 0x02, 0x00, 0x20, 0x03, 0x28, 0x9C, 0x00];
-    assert!(rt; answers(&mut station, alloc, &[0xC0, 0x01, 0x3C, 0x02, 0x06], 2_037, &first));
+    assert!(rt;
+        answers(
+            &mut station,
+            alloc,
+            &[0xC0, 0x01, 0x3C, 0x02, 0x06],
+            2_037,
+            &first
+        )
+    );
     let second = [0x61, 0x81, 0x00, 0x00, 0x20, 0x03, 0x28, 0x01, 0x00];
     assert!(rt; answers(&mut station, alloc, &[0xC0, 0x00], 22, &second));
 }

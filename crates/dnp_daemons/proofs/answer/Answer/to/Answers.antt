@@ -18,6 +18,5 @@ returns c =
     let some : c.in_ok-lines.lines.items ≢ [] = λ none.
     let test : (length c.as_slice.result.now == 0) ≡ false = sym c.is_empty.ensures ∙ c.if-is_empty.false in
     is_some (length c.as_slice.result.now) test (ap (λ (t : List ℕ). length t) (c.as_slice.ensures.value ∙ none)) in
-
     let spells : Spells c.in-Some.octets.items c.in-Ok.frame = search rules in
     spoken c.args.text.now c.args.own c.args.peer c.in-Some.octets.items c.in-Ok.frame c.in_ok-lines.lines.items c.in-Some.ensures.found spells c.in_ok-lines.ensures some
