@@ -83,14 +83,18 @@ const TIMES: Times = Times {
     unsolicited: false,
 };
 
-/// An open outstation with these points and capacities.
-fn station_of(alloc: Global, blocks: &[Alike], capacities: [u32; 9]) -> Option<Station> {
+/// An open outstation with these points, and lanes of two rows each, or of 200.
+fn station_of(alloc: Global, blocks: &[Alike], has_small_lanes: bool) -> Option<Station> {
     let Ok(Ok(plan)) = plan_of(alloc, blocks) else {
         return None;
     };
     let points = PointDb::new(alloc, plan).ok()?;
-    let lanes = PlainLanes::new(alloc, capacities).ok()?;
-    let mut station = Outstation::new(points, lanes, NoOutputs, TIMES);
+    let lanes = if has_small_lanes {
+        PlainLanes::new(alloc, [2; 9])
+    } else {
+        PlainLanes::new(alloc, [200; 9])
+    };
+    let mut station = Outstation::new(points, lanes.ok()?, NoOutputs, TIMES);
     station.opened(alloc, 0).ok()?;
     Some(station)
 }
@@ -121,11 +125,12 @@ const ANALOGS_3: Alike = Alike { kind: Kind::Analog, base: 0, count: 3, class: 3
 #[rattlefmt::skip]
 const ANALOG: Alike = Alike { kind: Kind::Analog, base: 0, count: 1, class: 1, deadband: 0 };
 
-/// The points of an outstation, the capacity of its lanes, and what it does, from its opening on.
+/// The points of an outstation, whether its lanes take two rows each, and what it does, from its
+/// opening on.
 #[rattlefmt::skip]
-const CASES: [(&[Alike], u32, &[Step<'static>]); 6] = [
+const CASES: [(&[Alike], bool, &[Step<'static>]); 6] = [
     // Nothing but the indications: the restart, and what is unknown, or is no point.
-    (&[], 100, &[
+    (&[], false, &[
         Gets(&[0xC0, 0x0D], &[0xC0, 0x81, 0x80, 0x01], &[]),
         Gets(&[0xC0, 0x01, 0x6E, 0x00, 0x06], &[0xC0, 0x81, 0x80, 0x02], &[]),
         Gets(&[0xC0, 0x01, 0x01, 0x02, 0x00, 0x00, 0x00], &[0xC0, 0x81, 0x80, 0x04], &[]),
@@ -135,12 +140,12 @@ const CASES: [(&[Alike], u32, &[Step<'static>]); 6] = [
         Gets(&[0xC1, 0x02, 0x50, 0x01, 0x00, 0x06, 0x06, 0x00], &[0xC1, 0x81, 0x00, 0x04], &[]),
     ]),
     // Present values of a block.
-    (&[BINARIES_3_OF_CLASS_0], 100, &[
+    (&[BINARIES_3_OF_CLASS_0], false, &[
         Gets(&[0xC0, 0x01, 0x01, 0x00, 0x00, 0x01, 0x02],
             &[0xC0, 0x81, 0x80, 0x00, 0x01, 0x02, 0x01, 0x01, 0x00, 0x02, 0x00, 0x02, 0x02], &[]),
     ]),
     // An event is read, confirmed and gone; the same READ again executes nothing.
-    (&[BINARIES_4], 100, &[
+    (&[BINARIES_4], false, &[
         CLEARS,
         Reads(Binary, 3, 1, Some(1_000), &[]),
         Gets(&[0xC1, 0x01, 0x3C, 0x02, 0x06],
@@ -153,7 +158,7 @@ const CASES: [(&[Alike], u32, &[Step<'static>]); 6] = [
     ]),
     // An event that comes between a READ and its repetition is left for the next one. A confirm
     // that comes after its timer ended releases nothing, and after the READ was repeated it does.
-    (&[BINARIES_4], 100, &[
+    (&[BINARIES_4], false, &[
         CLEARS,
         Reads(Binary, 3, 1, Some(1_000), &[]),
         Gets(&[0xC1, 0x01, 0x3C, 0x02, 0x06],
@@ -169,7 +174,7 @@ const CASES: [(&[Alike], u32, &[Step<'static>]); 6] = [
             &[0xE2, 0x81, 0x00, 0x00, 0x02, 0x02, 0x28, 0x01, 0x00, 0x03, 0x00, 0x01, 0xD0, 0x07, 0, 0, 0, 0], &[]),
     ]),
     // A lane of two rows takes three: the overflow is told until a release leaves no lane full.
-    (&[BINARY], 2, &[
+    (&[BINARY], true, &[
         CLEARS,
         Reads(Binary, 0, 1, Some(1), &[]),
         Reads(Binary, 0, 0, Some(2), &[]),
@@ -181,7 +186,7 @@ const CASES: [(&[Alike], u32, &[Step<'static>]); 6] = [
         Gets(&[0xC2, 0x01, 0x3C, 0x02, 0x06], &[0xC2, 0x81, 0x00, 0x00], &[]),
     ]),
     // Two classes in one READ, the second up to one row, without times; and a negative value.
-    (&[BINARY, COUNTER, ANALOGS_3], 100, &[
+    (&[BINARY, COUNTER, ANALOGS_3], false, &[
         CLEARS,
         Reads(Binary, 0, 1, None, &[]),
         Reads(Counter, 0, 7, None, &[]),
@@ -198,8 +203,8 @@ const CASES: [(&[Alike], u32, &[Step<'static>]); 6] = [
 #[test]
 fn polls_step_by_step(rt: HostRuntime) {
     let alloc = rt.alloc();
-    for (case, (blocks, capacity, steps)) in CASES.into_iter().enumerate() {
-        let mut station = station_of(alloc, blocks, [capacity; 9]).expect(&rt, "a station");
+    for (case, (blocks, has_small_lanes, steps)) in CASES.into_iter().enumerate() {
+        let mut station = station_of(alloc, blocks, has_small_lanes).expect(&rt, "a station");
         for (number, step) in steps.iter().enumerate() {
             assert!(rt;
                 does(&mut station, alloc, *step),
@@ -225,7 +230,7 @@ fn answers(station: &mut Station, alloc: Global, octets: &[u8], len: usize, begi
 #[test]
 fn a_response_in_two_fragments(rt: HostRuntime) {
     let alloc = rt.alloc();
-    let mut station = station_of(alloc, &[ANALOG], [200; 9]).expect(&rt, "a station");
+    let mut station = station_of(alloc, &[ANALOG], false).expect(&rt, "a station");
     assert!(rt; does(&mut station, alloc, CLEARS));
     for value in 1..158 {
         let reads = Step::Reads(Kind::Analog, 0, value, Some(1_000), &[]);
