@@ -6,7 +6,7 @@ ghost use Rattle.dnp_controls.specs.Selecting.{deadline};
 ghost use Rattle.dnp_outstation.specs.Answering.{content_by, sent_by, KeepsWhole};
 ghost use Rattle.dnp_outstation.specs.State.{State, with_session, nothing, sending};
 ghost use Rattle.dnp_outstation.specs.Connection.{has_rows, asks_confirm, fragment_of, further_sent, responds, responds_further};
-ghost use Rattle.dnp_outstation.specs.Station.{actions_of};
+ghost use Rattle.dnp_outstation.specs.Station.{actions_of, HasRoom};
 
 use crate::actions::Actions;
 use crate::answer::Answer;
@@ -99,6 +99,7 @@ impl Actions {
         ensures writer { writer.new ≡ writer.old }
         ensures whole { 4 ≤ length (sent_by front writer.old) }
         ensures value { actions_of self.new ≡ record (sending (sent_by front writer.old)) { discarded = discarded } }
+        ensures room { HasRoom self.new }
     {
         // What is left says that the fragment fits.
         let _left = writer.builder.left();
@@ -197,6 +198,7 @@ impl Session {
             → responds_further s now answer.now.stood seq (content_by writer.old answer.now)
             ≡ record { state = with_session s self.new; does = record nothing { send = (actions_of actions.new).send } } }
         ensures discarded { actions_of actions.new ≡ record nothing { send = (actions_of actions.new).send; discarded = discarded } }
+        ensures room { HasRoom actions.new }
         ensures unsolicited { self.new.unsolicited ≡ self.old.unsolicited }
         ensures whole { All (λ fragment. 4 ≤ length fragment) (actions_of actions.new).send }
         ensures keeps { KeepsWhole self.new }

@@ -36,7 +36,7 @@ returns-in_default-next-clause-confirmed g c = λ honest p.
     let goes = c.in_ok-next.ensures.written honest' after c.args.now seq refl (search rules) lanes_is ∙ ap (λ (n : Option Answer). goes_on_by after c.args.now seq c.write_next.new.writer n) c.in_default-next.is in
     ap (λ (k : Core). let t = state_of k old p in with_that t t.core.session.awaited (on_confirm t o c.args.now)) (sym c.self.view_is)
     ∙ ap (λ (x : Option Awaited). with_that s x (on_confirm s o c.args.now)) c.in-Some.is
-    ∙ confirmed_step s o c.args.now w c.confirm.new.self new (still after) c.of-rows.result _ c.confirm.ensures.value lanes_is goes rows_is c.set_discarding.ensures
+    ∙ confirmed_step s o c.args.now w c.confirm.new.self new (still after) c.of-rows.result _ c.confirm.ensures.value lanes_is goes rows_is c.set_discarding.ensures.value
 
 pub returns-clause-confirmed : goal.returns-clause-confirmed
 returns-clause-confirmed g c = λ honest p.
