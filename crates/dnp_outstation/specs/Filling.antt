@@ -2,6 +2,7 @@
 -- is offered (Offer.antt).
 use Rattle.std.specs.Prelude.{ℕ, ◌==◌, Bool, true, false, ◌&&◌, if◌then◌else◌, nat_le, max, List, [], ◌∷◌, ◌++◌, map, slice_set, slice_index, Option, None, Some}
 use Rattle.dnp_objects.specs.Lanes.{lane_number}
+use Rattle.dnp_appfragment.specs.declared.function.Function.{Function}
 use Rattle.dnp_appfragment.specs.declared.function.Function.TheVariants as function
 use Rattle.dnp_appfragment.specs.Built as built
 use Rattle.dnp_appfragment.specs.Built.{Built}
@@ -52,11 +53,18 @@ is_same_run (OfBlock header group block) NoRun = false
 is_same_run (OfBlock header group block) (OfLane lane) = false
 is_same_run (OfBlock header group block) (OfBlock header' group' block') = header == header' && (group == group' && block == block')
 
+abbrev pub no_headers_of : Function → Built
+no_headers_of f = record { function = f; ended = []; run = None }
+
 abbrev pub no_headers : Built
-no_headers = record { function = function.Response; ended = []; run = None }
+no_headers = no_headers_of function.Response
+
+-- an empty fragment of this function, for what has come to a place
+abbrev pub empty_for : Function → Place → Writer
+empty_for f place = record { builder = no_headers_of f; run = NoRun; place = place; upto = no_ids }
 
 abbrev pub empty_from : Place → Writer
-empty_from place = record { builder = no_headers; run = NoRun; place = place; upto = no_ids }
+empty_from place = empty_for function.Response place
 
 -- a new header begins where the lane changes, or for present values the header of the READ, the group or the block
 abbrev pub built_for : Writer → Run → Built
