@@ -19,11 +19,13 @@ mod offer;
 mod outstation;
 mod outstation_core;
 mod receive;
+mod released;
 mod request;
 mod rows;
 mod sending;
 mod sequence;
 mod session;
+mod unsolicited;
 
 pub use actions::Actions;
 pub use fault::Fault;

@@ -1,5 +1,6 @@
 //! What a fragment of a response holds: rows of lanes and present values of points, as far as they fit.
 
+pub mod enabled;
 pub mod inside;
 pub mod parts;
 pub mod place;
