@@ -9,7 +9,6 @@ use Rattle.dnp_controls.specs.Panel.{Panel}
 use Rattle.dnp_eventbuf.specs.Stock.{with_rows, dropped_by}
 use Rattle.dnp_outstation.specs.declared.case.Case.TheVariants.{PassedOver}
 use Rattle.dnp_outstation.specs.Offer.{pushed}
-use Rattle.dnp_outstation.specs.Stage.{is_unsolicited}
 use Rattle.dnp_outstation.specs.State.{Core, State, Step, nothing, still, holds_read, is_free}
 use Rattle.dnp_outstation.specs.Content.{content_from, content_of}
 use Rattle.dnp_outstation.specs.Connection.{is_looked_at, control_in, function_in, case_of, starts, at_end, has_enabled_rows}
@@ -46,7 +45,7 @@ closed_ticked s now closed = rw closed refl
 closed_end : (now : ℕ) (step : Step) → step.state.core.is_open ≡ false → at_end now step ≡ step
 closed_end now step closed =
     ap (λ (b : Bool). if b then starts step now (content_from (pushed step.state.lanes step.state.core.enabled)) else step)
-    (and_right (is_unsolicited step.state.core.times.unsolicited)
+    (and_right (step.state.core.times.unsolicited)
     (step.state.core.announced && (step.state.core.is_open && (is_free step.state.core && has_enabled_rows step.state)))
     (and_right step.state.core.announced (step.state.core.is_open && (is_free step.state.core && has_enabled_rows step.state))
     (and_left step.state.core.is_open (is_free step.state.core && has_enabled_rows step.state) closed)))
@@ -75,16 +74,16 @@ starts_by on announced opened free rows is =
 
 pub ends_as : (now : ℕ) (step : Step) → EndsAs now step
 ends_as now step =
-    by (is_unsolicited step.state.core.times.unsolicited &&
+    by (step.state.core.times.unsolicited &&
     (step.state.core.announced && (step.state.core.is_open && (is_free step.state.core && has_enabled_rows step.state)))) refl
   where
     by : (b : Bool)
-        → (is_unsolicited step.state.core.times.unsolicited &&
+        → (step.state.core.times.unsolicited &&
         (step.state.core.announced && (step.state.core.is_open && (is_free step.state.core && has_enabled_rows step.state)))) ≡ b
         → EndsAs now step
     by false is = inl (ap (λ (b : Bool). if b then starts step now (content_from (pushed step.state.lanes step.state.core.enabled)) else step) is)
     by true is =
-        let both = starts_by (is_unsolicited step.state.core.times.unsolicited) step.state.core.announced step.state.core.is_open (is_free step.state.core)
+        let both = starts_by (step.state.core.times.unsolicited) step.state.core.announced step.state.core.is_open (is_free step.state.core)
         (has_enabled_rows step.state) is in
         let awaits =
         and_parts (is_none step.state.core.session.awaited)
