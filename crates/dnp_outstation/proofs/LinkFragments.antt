@@ -1,5 +1,5 @@
 -- What the fragments of an outstation report.
-use Rattle.std.proofs.Common.{◌≡◌, ◌⊎◌, inl, inr, Bool, true, false, refl, sym, ◌∙◌, ap, subst, ℕ, ◌<◌, ◌≤◌, ◌||◌, nat_le, nat_lt, zero, suc, cond, List, [], ◌∷◌, map, length, arith, Option, Some, IfSome}
+use Rattle.std.proofs.Common.{◌≡◌, ◌⊎◌, inl, inr, Bool, true, false, refl, sym, ◌∙◌, ap, subst, ℕ, ◌<◌, ◌≤◌, ◌^◌, ◌||◌, nat_le, nat_lt, zero, suc, cond, List, [], ◌∷◌, map, length, arith, Option, Some, IfSome}
 use Rattle.std.specs.Prelude.{slice_index}
 use Rattle.std.specs.List.{All, filter}
 use Rattle.std.specs.List.Sorted.{IsPermutation}

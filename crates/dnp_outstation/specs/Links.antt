@@ -1,6 +1,6 @@
 -- Definition: what the law of a link sees of the fragments that an outstation sends, and of what it performs and
 -- releases (IEEE Std 1815-2012, application layer: responses, unsolicited responses, confirms, select before operate).
-use Rattle.std.specs.Prelude.{◌≡◌, ◌≢◌, ◌⊎◌, ℕ, ◌+◌, ◌≤◌, ◌<◌, Bool, true, false, if◌then◌else◌, List, [], ◌++◌, length, map, filter, Option, None, Some, Result, Ok, Err}
+use Rattle.std.specs.Prelude.{◌≡◌, ◌≢◌, ◌⊎◌, ℕ, ◌≤◌, ◌<◌, Bool, true, false, if◌then◌else◌, List, [], ◌++◌, length, map, filter, None, Some, IsSome, Result, Ok, Err}
 use Rattle.std.specs.List.Sorted.{IsPermutation}
 use Rattle.dnp_objects.specs.Counts.{IsCoveredBy}
 use Rattle.dnp_objects.specs.declared.command.Command.{Command}
@@ -15,14 +15,15 @@ use Rattle.dnp_controls.specs.Panel.{Panel}
 use Rattle.dnp_controls.specs.Selecting.{Select, GoesWith, IsRunning}
 use Rattle.dnp_eventbuf.specs.Buffered.{buffered_in, buffered_row, id_limit, is_upto}
 use Rattle.dnp_eventbuf.specs.Stock.{Stock, without, all_up_to}
-use Rattle.dnp_outstation.specs.declared.session.Session.{Session}
+use Rattle.dnp_outstation.specs.declared.case.Case.{Case}
+use Rattle.dnp_outstation.specs.declared.case.Case.TheVariants.{PassedOver, Confirms, ConfirmsUnsolicited, Stray, Again, Waits, Asks}
+use Rattle.dnp_outstation.specs.declared.session.Unsolicited.{Unsolicited}
 use Rattle.dnp_outstation.specs.Offer.{pushed}
 use Rattle.dnp_outstation.specs.Said.{rows_said}
-use Rattle.dnp_outstation.specs.State.{Core, State, Step, still, holds_read}
-use Rattle.dnp_outstation.specs.Content.{content_from, plain}
+use Rattle.dnp_outstation.specs.State.{Core, State, Step, new_session, holds_read}
+use Rattle.dnp_outstation.specs.Content.{content_from}
 use Rattle.dnp_outstation.specs.Controls.{commands_in, objects_in}
-use Rattle.dnp_outstation.specs.Connection.{control_in, function_in, starts, at_end}
-use Rattle.dnp_outstation.specs.Calls.{opened_of}
+use Rattle.dnp_outstation.specs.Connection.{is_looked_at, control_in, function_in, awaited_number, starts, at_end}
 
 -- ---- fragments
 
@@ -54,6 +55,10 @@ pub record KeepsConnection (old new : State) : Type 0 where
   pub lanes : new.lanes ≡ old.lanes
 
 -- ---- unsolicited responses
+
+-- a connection begins
+abbrev pub begun : State → State
+begun s = record s { core = record s.core { is_open = true; session = new_session } }
 
 -- what the end of a call adds: nothing, or an unsolicited response, where the outstation is open, awaits no confirm and
 -- holds no READ
@@ -111,12 +116,73 @@ pub record ReleasesNone (old : State) (step : Step) : Type 0 where
   pub lanes : step.state.lanes ≡ old.lanes
   pub discarded : step.does.discarded ≡ []
 
+-- ---- a READ that is held
+
+-- an unsolicited response was confirmed, and its rows left
+abbrev pub unsolicited_confirmed : State → Unsolicited → State
+unsolicited_confirmed s w = record s {
+  core = record s.core { announced = true; session = record s.core.session { unsolicited = None } };
+  lanes = without s.lanes w.upto;
+}
+
+-- ---- the last request again
+
+-- nothing is executed
+pub record ExecutesNothing (old new : State) : Type 0 where
+  pub restart : new.core.restart ≡ old.core.restart
+  pub enabled : new.core.enabled ≡ old.core.enabled
+  pub announced : new.core.announced ≡ old.core.announced
+  pub points : new.core.points ≡ old.core.points
+  pub times : new.core.times ≡ old.core.times
+  pub request : new.core.session.request ≡ old.core.session.request
+  pub response : new.core.session.response ≡ old.core.session.response
+  pub last : new.core.session.last ≡ old.core.session.last
+  pub selects : new.core.session.selects ≡ old.core.session.selects
+  pub lanes : new.lanes ≡ old.lanes
+  pub performed : new.performed ≡ old.performed
+
+-- ---- what each case says of what came
+
+-- a confirm, of an unsolicited response or not, with the number that is awaited
+pub record ComesConfirm (c : Core) (octets : List ℕ) (uns : Bool) : Type 0 where
+  pub is_looked_at : is_looked_at c octets ≡ true
+  pub function_is : function_in octets ≡ function_octet function.Confirm
+  pub uns_is : (control_in octets).uns ≡ uns
+  pub number : awaited_number c.session uns ≡ Some (control_in octets).seq
+
+-- a confirm of what isn't awaited
+pub record ComesStray (c : Core) (octets : List ℕ) : Type 0 where
+  pub is_looked_at : is_looked_at c octets ≡ true
+  pub function_is : function_in octets ≡ function_octet function.Confirm
+  pub number : awaited_number c.session (control_in octets).uns ≢ Some (control_in octets).seq
+
+-- the last request
+pub record ComesAgain (c : Core) (octets : List ℕ) : Type 0 where
+  pub is_looked_at : is_looked_at c octets ≡ true
+  pub no_confirm : function_in octets ≢ function_octet function.Confirm
+  pub has_last : IsSome c.session.last
+  pub same : octets ≡ c.session.request
+
+-- another request than the last one
+pub record ComesOther (c : Core) (octets : List ℕ) : Type 0 where
+  pub is_looked_at : is_looked_at c octets ≡ true
+  pub no_confirm : function_in octets ≢ function_octet function.Confirm
+  pub other : IsSome c.session.last → octets ≢ c.session.request
+
+abbrev pub CaseSays : Core → List ℕ → Case → Type 0
+CaseSays c octets PassedOver = is_looked_at c octets ≡ false
+CaseSays c octets Confirms = ComesConfirm c octets false
+CaseSays c octets ConfirmsUnsolicited = ComesConfirm c octets true
+CaseSays c octets Stray = ComesStray c octets
+CaseSays c octets Again = ComesAgain c octets
+CaseSays c octets Waits = ComesOther c octets × (function_in octets ≡ function_octet function.Read) × IsSome c.session.unsolicited
+CaseSays c octets Asks = ComesOther c octets × (function_in octets ≡ function_octet function.Read → c.session.unsolicited ≡ None)
+
 -- ---- what stands at all times
 
--- the number of the next unsolicited response has four bits, no more classes are enabled than there are, what is held is
--- a READ, and a response and an unsolicited one are never awaited at once
+-- the number of the next unsolicited response has four bits, no more classes are enabled than there are, and what is
+-- held is a READ
 pub record IsInOrder (c : Core) : Type 0 where
   pub number : c.session.next < 16
   pub classes : length c.enabled ≤ 3
   pub held : holds_read c.session.last ≡ true → function_in c.session.request ≡ function_octet function.Read
-  pub one : (c.session.awaited ≡ None) ⊎ (c.session.unsolicited ≡ None)
