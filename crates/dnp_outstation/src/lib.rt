@@ -8,6 +8,7 @@ mod change;
 mod confirm;
 mod connection;
 mod delay;
+mod ending;
 mod execute;
 mod fault;
 mod fault_from;
