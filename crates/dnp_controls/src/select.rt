@@ -103,6 +103,8 @@ impl Selects {
         ensures forgotten { self.new ≡ None }
         ensures stands { (before : List SelectCall) → Stands before self.old → Stands (Forgetting ∷ before) self.new }
     {
-        self.kept = None;
+        if self.kept.is_some() {
+            self.kept = None;
+        }
     }
 }

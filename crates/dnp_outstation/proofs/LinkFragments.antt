@@ -1,5 +1,5 @@
 -- What the fragments of an outstation report.
-use Rattle.std.proofs.Common.{◌≡◌, ◌⊎◌, inl, inr, Bool, true, false, refl, sym, ◌∙◌, ap, subst, ℕ, ◌<◌, ◌≤◌, ◌||◌, nat_le, nat_lt, zero, suc, cond, List, [], ◌∷◌, map, length, arith, Option, Some, IfSome}
+use Rattle.std.proofs.Common.{◌≡◌, ◌⊎◌, inl, inr, Bool, true, false, refl, sym, ◌∙◌, ap, subst, ℕ, ◌<◌, ◌≤◌, ◌^◌, ◌||◌, nat_le, nat_lt, zero, suc, cond, List, [], ◌∷◌, map, length, arith, Option, Some, IfSome}
 use Rattle.std.specs.Prelude.{slice_index}
 use Rattle.std.specs.List.{All, filter}
 use Rattle.std.specs.List.Sorted.{IsPermutation}
@@ -32,8 +32,9 @@ use Rattle.dnp_outstation.specs.Said.{rows_said, CanStand, AreWritable, HaveInde
 use Rattle.dnp_outstation.specs.Links.{Reports}
 use Rattle.dnp_outstation.specs.State.{State}
 use Rattle.dnp_outstation.specs.Content.{Content, plain, content_from, content_of, read_content, source_of, indications}
+use Rattle.dnp_outstation.specs.Controls.{content_at}
 use Rattle.dnp_outstation.specs.Connection.{has_rows, control_for, fragment_of, unsolicited_of}
-use Rattle.dnp_outstation.proofs.ContentOf.{IsContent, content_done}
+use Rattle.dnp_outstation.proofs.ContentOf.{IsContent, HoldNoEvents, no_headers, delay_alone, no_events_fine, content_answered, content_done}
 use Rattle.dnp_outstation.proofs.ContentOf.IsContent.{Reads, Plain}
 use Rattle.dnp_outstation.proofs.Rising.{last_or, upto}
 use Rattle.dnp_outstation.proofs.ByLanes.{IsLow}
@@ -160,19 +161,18 @@ abbrev IsReported : State → Content → Type 0
 IsReported s content = (answered : Answered) → answered.headers ≡ content.headers → IsControl answered.control → is_response answered.function ≡ true
     → Reports s.lanes (response_octets answered) answered.control content.upto
 
-is_reported : (s : State) (o : Panel) (content : Content) → IsSound s.lanes → AreWritable (source_of s o) → IsContent s o content → IsReported s content
+is_reported : (s : State) (o : Panel) (content : Content) → IsSound s.lanes → AreWritable (source_of s o) → IsContent HoldNoEvents s o content → IsReported s content
 is_reported s o _ sound writable (Reads headers) =
     λ answer same control function. read_reports s o (last_in s.lanes) first_place headers answer sound writable
     (begins_tidy s.lanes sound) refl same control function
-is_reported s o _ sound writable (Plain bits headers stand none) =
-    λ answer same control function. plain_reports s.lanes answer headers sound same stand none control function
+is_reported s o _ sound writable (Plain bits headers fine) =
+    λ answer same control function. plain_reports s.lanes answer headers sound same fine.stand fine.none control function
 
 -- ---- the fragments
 
-pub answer_reports : (s after : State) (o : Panel) (octets : List ℕ) (seq : ℕ) (content : Content) → IsSound s.lanes → AreWritable (source_of s o) → seq < 16
-    → (content_of s o octets).content ≡ Some content → Reports s.lanes (fragment_of after true seq content) (control_for true seq content) content.upto
-answer_reports s after o octets seq content sound writable small is =
-    let made : IsContent s o content = subst (λ (c : Option Content). IfSome c (IsContent s o)) is (content_done s o octets).content in
+first_reports : (s after : State) (o : Panel) (seq : ℕ) (content : Content) → IsSound s.lanes → AreWritable (source_of s o) → seq < 16
+    → IsContent HoldNoEvents s o content → Reports s.lanes (fragment_of after true seq content) (control_for true seq content) content.upto
+first_reports s after o seq content sound writable small made =
     is_reported s o content sound writable made
     (record {
       control = control_for true seq content;
@@ -181,6 +181,23 @@ answer_reports s after o octets seq content sound writable small is =
       headers = content.headers;
     })
     refl small refl
+
+abbrev Made : State → Panel → Option Content → Type 0
+Made s o c = IfSome c (IsContent HoldNoEvents s o)
+
+pub answer_reports : (s after : State) (o : Panel) (now : ℕ) (octets : List ℕ) (seq : ℕ) (content : Content) → IsSound s.lanes
+    → AreWritable (source_of s o) → All (λ octet. octet < 2 ^ 8) octets → seq < 16 → (content_at s o now octets).content ≡ Some content
+    → Reports s.lanes (fragment_of after true seq content) (control_for true seq content) content.upto
+answer_reports s after o now octets seq content sound writable are small is =
+    first_reports s after o seq content sound writable small
+    (subst (Made s o) is (content_done HoldNoEvents s o now octets (no_events_fine octets are)).content)
+
+pub held_reports : (s after : State) (o : Panel) (octets : List ℕ) (seq : ℕ) (content : Content) → IsSound s.lanes
+    → AreWritable (source_of s o) → seq < 16 → (content_of s o octets).content ≡ Some content
+    → Reports s.lanes (fragment_of after true seq content) (control_for true seq content) content.upto
+held_reports s after o octets seq content sound writable small is =
+    first_reports s after o seq content sound writable small
+    (subst (Made s o) is (content_answered HoldNoEvents s o no_headers delay_alone octets).done.content)
 
 pub further_reports : (s : State) (o : Panel) (stood : ℕ) (place : Place) (headers : List Head) (seq : ℕ) → IsSound s.lanes → AreWritable (source_of s o)
     → IsTidy s.lanes place.given

@@ -25,14 +25,14 @@ use Rattle.dnp_outstation.specs.declared.session.Unsolicited.{Unsolicited}
 use Rattle.dnp_outstation.specs.declared.session.Session.{Session}
 use Rattle.dnp_outstation.specs.Items.{no_ids, first_place, last_in, enabled_lanes, lane_items}
 use Rattle.dnp_outstation.specs.Offer.{held_of, offered_of, offered, pushed}
-use Rattle.dnp_outstation.specs.Stage.{is_unsolicited}
 use Rattle.dnp_outstation.specs.Laws.{IsTidy, LeavesOnly}
 use Rattle.dnp_outstation.specs.State.{State, Step, nothing, sending, still, with_session, new_session, is_free, holds_read}
 use Rattle.dnp_outstation.specs.Content.{Content, Executed, plain, content_from, content_of, read_content, source_of}
+use Rattle.dnp_outstation.specs.Controls.{content_at}
 use Rattle.dnp_outstation.specs.Connection.{responds_further, replied, asked, on_request, on_again, marked, confirmed, goes_on, on_confirm, awaits, asks_confirm, control_in, answers_held, on_unsolicited_confirm, starts, at_end, has_enabled_rows, closed, solicited_timer, unsolicited_timer, has_ended, case_of}
 use Rattle.dnp_outstation.specs.Calls.{with_that, answered_by, received, connection_after, tick_of, change_of, opened_of, restart_of}
 use Rattle.dnp_outstation.specs.Tidy.{IsLastGiven, IsFirstGiven, LeavesNothing}
-use Rattle.dnp_outstation.proofs.ContentOf.{IsContent, IsDone, content_done}
+use Rattle.dnp_outstation.proofs.ContentOf.{IsContent, IsDone, AnyHeaders, any_fine, content_answered, content_done}
 use Rattle.dnp_outstation.proofs.ContentOf.IsContent.{Reads, Plain}
 use Rattle.dnp_outstation.proofs.LaneRows.{length_given}
 use Rattle.dnp_outstation.proofs.Left.{begins_tidy, begins_used, new_leaves_nothing, released_is_tidy, appended_leaves, released_leaves, emptied_leaves}
@@ -92,9 +92,9 @@ read_given s o stood place headers sound tidy nine used =
 first_given : (s : State) (o : Panel) (headers : List Head) → IsSound s.lanes → IsGiven s.lanes (read_content s o (last_in s.lanes) first_place headers)
 first_given s o headers sound = read_given s o (last_in s.lanes) first_place headers sound (begins_tidy s.lanes sound) refl (begins_used s.lanes)
 
-content_given : (s : State) (o : Panel) (content : Content) → IsSound s.lanes → IsContent s o content → IsGiven s.lanes content
+content_given : (s : State) (o : Panel) (content : Content) → IsSound s.lanes → IsContent AnyHeaders s o content → IsGiven s.lanes content
 content_given s o _ sound (Reads headers) = first_given s o headers sound
-content_given s o _ sound (Plain bits headers stand none) = tt
+content_given s o _ sound (Plain bits headers fine) = tt
 
 -- ---- a response is sent
 
@@ -102,7 +102,7 @@ awaited_if : (s : Stock) (b : Bool) (w : Awaited) (last : LastRequest) → IsLas
 awaited_if s true w last is = is
 awaited_if s false w last is = tt
 
-replied_tidy : (s : State) (o : Panel) (now seq : ℕ) (x : Executed) → IsSound s.lanes → IsDone s o x
+replied_tidy : (s : State) (o : Panel) (now seq : ℕ) (x : Executed) → IsSound s.lanes → IsDone AnyHeaders s o x
     → IfSome s.core.session.unsolicited (λ w. length w.upto ≡ 9) → LeavesNothing (replied now seq x).state
 replied_tidy s o now seq x sound done unsolicited = go x.content done.content
   where
@@ -113,7 +113,7 @@ replied_tidy s o now seq x sound done unsolicited = go x.content done.content
     none_left None = tt
     none_left (Some w) = tt
 
-    go : (content : Option Content) → IfSome content (IsContent s o)
+    go : (content : Option Content) → IfSome content (IsContent AnyHeaders s o)
         → LeavesNothing (replied now seq (record { state = x.state; content = content; time = x.time })).state
     go None given = record { awaited = none_left x.state.core.session.awaited; first = tt; unsolicited = unsolicited' }
     go (Some content) given =
@@ -136,8 +136,8 @@ replied_tidy s o now seq x sound done unsolicited = go x.content done.content
 
 asks_tidy : (s : State) (o : Panel) (now : ℕ) (octets : List ℕ) → IsSound s.lanes → LeavesNothing s → LeavesNothing (on_request s o now octets).state
 asks_tidy s o now octets sound tidy =
-    replied_tidy (asked s octets) o now (control_in octets).seq (content_of (asked s octets) o octets) sound
-    (content_done (asked s octets) o octets) tidy.unsolicited
+    replied_tidy (asked s octets) o now (control_in octets).seq (content_at (asked s octets) o now octets) sound
+    (content_done AnyHeaders (asked s octets) o now octets (any_fine octets)) tidy.unsolicited
 
 again_tidy : (s : State) (now : ℕ) (octets : List ℕ) (last : LastRequest) → s.core.session.last ≡ Some last → LeavesNothing s
     → LeavesNothing (on_again s now octets last).state
@@ -248,7 +248,7 @@ held_tidy s o now (Some last) sound tidy = go last.reply
     go : (reply : Reply) → LeavesNothing (answers_held s o now (Some (record { reply = reply; stood = last.stood; left = last.left }))).state
     go Held =
         replied_tidy s o now (control_in s.core.session.request).seq (content_of s o s.core.session.request) sound
-        (content_done s o s.core.session.request) tidy.unsolicited
+        (content_answered AnyHeaders s o tt tt s.core.session.request).done tidy.unsolicited
     go Silent = tidy
     go (First f) = tidy
     go Further = tidy
@@ -277,7 +277,7 @@ starts_tidy step now content nine tidy = record { awaited = tidy.awaited; first 
 
 end_tidy : (now : ℕ) (step : Step) → LeavesNothing step.state → LeavesNothing (at_end now step).state
 end_tidy now step tidy =
-    by (is_unsolicited step.state.core.times.unsolicited &&
+    by (step.state.core.times.unsolicited &&
     (step.state.core.announced && (step.state.core.is_open && (is_free step.state.core && has_enabled_rows step.state))))
   where
     by : (b : Bool) → LeavesNothing (if b then starts step now (content_from (pushed step.state.lanes step.state.core.enabled)) else step).state
@@ -415,7 +415,7 @@ changed_tidy s now kind index reading made tidy =
 -- ---- opening and restart
 
 pub opened_tidy : (s : State) (now : ℕ) → LeavesNothing (opened_of s now).state
-opened_tidy s now = by (is_unsolicited s.core.times.unsolicited && not s.core.announced)
+opened_tidy s now = by (s.core.times.unsolicited && not s.core.announced)
   where
     fresh : LeavesNothing (record s { core = record s.core { is_open = true; session = new_session } })
     fresh = begun_tidy (record s { core = record s.core { is_open = true; session = new_session } }) refl

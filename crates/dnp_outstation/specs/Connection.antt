@@ -12,7 +12,6 @@ use Rattle.dnp_appfragment.specs.Table.{function_octet}
 use Rattle.dnp_controls.specs.Panel.{Panel}
 use Rattle.dnp_controls.specs.Selecting.{deadline}
 use Rattle.dnp_eventbuf.specs.Stock.{Stock, lane_at, without, all_up_to}
-use Rattle.dnp_outstation.specs.Stage.{is_unsolicited}
 use Rattle.dnp_outstation.specs.State.{Core, State, Step, Actions, nothing, sending, still, new_session, with_session, holds_read, is_free}
 use Rattle.dnp_outstation.specs.declared.offer.place.Place.{Place}
 use Rattle.dnp_outstation.specs.declared.case.Case.{Case}
@@ -265,7 +264,7 @@ has_enabled_rows s = list_any (λ lane. nat_lt 0 (length (lane_at s.lanes lane).
 abbrev pub at_end : ℕ → Step → Step
 at_end now step =
     let s = step.state in
-    if is_unsolicited s.core.times.unsolicited && (s.core.announced && (s.core.is_open && (is_free s.core && has_enabled_rows s)))
+    if s.core.times.unsolicited && (s.core.announced && (s.core.is_open && (is_free s.core && has_enabled_rows s)))
     then starts step now (content_from (pushed s.lanes s.core.enabled))
     else step
 

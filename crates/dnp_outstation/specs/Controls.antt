@@ -15,7 +15,6 @@ use Rattle.dnp_controls.specs.Panel.{Panel, accepted}
 use Rattle.dnp_controls.specs.Selecting.{Select, answer}
 use Rattle.dnp_outstation.specs.State.{State, with_session}
 use Rattle.dnp_outstation.specs.Content.{Content, Executed, plain, answered, refused, bits_of, parameter_error, content_of}
-use Rattle.dnp_outstation.specs.Stage.{carries_out_controls}
 
 -- ---- the commands of a request
 
@@ -142,4 +141,4 @@ is_control octets =
 -- what a request is answered, at this moment
 abbrev pub content_at : State → Panel → ℕ → List ℕ → Executed
 content_at s o now octets =
-    if carries_out_controls && is_control octets then control_content s o now octets else content_of s o octets
+    if is_control octets then control_content s o now octets else content_of s o octets

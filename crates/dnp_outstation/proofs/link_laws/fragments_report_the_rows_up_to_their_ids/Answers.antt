@@ -1,8 +1,11 @@
-use Rattle.dnp_outstation.proofs.LinkFragments.{answer_reports, further_reports, unsolicited_reports, first_unsolicited_reports}
+use Rattle.dnp_outstation.proofs.LinkFragments.{answer_reports, held_reports, further_reports, unsolicited_reports, first_unsolicited_reports}
 use Rattle.dnp_outstation.proofs.link_laws.fragments_report_the_rows_up_to_their_ids.Goals as goal
 
 pub returns-clause-answer : goal.returns-clause-answer
 returns-clause-answer c = answer_reports
+
+pub returns-clause-held : goal.returns-clause-held
+returns-clause-held c = held_reports
 
 pub returns-clause-further : goal.returns-clause-further
 returns-clause-further c = further_reports
