@@ -35,7 +35,7 @@ last_at_end : (low : ℕ) (x : Numbered) (xs : List Numbered) → last_of (x ∷
 last_at_end low x [] = refl
 last_at_end low x (y ∷ ys) = last_further x y ys ∙ last_at_end x.id y ys
 
-last_is : (rows : List Numbered) → last_of rows ≡ last_or 0 rows
+pub last_is : (rows : List Numbered) → last_of rows ≡ last_or 0 rows
 last_is [] = refl
 last_is (x ∷ xs) = last_at_end 0 x xs
 

@@ -11,6 +11,7 @@ mod delay;
 mod execute;
 mod fault;
 mod fault_from;
+mod held;
 mod indications;
 mod kept;
 pub mod laws;
