@@ -35,7 +35,7 @@ last_at_end : (low : ℕ) (x : Numbered) (xs : List Numbered) → last_of (x ∷
 last_at_end low x [] = refl
 last_at_end low x (y ∷ ys) = last_further x y ys ∙ last_at_end x.id y ys
 
-last_is : (rows : List Numbered) → last_of rows ≡ last_or 0 rows
+pub last_is : (rows : List Numbered) → last_of rows ≡ last_or 0 rows
 last_is [] = refl
 last_is (x ∷ xs) = last_at_end 0 x xs
 
@@ -103,24 +103,3 @@ class_has_rows s released class last on sound nine low is enabled =
     ∙ ap (λ (b : Bool). nat_lt 0 (length (lane_at t (3 * class)).rows) || (nat_lt 0 (length (lane_at t (3 * class + 1)).rows) || (b || false)))
     (tells (3 * class + 2) (omega arith))
     ∙ ap (λ (b : Bool). has_rows_in t (if b then class_lanes class else [])) (sym enabled)
-
--- the classes one after the other
-pub classes_have_rows : (s : Stock) (enabled : List Bool) (first second third : Bool) → length enabled ≡ 3
-    → first ≡ has_rows_in s (if get_or enabled 0 false then class_lanes 0 else [])
-    → second ≡ has_rows_in s (if get_or enabled 1 false then class_lanes 1 else [])
-    → third ≡ has_rows_in s (if get_or enabled 2 false then class_lanes 2 else [])
-    → (first || (second || third)) ≡ has_rows_in s (enabled_lanes 0 enabled)
-classes_have_rows s (a ∷ b ∷ c ∷ []) first second third few first_is second_is third_is =
-    let p : ℕ → Bool = λ lane. nat_lt 0 (length (lane_at s lane).rows) in
-    let la : List ℕ = if a then class_lanes 0 else [] in
-    let lb : List ℕ = if b then class_lanes 1 else [] in
-    let lc : List ℕ = if c then class_lanes 2 else [] in
-    ap (λ (t : Bool). t || (second || third)) first_is
-    ∙ ap (λ (t : Bool). list_any p la || (t || third)) second_is
-    ∙ ap (λ (t : Bool). list_any p la || (list_any p lb || t)) (third_is ∙ ap (list_any p) (sym (append-nil lc)))
-    ∙ ap (λ (t : Bool). list_any p la || t) (sym (list_any-append p lb (lc ++ [])))
-    ∙ sym (list_any-append p la (lb ++ (lc ++ [])))
-classes_have_rows s [] first second third few first_is second_is third_is = absurd (omega arith)
-classes_have_rows s (a ∷ []) first second third few first_is second_is third_is = absurd (omega arith)
-classes_have_rows s (a ∷ b ∷ []) first second third few first_is second_is third_is = absurd (omega arith)
-classes_have_rows s (a ∷ b ∷ c ∷ d ∷ more) first second third few first_is second_is third_is = absurd (omega arith)

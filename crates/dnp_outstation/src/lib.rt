@@ -12,6 +12,7 @@ mod ending;
 mod execute;
 mod fault;
 mod fault_from;
+mod held;
 mod indications;
 mod kept;
 pub mod laws;

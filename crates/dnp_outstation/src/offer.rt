@@ -5,6 +5,6 @@ pub mod inside;
 pub mod parts;
 pub mod place;
 mod present;
-mod rows;
+pub mod rows;
 mod wanted;
 pub mod writer;
