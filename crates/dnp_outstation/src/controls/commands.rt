@@ -2,7 +2,6 @@
 
 ghost use Rattle.std.specs.Prelude.{◌≡◌, ◌≤◌, ◌<◌, [], ◌∷◌, ◌++◌, IsTrue, false, length};
 ghost use Rattle.dnp_appfragment.specs.Seen.{head};
-ghost use Rattle.dnp_controls.specs.Panel.{Panel, accepted};
 ghost use Rattle.dnp_outstation.specs.Controls.{commands_in, commands_of};
 ghost use Rattle.dnp_outstation.specs.Deciding.{told_of, few_of};
 
@@ -61,10 +60,9 @@ impl Commands {
 
     /// How many there are.
     fn len(&self) -> usize
-        ensures value { result ≡ length self.now }
-        ensures few { result ≤ MAX_COMMANDS }
+        ensures { result ≡ length self.now }
     {
-        self.len
+        self.as_slice().len()
     }
 
     /// Appends a command, for which there has to be room.
