@@ -131,7 +131,7 @@ fn decide_control<O: Outputs>(
         commands,
     ) {
         Some(decision) => {
-            writer.put_answers(outputs, decision.told, request.headers);
+            writer.put_answers(outputs, &decision.told, request.headers);
             let standing = decision.standing;
             Decided { bits: 0, standing }
         }

@@ -28,18 +28,18 @@ pub(crate) enum Told {
 
 impl Told {
     /// The number of the status that a command is answered.
-    fn code<O: Outputs>(self, outputs: &O, command: &Command) -> u8
-        ensures { result ≡ code_by (O.panel outputs.now) self command.now }
+    fn code<O: Outputs>(&self, outputs: &O, command: &Command) -> u8
+        ensures { result ≡ code_by (O.panel outputs.now) self.now command.now }
     {
-        match self {
+        match *self {
             Told::Alike(status) => status.code(),
             Told::Checked => outputs.check(command).code(),
         }
     }
 
     /// That of object k of a header, if it is a command.
-    fn code_at<O: Outputs>(self, outputs: &O, header: &Header<'_>, k: usize) -> Option<u8>
-        ensures { result ≡ option_map (code_by (O.panel outputs.now) self) (command_at (head header.now) k) }
+    fn code_at<O: Outputs>(&self, outputs: &O, header: &Header<'_>, k: usize) -> Option<u8>
+        ensures { result ≡ option_map (code_by (O.panel outputs.now) self.now) (command_at (head header.now) k) }
     {
         match header.command(k) {
             Some((command, _)) => Some(self.code(outputs, &command)),
@@ -69,13 +69,13 @@ fn push_object(octets: &mut ArrayVec<u8, MAX_FRAGMENT>, object: &[u8], code: Opt
 fn fill<O: Outputs>(
     octets: &mut ArrayVec<u8, MAX_FRAGMENT>,
     outputs: &O,
-    told: Told,
+    told: &Told,
     header: &Header<'_>,
 )
     requires empty { octets.old.items ≡ [] }
     requires whole { IsHeader form.Command (head header.now) }
     requires room { length header.now.octets.now ≤ MAX_FRAGMENT }
-    ensures { octets.new.items ≡ (answered_head (code_by (O.panel outputs.now) told) (head header.now)).octets }
+    ensures { octets.new.items ≡ (answered_head (code_by (O.panel outputs.now) told.now) (head header.now)).octets }
 {
     let count = header.count();
     if count == 0 {
@@ -93,12 +93,12 @@ fn fill<O: Outputs>(
 impl Writer {
     /// Puts a header of commands, each with its status. The copy of its objects is needed here alone.
     #[inline(never)]
-    fn put_answered<O: Outputs>(&mut self, outputs: &O, told: Told, header: &Header<'_>)
+    fn put_answered<O: Outputs>(&mut self, outputs: &O, told: &Told, header: &Header<'_>)
         requires whole { IsHeader form.Command (head header.now) }
         requires response { self.old.builder.function ≡ function.Response }
         requires room { size self.old.builder + length (header_octets (head header.now)) ≤ MAX_FRAGMENT }
         ensures { self.new ≡ record self.old {
-            builder = with_header self.old.builder (answered_head (code_by (O.panel outputs.now) told) (head header.now)) } }
+            builder = with_header self.old.builder (answered_head (code_by (O.panel outputs.now) told.now) (head header.now)) } }
     {
         let mut octets = ArrayVec::new();
         fill(&mut octets, outputs, told, header);
@@ -115,13 +115,13 @@ impl Writer {
     pub(crate) fn put_answers<O: Outputs>(
         &mut self,
         outputs: &O,
-        told: Told,
+        told: &Told,
         headers: Headers<'_>,
     )
-        requires whole { AreHeaders form.Command begin headers.entry.headers }
+        requires whole { AreHeaders form.Command begin headers.headers }
         requires response { self.old.builder.function ≡ function.Response }
-        requires room { size self.old.builder + length (spelled headers.entry.headers) ≤ MAX_FRAGMENT }
-        ensures heads { heads self.new.builder ≡ heads self.old.builder ++ headers_with (code_by (O.panel outputs.now) told) headers.entry.headers }
+        requires room { size self.old.builder + length (spelled headers.headers) ≤ MAX_FRAGMENT }
+        ensures heads { heads self.new.builder ≡ heads self.old.builder ++ headers_with (code_by (O.panel outputs.now) told.now) headers.entry.headers }
         ensures response { self.new.builder.function ≡ function.Response }
         ensures upto { self.new.upto ≡ self.old.upto }
     {
