@@ -4,12 +4,13 @@ ghost use Rattle.std.specs.Prelude.{◌≡◌, ◌≤◌, ◌==◌, ℕ, List, [
 ghost use Rattle.std.specs.Option.{option_map};
 ghost use Rattle.std.specs.List.{list_all};
 ghost use Rattle.dnp_objects.specs.Status as status;
+ghost use Rattle.dnp_objects.specs.declared.command.Command.{Command as CommandValue};
 ghost use Rattle.dnp_controls.specs.Selecting.{Select};
 ghost use Rattle.dnp_appfragment.specs.declared.function.Function.TheVariants as function;
 ghost use Rattle.dnp_appfragment.specs.declared.table.Form.TheVariants as form;
 ghost use Rattle.dnp_appfragment.specs.Table.{form_of};
-ghost use Rattle.dnp_outstation.specs.Controls.{commands_in, selects, operates, operates_selected, outcome_of};
-ghost use Rattle.dnp_outstation.specs.Deciding.{outcome_by};
+ghost use Rattle.dnp_outstation.specs.Controls.{checked, commands_in, selects, operates, operates_selected, outcome_of};
+ghost use Rattle.dnp_outstation.specs.Deciding.{outcome_by, told_of, few_of};
 
 use crate::controls::commands::Commands;
 use crate::controls::told::Told;
@@ -45,6 +46,17 @@ fn are_accepted<O: Outputs>(outputs: &O, commands: &[Command]) -> bool
     true
 }
 
+/// Whether a SELECT of these commands, which are told this, stands.
+fn stands<O: Outputs>(outputs: &O, told: &Told, commands: &[Command]) -> bool
+    ensures { (all : List CommandValue) → told.now ≡ told_of (O.panel outputs.now).most all → commands.now ≡ few_of (O.panel outputs.now).most all
+        → result ≡ list_all (λ command. checked (O.panel outputs.now) all command == status.success) all }
+{
+    match *told {
+        Told::Checked => are_accepted(outputs, commands),
+        Told::Alike(_) => false,
+    }
+}
+
 /// Decides a SELECT: it stands if each command is answered SUCCESS. None is performed.
 fn select<O: Outputs>(outputs: &O, headers: Headers<'_>, commands: &mut Commands) -> Decision
     ensures decided { (select : Option Select) (now : ℕ) (octets : List ℕ) →
@@ -52,16 +64,12 @@ fn select<O: Outputs>(outputs: &O, headers: Headers<'_>, commands: &mut Commands
     ensures none { commands.new ≡ [] }
 {
     let told = commands.gather(outputs.most(), headers);
-    let stands = match told {
-        Told::Checked => are_accepted(outputs, commands.as_slice()),
-        Told::Alike(_) => false,
-    };
-    commands.clear();
-    let standing = if stands {
+    let standing = if stands(outputs, &told, commands.as_slice()) {
         Standing::Begins
     } else {
         Standing::Ends
     };
+    commands.clear();
     Decision { standing, told }
 }
 
@@ -112,7 +120,7 @@ fn operate<O: Outputs>(
 /// Decides a request of this function and these headers: what it comes to, and which commands are looked at
 /// by the outputs, in `commands`. None, where it is no control request.
 pub(crate) fn decide<O: Outputs>(
-    function: Function,
+    asked: Function,
     outputs: &O,
     selects: &Selects,
     select_ms: u64,
@@ -123,14 +131,14 @@ pub(crate) fn decide<O: Outputs>(
 ) -> Option<Decision>
     requires some { 2 ≤ length octets.now }
     requires none { commands.old ≡ [] }
-    ensures decided { (select : Option Select) → (function ≡ function.Operate → select ≡ selects.now) →
+    ensures decided { (select : Option Select) → (asked ≡ function.Operate → select ≡ selects.now) →
         option_map (λ d. outcome_by (O.panel outputs.now) select now octets.now d commands.new) result
-        ≡ outcome_of function select select_ms (O.panel outputs.now) now octets.now (commands_in headers.entry.headers) }
+        ≡ outcome_of asked select select_ms (O.panel outputs.now) now octets.now (commands_in headers.entry.headers) }
     ensures few { length commands.new ≤ (O.panel outputs.now).most }
-    ensures commands { IsSome result → form_of function ≡ form.Command }
+    ensures commands { IsSome result → form_of asked ≡ form.Command }
     ensures nothing { result ≡ None → commands.new ≡ [] }
 {
-    match function {
+    match asked {
         Function::Select => Some(select(outputs, headers, commands)),
         Function::Operate => Some(operate(
             outputs, selects, select_ms, now, octets, headers, commands,
