@@ -102,7 +102,7 @@ impl Selects {
         ensures stands { (before : List SelectCall) → Stands before self.old → Stands (Operating ∷ before) self.new }
     {
         let status = self.answer(now, seq, octets, select_ms);
-        self.kept = None;
+        self.forget();
         status
     }
 

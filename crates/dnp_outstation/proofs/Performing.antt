@@ -1,5 +1,5 @@
 -- Outputs that have to perform commands: they did, or refused it, or there were none.
-use Rattle.std.proofs.Common.{◌≡◌, ◌≢◌, refl, sym, ap, subst, ◌∙◌, ℕ, Bool, true, false, IsTrue, cond, ◌==◌, ◌||◌, List, [], ◌∷◌, ◌++◌, filter, Option, None, Some, Result, Ok, Err, append-nil}
+use Rattle.std.proofs.Common.{◌≡◌, ◌≢◌, refl, sym, ap, subst, ◌∙◌, ℕ, Bool, true, false, IsTrue, cond, ◌==◌, ◌||◌, List, [], ◌∷◌, ◌++◌, None, Some, Result, Ok, Err, append-nil}
 use Rattle.std.specs.List.{list_any}
 use Rattle.dnp_objects.specs.Status as status
 use Rattle.dnp_objects.specs.declared.command.Command.{Command}
@@ -36,7 +36,6 @@ none_accepted check (c ∷ cs) is = here (check c == status.success) is (none_ac
 module _ {Outputs : Type 0} (honest : Outputs → Type 0) (is_stopped : Outputs → Bool) (panel : Outputs → Panel)
     (performs : Outputs → List Command → Outputs → Type 0) (exhausts : Outputs → List Command → Type 0) (may_fault : StoreFault → Bool)
     (commands : List Command) (old new : Outputs) where
-
   pub all_performed : {Answer : Type 0} (x : Answer) → commands ≢ []
       → IsOutputsCall honest is_stopped panel performs (commands ≢ []) old new (Ok x)
       → (panel new).most ≡ (panel old).most → (panel new).outputs ≡ (panel old).outputs
