@@ -1,5 +1,5 @@
 -- What a request makes of an outstation: the connection and the lanes stay, and the answer is that of a READ or plain.
-use Rattle.std.proofs.Common.{◌≡◌, ◌≢◌, Bool, true, false, if◌then◌else◌, refl, sym, ap, subst, ℕ, ◌<◌, ◌^◌, ◌==◌, ◌&&◌, nat_le, nat_lt, List, [], ◌∷◌, ◌++◌, length, arith, Option, None, Some, IfSome, IsSome, Result, Ok, Err, eqb-true}
+use Rattle.std.proofs.Common.{◌≡◌, ◌≢◌, Bool, true, false, if◌then◌else◌, refl, sym, ◌∙◌, ap, subst, ℕ, ◌<◌, ◌^◌, ◌==◌, ◌&&◌, nat_le, nat_lt, List, [], ◌∷◌, ◌++◌, length, arith, Option, None, Some, IfSome, IsSome, Result, Ok, Err, eqb-true}
 use Rattle.std.specs.Prelude.{⊤, slice_index}
 use Rattle.std.specs.List.{All, list_all}
 use Rattle.dnp_appfragment.specs.declared.fault.AppFault.{AppFault}
@@ -13,6 +13,7 @@ use Rattle.dnp_appfragment.specs.Table.{takes_of, rules, form_of, function_octet
 use Rattle.dnp_objects.specs.Objects.{objects, content_of as object_content}
 use Rattle.dnp_objects.specs.declared.command.Command.{Command}
 use Rattle.dnp_appfragment.specs.Meaning.{control_of, request_at}
+use Rattle.std.proofs.Math.ListN.{length-set}
 use Rattle.dnp_appfragment.proofs.Numbers.{octets_all}
 use Rattle.dnp_appfragment.proofs.Requests.{ReadsRequest, request_reads}
 use Rattle.dnp_controls.specs.Panel.{Panel, accepted}
@@ -20,7 +21,7 @@ use Rattle.dnp_controls.specs.Selecting.{Select, answer}
 use Rattle.dnp_objects.specs.Status as status
 use Rattle.dnp_outstation.specs.Items.{first_place, last_in, is_inside}
 use Rattle.dnp_outstation.specs.State.{State}
-use Rattle.dnp_outstation.specs.Content.{Content, Executed, plain, answered, content_of, for_request, by_function, read_content, source_of, refused, written, write_bits, time_written, enabled_after, no_delay, bits_of, parameter_error, no_func_code_support}
+use Rattle.dnp_outstation.specs.Content.{Content, Executed, plain, answered, content_of, for_request, by_function, read_content, source_of, refused, written, write_bits, time_written, enabled_after, switched, class_in, no_delay, bits_of, parameter_error, no_func_code_support}
 use Rattle.dnp_outstation.specs.Controls.{commands_in, objects_in, headers_with, checks, all_alike, are_too_many, told, with_select, select_executed, operated, direct_executed, operate_by, operate_executed, silently, is_silent, carried_out, control_by, control_content, is_control, content_at}
 use Rattle.dnp_outstation.specs.Connection.{function_in}
 use Rattle.dnp_outstation.specs.Links.{KeepsConnection}
@@ -35,6 +36,7 @@ pub data IsContent (Fine : List Head → Type 0) (s : State) (o : Panel) : Conte
 pub record IsDone (Fine : List Head → Type 0) (s : State) (o : Panel) (x : Executed) : Type 0 where
   pub keeps : KeepsConnection s x.state
   pub content : IfSome x.content (IsContent Fine s o)
+  pub classes : length x.state.core.enabled ≡ length s.core.enabled
 
 -- and there is an answer
 pub record IsAnswered (Fine : List Head → Type 0) (s : State) (o : Panel) (x : Executed) : Type 0 where
@@ -113,13 +115,21 @@ others_keep : (s : State) (restart : Bool) (enabled : List Bool)
     → KeepsConnection s (record s { core = record s.core { restart = restart; enabled = enabled } })
 others_keep s restart enabled = alike_keeps s restart enabled s.core.session.selects s.performed
 
+switched_length : (on : Bool) (enabled : List Bool) (class : Option ℕ) → length (switched on enabled class) ≡ length enabled
+switched_length on enabled None = refl
+switched_length on enabled (Some class) = length-set enabled class on
+
+enabled_length : (on : Bool) (enabled : List Bool) (headers : List Head) → length (enabled_after on enabled headers) ≡ length enabled
+enabled_length on enabled [] = refl
+enabled_length on enabled (h ∷ hs) = enabled_length on (switched on enabled (class_in h)) hs ∙ switched_length on enabled (class_in h)
+
 module _ (Fine : List Head → Type 0) (s : State) (o : Panel) (none : Fine []) (delay : Fine (no_delay ∷ [])) where
-  plain_done : (after : State) (bits : ℕ) (time : Option ℕ) → KeepsConnection s after
+  plain_done : (after : State) (bits : ℕ) (time : Option ℕ) → KeepsConnection s after → length after.core.enabled ≡ length s.core.enabled
       → IsAnswered Fine s o (record { state = after; content = Some (plain bits []); time = time })
-  plain_done after bits time keeps = record { done = record { keeps = keeps; content = Plain bits [] none }; some = refl }
+  plain_done after bits time keeps classes = record { done = record { keeps = keeps; content = Plain bits [] none; classes = classes }; some = refl }
 
   refused_done : (bits : ℕ) → IsAnswered Fine s o (refused s bits)
-  refused_done bits = plain_done s bits None (others_keep s s.core.restart s.core.enabled)
+  refused_done bits = plain_done s bits None (others_keep s s.core.restart s.core.enabled) refl
 
   either : (b : Bool) (x y : Executed) → IsAnswered Fine s o x → IsAnswered Fine s o y → IsAnswered Fine s o (if b then x else y)
   either true x y first second = first
@@ -129,19 +139,19 @@ module _ (Fine : List Head → Type 0) (s : State) (o : Panel) (none : Fine []) 
   function_done headers function.Read =
       either (list_all (is_inside (source_of s o)) headers) (answered s (read_content s o (last_in s.lanes) first_place headers))
       (refused s parameter_error)
-      (record { done = record { keeps = others_keep s s.core.restart s.core.enabled; content = Reads headers }; some = refl }) (refused_done parameter_error)
+      (record { done = record { keeps = others_keep s s.core.restart s.core.enabled; content = Reads headers; classes = refl }; some = refl }) (refused_done parameter_error)
   function_done headers function.Write =
       either (write_bits headers == 0) (record (answered (written s headers) (plain 0 [])) { time = time_written headers }) (refused s (write_bits headers))
-      (plain_done (written s headers) 0 (time_written headers) (others_keep s (written s headers).core.restart s.core.enabled))
+      (plain_done (written s headers) 0 (time_written headers) (others_keep s (written s headers).core.restart s.core.enabled) refl)
       (refused_done (write_bits headers))
   function_done headers function.EnableUnsolicited =
       let enabled = enabled_after true s.core.enabled headers in
-      plain_done (record s { core = record s.core { enabled = enabled } }) 0 None (others_keep s s.core.restart enabled)
+      plain_done (record s { core = record s.core { enabled = enabled } }) 0 None (others_keep s s.core.restart enabled) (enabled_length true s.core.enabled headers)
   function_done headers function.DisableUnsolicited =
       let enabled = enabled_after false s.core.enabled headers in
-      plain_done (record s { core = record s.core { enabled = enabled } }) 0 None (others_keep s s.core.restart enabled)
+      plain_done (record s { core = record s.core { enabled = enabled } }) 0 None (others_keep s s.core.restart enabled) (enabled_length false s.core.enabled headers)
   function_done headers function.DelayMeasure = record {
-    done = record { keeps = others_keep s s.core.restart s.core.enabled; content = Plain 0 (no_delay ∷ []) delay };
+    done = record { keeps = others_keep s s.core.restart s.core.enabled; content = Plain 0 (no_delay ∷ []) delay; classes = refl };
     some = refl;
   }
   function_done headers _ = refused_done no_func_code_support
@@ -164,16 +174,29 @@ operated_keeps s o select commands = by (are_too_many o commands)
     by true = alike_keeps s s.core.restart s.core.enabled select s.performed
     by false = alike_keeps s s.core.restart s.core.enabled select (s.performed ++ accepted o.check commands)
 
+operated_classes : (s : State) (o : Panel) (select : Option Select) (commands : List Command)
+    → length (operated (with_select s select) o commands).core.enabled ≡ length s.core.enabled
+operated_classes s o select commands = by (are_too_many o commands)
+  where
+    by : (b : Bool)
+        → length (if b then with_select s select
+        else record (with_select s select) { performed = s.performed ++ accepted o.check commands }).core.enabled ≡ length s.core.enabled
+    by true = refl
+    by false = refl
+
 module _ (Fine : List Head → Type 0) (s : State) (o : Panel) (now : ℕ) (octets : List ℕ) (fine : IsFine Fine octets) where
-  told_done : (after : State) (headers : List Head) (codes : List ℕ) → KeepsConnection s after → Fine (headers_with codes headers)
-      → IsAnswered Fine s o (told after headers codes)
-  told_done after headers codes keeps repeats = record { done = record { keeps = keeps; content = Plain 0 (headers_with codes headers) repeats }; some = refl }
+  told_done : (after : State) (headers : List Head) (codes : List ℕ) → KeepsConnection s after → length after.core.enabled ≡ length s.core.enabled
+      → Fine (headers_with codes headers) → IsAnswered Fine s o (told after headers codes)
+  told_done after headers codes keeps classes repeats = record {
+    done = record { keeps = keeps; content = Plain 0 (headers_with codes headers) repeats; classes = classes };
+    some = refl;
+  }
 
   direct_done : (select : Option Select) (headers : List Head) → ((codes : List ℕ) → Fine (headers_with codes headers))
       → IsAnswered Fine s o (direct_executed (with_select s select) o headers)
   direct_done select headers repeats =
       told_done (operated (with_select s select) o (commands_in headers)) headers (checks o (commands_in headers))
-      (operated_keeps s o select (commands_in headers)) (repeats (checks o (commands_in headers)))
+      (operated_keeps s o select (commands_in headers)) (operated_classes s o select (commands_in headers)) (repeats (checks o (commands_in headers)))
 
   select_done : (headers : List Head) → ((codes : List ℕ) → Fine (headers_with codes headers))
       → IsAnswered Fine s o (select_executed s o now octets headers)
@@ -184,14 +207,14 @@ module _ (Fine : List Head → Type 0) (s : State) (o : Panel) (now : ℕ) (octe
       then Some (record { at = now; seq = (control_of (slice_index octets 0)).seq; octets = objects_in octets })
       else None)
       in
-      told_done (with_select s select) headers codes (alike_keeps s s.core.restart s.core.enabled select s.performed) (repeats codes)
+      told_done (with_select s select) headers codes (alike_keeps s s.core.restart s.core.enabled select s.performed) refl (repeats codes)
 
   by_select : (code : ℕ) (headers : List Head) → ((codes : List ℕ) → Fine (headers_with codes headers))
       → IsAnswered Fine s o (operate_by code (with_select s None) o headers)
   by_select code headers repeats =
       either Fine s o fine.none fine.delay (code == status.success) (direct_executed (with_select s None) o headers)
       (told (with_select s None) headers (all_alike code (commands_in headers))) (direct_done None headers repeats)
-      (told_done (with_select s None) headers (all_alike code (commands_in headers)) (alike_keeps s s.core.restart s.core.enabled None s.performed)
+      (told_done (with_select s None) headers (all_alike code (commands_in headers)) (alike_keeps s s.core.restart s.core.enabled None s.performed) refl
       (repeats (all_alike code (commands_in headers))))
 
   operate_done : (headers : List Head) → ((codes : List ℕ) → Fine (headers_with codes headers))
@@ -218,7 +241,7 @@ module _ (Fine : List Head → Type 0) (s : State) (o : Panel) (now : ℕ) (octe
       (carried_done asked.function asked.headers (λ command codes. fine.repeats asked is command codes))
 
   silent_done : (b : Bool) (x : Executed) → IsDone Fine s o x → IsDone Fine s o (if b then silently x else x)
-  silent_done true x done = record { keeps = done.keeps; content = tt }
+  silent_done true x done = record { keeps = done.keeps; content = tt; classes = done.classes }
   silent_done false x done = done
 
   control_done : IsDone Fine s o (control_content s o now octets)

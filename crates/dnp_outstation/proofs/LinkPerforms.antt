@@ -1,0 +1,340 @@
+-- What calls perform: a request that is executed its own commands, and nothing else any.
+use Rattle.std.proofs.Common.{◌≡◌, ◌≢◌, Bool, true, false, if◌then◌else◌, refl, sym, ◌∙◌, ap, subst, ℕ, ◌+◌, ◌%◌, ◌==◌, ◌&&◌, ◌||◌, not, nat_le, is_none, is_some, List, [], Option, None, Some, IsSome, option_map, option_to_list, Result, Ok, Err, eq-eqb}
+use Rattle.std.specs.Str.{bytes_eq}
+use Rattle.std.proofs.lemmas.Bool.{and_parts}
+use Rattle.std.proofs.lemmas.Slice.Eq.{bytes_eq-Decides}
+use Rattle.dnp_objects.specs.declared.row.Kind.{Kind}
+use Rattle.dnp_objects.specs.declared.lane.LaneRow.{LaneRow}
+use Rattle.dnp_objects.specs.declared.command.Command.{Command}
+use Rattle.dnp_pointdb.specs.Database.{changed_of}
+use Rattle.dnp_pointdb.specs.declared.reading.Reading.{Reading}
+use Rattle.dnp_appfragment.specs.declared.fault.AppFault.{AppFault}
+use Rattle.dnp_appfragment.specs.declared.function.Function.TheVariants as function
+use Rattle.dnp_appfragment.specs.Fragments.{Asked}
+use Rattle.dnp_appfragment.specs.Meaning.{request_at}
+use Rattle.dnp_appfragment.specs.Table.{function_octet}
+use Rattle.dnp_controls.specs.Panel.{Panel}
+use Rattle.dnp_controls.specs.Selecting.{Select, deadline}
+use Rattle.dnp_eventbuf.specs.Stock.{with_rows, dropped_by, without}
+use Rattle.dnp_outstation.specs.declared.offer.place.Place.{Place}
+use Rattle.dnp_outstation.specs.declared.case.Case.{Case}
+use Rattle.dnp_outstation.specs.declared.case.Case.TheVariants.{PassedOver, Confirms, ConfirmsUnsolicited, Stray, Again, Waits, Asks}
+use Rattle.dnp_outstation.specs.declared.session.Reply.{Reply}
+use Rattle.dnp_outstation.specs.declared.session.Reply.TheVariants.{Held, Silent, First, Further}
+use Rattle.dnp_outstation.specs.declared.session.LastRequest.{LastRequest}
+use Rattle.dnp_outstation.specs.declared.session.Awaited.{Awaited}
+use Rattle.dnp_outstation.specs.declared.session.Unsolicited.{Unsolicited}
+use Rattle.dnp_outstation.specs.State.{State, Step, nothing, sending, still, with_session, holds_read}
+use Rattle.dnp_outstation.specs.Content.{Content, Executed, plain, content_of}
+use Rattle.dnp_outstation.specs.Controls.{content_at}
+use Rattle.dnp_outstation.specs.Connection.{replied, asked, on_request, on_again, marked, confirmed, goes_on, on_confirm, awaits, control_in, function_in, is_last_request, waiting, answers_held, on_unsolicited_confirm, starts, at_end, closed, solicited_timer, unsolicited_timer, has_ended, case_of}
+use Rattle.dnp_outstation.specs.Calls.{with_that, answered_by, received, connection_after, tick_of, change_of, opened_of}
+use Rattle.dnp_outstation.specs.Links.{CaseSays, Performs, IsSelected, ReleasesNone, ExecutesNothing, unsolicited_confirmed, begun}
+use Rattle.dnp_outstation.proofs.LinkCases.{case_says}
+use Rattle.dnp_outstation.proofs.LinkConfirms.{KeptAtEnd, starts_kept, end_kept}
+use Rattle.dnp_outstation.proofs.Performing.{AcceptedAreCovered, SelectsServe, Serves, content_none, content_performs, content_serves, none_of}
+
+-- ---- answers
+
+-- as the content leaves it
+record AsContent (x : Executed) (new : State) : Type 0 where
+  performed : new.performed ≡ x.state.performed
+  selects : new.core.session.selects ≡ x.state.core.session.selects
+
+replied_as : (now seq : ℕ) (x : Executed) → AsContent x (replied now seq x).state
+replied_as now seq x = go x.content
+  where
+    go : (content : Option Content)
+        → AsContent x (replied now seq (record { state = x.state; content = content; time = x.time })).state
+    go None = record { performed = refl; selects = refl }
+    go (Some content) = record { performed = refl; selects = refl }
+
+goes_on_performed : (s : State) (o : Panel) (now seq : ℕ) (last : Option LastRequest) → (goes_on s o now seq last).state.performed ≡ s.performed
+goes_on_performed s o now seq None = refl
+goes_on_performed s o now seq (Some last) = go last.left
+  where
+    go : (left : Option Place) → (goes_on s o now seq (Some (record { reply = last.reply; stood = last.stood; left = left }))).state.performed ≡ s.performed
+    go None = refl
+    go (Some place) = by (request_at s.core.session.request) refl
+      where
+        by : (r : Result Asked AppFault) → request_at s.core.session.request ≡ r
+            → (goes_on s o now seq (Some (record { reply = last.reply; stood = last.stood; left = Some place }))).state.performed ≡ s.performed
+        by (Ok r) is = rw is refl
+        by (Err fault) is = rw is refl
+
+held_performed : (s : State) (o : Panel) (now : ℕ) (last : Option LastRequest) → (answers_held s o now last).state.performed ≡ s.performed
+held_performed s o now None = refl
+held_performed s o now (Some last) = go last.reply
+  where
+    go : (reply : Reply) → (answers_held s o now (Some (record { reply = reply; stood = last.stood; left = last.left }))).state.performed ≡ s.performed
+    go Held =
+        (replied_as now (control_in s.core.session.request).seq (content_of s o s.core.session.request)).performed
+        ∙ (content_none s o s.core.session.request).performed
+    go Silent = refl
+    go (First f) = refl
+    go Further = refl
+
+-- ---- the last request again
+
+same_executes : (s : State) → ExecutesNothing s s
+same_executes s = record {
+  restart = refl;
+  enabled = refl;
+  announced = refl;
+  points = refl;
+  times = refl;
+  request = refl;
+  response = refl;
+  last = refl;
+  selects = refl;
+  lanes = refl;
+  performed = refl;
+}
+
+awaits_executes : (s : State) (awaited : Option Awaited) → ExecutesNothing s (with_session s (record s.core.session { awaited = awaited }))
+awaits_executes s awaited = record {
+  restart = refl;
+  enabled = refl;
+  announced = refl;
+  points = refl;
+  times = refl;
+  request = refl;
+  response = refl;
+  last = refl;
+  selects = refl;
+  lanes = refl;
+  performed = refl;
+}
+
+again_executes : (s : State) (now : ℕ) (octets : List ℕ) (last : LastRequest) → ExecutesNothing s (on_again s now octets last).state
+again_executes s now octets last = go last.reply
+  where
+    go : (reply : Reply) → ExecutesNothing s (on_again s now octets (record { reply = reply; stood = last.stood; left = last.left })).state
+    go Held = same_executes s
+    go Silent = same_executes s
+    go Further = same_executes s
+    go (First f) = by (f.is_awaited && is_none s.core.session.unsolicited)
+      where
+        again : Option Awaited
+        again = awaits now s.core.times.confirm_ms (control_in octets).seq f.upto
+
+        by : (b : Bool) → ExecutesNothing s (if b then with_session s (record s.core.session { awaited = again }) else s)
+        by true = awaits_executes s again
+        by false = same_executes s
+
+executes_at_end : (s : State) (now : ℕ) (step : Step) → ExecutesNothing s step.state → ExecutesNothing s (at_end now step).state
+executes_at_end s now step is =
+    let end = end_kept now step in
+    record {
+      restart = end.restart ∙ is.restart;
+      enabled = end.enabled ∙ is.enabled;
+      announced = end.announced ∙ is.announced;
+      points = end.points ∙ is.points;
+      times = end.times ∙ is.times;
+      request = end.request ∙ is.request;
+      response = end.response ∙ is.response;
+      last = end.last ∙ is.last;
+      selects = end.selects ∙ is.selects;
+      lanes = end.lanes ∙ is.lanes;
+      performed = end.performed ∙ is.performed;
+    }
+
+repeat_executes : (s : State) (o : Panel) (now : ℕ) (octets : List ℕ) → ExecutesNothing s (received s o now octets Again).state
+repeat_executes s o now octets =
+    executes_at_end s now (with_that s s.core.session.last (on_again s now octets)) (go s.core.session.last)
+  where
+    go : (last : Option LastRequest) → ExecutesNothing s (with_that s last (on_again s now octets)).state
+    go None = same_executes s
+    go (Some last) = again_executes s now octets last
+
+pub again_executes_nothing : (s : State) (o : Panel) (now : ℕ) (octets : List ℕ) → case_of s.core octets ≡ Again
+    → ExecutesNothing s (connection_after s o now octets).state
+again_executes_nothing s o now octets case =
+    subst (λ (k : Case). ExecutesNothing s (received s o now octets k).state) (sym case) (repeat_executes s o now octets)
+
+-- ---- what comes from the master
+
+confirm_performed : (s : State) (o : Panel) (now : ℕ) (awaited : Option Awaited) → (with_that s awaited (on_confirm s o now)).state.performed ≡ s.performed
+confirm_performed s o now None = refl
+confirm_performed s o now (Some w) =
+    goes_on_performed (record (with_session s (confirmed s.core.session)) { lanes = without s.lanes w.upto }) o now ((w.seq + 1) % 16)
+    (option_map marked s.core.session.last)
+
+unsolicited_performed : (s : State) (o : Panel) (now : ℕ) (awaited : Option Unsolicited)
+    → (with_that s awaited (on_unsolicited_confirm s o now)).state.performed ≡ s.performed
+unsolicited_performed s o now None = refl
+unsolicited_performed s o now (Some w) = held_performed (unsolicited_confirmed s w) o now s.core.session.last
+
+-- a request that is executed alone performs commands
+others_performed : (s : State) (o : Panel) (now : ℕ) (octets : List ℕ) (case : Case) → case ≢ Asks
+    → (received s o now octets case).state.performed ≡ s.performed
+others_performed s o now octets PassedOver other = refl
+others_performed s o now octets Confirms other =
+    (end_kept now (answered_by s o now octets Confirms)).performed ∙ confirm_performed s o now s.core.session.awaited
+others_performed s o now octets ConfirmsUnsolicited other =
+    (end_kept now (answered_by s o now octets ConfirmsUnsolicited)).performed ∙ unsolicited_performed s o now s.core.session.unsolicited
+others_performed s o now octets Stray other = (end_kept now (still s)).performed
+others_performed s o now octets Again other = (repeat_executes s o now octets).performed
+others_performed s o now octets Waits other = (end_kept now (still (record s { core = waiting s.core octets }))).performed
+others_performed s o now octets Asks other = absurd (other refl)
+
+request_performed : (s : State) (o : Panel) (now : ℕ) (octets : List ℕ)
+    → (received s o now octets Asks).state.performed ≡ (content_at (asked s octets) o now octets).state.performed
+request_performed s o now octets =
+    (end_kept now (on_request s o now octets)).performed
+    ∙ (replied_as now (control_in octets).seq (content_at (asked s octets) o now octets)).performed
+
+request_selects : (s : State) (o : Panel) (now : ℕ) (octets : List ℕ)
+    → (received s o now octets Asks).state.core.session.selects ≡ (content_at (asked s octets) o now octets).state.core.session.selects
+request_selects s o now octets =
+    (end_kept now (on_request s o now octets)).selects
+    ∙ (replied_as now (control_in octets).seq (content_at (asked s octets) o now octets)).selects
+
+pub connection_performs : (s : State) (o : Panel) (now : ℕ) (octets : List ℕ) → AcceptedAreCovered
+    → Performs o octets s.performed (connection_after s o now octets).state.performed
+connection_performs s o now octets covers = go (case_of s.core octets)
+  where
+    none : (case : Case) → case ≢ Asks → Performs o octets s.performed (received s o now octets case).state.performed
+    none case other = subst (Performs o octets s.performed) (sym (others_performed s o now octets case other)) (none_of o octets s.performed)
+
+    go : (case : Case) → Performs o octets s.performed (received s o now octets case).state.performed
+    go PassedOver = none PassedOver (λ is. cc)
+    go Confirms = none Confirms (λ is. cc)
+    go ConfirmsUnsolicited = none ConfirmsUnsolicited (λ is. cc)
+    go Stray = none Stray (λ is. cc)
+    go Again = none Again (λ is. cc)
+    go Waits = none Waits (λ is. cc)
+    go Asks =
+        subst (Performs o octets s.performed) (sym (request_performed s o now octets)) (content_performs (asked s octets) o now octets covers)
+
+-- the last request is no other
+pub last_performs_none : (s : State) (o : Panel) (now : ℕ) (octets : List ℕ) → is_last_request s.core.session octets ≡ true
+    → (connection_after s o now octets).state.performed ≡ s.performed
+last_performs_none s o now octets last = others_performed s o now octets (case_of s.core octets) (no_other (case_of s.core octets) (case_says s.core octets))
+  where
+    no_other : (case : Case) → CaseSays s.core octets case → case ≢ Asks
+    no_other Asks says is =
+        let both = and_parts (is_some s.core.session.last) (bytes_eq octets s.core.session.request) last in
+        says.0.other both.0 ((bytes_eq-Decides octets s.core.session.request).0 both.1)
+    no_other PassedOver says is = cc
+    no_other Confirms says is = cc
+    no_other ConfirmsUnsolicited says is = cc
+    no_other Stray says is = cc
+    no_other Again says is = cc
+    no_other Waits says is = cc
+
+-- ---- an OPERATE and its select
+
+kept_select : (s : State) (octets : List ℕ) → function_in octets ≡ function_octet function.Operate
+    → (asked s octets).core.session.selects ≡ s.core.session.selects
+kept_select s octets operate =
+    ap (λ (b : Bool). if b then s.core.session.selects else None) (eq-eqb (function_in octets) 4 operate)
+
+pub connection_serves : (s : State) (o : Panel) (now : ℕ) (octets : List ℕ) → SelectsServe → function_in octets ≡ function_octet function.Operate
+    → (connection_after s o now octets).state.performed ≢ s.performed → Serves s now octets (connection_after s o now octets).state
+connection_serves s o now octets serves operate = go (case_of s.core octets)
+  where
+    none : (case : Case) → case ≢ Asks → (received s o now octets case).state.performed ≢ s.performed → Serves s now octets (received s o now octets case).state
+    none case other does = absurd (does (others_performed s o now octets case other))
+
+    go : (case : Case) → (received s o now octets case).state.performed ≢ s.performed → Serves s now octets (received s o now octets case).state
+    go PassedOver = none PassedOver (λ is. cc)
+    go Confirms = none Confirms (λ is. cc)
+    go ConfirmsUnsolicited = none ConfirmsUnsolicited (λ is. cc)
+    go Stray = none Stray (λ is. cc)
+    go Again = none Again (λ is. cc)
+    go Waits = none Waits (λ is. cc)
+    go Asks = λ does.
+        let found : Serves (asked s octets) now octets (content_at (asked s octets) o now octets).state =
+        content_serves (asked s octets) o now octets serves operate (λ same. does (request_performed s o now octets ∙ same)) in record {
+          selected = record {
+            select = found.selected.select;
+            is = sym (kept_select s octets operate) ∙ found.selected.is;
+            goes_with = found.selected.goes_with;
+            is_running = found.selected.is_running;
+          };
+          spent = request_selects s o now octets ∙ found.spent;
+        }
+
+-- ---- time, a new reading, an opening
+
+-- nothing is released, and nothing performed
+record LeavesAlone (s : State) (step : Step) : Type 0 where
+  lanes : step.state.lanes ≡ s.lanes
+  discarded : step.does.discarded ≡ []
+  performed : step.state.performed ≡ s.performed
+
+alone_at_end : (s : State) (now : ℕ) (step : Step) → LeavesAlone s step → LeavesAlone s (at_end now step)
+alone_at_end s now step is =
+    let end = end_kept now step in
+    record { lanes = end.lanes ∙ is.lanes; discarded = end.discarded ∙ is.discarded; performed = end.performed ∙ is.performed }
+
+abbrev with_unsolicited : State → Option Unsolicited → State
+with_unsolicited s u = record s { core = record s.core { session = record s.core.session { unsolicited = u } } }
+
+timer_alone : (s : State) (now : ℕ) → LeavesAlone s (unsolicited_timer s now)
+timer_alone s now = go s.core.session.unsolicited
+  where
+    go : (u : Option Unsolicited) → LeavesAlone s (unsolicited_timer (with_unsolicited s u) now)
+    go None = record { lanes = refl; discarded = refl; performed = refl }
+    go (Some w) = by (has_ended now w.ends) (holds_read s.core.session.last || nat_le s.core.times.retries w.repeats)
+      where
+        by : (a b : Bool) → LeavesAlone s (if not a then still (with_unsolicited s (Some w))
+            else if b then
+            (record {
+              state = record (with_unsolicited s (Some w)) { core = closed (with_unsolicited s (Some w)).core };
+              does = record nothing { close = true };
+            })
+            else (record {
+              state = with_unsolicited s (Some (record w { ends = deadline now s.core.times.confirm_ms; repeats = w.repeats + 1 }));
+              does = sending s.core.session.unsolicited_response;
+            }))
+        by false b = record { lanes = refl; discarded = refl; performed = refl }
+        by true true = record { lanes = refl; discarded = refl; performed = refl }
+        by true false = record { lanes = refl; discarded = refl; performed = refl }
+
+tick_alone : (s : State) (now : ℕ) → LeavesAlone s (tick_of s now)
+tick_alone s now = by s.core.is_open
+  where
+    by : (b : Bool)
+        → LeavesAlone s (if b then at_end now (unsolicited_timer (record s { core = solicited_timer s.core now }) now) else still s)
+    by true =
+        let timed = timer_alone (record s { core = solicited_timer s.core now }) now in
+        alone_at_end s now (unsolicited_timer (record s { core = solicited_timer s.core now }) now)
+        (record { lanes = timed.lanes; discarded = timed.discarded; performed = timed.performed })
+    by false = record { lanes = refl; discarded = refl; performed = refl }
+
+opened_alone : (s : State) (now : ℕ) → LeavesAlone s (opened_of s now)
+opened_alone s now = by (s.core.times.unsolicited && not s.core.announced)
+  where
+    by : (b : Bool) → LeavesAlone s (if b then starts (still (begun s)) now (plain 0 []) else at_end now (still (begun s)))
+    by true = record { lanes = refl; discarded = refl; performed = refl }
+    by false = alone_at_end s now (still (begun s)) (record { lanes = refl; discarded = refl; performed = refl })
+
+pub tick_releases : (s : State) (now : ℕ) → ReleasesNone s (tick_of s now)
+tick_releases s now = let alone = tick_alone s now in record { lanes = alone.lanes; discarded = alone.discarded }
+
+pub tick_performed : (s : State) (now : ℕ) → (tick_of s now).state.performed ≡ s.performed
+tick_performed s now = (tick_alone s now).performed
+
+pub opened_releases : (s : State) (now : ℕ) → ReleasesNone s (opened_of s now)
+opened_releases s now = let alone = opened_alone s now in record { lanes = alone.lanes; discarded = alone.discarded }
+
+pub opened_performed : (s : State) (now : ℕ) → (opened_of s now).state.performed ≡ s.performed
+opened_performed s now = (opened_alone s now).performed
+
+pub changing : State → ℕ → Kind → ℕ → Reading → Option LaneRow → Step
+changing s now kind index reading made = record {
+  state = record s { core = record s.core { points = changed_of s.core.points kind index reading }; lanes = with_rows s.lanes (option_to_list made) };
+  does = record nothing { overwritten = dropped_by s.lanes (option_to_list made) };
+}
+
+pub change_discards : (s : State) (now : ℕ) (kind : Kind) (index : ℕ) (reading : Reading) (made : Option LaneRow)
+    → (change_of s now kind index reading made).does.discarded ≡ []
+unfolding changing
+change_discards s now kind index reading made = (end_kept now (changing s now kind index reading made)).discarded
+
+pub change_performed : (s : State) (now : ℕ) (kind : Kind) (index : ℕ) (reading : Reading) (made : Option LaneRow)
+    → (change_of s now kind index reading made).state.performed ≡ s.performed
+unfolding changing
+change_performed s now kind index reading made = (end_kept now (changing s now kind index reading made)).performed
