@@ -1,6 +1,6 @@
 -- What a request performs: commands of its own, by its function and its select.
 use Rattle.std.proofs.Common.{◌≡◌, ◌≢◌, Bool, true, false, if◌then◌else◌, refl, sym, ◌∙◌, ap, subst, ℕ, zero, ◌<◌, ◌≤◌, ◌==◌, ◌&&◌, ◌↔◌, nat_le, nat_lt, List, [], ◌∷◌, ◌++◌, length, count_by, filter, arith, Option, None, Some, IfSome, Result, Ok, Err, eqb-true}
-use Rattle.std.specs.Prelude.{slice_index}
+use Rattle.std.specs.Prelude.{⊤, slice_index}
 use Rattle.std.specs.List.{list_all}
 use Rattle.std.proofs.lemmas.Bool.{ltb-false}
 use Rattle.std.proofs.lemmas.List.{append-nil}
@@ -23,7 +23,7 @@ use Rattle.dnp_controls.specs.Selecting.{Select, GoesWith, IsRunning, answer}
 use Rattle.dnp_outstation.specs.Items.{first_place, last_in, is_inside}
 use Rattle.dnp_outstation.specs.State.{State}
 use Rattle.dnp_outstation.specs.Content.{Executed, plain, answered, content_of, for_request, by_function, read_content, source_of, refused, written, write_bits, time_written, bits_of, parameter_error, no_func_code_support}
-use Rattle.dnp_outstation.specs.Controls.{commands_in, objects_in, checks, all_alike, told, are_too_many, with_select, operated, direct_executed, operate_by, operate_executed, silently, is_silent, carried_out, control_by, control_content, is_control, content_at}
+use Rattle.dnp_outstation.specs.Controls.{Outcome, commands_in, objects_in, number_in, alike, are_too_many, performed_of, operates, operates_selected, outcome_of, come_to, outcome_at, carried_out, silently, is_silent, control_content, is_control, content_at}
 use Rattle.dnp_outstation.specs.Connection.{control_in, function_in}
 use Rattle.dnp_outstation.specs.Links.{performs, asked_commands, commands_asked, Performs, IsSelected}
 
@@ -117,60 +117,78 @@ filter_few test (x ∷ xs) = by (test x) (filter_few test xs)
     by true few = omega arith
     by false few = omega arith
 
-operated_performs : (s : State) (o : Panel) (octets : List ℕ) (commands : List Command) → AcceptedAreCovered → commands_asked octets ≡ commands
-    → Performs o octets s.performed (operated s o commands).performed
-operated_performs s o octets commands covers asks = by (are_too_many o commands) refl
+-- what comes to this performs no more than it may
+record IsGranted (o : Panel) (octets : List ℕ) (performs : List Command) : Type 0 where
+  few : length performs ≤ o.most
+  covered : IsCoveredBy performs (commands_asked octets)
+
+AreGranted : Panel → List ℕ → Result (Outcome × List Head) ℕ → Type 0
+AreGranted o octets (Err bits) = ⊤
+AreGranted o octets (Ok x) = IsGranted o octets x.0.performs
+
+none_granted : (o : Panel) (octets : List ℕ) → IsGranted o octets []
+none_granted o octets = record { few = omega arith; covered = record { at_most = λ test. omega arith } }
+
+performed_granted : (o : Panel) (octets : List ℕ) (commands : List Command) → AcceptedAreCovered → commands_asked octets ≡ commands
+    → IsGranted o octets (performed_of o commands)
+performed_granted o octets commands covers asks = by (are_too_many o commands) refl
   where
-    by : (b : Bool) → are_too_many o commands ≡ b
-        → Performs o octets s.performed (if b then s else record s { performed = s.performed ++ accepted o.check commands }).performed
-    by true is = none_of o octets s.performed
+    by : (b : Bool) → are_too_many o commands ≡ b → IsGranted o octets (if b then [] else accepted o.check commands)
+    by true is = none_granted o octets
     by false is =
         let within : length commands ≤ o.most = ltb-false o.most (length commands) is in
         let fewer = filter_few (λ command. o.check command == status.success) commands in
         record {
-          those = accepted o.check commands;
-          is = refl;
           few = omega arith;
           covered = subst (IsCoveredBy (accepted o.check commands)) (sym asks) (covers (λ command. o.check command == status.success) commands);
         }
 
 -- of each function
-carried_performs : (s : State) (o : Panel) (now : ℕ) (octets : List ℕ) (f : Function) (headers : List Head) → AcceptedAreCovered
+function_granted : (s : State) (o : Panel) (now : ℕ) (octets : List ℕ) (f : Function) (headers : List Head) → AcceptedAreCovered
     → (performs f ≡ true → commands_asked octets ≡ commands_in headers)
-    → Performs o octets s.performed (carried_out s o now octets f headers).state.performed
-carried_performs s o now octets function.Select headers covers asks = none_of o octets s.performed
-carried_performs s o now octets function.Operate headers covers asks =
+    → AreGranted o octets (come_to (outcome_of f s.core.session.selects s.core.times.select_ms o now octets (commands_in headers)) headers)
+unfolding AreGranted
+function_granted s o now octets function.Select headers covers asks = none_granted o octets
+function_granted s o now octets function.Operate headers covers asks =
     by (are_too_many o (commands_in headers))
-    (answer s.core.session.selects now (control_of (slice_index octets 0)).seq (objects_in octets) s.core.times.select_ms == status.success)
+    (answer s.core.session.selects now (number_in octets) (objects_in octets) s.core.times.select_ms == status.success)
   where
-    direct : Performs o octets s.performed (direct_executed (with_select s None) o headers).state.performed
-    direct = operated_performs (with_select s None) o octets (commands_in headers) covers (asks refl)
+    all : IsGranted o octets (performed_of o (commands_in headers))
+    all = performed_granted o octets (commands_in headers) covers (asks refl)
 
-    by : (a b : Bool)
-        → Performs o octets s.performed (if a then direct_executed (with_select s None) o headers
-        else if b then direct_executed (with_select s None) o headers
-        else told (with_select s None) headers
-        (all_alike (answer s.core.session.selects now (control_of (slice_index octets 0)).seq (objects_in octets) s.core.times.select_ms) (commands_in headers))).state.performed
-    by true b = direct
-    by false true = direct
-    by false false = none_of o octets s.performed
-carried_performs s o now octets function.DirectOperate headers covers asks = operated_performs s o octets (commands_in headers) covers (asks refl)
-carried_performs s o now octets function.DirectOperateNr headers covers asks = operated_performs s o octets (commands_in headers) covers (asks refl)
-carried_performs s o now octets _ headers covers asks =
-    subst (Performs o octets s.performed) (sym (content_none s o octets).performed) (none_of o octets s.performed)
+    by : (a b : Bool) → IsGranted o octets (if a then operates None o (commands_in headers)
+        else if b then operates None o (commands_in headers)
+        else record {
+          select = None;
+          performs = [];
+          code = alike (answer s.core.session.selects now (number_in octets) (objects_in octets) s.core.times.select_ms);
+        }).performs
+    by true b = all
+    by false true = all
+    by false false = none_granted o octets
+function_granted s o now octets function.DirectOperate headers covers asks = performed_granted o octets (commands_in headers) covers (asks refl)
+function_granted s o now octets function.DirectOperateNr headers covers asks = performed_granted o octets (commands_in headers) covers (asks refl)
+function_granted s o now octets _ headers covers asks = tt
 
-control_performs : (s : State) (o : Panel) (now : ℕ) (octets : List ℕ) (r : Result Asked AppFault) → AcceptedAreCovered → request_at octets ≡ r
-    → Performs o octets s.performed (control_by s o now octets r).state.performed
-control_performs s o now octets (Err fault) covers is = none_of o octets s.performed
-control_performs s o now octets (Ok asked) covers is = by (nat_lt 2046 (length octets))
+outcome_granted : (s : State) (o : Panel) (now : ℕ) (octets : List ℕ) (r : Result Asked AppFault) → AcceptedAreCovered → request_at octets ≡ r
+    → AreGranted o octets (outcome_at s.core.session.selects s.core.times.select_ms o now octets r)
+unfolding AreGranted
+outcome_granted s o now octets (Err fault) covers is = tt
+outcome_granted s o now octets (Ok asked) covers is = by (nat_lt 2046 (length octets))
   where
     asks : performs asked.function ≡ true → commands_asked octets ≡ commands_in asked.headers
     asks does = ap asked_commands is ∙ ap (λ (b : Bool). if b then commands_in asked.headers else []) does
 
-    by : (b : Bool)
-        → Performs o octets s.performed (if b then refused s parameter_error else carried_out s o now octets asked.function asked.headers).state.performed
-    by true = none_of o octets s.performed
-    by false = carried_performs s o now octets asked.function asked.headers covers asks
+    by : (b : Bool) → AreGranted o octets (if b then Err parameter_error
+        else come_to (outcome_of asked.function s.core.session.selects s.core.times.select_ms o now octets (commands_in asked.headers)) asked.headers)
+    by true = tt
+    by false = function_granted s o now octets asked.function asked.headers covers asks
+
+carried_performs : (s : State) (o : Panel) (octets : List ℕ) (r : Result (Outcome × List Head) ℕ) → AreGranted o octets r
+    → Performs o octets s.performed (carried_out s r).state.performed
+unfolding AreGranted
+carried_performs s o octets (Err bits) granted = none_of o octets s.performed
+carried_performs s o octets (Ok x) granted = record { those = x.0.performs; is = refl; few = granted.few; covered = granted.covered }
 
 pub content_performs : (s : State) (o : Panel) (now : ℕ) (octets : List ℕ) → AcceptedAreCovered
     → Performs o octets s.performed (content_at s o now octets).state.performed
@@ -178,10 +196,10 @@ content_performs s o now octets covers = by (is_control octets) (is_silent octet
   where
     by : (a b : Bool)
         → Performs o octets s.performed (if a
-        then (if b then silently (control_by s o now octets (request_at octets)) else control_by s o now octets (request_at octets))
+        then (let x = carried_out s (outcome_at s.core.session.selects s.core.times.select_ms o now octets (request_at octets)) in if b then silently x else x)
         else content_of s o octets).state.performed
-    by true true = control_performs s o now octets (request_at octets) covers refl
-    by true false = control_performs s o now octets (request_at octets) covers refl
+    by true true = carried_performs s o octets (outcome_at s.core.session.selects s.core.times.select_ms o now octets (request_at octets)) (outcome_granted s o now octets (request_at octets) covers refl)
+    by true false = carried_performs s o octets (outcome_at s.core.session.selects s.core.times.select_ms o now octets (request_at octets)) (outcome_granted s o now octets (request_at octets) covers refl)
     by false b = subst (Performs o octets s.performed) (sym (content_none s o octets).performed) (none_of o octets s.performed)
 
 -- ---- other functions perform nothing
@@ -230,59 +248,65 @@ selected_by s now octets serves is = go s.core.session.selects refl is
         let both = (serves select now (control_in octets).seq (objects_in octets) s.core.times.select_ms).0 is in
         record { select = select; is = there; goes_with = both.0; is_running = both.1 }
 
-operate_serves : (s : State) (o : Panel) (now : ℕ) (octets : List ℕ) (headers : List Head) → SelectsServe
-    → (operate_executed s o now octets headers).state.performed ≢ s.performed
-    → Serves s now octets (operate_executed s o now octets headers).state
-operate_serves s o now octets headers serves = by (are_too_many o (commands_in headers)) (code == status.success) refl
+same_performed : (performed : List Command) → performed ++ [] ≢ performed → ⊥
+same_performed performed other = other (append-nil performed)
+
+operate_serves : (s : State) (o : Panel) (now : ℕ) (octets : List ℕ) (commands : List Command) → SelectsServe
+    → (let x = operates_selected s.core.session.selects s.core.times.select_ms o now octets commands in
+    s.performed ++ x.performs ≢ s.performed → IsSelected s now octets × (x.select ≡ None))
+operate_serves s o now octets commands serves = by (are_too_many o commands) (code == status.success) refl
   where
     code : ℕ
-    code = answer s.core.session.selects now (control_in octets).seq (objects_in octets) s.core.times.select_ms
-
-    operated_is : (a : Bool) → (let new : State =
-        if a then with_select s None else record (with_select s None) { performed = s.performed ++ accepted o.check (commands_in headers) }
-        in new.core.session.selects ≡ None)
-    operated_is true = refl
-    operated_is false = refl
+    code = answer s.core.session.selects now (number_in octets) (objects_in octets) s.core.times.select_ms
 
     by : (a b : Bool) → (code == status.success) ≡ b
-        → (let x : Executed = if a then told (if a then with_select s None
-        else record (with_select s None) { performed = s.performed ++ accepted o.check (commands_in headers) }) headers (checks o (commands_in headers))
-        else if b then told (if a then with_select s None
-        else record (with_select s None) { performed = s.performed ++ accepted o.check (commands_in headers) }) headers (checks o (commands_in headers))
-        else told (with_select s None) headers (all_alike code (commands_in headers))
-        in x.state.performed ≢ s.performed → Serves s now octets x.state)
-    by true b is other = absurd (other refl)
-    by false true is other = record { selected = selected_by s now octets serves (eqb-true code 0 is); spent = refl }
-    by false false is other = absurd (other refl)
+        → (let x : Outcome = if a then (record {
+          select = None;
+          performs = if a then [] else accepted o.check commands;
+          code = if a then alike status.too_many_objs else o.check;
+        })
+        else if b then (record {
+          select = None;
+          performs = if a then [] else accepted o.check commands;
+          code = if a then alike status.too_many_objs else o.check;
+        })
+        else (record { select = None; performs = []; code = alike code })
+        in s.performed ++ x.performs ≢ s.performed → IsSelected s now octets × (x.select ≡ None))
+    by true b is other = absurd (same_performed s.performed other)
+    by false true is other = (selected_by s now octets serves (eqb-true code 0 is), refl)
+    by false false is other = absurd (same_performed s.performed other)
 
-carried_serves : (s : State) (o : Panel) (now : ℕ) (octets : List ℕ) (f : Function) (headers : List Head) → SelectsServe
-    → function_octet f ≡ function_octet function.Operate → (carried_out s o now octets f headers).state.performed ≢ s.performed
-    → Serves s now octets (carried_out s o now octets f headers).state
-carried_serves s o now octets function.Operate headers serves is other = operate_serves s o now octets headers serves other
-carried_serves s o now octets function.Select headers serves is other = absurd (other refl)
-carried_serves s o now octets function.DirectOperate headers serves is other = absurd (cc)
-carried_serves s o now octets function.DirectOperateNr headers serves is other = absurd (cc)
-carried_serves s o now octets _ headers serves is other = absurd (other (content_none s o octets).performed)
+abbrev Serving : State → ℕ → List ℕ → Result (Outcome × List Head) ℕ → Type 0
+Serving s now octets r = (carried_out s r).state.performed ≢ s.performed → Serves s now octets (carried_out s r).state
 
-control_serves : (s : State) (o : Panel) (now : ℕ) (octets : List ℕ) (r : Result Asked AppFault) → SelectsServe → request_at octets ≡ r
-    → function_in octets ≡ function_octet function.Operate → (control_by s o now octets r).state.performed ≢ s.performed
-    → Serves s now octets (control_by s o now octets r).state
-control_serves s o now octets (Err fault) serves is operate = λ other. absurd (other refl)
-control_serves s o now octets (Ok asked) serves is operate = by (nat_lt 2046 (length octets))
+function_serves : (s : State) (o : Panel) (now : ℕ) (octets : List ℕ) (f : Function) (headers : List Head) → SelectsServe
+    → function_octet f ≡ function_octet function.Operate
+    → Serving s now octets (come_to (outcome_of f s.core.session.selects s.core.times.select_ms o now octets (commands_in headers)) headers)
+function_serves s o now octets function.Operate headers serves is = λ other.
+    let both = operate_serves s o now octets (commands_in headers) serves other in record { selected = both.0; spent = both.1 }
+function_serves s o now octets function.Select headers serves is = λ other. absurd (same_performed s.performed other)
+function_serves s o now octets function.DirectOperate headers serves is = absurd (let no : 5 ≡ 4 = is in cc)
+function_serves s o now octets function.DirectOperateNr headers serves is = absurd (let no : 6 ≡ 4 = is in cc)
+function_serves s o now octets _ headers serves is = λ other. absurd (other refl)
+
+outcome_serves : (s : State) (o : Panel) (now : ℕ) (octets : List ℕ) (r : Result Asked AppFault) → SelectsServe → request_at octets ≡ r
+    → function_in octets ≡ function_octet function.Operate → Serving s now octets (outcome_at s.core.session.selects s.core.times.select_ms o now octets r)
+outcome_serves s o now octets (Err fault) serves is operate = λ other. absurd (other refl)
+outcome_serves s o now octets (Ok asked) serves is operate = by (nat_lt 2046 (length octets))
   where
-    by : (b : Bool) → (let x : Executed = if b then refused s parameter_error else carried_out s o now octets asked.function asked.headers in
-        x.state.performed ≢ s.performed → Serves s now octets x.state)
-    by true other = absurd (other refl)
-    by false other = carried_serves s o now octets asked.function asked.headers serves (request_function octets asked is ∙ operate) other
+    by : (b : Bool) → Serving s now octets (if b then Err parameter_error
+        else come_to (outcome_of asked.function s.core.session.selects s.core.times.select_ms o now octets (commands_in asked.headers)) asked.headers)
+    by true = λ other. absurd (other refl)
+    by false = function_serves s o now octets asked.function asked.headers serves (request_function octets asked is ∙ operate)
 
 pub content_serves : (s : State) (o : Panel) (now : ℕ) (octets : List ℕ) → SelectsServe → function_in octets ≡ function_octet function.Operate
     → (content_at s o now octets).state.performed ≢ s.performed → Serves s now octets (content_at s o now octets).state
 content_serves s o now octets serves operate = by (is_control octets) (is_silent octets)
   where
     by : (a b : Bool) → (let x : Executed = if a
-        then (if b then silently (control_by s o now octets (request_at octets)) else control_by s o now octets (request_at octets))
+        then (let y = carried_out s (outcome_at s.core.session.selects s.core.times.select_ms o now octets (request_at octets)) in if b then silently y else y)
         else content_of s o octets
         in x.state.performed ≢ s.performed → Serves s now octets x.state)
-    by true true other = control_serves s o now octets (request_at octets) serves refl operate other
-    by true false other = control_serves s o now octets (request_at octets) serves refl operate other
+    by true true other = outcome_serves s o now octets (request_at octets) serves refl operate other
+    by true false other = outcome_serves s o now octets (request_at octets) serves refl operate other
     by false b other = absurd (other (content_none s o octets).performed)

@@ -7,6 +7,7 @@ mod case;
 mod change;
 mod confirm;
 mod connection;
+mod controls;
 mod delay;
 mod execute;
 mod fault;
