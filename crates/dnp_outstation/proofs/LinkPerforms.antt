@@ -1,5 +1,5 @@
 -- What calls perform: a request that is executed its own commands, and nothing else any.
-use Rattle.std.proofs.Common.{◌≡◌, ◌≢◌, Bool, true, false, if◌then◌else◌, refl, sym, ◌∙◌, ap, subst, ℕ, ◌+◌, ◌%◌, ◌==◌, ◌&&◌, ◌||◌, not, nat_le, is_none, is_some, List, [], Option, None, Some, IsSome, option_map, option_to_list, Result, Ok, Err, eq-eqb}
+use Rattle.std.proofs.Common.{◌≡◌, ◌≢◌, ◌⊎◌, inl, inr, Bool, true, false, if◌then◌else◌, refl, sym, ◌∙◌, ap, subst, ℕ, ◌+◌, ◌%◌, ◌==◌, ◌&&◌, ◌||◌, not, nat_le, is_none, is_some, List, [], Option, None, Some, IsSome, option_map, option_to_list, Result, Ok, Err, eq-eqb, eqb-true}
 use Rattle.std.specs.Str.{bytes_eq}
 use Rattle.std.proofs.lemmas.Bool.{and_parts}
 use Rattle.std.proofs.lemmas.Slice.Eq.{bytes_eq-Decides}
@@ -29,10 +29,10 @@ use Rattle.dnp_outstation.specs.Content.{Content, Executed, plain, content_of}
 use Rattle.dnp_outstation.specs.Controls.{content_at}
 use Rattle.dnp_outstation.specs.Connection.{replied, asked, on_request, on_again, marked, confirmed, goes_on, on_confirm, awaits, control_in, function_in, is_last_request, waiting, answers_held, on_unsolicited_confirm, starts, at_end, closed, solicited_timer, unsolicited_timer, has_ended, case_of}
 use Rattle.dnp_outstation.specs.Calls.{with_that, answered_by, received, connection_after, tick_of, change_of, opened_of}
-use Rattle.dnp_outstation.specs.Links.{CaseSays, Performs, IsSelected, ReleasesNone, ExecutesNothing, unsolicited_confirmed, begun}
+use Rattle.dnp_outstation.specs.Links.{CaseSays, Performs, IsSelected, IsMade, ReleasesNone, ExecutesNothing, unsolicited_confirmed, begun}
 use Rattle.dnp_outstation.proofs.LinkCases.{case_says}
 use Rattle.dnp_outstation.proofs.LinkConfirms.{KeptAtEnd, starts_kept, end_kept}
-use Rattle.dnp_outstation.proofs.Performing.{AcceptedAreCovered, SelectsServe, Serves, content_none, content_performs, content_serves, none_of}
+use Rattle.dnp_outstation.proofs.Performing.{AcceptedAreCovered, SelectsServe, Serves, content_none, content_performs, content_serves, content_makes, none_of}
 
 -- ---- answers
 
@@ -49,30 +49,37 @@ replied_as now seq x = go x.content
     go None = record { performed = refl; selects = refl }
     go (Some content) = record { performed = refl; selects = refl }
 
-goes_on_performed : (s : State) (o : Panel) (now seq : ℕ) (last : Option LastRequest) → (goes_on s o now seq last).state.performed ≡ s.performed
-goes_on_performed s o now seq None = refl
-goes_on_performed s o now seq (Some last) = go last.left
+-- the outputs and the select are as they were
+record SameOutputs (old new : State) : Type 0 where
+  performed : new.performed ≡ old.performed
+  selects : new.core.session.selects ≡ old.core.session.selects
+
+goes_on_same : (s : State) (o : Panel) (now seq : ℕ) (last : Option LastRequest) → SameOutputs s (goes_on s o now seq last).state
+goes_on_same s o now seq None = record { performed = refl; selects = refl }
+goes_on_same s o now seq (Some last) = go last.left
   where
-    go : (left : Option Place) → (goes_on s o now seq (Some (record { reply = last.reply; stood = last.stood; left = left }))).state.performed ≡ s.performed
-    go None = refl
+    go : (left : Option Place) → SameOutputs s (goes_on s o now seq (Some (record { reply = last.reply; stood = last.stood; left = left }))).state
+    go None = record { performed = refl; selects = refl }
     go (Some place) = by (request_at s.core.session.request) refl
       where
         by : (r : Result Asked AppFault) → request_at s.core.session.request ≡ r
-            → (goes_on s o now seq (Some (record { reply = last.reply; stood = last.stood; left = Some place }))).state.performed ≡ s.performed
-        by (Ok r) is = rw is refl
-        by (Err fault) is = rw is refl
+            → SameOutputs s (goes_on s o now seq (Some (record { reply = last.reply; stood = last.stood; left = Some place }))).state
+        by (Ok r) is = rw is (record { performed = refl; selects = refl })
+        by (Err fault) is = rw is (record { performed = refl; selects = refl })
 
-held_performed : (s : State) (o : Panel) (now : ℕ) (last : Option LastRequest) → (answers_held s o now last).state.performed ≡ s.performed
-held_performed s o now None = refl
-held_performed s o now (Some last) = go last.reply
+held_same : (s : State) (o : Panel) (now : ℕ) (last : Option LastRequest) → SameOutputs s (answers_held s o now last).state
+held_same s o now None = record { performed = refl; selects = refl }
+held_same s o now (Some last) = go last.reply
   where
-    go : (reply : Reply) → (answers_held s o now (Some (record { reply = reply; stood = last.stood; left = last.left }))).state.performed ≡ s.performed
+    go : (reply : Reply) → SameOutputs s (answers_held s o now (Some (record { reply = reply; stood = last.stood; left = last.left }))).state
     go Held =
-        (replied_as now (control_in s.core.session.request).seq (content_of s o s.core.session.request)).performed
-        ∙ (content_none s o s.core.session.request).performed
-    go Silent = refl
-    go (First f) = refl
-    go Further = refl
+        let x = content_of s o s.core.session.request in
+        let answer = replied_as now (control_in s.core.session.request).seq x in
+        let none = content_none s o s.core.session.request in
+        record { performed = answer.performed ∙ none.performed; selects = answer.selects ∙ none.selects }
+    go Silent = record { performed = refl; selects = refl }
+    go (First f) = record { performed = refl; selects = refl }
+    go Further = record { performed = refl; selects = refl }
 
 -- ---- the last request again
 
@@ -154,25 +161,33 @@ again_executes_nothing s o now octets case =
 
 -- ---- what comes from the master
 
-confirm_performed : (s : State) (o : Panel) (now : ℕ) (awaited : Option Awaited) → (with_that s awaited (on_confirm s o now)).state.performed ≡ s.performed
-confirm_performed s o now None = refl
-confirm_performed s o now (Some w) =
-    goes_on_performed (record (with_session s (confirmed s.core.session)) { lanes = without s.lanes w.upto }) o now ((w.seq + 1) % 16)
-    (option_map marked s.core.session.last)
+confirm_same : (s : State) (o : Panel) (now : ℕ) (awaited : Option Awaited) → SameOutputs s (with_that s awaited (on_confirm s o now)).state
+confirm_same s o now None = record { performed = refl; selects = refl }
+confirm_same s o now (Some w) =
+    let after : State = record (with_session s (confirmed s.core.session)) { lanes = without s.lanes w.upto } in
+    let same = goes_on_same after o now ((w.seq + 1) % 16) (option_map marked s.core.session.last) in
+    record { performed = same.performed; selects = same.selects }
 
-unsolicited_performed : (s : State) (o : Panel) (now : ℕ) (awaited : Option Unsolicited)
-    → (with_that s awaited (on_unsolicited_confirm s o now)).state.performed ≡ s.performed
-unsolicited_performed s o now None = refl
-unsolicited_performed s o now (Some w) = held_performed (unsolicited_confirmed s w) o now s.core.session.last
+unsolicited_same : (s : State) (o : Panel) (now : ℕ) (awaited : Option Unsolicited)
+    → SameOutputs s (with_that s awaited (on_unsolicited_confirm s o now)).state
+unsolicited_same s o now None = record { performed = refl; selects = refl }
+unsolicited_same s o now (Some w) =
+    let same = held_same (unsolicited_confirmed s w) o now s.core.session.last in
+    record { performed = same.performed; selects = same.selects }
+
+-- but for requests
+confirms_same : (s : State) (now : ℕ) (step : Step) → SameOutputs s step.state → SameOutputs s (at_end now step).state
+confirms_same s now step same =
+    let end = end_kept now step in record { performed = end.performed ∙ same.performed; selects = end.selects ∙ same.selects }
 
 -- a request that is executed alone performs commands
 others_performed : (s : State) (o : Panel) (now : ℕ) (octets : List ℕ) (case : Case) → case ≢ Asks
     → (received s o now octets case).state.performed ≡ s.performed
 others_performed s o now octets PassedOver other = refl
 others_performed s o now octets Confirms other =
-    (end_kept now (answered_by s o now octets Confirms)).performed ∙ confirm_performed s o now s.core.session.awaited
+    (confirms_same s now (answered_by s o now octets Confirms) (confirm_same s o now s.core.session.awaited)).performed
 others_performed s o now octets ConfirmsUnsolicited other =
-    (end_kept now (answered_by s o now octets ConfirmsUnsolicited)).performed ∙ unsolicited_performed s o now s.core.session.unsolicited
+    (confirms_same s now (answered_by s o now octets ConfirmsUnsolicited) (unsolicited_same s o now s.core.session.unsolicited)).performed
 others_performed s o now octets Stray other = (end_kept now (still s)).performed
 others_performed s o now octets Again other = (repeat_executes s o now octets).performed
 others_performed s o now octets Waits other = (end_kept now (still (record s { core = waiting s.core octets }))).performed
@@ -255,6 +270,58 @@ connection_serves s o now octets serves operate = go (case_of s.core octets)
           };
           spent = request_selects s o now octets ∙ found.spent;
         }
+
+-- ---- which select stands then
+
+-- what a request leaves of the select is what stood, if it leaves any
+left_stood : (s : State) (octets : List ℕ) (select : Select) → (asked s octets).core.session.selects ≡ Some select → s.core.session.selects ≡ Some select
+left_stood s octets select = by (function_in octets == function_octet function.Operate)
+  where
+    by : (b : Bool) → (let left : Option Select = if b then s.core.session.selects else None in left ≡ Some select) → s.core.session.selects ≡ Some select
+    by true is = is
+    by false is = cc
+
+pub connection_makes : (s : State) (o : Panel) (now : ℕ) (octets : List ℕ) (select : Select)
+    → (connection_after s o now octets).state.core.session.selects ≡ Some select
+    → (s.core.session.selects ≡ Some select) ⊎ IsMade now octets select
+connection_makes s o now octets select = go (case_of s.core octets)
+  where
+    go : (case : Case) → (received s o now octets case).state.core.session.selects ≡ Some select
+        → (s.core.session.selects ≡ Some select) ⊎ IsMade now octets select
+    go PassedOver is = inl is
+    go Confirms is =
+        inl (sym (confirms_same s now (answered_by s o now octets Confirms) (confirm_same s o now s.core.session.awaited)).selects ∙ is)
+    go ConfirmsUnsolicited is =
+        inl (sym (confirms_same s now (answered_by s o now octets ConfirmsUnsolicited) (unsolicited_same s o now s.core.session.unsolicited)).selects ∙ is)
+    go Stray is = inl (sym (end_kept now (still s)).selects ∙ is)
+    go Again is = inl (sym (repeat_executes s o now octets).selects ∙ is)
+    go Waits is = inl (left_stood s octets select (sym (end_kept now (still (record s { core = waiting s.core octets }))).selects ∙ is))
+    go Asks is = elim (content_makes (asked s octets) o now octets select (sym (request_selects s o now octets) ∙ is)) [
+      | inl there ↦ inl (left_stood s octets select there)
+      | inr made ↦ inr made
+    ]
+
+pub request_forgets : (s : State) (o : Panel) (now : ℕ) (octets : List ℕ) → case_of s.core octets ≡ Asks
+    → function_in octets ≢ function_octet function.Select → function_in octets ≢ function_octet function.Operate
+    → (connection_after s o now octets).state.core.session.selects ≡ None
+request_forgets s o now octets case no_select no_operate =
+    ap (λ (k : Case). (received s o now octets k).state.core.session.selects) case
+    ∙ request_selects s o now octets ∙ none (content_at (asked s octets) o now octets).state.core.session.selects refl
+  where
+    forgotten : (asked s octets).core.session.selects ≡ None
+    forgotten = by (function_in octets == function_octet function.Operate) refl
+      where
+        by : (b : Bool) → (function_in octets == function_octet function.Operate) ≡ b
+            → (let left : Option Select = if b then s.core.session.selects else None in left ≡ None)
+        by true is = absurd (no_operate (eqb-true (function_in octets) 4 is))
+        by false is = refl
+
+    none : (after : Option Select) → (content_at (asked s octets) o now octets).state.core.session.selects ≡ after → after ≡ None
+    none None is = refl
+    none (Some select) is = elim (content_makes (asked s octets) o now octets select is) [
+      | inl there ↦ absurd (let gone = forgotten in cc)
+      | inr made ↦ absurd (no_select made.function_is)
+    ]
 
 -- ---- time, a new reading, an opening
 

@@ -1,5 +1,5 @@
 -- What a request performs: commands of its own, by its function and its select.
-use Rattle.std.proofs.Common.{◌≡◌, ◌≢◌, Bool, true, false, if◌then◌else◌, refl, sym, ◌∙◌, ap, subst, ℕ, zero, ◌<◌, ◌≤◌, ◌==◌, ◌&&◌, ◌↔◌, nat_le, nat_lt, List, [], ◌∷◌, ◌++◌, length, count_by, filter, arith, Option, None, Some, IfSome, Result, Ok, Err, eqb-true}
+use Rattle.std.proofs.Common.{◌≡◌, ◌≢◌, ◌⊎◌, inl, inr, Bool, true, false, if◌then◌else◌, refl, sym, ◌∙◌, ap, subst, ℕ, zero, ◌<◌, ◌≤◌, ◌==◌, ◌&&◌, ◌↔◌, nat_le, nat_lt, List, [], ◌∷◌, ◌++◌, length, count_by, filter, arith, Option, None, Some, IfSome, Result, Ok, Err, eqb-true}
 use Rattle.std.specs.Prelude.{⊤, slice_index}
 use Rattle.std.specs.List.{list_all}
 use Rattle.std.proofs.lemmas.Bool.{ltb-false}
@@ -23,9 +23,9 @@ use Rattle.dnp_controls.specs.Selecting.{Select, GoesWith, IsRunning, answer}
 use Rattle.dnp_outstation.specs.Items.{first_place, last_in, is_inside}
 use Rattle.dnp_outstation.specs.State.{State}
 use Rattle.dnp_outstation.specs.Content.{Executed, plain, answered, content_of, for_request, by_function, read_content, source_of, refused, written, write_bits, time_written, bits_of, parameter_error, no_func_code_support}
-use Rattle.dnp_outstation.specs.Controls.{Outcome, commands_in, objects_in, number_in, alike, are_too_many, performed_of, operates, operates_selected, outcome_of, come_to, outcome_at, carried_out, silently, is_silent, control_content, is_control, content_at}
+use Rattle.dnp_outstation.specs.Controls.{Outcome, commands_in, objects_in, number_in, alike, checked, are_too_many, performed_of, operates, operates_selected, outcome_of, come_to, outcome_at, carried_out, silently, is_silent, control_content, is_control, content_at}
 use Rattle.dnp_outstation.specs.Connection.{control_in, function_in}
-use Rattle.dnp_outstation.specs.Links.{performs, asked_commands, commands_asked, Performs, IsSelected}
+use Rattle.dnp_outstation.specs.Links.{performs, asked_commands, commands_asked, Performs, IsSelected, IsMade}
 
 -- ---- the function of a request
 
@@ -310,3 +310,64 @@ content_serves s o now octets serves operate = by (is_control octets) (is_silent
     by true true other = outcome_serves s o now octets (request_at octets) serves refl operate other
     by true false other = outcome_serves s o now octets (request_at octets) serves refl operate other
     by false b other = absurd (other (content_none s o octets).performed)
+
+-- ---- which select stands then
+
+-- it stood before, or a SELECT made it
+MadeOf : State → ℕ → List ℕ → Option Select → Type 0
+MadeOf s now octets after = (select : Select) → after ≡ Some select → (s.core.session.selects ≡ Some select) ⊎ IsMade now octets select
+
+none_made : (s : State) (now : ℕ) (octets : List ℕ) → MadeOf s now octets None
+unfolding MadeOf
+none_made s now octets = λ select is. cc
+
+function_makes : (s : State) (o : Panel) (now : ℕ) (octets : List ℕ) (f : Function) (headers : List Head) → function_octet f ≡ function_in octets
+    → (let r = come_to (outcome_of f s.core.session.selects s.core.times.select_ms o now octets (commands_in headers)) headers in
+    MadeOf s now octets (carried_out s r).state.core.session.selects)
+unfolding MadeOf
+function_makes s o now octets function.Select headers has =
+    by (list_all (λ command. checked o (commands_in headers) command == status.success) (commands_in headers))
+  where
+    by : (b : Bool) → MadeOf s now octets (if b then Some (record { at = now; seq = (control_in octets).seq; octets = objects_in octets }) else None)
+    by true = λ select is. inr (record { function_is = sym has; is = cc })
+    by false = λ select is. cc
+function_makes s o now octets function.Operate headers has =
+    by (are_too_many o (commands_in headers))
+    (answer s.core.session.selects now (number_in octets) (objects_in octets) s.core.times.select_ms == status.success)
+  where
+    by : (a b : Bool) → MadeOf s now octets (if a then operates None o (commands_in headers)
+        else if b then operates None o (commands_in headers)
+        else record {
+          select = None;
+          performs = [];
+          code = alike (answer s.core.session.selects now (number_in octets) (objects_in octets) s.core.times.select_ms);
+        }).select
+    by true b = none_made s now octets
+    by false true = none_made s now octets
+    by false false = none_made s now octets
+function_makes s o now octets function.DirectOperate headers has = λ select is. inl is
+function_makes s o now octets function.DirectOperateNr headers has = λ select is. inl is
+function_makes s o now octets _ headers has = λ select is. inl is
+
+outcome_makes : (s : State) (o : Panel) (now : ℕ) (octets : List ℕ) (r : Result Asked AppFault) → request_at octets ≡ r
+    → MadeOf s now octets (carried_out s (outcome_at s.core.session.selects s.core.times.select_ms o now octets r)).state.core.session.selects
+unfolding MadeOf
+outcome_makes s o now octets (Err fault) is = λ select there. inl there
+outcome_makes s o now octets (Ok asked) is = by (nat_lt 2046 (length octets))
+  where
+    by : (b : Bool) → MadeOf s now octets (carried_out s (if b then Err parameter_error
+        else come_to (outcome_of asked.function s.core.session.selects s.core.times.select_ms o now octets (commands_in asked.headers)) asked.headers)).state.core.session.selects
+    by true = λ select there. inl there
+    by false = function_makes s o now octets asked.function asked.headers (request_function octets asked is)
+
+pub content_makes : (s : State) (o : Panel) (now : ℕ) (octets : List ℕ) (select : Select)
+    → (content_at s o now octets).state.core.session.selects ≡ Some select → (s.core.session.selects ≡ Some select) ⊎ IsMade now octets select
+unfolding MadeOf
+content_makes s o now octets = by (is_control octets) (is_silent octets)
+  where
+    by : (a b : Bool) → MadeOf s now octets (if a
+        then (let y = carried_out s (outcome_at s.core.session.selects s.core.times.select_ms o now octets (request_at octets)) in if b then silently y else y)
+        else content_of s o octets).state.core.session.selects
+    by true true = outcome_makes s o now octets (request_at octets) refl
+    by true false = outcome_makes s o now octets (request_at octets) refl
+    by false b = λ select there. inl (sym (content_none s o octets).selects ∙ there)
