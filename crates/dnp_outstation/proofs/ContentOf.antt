@@ -1,18 +1,18 @@
 -- What a request makes of an outstation: the connection and the lanes stay, and the answer is that of a READ or plain.
-use Rattle.std.proofs.Common.{◌≡◌, ◌≢◌, Bool, true, false, if◌then◌else◌, refl, sym, ◌∙◌, ap, subst, ℕ, ◌<◌, ◌^◌, ◌==◌, ◌&&◌, nat_le, nat_lt, List, [], ◌∷◌, ◌++◌, length, arith, Option, None, Some, IfSome, IsSome, Result, Ok, Err, eqb-true}
-use Rattle.std.specs.Prelude.{⊤, slice_index}
+use Rattle.std.proofs.Common.{◌≡◌, Bool, true, false, if◌then◌else◌, refl, ◌∙◌, subst, ℕ, ◌<◌, ◌^◌, ◌==◌, nat_lt, List, [], ◌∷◌, ◌++◌, length, arith, Option, None, Some, IfSome, IsSome, Result, Ok, Err, eqb-true}
+use Rattle.std.specs.Prelude.{⊤}
 use Rattle.std.specs.List.{All, list_all}
 use Rattle.dnp_appfragment.specs.declared.fault.AppFault.{AppFault}
 use Rattle.dnp_appfragment.specs.declared.function.Function.{Function}
 use Rattle.dnp_appfragment.specs.declared.function.Function.TheVariants as function
-use Rattle.dnp_appfragment.specs.Fragments.{Asked, looked_at, IsRequest}
+use Rattle.dnp_appfragment.specs.Fragments.{Asked, IsRequest}
 use Rattle.dnp_appfragment.specs.declared.table.Form.{Form}
 use Rattle.dnp_appfragment.specs.declared.table.Form.TheVariants as form
 use Rattle.dnp_appfragment.specs.Headers.{Head, IsHeader, AreHeaders, begin}
 use Rattle.dnp_appfragment.specs.Table.{takes_of, rules, form_of, function_octet}
 use Rattle.dnp_objects.specs.Objects.{objects, content_of as object_content}
 use Rattle.dnp_objects.specs.declared.command.Command.{Command}
-use Rattle.dnp_appfragment.specs.Meaning.{control_of, request_at}
+use Rattle.dnp_appfragment.specs.Meaning.{request_at}
 use Rattle.std.proofs.Math.ListN.{length-set}
 use Rattle.dnp_appfragment.proofs.Numbers.{octets_all}
 use Rattle.dnp_appfragment.proofs.Requests.{ReadsRequest, request_reads}
@@ -138,17 +138,20 @@ module _ (Fine : List Head → Type 0) (s : State) (o : Panel) (none : Fine []) 
   function_done headers function.Read =
       either (list_all (is_inside (source_of s o)) headers) (answered s (read_content s o (last_in s.lanes) first_place headers))
       (refused s parameter_error)
-      (record { done = record { keeps = others_keep s s.core.restart s.core.enabled; content = Reads headers; classes = refl }; some = refl }) (refused_done parameter_error)
+      (record { done = record { keeps = others_keep s s.core.restart s.core.enabled; content = Reads headers; classes = refl }; some = refl })
+      (refused_done parameter_error)
   function_done headers function.Write =
       either (write_bits headers == 0) (record (answered (written s headers) (plain 0 [])) { time = time_written headers }) (refused s (write_bits headers))
       (plain_done (written s headers) 0 (time_written headers) (others_keep s (written s headers).core.restart s.core.enabled) refl)
       (refused_done (write_bits headers))
   function_done headers function.EnableUnsolicited =
       let enabled = enabled_after true s.core.enabled headers in
-      plain_done (record s { core = record s.core { enabled = enabled } }) 0 None (others_keep s s.core.restart enabled) (enabled_length true s.core.enabled headers)
+      plain_done (record s { core = record s.core { enabled = enabled } }) 0 None (others_keep s s.core.restart enabled)
+      (enabled_length true s.core.enabled headers)
   function_done headers function.DisableUnsolicited =
       let enabled = enabled_after false s.core.enabled headers in
-      plain_done (record s { core = record s.core { enabled = enabled } }) 0 None (others_keep s s.core.restart enabled) (enabled_length false s.core.enabled headers)
+      plain_done (record s { core = record s.core { enabled = enabled } }) 0 None (others_keep s s.core.restart enabled)
+      (enabled_length false s.core.enabled headers)
   function_done headers function.DelayMeasure = record {
     done = record { keeps = others_keep s s.core.restart s.core.enabled; content = Plain 0 (no_delay ∷ []) delay; classes = refl };
     some = refl;
@@ -163,6 +166,10 @@ module _ (Fine : List Head → Type 0) (s : State) (o : Panel) (none : Fine []) 
   content_answered octets = request_done (request_at octets)
 
 -- ---- controls
+
+-- what a request comes to
+abbrev pub outcome_in : State → Panel → ℕ → List ℕ → Result (Outcome × List Head) ℕ
+outcome_in s o now octets = outcome_at s.core.session.selects s.core.times.select_ms o now octets (request_at octets)
 
 -- whatever its commands are answered, the headers of the answer are fine
 abbrev IsReady : (List Head → Type 0) → Result (Outcome × List Head) ℕ → Type 0
@@ -207,9 +214,9 @@ module _ (Fine : List Head → Type 0) (s : State) (o : Panel) (now : ℕ) (octe
     some = refl;
   }
 
-  control_answered : IsAnswered Fine s o (carried_out s (outcome_at s.core.session.selects s.core.times.select_ms o now octets (request_at octets)))
+  control_answered : IsAnswered Fine s o (carried_out s (outcome_in s o now octets))
   control_answered =
-      carried_done (outcome_at s.core.session.selects s.core.times.select_ms o now octets (request_at octets)) (outcome_ready (request_at octets) refl)
+      carried_done (outcome_in s o now octets) (outcome_ready (request_at octets) refl)
 
   silent_done : (b : Bool) (x : Executed) → IsDone Fine s o x → IsDone Fine s o (if b then silently x else x)
   silent_done true x done = record { keeps = done.keeps; content = tt; classes = done.classes }
@@ -218,7 +225,7 @@ module _ (Fine : List Head → Type 0) (s : State) (o : Panel) (now : ℕ) (octe
   control_done : IsDone Fine s o (control_content s o now octets)
   control_done =
       silent_done (is_silent octets)
-      (carried_out s (outcome_at s.core.session.selects s.core.times.select_ms o now octets (request_at octets))) control_answered.done
+      (carried_out s (outcome_in s o now octets)) control_answered.done
 
   pub content_done : IsDone Fine s o (content_at s o now octets)
   content_done = by (is_control octets)
@@ -233,7 +240,7 @@ module _ (Fine : List Head → Type 0) (s : State) (o : Panel) (now : ℕ) (octe
     where
       by : (a b : Bool) → is_silent octets ≡ b
           → IsSome (if a
-          then (let x = carried_out s (outcome_at s.core.session.selects s.core.times.select_ms o now octets (request_at octets)) in if b then silently x else x)
+          then (let x = carried_out s (outcome_in s o now octets) in if b then silently x else x)
           else content_of s o octets).content
       by true true is = absurd (other (eqb-true (function_in octets) 6 is))
       by true false is = control_answered.some

@@ -1,5 +1,5 @@
 -- The headers of a control request, with other statuses, stand in the table for responses, and hold no event.
-use Rattle.std.proofs.Common.{◌≡◌, Bool, true, false, IsTrue, refl, subst, ℕ, ◌==◌, ◌&&◌, ◌||◌, cond, List, [], ◌∷◌, Option, None, Some, eqb-true}
+use Rattle.std.proofs.Common.{◌≡◌, Bool, true, false, IsTrue, refl, subst, ℕ, ◌==◌, ◌&&◌, ◌||◌, cond, List, [], ◌∷◌, None, Some, eqb-true}
 use Rattle.std.specs.Option.{IsSomeAnd, option_map}
 use Rattle.std.proofs.lemmas.Bool.{and_parts}
 use Rattle.dnp_objects.specs.Objects.{objects}

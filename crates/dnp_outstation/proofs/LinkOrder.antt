@@ -1,14 +1,12 @@
 -- Each call keeps a connection in order.
-use Rattle.std.proofs.Common.{◌≡◌, Bool, true, false, if◌then◌else◌, refl, sym, ◌∙◌, ap, subst, ℕ, ◌+◌, ◌%◌, ◌<◌, ◌≤◌, ◌&&◌, ◌||◌, not, nat_le, is_none, List, [], length, arith, Option, None, Some, option_map, option_to_list, Result, Ok, Err}
+use Rattle.std.proofs.Common.{◌≡◌, Bool, true, false, if◌then◌else◌, refl, sym, ◌∙◌, subst, ℕ, ◌+◌, ◌%◌, ◌<◌, ◌≤◌, ◌&&◌, ◌||◌, not, nat_le, is_none, List, [], length, arith, Option, None, Some, option_map, option_to_list, Result, Ok, Err}
 use Rattle.dnp_objects.specs.declared.row.Kind.{Kind}
 use Rattle.dnp_objects.specs.declared.lane.LaneRow.{LaneRow}
 use Rattle.dnp_pointdb.specs.Database.{changed_of}
 use Rattle.dnp_pointdb.specs.declared.reading.Reading.{Reading}
 use Rattle.dnp_appfragment.specs.declared.fault.AppFault.{AppFault}
-use Rattle.dnp_appfragment.specs.declared.function.Function.TheVariants as function
 use Rattle.dnp_appfragment.specs.Fragments.{Asked}
 use Rattle.dnp_appfragment.specs.Meaning.{request_at}
-use Rattle.dnp_appfragment.specs.Table.{function_octet}
 use Rattle.dnp_controls.specs.Panel.{Panel}
 use Rattle.dnp_controls.specs.Selecting.{deadline}
 use Rattle.dnp_eventbuf.specs.Stock.{with_rows, dropped_by, without}
@@ -24,12 +22,12 @@ use Rattle.dnp_outstation.specs.Offer.{pushed}
 use Rattle.dnp_outstation.specs.State.{Core, State, Step, nothing, sending, still, with_session, holds_read, is_free}
 use Rattle.dnp_outstation.specs.Content.{Content, Executed, plain, content_from, content_of}
 use Rattle.dnp_outstation.specs.Controls.{content_at}
-use Rattle.dnp_outstation.specs.Connection.{replied, asked, on_request, on_again, marked, confirmed, goes_on, on_confirm, awaits, control_in, function_in, waiting, answers_held, on_unsolicited_confirm, starts, at_end, has_enabled_rows, closed, solicited_timer, unsolicited_timer, has_ended, case_of}
+use Rattle.dnp_outstation.specs.Connection.{replied, asked, on_request, on_again, marked, confirmed, goes_on, on_confirm, awaits, control_in, waiting, answers_held, on_unsolicited_confirm, starts, at_end, has_enabled_rows, closed, solicited_timer, unsolicited_timer, has_ended, case_of}
 use Rattle.dnp_outstation.specs.Calls.{with_that, answered_by, received, connection_after, tick_of, change_of, opened_of, restart_of}
 use Rattle.dnp_outstation.specs.Links.{CaseSays, IsInOrder, unsolicited_confirmed, begun}
 use Rattle.dnp_outstation.proofs.ContentOf.{AnyHeaders, IsDone, any_fine, content_answered, content_done}
 use Rattle.dnp_outstation.proofs.LinkCases.{case_says}
-use Rattle.dnp_outstation.proofs.LinkTimers.{with_awaited, awaited_at, solicited_is}
+use Rattle.dnp_outstation.proofs.LinkTimers.{solicited_is}
 
 -- ---- the end of a call
 

@@ -7,7 +7,7 @@ use Rattle.dnp_outstation.specs.declared.case.Case.TheVariants.{Waits}
 use Rattle.dnp_outstation.specs.declared.session.Awaited.{Awaited}
 use Rattle.dnp_outstation.specs.declared.session.Unsolicited.{Unsolicited}
 use Rattle.dnp_outstation.specs.Offer.{pushed}
-use Rattle.dnp_outstation.specs.State.{Core, State, Step, nothing, sending, still, with_session, holds_read, is_free}
+use Rattle.dnp_outstation.specs.State.{Core, State, Step, nothing, sending, still, holds_read, is_free}
 use Rattle.dnp_outstation.specs.Content.{content_from, plain}
 use Rattle.dnp_outstation.specs.Connection.{starts, at_end, has_enabled_rows, closed, solicited_timer, unsolicited_timer, has_ended, waiting, case_of}
 use Rattle.dnp_outstation.specs.Calls.{connection_after, tick_of, opened_of}

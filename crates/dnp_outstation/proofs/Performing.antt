@@ -1,6 +1,6 @@
 -- What a request performs: commands of its own, by its function and its select.
-use Rattle.std.proofs.Common.{◌≡◌, ◌≢◌, ◌⊎◌, inl, inr, Bool, true, false, if◌then◌else◌, refl, sym, ◌∙◌, ap, subst, ℕ, zero, ◌<◌, ◌≤◌, ◌==◌, ◌&&◌, ◌↔◌, nat_le, nat_lt, List, [], ◌∷◌, ◌++◌, length, count_by, filter, arith, Option, None, Some, IfSome, Result, Ok, Err, eqb-true}
-use Rattle.std.specs.Prelude.{⊤, slice_index}
+use Rattle.std.proofs.Common.{◌≡◌, ◌≢◌, ◌⊎◌, inl, inr, Bool, true, false, if◌then◌else◌, refl, sym, ◌∙◌, ap, subst, ℕ, ◌≤◌, ◌==◌, ◌↔◌, nat_lt, List, [], ◌∷◌, ◌++◌, length, filter, arith, Option, None, Some, IfSome, Result, Ok, Err, eqb-true}
+use Rattle.std.specs.Prelude.{⊤}
 use Rattle.std.specs.List.{list_all}
 use Rattle.std.proofs.lemmas.Bool.{ltb-false}
 use Rattle.std.proofs.lemmas.List.{append-nil}
@@ -23,9 +23,10 @@ use Rattle.dnp_controls.specs.Selecting.{Select, GoesWith, IsRunning, answer}
 use Rattle.dnp_outstation.specs.Items.{first_place, last_in, is_inside}
 use Rattle.dnp_outstation.specs.State.{State}
 use Rattle.dnp_outstation.specs.Content.{Executed, plain, answered, content_of, for_request, by_function, read_content, source_of, refused, written, write_bits, time_written, bits_of, parameter_error, no_func_code_support}
-use Rattle.dnp_outstation.specs.Controls.{Outcome, commands_in, objects_in, number_in, alike, checked, are_too_many, performed_of, operates, operates_selected, outcome_of, come_to, outcome_at, carried_out, silently, is_silent, control_content, is_control, content_at}
+use Rattle.dnp_outstation.specs.Controls.{Outcome, commands_in, objects_in, number_in, alike, checked, are_too_many, performed_of, operates, operates_selected, outcome_of, come_to, outcome_at, carried_out, silently, is_silent, is_control, content_at}
 use Rattle.dnp_outstation.specs.Connection.{control_in, function_in}
 use Rattle.dnp_outstation.specs.Links.{performs, asked_commands, commands_asked, Performs, IsSelected, IsMade}
+use Rattle.dnp_outstation.proofs.ContentOf.{outcome_in}
 
 -- ---- the function of a request
 
@@ -54,11 +55,14 @@ request_function (control ∷ code ∷ body) asked is = go (function_at false (f
     headers : (f : Function) → function_octet f ≡ code → (r : Result (List Head) AppFault)
         → (r >>= λ (hs : List Head). Ok (record { control = control_of control; function = f; headers = hs })) ≡ Ok asked
         → function_octet asked.function ≡ code
-    headers f is (Ok hs) same = let a : record { control = control_of control; function = f; headers = hs } ≡ asked = cc in ap (λ (q : Asked). function_octet q.function) (sym a) ∙ is
+    headers f is (Ok hs) same =
+        let a : record { control = control_of control; function = f; headers = hs } ≡ asked = cc in
+        ap (λ (q : Asked). function_octet q.function) (sym a) ∙ is
     headers f is (Err fault) same = cc
 
     go : (r : Result Function AppFault) → function_at false (function_of code) ≡ r
-        → (r >>= λ (f : Function). headers_at (form_of f) (looked_at (form_of f) body) >>= λ (hs : List Head). Ok (record { control = control_of control; function = f; headers = hs })) ≡ Ok asked
+        → (r >>= λ (f : Function). headers_at (form_of f) (looked_at (form_of f) body) >>= λ (hs : List Head).
+        Ok (record { control = control_of control; function = f; headers = hs })) ≡ Ok asked
         → function_octet asked.function ≡ code
     go (Ok f) found same = headers f (has f (function_from false (function_of code) f found)) (headers_at (form_of f) (looked_at (form_of f) body)) same
     go (Err fault) found same = cc
@@ -196,10 +200,10 @@ content_performs s o now octets covers = by (is_control octets) (is_silent octet
   where
     by : (a b : Bool)
         → Performs o octets s.performed (if a
-        then (let x = carried_out s (outcome_at s.core.session.selects s.core.times.select_ms o now octets (request_at octets)) in if b then silently x else x)
+        then (let x = carried_out s (outcome_in s o now octets) in if b then silently x else x)
         else content_of s o octets).state.performed
-    by true true = carried_performs s o octets (outcome_at s.core.session.selects s.core.times.select_ms o now octets (request_at octets)) (outcome_granted s o now octets (request_at octets) covers refl)
-    by true false = carried_performs s o octets (outcome_at s.core.session.selects s.core.times.select_ms o now octets (request_at octets)) (outcome_granted s o now octets (request_at octets) covers refl)
+    by true true = carried_performs s o octets (outcome_in s o now octets) (outcome_granted s o now octets (request_at octets) covers refl)
+    by true false = carried_performs s o octets (outcome_in s o now octets) (outcome_granted s o now octets (request_at octets) covers refl)
     by false b = subst (Performs o octets s.performed) (sym (content_none s o octets).performed) (none_of o octets s.performed)
 
 -- ---- other functions perform nothing
@@ -304,7 +308,7 @@ pub content_serves : (s : State) (o : Panel) (now : ℕ) (octets : List ℕ) →
 content_serves s o now octets serves operate = by (is_control octets) (is_silent octets)
   where
     by : (a b : Bool) → (let x : Executed = if a
-        then (let y = carried_out s (outcome_at s.core.session.selects s.core.times.select_ms o now octets (request_at octets)) in if b then silently y else y)
+        then (let y = carried_out s (outcome_in s o now octets) in if b then silently y else y)
         else content_of s o octets
         in x.state.performed ≢ s.performed → Serves s now octets x.state)
     by true true other = outcome_serves s o now octets (request_at octets) serves refl operate other
@@ -356,7 +360,8 @@ outcome_makes s o now octets (Err fault) is = λ select there. inl there
 outcome_makes s o now octets (Ok asked) is = by (nat_lt 2046 (length octets))
   where
     by : (b : Bool) → MadeOf s now octets (carried_out s (if b then Err parameter_error
-        else come_to (outcome_of asked.function s.core.session.selects s.core.times.select_ms o now octets (commands_in asked.headers)) asked.headers)).state.core.session.selects
+        else come_to (outcome_of asked.function s.core.session.selects s.core.times.select_ms o now octets (commands_in asked.headers))
+        asked.headers)).state.core.session.selects
     by true = λ select there. inl there
     by false = function_makes s o now octets asked.function asked.headers (request_function octets asked is)
 
@@ -366,7 +371,7 @@ unfolding MadeOf
 content_makes s o now octets = by (is_control octets) (is_silent octets)
   where
     by : (a b : Bool) → MadeOf s now octets (if a
-        then (let y = carried_out s (outcome_at s.core.session.selects s.core.times.select_ms o now octets (request_at octets)) in if b then silently y else y)
+        then (let y = carried_out s (outcome_in s o now octets) in if b then silently y else y)
         else content_of s o octets).state.core.session.selects
     by true true = outcome_makes s o now octets (request_at octets) refl
     by true false = outcome_makes s o now octets (request_at octets) refl

@@ -128,9 +128,14 @@ pub fn an_unsolicited_response_is_repeated_as_it_was()
         → w.repeats < s.core.times.retries
         → (let core = solicited_timer s.core now in
         tick_of s now ≡ record {
-            state = record s { core = record core { session = record core.session {
-                unsolicited = Some (record w { ends = deadline now s.core.times.confirm_ms; repeats = w.repeats + 1 }) } } };
-            does = sending s.core.session.unsolicited_response;
+          state = record s {
+            core = record core {
+              session = record core.session {
+                unsolicited = Some (record w { ends = deadline now s.core.times.confirm_ms; repeats = w.repeats + 1 });
+              };
+            };
+          };
+          does = sending s.core.session.unsolicited_response;
         }) }
     ensures closes { (s : State) (now : ℕ) (w : Unsolicited) → s.core.is_open ≡ true
         → s.core.session.unsolicited ≡ Some w → w.ends ≤ now

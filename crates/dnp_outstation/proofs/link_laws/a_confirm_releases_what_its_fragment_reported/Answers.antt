@@ -1,5 +1,5 @@
 use Rattle.dnp_outstation.proofs.LinkConfirms.{solicited_released, unsolicited_released, others_release}
-use Rattle.dnp_outstation.proofs.LinkPerforms.{tick_releases, change_discards, opened_releases}
+use Rattle.dnp_outstation.proofs.LinkLeaves.{tick_releases, change_discards, opened_releases}
 use Rattle.dnp_outstation.proofs.link_laws.a_confirm_releases_what_its_fragment_reported.Goals as goal
 
 pub returns-clause-solicited : goal.returns-clause-solicited

@@ -1,4 +1,5 @@
-use Rattle.dnp_outstation.proofs.LinkPerforms.{connection_performs, tick_performed, change_performed, opened_performed}
+use Rattle.dnp_outstation.proofs.LinkLeaves.{tick_performed, change_performed, opened_performed}
+use Rattle.dnp_outstation.proofs.LinkPerforms.{connection_performs}
 use Rattle.dnp_outstation.proofs.Performing.{no_commands, performs_none}
 use Rattle.dnp_outstation.specs.Calls.{connection_after}
 use Rattle.dnp_outstation.proofs.link_laws.commands_are_performed_as_they_are_asked.Goals as goal
