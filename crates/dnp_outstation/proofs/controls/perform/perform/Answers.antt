@@ -1,7 +1,7 @@
 use Rattle.std.proofs.Common.{rules, ◌≡◌, ◌≢◌, refl, sym, ◌∙◌, [], Some}
 use Rattle.std.specs.Result.{result_err}
 use Rattle.dnp_controls.specs.Panel.{accepted}
-use Rattle.dnp_outstation.proofs.Performing.{some_accepted, none_accepted, all_performed, none_performed, nothing_performed}
+use Rattle.dnp_outstation.proofs.OutputsPerform.{some_accepted, none_accepted, all_performed, none_performed, nothing_performed}
 use Rattle.dnp_outstation.proofs.controls.perform.perform.Goals as goal
 
 pub returns-in_err-operate : goal.returns-in_err-operate
