@@ -1,23 +1,27 @@
 //! The confirm of a fragment: its rows leave, and the response goes on.
 
-ghost use Rattle.std.specs.Prelude.{All, ◌≤◌, length, ◌≡◌, ◌≢◌, ℕ, [], false, IfOk, IfErr, IfSome, OnOk, OnErr, IsTrue, Err};
+ghost use Rattle.std.specs.Prelude.{All, ◌≤◌, length, ◌≡◌, ◌≢◌, ℕ, [], false, IfOk, IfSome, OnOk, OnErr, IsTrue, Err};
 ghost use Rattle.dnp_appfragment.specs.declared.function.Function.TheVariants as function;
 ghost use Rattle.dnp_controls.specs.Panel.{Panel};
+ghost use Rattle.dnp_controls.specs.Selecting.{deadline};
 ghost use Rattle.dnp_eventbuf.specs.Stock.{without, rows_in};
-ghost use Rattle.dnp_outstation.specs.Answering.{goes_on_by};
+ghost use Rattle.dnp_outstation.specs.Answering.{goes_on_by, went_on, KeepsWhole};
 ghost use Rattle.dnp_outstation.specs.Calls.{with_that};
-ghost use Rattle.dnp_outstation.specs.Connection.{goes_on, on_confirm};
-ghost use Rattle.dnp_outstation.specs.State.{State};
-ghost use Rattle.dnp_outstation.specs.Station.{state_of, actions_of};
+ghost use Rattle.dnp_outstation.specs.Connection.{goes_on, on_confirm, confirmed, at_end};
+ghost use Rattle.dnp_outstation.specs.State.{Core, State, nothing, with_session, is_free};
+ghost use Rattle.dnp_outstation.specs.Station.{state_of, actions_of, HasRoom};
 
 use crate::actions::Actions;
 use crate::answer::{Answer, Switches};
 use crate::connection::deadline;
+use crate::ending::write_ending;
 use crate::execute::{left, request_in};
 use crate::offer::parts::put_parts;
 use crate::offer::writer::Writer;
 use crate::outstation_core::OutstationCore;
 use crate::rows::Rows;
+use crate::sending::asks_confirm;
+use crate::sequence::SequenceNumber;
 use crate::session::Session;
 use dnp_controls::Outputs;
 use dnp_eventbuf::{Lanes, StoreFault, Upto};
@@ -78,9 +82,56 @@ fn write_next<L: Lanes, O: Outputs>(
     }))
 }
 
+impl Session {
+    /// The awaited fragment is confirmed: these rows leave, and the next fragment, if there is one, is sent. Its
+    /// confirm, if it asks for one, is awaited until `ends`.
+    fn go_on<L: Lanes>(
+        &mut self,
+        actions: &mut Actions,
+        alloc: Global,
+        discarded: Rows,
+        writer: &mut Writer,
+        lanes: &mut L,
+        next: &Option<Answer>,
+        seq: SequenceNumber,
+        ends: u64,
+    )
+        requires response { IfSome next.now (λ a. writer.old.builder.function ≡ function.Response) }
+        requires none { IfSome next.now (λ a. a.bits ≡ 0) }
+        ensures same { lanes.new ≡ lanes.old }
+        ensures goes { L.honest lanes.new → (s : State) (now : ℕ) → s.lanes ≡ L.contents lanes.new → IfSome next.now (λ a. s.core.restart ≡ a.switches.restart)
+            → s.core.session ≡ confirmed self.old → ends ≡ deadline now s.core.times.confirm_ms
+            → goes_on_by s now seq writer.old next.now
+            ≡ record { state = with_session s self.new; does = record nothing { send = (actions_of actions.new).send } } }
+        ensures discarded { actions_of actions.new ≡ record nothing { send = (actions_of actions.new).send; discarded = discarded } }
+        ensures room { HasRoom actions.new }
+        ensures whole { All (λ fragment. 4 ≤ length fragment) (actions_of actions.new).send }
+        ensures keeps { KeepsWhole self.old → KeepsWhole self.new }
+    {
+        self.confirm();
+        match next {
+            Some(answer) => {
+                self.respond_further(actions, alloc, discarded, writer, lanes, answer, seq, ends)
+            }
+            None => actions.set_discarding(alloc, discarded),
+        }
+    }
+
+    /// Whether no confirm is awaited and no READ is held once the awaited fragment was confirmed and the next
+    /// one, if there is one, was sent.
+    fn is_free_after(&self, writer: &Writer, next: &Option<Answer>) -> bool
+        ensures { (c : Core) (now seq : ℕ) → c.session ≡ went_on (confirmed self.now) now c.times.confirm_ms seq writer.now next.now → is_free c ≡ result }
+    {
+        let awaits = match next {
+            Some(answer) => asks_confirm(writer, answer),
+            None => self.holds_read(),
+        };
+        !awaits && self.unsolicited.is_none()
+    }
+}
+
 impl OutstationCore {
     /// The awaited fragment is confirmed: its rows leave, and the next fragment goes out, if there is one.
-    #[tactic(auto, using(crate::proofs::NoRows::released_is_there))]
     pub(crate) fn confirm<L: Lanes, O: Outputs>(
         &mut self,
         actions: &mut Actions,
@@ -92,7 +143,7 @@ impl OutstationCore {
         ensures held { L.honest lanes.new → L.honest lanes.old }
         ensures beside { L.honest lanes.new → L.beside lanes.new ≡ L.beside lanes.old }
         ensures confirmed { L.honest lanes.new → OnOk result ((p : Panel) → let s = state_of self.old (L.contents lanes.old) p in
-            with_that s s.core.session.awaited (on_confirm s (O.panel outputs.now) now)
+            at_end now (with_that s s.core.session.awaited (on_confirm s (O.panel outputs.now) now))
             ≡ record { state = state_of self.new (L.contents lanes.new) p; does = actions_of actions.new }) }
         ensures whole { OnOk result (All (λ fragment. 4 ≤ length fragment) (actions_of actions.new).send) }
         ensures unchanged { OnErr result (self.new ≡ self.old) }
@@ -104,13 +155,7 @@ impl OutstationCore {
         ensures named { result ≢ Err StoreFault.Exhausted }
     {
         let Some(awaited) = self.session.awaited else {
-            actions.set_nothing(alloc);
-            return Ok(());
-        };
-        let enabled = self.enabled;
-        let switches = Switches {
-            restart: self.restart,
-            enabled,
+            return self.end_only(actions, alloc, lanes, now);
         };
         let next = write_next(
             &mut self.writer,
@@ -118,26 +163,29 @@ impl OutstationCore {
             &self.points,
             lanes,
             outputs,
-            switches,
+            self.switches(),
             &self.session,
             awaited.upto,
         )?;
+        let free = self.session.is_free_after(&self.writer, &next);
+        let is_due = self.is_due(self.announced, self.is_open, free);
+        let enabled = self.enabled;
+        let released = Some(awaited.upto);
+        let starts = write_ending(&mut self.pushes, alloc, lanes, is_due, enabled, &released)?;
         let rows = Rows::of(lanes.release(alloc, &awaited.upto)?);
-        self.session.confirm();
-        let Some(answer) = next else {
-            actions.set_discarding(alloc, rows);
-            return Ok(());
-        };
-        self.session.respond_further(
+        let ends = deadline(now, self.times.confirm_ms);
+        self.session.go_on(
             actions,
             alloc,
             rows,
             &mut self.writer,
             lanes,
-            &answer,
+            &next,
             awaited.seq.next(),
-            deadline(now, self.times.confirm_ms),
+            ends,
         );
+        self.session
+            .end_call(actions, &mut self.pushes, lanes, starts, self.restart, ends);
         Ok(())
     }
 }

@@ -1,14 +1,14 @@
 //! What a connection remembers of what came and of what was sent.
 
-ghost use Rattle.std.specs.Prelude.{◌≡◌, ◌≤◌, length};
+ghost use Rattle.std.specs.Prelude.{◌≡◌, ◌≤◌, length, IsSome};
 ghost use Rattle.dnp_controls.specs.Selecting.{deadline};
-ghost use Rattle.dnp_outstation.specs.Answering.{KeepsWhole};
+ghost use Rattle.dnp_outstation.specs.Answering.{KeepsWhole, first_in};
 ghost use Rattle.dnp_outstation.specs.State.{new_session, holds_read};
 ghost use Rattle.dnp_outstation.specs.Connection.{is_last_request, is_number, awaited_number, confirmed, new_request, held};
 
 use crate::kept::Kept;
 use crate::sequence::SequenceNumber;
-use crate::session::{LastRequest, Reply, Session};
+use crate::session::{FirstFragment, LastRequest, Reply, Session};
 use dnp_appfragment::Function;
 use dnp_controls::Selects;
 
@@ -72,6 +72,20 @@ impl Session {
                 None => false,
                 Some(fragment) => fragment.seq.number() == seq,
             }
+        }
+    }
+
+    /// The first fragment of the response to the last request, where that was sent and no other.
+    pub fn first(&self) -> Option<FirstFragment>
+        ensures value { result ≡ first_in self.now.last }
+        ensures whole { IsSome result → KeepsWhole self.now → 4 ≤ length self.now.response }
+    {
+        match &self.last {
+            None => None,
+            Some(last) => match &last.reply {
+                Reply::First(first) => Some(*first),
+                Reply::Held | Reply::Silent | Reply::Further => None,
+            },
         }
     }
 

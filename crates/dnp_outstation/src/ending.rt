@@ -1,6 +1,6 @@
 //! The end of a call: where one is due, an unsolicited response is sent after what the call has sent so far.
 
-ghost use Rattle.std.specs.Prelude.{◌≡◌, ◌≤◌, ℕ, All, length, false, IsTrue, IfOk, OnOk, OnErr};
+ghost use Rattle.std.specs.Prelude.{◌≡◌, ◌≤◌, ℕ, All, length, true, false, IsTrue, IsErr, IfOk, OnOk, OnErr};
 ghost use Rattle.dnp_appfragment.specs.declared.function.Function.TheVariants as function;
 ghost use Rattle.dnp_controls.specs.Panel.{Panel};
 ghost use Rattle.dnp_controls.specs.Selecting.{deadline};
@@ -9,10 +9,11 @@ ghost use Rattle.dnp_outstation.specs.Connection.{at_end};
 ghost use Rattle.dnp_outstation.specs.Filling.{after_release};
 ghost use Rattle.dnp_outstation.specs.Pushing.{is_ready, ended_by};
 ghost use Rattle.dnp_outstation.specs.Putting.{IsLook};
-ghost use Rattle.dnp_outstation.specs.State.{State, Step, still, with_session};
+ghost use Rattle.dnp_outstation.specs.State.{Core, State, Step, still, with_session, is_free};
 ghost use Rattle.dnp_outstation.specs.Station.{state_of, actions_of, HasRoom};
 
 use crate::actions::Actions;
+use crate::answer::Switches;
 use crate::connection::deadline;
 use crate::offer::enabled::put_enabled;
 use crate::offer::writer::Writer;
@@ -36,6 +37,7 @@ pub(crate) fn write_ending<L: Lanes>(
         → step.state.core.enabled ≡ enabled → is_due ≡ is_ready step.state.core → at_end now step ≡ ended_by writer.new starts now step) }
     ensures response { IfOk result (λ starts. IsTrue starts → writer.new.builder.function ≡ function.UnsolicitedResponse) }
     ensures look { IsLook L.honest L.is_stopped L.contents L.beside L.asks_memory lanes.old lanes.new result }
+    ensures asks { IsErr result → IsTrue is_due }
 {
     if !is_due || !has_enabled_rows(lanes, enabled, released) {
         return Ok(false);
@@ -77,9 +79,29 @@ impl Session {
 impl OutstationCore {
     /// Whether it is ready to send an unsolicited response, once it has rows for one.
     pub(crate) fn is_ready(&self) -> bool
-        ensures { result ≡ is_ready self.now }
+        ensures value { result ≡ is_ready self.now }
+        ensures on { IsTrue result → self.now.times.unsolicited ≡ true }
     {
         self.times.unsolicited && self.announced && self.quiet()
+    }
+
+    /// Whether it is ready for one where it is announced, open and free as said.
+    pub(crate) fn is_due(&self, announced: bool, is_open: bool, free: bool) -> bool
+        ensures value { (c : Core) → c.times ≡ self.now.times → c.announced ≡ announced → c.is_open ≡ is_open → is_free c ≡ free → result ≡ is_ready c }
+        ensures on { IsTrue result → self.now.times.unsolicited ≡ true }
+    {
+        self.times.unsolicited && announced && is_open && free
+    }
+
+    /// What a request may switch, as it stands.
+    pub(crate) fn switches(&self) -> Switches
+        ensures { result ≡ record { restart = self.now.restart; enabled = self.now.enabled } }
+    {
+        let enabled = self.enabled;
+        Switches {
+            restart: self.restart,
+            enabled,
+        }
     }
 
     /// Nothing is done but what each call ends with.
@@ -96,6 +118,7 @@ impl OutstationCore {
         ensures whole { OnOk result (All (λ fragment. 4 ≤ length fragment) (actions_of actions.new).send) }
         ensures unchanged { OnErr result (self.new ≡ self.old) }
         ensures actions_unchanged { OnErr result (actions.new ≡ actions.old) }
+        ensures asks { IsErr result → self.old.times.unsolicited ≡ true }
     {
         let is_due = self.is_ready();
         let enabled = self.enabled;

@@ -43,17 +43,19 @@ impl OutstationCore {
         ensures device { result ≡ Err Fault.Device → IsTrue (L.is_stopped lanes.new) }
         ensures runs_on { result ≢ Err Fault.Device → L.is_stopped lanes.new ≡ L.is_stopped lanes.old }
     {
-        let _ = &self.is_open;
         match self.case(octets) {
-            Case::PassedOver | Case::Stray => actions.set_nothing(alloc),
-            Case::ConfirmsUnsolicited => actions.set_nothing(alloc),
+            Case::PassedOver => actions.set_nothing(alloc),
+            Case::Stray => self.end_only(actions, alloc, lanes, now)?,
             Case::Confirms => self.confirm(actions, alloc, lanes, outputs, now)?,
-            Case::Again => self.again(actions, alloc, now, octets),
-            Case::Waits => {
-                self.wait(octets);
-                actions.set_nothing(alloc);
+            Case::ConfirmsUnsolicited => {
+                self.confirm_unsolicited(actions, alloc, lanes, outputs, now)?
             }
-            Case::Asks => self.request(actions, alloc, lanes, outputs, now, octets)?,
+            Case::Again => self.again(actions, alloc, lanes, now, octets)?,
+            Case::Waits => self.wait(actions, alloc, octets),
+            Case::Asks if is_control(octets) => {
+                self.control(actions, alloc, lanes, outputs, now, octets)?
+            }
+            Case::Asks => self.ask(actions, alloc, lanes, outputs, now, octets)?,
         }
         Ok(())
     }

@@ -33,7 +33,7 @@ fn has_rows(upto: &Upto) -> bool
 }
 
 /// Whether a fragment asks for a confirm: each but the last does, and the last does where it holds events.
-fn asks_confirm(writer: &Writer, answer: &Answer) -> bool
+pub(crate) fn asks_confirm(writer: &Writer, answer: &Answer) -> bool
     ensures { result ≡ asks_confirm (content_by writer.now answer.now) }
 {
     answer.left.is_some() || has_rows(&writer.upto)
@@ -146,7 +146,7 @@ impl Session {
             ≡ record { state = with_session s self.new; does = sending self.new.response } }
         ensures unsolicited { self.new.unsolicited ≡ self.old.unsolicited }
         ensures whole { 4 ≤ length self.new.response }
-        ensures keeps { KeepsWhole self.new }
+        ensures keeps { KeepsWhole self.old → KeepsWhole self.new }
     {
         let front = front_of(writer, lanes, true, seq, answer);
         self.response.keep_sent(writer, front);
@@ -162,12 +162,22 @@ impl Session {
         self.awaited = awaited_for(is_awaited, seq, &writer.upto, ends);
     }
 
+    /// The first fragment is sent again, and its confirm, where it is awaited again, until `ends`.
+    pub(crate) fn await_again(&mut self, awaits: bool, seq: SequenceNumber, upto: &Upto, ends: u64)
+        ensures value { self.new ≡ (if awaits then record self.old { awaited = Some (record { seq = seq; upto = upto.now; ends = ends }) } else self.old) }
+        ensures keeps { KeepsWhole self.old → KeepsWhole self.new }
+    {
+        if awaits {
+            self.awaited = awaited_for(true, seq, upto, ends);
+        }
+    }
+
     /// A further fragment of the response was sent.
     fn went_on(&mut self, writer: &Writer, answer: &Answer, seq: SequenceNumber, ends: u64)
         ensures sent { (now confirm_ms : ℕ) → ends ≡ deadline now confirm_ms
             → self.new ≡ further_sent self.old now confirm_ms answer.now.stood seq (content_by writer.now answer.now) }
         ensures unsolicited { self.new.unsolicited ≡ self.old.unsolicited }
-        ensures keeps { KeepsWhole self.new }
+        ensures keeps { KeepsWhole self.old → KeepsWhole self.new }
     {
         self.last = Some(LastRequest {
             reply: Reply::Further,
@@ -201,7 +211,7 @@ impl Session {
         ensures room { HasRoom actions.new }
         ensures unsolicited { self.new.unsolicited ≡ self.old.unsolicited }
         ensures whole { All (λ fragment. 4 ≤ length fragment) (actions_of actions.new).send }
-        ensures keeps { KeepsWhole self.new }
+        ensures keeps { KeepsWhole self.old → KeepsWhole self.new }
     {
         let front = front_of(writer, lanes, false, seq, answer);
         actions.set_further(alloc, discarded, writer, front);

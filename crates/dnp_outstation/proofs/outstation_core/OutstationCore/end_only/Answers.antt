@@ -26,6 +26,6 @@ returns-clause-ended g c = λ honest p.
     let w = c.write_ending.new.writer in
     ap (λ (l : Stock). at_end now (still (state_of c.args.self.now l p))) (sym lanes_is)
     ∙ ap (λ (k : Core). at_end now (still (state_of k new p))) (sym c.self.view_is)
-    ∙ c.in_ok-starts.ensures.ends written now (still s) lanes_is refl (c.is_ready-is_due.ensures ∙ ap is_ready (sym c.self.view_is))
+    ∙ c.in_ok-starts.ensures.ends written now (still s) lanes_is refl (c.is_ready-is_due.ensures.value ∙ ap is_ready (sym c.self.view_is))
     ∙ ap (λ (d : Actions). let x : Step = record { state = s; does = d } in ended_by w c.in_ok-starts.starts now x) (sym c.set_nothing.ensures.value)
     ∙ c.end_call.ensures.ended honest s now refl refl refl c.deadline.ensures

@@ -1,0 +1,167 @@
+//! The calls that time makes: a connection begins, and time passes.
+
+ghost use Rattle.std.specs.Prelude.{◌≡◌, ◌≤◌, ℕ, All, length, true, false, IsTrue, IsErr, IfOk, OnOk, OnErr};
+ghost use Rattle.dnp_appfragment.specs.declared.function.Function.TheVariants as function;
+ghost use Rattle.dnp_outstation.specs.Calls.{opened_of, tick_of};
+ghost use Rattle.dnp_outstation.specs.Connection.{solicited_timer};
+ghost use Rattle.dnp_outstation.specs.Links.{begun};
+ghost use Rattle.dnp_outstation.specs.declared.unsolicited.AtTimer.TheVariants as at;
+ghost use Rattle.dnp_outstation.specs.Pushing.{ended_by, timed_by};
+ghost use Rattle.dnp_outstation.specs.Putting.{IsLook};
+ghost use Rattle.dnp_outstation.specs.State.{State, still, is_free};
+ghost use Rattle.dnp_outstation.specs.Station.{state_of, actions_of, HasRoom};
+
+use crate::actions::Actions;
+use crate::connection::deadline;
+use crate::ending::write_ending;
+use crate::offer::writer::Writer;
+use crate::outstation_core::OutstationCore;
+use crate::unsolicited::AtTimer;
+use dnp_controls::Outputs;
+use dnp_eventbuf::{Lanes, StoreFault};
+use std::alloc::Global;
+
+/// Writes the unsolicited response with which a connection begins, if it begins with one; answers whether it
+/// does. It is an empty one until such a one was confirmed since the restart.
+fn write_opening<L: Lanes>(
+    writer: &mut Writer,
+    alloc: Global,
+    lanes: &mut L,
+    is_on: bool,
+    announced: bool,
+    enabled: [bool; 3],
+) -> Result<bool, StoreFault>
+    ensures opens { L.honest lanes.new → IfOk result (λ starts. (s : State) (now : ℕ) → s.lanes ≡ L.contents lanes.old → s.core.times.unsolicited ≡ is_on
+        → s.core.announced ≡ announced → s.core.enabled ≡ enabled → opened_of s now ≡ ended_by writer.new starts now (still (begun s))) }
+    ensures response { IfOk result (λ starts. IsTrue starts → writer.new.builder.function ≡ function.UnsolicitedResponse) }
+    ensures look { IsLook L.honest L.is_stopped L.contents L.beside L.asks_memory lanes.old lanes.new result }
+    ensures asks { IsErr result → IsTrue is_on }
+{
+    if is_on && !announced {
+        writer.restart_unsolicited();
+        return Ok(true);
+    }
+    write_ending(writer, alloc, lanes, is_on, enabled, &None)
+}
+
+impl OutstationCore {
+    /// A connection begins; the moment is now, in milliseconds. What it does is put into the actions, in place
+    /// of what was there.
+    ///
+    /// Memory or Device, from the lanes, where unsolicited responses are on: then nothing has changed, the
+    /// actions neither.
+    pub fn opened<L: Lanes, O: Outputs>(
+        &mut self,
+        actions: &mut Actions,
+        alloc: Global,
+        lanes: &mut L,
+        outputs: &mut O,
+        now: u64,
+    ) -> Result<(), StoreFault>
+        ensures look { IsLook L.honest L.is_stopped L.contents L.beside L.asks_memory lanes.old lanes.new result }
+        ensures outputs { outputs.new ≡ outputs.old }
+        ensures opened { L.honest lanes.new → OnOk result (opened_of (state_of self.old (L.contents lanes.old) (O.panel outputs.old)) now
+            ≡ record { state = state_of self.new (L.contents lanes.new) (O.panel outputs.new); does = actions_of actions.new }) }
+        ensures whole { OnOk result (All (λ fragment. 4 ≤ length fragment) (actions_of actions.new).send) }
+        ensures unchanged { OnErr result (self.new ≡ self.old) }
+        ensures actions_unchanged { OnErr result (actions.new ≡ actions.old) }
+        ensures asks { IsErr result → self.old.times.unsolicited ≡ true }
+    {
+        let enabled = self.enabled;
+        let starts = write_opening(
+            &mut self.pushes,
+            alloc,
+            lanes,
+            self.times.unsolicited,
+            self.announced,
+            enabled,
+        )?;
+        self.is_open = true;
+        self.session.reset();
+        actions.set_nothing(alloc);
+        let ends = deadline(now, self.times.confirm_ms);
+        self.session
+            .end_call(actions, &mut self.pushes, lanes, starts, self.restart, ends);
+        Ok(())
+    }
+
+    /// Where the timer of an awaited confirm has ended, so has the waiting.
+    fn end_waiting(&mut self, now: u64)
+        ensures { self.new ≡ solicited_timer self.old now }
+    {
+        if let Some(awaited) = &self.session.awaited {
+            if awaited.ends <= now {
+                self.session.awaited = None;
+            }
+        }
+    }
+
+    /// Whether it awaits no confirm and holds no READ, once the timer of an awaited confirm was looked at.
+    fn is_free_at(&self, now: u64) -> bool
+        ensures { result ≡ is_free (solicited_timer self.now now) }
+    {
+        let awaits = match &self.session.awaited {
+            Some(awaited) => awaited.ends > now,
+            None => false,
+        };
+        !awaits && self.session.unsolicited.is_none() && !self.session.holds_read()
+    }
+
+    /// Does what the timer of an unsolicited response has come to.
+    fn obey(&mut self, actions: &mut Actions, alloc: Global, timer: AtTimer)
+        ensures value { (s : State) → s.core ≡ self.old → timed_by s s.core.session timer ≡ record { state = record s { core = self.new }; does = actions_of actions.new } }
+        ensures room { HasRoom actions.new }
+        ensures whole { (timer ≡ at.Repeats → 4 ≤ length self.old.session.unsolicited_response) → All (λ fragment. 4 ≤ length fragment) (actions_of actions.new).send }
+    {
+        match timer {
+            AtTimer::Waits => actions.set_nothing(alloc),
+            AtTimer::Repeats => {
+                actions.set_sending(alloc, self.session.unsolicited_response.octets());
+            }
+            AtTimer::Closes => {
+                self.hung_up();
+                actions.set_closing(alloc);
+            }
+        }
+    }
+
+    /// Time has passed: the moment is now, in milliseconds. What it does is put into the actions, in place of
+    /// what was there.
+    ///
+    /// Memory or Device, from the lanes, where unsolicited responses are on: then nothing has changed, the
+    /// actions neither.
+    pub fn tick<L: Lanes, O: Outputs>(
+        &mut self,
+        actions: &mut Actions,
+        alloc: Global,
+        lanes: &mut L,
+        outputs: &mut O,
+        now: u64,
+    ) -> Result<(), StoreFault>
+        ensures look { IsLook L.honest L.is_stopped L.contents L.beside L.asks_memory lanes.old lanes.new result }
+        ensures outputs { outputs.new ≡ outputs.old }
+        ensures ticked { L.honest lanes.new → OnOk result (tick_of (state_of self.old (L.contents lanes.old) (O.panel outputs.old)) now
+            ≡ record { state = state_of self.new (L.contents lanes.new) (O.panel outputs.new); does = actions_of actions.new }) }
+        ensures whole { OnOk result (All (λ fragment. 4 ≤ length fragment) (actions_of actions.new).send) }
+        ensures unchanged { OnErr result (self.new ≡ self.old) }
+        ensures actions_unchanged { OnErr result (actions.new ≡ actions.old) }
+        ensures asks { IsErr result → self.old.times.unsolicited ≡ true }
+    {
+        if !self.is_open {
+            actions.set_nothing(alloc);
+            return Ok(());
+        }
+        let is_due = self.is_due(self.announced, self.is_open, self.is_free_at(now));
+        let enabled = self.enabled;
+        let starts = write_ending(&mut self.pushes, alloc, lanes, is_due, enabled, &None)?;
+        self.end_waiting(now);
+        let ends = deadline(now, self.times.confirm_ms);
+        let timer = self
+            .session
+            .time_unsolicited(now, self.times.confirm_ms, self.times.retries);
+        self.obey(actions, alloc, timer);
+        self.session
+            .end_call(actions, &mut self.pushes, lanes, starts, self.restart, ends);
+        Ok(())
+    }
+}

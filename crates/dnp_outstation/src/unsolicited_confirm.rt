@@ -1,0 +1,123 @@
+//! The confirm of an unsolicited response: its rows leave, and a READ that waited for it is answered.
+
+ghost use Rattle.std.specs.Prelude.{All, ◌≤◌, length, ◌≡◌, ◌≢◌, ℕ, [], true, false, IfOk, IfSome, OnOk, OnErr, IsTrue, Err};
+ghost use Rattle.dnp_appfragment.specs.declared.function.Function.TheVariants as function;
+ghost use Rattle.dnp_controls.specs.Panel.{Panel};
+ghost use Rattle.dnp_controls.specs.Selecting.{deadline};
+ghost use Rattle.dnp_eventbuf.specs.Stock.{rows_in};
+ghost use Rattle.dnp_outstation.specs.Answering.{answers_held_by, switched_by, KeepsWhole};
+ghost use Rattle.dnp_outstation.specs.Calls.{with_that};
+ghost use Rattle.dnp_outstation.specs.Connection.{control_in, answers_held, on_unsolicited_confirm, at_end};
+ghost use Rattle.dnp_outstation.specs.Filling.{after_release};
+ghost use Rattle.dnp_outstation.specs.State.{Core, State, is_free};
+ghost use Rattle.dnp_outstation.specs.Station.{state_of, actions_of, HasRoom};
+
+use crate::actions::Actions;
+use crate::answer::{Answer, Switches};
+use crate::connection::deadline;
+use crate::ending::write_ending;
+use crate::execute::execute_after;
+use crate::offer::writer::Writer;
+use crate::outstation_core::OutstationCore;
+use crate::rows::Rows;
+use crate::sending::asks_confirm;
+use crate::sequence::SequenceNumber;
+use crate::session::Session;
+use dnp_appfragment::Control;
+use dnp_controls::Outputs;
+use dnp_eventbuf::{Lanes, StoreFault, Upto};
+use dnp_pointdb::PointDb;
+use std::alloc::Global;
+
+/// Writes the answer to the READ that waits, if one does, as the lanes are once these rows are released.
+fn write_held<L: Lanes, O: Outputs>(
+    writer: &mut Writer,
+    alloc: Global,
+    points: &PointDb,
+    lanes: &mut L,
+    outputs: &O,
+    switches: Switches,
+    session: &Session,
+    released: &Option<Upto>,
+) -> Result<Option<Answer>, StoreFault>
+    ensures held { L.honest lanes.new → L.honest lanes.old }
+    ensures beside { L.honest lanes.new → L.beside lanes.new ≡ L.beside lanes.old }
+    ensures same { L.honest lanes.new → L.contents lanes.new ≡ L.contents lanes.old }
+    ensures written { L.honest lanes.new → IfOk result (λ held. (s : State) (now : ℕ) → s.core.points ≡ points.now → s.core.restart ≡ switches.restart → s.core.enabled ≡ switches.enabled
+        → s.core.session.request ≡ session.now.request → s.lanes ≡ after_release (L.contents lanes.old) released.now
+        → answers_held s (O.panel outputs.now) now session.now.last ≡ answers_held_by s now writer.new held) }
+    ensures small { IfOk result (λ held. IfSome held (λ a. a.bits < 8)) }
+    ensures response { IfOk result (λ held. IfSome held (λ a. writer.new.builder.function ≡ function.Response)) }
+    ensures device { result ≡ Err StoreFault.Device → IsTrue (L.is_stopped lanes.new) }
+    ensures runs_on { result ≢ Err StoreFault.Device → L.is_stopped lanes.new ≡ L.is_stopped lanes.old }
+    ensures memory { L.honest lanes.new → result ≡ Err StoreFault.Memory → L.asks_memory ≡ false → rows_in (L.contents lanes.old) ≢ [] }
+    ensures named { result ≢ Err StoreFault.Exhausted }
+{
+    if !session.holds_read() {
+        return Ok(None);
+    }
+    let octets = session.request.octets();
+    let answer = execute_after(
+        writer, alloc, points, lanes, outputs, switches, octets, released,
+    )?;
+    Ok(Some(answer))
+}
+
+impl Session {
+    /// The number of the last request.
+    fn number(&self) -> SequenceNumber
+        ensures { result ≡ (control_in self.now.request).seq }
+    {
+        match self.request.octets().first() {
+            Some(octet) => SequenceNumber::of(Control::read(*octet)),
+            None => SequenceNumber::ZERO,
+        }
+    }
+
+    /// The unsolicited response is confirmed: these rows leave, and the READ that waited, if one did, is
+    /// answered. Its confirm, if it asks for one, is awaited until `ends`.
+    fn answer_held<L: Lanes>(
+        &mut self,
+        actions: &mut Actions,
+        alloc: Global,
+        discarded: Rows,
+        writer: &mut Writer,
+        lanes: &mut L,
+        held: &Option<Answer>,
+        ends: u64,
+    )
+        requires response { IfSome held.now (λ a. writer.old.builder.function ≡ function.Response) }
+        requires small { IfSome held.now (λ a. a.bits < 8) }
+        ensures same { lanes.new ≡ lanes.old }
+        ensures answers { L.honest lanes.new → (s : State) (now : ℕ) → s.lanes ≡ L.contents lanes.new
+            → record { restart = s.core.restart; enabled = s.core.enabled } ≡ before
+            → s.core.session ≡ record self.old { unsolicited = None } → ends ≡ deadline now s.core.times.confirm_ms
+            → answers_held_by s now writer.old held.now
+            ≡ record { state = with_session (state_switched s (switched_by before held.now)) self.new; does = record (actions_of actions.new) { discarded = [] } } }
+        ensures discarded { (actions_of actions.new).discarded ≡ discarded }
+        ensures room { HasRoom actions.new }
+        ensures whole { All (λ fragment. 4 ≤ length fragment) (actions_of actions.new).send }
+        ensures keeps { KeepsWhole self.old → KeepsWhole self.new }
+    {
+        self.unsolicited = None;
+        match held {
+            Some(answer) => {
+                let seq = self.number();
+                self.respond(writer, lanes, answer, seq, ends);
+                actions.set_going_on(alloc, discarded, self.response.octets());
+                actions.time = answer.time;
+            }
+            None => actions.set_discarding(alloc, discarded),
+        }
+    }
+
+    /// Whether no confirm is awaited and no READ is held once the unsolicited response was confirmed, and the
+    /// READ that waited, if one did, was answered.
+    fn is_free_without(&self, writer: &Writer, held: &Option<Answer>) -> bool
+    {
+        match held {
+            Some(answer) => !asks_confirm(writer, answer),
+            None => self.awaited.is_none() && !self.holds_read(),
+        }
+    }
+}
