@@ -1,4 +1,4 @@
-use Rattle.std.proofs.Common.{rules, ◌≡◌, ◌++◌, [], Bool, List, ℕ, true, false, if◌then◌else◌, length, get_or, subst, arith}
+use Rattle.std.proofs.Common.{rules, ◌≡◌, ◌++◌, [], List, ℕ, false, if◌then◌else◌, length, get_or, subst}
 use Rattle.std.specs.Prelude.{option_to_list}
 use Rattle.dnp_eventbuf.specs.Stock.{Stock, with_rows}
 use Rattle.dnp_outstation.specs.Items.{class_lanes, lane_items}

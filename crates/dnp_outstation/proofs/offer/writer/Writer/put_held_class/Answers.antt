@@ -1,4 +1,4 @@
-use Rattle.std.proofs.Common.{◌≡◌, ◌+◌, ◌*◌, true, false, [], ◌∷◌, ◌∙◌, arith}
+use Rattle.std.proofs.Common.{◌+◌, ◌*◌, true, false, [], ◌∷◌, ◌∙◌, arith}
 use Rattle.std.specs.Prelude.{option_to_list}
 use Rattle.dnp_eventbuf.specs.Stock.{Stock, lane_at, with_rows}
 use Rattle.dnp_outstation.specs.Holding.{IsClassHeld}
