@@ -69,8 +69,7 @@ impl Selects {
     }
 
     /// The status of an OPERATE that comes at the moment `now` with the sequence number `seq` and these
-    /// octets, where a select stands for `select_ms` milliseconds. The select is forgotten, whatever the
-    /// status:
+    /// octets, where a select stands for `select_ms` milliseconds:
     ///
     /// - SUCCESS where a select stands whose sequence number is the one before `seq` modulo 16 and whose
     ///   octets are the same, and its timer has not ended.
@@ -79,12 +78,10 @@ impl Selects {
     ///
     /// A timer has ended from the moment `select_ms` after the select on. A moment past the last one that
     /// a `u64` has is that last one.
-    pub fn operate(&mut self, now: u64, seq: u8, octets: &[u8], select_ms: u64) -> Status
-        ensures answers { result ≡ answer self.old now seq octets.now select_ms }
-        ensures forgotten { self.new ≡ None }
-        ensures stands { (before : List SelectCall) → Stands before self.old → Stands (Operating ∷ before) self.new }
+    pub fn answer(&self, now: u64, seq: u8, octets: &[u8], select_ms: u64) -> Status
+        ensures { result ≡ answer self.now now seq octets.now select_ms }
     {
-        let Some(kept) = self.kept.take() else {
+        let Some(kept) = &self.kept else {
             return Status::NO_SELECT;
         };
         if seq % SEQUENCE_NUMBERS != (kept.seq % SEQUENCE_NUMBERS + 1) % SEQUENCE_NUMBERS
@@ -96,6 +93,17 @@ impl Selects {
             return Status::TIMEOUT;
         }
         Status::SUCCESS
+    }
+
+    /// The same status, by `answer`. The select is forgotten, whatever the status.
+    pub fn operate(&mut self, now: u64, seq: u8, octets: &[u8], select_ms: u64) -> Status
+        ensures answers { result ≡ answer self.old now seq octets.now select_ms }
+        ensures forgotten { self.new ≡ None }
+        ensures stands { (before : List SelectCall) → Stands before self.old → Stands (Operating ∷ before) self.new }
+    {
+        let status = self.answer(now, seq, octets, select_ms);
+        self.forget();
+        status
     }
 
     /// Forgets the select that stands, if one does.

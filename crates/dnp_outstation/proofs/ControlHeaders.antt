@@ -1,113 +1,272 @@
--- The headers of a control request, with other statuses: they stand in the table for responses, and hold no event.
-use Rattle.std.proofs.Common.{◌≡◌, Bool, true, false, IsTrue, refl, sym, ◌∙◌, ap, subst, ℕ, zero, suc, ◌+◌, ◌*◌, ◌/◌, ◌<◌, ◌≤◌, ◌==◌, ◌&&◌, ◌||◌, cond, List, [], ◌∷◌, ◌++◌, length, take, drop, arith, Option, None, Some, eqb-true}
-use Rattle.std.specs.Option.{IsSomeAnd, option_map}
-use Rattle.std.proofs.Math.Nat.{mul-div_cancel_left}
+-- The headers of a control request, and the same with other statuses: they have as many octets, and stand in a response too.
+use Rattle.std.proofs.Common.{◌≡◌, refl, sym, ap, subst, ◌∙◌, ℕ, zero, suc, ◌+◌, ◌-◌, ◌*◌, ◌/◌, ◌<◌, ◌≤◌, Bool, true, false, not, IsTrue, cond, ◌==◌, ◌&&◌, ◌||◌, List, [], ◌∷◌, ◌++◌, length, take, drop, find, eqb-true, Option, None, Some, Result, Ok, Err, IsErr, OnOk, arith, append_assoc, append-nil, zero-add, length-append, length-take, length-drop}
+use Rattle.std.specs.Option.{option_map, IsSomeAnd}
+use Rattle.std.specs.List.{flat_map, list_all, range_with_len}
+use Rattle.std.proofs.Math.Nat.{mul-div_cancel_left, mul-le-mul_right}
 use Rattle.std.proofs.lemmas.Bool.{and_parts}
-use Rattle.std.proofs.lemmas.List.{length-append, length-take, length-drop}
-use Rattle.dnp_objects.specs.Objects.{objects, content_of as object_content, object_size}
-use Rattle.dnp_appfragment.specs.declared.table.Form.{Form}
+use Rattle.dnp_objects.specs.Objects.{objects, content_of}
+use Rattle.dnp_objects.specs.declared.command.Command.{Command}
 use Rattle.dnp_appfragment.specs.declared.table.Form.TheVariants as form
+use Rattle.dnp_appfragment.specs.Table.{Rule, allows, form_eq, rules, takes_of, is_rule}
+use Rattle.dnp_appfragment.specs.Headers.{Head, IsHeader, count_of, prefix_size, header_octets, qualifier_of, range_octets, spelled}
 use Rattle.dnp_appfragment.specs.declared.header.Range.{Range}
-use Rattle.dnp_appfragment.specs.Headers.{Head, IsHeader, AreHeaders, begin, behind, count_of, prefix_size, octets_of, qualifier_of}
-use Rattle.dnp_appfragment.specs.Table.{Rule, takes_of, rules, allows, IsInTable}
-use Rattle.dnp_outstation.specs.Controls.{pieces, objects_of, with_status, with_statuses, headers_with}
-use Rattle.dnp_outstation.specs.Said.{rows_said, is_event_header}
+use Rattle.std.proofs.lemmas.List.Concat.{flat_map-append}
+use Rattle.dnp_appfragment.specs.Built.{Built, heads, size, with_header}
+use Rattle.dnp_objects.specs.declared.limits.TheConstants.{MAX_FRAGMENT}
+use Rattle.dnp_outstation.specs.Controls.{command_at, object_in, with_status, answered_object, answered_from, answered_head, headers_with}
+use Rattle.dnp_outstation.proofs.ControlCommands.{more_from}
 
--- ---- the objects of commands
+-- ---- the objects that carry commands
 
--- what an object that a control request may name is: a response may name it, it is no event, and has octets
-record ForControl (g v q : ℕ) : Type 0 where
-  response : IsInTable form.Response g v q
-  no_event : ((g == 2) || (g == 22) || (g == 32)) ≡ false
-  size : ℕ
-  size_is : object_size g v ≡ Some size
-  some : 1 ≤ size
+data IsCarrier : ℕ → ℕ → Type 0 where
+  Block : IsCarrier 12 1
+  Wide : IsCarrier 41 1
+  Narrow : IsCarrier 41 2
 
-for_block : (q : ℕ) → IsInTable form.Command 12 1 q → ForControl 12 1 q
-unfolding takes_of rules objects object_content
-for_block q is = record { response = is; no_event = refl; size = 11; size_is = refl; some = omega arith }
+is_carrier : ℕ → ℕ → Bool
+is_carrier g v = (g == 12 && v == 1) || ((g == 41 && v == 1) || (g == 41 && v == 2))
 
-for_setpoint_32 : (q : ℕ) → IsInTable form.Command 41 1 q → ForControl 41 1 q
-unfolding takes_of rules objects object_content
-for_setpoint_32 q is = record { response = is; no_event = refl; size = 5; size_is = refl; some = omega arith }
+carries : Rule → Bool
+carries line = not (form_eq line.form form.Command) || is_carrier line.group line.variation
 
-for_setpoint_16 : (q : ℕ) → IsInTable form.Command 41 2 q → ForControl 41 2 q
-unfolding takes_of rules objects object_content
-for_setpoint_16 q is = record { response = is; no_event = refl; size = 3; size_is = refl; some = omega arith }
+all_carry : list_all carries rules ≡ true
+unfolding carries is_carrier rules objects
+all_carry = refl
 
-none_such : (a b c : Bool) (x y z : Rule) (q : ℕ) → a ≡ false → b ≡ false → c ≡ false
-    → IsSomeAnd (option_map (λ (r : Rule). r.takes) (cond a (Some x) (cond b (Some y) (cond c (Some z) None)))) (λ t. IsTrue (allows t q)) → ⊥
-none_such true b c x y z q d e f is = cc
-none_such false true c x y z q d e f is = cc
-none_such false false true x y z q d e f is = cc
-none_such false false false x y z q d e f is = is
+either : (b c : Bool) → b ≡ true → (not b || c) ≡ true → c ≡ true
+either true c is holds = holds
+either false c is holds = cc
 
-for_control : (g v q : ℕ) → IsInTable form.Command g v q → ForControl g v q
-unfolding takes_of rules objects
-for_control g v q is =
-    one 12 1 (12 == g && 1 == v) refl (for_block q) (λ a.
-    one 41 1 (41 == g && 1 == v) refl (for_setpoint_32 q) (λ b.
-    one 41 2 (41 == g && 2 == v) refl (for_setpoint_16 q) (λ c.
-    absurd (none_such (12 == g && 1 == v) (41 == g && 1 == v) (41 == g && 2 == v) _ _ _ q a b c is))))
+found_carries : (rs : List Rule) → list_all carries rs ≡ true → (g v q : ℕ)
+    → IsSomeAnd (option_map (λ (r : Rule). r.takes) (find (is_rule form.Command g v) rs)) (λ takes. IsTrue (allows takes q)) → is_carrier g v ≡ true
+unfolding carries
+found_carries [] all g v q found = absurd found
+found_carries (x ∷ xs) all g v q found =
+    let both = and_parts (carries x) (list_all carries xs) all in
+    here (is_rule form.Command g v x) refl found (found_carries xs both.1 g v q) both.0
   where
-    one : (G V : ℕ) (b : Bool) → (G == g && V == v) ≡ b → (IsInTable form.Command G V q → ForControl G V q)
-        → (b ≡ false → ForControl g v q) → ForControl g v q
-    one G V true same here rest =
-        let both = and_parts (G == g) (V == v) same in
-        subst (λ (n : ℕ). ForControl n v q) (eqb-true G g both.0)
-        (subst (λ (n : ℕ). ForControl G n q) (eqb-true V v both.1)
-        (here (subst (λ (n : ℕ). IsInTable form.Command G n q) (sym (eqb-true V v both.1))
-        (subst (λ (n : ℕ). IsInTable form.Command n v q) (sym (eqb-true G g both.0)) is))))
-    one G V false same here rest = rest refl
+    here : (b : Bool) → is_rule form.Command g v x ≡ b
+        → IsSomeAnd (option_map (λ (r : Rule). r.takes) (cond b (Some x) (find (is_rule form.Command g v) xs))) (λ takes. IsTrue (allows takes q))
+        → (IsSomeAnd (option_map (λ (r : Rule). r.takes) (find (is_rule form.Command g v) xs)) (λ takes. IsTrue (allows takes q)) → is_carrier g v ≡ true)
+        → carries x ≡ true → is_carrier g v ≡ true
+    here true same found on first =
+        let parts = and_parts (form_eq x.form form.Command) (x.group == g && x.variation == v) same in
+        let numbers = and_parts (x.group == g) (x.variation == v) parts.1 in
+        let there = either (form_eq x.form form.Command) (is_carrier x.group x.variation) parts.0 first in
+        subst (λ (n : ℕ). is_carrier n v ≡ true) (eqb-true x.group g numbers.0)
+        (subst (λ (n : ℕ). is_carrier x.group n ≡ true) (eqb-true x.variation v numbers.1) there)
+    here false same found on first = on found
 
--- ---- other statuses
+-- what is so of the three objects that carry commands is so of each in the table for commands
+by_carrier : (P : ℕ → ℕ → Type 0) → P 12 1 → P 41 1 → P 41 2 → (g v : ℕ) → is_carrier g v ≡ true → P g v
+unfolding is_carrier
+by_carrier P block wide narrow g v is = first (g == 12 && v == 1) refl is
+  where
+    at : (x y : ℕ) → (g == x && v == y) ≡ true → P x y → P g v
+    at x y same there =
+        let both = and_parts (g == x) (v == y) same in
+        subst (λ (n : ℕ). P n v) (sym (eqb-true g x both.0)) (subst (λ (n : ℕ). P x n) (sym (eqb-true v y both.1)) there)
 
-status_length : (object : List ℕ) (code : ℕ) → 1 ≤ length object → length (with_status object code) ≡ length object
-status_length object code some = simp (length-append, length-take) (omega arith)
+    third : (b : Bool) → (g == 41 && v == 2) ≡ b → b ≡ true → P g v
+    third true same is = at 41 2 same narrow
+    third false same is = cc
 
-statuses_length : (size count : ℕ) (octets codes : List ℕ) → 1 ≤ size → length octets ≡ count * size
-    → length (with_statuses (pieces size count octets) codes) ≡ count * size
-statuses_length size zero octets codes some is = omega arith
-statuses_length size (suc more) octets [] some is =
-    let object : length (take size octets) ≡ size = simp length-take (omega arith) in
-    let behind : length (drop size octets) ≡ more * size = simp length-drop (omega arith) in
-    omega (arith, length-append (take size octets) (with_statuses (pieces size more (drop size octets)) []), statuses_length size more (drop size octets) [] some behind)
-statuses_length size (suc more) octets (code ∷ codes) some is =
-    let object : length (take size octets) ≡ size = simp length-take (omega arith) in
-    let behind : length (drop size octets) ≡ more * size = simp length-drop (omega arith) in
-    omega (arith, status_length (take size octets) code (omega arith),
-    length-append (with_status (take size octets) code) (with_statuses (pieces size more (drop size octets)) codes),
-    statuses_length size more (drop size octets) codes some behind)
+    second : (b : Bool) → (g == 41 && v == 1) ≡ b → (b || (g == 41 && v == 2)) ≡ true → P g v
+    second true same is = at 41 1 same wide
+    second false same is = third (g == 41 && v == 2) refl is
 
--- so many octets of so many objects are as many behind
-counted_length : (count size : ℕ) (octets codes : List ℕ) → 1 ≤ size → length octets ≡ count * size
-    → length (with_statuses (pieces (length octets / count) count octets) codes) ≡ length octets
-counted_length zero size octets codes some is = omega arith
-counted_length (suc more) size octets codes some is =
-    let each : length octets / suc more ≡ size =
-    ap (λ (n : ℕ). n / suc more) is ∙ mul-div_cancel_left size (omega arith) in
-    ap (λ (n : ℕ). length (with_statuses (pieces n (suc more) octets) codes)) each ∙ statuses_length size (suc more) octets codes some is ∙ sym is
+    first : (b : Bool) → (g == 12 && v == 1) ≡ b → (b || ((g == 41 && v == 1) || (g == 41 && v == 2))) ≡ true → P g v
+    first true same is = at 12 1 same block
+    first false same is = second (g == 41 && v == 1) refl is
 
-header_stands : (h : Head) (codes : List ℕ) → IsHeader form.Command h
-    → IsHeader form.Response (record h { octets = with_statuses (objects_of h) codes })
-header_stands h codes is =
-    let for = for_control h.group h.variation (qualifier_of h.range) is.object in
-    let sized : length h.octets ≡ count_of h.range * (prefix_size h.range + for.size) =
-    is.objects ∙ ap (octets_of (count_of h.range) (prefix_size h.range)) for.size_is in
-    record {
-      object = for.response;
-      fits = is.fits;
-      forward = is.forward;
-      objects = counted_length (count_of h.range) (prefix_size h.range + for.size) h.octets codes (omega (arith, for.some)) sized ∙ is.objects;
-    }
+-- ---- a header of commands
 
-header_silent : (h : Head) → IsHeader form.Command h → is_event_header h ≡ false
-header_silent h is = (for_control h.group h.variation (qualifier_of h.range) is.object).no_event
+-- its objects have as many octets each, and with others of the same size it stands in a response
+pub record OfCommands (h : Head) : Type 0 where
+  pub each : ℕ
+  pub some : 1 ≤ each
+  pub whole : length h.octets ≡ count_of h.range * each
+  pub answers : (octets : List ℕ) → length octets ≡ length h.octets → IsHeader form.Response (record h { octets = octets })
 
-pub headers_stand : (hs : List Head) (codes : List ℕ) → AreHeaders form.Command begin hs → AreHeaders form.Response begin (headers_with codes hs)
-headers_stand [] codes are = tt
-headers_stand (h ∷ hs) codes are = (header_stands h codes are.0, headers_stand hs (drop (count_of h.range) codes) are.1)
+OfObject : ℕ → ℕ → Type 0
+OfObject g v = (r : Range) (octets : List ℕ) → IsHeader form.Command (record { group = g; variation = v; range = r; octets = octets })
+    → OfCommands (record { group = g; variation = v; range = r; octets = octets })
 
-pub headers_silent : (hs : List Head) (codes : List ℕ) → AreHeaders form.Command begin hs → rows_said (headers_with codes hs) ≡ []
-headers_silent [] codes are = refl
-headers_silent (h ∷ hs) codes are = rw (header_silent h are.0) (headers_silent hs (drop (count_of h.range) codes) are.1)
+block : OfObject 12 1
+unfolding OfObject takes_of rules objects content_of
+block r octets is = record {
+  each = prefix_size r + 11;
+  some = omega arith;
+  whole = is.objects;
+  answers = λ others same. record { object = is.object; fits = is.fits; forward = is.forward; objects = same ∙ is.objects };
+}
+
+wide : OfObject 41 1
+unfolding OfObject takes_of rules objects content_of
+wide r octets is = record {
+  each = prefix_size r + 5;
+  some = omega arith;
+  whole = is.objects;
+  answers = λ others same. record { object = is.object; fits = is.fits; forward = is.forward; objects = same ∙ is.objects };
+}
+
+narrow : OfObject 41 2
+unfolding OfObject takes_of rules objects content_of
+narrow r octets is = record {
+  each = prefix_size r + 3;
+  some = omega arith;
+  whole = is.objects;
+  answers = λ others same. record { object = is.object; fits = is.fits; forward = is.forward; objects = same ∙ is.objects };
+}
+
+pub of_commands : (h : Head) → IsHeader form.Command h → OfCommands h
+unfolding OfObject takes_of
+of_commands h is =
+    by_carrier OfObject block wide narrow h.group h.variation (found_carries rules all_carry h.group h.variation (qualifier_of h.range) is.object)
+    h.range h.octets is
+
+-- ---- places of objects
+
+pub record Sized (h : Head) : Type 0 where
+  pub some : 1 ≤ length h.octets / count_of h.range
+  pub whole : length h.octets ≡ count_of h.range * (length h.octets / count_of h.range)
+
+quotient : (count each : ℕ) → 0 < count → (count * each) / count ≡ each
+quotient count each some = mul-div_cancel_left each some
+
+pub sized : (h : Head) → 0 < count_of h.range → IsHeader form.Command h → Sized h
+sized h some is =
+    let of = of_commands h is in
+    let same : length h.octets / count_of h.range ≡ of.each =
+    ap (λ n. n / count_of h.range) of.whole ∙ quotient (count_of h.range) of.each some in
+    record { some = rw same of.some; whole = rw same of.whole }
+
+-- what is left in front of an object has room for it
+pub room_for : (n k each : ℕ) → k < n → k * each + each ≤ n * each
+room_for n k each less = let product : suc k * each ≤ n * each = mul-le-mul_right each less in omega (arith, product)
+
+pub object_length : (h : Head) (k : ℕ) → Sized h → k < count_of h.range → length (object_in h k) ≡ length h.octets / count_of h.range
+object_length h k sized less =
+    let each : ℕ = length h.octets / count_of h.range in
+    let room = room_for (count_of h.range) k each less in
+    let whole : length h.octets ≡ count_of h.range * each = sized.whole in
+    let taken = length-take each (drop (k * each) h.octets) in
+    let dropped = length-drop (k * each) h.octets in
+    omega (arith, taken, dropped, room, whole)
+
+status_length : (object : List ℕ) (code : Option ℕ) → 1 ≤ length object → length (with_status object code) ≡ length object
+status_length object None some = refl
+status_length object (Some code) some =
+    let joined = length-append (take (length object - 1) object) (code ∷ []) in
+    let taken = length-take (length object - 1) object in
+    omega (arith, joined, taken, some)
+
+range_length : (f : ℕ → List ℕ) (each k n : ℕ) → ((i : ℕ) → k ≤ i → i < k + n → length (f i) ≡ each) → length (flat_map f (range_with_len k n)) ≡ n * each
+range_length f each k zero all = omega arith
+range_length f each k (suc n) all =
+    let joined = length-append (f k) (flat_map f (range_with_len (k + 1) n)) in
+    let here : length (f k) ≡ each = all k (omega arith) (omega arith) in
+    let rest = range_length f each (k + 1) n (λ i low high. all i (omega (arith, low)) (omega (arith, high))) in
+    omega (arith, joined, here, rest)
+
+-- the answer has as many octets
+pub answered_length : (code : Command → ℕ) (h : Head) → IsHeader form.Command h → length (answered_head code h).octets ≡ length h.octets
+answered_length code h is = by (count_of h.range) refl
+  where
+    by : (n : ℕ) → count_of h.range ≡ n → length (answered_head code h).octets ≡ length h.octets
+    by zero same =
+        let whole = rw same at (of_commands h is).whole in
+        rw same (omega (arith, whole))
+    by (suc n) same =
+        let facts = sized h (omega (arith, same)) is in
+        range_length (answered_object code h) (length h.octets / count_of h.range) 0 (count_of h.range)
+        (λ i low high.
+        let less : i < count_of h.range = omega (arith, high) in
+        let long = object_length h i facts less in
+        status_length (object_in h i) (option_map code (command_at h i)) (rw long facts.some) ∙ long)
+        ∙ sym facts.whole
+
+pub answered_header : (code : Command → ℕ) (h : Head) → IsHeader form.Command h → IsHeader form.Response (answered_head code h)
+answered_header code h is = (of_commands h is).answers (answered_head code h).octets (answered_length code h is)
+
+-- ---- the headers in a fragment
+
+pub header_length : (code : Command → ℕ) (h : Head) → IsHeader form.Command h → length (header_octets (answered_head code h)) ≡ length (header_octets h)
+header_length code h is =
+    let before = length-append (range_octets h.range) h.octets in
+    let after = length-append (range_octets h.range) (answered_head code h).octets in
+    let same = answered_length code h is in
+    omega (arith, before, after, same)
+
+pub size_with : (b : Built) (h : Head) → size (with_header b h) ≡ size b + length (header_octets h)
+size_with b h =
+    let octets : spelled (heads (with_header b h)) ≡ spelled (heads b) ++ header_octets h =
+    ap (λ (hs : List Head). spelled hs) (append-nil (heads b ++ h ∷ []))
+    ∙ flat_map-append header_octets (heads b) (h ∷ [])
+    ∙ ap (λ (xs : List ℕ). spelled (heads b) ++ xs) (append-nil (header_octets h)) in
+    let same : length (spelled (heads (with_header b h))) ≡ length (spelled (heads b) ++ header_octets h) = ap (λ (xs : List ℕ). length xs) octets in
+    let sum = length-append (spelled (heads b)) (header_octets h) in
+    omega (arith, same, sum)
+
+-- ---- the objects of a header, one after another
+
+pub piece_is : (h : Head) (k count : ℕ) (rest object : List ℕ) → count ≡ count_of h.range → rest ≡ drop (k * (length h.octets / count)) h.octets
+    → object ≡ take (length h.octets / count) rest → object ≡ object_in h k
+piece_is h k count rest object is left front = rw (front, left, is) refl
+
+pub piece_some : (h : Head) (k count : ℕ) → count ≡ count_of h.range → k < count → IsHeader form.Command h → 1 ≤ length h.octets / count
+piece_some h k count is less whole = rw is (sized h (omega (arith, is, less)) whole).some
+
+pub object_put : (code : Command → ℕ) (h : Head) (k count : ℕ) (before after all object : List ℕ) (given : Option ℕ) → k < count → object ≡ object_in h k
+    → given ≡ option_map code (command_at h k) → after ≡ before ++ with_status object given → before ++ answered_from code h k (count - k) ≡ all
+    → after ++ answered_from code h (k + 1) (count - (k + 1)) ≡ all
+object_put code h k count before after all object given less object_is given_is after_is sum =
+    let rest = answered_from code h (k + 1) (count - (k + 1)) in
+    rw (after_is, object_is, given_is)
+    (append_assoc before (answered_object code h k) rest ∙ ap (λ (xs : List ℕ). before ++ xs) (sym (more_from (answered_object code h) k count less)) ∙ sum)
+
+pub longer_by : (k each : ℕ) (before after object : List ℕ) (given : Option ℕ) → 1 ≤ each → length object ≡ each → after ≡ before ++ with_status object given
+    → length before ≡ k * each → length after ≡ (k + 1) * each
+longer_by k each before after object given some long after_is before_long =
+    let same : length (with_status object given) ≡ length object = status_length object given (omega (arith, some, long)) in
+    let sum = length-append before (with_status object given) in
+    let all : length after ≡ length (before ++ with_status object given) = ap (λ (xs : List ℕ). length xs) after_is in
+    omega (arith, same, sum, all, long, before_long)
+
+drop_none : (n : ℕ) → drop {A = ℕ} n [] ≡ []
+drop_none zero = refl
+drop_none (suc n) = refl
+
+drop_again : (n m : ℕ) (xs : List ℕ) → drop n (drop m xs) ≡ drop (m + n) xs
+drop_again n zero xs = ap (λ k. drop k xs) (sym (zero-add n))
+drop_again n (suc m) [] = drop_none n ∙ sym (drop_none (suc m + n))
+drop_again n (suc m) (x ∷ xs) = let place : suc m + n ≡ suc (m + n) = omega arith in rw place (drop_again n m xs)
+
+pub cut_again : (k each : ℕ) (octets rest behind : List ℕ) → rest ≡ drop (k * each) octets → behind ≡ drop each rest → behind ≡ drop ((k + 1) * each) octets
+cut_again k each octets rest behind left back =
+    let place : (k + 1) * each ≡ k * each + each = omega arith in
+    rw (back, left, place) (drop_again each (k * each) octets)
+
+-- ---- the headers, one after another
+
+pub put_there : {T E X : Type 0} (r : Result T E) → (IsErr r → ⊥) → OnOk r X → X
+put_there (Ok x) never put = put
+put_there (Err e) never put = absurd (never refl)
+
+pub header_put : (code : Command → ℕ) (old new : Built) (h : Head) (hs all : List Head) → new ≡ with_header old (answered_head code h)
+    → heads old ++ headers_with code (h ∷ hs) ≡ all → heads new ++ headers_with code hs ≡ all
+header_put code old new h hs all is sum =
+    rw is
+    (ap (λ (xs : List Head). xs ++ headers_with code hs) (append-nil (heads old ++ answered_head code h ∷ []))
+    ∙ append_assoc (heads old) (answered_head code h ∷ []) (headers_with code hs) ∙ sum)
+
+pub room_left : (code : Command → ℕ) (old new : Built) (h : Head) (hs : List Head) → IsHeader form.Command h → new ≡ with_header old (answered_head code h)
+    → size old + length (spelled (h ∷ hs)) ≤ MAX_FRAGMENT → size new + length (spelled hs) ≤ MAX_FRAGMENT
+room_left code old new h hs whole is room =
+    let long = size_with old (answered_head code h) in
+    let same = header_length code h whole in
+    let sum = length-append (header_octets h) (spelled hs) in
+    rw is (omega (arith, long, same, sum, room))
+
+pub room_in : (b : Built) (h : Head) (hs : List Head) → size b + length (spelled (h ∷ hs)) ≤ MAX_FRAGMENT → size b + length (header_octets h) ≤ MAX_FRAGMENT
+room_in b h hs room = let sum = length-append (header_octets h) (spelled hs) in omega (arith, sum, room)

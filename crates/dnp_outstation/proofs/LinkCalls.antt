@@ -78,7 +78,8 @@ is_false : (b : Bool) → not b ≡ true → b ≡ false
 is_false true is = cc
 is_false false is = refl
 
-starts_by : (on announced opened free rows : Bool) → (on && (announced && (opened && (free && rows)))) ≡ true → (on ≡ true) × (announced ≡ true) × (opened ≡ true) × (free ≡ true)
+starts_by : (on announced opened free rows : Bool) → (on && (announced && (opened && (free && rows)))) ≡ true
+    → (on ≡ true) × (announced ≡ true) × (opened ≡ true) × (free ≡ true)
 starts_by on announced opened free rows is =
     let a = and_parts on (announced && (opened && (free && rows))) is in
     let b = and_parts announced (opened && (free && rows)) a.1 in

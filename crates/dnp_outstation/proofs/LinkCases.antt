@@ -1,11 +1,10 @@
 -- What came is what its case says.
-use Rattle.std.proofs.Common.{◌≡◌, ◌≢◌, Bool, true, false, if◌then◌else◌, refl, sym, ◌∙◌, ap, subst, ℕ, ◌==◌, ◌&&◌, not, List, Option, None, Some, IsSome, is_some, eqb-true, eq-eqb}
+use Rattle.std.proofs.Common.{◌≡◌, ◌≢◌, Bool, true, false, if◌then◌else◌, refl, sym, ◌∙◌, ap, ℕ, ◌==◌, ◌&&◌, not, List, Option, None, Some, is_some, eqb-true, eq-eqb}
 use Rattle.std.specs.Str.{bytes_eq}
 use Rattle.std.proofs.lemmas.Bool.{and_parts}
 use Rattle.std.proofs.lemmas.Slice.Eq.{bytes_eq-Decides}
 use Rattle.dnp_appfragment.specs.declared.function.Function.TheVariants as function
 use Rattle.dnp_appfragment.specs.Table.{function_octet}
-use Rattle.dnp_outstation.specs.declared.case.Case.{Case}
 use Rattle.dnp_outstation.specs.declared.case.Case.TheVariants.{PassedOver, Confirms, ConfirmsUnsolicited, Stray, Again, Waits, Asks}
 use Rattle.dnp_outstation.specs.State.{Core}
 use Rattle.dnp_outstation.specs.Connection.{is_looked_at, control_in, function_in, awaited_number, is_number, is_last_request, case_of}

@@ -1,16 +1,10 @@
 -- What confirms release, and how a held READ is answered.
-use Rattle.std.proofs.Common.{◌≡◌, ◌≢◌, Bool, true, false, if◌then◌else◌, refl, sym, ◌∙◌, ap, subst, ℕ, ◌+◌, ◌%◌, ◌&&◌, is_none, ◌||◌, not, nat_le, List, [], Option, None, Some, option_map, option_to_list, Result, Ok, Err}
-use Rattle.dnp_objects.specs.declared.row.Row.{Row}
-use Rattle.dnp_objects.specs.declared.row.Kind.{Kind}
-use Rattle.dnp_objects.specs.declared.lane.LaneRow.{LaneRow}
-use Rattle.dnp_pointdb.specs.Database.{changed_of}
-use Rattle.dnp_pointdb.specs.declared.reading.Reading.{Reading}
+use Rattle.std.proofs.Common.{◌≡◌, ◌≢◌, Bool, true, false, if◌then◌else◌, refl, sym, ◌∙◌, ap, subst, ℕ, ◌+◌, ◌%◌, ◌&&◌, is_none, List, [], Option, None, Some, option_map, Result, Ok, Err}
 use Rattle.dnp_appfragment.specs.declared.fault.AppFault.{AppFault}
 use Rattle.dnp_appfragment.specs.Fragments.{Asked}
 use Rattle.dnp_appfragment.specs.Meaning.{request_at}
 use Rattle.dnp_controls.specs.Panel.{Panel}
-use Rattle.dnp_controls.specs.Selecting.{deadline}
-use Rattle.dnp_eventbuf.specs.Stock.{Stock, with_rows, dropped_by, without, all_up_to}
+use Rattle.dnp_eventbuf.specs.Stock.{without}
 use Rattle.dnp_outstation.specs.declared.offer.place.Place.{Place}
 use Rattle.dnp_outstation.specs.declared.case.Case.{Case}
 use Rattle.dnp_outstation.specs.declared.case.Case.TheVariants.{PassedOver, Confirms, ConfirmsUnsolicited, Stray, Again, Waits, Asks}
@@ -20,12 +14,12 @@ use Rattle.dnp_outstation.specs.declared.session.LastRequest.{LastRequest}
 use Rattle.dnp_outstation.specs.declared.session.Awaited.{Awaited}
 use Rattle.dnp_outstation.specs.declared.session.Unsolicited.{Unsolicited}
 use Rattle.dnp_outstation.specs.Offer.{pushed}
-use Rattle.dnp_outstation.specs.State.{State, Step, nothing, sending, still, with_session, holds_read, is_free}
+use Rattle.dnp_outstation.specs.State.{State, Step, sending, still, with_session, holds_read, is_free}
 use Rattle.dnp_outstation.specs.Content.{Content, Executed, content_from, content_of}
 use Rattle.dnp_outstation.specs.Controls.{content_at}
-use Rattle.dnp_outstation.specs.Connection.{replied, asked, on_request, on_again, marked, confirmed, goes_on, on_confirm, discarding, awaits, control_in, waiting, answers_held, on_unsolicited_confirm, starts, at_end, has_enabled_rows, closed, solicited_timer, unsolicited_timer, has_ended, case_of}
-use Rattle.dnp_outstation.specs.Calls.{with_that, answered_by, received, connection_after, tick_of, change_of, opened_of}
-use Rattle.dnp_outstation.specs.Links.{Releases, ReleasesNone, unsolicited_confirmed, begun}
+use Rattle.dnp_outstation.specs.Connection.{replied, asked, on_request, on_again, marked, confirmed, goes_on, on_confirm, discarding, awaits, control_in, waiting, answers_held, on_unsolicited_confirm, starts, at_end, has_enabled_rows, case_of}
+use Rattle.dnp_outstation.specs.Calls.{with_that, received, connection_after}
+use Rattle.dnp_outstation.specs.Links.{Releases, ReleasesNone, unsolicited_confirmed}
 use Rattle.dnp_outstation.proofs.ContentOf.{AnyHeaders, any_fine, content_answered, content_done}
 
 -- ---- the end of a call

@@ -161,7 +161,8 @@ abbrev IsReported : State → Content → Type 0
 IsReported s content = (answered : Answered) → answered.headers ≡ content.headers → IsControl answered.control → is_response answered.function ≡ true
     → Reports s.lanes (response_octets answered) answered.control content.upto
 
-is_reported : (s : State) (o : Panel) (content : Content) → IsSound s.lanes → AreWritable (source_of s o) → IsContent HoldNoEvents s o content → IsReported s content
+is_reported : (s : State) (o : Panel) (content : Content) → IsSound s.lanes → AreWritable (source_of s o) → IsContent HoldNoEvents s o content
+    → IsReported s content
 is_reported s o _ sound writable (Reads headers) =
     λ answer same control function. read_reports s o (last_in s.lanes) first_place headers answer sound writable
     (begins_tidy s.lanes sound) refl same control function

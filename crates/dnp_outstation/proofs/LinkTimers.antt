@@ -7,7 +7,7 @@ use Rattle.dnp_outstation.specs.declared.case.Case.TheVariants.{Waits}
 use Rattle.dnp_outstation.specs.declared.session.Awaited.{Awaited}
 use Rattle.dnp_outstation.specs.declared.session.Unsolicited.{Unsolicited}
 use Rattle.dnp_outstation.specs.Offer.{pushed}
-use Rattle.dnp_outstation.specs.State.{Core, State, Step, nothing, sending, still, with_session, holds_read, is_free}
+use Rattle.dnp_outstation.specs.State.{Core, State, Step, nothing, sending, still, holds_read, is_free}
 use Rattle.dnp_outstation.specs.Content.{content_from, plain}
 use Rattle.dnp_outstation.specs.Connection.{starts, at_end, has_enabled_rows, closed, solicited_timer, unsolicited_timer, has_ended, waiting, case_of}
 use Rattle.dnp_outstation.specs.Calls.{connection_after, tick_of, opened_of}
@@ -63,14 +63,14 @@ opens_again s now (inr announced) =
 
 -- ---- the timer of a response
 
-abbrev with_awaited : Core → Option Awaited → Core
+abbrev pub with_awaited : Core → Option Awaited → Core
 with_awaited c awaited = record c { session = record c.session { awaited = awaited } }
 
-abbrev awaited_at : Option Awaited → ℕ → Option Awaited
+abbrev pub awaited_at : Option Awaited → ℕ → Option Awaited
 awaited_at None now = None
 awaited_at (Some w) now = if has_ended now w.ends then None else Some w
 
-solicited_is : (c : Core) (now : ℕ) → solicited_timer c now ≡ with_awaited c (awaited_at c.session.awaited now)
+pub solicited_is : (c : Core) (now : ℕ) → solicited_timer c now ≡ with_awaited c (awaited_at c.session.awaited now)
 solicited_is c now = go c.session.awaited
   where
     go : (awaited : Option Awaited) → solicited_timer (with_awaited c awaited) now ≡ with_awaited c (awaited_at awaited now)

@@ -105,6 +105,11 @@ pub record IsSelected (s : State) (now : ℕ) (octets : List ℕ) : Type 0 where
   pub goes_with : GoesWith select (control_in octets).seq (objects_in octets)
   pub is_running : IsRunning select s.core.times.select_ms now
 
+-- a SELECT made this select at this moment
+pub record IsMade (now : ℕ) (octets : List ℕ) (select : Select) : Type 0 where
+  pub function_is : function_in octets ≡ function_octet function.Select
+  pub is : select ≡ record { at = now; seq = (control_in octets).seq; octets = objects_in octets }
+
 -- ---- what is released
 
 -- the rows of the lanes up to these ids left, and all others stayed

@@ -31,16 +31,16 @@ use dnp_pointdb::PointDb;
 use std::alloc::Global;
 
 /// The bit of an unknown function (IIN2.0), of the second octet of indications.
-const NO_FUNC_CODE_SUPPORT: u8 = 0x01;
+pub(crate) const NO_FUNC_CODE_SUPPORT: u8 = 0x01;
 
 /// The bit of an unknown object (IIN2.1).
 const OBJECT_UNKNOWN: u8 = 0x02;
 
 /// The bit of a header that is in error otherwise (IIN2.2).
-const PARAMETER_ERROR: u8 = 0x04;
+pub(crate) const PARAMETER_ERROR: u8 = 0x04;
 
 /// Where a READ begins.
-const FIRST_PLACE: Place = Place {
+pub(crate) const FIRST_PLACE: Place = Place {
     header: 0,
     count: 0,
     given: [0; 9],
@@ -59,7 +59,7 @@ pub(crate) fn request_in(octets: &[u8]) -> Result<Request<'_>, AppFault>
 }
 
 /// The bit that tells of a request that can't be read.
-fn bits_of(fault: AppFault) -> u8
+pub(crate) fn bits_of(fault: AppFault) -> u8
     ensures value { result ≡ bits_of fault }
     ensures small { result < 8 }
 {
@@ -158,7 +158,7 @@ fn written(headers: Headers<'_>, restart: bool) -> Result<Changes, u8>
 }
 
 /// An answer without objects.
-fn plain(bits: u8, switches: Switches, stood: u64) -> Answer
+pub(crate) fn plain(bits: u8, switches: Switches, stood: u64) -> Answer
     ensures { result ≡ record { bits = bits; switches = switches; stood = stood; left = None; time = None } }
 {
     Answer {

@@ -10,7 +10,7 @@ ghost use Rattle.dnp_appfragment.specs.Headers.{Head};
 ghost use Rattle.dnp_appfragment.specs.Table.{function_octet};
 ghost use Rattle.dnp_pointdb.specs.declared.reading.Reading.{Reading};
 ghost use Rattle.dnp_controls.specs.Panel.{Panel};
-ghost use Rattle.dnp_controls.specs.Selecting.{deadline};
+ghost use Rattle.dnp_controls.specs.Selecting.{Select, deadline};
 ghost use Rattle.dnp_eventbuf.specs.Sound.{IsSound};
 ghost use Rattle.dnp_eventbuf.specs.Stock.{Stock};
 ghost use Rattle.dnp_outstation.specs.declared.case.Case.TheVariants as case;
@@ -23,7 +23,7 @@ ghost use Rattle.dnp_outstation.specs.Items.{no_ids, items_left};
 ghost use Rattle.dnp_outstation.specs.Offer.{pushed};
 ghost use Rattle.dnp_outstation.specs.Laws.{IsTidy};
 ghost use Rattle.dnp_outstation.specs.Said.{rows_said, AreWritable, HaveIndexes};
-ghost use Rattle.dnp_outstation.specs.Links.{Reports, KeepsConnection, EndsAs, begun, Performs, IsSelected, Releases, ReleasesNone, unsolicited_confirmed, ExecutesNothing, CaseSays, IsInOrder};
+ghost use Rattle.dnp_outstation.specs.Links.{Reports, KeepsConnection, EndsAs, begun, Performs, IsSelected, IsMade, Releases, ReleasesNone, unsolicited_confirmed, ExecutesNothing, CaseSays, IsInOrder};
 ghost use Rattle.dnp_outstation.specs.State.{Core, State, Step, nothing, sending, still, with_session, holds_read};
 ghost use Rattle.dnp_outstation.specs.Content.{Content, content_of, content_from, plain, read_content, source_of};
 ghost use Rattle.dnp_outstation.specs.Controls.{content_at};
@@ -128,9 +128,14 @@ pub fn an_unsolicited_response_is_repeated_as_it_was()
         → w.repeats < s.core.times.retries
         → (let core = solicited_timer s.core now in
         tick_of s now ≡ record {
-            state = record s { core = record core { session = record core.session {
-                unsolicited = Some (record w { ends = deadline now s.core.times.confirm_ms; repeats = w.repeats + 1 }) } } };
-            does = sending s.core.session.unsolicited_response;
+          state = record s {
+            core = record core {
+              session = record core.session {
+                unsolicited = Some (record w { ends = deadline now s.core.times.confirm_ms; repeats = w.repeats + 1 });
+              };
+            };
+          };
+          does = sending s.core.session.unsolicited_response;
         }) }
     ensures closes { (s : State) (now : ℕ) (w : Unsolicited) → s.core.is_open ≡ true
         → s.core.session.unsolicited ≡ Some w → w.ends ≤ now
@@ -199,7 +204,7 @@ pub fn commands_are_performed_as_they_are_asked()
 }
 
 /// An OPERATE performs only where a select stands with the number before and equal octets, whose timer still
-/// runs; and then none stands any more.
+/// runs; and then none stands any more. A SELECT alone makes one, and each other request forgets it.
 pub fn an_operate_needs_its_select()
     ensures selected { (s : State) (o : Panel) (now : ℕ) (octets : List ℕ)
         → function_in octets ≡ function_octet function.Operate
@@ -207,6 +212,12 @@ pub fn an_operate_needs_its_select()
     ensures spent { (s : State) (o : Panel) (now : ℕ) (octets : List ℕ)
         → function_in octets ≡ function_octet function.Operate
         → (connection_after s o now octets).state.performed ≢ s.performed
+        → (connection_after s o now octets).state.core.session.selects ≡ None }
+    ensures made { (s : State) (o : Panel) (now : ℕ) (octets : List ℕ) (select : Select)
+        → (connection_after s o now octets).state.core.session.selects ≡ Some select
+        → (s.core.session.selects ≡ Some select) ⊎ IsMade now octets select }
+    ensures forgotten { (s : State) (o : Panel) (now : ℕ) (octets : List ℕ) → case_of s.core octets ≡ case.Asks
+        → function_in octets ≢ function_octet function.Select → function_in octets ≢ function_octet function.Operate
         → (connection_after s o now octets).state.core.session.selects ≡ None }
 {
     an_operate_is_answered_by_its_select();

@@ -1,0 +1,46 @@
+-- The headers of a control request, with other statuses, stand in the table for responses, and hold no event.
+use Rattle.std.proofs.Common.{◌≡◌, Bool, true, false, IsTrue, refl, subst, ℕ, ◌==◌, ◌&&◌, ◌||◌, cond, List, [], ◌∷◌, None, Some, eqb-true}
+use Rattle.std.specs.Option.{IsSomeAnd, option_map}
+use Rattle.std.proofs.lemmas.Bool.{and_parts}
+use Rattle.dnp_objects.specs.Objects.{objects}
+use Rattle.dnp_objects.specs.declared.command.Command.{Command}
+use Rattle.dnp_appfragment.specs.declared.table.Form.TheVariants as form
+use Rattle.dnp_appfragment.specs.Headers.{Head, IsHeader, AreHeaders, begin, qualifier_of}
+use Rattle.dnp_appfragment.specs.Table.{Rule, takes_of, rules, allows, IsInTable}
+use Rattle.dnp_outstation.specs.Controls.{headers_with}
+use Rattle.dnp_outstation.specs.Said.{rows_said, is_event_header}
+use Rattle.dnp_outstation.proofs.ControlHeaders.{answered_header}
+
+abbrev IsNoEvent : ℕ → Type 0
+IsNoEvent g = ((g == 2) || (g == 22) || (g == 32)) ≡ false
+
+none_such : (a b c : Bool) (x y z : Rule) (q : ℕ) → a ≡ false → b ≡ false → c ≡ false
+    → IsSomeAnd (option_map (λ (r : Rule). r.takes) (cond a (Some x) (cond b (Some y) (cond c (Some z) None)))) (λ t. IsTrue (allows t q)) → ⊥
+none_such true b c x y z q d e f is = cc
+none_such false true c x y z q d e f is = cc
+none_such false false true x y z q d e f is = cc
+none_such false false false x y z q d e f is = is
+
+-- the groups of commands are 12 and 41
+no_event : (g v q : ℕ) → IsInTable form.Command g v q → IsNoEvent g
+unfolding takes_of rules objects
+no_event g v q is =
+    one 12 1 (12 == g && 1 == v) refl refl (λ a.
+    one 41 1 (41 == g && 1 == v) refl refl (λ b.
+    one 41 2 (41 == g && 2 == v) refl refl (λ c.
+    absurd (none_such (12 == g && 1 == v) (41 == g && 1 == v) (41 == g && 2 == v) _ _ _ q a b c is))))
+  where
+    one : (G V : ℕ) (b : Bool) → (G == g && V == v) ≡ b → IsNoEvent G → (b ≡ false → IsNoEvent g) → IsNoEvent g
+    one G V true same here rest = subst IsNoEvent (eqb-true G g (and_parts (G == g) (V == v) same).0) here
+    one G V false same here rest = rest refl
+
+header_silent : (h : Head) → IsHeader form.Command h → is_event_header h ≡ false
+header_silent h is = no_event h.group h.variation (qualifier_of h.range) is.object
+
+pub headers_stand : (code : Command → ℕ) (hs : List Head) → AreHeaders form.Command begin hs → AreHeaders form.Response begin (headers_with code hs)
+headers_stand code [] are = tt
+headers_stand code (h ∷ hs) are = (answered_header code h are.0, headers_stand code hs are.1)
+
+pub headers_silent : (code : Command → ℕ) (hs : List Head) → AreHeaders form.Command begin hs → rows_said (headers_with code hs) ≡ []
+headers_silent code [] are = refl
+headers_silent code (h ∷ hs) are = rw (header_silent h are.0) (headers_silent code hs are.1)

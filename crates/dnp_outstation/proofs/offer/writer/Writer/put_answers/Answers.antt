@@ -1,0 +1,31 @@
+use Rattle.std.proofs.Common.{◌≡◌, ap}
+use Rattle.dnp_appfragment.specs.Built.{with_header}
+use Rattle.dnp_appfragment.specs.Seen.{head}
+use Rattle.dnp_outstation.specs.Controls.{answered_head}
+use Rattle.dnp_outstation.specs.Deciding.{code_by}
+use Rattle.dnp_outstation.proofs.ControlHeaders.{header_put, room_left, room_in}
+use Rattle.dnp_outstation.proofs.offer.writer.Writer.put_answers.Goals as goal
+
+pub put_answered-requires-clause-whole : goal.put_answered-requires-clause-whole
+put_answered-requires-clause-whole g c = (rw c.in-Some.ensures.steps.0 at c.loop-header.invariant.whole).0
+
+pub put_answered-requires-clause-room : goal.put_answered-requires-clause-room
+put_answered-requires-clause-room g c =
+    room_in c.loop-header.self.builder (head c.in-Some.header) c.next.new.self.headers (rw c.in-Some.ensures.steps.0 at c.loop-header.invariant.room)
+
+pub loop-header-preserved : goal.loop-header-preserved
+loop-header-preserved g c =
+    let h = head c.in-Some.header in
+    let code = code_by (g.O.Outputs.panel c.args.outputs.now) c.args.told.now in
+    let next = c.in-Some.ensures.steps.0 in
+    let whole = rw next at c.loop-header.invariant.whole in
+    let put : c.put_answered.new.self.builder ≡ with_header c.loop-header.self.builder (answered_head code h) = ap (λ w. w.builder) c.put_answered.ensures in
+    record {
+      whole = whole.1;
+      response = rw c.put_answered.ensures c.loop-header.invariant.response;
+      room = room_left code c.loop-header.self.builder c.put_answered.new.self.builder h c.next.new.self.headers whole.0 put
+          (rw next at c.loop-header.invariant.room);
+      all = header_put code c.loop-header.self.builder c.put_answered.new.self.builder h c.next.new.self.headers _ put
+          (rw next at c.loop-header.invariant.all);
+      upto = rw c.put_answered.ensures c.loop-header.invariant.upto;
+    }
