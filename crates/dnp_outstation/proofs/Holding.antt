@@ -2,6 +2,7 @@
 use Rattle.std.proofs.Common.{◌≡◌, ◌⊎◌, inl, inr, ℕ, zero, suc, ◌+◌, ◌-◌, ◌*◌, ◌<◌, ◌≤◌, ◌==◌, ◌&&◌, not, Bool, true, false, cond, if◌then◌else◌, List, [], ◌∷◌, ◌++◌, map, length, get_or, set, take, drop, nat_lt, nat_le, Option, None, Some, IfSome, refl, sym, ap, subst, ◌∙◌, arith, append_assoc, append-nil, eq-eqb, ne_eqb}
 use Rattle.std.specs.Prelude.{option_to_list}
 use Rattle.std.proofs.lemmas.Bool.{cases_eq, leb-true}
+use Rattle.std.proofs.lemmas.Bool.Decides.{nat_tests}
 use Rattle.std.proofs.lemmas.List.{take-append-drop, take_all, map-append, get_or-set_same, get_or-set_other, length-append}
 use Rattle.dnp_objects.specs.declared.lane.LaneRow.{LaneRow}
 use Rattle.dnp_objects.specs.declared.row.Row.{Row}
@@ -11,11 +12,12 @@ use Rattle.dnp_eventbuf.specs.Sound.{IsSound}
 use Rattle.dnp_eventbuf.specs.Stock.{Stock, LaneState, no_lane, lane_at, is_full, put_in, moved_on, added_in, with_row, with_rows, dropped_by, last_of, row_of}
 use Rattle.dnp_outstation.specs.declared.held.NewRow.{NewRow}
 use Rattle.dnp_outstation.specs.declared.offer.writer.Writer.{Writer}
-use Rattle.dnp_outstation.specs.Items.{Item, event_of, lane_items}
+use Rattle.dnp_outstation.specs.Items.{Item, event_of, class_lanes, enabled_lanes, lane_items}
 use Rattle.dnp_outstation.specs.Filling.{put, fits, fill, ended}
 use Rattle.dnp_outstation.specs.Holding.{new_of, kept_of, more_of}
 use Rattle.dnp_outstation.specs.Putting.{Puts}
 use Rattle.dnp_outstation.proofs.LeftLanes.{last_is}
+use Rattle.dnp_outstation.proofs.Pushing.{lanes_both}
 use Rattle.dnp_outstation.proofs.Rising.{last_or}
 
 -- ---- one list of items after the other
@@ -181,3 +183,53 @@ dropped_then s x rows sound low is =
         → nat_lt 0 (length ((if full then map row_of (take 1 lane.rows) else []) ++ [])) ≡ full
     by lane true is_so one = some lane one is_so lane.rows refl
     by lane false is_so one = refl
+
+-- ---- whole lanes, one after the other
+
+pub lane_put : (s : Stock) (made : Option LaneRow) (new : Option NewRow) (lane : ℕ) (w w' : Writer) (fit : Bool) → IsSound s → lane < 9 → new ≡ new_of s made
+    → Puts w (map (event_of 0 lane) (kept_of (lane_at s lane).rows new lane ++ more_of new lane)) fit w'
+    → Puts w (lane_items (with_rows s (option_to_list made)) (lane ∷ [])) fit w'
+lane_put s made new lane w w' fit sound low new_is put =
+    let rows : List Numbered = (lane_at s lane).rows in
+    let event : Numbered → Item = event_of 0 lane in
+    let is : map event (kept_of rows new lane ++ more_of new lane) ≡ lane_items (with_rows s (option_to_list made)) (lane ∷ []) =
+    ap (λ (n : Option NewRow). map event (kept_of rows n lane ++ more_of n lane)) new_is
+    ∙ ap (map event) (sym (rows_then s made lane sound.nine low))
+    ∙ sym (append-nil (map event (lane_at (with_rows s (option_to_list made)) lane).rows))
+    in
+    subst (λ (items : List Item). Puts w items fit w') is put
+
+pub lanes_put : (t : Stock) (lanes others : List ℕ) (w v w' : Writer) (fit : Bool) → Puts w (lane_items t lanes) true v → Puts v (lane_items t others) fit w'
+    → Puts w (lane_items t (lanes ++ others)) fit w'
+lanes_put t lanes others w v w' fit first second =
+    subst (λ (items : List Item). Puts w items fit w') (sym (lanes_both t lanes others))
+    (puts_both w v w' (lane_items t lanes) (lane_items t others) fit first second)
+
+pub lanes_full : (t : Stock) (lanes others : List ℕ) (w w' : Writer) → Puts w (lane_items t lanes) false w' → Puts w (lane_items t (lanes ++ others)) false w'
+lanes_full t lanes others w w' first =
+    subst (λ (items : List Item). Puts w items false w') (sym (lanes_both t lanes others)) (puts_none_more w w' (lane_items t lanes) (lane_items t others) first)
+
+pub class_on : (t : Stock) (class : ℕ) (on : Bool) (w w' : Writer) (fit : Bool) → on ≡ true → Puts w (lane_items t (class_lanes class)) fit w'
+    → Puts w (lane_items t (if on then class_lanes class else [])) fit w'
+class_on t class on w w' fit is put = subst (λ (b : Bool). Puts w (lane_items t (if b then class_lanes class else [])) fit w') (sym is) put
+
+-- the lanes of the three classes
+pub three_classes : (enabled : List Bool) → length enabled ≡ 3
+    → (if get_or enabled 0 false then class_lanes 0 else []) ++ ((if get_or enabled 1 false then class_lanes 1 else [])
+    ++ (if get_or enabled 2 false then class_lanes 2 else [])) ≡ enabled_lanes 0 enabled
+three_classes (a ∷ b ∷ c ∷ []) few =
+    ap (λ (l : List ℕ). (if a then class_lanes 0 else []) ++ ((if b then class_lanes 1 else []) ++ l)) (sym (append-nil (if c then class_lanes 2 else [])))
+three_classes [] few = absurd (omega arith)
+three_classes (a ∷ []) few = absurd (omega arith)
+three_classes (a ∷ b ∷ []) few = absurd (omega arith)
+three_classes (a ∷ b ∷ c ∷ d ∷ more) few = absurd (omega arith)
+
+-- ---- small steps
+
+pub not_empty : (n : ℕ) → not (n == 0) ≡ nat_lt 0 n
+not_empty n = grind (arith, nat_tests)
+
+pub same_new : (lane lane' id id' : ℕ) (row : Row) (full full' : Bool) → lane ≡ lane' → id ≡ id' → full ≡ full'
+    → Some (let new : NewRow = record { lane = lane; row = record { id = id; row = row }; has_dropped = full } in new)
+    ≡ Some (let new : NewRow = record { lane = lane'; row = record { id = id'; row = row }; has_dropped = full' } in new)
+same_new lane lane' id id' row full full' lane_is id_is full_is = rw (lane_is, id_is, full_is) refl

@@ -89,7 +89,7 @@ class_at enabled class number few is low =
     let short : class < length enabled = omega arith in
     rw (add-one, is) (drop-cons enabled class false short)
 
-lanes_both : (s : Stock) (lanes others : List ℕ) → lane_items s (lanes ++ others) ≡ lane_items s lanes ++ lane_items s others
+pub lanes_both : (s : Stock) (lanes others : List ℕ) → lane_items s (lanes ++ others) ≡ lane_items s lanes ++ lane_items s others
 lanes_both s [] others = refl
 lanes_both s (lane ∷ lanes) others =
     let rows : List Item = map (event_of 0 lane) (lane_at s lane).rows in

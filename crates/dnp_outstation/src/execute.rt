@@ -368,5 +368,7 @@ pub(crate) fn execute<L: Lanes, O: Outputs>(
     ensures named { result ≢ Err StoreFault.Exhausted }
     ensures reads { IsErr result → function_in octets.now ≡ function_octet function.Read }
 {
-    execute_after(writer, alloc, points, lanes, outputs, switches, octets, &None)
+    execute_after(
+        writer, alloc, points, lanes, outputs, switches, octets, &None,
+    )
 }

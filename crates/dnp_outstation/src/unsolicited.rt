@@ -70,7 +70,12 @@ impl Session {
             uns: true,
             seq: seq.number(),
         };
-        keep_response(&mut self.unsolicited_response, &mut writer.builder, control, iin);
+        keep_response(
+            &mut self.unsolicited_response,
+            &mut writer.builder,
+            control,
+            iin,
+        );
         self.unsolicited = Some(Unsolicited {
             seq,
             upto,

@@ -95,29 +95,35 @@ impl Writer {
         }
     }
 
+    /// Starts over, with an empty fragment of this function for what has come to this place.
+    fn begin(&mut self, function: Function, place: Place)
+        requires { is_response function ≡ true }
+        ensures { self.new ≡ empty_for function place }
+    {
+        self.builder.restart(function, true);
+        self.run = Run::NoRun;
+        self.place = place;
+        self.upto = [0; 9];
+    }
+
     /// Starts over, with an empty fragment for a READ that has come to this place: so that one writer
     /// serves for many fragments.
     pub(crate) fn restart(&mut self, place: Place)
         ensures { self.new ≡ empty_from place }
     {
-        self.builder.restart(Function::Response, true);
-        self.run = Run::NoRun;
-        self.place = place;
-        self.upto = [0; 9];
+        self.begin(Function::Response, place);
     }
 
     /// Starts over, with an empty unsolicited response.
     pub(crate) fn restart_unsolicited(&mut self)
         ensures { self.new ≡ empty_for function.UnsolicitedResponse first_place }
     {
-        self.builder.restart(Function::UnsolicitedResponse, true);
-        self.run = Run::NoRun;
-        self.place = Place {
+        let place = Place {
             header: 0,
             count: 0,
             given: [0; 9],
         };
-        self.upto = [0; 9];
+        self.begin(Function::UnsolicitedResponse, place);
     }
 
     /// Puts a row of a lane, if it fits; answers whether it does.

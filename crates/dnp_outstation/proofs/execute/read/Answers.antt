@@ -1,4 +1,4 @@
-use Rattle.std.proofs.Common.{rules, None, ◌≡◌, true, List, refl, ap, sym, ◌∙◌}
+use Rattle.std.proofs.Common.{rules, None, ◌≡◌, true, List, refl, ap, ◌∙◌}
 use Rattle.std.specs.List.{list_all}
 use Rattle.dnp_appfragment.specs.Headers.{Head}
 use Rattle.dnp_outstation.specs.Items.{Source, first_place, is_inside}

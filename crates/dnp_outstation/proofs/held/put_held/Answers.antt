@@ -1,5 +1,57 @@
-use Rattle.std.proofs.Common.{rules, ◌≡◌, false, arith}
+use Rattle.std.proofs.Common.{rules, ◌≡◌, ◌++◌, [], List, ℕ, false, if◌then◌else◌, length, get_or, subst}
+use Rattle.std.specs.Prelude.{option_to_list}
+use Rattle.dnp_eventbuf.specs.Stock.{Stock, with_rows}
+use Rattle.dnp_outstation.specs.Items.{class_lanes, lane_items}
+use Rattle.dnp_outstation.specs.Putting.{Puts}
+use Rattle.dnp_outstation.proofs.Holding.{lanes_put, lanes_full, three_classes}
+use Rattle.dnp_outstation.proofs.Pushing.{filled_pushed}
 use Rattle.dnp_outstation.proofs.held.put_held.Goals as goal
 
+pub returns-then-not-put_held_class-clause-pushed : goal.returns-then-not-put_held_class-clause-pushed
+returns-then-not-put_held_class-clause-pushed g c = λ honest s held lanes_are dropped_are empty.
+    let made = c.args.made.now in
+    let t : Stock = with_rows s (option_to_list made) in
+    let enabled = c.args.enabled in
+    let few : length enabled ≡ 3 = search rules in
+    let new_is = c.new_row-new.ensures.value honest s held.sound lanes_are dropped_are in
+    let on : ℕ → List ℕ = λ class. if get_or enabled class false then class_lanes class else [] in
+    let v = c.put_held_class.new.self in
+    filled_pushed t enabled c.args.writer.now v false empty
+    (subst (λ (lanes : List ℕ). Puts c.args.writer.now (lane_items t lanes) false v) (three_classes enabled few)
+    (lanes_full t (on 0) (on 1 ++ on 2) c.args.writer.now v
+    (c.if-not-put_held_class.ensures.written s made held.sound new_is held.first)))
+
+pub returns-then-not-put_held_class-2-clause-pushed : goal.returns-then-not-put_held_class-2-clause-pushed
+returns-then-not-put_held_class-2-clause-pushed g c = λ honest s held lanes_are dropped_are empty.
+    let made = c.args.made.now in
+    let t : Stock = with_rows s (option_to_list made) in
+    let enabled = c.args.enabled in
+    let few : length enabled ≡ 3 = search rules in
+    let new_is = c.new_row-new.ensures.value honest s held.sound lanes_are dropped_are in
+    let on : ℕ → List ℕ = λ class. if get_or enabled class false then class_lanes class else [] in
+    let v = c.put_held_class.new.self in
+    let w = c.put_held_class-2.new.self in
+    filled_pushed t enabled c.args.writer.now w false empty
+    (subst (λ (lanes : List ℕ). Puts c.args.writer.now (lane_items t lanes) false w) (three_classes enabled few)
+    (lanes_put t (on 0) (on 1 ++ on 2) c.args.writer.now v w false
+    (c.if-not-put_held_class.ensures.written s made held.sound new_is held.first)
+    (lanes_full t (on 1) (on 2) v w (c.if-not-put_held_class-2.ensures.written s made held.sound new_is held.second))))
+
 pub returns-clause-pushed : goal.returns-clause-pushed
-returns-clause-pushed g c = ?
+returns-clause-pushed g c = λ honest s held lanes_are dropped_are empty.
+    let made = c.args.made.now in
+    let t : Stock = with_rows s (option_to_list made) in
+    let enabled = c.args.enabled in
+    let few : length enabled ≡ 3 = search rules in
+    let new_is = c.new_row-new.ensures.value honest s held.sound lanes_are dropped_are in
+    let on : ℕ → List ℕ = λ class. if get_or enabled class false then class_lanes class else [] in
+    let v = c.put_held_class.new.self in
+    let w = c.put_held_class-2.new.self in
+    let z = c.put_held_class-3.new.self in
+    let fit = c.put_held_class-3.result in
+    filled_pushed t enabled c.args.writer.now z fit empty
+    (subst (λ (lanes : List ℕ). Puts c.args.writer.now (lane_items t lanes) fit z) (three_classes enabled few)
+    (lanes_put t (on 0) (on 1 ++ on 2) c.args.writer.now v z fit
+    (c.if-not-put_held_class.ensures.written s made held.sound new_is held.first)
+    (lanes_put t (on 1) (on 2) v w z fit (c.if-not-put_held_class-2.ensures.written s made held.sound new_is held.second)
+    (c.put_held_class-3.ensures.written s made held.sound new_is held.third))))

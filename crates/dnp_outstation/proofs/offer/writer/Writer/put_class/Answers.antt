@@ -1,4 +1,4 @@
-use Rattle.std.proofs.Common.{rules, ◌≡◌, ◌^◌, ◌+◌, ◌-◌, true, if◌then◌else◌, [], List, ℕ, map, subst, ap, sym, ◌∙◌, arith, Bool, IfOk}
+use Rattle.std.proofs.Common.{rules, ◌≡◌, ◌^◌, ◌+◌, ◌-◌, true, if◌then◌else◌, [], List, map, subst, ap, ◌∙◌, arith, Bool, IfOk}
 use Rattle.dnp_objects.specs.Lanes.{lane_number}
 use Rattle.dnp_outstation.specs.Items.{Item, class_lanes, lane_items}
 use Rattle.dnp_outstation.specs.Filling.{after_release}
