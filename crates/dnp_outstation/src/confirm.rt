@@ -157,13 +157,14 @@ impl OutstationCore {
         let Some(awaited) = self.session.awaited else {
             return self.end_only(actions, alloc, lanes, now);
         };
+        let switches = self.switches();
         let next = write_next(
             &mut self.writer,
             alloc,
             &self.points,
             lanes,
             outputs,
-            self.switches(),
+            switches,
             &self.session,
             awaited.upto,
         )?;

@@ -1,10 +1,10 @@
 //! What a connection remembers of what came and of what was sent.
 
-ghost use Rattle.std.specs.Prelude.{◌≡◌, ◌≤◌, length, IsSome};
+ghost use Rattle.std.specs.Prelude.{◌≡◌, ◌≤◌, length, None, IsSome};
 ghost use Rattle.dnp_controls.specs.Selecting.{deadline};
 ghost use Rattle.dnp_outstation.specs.Answering.{KeepsWhole, first_in};
 ghost use Rattle.dnp_outstation.specs.State.{new_session, holds_read};
-ghost use Rattle.dnp_outstation.specs.Connection.{is_last_request, is_number, awaited_number, confirmed, new_request, held};
+ghost use Rattle.dnp_outstation.specs.Connection.{is_last_request, is_number, awaited_number, confirmed, new_request, no_response, held};
 
 use crate::kept::Kept;
 use crate::sequence::SequenceNumber;
@@ -126,6 +126,26 @@ impl Session {
         if octets[1] != Function::Operate.octet() {
             self.selects.forget();
         }
+    }
+
+    /// Another request than the last one came and was carried out: the select is as that left it.
+    pub fn take_request(&mut self, octets: &[u8])
+        requires { length octets.now ≤ 2048 }
+        ensures { self.new ≡ record self.old { request = octets.now; awaited = None } }
+    {
+        self.request.keep(octets);
+        self.awaited = None;
+    }
+
+    /// The last request has no response.
+    pub fn stay_silent(&mut self)
+        ensures { self.new ≡ no_response self.old }
+    {
+        self.last = Some(LastRequest {
+            reply: Reply::Silent,
+            stood: 0,
+            left: None,
+        });
     }
 
     /// The last request is a READ that waits.

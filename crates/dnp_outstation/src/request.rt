@@ -53,13 +53,14 @@ impl OutstationCore {
         ensures named { result ≢ Err StoreFault.Exhausted }
         ensures reads { IsErr result → (self.old.times.unsolicited ≡ true) ⊎ (function_in octets.now ≡ function_octet function.Read) }
     {
+        let switches = self.switches();
         let answer = execute(
             &mut self.writer,
             alloc,
             &self.points,
             lanes,
             outputs,
-            self.switches(),
+            switches,
             octets,
         )?;
         let free = !asks_confirm(&self.writer, &answer) && self.session.unsolicited.is_none();

@@ -9,7 +9,7 @@ ghost use Rattle.dnp_outstation.specs.Answering.{answers_held_by, switched_by, K
 ghost use Rattle.dnp_outstation.specs.Calls.{with_that};
 ghost use Rattle.dnp_outstation.specs.Connection.{control_in, answers_held, on_unsolicited_confirm, at_end};
 ghost use Rattle.dnp_outstation.specs.Filling.{after_release};
-ghost use Rattle.dnp_outstation.specs.State.{Core, State, is_free};
+ghost use Rattle.dnp_outstation.specs.State.{State, with_session, is_free, holds_read};
 ghost use Rattle.dnp_outstation.specs.Station.{state_of, actions_of, HasRoom};
 
 use crate::actions::Actions;
@@ -90,10 +90,10 @@ impl Session {
         requires small { IfSome held.now (λ a. a.bits < 8) }
         ensures same { lanes.new ≡ lanes.old }
         ensures answers { L.honest lanes.new → (s : State) (now : ℕ) → s.lanes ≡ L.contents lanes.new
-            → record { restart = s.core.restart; enabled = s.core.enabled } ≡ before
+            → IfSome held.now (λ a. (s.core.restart ≡ a.switches.restart) × (s.core.enabled ≡ a.switches.enabled))
             → s.core.session ≡ record self.old { unsolicited = None } → ends ≡ deadline now s.core.times.confirm_ms
             → answers_held_by s now writer.old held.now
-            ≡ record { state = with_session (state_switched s (switched_by before held.now)) self.new; does = record (actions_of actions.new) { discarded = [] } } }
+            ≡ record { state = with_session s self.new; does = record (actions_of actions.new) { discarded = [] } } }
         ensures discarded { (actions_of actions.new).discarded ≡ discarded }
         ensures room { HasRoom actions.new }
         ensures whole { All (λ fragment. 4 ≤ length fragment) (actions_of actions.new).send }
@@ -114,10 +114,86 @@ impl Session {
     /// Whether no confirm is awaited and no READ is held once the unsolicited response was confirmed, and the
     /// READ that waited, if one did, was answered.
     fn is_free_without(&self, writer: &Writer, held: &Option<Answer>) -> bool
+        ensures { (s : State) (now : ℕ) → s.core.session ≡ record self.now { unsolicited = None } → (held.now ≡ None → holds_read self.now.last ≡ false)
+            → result ≡ is_free (answers_held_by s now writer.now held.now).state.core }
     {
         match held {
             Some(answer) => !asks_confirm(writer, answer),
             None => self.awaited.is_none() && !self.holds_read(),
         }
+    }
+}
+
+/// What is switched once the READ that waited, if one did, was executed.
+fn switched_by(before: Switches, held: &Option<Answer>) -> Switches
+    ensures { result ≡ switched_by before held.now }
+{
+    match held {
+        Some(answer) => answer.switches,
+        None => before,
+    }
+}
+
+impl OutstationCore {
+    /// The unsolicited response is confirmed: its rows leave, and the READ that waited, if one did, is answered.
+    pub(crate) fn confirm_unsolicited<L: Lanes, O: Outputs>(
+        &mut self,
+        actions: &mut Actions,
+        alloc: Global,
+        lanes: &mut L,
+        outputs: &O,
+        now: u64,
+    ) -> Result<(), StoreFault>
+        ensures held { L.honest lanes.new → L.honest lanes.old }
+        ensures beside { L.honest lanes.new → L.beside lanes.new ≡ L.beside lanes.old }
+        ensures confirmed { L.honest lanes.new → OnOk result ((p : Panel) → let s = state_of self.old (L.contents lanes.old) p in
+            at_end now (with_that s s.core.session.unsolicited (on_unsolicited_confirm s (O.panel outputs.now) now))
+            ≡ record { state = state_of self.new (L.contents lanes.new) p; does = actions_of actions.new }) }
+        ensures whole { OnOk result (All (λ fragment. 4 ≤ length fragment) (actions_of actions.new).send) }
+        ensures unchanged { OnErr result (self.new ≡ self.old) }
+        ensures actions_unchanged { OnErr result (actions.new ≡ actions.old) }
+        ensures lanes_unchanged { L.honest lanes.new → OnErr result (L.contents lanes.new ≡ L.contents lanes.old) }
+        ensures device { result ≡ Err StoreFault.Device → IsTrue (L.is_stopped lanes.new) }
+        ensures runs_on { result ≢ Err StoreFault.Device → L.is_stopped lanes.new ≡ L.is_stopped lanes.old }
+        ensures memory { L.honest lanes.new → result ≡ Err StoreFault.Memory → L.asks_memory ≡ false → rows_in (L.contents lanes.old) ≢ [] }
+        ensures named { result ≢ Err StoreFault.Exhausted }
+    {
+        let Some(response) = self.session.unsolicited else {
+            return self.end_only(actions, alloc, lanes, now);
+        };
+        let released = Some(response.upto);
+        let before = self.switches();
+        let held = write_held(
+            &mut self.writer,
+            alloc,
+            &self.points,
+            lanes,
+            outputs,
+            before,
+            &self.session,
+            &released,
+        )?;
+        let after = switched_by(before, &held);
+        let free = self.session.is_free_without(&self.writer, &held);
+        let is_due = self.is_due(true, self.is_open, free);
+        let enabled = after.enabled;
+        let starts = write_ending(&mut self.pushes, alloc, lanes, is_due, enabled, &released)?;
+        let rows = Rows::of(lanes.release(alloc, &response.upto)?);
+        self.announced = true;
+        self.restart = after.restart;
+        self.enabled = enabled;
+        let ends = deadline(now, self.times.confirm_ms);
+        self.session.answer_held(
+            actions,
+            alloc,
+            rows,
+            &mut self.writer,
+            lanes,
+            &held,
+            ends,
+        );
+        self.session
+            .end_call(actions, &mut self.pushes, lanes, starts, self.restart, ends);
+        Ok(())
     }
 }

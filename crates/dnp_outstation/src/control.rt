@@ -1,0 +1,146 @@
+//! Control requests: the outputs carry them out.
+
+ghost use Rattle.std.specs.Prelude.{All, ◌⊎◌, ◌≡◌, ◌≢◌, ◌<◌, ◌≤◌, ℕ, [], true, false, IsErr, IfSome, OnOk, OnErr, IsTrue, None, Err, length, option_map};
+ghost use Rattle.dnp_appfragment.specs.declared.function.Function.TheVariants as function;
+ghost use Rattle.dnp_controls.specs.Selecting.{deadline};
+ghost use Rattle.dnp_eventbuf.specs.Stock.{rows_in};
+ghost use Rattle.dnp_outstation.specs.Answering.{content_by, KeepsWhole};
+ghost use Rattle.dnp_outstation.specs.Connection.{on_request, at_end, replied};
+ghost use Rattle.dnp_outstation.specs.Controls.{is_control};
+ghost use Rattle.dnp_outstation.specs.Calls.{performed_of};
+ghost use Rattle.dnp_outstation.specs.Items.{last_in};
+ghost use Rattle.dnp_outstation.specs.State.{State, with_session};
+ghost use Rattle.dnp_outstation.specs.Station.{state_of, actions_of, HasRoom};
+
+use crate::actions::Actions;
+use crate::answer::Answer;
+use crate::connection::deadline;
+use crate::controls::execute_control;
+use crate::ending::write_ending;
+use crate::offer::writer::Writer;
+use crate::outstation_core::OutstationCore;
+use crate::released::last_left;
+use crate::sequence::SequenceNumber;
+use crate::session::Session;
+use dnp_appfragment::{Control, Function};
+use dnp_controls::Outputs;
+use dnp_eventbuf::{Lanes, StoreFault};
+use std::alloc::Global;
+
+/// Whether these octets are a request of SELECT, OPERATE, DIRECT_OPERATE or DIRECT_OPERATE_NR.
+pub(crate) fn is_control(octets: &[u8]) -> bool
+    requires { 2 ≤ length octets.now }
+    ensures { result ≡ is_control octets.now }
+{
+    Function::Select.octet() <= octets[1] && octets[1] <= Function::DirectOperateNr.octet()
+}
+
+impl Session {
+    /// A request is answered, under its number, by what stands in the writer, or by nothing. Its confirm, if
+    /// it asks for one, is awaited until `ends`.
+    fn reply<L: Lanes>(
+        &mut self,
+        actions: &mut Actions,
+        alloc: Global,
+        writer: &mut Writer,
+        lanes: &mut L,
+        answer: &Option<Answer>,
+        seq: SequenceNumber,
+        ends: u64,
+    )
+        requires response { IfSome answer.now (λ a. writer.old.builder.function ≡ function.Response) }
+        requires small { IfSome answer.now (λ a. a.bits < 8) }
+        ensures same { lanes.new ≡ lanes.old }
+        ensures replies { L.honest lanes.new → (s : State) (now : ℕ) → s.lanes ≡ L.contents lanes.new
+            → IfSome answer.now (λ a. (s.core.restart ≡ a.switches.restart) × (a.stood ≡ last_in s.lanes) × (a.time ≡ None))
+            → s.core.session ≡ self.old → ends ≡ deadline now s.core.times.confirm_ms
+            → replied now seq (record { state = s; content = option_map (content_by writer.old) answer.now; time = None })
+            ≡ record { state = with_session s self.new; does = actions_of actions.new } }
+        ensures room { HasRoom actions.new }
+        ensures whole { All (λ fragment. 4 ≤ length fragment) (actions_of actions.new).send }
+        ensures keeps { KeepsWhole self.old → KeepsWhole self.new }
+    {
+        match answer {
+            Some(answer) => {
+                self.respond(writer, lanes, answer, seq, ends);
+                actions.set_sending(alloc, self.response.octets());
+            }
+            None => {
+                self.stay_silent();
+                actions.set_nothing(alloc);
+            }
+        }
+    }
+}
+
+impl OutstationCore {
+    /// A control request, other than the last request: the outputs carry it out, and it is answered.
+    pub(crate) fn control<L: Lanes, O: Outputs>(
+        &mut self,
+        actions: &mut Actions,
+        alloc: Global,
+        lanes: &mut L,
+        outputs: &mut O,
+        now: u64,
+        octets: &[u8],
+    ) -> Result<(), StoreFault>
+        requires some { 2 ≤ length octets.now }
+        requires few { length octets.now ≤ 2048 }
+        requires control { is_control octets.now ≡ true }
+        ensures held { L.honest lanes.new → L.honest lanes.old }
+        ensures beside { L.honest lanes.new → L.beside lanes.new ≡ L.beside lanes.old }
+        ensures outputs_held { O.honest outputs.new → O.honest outputs.old }
+        ensures answered { L.honest lanes.new → O.honest outputs.new → OnOk result (
+            at_end now (on_request (state_of self.old (L.contents lanes.old) (O.panel outputs.old)) (O.panel outputs.old) now octets.now)
+            ≡ record { state = state_of self.new (L.contents lanes.new) (O.panel outputs.new); does = actions_of actions.new }) }
+        ensures whole { OnOk result (All (λ fragment. 4 ≤ length fragment) (actions_of actions.new).send) }
+        ensures unchanged { OnErr result (self.new ≡ self.old) }
+        ensures actions_unchanged { OnErr result (actions.new ≡ actions.old) }
+        ensures same { L.honest lanes.new → L.contents lanes.new ≡ L.contents lanes.old }
+        ensures outputs_unchanged { O.honest outputs.new → OnErr result (O.panel outputs.new ≡ O.panel outputs.old) }
+        ensures idle { performed_of self.old (O.panel outputs.old) now octets.now ≡ [] → outputs.new ≡ outputs.old }
+        ensures performed { O.honest outputs.new → OnOk result (performed_of self.old (O.panel outputs.old) now octets.now ≢ []
+            → O.performs outputs.old (performed_of self.old (O.panel outputs.old) now octets.now) outputs.new) }
+        ensures device { result ≡ Err StoreFault.Device → IsTrue (L.is_stopped lanes.new) ⊎ IsTrue (O.is_stopped outputs.new) }
+        ensures runs_on { result ≢ Err StoreFault.Device → L.is_stopped lanes.new ≡ L.is_stopped lanes.old }
+        ensures outputs_run_on { result ≢ Err StoreFault.Device → O.is_stopped outputs.new ≡ O.is_stopped outputs.old }
+        ensures memory { L.honest lanes.new → result ≡ Err StoreFault.Memory → L.asks_memory ≡ false
+            → (rows_in (L.contents lanes.old) ≢ []) ⊎ (performed_of self.old (O.panel outputs.old) now octets.now ≢ []) }
+        ensures exhausted { O.honest outputs.new → result ≡ Err StoreFault.Exhausted → O.exhausts outputs.old (performed_of self.old (O.panel outputs.old) now octets.now) }
+        ensures named { result ≡ Err StoreFault.Exhausted → IsTrue (O.may_fault StoreFault.Exhausted) }
+        ensures asks { IsErr result → (self.old.times.unsolicited ≡ true) ⊎ (performed_of self.old (O.panel outputs.old) now octets.now ≢ []) }
+    {
+        let switches = self.switches();
+        let stood = last_left(lanes, &None);
+        let free = self.session.unsolicited.is_none();
+        let is_due = self.is_due(self.announced, self.is_open, free);
+        let enabled = self.enabled;
+        let starts = write_ending(&mut self.pushes, alloc, lanes, is_due, enabled, &None)?;
+        let answer = execute_control(
+            &mut self.writer,
+            alloc,
+            outputs,
+            &mut self.session.selects,
+            self.times.select_ms,
+            switches,
+            stood,
+            now,
+            octets,
+        )?;
+        self.session.take_request(octets);
+        let seq = SequenceNumber::of(Control::read(octets[0]));
+        let ends = deadline(now, self.times.confirm_ms);
+        self.session.reply(
+            actions,
+            alloc,
+            &mut self.writer,
+            lanes,
+            &answer,
+            seq,
+            ends,
+        );
+        self.session
+            .end_call(actions, &mut self.pushes, lanes, starts, self.restart, ends);
+        Ok(())
+    }
+}
