@@ -141,7 +141,8 @@ rows_then s (Some x) lane nine low = elim (cases_eq (lane_number x.lane) lane) [
         ≡ split (lane_number x.lane == lane) (is_full (lane_at s (lane_number x.lane)))
     elsewhere other =
         let test : (lane_number x.lane == lane) ≡ false = ne_eqb (lane_number x.lane) lane other in
-        ap (λ (l : LaneState). l.rows) (get_or-set_other s.lanes (lane_number x.lane) lane (put_in (lane_at s (lane_number x.lane)) row) no_lane (λ e. other (sym e)))
+        ap (λ (l : LaneState). l.rows)
+        (get_or-set_other s.lanes (lane_number x.lane) lane (put_in (lane_at s (lane_number x.lane)) row) no_lane (λ e. other (sym e)))
         ∙ sym (append-nil rows)
         ∙ ap (λ (b : Bool). split b (is_full (lane_at s (lane_number x.lane)))) (sym test)
 
@@ -205,9 +206,11 @@ lanes_put t lanes others w v w' fit first second =
     subst (λ (items : List Item). Puts w items fit w') (sym (lanes_both t lanes others))
     (puts_both w v w' (lane_items t lanes) (lane_items t others) fit first second)
 
-pub lanes_full : (t : Stock) (lanes others : List ℕ) (w w' : Writer) → Puts w (lane_items t lanes) false w' → Puts w (lane_items t (lanes ++ others)) false w'
+pub lanes_full : (t : Stock) (lanes others : List ℕ) (w w' : Writer) → Puts w (lane_items t lanes) false w'
+    → Puts w (lane_items t (lanes ++ others)) false w'
 lanes_full t lanes others w w' first =
-    subst (λ (items : List Item). Puts w items false w') (sym (lanes_both t lanes others)) (puts_none_more w w' (lane_items t lanes) (lane_items t others) first)
+    subst (λ (items : List Item). Puts w items false w') (sym (lanes_both t lanes others))
+    (puts_none_more w w' (lane_items t lanes) (lane_items t others) first)
 
 pub class_on : (t : Stock) (class : ℕ) (on : Bool) (w w' : Writer) (fit : Bool) → on ≡ true → Puts w (lane_items t (class_lanes class)) fit w'
     → Puts w (lane_items t (if on then class_lanes class else [])) fit w'

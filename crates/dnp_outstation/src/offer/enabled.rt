@@ -18,7 +18,7 @@ use dnp_eventbuf::{Lanes, StoreFault, Upto};
 use std::alloc::Global;
 
 /// A release has an id for each of the nine lanes.
-pub(crate) fn has_nine(released: &Option<Upto>)
+fn has_nine(released: &Option<Upto>)
     ensures { IfSome released.now (λ upto. length upto ≡ 9) }
 {
     if let Some(upto) = released {

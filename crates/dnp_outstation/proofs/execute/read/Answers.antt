@@ -9,7 +9,8 @@ use Rattle.dnp_outstation.proofs.execute.read.Goals as goal
 
 pub returns-clause-executed : goal.returns-clause-executed
 returns-clause-executed g c = λ honest s points_is restart_is enabled_is lanes_is.
-    let source : Source = record { points = c.args.points.now; panel = g.O.Outputs.panel c.args.outputs.now; lanes = after_release (g.L.Lanes.contents c.args.lanes.now) c.args.released.now } in
+    let lanes = after_release (g.L.Lanes.contents c.args.lanes.now) c.args.released.now in
+    let source : Source = record { points = c.args.points.now; panel = g.O.Outputs.panel c.args.outputs.now; lanes = lanes } in
     let a : Answer = record { bits = 0; switches = c.args.switches; stood = c.args.stood; left = c.left.result; time = None } in
     let are : true ≡ c.are_inside.result = search rules in
     let inside : true ≡ list_all (is_inside source) c.args.headers.now.headers =
