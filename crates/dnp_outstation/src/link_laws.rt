@@ -12,7 +12,7 @@ ghost use Rattle.dnp_pointdb.specs.declared.reading.Reading.{Reading};
 ghost use Rattle.dnp_controls.specs.Panel.{Panel};
 ghost use Rattle.dnp_controls.specs.Selecting.{Select, deadline};
 ghost use Rattle.dnp_eventbuf.specs.Sound.{IsSound};
-ghost use Rattle.dnp_eventbuf.specs.Stock.{Stock};
+ghost use Rattle.dnp_eventbuf.specs.Stock.{Stock, with_rows, without, without_all};
 ghost use Rattle.dnp_outstation.specs.declared.case.Case.TheVariants as case;
 ghost use Rattle.dnp_outstation.specs.declared.offer.place.Place.{Place};
 ghost use Rattle.dnp_outstation.specs.declared.session.Awaited.{Awaited};
@@ -57,6 +57,14 @@ pub fn fragments_report_the_rows_up_to_their_ids()
     ensures first_unsolicited { (s : State) → IsSound s.lanes → s.core.session.next < 16
         → Reports s.lanes (unsolicited_of s (plain 0 []))
         (record { fir = true; fin = true; con = true; uns = true; seq = s.core.session.next }) no_ids }
+{}
+
+/// Rows whose index has 16 bits stay so, whatever is released, emptied or appended like them.
+pub fn indexes_keep_their_bits()
+    ensures released { (s : Stock) (upto : List ℕ) → HaveIndexes s → HaveIndexes (without s upto) }
+    ensures emptied { (s : Stock) → HaveIndexes (without_all s) }
+    ensures appended { (s : Stock) (rows : List LaneRow) → All (λ x. x.row.index < 2 ^ 16) rows → HaveIndexes s
+        → HaveIndexes (with_rows s rows) }
 {}
 
 /// A fragment that asks for no confirm reports no rows. Where a READ has no item left, the fragment is the
