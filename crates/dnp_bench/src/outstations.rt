@@ -3,7 +3,7 @@
 use dnp_controls::NoOutputs;
 use dnp_eventbuf::PlainLanes;
 use dnp_objects::Kind;
-use dnp_outstation::{Fragment, Outstation};
+use dnp_outstation::{Actions, Fragment, Outstation};
 use dnp_pointdb::{Block, Point, PointDb, PointPlan, Points, Reading, Times};
 use std::alloc::Global;
 
@@ -65,8 +65,14 @@ fn taken(sent: &[Option<Fragment>; 2]) -> Option<(u64, Option<u8>)> {
 
 /// Sends a READ and each confirm that is asked for, looks at the timers, and makes a number of what
 /// comes; `most` is more than the fragments of a response.
-fn poll(alloc: Global, station: &mut Station, read: &[u8], most: usize) -> Option<u64> {
-    let mut actions = station.receive(alloc, 0, read).ok()?;
+fn poll(
+    actions: &mut Actions,
+    alloc: Global,
+    station: &mut Station,
+    read: &[u8],
+    most: usize,
+) -> Option<u64> {
+    station.receive_into(actions, alloc, 0, read).ok()?;
     let mut sum = 0u64;
     for _ in 0..most {
         let Some((number, asks)) = taken(&actions.send) else {
@@ -76,16 +82,24 @@ fn poll(alloc: Global, station: &mut Station, read: &[u8], most: usize) -> Optio
         let Some(seq) = asks else {
             break;
         };
-        actions = station.receive(alloc, 0, &[0xC0 | seq, 0]).ok()?;
+        station
+            .receive_into(actions, alloc, 0, &[0xC0 | seq, 0])
+            .ok()?;
         let discarded = actions.discarded.as_slice().len() as u64;
         sum = sum.wrapping_mul(31).wrapping_add(discarded);
     }
-    station.tick(alloc, 0).ok()?;
+    station.tick_into(actions, alloc, 0).ok()?;
     Some(sum)
 }
 
 /// The analog changes so often, each time to another value.
-fn change(alloc: Global, station: &mut Station, turn: u64, events: u16) -> Option<()> {
+fn change(
+    actions: &mut Actions,
+    alloc: Global,
+    station: &mut Station,
+    turn: u64,
+    events: u16,
+) -> Option<()> {
     let turn = turn % 65_536;
     for event in 0..events {
         let value = turn as i64 * 256 + i64::from(event) + 1;
@@ -94,7 +108,9 @@ fn change(alloc: Global, station: &mut Station, turn: u64, events: u16) -> Optio
             flags: 1,
             time: Some(1_000 + turn),
         };
-        station.change(alloc, 0, Kind::Analog, 0, reading).ok()?;
+        station
+            .change_into(actions, alloc, 0, Kind::Analog, 0, reading)
+            .ok()?;
     }
     Some(())
 }
@@ -106,18 +122,17 @@ pub extern "C" fn dnp_bench_poll_events(alloc: Global, count: u64, events: u16) 
     let Some(mut station) = station_of(alloc, [0, 0, 1]) else {
         return u64::MAX;
     };
+    let mut actions = Actions::none(alloc);
     let mut sum = 0u64;
     for turn in 0..count {
         let control = 0xC0 | (turn % 16) as u8;
         let read = [
             control, 0x01, 0x3C, 0x02, 0x06, 0x3C, 0x03, 0x06, 0x3C, 0x04, 0x06,
         ];
-        let Some(number) = change(alloc, &mut station, turn, events).and_then(|_| poll(
-            alloc,
-            &mut station,
-            &read,
-            2,
-        )) else {
+        if change(&mut actions, alloc, &mut station, turn, events).is_none() {
+            return u64::MAX;
+        }
+        let Some(number) = poll(&mut actions, alloc, &mut station, &read, 2) else {
             return u64::MAX;
         };
         sum = sum.wrapping_mul(31).wrapping_add(number);
@@ -132,11 +147,12 @@ pub extern "C" fn dnp_bench_poll_values(alloc: Global, count: u64) -> u64 {
     let Some(mut station) = station_of(alloc, [400, 300, 300]) else {
         return u64::MAX;
     };
+    let mut actions = Actions::none(alloc);
     let mut sum = 0u64;
     for turn in 0..count {
         let control = 0xC0 | (2 * (turn % 8)) as u8;
         let read = [control, 0x01, 0x3C, 0x01, 0x06];
-        let Some(number) = poll(alloc, &mut station, &read, 3) else {
+        let Some(number) = poll(&mut actions, alloc, &mut station, &read, 3) else {
             return u64::MAX;
         };
         sum = sum.wrapping_mul(31).wrapping_add(number);

@@ -102,7 +102,7 @@ impl Selects {
         ensures stands { (before : List SelectCall) → Stands before self.old → Stands (Operating ∷ before) self.new }
     {
         let status = self.answer(now, seq, octets, select_ms);
-        self.kept = None;
+        self.forget();
         status
     }
 
@@ -111,6 +111,8 @@ impl Selects {
         ensures forgotten { self.new ≡ None }
         ensures stands { (before : List SelectCall) → Stands before self.old → Stands (Forgetting ∷ before) self.new }
     {
-        self.kept = None;
+        if self.kept.is_some() {
+            self.kept = None;
+        }
     }
 }

@@ -1,9 +1,9 @@
 -- The commands of a request, one after another.
-use Rattle.std.proofs.Common.{◌≡◌, ℕ, suc, ◌+◌, ◌-◌, ◌<◌, ◌≤◌, List, [], ◌∷◌, ◌++◌, length, Option, None, Some, option_to_list, ap, sym, ◌∙◌, append_assoc, append-nil, arith, length-append}
+use Rattle.std.proofs.Common.{◌≡◌, ℕ, suc, ◌+◌, ◌-◌, ◌<◌, List, [], ◌∷◌, ◌++◌, length, Option, None, Some, option_to_list, ap, sym, ◌∙◌, append_assoc, arith, length-append}
 use Rattle.std.specs.List.{flat_map, range_with_len}
 use Rattle.dnp_objects.specs.declared.command.Command.{Command}
 use Rattle.dnp_appfragment.specs.Headers.{Head}
-use Rattle.dnp_outstation.specs.Controls.{command_at, commands_from, commands_in, commands_of}
+use Rattle.dnp_outstation.specs.Controls.{command_at, commands_from}
 
 -- what a range gives is what its first number gives, and then the others
 pub more_from : {A : Type 0} (f : ℕ → List A) (k n : ℕ) → k < n

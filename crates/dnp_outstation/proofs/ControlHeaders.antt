@@ -1,14 +1,13 @@
 -- The headers of a control request, and the same with other statuses: they have as many octets, and stand in a response too.
-use Rattle.std.proofs.Common.{◌≡◌, refl, sym, ap, subst, ◌∙◌, ℕ, zero, suc, ◌+◌, ◌-◌, ◌*◌, ◌/◌, ◌<◌, ◌≤◌, Bool, true, false, not, IsTrue, cond, ◌==◌, ◌&&◌, ◌||◌, ◌⊎◌, inl, inr, List, [], ◌∷◌, ◌++◌, length, take, drop, map, find, eqb-true, Option, None, Some, Result, Ok, Err, IsErr, OnOk, arith, append_assoc, append-nil, zero-add, length-append, length-take, length-drop}
+use Rattle.std.proofs.Common.{◌≡◌, refl, sym, ap, subst, ◌∙◌, ℕ, zero, suc, ◌+◌, ◌-◌, ◌*◌, ◌/◌, ◌<◌, ◌≤◌, Bool, true, false, not, IsTrue, cond, ◌==◌, ◌&&◌, ◌||◌, List, [], ◌∷◌, ◌++◌, length, take, drop, find, eqb-true, Option, None, Some, Result, Ok, Err, IsErr, OnOk, arith, append_assoc, append-nil, zero-add, length-append, length-take, length-drop}
 use Rattle.std.specs.Option.{option_map, IsSomeAnd}
 use Rattle.std.specs.List.{flat_map, list_all, range_with_len}
 use Rattle.std.proofs.Math.Nat.{mul-div_cancel_left, mul-le-mul_right}
 use Rattle.std.proofs.lemmas.Bool.{and_parts}
-use Rattle.dnp_objects.specs.Objects.{objects, object_size, content_of}
+use Rattle.dnp_objects.specs.Objects.{objects, content_of}
 use Rattle.dnp_objects.specs.declared.command.Command.{Command}
-use Rattle.dnp_appfragment.specs.declared.table.Form.{Form}
 use Rattle.dnp_appfragment.specs.declared.table.Form.TheVariants as form
-use Rattle.dnp_appfragment.specs.Table.{Rule, allows, form_eq, rules, takes_of, is_rule, IsInTable}
+use Rattle.dnp_appfragment.specs.Table.{Rule, allows, form_eq, rules, takes_of, is_rule}
 use Rattle.dnp_appfragment.specs.Headers.{Head, IsHeader, count_of, prefix_size, header_octets, qualifier_of, range_octets, spelled}
 use Rattle.dnp_appfragment.specs.declared.header.Range.{Range}
 use Rattle.std.proofs.lemmas.List.Concat.{flat_map-append}
@@ -139,7 +138,7 @@ pub sized : (h : Head) → 0 < count_of h.range → IsHeader form.Command h → 
 sized h some is =
     let of = of_commands h is in
     let same : length h.octets / count_of h.range ≡ of.each =
-        ap (λ n. n / count_of h.range) of.whole ∙ quotient (count_of h.range) of.each some in
+    ap (λ n. n / count_of h.range) of.whole ∙ quotient (count_of h.range) of.each some in
     record { some = rw same of.some; whole = rw same of.whole }
 
 -- what is left in front of an object has room for it
@@ -182,9 +181,9 @@ answered_length code h is = by (count_of h.range) refl
         let facts = sized h (omega (arith, same)) is in
         range_length (answered_object code h) (length h.octets / count_of h.range) 0 (count_of h.range)
         (λ i low high.
-            let less : i < count_of h.range = omega (arith, high) in
-            let long = object_length h i facts less in
-            status_length (object_in h i) (option_map code (command_at h i)) (rw long facts.some) ∙ long)
+        let less : i < count_of h.range = omega (arith, high) in
+        let long = object_length h i facts less in
+        status_length (object_in h i) (option_map code (command_at h i)) (rw long facts.some) ∙ long)
         ∙ sym facts.whole
 
 pub answered_header : (code : Command → ℕ) (h : Head) → IsHeader form.Command h → IsHeader form.Response (answered_head code h)
@@ -202,9 +201,9 @@ header_length code h is =
 pub size_with : (b : Built) (h : Head) → size (with_header b h) ≡ size b + length (header_octets h)
 size_with b h =
     let octets : spelled (heads (with_header b h)) ≡ spelled (heads b) ++ header_octets h =
-        ap (λ (hs : List Head). spelled hs) (append-nil (heads b ++ h ∷ []))
-        ∙ flat_map-append header_octets (heads b) (h ∷ [])
-        ∙ ap (λ (xs : List ℕ). spelled (heads b) ++ xs) (append-nil (header_octets h)) in
+    ap (λ (hs : List Head). spelled hs) (append-nil (heads b ++ h ∷ []))
+    ∙ flat_map-append header_octets (heads b) (h ∷ [])
+    ∙ ap (λ (xs : List ℕ). spelled (heads b) ++ xs) (append-nil (header_octets h)) in
     let same : length (spelled (heads (with_header b h))) ≡ length (spelled (heads b) ++ header_octets h) = ap (λ (xs : List ℕ). length xs) octets in
     let sum = length-append (spelled (heads b)) (header_octets h) in
     omega (arith, same, sum)

@@ -40,7 +40,7 @@ part_put s stood given given' at count left h hs w w' fit more left_is put fits 
 
 -- ---- the whole fragment
 
-ended_if : (is_last : Bool) (w : Writer) → cond is_last (ended true w) (ended false w) ≡ ended is_last w
+pub ended_if : (is_last : Bool) (w : Writer) → cond is_last (ended true w) (ended false w) ≡ ended is_last w
 ended_if true w = refl
 ended_if false w = refl
 

@@ -62,7 +62,7 @@ pairs_from low (x ∷ xs) rising = λ i j d before short. go i j d before short 
 
 -- ---- filters
 
-not_over : (m n : ℕ) → n ≤ m → nat_lt m n ≡ false
+pub not_over : (m n : ℕ) → n ≤ m → nat_lt m n ≡ false
 not_over m n h = go (nat_lt m n) (ltb-true m n)
   where
     go : (b : Bool) → (b ≡ true → m < n) → b ≡ false

@@ -1,6 +1,8 @@
 -- Private steps: a fragment of a response as it stands in its writer, and what is known beside that.
-use Rattle.std.specs.Prelude.{◌≤◌, ℕ, length, Option, None, Some, IfSome, ⊤}
+use Rattle.std.specs.Prelude.{◌≤◌, ℕ, List, length, Option, None, Some, IfSome, ⊤}
+use Rattle.dnp_appfragment.specs.declared.function.Function.TheVariants as function
 use Rattle.dnp_appfragment.specs.Built.{heads}
+use Rattle.dnp_appfragment.specs.Fragments.{response_octets}
 use Rattle.dnp_outstation.specs.State.{State, Step, still}
 use Rattle.dnp_outstation.specs.Content.{Content, Executed, answered}
 use Rattle.dnp_outstation.specs.Connection.{responds_further}
@@ -8,6 +10,7 @@ use Rattle.dnp_outstation.specs.declared.session.Reply.{Reply}
 use Rattle.dnp_outstation.specs.declared.session.Reply.TheVariants.{Held, Silent, First, Further}
 use Rattle.dnp_outstation.specs.declared.session.Session.{Session}
 use Rattle.dnp_outstation.specs.declared.answer.Answer.{Answer}
+use Rattle.dnp_outstation.specs.declared.sending.Front.{Front}
 use Rattle.dnp_outstation.specs.declared.offer.writer.Writer.{Writer}
 
 -- of a session: the first fragment of a response that is kept to be repeated has at least its front of four octets
@@ -19,6 +22,10 @@ IfFirst Further Holds = ⊤
 
 abbrev pub KeepsWhole : Session → Type 0
 KeepsWhole session = IfSome session.last (λ last. IfFirst last.reply (4 ≤ length session.response))
+
+-- its octets, with this front
+abbrev pub sent_by : Front → Writer → List ℕ
+sent_by front w = response_octets (record { control = front.control; function = function.Response; iin = front.iin; headers = heads w.builder })
 
 -- the content of the fragment
 abbrev pub content_by : Writer → Answer → Content

@@ -15,7 +15,7 @@ use Rattle.dnp_appfragment.specs.Table.{function_octet}
 use Rattle.dnp_controls.specs.Panel.{Panel, accepted}
 use Rattle.dnp_controls.specs.Selecting.{Select, answer}
 use Rattle.dnp_outstation.specs.State.{State, with_session}
-use Rattle.dnp_outstation.specs.Content.{Content, Executed, plain, answered, refused, bits_of, parameter_error, no_func_code_support, content_of}
+use Rattle.dnp_outstation.specs.Content.{Executed, plain, answered, refused, bits_of, parameter_error, no_func_code_support, content_of}
 
 -- ---- the commands of a request
 

@@ -1,12 +1,14 @@
 -- Private steps: how a fragment is filled, item by item. A lemma (proofs/Filled.antt) says that what is filled is what
 -- is offered (Offer.antt).
-use Rattle.std.specs.Prelude.{ℕ, ◌==◌, Bool, true, false, ◌&&◌, if◌then◌else◌, nat_le, max, List, [], ◌∷◌, ◌++◌, map, slice_set, slice_index, Option, None, Some}
+use Rattle.std.specs.Prelude.{ℕ, ◌==◌, Bool, true, false, ◌&&◌, if◌then◌else◌, nat_le, nat_lt, max, length, List, [], ◌∷◌, ◌++◌, map, slice_set, slice_index, Option, None, Some}
+use Rattle.std.specs.List.{list_any}
 use Rattle.dnp_objects.specs.Lanes.{lane_number}
+use Rattle.dnp_appfragment.specs.declared.function.Function.{Function}
 use Rattle.dnp_appfragment.specs.declared.function.Function.TheVariants as function
 use Rattle.dnp_appfragment.specs.Built as built
 use Rattle.dnp_appfragment.specs.Built.{Built}
 use Rattle.dnp_appfragment.specs.Written as written
-use Rattle.dnp_eventbuf.specs.Stock.{Stock, without}
+use Rattle.dnp_eventbuf.specs.Stock.{Stock, lane_at, without}
 use Rattle.dnp_outstation.specs.declared.offer.place.Place.{Place}
 use Rattle.dnp_outstation.specs.declared.offer.place.RowPart.{RowPart}
 use Rattle.dnp_outstation.specs.declared.offer.place.Wanted.{Wanted}
@@ -36,6 +38,15 @@ abbrev pub after_release : Stock → Option (List ℕ) → Stock
 after_release s None = s
 after_release s (Some upto) = without s upto
 
+-- one of these lanes holds rows
+abbrev pub has_rows_in : Stock → List ℕ → Bool
+has_rows_in s lanes = list_any (λ lane. nat_lt 0 (length (lane_at s lane).rows)) lanes
+
+-- up to which id the rows of a lane are released
+abbrev pub released_to : Option (List ℕ) → ℕ → ℕ
+released_to None lane = 0
+released_to (Some upto) lane = slice_index upto lane
+
 -- over which id a lane's rows are still to be given, once these are released
 abbrev pub over_of : List ℕ → Option (List ℕ) → ℕ → ℕ
 over_of given None lane = slice_index given lane
@@ -52,11 +63,18 @@ is_same_run (OfBlock header group block) NoRun = false
 is_same_run (OfBlock header group block) (OfLane lane) = false
 is_same_run (OfBlock header group block) (OfBlock header' group' block') = header == header' && (group == group' && block == block')
 
+abbrev pub no_headers_of : Function → Built
+no_headers_of f = record { function = f; ended = []; run = None }
+
 abbrev pub no_headers : Built
-no_headers = record { function = function.Response; ended = []; run = None }
+no_headers = no_headers_of function.Response
+
+-- an empty fragment of this function, for what has come to a place
+abbrev pub empty_for : Function → Place → Writer
+empty_for f place = record { builder = no_headers_of f; run = NoRun; place = place; upto = no_ids }
 
 abbrev pub empty_from : Place → Writer
-empty_from place = record { builder = no_headers; run = NoRun; place = place; upto = no_ids }
+empty_from place = empty_for function.Response place
 
 -- a new header begins where the lane changes, or for present values the header of the READ, the group or the block
 abbrev pub built_for : Writer → Run → Built

@@ -1,6 +1,6 @@
 //! The confirm of a fragment: its rows leave, and the response goes on.
 
-ghost use Rattle.std.specs.Prelude.{All, ◌≤◌, length, ◌≡◌, ◌≢◌, ℕ, [], false, IfOk, IfErr, IfSome, OnErr, IsTrue, Err};
+ghost use Rattle.std.specs.Prelude.{All, ◌≤◌, length, ◌≡◌, ◌≢◌, ℕ, [], false, IfOk, IfErr, IfSome, OnOk, OnErr, IsTrue, Err};
 ghost use Rattle.dnp_appfragment.specs.declared.function.Function.TheVariants as function;
 ghost use Rattle.dnp_controls.specs.Panel.{Panel};
 ghost use Rattle.dnp_eventbuf.specs.Stock.{without, rows_in};
@@ -18,7 +18,6 @@ use crate::offer::parts::put_parts;
 use crate::offer::writer::Writer;
 use crate::outstation_core::OutstationCore;
 use crate::rows::Rows;
-use crate::sending::respond_further;
 use crate::session::Session;
 use dnp_controls::Outputs;
 use dnp_eventbuf::{Lanes, StoreFault, Upto};
@@ -84,18 +83,20 @@ impl OutstationCore {
     #[tactic(auto, using(crate::proofs::NoRows::released_is_there))]
     pub(crate) fn confirm<L: Lanes, O: Outputs>(
         &mut self,
+        actions: &mut Actions,
         alloc: Global,
         lanes: &mut L,
         outputs: &O,
         now: u64,
-    ) -> Result<Actions, StoreFault>
+    ) -> Result<(), StoreFault>
         ensures held { L.honest lanes.new → L.honest lanes.old }
         ensures beside { L.honest lanes.new → L.beside lanes.new ≡ L.beside lanes.old }
-        ensures confirmed { L.honest lanes.new → IfOk result (λ a. (p : Panel) → let s = state_of self.old (L.contents lanes.old) p in
+        ensures confirmed { L.honest lanes.new → OnOk result ((p : Panel) → let s = state_of self.old (L.contents lanes.old) p in
             with_that s s.core.session.awaited (on_confirm s (O.panel outputs.now) now)
-            ≡ record { state = state_of self.new (L.contents lanes.new) p; does = actions_of a }) }
-        ensures whole { IfOk result (λ a. All (λ fragment. 4 ≤ length fragment) (actions_of a).send) }
+            ≡ record { state = state_of self.new (L.contents lanes.new) p; does = actions_of actions.new }) }
+        ensures whole { OnOk result (All (λ fragment. 4 ≤ length fragment) (actions_of actions.new).send) }
         ensures unchanged { OnErr result (self.new ≡ self.old) }
+        ensures actions_unchanged { OnErr result (actions.new ≡ actions.old) }
         ensures lanes_unchanged { L.honest lanes.new → OnErr result (L.contents lanes.new ≡ L.contents lanes.old) }
         ensures device { result ≡ Err StoreFault.Device → IsTrue (L.is_stopped lanes.new) }
         ensures runs_on { result ≢ Err StoreFault.Device → L.is_stopped lanes.new ≡ L.is_stopped lanes.old }
@@ -103,7 +104,8 @@ impl OutstationCore {
         ensures named { result ≢ Err StoreFault.Exhausted }
     {
         let Some(awaited) = self.session.awaited else {
-            return Ok(Actions::none(alloc));
+            actions.set_nothing(alloc);
+            return Ok(());
         };
         let enabled = self.enabled;
         let switches = Switches {
@@ -123,16 +125,19 @@ impl OutstationCore {
         let rows = Rows::of(lanes.release(alloc, &awaited.upto)?);
         self.session.confirm();
         let Some(answer) = next else {
-            return Ok(Actions::discarding(alloc, rows));
+            actions.set_discarding(alloc, rows);
+            return Ok(());
         };
-        let fragment = respond_further(
-            &mut self.session,
+        self.session.respond_further(
+            actions,
+            alloc,
+            rows,
             &mut self.writer,
             lanes,
             &answer,
             awaited.seq.next(),
             deadline(now, self.times.confirm_ms),
         );
-        Ok(Actions::going_on(alloc, rows, fragment))
+        Ok(())
     }
 }

@@ -12,21 +12,21 @@ ghost use Rattle.dnp_outstation.specs.Answering.{executed_by};
 ghost use Rattle.dnp_appfragment.specs.Table.{function_octet};
 ghost use Rattle.dnp_outstation.specs.Connection.{function_in};
 ghost use Rattle.dnp_outstation.specs.Items.{last_in as last_in_stock, first_place};
-ghost use Rattle.dnp_outstation.specs.Filling.{empty_from};
+ghost use Rattle.dnp_outstation.specs.Filling.{after_release, empty_from};
 ghost use Rattle.dnp_outstation.specs.declared.offer.writer.Writer.{Writer as WriterValue};
 ghost use Rattle.dnp_outstation.specs.State.{State};
 ghost use Rattle.dnp_outstation.specs.Content.{content_of, bits_of, clears_restart, header_bits, write_bits, enabled_after, read_executed, write_executed, switch_executed, delay_executed, time_in, later, time_written};
 
 use crate::answer::{Answer, Switches};
-use crate::indications::last_in;
 use crate::offer::inside::are_inside;
 use crate::offer::parts::put_parts;
 use crate::offer::place::Place;
 use crate::offer::writer::Writer;
+use crate::released::last_left;
 use byteorder::{ByteOrder, LittleEndian};
 use dnp_appfragment::{AppFault, Function, Header, Headers, Range, Request, read_request};
 use dnp_controls::Outputs;
-use dnp_eventbuf::{Lanes, StoreFault};
+use dnp_eventbuf::{Lanes, StoreFault, Upto};
 use dnp_pointdb::PointDb;
 use std::alloc::Global;
 
@@ -177,7 +177,8 @@ pub(crate) fn left(is_last: bool, place: Place) -> Option<Place>
     if is_last { None } else { Some(place) }
 }
 
-/// Executes a READ: writes the first fragment of its response, unless a range isn't inside the points.
+/// Executes a READ: writes the first fragment of its response, unless a range isn't inside the points. The
+/// lanes are read as they are after the release, where `stood` is the last id in them.
 fn read<L: Lanes, O: Outputs>(
     writer: &mut Writer,
     alloc: Global,
@@ -186,15 +187,18 @@ fn read<L: Lanes, O: Outputs>(
     outputs: &O,
     switches: Switches,
     headers: &Headers<'_>,
+    stood: u64,
+    released: &Option<Upto>,
 ) -> Result<Answer, StoreFault>
     requires empty { writer.old ≡ empty_from first_place }
     requires few { length headers.now.headers < 2 ^ 64 }
+    requires stood { L.honest lanes.old → stood ≡ last_in_stock (after_release (L.contents lanes.old) released.now) }
     ensures held { L.honest lanes.new → L.honest lanes.old }
     ensures beside { L.honest lanes.new → L.beside lanes.new ≡ L.beside lanes.old }
     ensures same { L.honest lanes.new → L.contents lanes.new ≡ L.contents lanes.old }
     ensures executed { L.honest lanes.new → IfOk result (λ a. (s : State) → s.core.points ≡ points.now → s.core.restart ≡ switches.restart → s.core.enabled ≡ switches.enabled
-        → s.lanes ≡ L.contents lanes.old → read_executed s (O.panel outputs.now) headers.now.headers ≡ executed_by s writer.new a) }
-    ensures stood { L.honest lanes.new → IfOk result (λ a. a.stood ≡ last_in_stock (L.contents lanes.old)) }
+        → s.lanes ≡ after_release (L.contents lanes.old) released.now → read_executed s (O.panel outputs.now) headers.now.headers ≡ executed_by s writer.new a) }
+    ensures stood { IfOk result (λ a. a.stood ≡ stood) }
     ensures small { IfOk result (λ a. a.bits < 8) }
     ensures response { writer.new.builder.function ≡ function.Response }
     ensures device { result ≡ Err StoreFault.Device → IsTrue (L.is_stopped lanes.new) }
@@ -202,7 +206,6 @@ fn read<L: Lanes, O: Outputs>(
     ensures memory { L.honest lanes.new → result ≡ Err StoreFault.Memory → L.asks_memory ≡ false → rows_in (L.contents lanes.old) ≢ [] }
     ensures named { result ≢ Err StoreFault.Exhausted }
 {
-    let stood = last_in(lanes);
     if !are_inside(points, outputs, headers.after(0)) {
         return Ok(plain(PARAMETER_ERROR, switches, stood));
     }
@@ -212,7 +215,7 @@ fn read<L: Lanes, O: Outputs>(
         points,
         lanes,
         outputs,
-        &None,
+        released,
         stood,
         headers.after(0),
     )?;
@@ -226,14 +229,12 @@ fn read<L: Lanes, O: Outputs>(
 }
 
 /// Executes a WRITE, which has to be of DEVICE_RESTART and of times alone.
-fn write<L: Lanes>(lanes: &mut L, switches: Switches, headers: Headers<'_>) -> Answer
-    ensures same { lanes.new ≡ lanes.old }
+fn write(switches: Switches, headers: Headers<'_>, stood: u64) -> Answer
     ensures executed { (s : State) (w : WriterValue) → s.core.restart ≡ switches.restart → s.core.enabled ≡ switches.enabled → w ≡ empty_from first_place
         → write_executed s headers.entry.headers ≡ executed_by s w result }
-    ensures stood { L.honest lanes.new → result.stood ≡ last_in_stock (L.contents lanes.new) }
+    ensures stood { result.stood ≡ stood }
     ensures small { result.bits < 8 }
 {
-    let stood = last_in(lanes);
     match written(headers, switches.restart) {
         Ok(changes) => {
             let restart = changes.restart;
@@ -268,30 +269,79 @@ fn enabled_after(on: bool, enabled: [bool; 3], headers: Headers<'_>) -> [bool; 3
 }
 
 /// Executes an ENABLE_UNSOLICITED, where `on` is set, or a DISABLE_UNSOLICITED.
-fn switch<L: Lanes>(lanes: &mut L, switches: Switches, on: bool, headers: Headers<'_>) -> Answer
-    ensures same { lanes.new ≡ lanes.old }
+fn switch(switches: Switches, on: bool, headers: Headers<'_>, stood: u64) -> Answer
     ensures executed { (s : State) (w : WriterValue) → s.core.restart ≡ switches.restart → s.core.enabled ≡ switches.enabled → w ≡ empty_from first_place
         → switch_executed on s headers.entry.headers ≡ executed_by s w result }
-    ensures stood { L.honest lanes.new → result.stood ≡ last_in_stock (L.contents lanes.new) }
+    ensures stood { result.stood ≡ stood }
     ensures small { result.bits < 8 }
 {
     let restart = switches.restart;
     let enabled = enabled_after(on, switches.enabled, headers);
-    plain(0, Switches { restart, enabled }, last_in(lanes))
+    plain(0, Switches { restart, enabled }, stood)
 }
 
 /// Executes a DELAY_MEASURE: writes that no delay was measured.
-fn delay<L: Lanes>(writer: &mut Writer, lanes: &mut L, switches: Switches) -> Answer
+fn delay(writer: &mut Writer, switches: Switches, stood: u64) -> Answer
     requires { writer.old ≡ empty_from first_place }
-    ensures same { lanes.new ≡ lanes.old }
     ensures executed { (s : State) → s.core.restart ≡ switches.restart → s.core.enabled ≡ switches.enabled
         → delay_executed s ≡ executed_by s writer.new result }
-    ensures stood { L.honest lanes.new → result.stood ≡ last_in_stock (L.contents lanes.new) }
+    ensures stood { result.stood ≡ stood }
     ensures small { result.bits < 8 }
     ensures response { writer.new.builder.function ≡ function.Response }
 {
     writer.put_delay();
-    plain(0, switches, last_in(lanes))
+    plain(0, switches, stood)
+}
+
+/// Executes a request, and writes the first fragment of its response, as the lanes are after the release.
+pub(crate) fn execute_after<L: Lanes, O: Outputs>(
+    writer: &mut Writer,
+    alloc: Global,
+    points: &PointDb,
+    lanes: &mut L,
+    outputs: &O,
+    switches: Switches,
+    octets: &[u8],
+    released: &Option<Upto>,
+) -> Result<Answer, StoreFault>
+    ensures held { L.honest lanes.new → L.honest lanes.old }
+    ensures beside { L.honest lanes.new → L.beside lanes.new ≡ L.beside lanes.old }
+    ensures same { L.honest lanes.new → L.contents lanes.new ≡ L.contents lanes.old }
+    ensures executed { L.honest lanes.new → IfOk result (λ a. (s : State) → s.core.points ≡ points.now → s.core.restart ≡ switches.restart → s.core.enabled ≡ switches.enabled
+        → s.lanes ≡ after_release (L.contents lanes.old) released.now → content_of s (O.panel outputs.now) octets.now ≡ executed_by s writer.new a) }
+    ensures stood { L.honest lanes.new → IfOk result (λ a. a.stood ≡ last_in_stock (after_release (L.contents lanes.old) released.now)) }
+    ensures small { IfOk result (λ a. a.bits < 8) }
+    ensures response { writer.new.builder.function ≡ function.Response }
+    ensures device { result ≡ Err StoreFault.Device → IsTrue (L.is_stopped lanes.new) }
+    ensures runs_on { result ≢ Err StoreFault.Device → L.is_stopped lanes.new ≡ L.is_stopped lanes.old }
+    ensures memory { L.honest lanes.new → result ≡ Err StoreFault.Memory → L.asks_memory ≡ false → rows_in (L.contents lanes.old) ≢ [] }
+    ensures named { result ≢ Err StoreFault.Exhausted }
+    ensures reads { IsErr result → function_in octets.now ≡ function_octet function.Read }
+{
+    writer.restart(FIRST_PLACE);
+    let stood = last_left(lanes, released);
+    let request = match request_in(octets) {
+        Ok(request) => request,
+        Err(fault) => return Ok(plain(bits_of(fault), switches, stood)),
+    };
+    match request.function {
+        Function::Read => read(
+            writer,
+            alloc,
+            points,
+            lanes,
+            outputs,
+            switches,
+            &request.headers,
+            stood,
+            released,
+        ),
+        Function::Write => Ok(write(switches, request.headers, stood)),
+        Function::EnableUnsolicited => Ok(switch(switches, true, request.headers, stood)),
+        Function::DisableUnsolicited => Ok(switch(switches, false, request.headers, stood)),
+        Function::DelayMeasure => Ok(delay(writer, switches, stood)),
+        _ => Ok(plain(NO_FUNC_CODE_SUPPORT, switches, stood)),
+    }
 }
 
 /// Executes a request, and writes the first fragment of its response.
@@ -318,25 +368,5 @@ pub(crate) fn execute<L: Lanes, O: Outputs>(
     ensures named { result ≢ Err StoreFault.Exhausted }
     ensures reads { IsErr result → function_in octets.now ≡ function_octet function.Read }
 {
-    writer.restart(FIRST_PLACE);
-    let request = match request_in(octets) {
-        Ok(request) => request,
-        Err(fault) => return Ok(plain(bits_of(fault), switches, last_in(lanes))),
-    };
-    match request.function {
-        Function::Read => read(
-            writer,
-            alloc,
-            points,
-            lanes,
-            outputs,
-            switches,
-            &request.headers,
-        ),
-        Function::Write => Ok(write(lanes, switches, request.headers)),
-        Function::EnableUnsolicited => Ok(switch(lanes, switches, true, request.headers)),
-        Function::DisableUnsolicited => Ok(switch(lanes, switches, false, request.headers)),
-        Function::DelayMeasure => Ok(delay(writer, lanes, switches)),
-        _ => Ok(plain(NO_FUNC_CODE_SUPPORT, switches, last_in(lanes))),
-    }
+    execute_after(writer, alloc, points, lanes, outputs, switches, octets, &None)
 }

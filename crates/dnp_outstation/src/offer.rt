@@ -1,9 +1,10 @@
 //! What a fragment of a response holds: rows of lanes and present values of points, as far as they fit.
 
+pub mod enabled;
 pub mod inside;
 pub mod parts;
 pub mod place;
 mod present;
-mod rows;
+pub mod rows;
 mod wanted;
 pub mod writer;

@@ -1,6 +1,6 @@
 //! Requests of the master, and the confirms of their responses.
 
-ghost use Rattle.std.specs.Prelude.{All, ◌≡◌, ◌≢◌, ◌≤◌, ℕ, [], false, IfOk, IfErr, IsErr, OnErr, IsTrue, Err, length};
+ghost use Rattle.std.specs.Prelude.{All, ◌≡◌, ◌≢◌, ◌≤◌, ℕ, [], false, IsErr, OnOk, OnErr, IsTrue, Err, length};
 ghost use Rattle.dnp_appfragment.specs.declared.function.Function.TheVariants as function;
 ghost use Rattle.dnp_appfragment.specs.Table.{function_octet};
 ghost use Rattle.dnp_controls.specs.Panel.{Panel};
@@ -14,7 +14,6 @@ use crate::answer::Switches;
 use crate::connection::deadline;
 use crate::execute::execute;
 use crate::outstation_core::OutstationCore;
-use crate::sending::respond;
 use crate::sequence::SequenceNumber;
 use crate::session::{Awaited, Reply};
 use dnp_appfragment::Control;
@@ -26,21 +25,23 @@ impl OutstationCore {
     /// Another request than the last one: it is executed and answered.
     pub(crate) fn request<L: Lanes, O: Outputs>(
         &mut self,
+        actions: &mut Actions,
         alloc: Global,
         lanes: &mut L,
         outputs: &O,
         now: u64,
         octets: &[u8],
-    ) -> Result<Actions, StoreFault>
+    ) -> Result<(), StoreFault>
         requires some { 2 ≤ length octets.now }
         requires few { length octets.now ≤ 2048 }
         ensures held { L.honest lanes.new → L.honest lanes.old }
         ensures beside { L.honest lanes.new → L.beside lanes.new ≡ L.beside lanes.old }
-        ensures answered { L.honest lanes.new → IfOk result (λ a. (p : Panel) →
+        ensures answered { L.honest lanes.new → OnOk result ((p : Panel) →
             on_request (state_of self.old (L.contents lanes.old) p) (O.panel outputs.now) now octets.now
-            ≡ record { state = state_of self.new (L.contents lanes.new) p; does = actions_of a }) }
-        ensures whole { IfOk result (λ a. All (λ fragment. 4 ≤ length fragment) (actions_of a).send) }
+            ≡ record { state = state_of self.new (L.contents lanes.new) p; does = actions_of actions.new }) }
+        ensures whole { OnOk result (All (λ fragment. 4 ≤ length fragment) (actions_of actions.new).send) }
         ensures unchanged { OnErr result (self.new ≡ self.old) }
+        ensures actions_unchanged { OnErr result (actions.new ≡ actions.old) }
         ensures same { L.honest lanes.new → L.contents lanes.new ≡ L.contents lanes.old }
         ensures device { result ≡ Err StoreFault.Device → IsTrue (L.is_stopped lanes.new) }
         ensures runs_on { result ≢ Err StoreFault.Device → L.is_stopped lanes.new ≡ L.is_stopped lanes.old }
@@ -66,30 +67,32 @@ impl OutstationCore {
         let enabled = answer.switches.enabled;
         self.enabled = enabled;
         self.session.new_request(octets);
-        let fragment = respond(
-            &mut self.session,
+        self.session.respond(
             &mut self.writer,
             lanes,
             &answer,
             SequenceNumber::of(Control::read(octets[0])),
             deadline(now, self.times.confirm_ms),
         );
-        Ok(Actions::answering(alloc, fragment, answer.time))
+        actions.set_sending(alloc, self.session.response.octets());
+        actions.time = answer.time;
+        Ok(())
     }
 
     /// The last request again: its first fragment goes out again, unless the response has gone past it.
-    pub(crate) fn again(&mut self, alloc: Global, now: u64, octets: &[u8]) -> Actions
+    pub(crate) fn again(&mut self, actions: &mut Actions, alloc: Global, now: u64, octets: &[u8])
         requires { 1 ≤ length octets.now }
-        ensures whole { All (λ fragment. 4 ≤ length fragment) (actions_of result).send }
+        ensures whole { All (λ fragment. 4 ≤ length fragment) (actions_of actions.new).send }
         ensures value { (lanes : Stock) (p : Panel) → let s = state_of self.old lanes p in
             with_that s s.core.session.last (on_again s now octets.now)
-            ≡ record { state = state_of self.new lanes p; does = actions_of result } }
+            ≡ record { state = state_of self.new lanes p; does = actions_of actions.new } }
     {
+        actions.set_nothing(alloc);
         let Some(last) = &self.session.last else {
-            return Actions::none(alloc);
+            return;
         };
         let Reply::First(first) = &last.reply else {
-            return Actions::none(alloc);
+            return;
         };
         if first.is_awaited && self.session.unsolicited.is_none() {
             self.session.awaited = Some(Awaited {
@@ -98,7 +101,7 @@ impl OutstationCore {
                 ends: deadline(now, self.times.confirm_ms),
             });
         }
-        Actions::sending(alloc, self.session.response.fragment())
+        actions.set_sending(alloc, self.session.response.octets());
     }
 
     /// A READ that has to wait for the confirm of an unsolicited response.

@@ -1,22 +1,24 @@
 //! Sends the fragments of responses.
 
-ghost use Rattle.std.specs.Prelude.{◌≡◌, ◌<◌, ◌≤◌, ℕ, length, false, if◌then◌else◌, is_none, None, Some};
+ghost use Rattle.std.specs.Prelude.{◌≡◌, ◌<◌, ◌≤◌, ℕ, All, length, false, if◌then◌else◌, is_none, None, Some};
 ghost use Rattle.dnp_appfragment.specs.declared.function.Function.TheVariants as function;
-ghost use Rattle.dnp_appfragment.specs.Built.{heads};
-ghost use Rattle.dnp_appfragment.specs.Fragments.{response_octets};
 ghost use Rattle.dnp_controls.specs.Selecting.{deadline};
-ghost use Rattle.dnp_outstation.specs.Answering.{content_by, KeepsWhole};
-ghost use Rattle.dnp_outstation.specs.State.{State, with_session, sending};
-ghost use Rattle.dnp_outstation.specs.Connection.{has_rows, asks_confirm, fragment_of, first_sent, further_sent, responds, responds_further};
+ghost use Rattle.dnp_outstation.specs.Answering.{content_by, sent_by, KeepsWhole};
+ghost use Rattle.dnp_outstation.specs.State.{State, with_session, nothing, sending};
+ghost use Rattle.dnp_outstation.specs.Connection.{has_rows, asks_confirm, fragment_of, further_sent, responds, responds_further};
+ghost use Rattle.dnp_outstation.specs.Station.{actions_of, HasRoom};
 
+use crate::actions::Actions;
 use crate::answer::Answer;
 use crate::indications::indications;
-use crate::kept::Fragment;
+use crate::kept::Kept;
 use crate::offer::writer::Writer;
+use crate::rows::Rows;
 use crate::sequence::SequenceNumber;
 use crate::session::{Awaited, FirstFragment, LastRequest, Reply, Session};
-use dnp_appfragment::{Builder, Control, Iin};
+use dnp_appfragment::{Control, Iin};
 use dnp_eventbuf::{Lanes, Upto};
+use std::alloc::Global;
 
 /// Whether there are rows up to these ids.
 fn has_rows(upto: &Upto) -> bool
@@ -50,40 +52,63 @@ fn control(is_first: bool, asks_confirm: bool, seq: SequenceNumber, answer: &Ans
     }
 }
 
-/// What stands in the builder, as it is sent.
-fn finished(builder: &mut Builder, control: Control, iin: Iin) -> Fragment
-    requires { builder.old.function ≡ function.Response }
-    ensures whole { 4 ≤ length result.items }
-    ensures value { result.items ≡ response_octets (record { control = control; function = function.Response; iin = iin; headers = heads builder.old }) }
-{
-    // What is left says that the fragment fits.
-    let _left = builder.left();
-    let mut fragment = Fragment::new();
-    let octets = builder.fragment(control, iin);
-    fragment.try_extend_from_slice(octets).unwrap();
-    fragment
+/// What stands before the headers of a fragment of a response.
+#[derive(Clone, Copy)]
+struct Front {
+    control: Control,
+    iin: Iin,
 }
 
-/// A fragment of a response, as it is sent.
-fn fragment<L: Lanes>(
-    writer: &mut Writer,
+/// The front of a fragment of a response, as it is sent.
+fn front_of<L: Lanes>(
+    writer: &Writer,
     lanes: &mut L,
     is_first: bool,
     seq: SequenceNumber,
     answer: &Answer,
-) -> Fragment
-    requires response { writer.old.builder.function ≡ function.Response }
+) -> Front
     requires bits { answer.now.bits < 8 }
     ensures same { lanes.new ≡ lanes.old }
-    ensures whole { 4 ≤ length result.items }
-    ensures upto { writer.new.upto ≡ writer.old.upto }
     ensures value { L.honest lanes.new → (s : State) → s.lanes ≡ L.contents lanes.new → s.core.restart ≡ answer.now.switches.restart
-        → result.items ≡ fragment_of s is_first seq (content_by writer.old answer.now) }
+        → sent_by result writer.now ≡ fragment_of s is_first seq (content_by writer.now answer.now) }
 {
     let iin = indications(lanes, answer.switches.restart, &writer.upto, answer.bits);
     let asks_confirm = asks_confirm(writer, answer);
     let control = control(is_first, asks_confirm, seq, answer);
-    finished(&mut writer.builder, control, iin)
+    Front { control, iin }
+}
+
+impl Kept {
+    /// Keeps the fragment that stands in the writer, with this front.
+    fn keep_sent(&mut self, writer: &mut Writer, front: Front)
+        requires { writer.old.builder.function ≡ function.Response }
+        ensures writer { writer.new ≡ writer.old }
+        ensures whole { 4 ≤ length self.new }
+        ensures value { self.new ≡ sent_by front writer.old }
+    {
+        // What is left says that the fragment fits.
+        let _left = writer.builder.left();
+        self.keep(writer.builder.fragment(front.control, front.iin));
+    }
+}
+
+impl Actions {
+    /// Confirmed rows leave, and the fragment that stands in the writer is sent, with this front.
+    fn set_further(&mut self, alloc: Global, discarded: Rows, writer: &mut Writer, front: Front)
+        requires { writer.old.builder.function ≡ function.Response }
+        ensures writer { writer.new ≡ writer.old }
+        ensures whole { 4 ≤ length (sent_by front writer.old) }
+        ensures value { actions_of self.new ≡ record (sending (sent_by front writer.old)) { discarded = discarded } }
+        ensures room { HasRoom self.new }
+    {
+        // What is left says that the fragment fits.
+        let _left = writer.builder.left();
+        self.set_going_on(
+            alloc,
+            discarded,
+            writer.builder.fragment(front.control, front.iin),
+        );
+    }
 }
 
 /// The confirm of a fragment, if it asks for one: awaited until `ends`.
@@ -102,22 +127,30 @@ fn awaited_for(asks_confirm: bool, seq: SequenceNumber, upto: &Upto, ends: u64) 
 }
 
 impl Session {
-    /// The first fragment of the response to the last request is sent.
-    fn send_first(
+    /// What stands in the writer is sent as the first fragment of the response to the last request. Its
+    /// confirm, if it asks for one, is awaited until `ends`.
+    pub(crate) fn respond<L: Lanes>(
         &mut self,
-        fragment: &Fragment,
-        writer: &Writer,
+        writer: &mut Writer,
+        lanes: &mut L,
         answer: &Answer,
         seq: SequenceNumber,
         ends: u64,
     )
-        ensures sent { (now confirm_ms : ℕ) → ends ≡ deadline now confirm_ms
-            → self.new ≡ first_sent self.old now confirm_ms answer.now.stood seq (content_by writer.now answer.now) fragment.now.items }
+        requires response { writer.old.builder.function ≡ function.Response }
+        requires bits { answer.now.bits < 8 }
+        ensures same { lanes.new ≡ lanes.old }
+        ensures sends { L.honest lanes.new → (s : State) (now : ℕ) → s.lanes ≡ L.contents lanes.new → s.core.restart ≡ answer.now.switches.restart
+            → s.core.session ≡ self.old → ends ≡ deadline now s.core.times.confirm_ms
+            → responds s now answer.now.stood seq (content_by writer.old answer.now)
+            ≡ record { state = with_session s self.new; does = sending self.new.response } }
         ensures unsolicited { self.new.unsolicited ≡ self.old.unsolicited }
-        ensures keeps { 4 ≤ length fragment.now.items → KeepsWhole self.new }
+        ensures whole { 4 ≤ length self.new.response }
+        ensures keeps { KeepsWhole self.new }
     {
+        let front = front_of(writer, lanes, true, seq, answer);
+        self.response.keep_sent(writer, front);
         let is_awaited = asks_confirm(writer, answer);
-        self.response.keep_fragment(fragment);
         self.last = Some(LastRequest {
             reply: Reply::First(FirstFragment {
                 upto: writer.upto,
@@ -129,8 +162,8 @@ impl Session {
         self.awaited = awaited_for(is_awaited, seq, &writer.upto, ends);
     }
 
-    /// A further fragment of it is sent.
-    fn send_further(&mut self, writer: &Writer, answer: &Answer, seq: SequenceNumber, ends: u64)
+    /// A further fragment of the response was sent.
+    fn went_on(&mut self, writer: &Writer, answer: &Answer, seq: SequenceNumber, ends: u64)
         ensures sent { (now confirm_ms : ℕ) → ends ≡ deadline now confirm_ms
             → self.new ≡ further_sent self.old now confirm_ms answer.now.stood seq (content_by writer.now answer.now) }
         ensures unsolicited { self.new.unsolicited ≡ self.old.unsolicited }
@@ -144,55 +177,34 @@ impl Session {
         let is_awaited = asks_confirm(writer, answer);
         self.awaited = awaited_for(is_awaited, seq, &writer.upto, ends);
     }
-}
 
-/// Sends what stands in the writer as the first fragment of the response to the last request. Its confirm,
-/// if it asks for one, is awaited until `ends`.
-pub(crate) fn respond<L: Lanes>(
-    session: &mut Session,
-    writer: &mut Writer,
-    lanes: &mut L,
-    answer: &Answer,
-    seq: SequenceNumber,
-    ends: u64,
-) -> Fragment
-    requires response { writer.old.builder.function ≡ function.Response }
-    requires bits { answer.now.bits < 8 }
-    ensures same { lanes.new ≡ lanes.old }
-    ensures sends { L.honest lanes.new → (s : State) (now : ℕ) → s.lanes ≡ L.contents lanes.new → s.core.restart ≡ answer.now.switches.restart
-        → s.core.session ≡ session.old → ends ≡ deadline now s.core.times.confirm_ms
-        → responds s now answer.now.stood seq (content_by writer.old answer.now)
-        ≡ record { state = with_session s session.new; does = sending result.items } }
-    ensures unsolicited { session.new.unsolicited ≡ session.old.unsolicited }
-    ensures whole { 4 ≤ length result.items }
-    ensures keeps { KeepsWhole session.new }
-{
-    let fragment = fragment(writer, lanes, true, seq, answer);
-    session.send_first(&fragment, writer, answer, seq, ends);
-    fragment
-}
-
-/// Sends it as a further fragment.
-pub(crate) fn respond_further<L: Lanes>(
-    session: &mut Session,
-    writer: &mut Writer,
-    lanes: &mut L,
-    answer: &Answer,
-    seq: SequenceNumber,
-    ends: u64,
-) -> Fragment
-    requires response { writer.old.builder.function ≡ function.Response }
-    requires bits { answer.now.bits < 8 }
-    ensures same { lanes.new ≡ lanes.old }
-    ensures sends { L.honest lanes.new → (s : State) (now : ℕ) → s.lanes ≡ L.contents lanes.new → s.core.restart ≡ answer.now.switches.restart
-        → s.core.session ≡ session.old → ends ≡ deadline now s.core.times.confirm_ms
-        → responds_further s now answer.now.stood seq (content_by writer.old answer.now)
-        ≡ record { state = with_session s session.new; does = sending result.items } }
-    ensures unsolicited { session.new.unsolicited ≡ session.old.unsolicited }
-    ensures whole { 4 ≤ length result.items }
-    ensures keeps { KeepsWhole session.new }
-{
-    let fragment = fragment(writer, lanes, false, seq, answer);
-    session.send_further(writer, answer, seq, ends);
-    fragment
+    /// The same as a further fragment of it. Confirmed rows leave before it.
+    pub(crate) fn respond_further<L: Lanes>(
+        &mut self,
+        actions: &mut Actions,
+        alloc: Global,
+        discarded: Rows,
+        writer: &mut Writer,
+        lanes: &mut L,
+        answer: &Answer,
+        seq: SequenceNumber,
+        ends: u64,
+    )
+        requires response { writer.old.builder.function ≡ function.Response }
+        requires bits { answer.now.bits < 8 }
+        ensures same { lanes.new ≡ lanes.old }
+        ensures sends { L.honest lanes.new → (s : State) (now : ℕ) → s.lanes ≡ L.contents lanes.new → s.core.restart ≡ answer.now.switches.restart
+            → s.core.session ≡ self.old → ends ≡ deadline now s.core.times.confirm_ms
+            → responds_further s now answer.now.stood seq (content_by writer.old answer.now)
+            ≡ record { state = with_session s self.new; does = record nothing { send = (actions_of actions.new).send } } }
+        ensures discarded { actions_of actions.new ≡ record nothing { send = (actions_of actions.new).send; discarded = discarded } }
+        ensures room { HasRoom actions.new }
+        ensures unsolicited { self.new.unsolicited ≡ self.old.unsolicited }
+        ensures whole { All (λ fragment. 4 ≤ length fragment) (actions_of actions.new).send }
+        ensures keeps { KeepsWhole self.new }
+    {
+        let front = front_of(writer, lanes, false, seq, answer);
+        actions.set_further(alloc, discarded, writer, front);
+        self.went_on(writer, answer, seq, ends);
+    }
 }

@@ -98,7 +98,8 @@ impl Writer {
         requires response { self.old.builder.function ≡ function.Response }
         requires room { size self.old.builder + length (header_octets (head header.now)) ≤ MAX_FRAGMENT }
         ensures { self.new ≡ record self.old {
-            builder = with_header self.old.builder (answered_head (code_by (O.panel outputs.now) told.now) (head header.now)) } }
+          builder = with_header self.old.builder (answered_head (code_by (O.panel outputs.now) told.now) (head header.now));
+        } }
     {
         let mut octets = ArrayVec::new();
         fill(&mut octets, outputs, told, header);
@@ -112,12 +113,7 @@ impl Writer {
     }
 
     /// Puts the headers of a request, each command with its status.
-    pub(crate) fn put_answers<O: Outputs>(
-        &mut self,
-        outputs: &O,
-        told: &Told,
-        headers: Headers<'_>,
-    )
+    pub(crate) fn put_answers<O: Outputs>(&mut self, outputs: &O, told: &Told, headers: Headers<'_>)
         requires whole { AreHeaders form.Command begin headers.headers }
         requires response { self.old.builder.function ≡ function.Response }
         requires room { size self.old.builder + length (spelled headers.headers) ≤ MAX_FRAGMENT }

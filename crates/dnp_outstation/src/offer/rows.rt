@@ -88,7 +88,7 @@ pub(crate) fn less(most: Option<usize>, given: usize) -> Option<usize>
 
 impl Writer {
     /// Puts rows of a lane as far as they fit; answers whether all do.
-    fn put_rows(&mut self, header: usize, lane: usize, rows: &[Numbered]) -> bool
+    pub(crate) fn put_rows(&mut self, header: usize, lane: usize, rows: &[Numbered]) -> bool
         requires lane { lane < 9 }
         requires response { IsTrue (is_response self.old.builder.function) }
         requires events { All (λ x. IsEvent x.row) rows.now }

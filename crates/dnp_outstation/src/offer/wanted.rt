@@ -24,7 +24,7 @@ fn limit(range: Range) -> Option<usize>
 }
 
 /// The lanes of a class, 1 to 3.
-fn of_class(class: u8) -> [Lane; 3]
+pub(crate) fn of_class(class: u8) -> [Lane; 3]
     requires one { 1 ≤ class }
     requires three { class ≤ 3 }
     ensures { map lane_number result ≡ class_lanes (class - 1) }

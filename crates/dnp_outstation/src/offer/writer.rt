@@ -6,7 +6,8 @@ ghost use Rattle.dnp_appfragment.specs.Built.{size};
 ghost use Rattle.dnp_appfragment.specs.Table.{is_response};
 ghost use Rattle.dnp_appfragment.specs.Written.{FitsPoint};
 ghost use Rattle.dnp_outstation.specs.Items.{first_place, event_of, present_of, passed, place_after};
-ghost use Rattle.dnp_outstation.specs.Filling.{put, fits, ended, empty_from, is_same_run};
+ghost use Rattle.dnp_appfragment.specs.declared.function.Function.TheVariants as function;
+ghost use Rattle.dnp_outstation.specs.Filling.{put, fits, ended, empty_from, empty_for, is_same_run};
 
 use crate::offer::place::Place;
 use dnp_appfragment::{Builder, Function};
@@ -102,6 +103,20 @@ impl Writer {
         self.builder.restart(Function::Response, true);
         self.run = Run::NoRun;
         self.place = place;
+        self.upto = [0; 9];
+    }
+
+    /// Starts over, with an empty unsolicited response.
+    pub(crate) fn restart_unsolicited(&mut self)
+        ensures { self.new ≡ empty_for function.UnsolicitedResponse first_place }
+    {
+        self.builder.restart(Function::UnsolicitedResponse, true);
+        self.run = Run::NoRun;
+        self.place = Place {
+            header: 0,
+            count: 0,
+            given: [0; 9],
+        };
         self.upto = [0; 9];
     }
 

@@ -1,11 +1,10 @@
-use Rattle.std.proofs.Common.{◌≡◌, Bool, true, false, if◌then◌else◌, ℕ, ◌<◌, ◌==◌, nat_lt, List, [], ◌∷◌, length, refl, sym, ap, ◌∙◌, arith, rules}
+use Rattle.std.proofs.Common.{◌≡◌, Bool, true, false, if◌then◌else◌, ℕ, ◌<◌, ◌==◌, nat_lt, List, [], ◌∷◌, length, refl, sym, ap, ◌∙◌, arith}
 use Rattle.std.specs.List.{list_all}
 use Rattle.std.proofs.lemmas.Bool.{ltb-true}
 use Rattle.dnp_objects.specs.Status as status
 use Rattle.dnp_objects.specs.declared.command.Command.{Command}
 use Rattle.dnp_controls.specs.Panel.{Panel}
 use Rattle.dnp_outstation.specs.Controls.{alike}
-use Rattle.dnp_outstation.specs.declared.controls.told.Told.{Told}
 use Rattle.dnp_outstation.specs.declared.controls.told.Told.TheVariants.{Alike, Checked}
 use Rattle.dnp_outstation.proofs.controls.decision.stands.Goals as goal
 

@@ -1,5 +1,4 @@
-use Rattle.std.proofs.Common.{rules, ◌≡◌, ◌≤◌, ◌<◌, ◌*◌, ◌/◌, ℕ, length, ap, sym, ◌∙◌, arith}
-use Rattle.dnp_appfragment.specs.Headers.{Head, count_of}
+use Rattle.std.proofs.Common.{◌/◌, ℕ, length}
 use Rattle.dnp_appfragment.specs.Seen.{head}
 use Rattle.dnp_outstation.specs.Deciding.{code_by}
 use Rattle.dnp_outstation.proofs.ControlHeaders.{piece_is, piece_some, object_put, longer_by, cut_again}

@@ -1,9 +1,9 @@
-use Rattle.std.proofs.Common.{rules, ◌≡◌, ◌≤◌, ◌<◌, ◌+◌, ℕ, List, length, ap, sym, subst, ◌∙◌, arith, IsErr}
+use Rattle.std.proofs.Common.{◌≡◌, ◌<◌, ℕ, List, ap, sym, subst, ◌∙◌, arith, IsErr}
 use Rattle.dnp_objects.specs.declared.limits.TheConstants.{MAX_FRAGMENT}
 use Rattle.dnp_appfragment.specs.declared.function.Function.{Function}
 use Rattle.dnp_appfragment.specs.declared.table.Form.TheVariants as form
 use Rattle.dnp_appfragment.specs.Built.{Built, size, with_header}
-use Rattle.dnp_appfragment.specs.Headers.{Head, IsHeader, header_octets}
+use Rattle.dnp_appfragment.specs.Headers.{Head, IsHeader}
 use Rattle.dnp_appfragment.specs.Seen.{head}
 use Rattle.dnp_appfragment.specs.Table.{form_of}
 use Rattle.dnp_outstation.specs.Controls.{answered_head}
@@ -29,9 +29,9 @@ returns g c =
     let less = header_length code h c.requires.whole in
     let head_is : (let x : Head = record h { octets = c.deref.result.now } in x) ≡ answered_head code h = ap (λ (octets : List ℕ). let x : Head = record h { octets = octets } in x) same in
     let never : IsErr c.header-put.result → ⊥ = λ err.
-        let more : MAX_FRAGMENT < size (with_header c.args.self.now.builder (record h { octets = c.deref.result.now })) = c.header-put.ensures.full.0 err in
-        let more = rw head_is at more in
-        let room = c.requires.room in
-        absurd (omega (arith, more, long, less, room)) in
+    let more : MAX_FRAGMENT < size (with_header c.args.self.now.builder (record h { octets = c.deref.result.now })) = c.header-put.ensures.full.0 err in
+    let more = rw head_is at more in
+    let room = c.requires.room in
+    absurd (omega (arith, more, long, less, room)) in
     let put : c.header-put.new.self ≡ with_header c.args.self.now.builder (record h { octets = c.deref.result.now }) = put_there c.header-put.result never c.header-put.ensures.ok in
     ap (λ (b : Built). let w : Writer = record c.args.self.now { builder = b } in w) (put ∙ ap (λ (x : Head). with_header c.args.self.now.builder x) head_is)

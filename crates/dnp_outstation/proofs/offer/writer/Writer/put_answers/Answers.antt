@@ -1,8 +1,5 @@
-use Rattle.std.proofs.Common.{◌≡◌, ◌≤◌, ◌+◌, ◌∷◌, List, length, ap, sym, ◌∙◌}
-use Rattle.dnp_objects.specs.declared.limits.TheConstants.{MAX_FRAGMENT}
-use Rattle.dnp_appfragment.specs.declared.table.Form.TheVariants as form
-use Rattle.dnp_appfragment.specs.Built.{size, with_header}
-use Rattle.dnp_appfragment.specs.Headers.{Head, AreHeaders, begin, spelled}
+use Rattle.std.proofs.Common.{◌≡◌, ap}
+use Rattle.dnp_appfragment.specs.Built.{with_header}
 use Rattle.dnp_appfragment.specs.Seen.{head}
 use Rattle.dnp_outstation.specs.Controls.{answered_head}
 use Rattle.dnp_outstation.specs.Deciding.{code_by}

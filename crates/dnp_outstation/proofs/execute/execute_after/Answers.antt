@@ -3,7 +3,7 @@ use Rattle.dnp_appfragment.specs.declared.fault.AppFault.{AppFault}
 use Rattle.dnp_appfragment.specs.declared.function.Function.{Function}
 use Rattle.dnp_appfragment.specs.Fragments.{Asked}
 use Rattle.dnp_outstation.specs.Content.{by_function, for_request}
-use Rattle.dnp_outstation.proofs.execute.execute.Goals as goal
+use Rattle.dnp_outstation.proofs.execute.execute_after.Goals as goal
 
 pub returns-in-DelayMeasure-clause-executed : goal.returns-in-DelayMeasure-clause-executed
 returns-in-DelayMeasure-clause-executed g c = λ honest s points_is restart_is enabled_is lanes_is.

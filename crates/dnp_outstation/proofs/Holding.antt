@@ -1,0 +1,183 @@
+-- Rows that are held while a row is appended are, with it, the rows of the lanes after that.
+use Rattle.std.proofs.Common.{◌≡◌, ◌⊎◌, inl, inr, ℕ, zero, suc, ◌+◌, ◌-◌, ◌*◌, ◌<◌, ◌≤◌, ◌==◌, ◌&&◌, not, Bool, true, false, cond, if◌then◌else◌, List, [], ◌∷◌, ◌++◌, map, length, get_or, set, take, drop, nat_lt, nat_le, Option, None, Some, IfSome, refl, sym, ap, subst, ◌∙◌, arith, append_assoc, append-nil, eq-eqb, ne_eqb}
+use Rattle.std.specs.Prelude.{option_to_list}
+use Rattle.std.proofs.lemmas.Bool.{cases_eq, leb-true}
+use Rattle.std.proofs.lemmas.List.{take-append-drop, take_all, map-append, get_or-set_same, get_or-set_other, length-append}
+use Rattle.dnp_objects.specs.declared.lane.LaneRow.{LaneRow}
+use Rattle.dnp_objects.specs.declared.row.Row.{Row}
+use Rattle.dnp_objects.specs.Lanes.{lane_number}
+use Rattle.dnp_eventbuf.specs.declared.numbered.Numbered.{Numbered}
+use Rattle.dnp_eventbuf.specs.Sound.{IsSound}
+use Rattle.dnp_eventbuf.specs.Stock.{Stock, LaneState, no_lane, lane_at, is_full, put_in, moved_on, added_in, with_row, with_rows, dropped_by, last_of, row_of}
+use Rattle.dnp_outstation.specs.declared.held.NewRow.{NewRow}
+use Rattle.dnp_outstation.specs.declared.offer.writer.Writer.{Writer}
+use Rattle.dnp_outstation.specs.Items.{Item, event_of, lane_items}
+use Rattle.dnp_outstation.specs.Filling.{put, fits, fill, ended}
+use Rattle.dnp_outstation.specs.Holding.{new_of, kept_of, more_of}
+use Rattle.dnp_outstation.specs.Putting.{Puts}
+use Rattle.dnp_outstation.proofs.LeftLanes.{last_is}
+use Rattle.dnp_outstation.proofs.Rising.{last_or}
+
+-- ---- one list of items after the other
+
+pub puts_both : (w v w' : Writer) (xs ys : List Item) (fit : Bool) → Puts w xs true v → Puts v ys fit w' → Puts w (xs ++ ys) fit w'
+puts_both w v w' xs ys fit first second = λ more. ap (fill w) (append_assoc xs ys more) ∙ first (ys ++ more) ∙ second more
+
+pub puts_none_more : (w w' : Writer) (xs ys : List Item) → Puts w xs false w' → Puts w (xs ++ ys) false w'
+puts_none_more w w' xs ys first = λ more. ap (fill w) (append_assoc xs ys more) ∙ first (ys ++ more)
+
+pub puts_one : (w w' : Writer) (x : Item) (fit : Bool) → (fit ≡ true → w' ≡ put w x) → fit ≡ fits (put w x) → (fit ≡ false → ended false w' ≡ ended false w)
+    → Puts w (x ∷ []) fit w'
+puts_one w w' x true was room full = λ more.
+    ap (λ (b : Bool). if b then fill (put w x) more else ended false w) (sym room) ∙ ap (λ (v : Writer). fill v more) (sym (was refl))
+puts_one w w' x false was room full = λ more.
+    ap (λ (b : Bool). if b then fill (put w x) more else ended false w) (sym room) ∙ sym (full refl)
+
+-- ---- the rows of one lane
+
+-- as many as are held, and the others
+kept_begins : (n : ℕ) (rows : List Numbered) (new : Option NewRow) (lane : ℕ)
+    → kept_of rows new lane ≡ kept_of (take (suc n) rows) new lane ++ drop (suc n) rows
+kept_begins n rows None lane = sym (take-append-drop (suc n) rows)
+kept_begins n rows (Some new) lane = by (new.lane == lane && new.has_dropped) rows
+  where
+    by : (b : Bool) (rows : List Numbered)
+        → (if b then drop 1 rows else rows) ≡ (if b then drop 1 (take (suc n) rows) else take (suc n) rows) ++ drop (suc n) rows
+    by true [] = refl
+    by true (x ∷ xs) = sym (take-append-drop n xs)
+    by false rows = sym (take-append-drop (suc n) rows)
+
+-- none but one is dropped
+kept_length : (rows : List Numbered) (new : Option NewRow) (lane : ℕ) → length rows ≤ length (kept_of rows new lane) + 1
+kept_length rows None lane = omega arith
+kept_length rows (Some new) lane = by (new.lane == lane && new.has_dropped) rows
+  where
+    by : (b : Bool) (rows : List Numbered) → length rows ≤ length (if b then drop 1 rows else rows) + 1
+    by true [] = omega arith
+    by true (x ∷ xs) = omega arith
+    by false rows = omega arith
+
+-- fewer than were asked for are all
+take_whole : (n : ℕ) (rows : List Numbered) → length (take n rows) < n → take n rows ≡ rows
+take_whole zero rows few = absurd (omega arith)
+take_whole (suc n) [] few = refl
+take_whole (suc n) (x ∷ xs) few = ap (λ (l : List Numbered). x ∷ l) (take_whole n xs (omega arith))
+
+-- where the held rows don't all fit, what comes behind doesn't matter
+pub held_full : (w w' : Writer) (lane most : ℕ) (all rows kept : List Numbered) (new : Option NewRow) → 1 ≤ most → rows ≡ take most all
+    → kept ≡ kept_of rows new lane → Puts w (map (event_of 0 lane) kept) false w'
+    → Puts w (map (event_of 0 lane) (kept_of all new lane ++ more_of new lane)) false w'
+held_full w w' lane zero all rows kept new some is kept_is full = absurd (omega arith)
+held_full w w' lane (suc n) all rows kept new some is kept_is full =
+    let event : Numbered → Item = event_of 0 lane in
+    let rest : List Numbered = drop (suc n) all ++ more_of new lane in
+    let split : map event (kept_of all new lane ++ more_of new lane) ≡ map event kept ++ map event rest =
+    ap (λ (l : List Numbered). map event (l ++ more_of new lane)) (kept_begins n all new lane)
+    ∙ ap (map event) (append_assoc (kept_of (take (suc n) all) new lane) (drop (suc n) all) (more_of new lane))
+    ∙ ap (λ (l : List Numbered). map event (kept_of l new lane ++ rest)) (sym is)
+    ∙ ap (λ (l : List Numbered). map event (l ++ rest)) (sym kept_is)
+    ∙ map-append event kept rest
+    in
+    subst (λ (items : List Item). Puts w items false w') (sym split) (puts_none_more w w' (map event kept) (map event rest) full)
+
+-- where they do, they are all
+pub held_fits : (w v w' : Writer) (lane most : ℕ) (all rows kept : List Numbered) (new : Option NewRow) (fit : Bool) → 1024 ≤ most → rows ≡ take most all
+    → kept ≡ kept_of rows new lane → length kept ≤ 1022 → Puts w (map (event_of 0 lane) kept) true v
+    → Puts v (map (event_of 0 lane) (more_of new lane)) fit w'
+    → Puts w (map (event_of 0 lane) (kept_of all new lane ++ more_of new lane)) fit w'
+held_fits w v w' lane most all rows kept new fit many is kept_is few first second =
+    let event : Numbered → Item = event_of 0 lane in
+    let long : length (take most all) ≤ length kept + 1 =
+    subst (λ (l : List Numbered). length l ≤ length kept + 1) is
+    (subst (λ (l : List Numbered). length rows ≤ length l + 1) (sym kept_is) (kept_length rows new lane))
+    in
+    let whole : rows ≡ all = is ∙ take_whole most all (omega arith) in
+    let same : kept ≡ kept_of all new lane = kept_is ∙ ap (λ (l : List Numbered). kept_of l new lane) whole in
+    let split : map event (kept_of all new lane ++ more_of new lane) ≡ map event kept ++ map event (more_of new lane) =
+    ap (λ (l : List Numbered). map event (l ++ more_of new lane)) (sym same) ∙ map-append event kept (more_of new lane)
+    in
+    subst (λ (items : List Item). Puts w items fit w') (sym split) (puts_both w v w' (map event kept) (map event (more_of new lane)) fit first second)
+
+-- ---- the lanes after the append
+
+new_rows : (lane : LaneState) (x : Numbered) (full : Bool) → is_full lane ≡ full
+    → (put_in lane x).rows ≡ (if full then drop 1 lane.rows else lane.rows) ++ x ∷ []
+new_rows lane x true is = ap (λ (b : Bool). (if b then moved_on lane x else added_in lane x).rows) is
+new_rows lane x false is = ap (λ (b : Bool). (if b then moved_on lane x else added_in lane x).rows) is
+
+pub rows_then : (s : Stock) (made : Option LaneRow) (lane : ℕ) → length s.lanes ≡ 9 → lane < 9
+    → (lane_at (with_rows s (option_to_list made)) lane).rows ≡ kept_of (lane_at s lane).rows (new_of s made) lane ++ more_of (new_of s made) lane
+rows_then s None lane nine low = sym (append-nil (lane_at s lane).rows)
+rows_then s (Some x) lane nine low = elim (cases_eq (lane_number x.lane) lane) [
+  | inl same ↦ here same
+  | inr other ↦ elsewhere other
+]
+  where
+    row : Numbered
+    row = record { id = s.last_id + 1; row = x.row }
+
+    rows : List Numbered
+    rows = (lane_at s lane).rows
+
+    split : Bool → Bool → List Numbered
+    split same full = (if same && full then drop 1 rows else rows) ++ (if same then row ∷ [] else [])
+
+    here : lane_number x.lane ≡ lane → (lane_at (with_row s x) lane).rows
+        ≡ split (lane_number x.lane == lane) (is_full (lane_at s (lane_number x.lane)))
+    here same =
+        let test : (lane_number x.lane == lane) ≡ true = eq-eqb (lane_number x.lane) lane same in
+        let put_there : LaneState = put_in (lane_at s (lane_number x.lane)) row in
+        let short : lane < length s.lanes = omega arith in
+        ap (λ (n : ℕ). (get_or (set s.lanes n put_there) lane no_lane).rows) same
+        ∙ ap (λ (l : LaneState). l.rows) (get_or-set_same s.lanes lane put_there no_lane short)
+        ∙ ap (λ (n : ℕ). (put_in (lane_at s n) row).rows) same
+        ∙ new_rows (lane_at s lane) row (is_full (lane_at s lane)) refl
+        ∙ ap (λ (n : ℕ). split true (is_full (lane_at s n))) (sym same)
+        ∙ ap (λ (b : Bool). split b (is_full (lane_at s (lane_number x.lane)))) (sym test)
+
+    elsewhere : (lane_number x.lane ≡ lane → ⊥) → (lane_at (with_row s x) lane).rows
+        ≡ split (lane_number x.lane == lane) (is_full (lane_at s (lane_number x.lane)))
+    elsewhere other =
+        let test : (lane_number x.lane == lane) ≡ false = ne_eqb (lane_number x.lane) lane other in
+        ap (λ (l : LaneState). l.rows) (get_or-set_other s.lanes (lane_number x.lane) lane (put_in (lane_at s (lane_number x.lane)) row) no_lane (λ e. other (sym e)))
+        ∙ sym (append-nil rows)
+        ∙ ap (λ (b : Bool). split b (is_full (lane_at s (lane_number x.lane)))) (sym test)
+
+-- its last row is the new one
+last_new : (xs : List Numbered) (x : Numbered) → last_of (xs ++ x ∷ []) ≡ x.id
+last_new xs x = last_is (xs ++ x ∷ []) ∙ behind 0 xs
+  where
+    behind : (low : ℕ) (ys : List Numbered) → last_or low (ys ++ x ∷ []) ≡ x.id
+    behind low [] = refl
+    behind low (y ∷ ys) = behind y.id ys
+
+pub last_then : (s : Stock) (x : LaneRow) → length s.lanes ≡ 9 → lane_number x.lane < 9
+    → last_of (lane_at (with_rows s (x ∷ [])) (lane_number x.lane)).rows ≡ s.last_id + 1
+last_then s x nine low =
+    let lane : ℕ = lane_number x.lane in
+    let row : Numbered = record { id = s.last_id + 1; row = x.row } in
+    let short : lane < length s.lanes = omega arith in
+    let full : Bool = is_full (lane_at s lane) in
+    ap (λ (l : LaneState). last_of l.rows) (get_or-set_same s.lanes lane (put_in (lane_at s lane) row) no_lane short)
+    ∙ ap last_of (new_rows (lane_at s lane) row full refl)
+    ∙ last_new (if full then drop 1 (lane_at s lane).rows else (lane_at s lane).rows) row
+
+-- a full lane drops a row
+pub dropped_then : (s : Stock) (x : LaneRow) (rows : List Row) → IsSound s → lane_number x.lane < 9 → rows ≡ dropped_by s (x ∷ [])
+    → nat_lt 0 (length rows) ≡ is_full (lane_at s (lane_number x.lane))
+dropped_then s x rows sound low is =
+    ap (λ (l : List Row). nat_lt 0 (length l)) is ∙ by (lane_at s (lane_number x.lane)) (is_full (lane_at s (lane_number x.lane))) refl
+    (sound.each (lane_number x.lane) low).takes_one
+  where
+    some : (lane : LaneState) → 1 ≤ lane.capacity → nat_le lane.capacity (length lane.rows) ≡ true → (l : List Numbered) → l ≡ lane.rows
+        → nat_lt 0 (length (map row_of (take 1 l) ++ [])) ≡ true
+    some lane one full [] none =
+        let many : lane.capacity ≤ length lane.rows = leb-true lane.capacity (length lane.rows) full in
+        let empty : 0 ≡ length lane.rows = ap length none in
+        absurd (omega arith)
+    some lane one full (y ∷ ys) more = refl
+
+    by : (lane : LaneState) (full : Bool) → is_full lane ≡ full → 1 ≤ lane.capacity
+        → nat_lt 0 (length ((if full then map row_of (take 1 lane.rows) else []) ++ [])) ≡ full
+    by lane true is_so one = some lane one is_so lane.rows refl
+    by lane false is_so one = refl

@@ -1,0 +1,31 @@
+use Rattle.std.proofs.Common.{rules, ◌≡◌, refl, ap, sym, subst, ◌∙◌}
+use Rattle.dnp_eventbuf.specs.Stock.{Stock}
+use Rattle.dnp_outstation.specs.Connection.{at_end}
+use Rattle.dnp_outstation.specs.Pushing.{is_ready, ended_by}
+use Rattle.dnp_outstation.specs.State.{Core, State, Step, Actions, still}
+use Rattle.dnp_outstation.specs.Station.{state_of}
+use Rattle.dnp_outstation.proofs.outstation_core.OutstationCore.end_only.Goals as goal
+
+pub returns-clause-ended : goal.returns-clause-ended
+returns-clause-ended g c = λ honest p.
+    let old = g.L.Lanes.contents c.args.lanes.now in
+    let new = g.L.Lanes.contents c.end_call.new.lanes in
+    let now = c.args.now in
+    let core : Core = record {
+      is_open = c.self.inside.is_open;
+      session = c.self.inside.session;
+      restart = c.self.inside.restart;
+      enabled = c.self.inside.enabled;
+      announced = c.self.inside.announced;
+      points = c.self.inside.points;
+      times = c.self.inside.times;
+    } in
+    let s : State = state_of core new p in
+    let written = subst (λ l. g.L.Lanes.honest l) c.end_call.ensures.same honest in
+    let lanes_is : new ≡ old = ap g.L.Lanes.contents c.end_call.ensures.same ∙ c.in_ok-starts.ensures.look.same written in
+    let w = c.write_ending.new.writer in
+    ap (λ (l : Stock). at_end now (still (state_of c.args.self.now l p))) (sym lanes_is)
+    ∙ ap (λ (k : Core). at_end now (still (state_of k new p))) (sym c.self.view_is)
+    ∙ c.in_ok-starts.ensures.ends written now (still s) lanes_is refl (c.is_ready-is_due.ensures ∙ ap is_ready (sym c.self.view_is))
+    ∙ ap (λ (d : Actions). let x : Step = record { state = s; does = d } in ended_by w c.in_ok-starts.starts now x) (sym c.set_nothing.ensures.value)
+    ∙ c.end_call.ensures.ended honest s now refl refl refl c.deadline.ensures

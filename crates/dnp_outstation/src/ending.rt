@@ -1,0 +1,114 @@
+//! The end of a call: where one is due, an unsolicited response is sent after what the call has sent so far.
+
+ghost use Rattle.std.specs.Prelude.{◌≡◌, ◌≤◌, ℕ, All, length, false, IsTrue, IfOk, OnOk, OnErr};
+ghost use Rattle.dnp_appfragment.specs.declared.function.Function.TheVariants as function;
+ghost use Rattle.dnp_controls.specs.Panel.{Panel};
+ghost use Rattle.dnp_controls.specs.Selecting.{deadline};
+ghost use Rattle.dnp_outstation.specs.Answering.{KeepsWhole};
+ghost use Rattle.dnp_outstation.specs.Connection.{at_end};
+ghost use Rattle.dnp_outstation.specs.Filling.{after_release};
+ghost use Rattle.dnp_outstation.specs.Pushing.{is_ready, ended_by};
+ghost use Rattle.dnp_outstation.specs.Putting.{IsLook};
+ghost use Rattle.dnp_outstation.specs.State.{State, Step, still, with_session};
+ghost use Rattle.dnp_outstation.specs.Station.{state_of, actions_of, HasRoom};
+
+use crate::actions::Actions;
+use crate::connection::deadline;
+use crate::offer::enabled::put_enabled;
+use crate::offer::writer::Writer;
+use crate::outstation_core::OutstationCore;
+use crate::released::has_enabled_rows;
+use crate::session::Session;
+use dnp_eventbuf::{Lanes, StoreFault, Upto};
+use std::alloc::Global;
+
+/// Writes the unsolicited response that a call ends with, if it ends with one, as the lanes will be once these
+/// rows are released; answers whether it does. `is_due` says whether the outstation will be ready for one.
+pub(crate) fn write_ending<L: Lanes>(
+    writer: &mut Writer,
+    alloc: Global,
+    lanes: &mut L,
+    is_due: bool,
+    enabled: [bool; 3],
+    released: &Option<Upto>,
+) -> Result<bool, StoreFault>
+    ensures ends { L.honest lanes.new → IfOk result (λ starts. (now : ℕ) (step : Step) → step.state.lanes ≡ after_release (L.contents lanes.old) released.now
+        → step.state.core.enabled ≡ enabled → is_due ≡ is_ready step.state.core → at_end now step ≡ ended_by writer.new starts now step) }
+    ensures response { IfOk result (λ starts. IsTrue starts → writer.new.builder.function ≡ function.UnsolicitedResponse) }
+    ensures look { IsLook L.honest L.is_stopped L.contents L.beside L.asks_memory lanes.old lanes.new result }
+{
+    if !is_due || !has_enabled_rows(lanes, enabled, released) {
+        return Ok(false);
+    }
+    writer.restart_unsolicited();
+    let _is_last = put_enabled(writer, alloc, lanes, enabled, released)?;
+    Ok(true)
+}
+
+impl Session {
+    /// The end of a call: the unsolicited response that stands in the writer begins, if the call ends with
+    /// one. Its confirm is awaited until `ends`.
+    pub(crate) fn end_call<L: Lanes>(
+        &mut self,
+        actions: &mut Actions,
+        writer: &mut Writer,
+        lanes: &mut L,
+        starts: bool,
+        restart: bool,
+        ends: u64,
+    )
+        requires response { IsTrue starts → writer.old.builder.function ≡ function.UnsolicitedResponse }
+        requires room { HasRoom actions.old }
+        ensures same { lanes.new ≡ lanes.old }
+        ensures ended { L.honest lanes.new → (s : State) (now : ℕ) → s.lanes ≡ L.contents lanes.new → s.core.restart ≡ restart
+            → s.core.session ≡ self.old → ends ≡ deadline now s.core.times.confirm_ms
+            → ended_by writer.old starts now (record { state = s; does = actions_of actions.old })
+            ≡ record { state = with_session s self.new; does = actions_of actions.new } }
+        ensures whole { All (λ fragment. 4 ≤ length fragment) (actions_of actions.old).send → All (λ fragment. 4 ≤ length fragment) (actions_of actions.new).send }
+        ensures keeps { KeepsWhole self.old → KeepsWhole self.new }
+    {
+        if starts {
+            self.start(writer, lanes, restart, ends);
+            actions.push(self.unsolicited_response.octets());
+        }
+    }
+}
+
+impl OutstationCore {
+    /// Whether it is ready to send an unsolicited response, once it has rows for one.
+    pub(crate) fn is_ready(&self) -> bool
+        ensures { result ≡ is_ready self.now }
+    {
+        self.times.unsolicited && self.announced && self.quiet()
+    }
+
+    /// Nothing is done but what each call ends with.
+    pub(crate) fn end_only<L: Lanes>(
+        &mut self,
+        actions: &mut Actions,
+        alloc: Global,
+        lanes: &mut L,
+        now: u64,
+    ) -> Result<(), StoreFault>
+        ensures look { IsLook L.honest L.is_stopped L.contents L.beside L.asks_memory lanes.old lanes.new result }
+        ensures ended { L.honest lanes.new → OnOk result ((p : Panel) → at_end now (still (state_of self.old (L.contents lanes.old) p))
+            ≡ record { state = state_of self.new (L.contents lanes.new) p; does = actions_of actions.new }) }
+        ensures whole { OnOk result (All (λ fragment. 4 ≤ length fragment) (actions_of actions.new).send) }
+        ensures unchanged { OnErr result (self.new ≡ self.old) }
+        ensures actions_unchanged { OnErr result (actions.new ≡ actions.old) }
+    {
+        let is_due = self.is_ready();
+        let enabled = self.enabled;
+        let starts = write_ending(&mut self.pushes, alloc, lanes, is_due, enabled, &None)?;
+        actions.set_nothing(alloc);
+        self.session.end_call(
+            actions,
+            &mut self.pushes,
+            lanes,
+            starts,
+            self.restart,
+            deadline(now, self.times.confirm_ms),
+        );
+        Ok(())
+    }
+}
