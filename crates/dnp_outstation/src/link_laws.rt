@@ -9,6 +9,7 @@ ghost use Rattle.dnp_appfragment.specs.Control.{ControlBits};
 ghost use Rattle.dnp_appfragment.specs.Headers.{Head};
 ghost use Rattle.dnp_appfragment.specs.Table.{function_octet};
 ghost use Rattle.dnp_pointdb.specs.declared.reading.Reading.{Reading};
+ghost use Rattle.dnp_pointdb.specs.Sound as points;
 ghost use Rattle.dnp_controls.specs.Panel.{Panel};
 ghost use Rattle.dnp_controls.specs.Selecting.{Select, deadline};
 ghost use Rattle.dnp_eventbuf.specs.Sound.{IsSound};
@@ -19,7 +20,7 @@ ghost use Rattle.dnp_outstation.specs.declared.session.Awaited.{Awaited};
 ghost use Rattle.dnp_outstation.specs.declared.session.LastRequest.{LastRequest};
 ghost use Rattle.dnp_outstation.specs.declared.session.Reply.TheVariants as reply;
 ghost use Rattle.dnp_outstation.specs.declared.session.Unsolicited.{Unsolicited};
-ghost use Rattle.dnp_outstation.specs.Items.{no_ids, items_left};
+ghost use Rattle.dnp_outstation.specs.Items.{Source, no_ids, items_left};
 ghost use Rattle.dnp_outstation.specs.Offer.{pushed};
 ghost use Rattle.dnp_outstation.specs.Laws.{IsTidy};
 ghost use Rattle.dnp_outstation.specs.Said.{rows_said, AreWritable, HaveIndexes};
@@ -33,6 +34,7 @@ ghost use Rattle.dnp_outstation.specs.Calls.{connection_after, tick_of, change_o
 use dnp_controls::laws::an_operate_is_answered_by_its_select;
 use dnp_objects::Command;
 use dnp_objects::laws::parts_are_covered;
+use dnp_pointdb::laws::readings_fit_their_static_objects;
 
 /// The octets of each fragment are read as a response with its control octet, and report the rows of the
 /// lanes up to its ids: the first fragment of an answer, at once or to a READ that was held, a further one where
@@ -58,6 +60,15 @@ pub fn fragments_report_the_rows_up_to_their_ids()
         → Reports s.lanes (unsolicited_of s (plain 0 []))
         (record { fir = true; fin = true; con = true; uns = true; seq = s.core.session.next }) no_ids }
 {}
+
+/// What a READ may give can be written where the points are sound, outputs show octets at indexes of 16 bits, and
+/// so have the rows of the lanes.
+pub fn what_is_sound_can_be_written()
+    ensures { (s : Source) → points.IsSound s.points → s.panel.outputs ≤ 2 ^ 16
+        → ((index : ℕ) → index < s.panel.outputs → s.panel.status index < 2 ^ 8) → HaveIndexes s.lanes → AreWritable s }
+{
+    readings_fit_their_static_objects();
+}
 
 /// Rows whose index has 16 bits stay so, whatever is released, emptied or appended like them.
 pub fn indexes_keep_their_bits()
