@@ -1,5 +1,5 @@
 -- Present values can be written: those of sound points, and the statuses that outputs show.
-use Rattle.std.proofs.Common.{◌≡◌, Bool, true, false, if◌then◌else◌, refl, ℕ, zero, suc, ◌+◌, ◌<◌, ◌≤◌, ◌^◌, ◌==◌, List, [], ◌∷◌, ◌++◌, length, arith}
+use Rattle.std.proofs.Common.{◌≡◌, Bool, true, false, if◌then◌else◌, refl, ℕ, zero, suc, ◌+◌, ◌<◌, ◌≤◌, ◌^◌, ◌==◌, List, [], ◌∷◌, length, arith}
 use Rattle.std.specs.List.{All}
 use Rattle.std.proofs.lemmas.List.Elements.{All-append, All-cons, All-head, All-nil, All-tail}
 use Rattle.dnp_objects.specs.declared.row.Kind.{Kind}
@@ -13,7 +13,7 @@ use Rattle.dnp_pointdb.specs.Database.{blocks_of}
 use Rattle.dnp_pointdb.specs.Events.{row_of}
 use Rattle.dnp_pointdb.specs.Ranges.{is_carried}
 use Rattle.dnp_pointdb.specs.Sound.{IsSound, IsSoundBlock, IsSoundPoint, static_object}
-use Rattle.dnp_outstation.specs.Items.{Source, Static, statics_from, statics_in, output_row, outputs_from, statics_of}
+use Rattle.dnp_outstation.specs.Items.{Source, Static, statics_from, statics_in, output_row, outputs_from}
 use Rattle.dnp_outstation.specs.Putting.{group_of}
 use Rattle.dnp_outstation.specs.Said.{AreWritable, HaveIndexes}
 use Rattle.dnp_outstation.proofs.OfferPresent.{point_fits, output_fits}
