@@ -31,6 +31,7 @@ ghost use Rattle.dnp_outstation.specs.Controls.{content_at};
 ghost use Rattle.dnp_outstation.specs.Connection.{has_rows, control_for, control_in, fragment_of, function_in, unsolicited_of, case_of, is_last_request, waiting, replied, discarding, starts, at_end, solicited_timer, closed};
 ghost use Rattle.dnp_outstation.specs.Calls.{connection_after, tick_of, change_of, opened_of, restart_of};
 
+use dnp_appfragment::laws::octets_say_a_request;
 use dnp_controls::laws::an_operate_is_answered_by_its_select;
 use dnp_objects::Command;
 use dnp_objects::laws::parts_are_covered;
@@ -59,7 +60,9 @@ pub fn fragments_report_the_rows_up_to_their_ids()
     ensures first_unsolicited { (s : State) → IsSound s.lanes → s.core.session.next < 16
         → Reports s.lanes (unsolicited_of s (plain 0 []))
         (record { fir = true; fin = true; con = true; uns = true; seq = s.core.session.next }) no_ids }
-{}
+{
+    octets_say_a_request();
+}
 
 /// What a READ may give can be written where the points are sound, outputs show octets at indexes of 16 bits, and
 /// so have the rows of the lanes.
