@@ -73,7 +73,8 @@ request_function (control ∷ code ∷ body) asked is = go (function_at false (f
         → (r >>= λ (f : Function). headers_at (form_of f) (looked_at (form_of f) body) >>= λ (hs : List Head).
         Ok (record { control = control_of control; function = f; headers = hs })) ≡ Ok asked
         → function_octet asked.function ≡ code
-    go (Ok f) found same = headers f (function_has code f (function_from false (function_of code) f found)) (headers_at (form_of f) (looked_at (form_of f) body)) same
+    go (Ok f) found same =
+        headers f (function_has code f (function_from false (function_of code) f found)) (headers_at (form_of f) (looked_at (form_of f) body)) same
     go (Err fault) found same = cc
 
 -- ---- requests but controls
