@@ -1,5 +1,5 @@
 -- What a request makes of an outstation: the connection and the lanes stay, and the answer is that of a READ or plain.
-use Rattle.std.proofs.Common.{◌≡◌, Bool, true, false, if◌then◌else◌, refl, ◌∙◌, subst, ℕ, ◌<◌, ◌^◌, ◌==◌, nat_lt, List, [], ◌∷◌, ◌++◌, length, arith, Option, None, Some, IfSome, IsSome, Result, Ok, Err, eqb-true}
+use Rattle.std.proofs.Common.{◌≡◌, Bool, true, false, if◌then◌else◌, refl, ◌∙◌, subst, ℕ, ◌<◌, ◌^◌, ◌↔◌, ◌==◌, nat_lt, List, [], ◌∷◌, ◌++◌, length, arith, Option, None, Some, IfSome, IsSome, Result, Ok, Err, eqb-true}
 use Rattle.std.specs.Prelude.{⊤}
 use Rattle.std.specs.List.{All, list_all}
 use Rattle.dnp_appfragment.specs.declared.fault.AppFault.{AppFault}
@@ -14,8 +14,6 @@ use Rattle.dnp_objects.specs.Objects.{objects, content_of as object_content}
 use Rattle.dnp_objects.specs.declared.command.Command.{Command}
 use Rattle.dnp_appfragment.specs.Meaning.{request_at}
 use Rattle.std.proofs.Math.ListN.{length-set}
-use Rattle.dnp_appfragment.proofs.Numbers.{octets_all}
-use Rattle.dnp_appfragment.proofs.Requests.{ReadsRequest, request_reads}
 use Rattle.dnp_controls.specs.Panel.{Panel}
 use Rattle.dnp_controls.specs.Selecting.{Select}
 use Rattle.dnp_outstation.specs.Items.{first_place, last_in, is_inside}
@@ -72,19 +70,23 @@ no_headers = record { stand = tt; none = refl }
 pub delay_alone : HoldNoEvents (no_delay ∷ [])
 delay_alone = record { stand = (delay_header, tt); none = refl }
 
-repeated_fine : (octets : List ℕ) → All (λ octet. octet < 2 ^ 8) octets → (asked : Asked) → request_at octets ≡ Ok asked
+-- octets are read as the request that they are
+abbrev pub RequestsAreRead : Type 0
+RequestsAreRead = (octets : List ℕ) (asked : Asked) → All (λ octet. octet < 2 ^ 8) octets → (request_at octets ≡ Ok asked) ↔ IsRequest octets asked
+
+repeated_fine : RequestsAreRead → (octets : List ℕ) → All (λ octet. octet < 2 ^ 8) octets → (asked : Asked) → request_at octets ≡ Ok asked
     → form_of asked.function ≡ form.Command → (code : Command → ℕ) → HoldNoEvents (headers_with code asked.headers)
-repeated_fine octets are asked is command code =
-    let request : IsRequest octets asked = subst (ReadsRequest octets) is (request_reads octets (octets_all octets are)) in
+repeated_fine reads octets are asked is command code =
+    let request : IsRequest octets asked = (reads octets asked are).0 is in
     let stand : AreHeaders form.Command begin asked.headers =
     subst (λ (f : Form). AreHeaders f begin asked.headers) command request.headers.each in
     record { stand = headers_stand code asked.headers stand; none = headers_silent code asked.headers stand }
 
-pub no_events_fine : (octets : List ℕ) → All (λ octet. octet < 2 ^ 8) octets → IsFine HoldNoEvents octets
-no_events_fine octets are = record {
+pub no_events_fine : RequestsAreRead → (octets : List ℕ) → All (λ octet. octet < 2 ^ 8) octets → IsFine HoldNoEvents octets
+no_events_fine reads octets are = record {
   none = no_headers;
   delay = delay_alone;
-  repeats = repeated_fine octets are;
+  repeats = repeated_fine reads octets are;
 }
 
 -- ---- requests but controls

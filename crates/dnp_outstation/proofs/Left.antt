@@ -245,7 +245,7 @@ released_leaves s others given ids leaves = record {
 }
 
 -- an emptied lane has no row
-no_row : (s : Stock) (P : Numbered → Type 0) (lane : ℕ) → All P (lane_at (without_all s) lane).rows
+pub no_row : (s : Stock) (P : Numbered → Type 0) (lane : ℕ) → All P (lane_at (without_all s) lane).rows
 no_row s P lane = by (cases_lt lane (length s.lanes))
   where
     by : (lane < length s.lanes) ⊎ (length s.lanes ≤ lane) → All P (lane_at (without_all s) lane).rows

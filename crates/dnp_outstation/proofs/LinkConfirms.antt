@@ -39,7 +39,7 @@ pub record KeptAtEnd (old new : Step) : Type 0 where
   pub performed : new.state.performed ≡ old.state.performed
   pub discarded : new.does.discarded ≡ old.does.discarded
 
-pub starts_kept : (step : Step) (now : ℕ) (content : Content) → KeptAtEnd step (starts step now content)
+starts_kept : (step : Step) (now : ℕ) (content : Content) → KeptAtEnd step (starts step now content)
 starts_kept step now content = record {
   restart = refl;
   enabled = refl;
@@ -55,7 +55,7 @@ starts_kept step now content = record {
   discarded = refl;
 }
 
-pub same_kept : (step : Step) → KeptAtEnd step step
+same_kept : (step : Step) → KeptAtEnd step step
 same_kept step = record {
   restart = refl;
   enabled = refl;

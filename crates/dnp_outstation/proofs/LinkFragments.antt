@@ -34,7 +34,7 @@ use Rattle.dnp_outstation.specs.State.{State}
 use Rattle.dnp_outstation.specs.Content.{Content, plain, content_from, content_of, read_content, source_of, indications}
 use Rattle.dnp_outstation.specs.Controls.{content_at}
 use Rattle.dnp_outstation.specs.Connection.{has_rows, control_for, fragment_of, unsolicited_of}
-use Rattle.dnp_outstation.proofs.ContentOf.{IsContent, HoldNoEvents, no_headers, delay_alone, no_events_fine, content_answered, content_done}
+use Rattle.dnp_outstation.proofs.ContentOf.{IsContent, HoldNoEvents, no_headers, delay_alone, RequestsAreRead, no_events_fine, content_answered, content_done}
 use Rattle.dnp_outstation.proofs.ContentOf.IsContent.{Reads, Plain}
 use Rattle.dnp_outstation.proofs.Rising.{last_or, upto}
 use Rattle.dnp_outstation.proofs.ByLanes.{IsLow}
@@ -186,12 +186,12 @@ first_reports s after o seq content sound writable small made =
 abbrev Made : State → Panel → Option Content → Type 0
 Made s o c = IfSome c (IsContent HoldNoEvents s o)
 
-pub answer_reports : (s after : State) (o : Panel) (now : ℕ) (octets : List ℕ) (seq : ℕ) (content : Content) → IsSound s.lanes
+pub answer_reports : RequestsAreRead → (s after : State) (o : Panel) (now : ℕ) (octets : List ℕ) (seq : ℕ) (content : Content) → IsSound s.lanes
     → AreWritable (source_of s o) → All (λ octet. octet < 2 ^ 8) octets → seq < 16 → (content_at s o now octets).content ≡ Some content
     → Reports s.lanes (fragment_of after true seq content) (control_for true seq content) content.upto
-answer_reports s after o now octets seq content sound writable are small is =
+answer_reports reads s after o now octets seq content sound writable are small is =
     first_reports s after o seq content sound writable small
-    (subst (Made s o) is (content_done HoldNoEvents s o now octets (no_events_fine octets are)).content)
+    (subst (Made s o) is (content_done HoldNoEvents s o now octets (no_events_fine reads octets are)).content)
 
 pub held_reports : (s after : State) (o : Panel) (octets : List ℕ) (seq : ℕ) (content : Content) → IsSound s.lanes
     → AreWritable (source_of s o) → seq < 16 → (content_of s o octets).content ≡ Some content

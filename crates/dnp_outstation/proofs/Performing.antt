@@ -1,5 +1,5 @@
 -- What a request performs: commands of its own, by its function and its select.
-use Rattle.std.proofs.Common.{◌≡◌, ◌≢◌, ◌⊎◌, inl, inr, Bool, true, false, if◌then◌else◌, refl, sym, ◌∙◌, ap, subst, ℕ, ◌≤◌, ◌==◌, ◌↔◌, nat_lt, List, [], ◌∷◌, ◌++◌, length, filter, arith, Option, None, Some, IfSome, Result, Ok, Err, eqb-true}
+use Rattle.std.proofs.Common.{cond, find, ◌≡◌, ◌≢◌, ◌⊎◌, inl, inr, Bool, true, false, if◌then◌else◌, refl, sym, ◌∙◌, ap, subst, ℕ, ◌≤◌, ◌==◌, ◌↔◌, nat_lt, List, [], ◌∷◌, ◌++◌, length, filter, arith, Option, None, Some, Result, Ok, Err, eqb-true}
 use Rattle.std.specs.Prelude.{⊤}
 use Rattle.std.specs.List.{list_all}
 use Rattle.std.proofs.lemmas.Bool.{ltb-false}
@@ -16,8 +16,7 @@ use Rattle.dnp_appfragment.specs.Fragments.{Asked, looked_at}
 use Rattle.dnp_appfragment.specs.Headers.{Head}
 use Rattle.dnp_appfragment.specs.Meaning.{control_of, function_at, request_at}
 use Rattle.dnp_appfragment.specs.Reading.{◌>>=◌, headers_at}
-use Rattle.dnp_appfragment.specs.Table.{function_octet, function_of, form_of, is_response}
-use Rattle.dnp_appfragment.proofs.Functions.{function_found}
+use Rattle.dnp_appfragment.specs.Table.{codes, function_octet, function_of, form_of, is_response}
 use Rattle.dnp_controls.specs.Panel.{Panel, accepted}
 use Rattle.dnp_controls.specs.Selecting.{Select, GoesWith, IsRunning, answer}
 use Rattle.dnp_outstation.specs.Items.{first_place, last_in, is_inside}
@@ -29,6 +28,19 @@ use Rattle.dnp_outstation.specs.Links.{performs, asked_commands, commands_asked,
 use Rattle.dnp_outstation.proofs.ContentOf.{outcome_in}
 
 -- ---- the function of a request
+
+-- what is found passes
+found_passes : {A : Type 0} (test : A → Bool) (xs : List A) (x : A) → find test xs ≡ Some x → test x ≡ true
+found_passes test [] x found = cc
+found_passes {A} test (y ∷ ys) x found = here (test y) refl (found_passes test ys x) found
+  where
+    here : (b : Bool) → test y ≡ b → (find test ys ≡ Some x → test x ≡ true) → cond b (Some y) (find test ys) ≡ Some x → test x ≡ true
+    here true passes behind same = let one : y ≡ x = cc in subst (λ (z : A). test z ≡ true) one passes
+    here false passes behind same = behind same
+
+function_has : (code : ℕ) (f : Function) → function_of code ≡ Some f → function_octet f ≡ code
+unfolding function_of
+function_has code f found = eqb-true (function_octet f) code (found_passes (λ (g : Function). function_octet g == code) codes f found)
 
 function_from : (response : Bool) (o : Option Function) (f : Function) → function_at response o ≡ Ok f → o ≡ Some f
 function_from response None f is = cc
@@ -43,15 +55,12 @@ function_from false (Some g) f is = by (is_response g) is
     by true is = cc
     by false is = cc
 
-pub request_function : (octets : List ℕ) (asked : Asked) → request_at octets ≡ Ok asked → function_octet asked.function ≡ function_in octets
+request_function : (octets : List ℕ) (asked : Asked) → request_at octets ≡ Ok asked → function_octet asked.function ≡ function_in octets
 unfolding request_at
 request_function [] asked is = cc
 request_function (control ∷ []) asked is = cc
 request_function (control ∷ code ∷ body) asked is = go (function_at false (function_of code)) refl is
   where
-    has : (f : Function) → function_of code ≡ Some f → function_octet f ≡ code
-    has f found = subst (λ (o : Option Function). IfSome o (λ g. function_octet g ≡ code)) found (function_found code)
-
     headers : (f : Function) → function_octet f ≡ code → (r : Result (List Head) AppFault)
         → (r >>= λ (hs : List Head). Ok (record { control = control_of control; function = f; headers = hs })) ≡ Ok asked
         → function_octet asked.function ≡ code
@@ -64,7 +73,8 @@ request_function (control ∷ code ∷ body) asked is = go (function_at false (f
         → (r >>= λ (f : Function). headers_at (form_of f) (looked_at (form_of f) body) >>= λ (hs : List Head).
         Ok (record { control = control_of control; function = f; headers = hs })) ≡ Ok asked
         → function_octet asked.function ≡ code
-    go (Ok f) found same = headers f (has f (function_from false (function_of code) f found)) (headers_at (form_of f) (looked_at (form_of f) body)) same
+    go (Ok f) found same =
+        headers f (function_has code f (function_from false (function_of code) f found)) (headers_at (form_of f) (looked_at (form_of f) body)) same
     go (Err fault) found same = cc
 
 -- ---- requests but controls

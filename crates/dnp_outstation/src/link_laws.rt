@@ -9,17 +9,18 @@ ghost use Rattle.dnp_appfragment.specs.Control.{ControlBits};
 ghost use Rattle.dnp_appfragment.specs.Headers.{Head};
 ghost use Rattle.dnp_appfragment.specs.Table.{function_octet};
 ghost use Rattle.dnp_pointdb.specs.declared.reading.Reading.{Reading};
+ghost use Rattle.dnp_pointdb.specs.Sound as points;
 ghost use Rattle.dnp_controls.specs.Panel.{Panel};
 ghost use Rattle.dnp_controls.specs.Selecting.{Select, deadline};
 ghost use Rattle.dnp_eventbuf.specs.Sound.{IsSound};
-ghost use Rattle.dnp_eventbuf.specs.Stock.{Stock};
+ghost use Rattle.dnp_eventbuf.specs.Stock.{Stock, with_rows, without, without_all};
 ghost use Rattle.dnp_outstation.specs.declared.case.Case.TheVariants as case;
 ghost use Rattle.dnp_outstation.specs.declared.offer.place.Place.{Place};
 ghost use Rattle.dnp_outstation.specs.declared.session.Awaited.{Awaited};
 ghost use Rattle.dnp_outstation.specs.declared.session.LastRequest.{LastRequest};
 ghost use Rattle.dnp_outstation.specs.declared.session.Reply.TheVariants as reply;
 ghost use Rattle.dnp_outstation.specs.declared.session.Unsolicited.{Unsolicited};
-ghost use Rattle.dnp_outstation.specs.Items.{no_ids, items_left};
+ghost use Rattle.dnp_outstation.specs.Items.{Source, no_ids, items_left};
 ghost use Rattle.dnp_outstation.specs.Offer.{pushed};
 ghost use Rattle.dnp_outstation.specs.Laws.{IsTidy};
 ghost use Rattle.dnp_outstation.specs.Said.{rows_said, AreWritable, HaveIndexes};
@@ -30,9 +31,11 @@ ghost use Rattle.dnp_outstation.specs.Controls.{content_at};
 ghost use Rattle.dnp_outstation.specs.Connection.{has_rows, control_for, control_in, fragment_of, function_in, unsolicited_of, case_of, is_last_request, waiting, replied, discarding, starts, at_end, solicited_timer, closed};
 ghost use Rattle.dnp_outstation.specs.Calls.{connection_after, tick_of, change_of, opened_of, restart_of};
 
+use dnp_appfragment::laws::octets_say_a_request;
 use dnp_controls::laws::an_operate_is_answered_by_its_select;
 use dnp_objects::Command;
 use dnp_objects::laws::parts_are_covered;
+use dnp_pointdb::laws::readings_fit_their_static_objects;
 
 /// The octets of each fragment are read as a response with its control octet, and report the rows of the
 /// lanes up to its ids: the first fragment of an answer, at once or to a READ that was held, a further one where
@@ -57,6 +60,25 @@ pub fn fragments_report_the_rows_up_to_their_ids()
     ensures first_unsolicited { (s : State) → IsSound s.lanes → s.core.session.next < 16
         → Reports s.lanes (unsolicited_of s (plain 0 []))
         (record { fir = true; fin = true; con = true; uns = true; seq = s.core.session.next }) no_ids }
+{
+    octets_say_a_request();
+}
+
+/// What a READ may give can be written where the points are sound, outputs show octets at indexes of 16 bits, and
+/// so have the rows of the lanes.
+pub fn what_is_sound_can_be_written()
+    ensures { (s : Source) → points.IsSound s.points → s.panel.outputs ≤ 2 ^ 16
+        → ((index : ℕ) → index < s.panel.outputs → s.panel.status index < 2 ^ 8) → HaveIndexes s.lanes → AreWritable s }
+{
+    readings_fit_their_static_objects();
+}
+
+/// Rows whose index has 16 bits stay so, whatever is released, emptied or appended like them.
+pub fn indexes_keep_their_bits()
+    ensures released { (s : Stock) (upto : List ℕ) → HaveIndexes s → HaveIndexes (without s upto) }
+    ensures emptied { (s : Stock) → HaveIndexes (without_all s) }
+    ensures appended { (s : Stock) (rows : List LaneRow) → All (λ x. x.row.index < 2 ^ 16) rows → HaveIndexes s
+        → HaveIndexes (with_rows s rows) }
 {}
 
 /// A fragment that asks for no confirm reports no rows. Where a READ has no item left, the fragment is the

@@ -2,7 +2,7 @@ use Rattle.dnp_outstation.proofs.LinkFragments.{answer_reports, held_reports, fu
 use Rattle.dnp_outstation.proofs.link_laws.fragments_report_the_rows_up_to_their_ids.Goals as goal
 
 pub returns-clause-answer : goal.returns-clause-answer
-returns-clause-answer c = answer_reports
+returns-clause-answer c = answer_reports c.octets_say_a_request.ensures.request
 
 pub returns-clause-held : goal.returns-clause-held
 returns-clause-held c = held_reports
