@@ -1,7 +1,8 @@
 -- The headers of a control request, and the same with other statuses: they have as many octets, and stand in a response too.
-use Rattle.std.proofs.Common.{◌≡◌, refl, sym, ap, subst, ◌∙◌, ℕ, zero, suc, ◌+◌, ◌-◌, ◌*◌, ◌/◌, ◌<◌, ◌≤◌, Bool, true, false, not, IsTrue, cond, ◌==◌, ◌&&◌, ◌||◌, List, [], ◌∷◌, ◌++◌, length, take, drop, find, eqb-true, Option, None, Some, Result, Ok, Err, IsErr, OnOk, arith, append_assoc, append-nil, zero-add, length-append, length-take, length-drop}
+use Rattle.std.proofs.Common.{◌≡◌, refl, sym, ap, subst, ◌∙◌, ℕ, zero, suc, ◌+◌, ◌-◌, ◌*◌, ◌/◌, ◌<◌, ◌≤◌, Bool, true, false, not, IsTrue, cond, ◌==◌, ◌&&◌, ◌||◌, List, [], ◌∷◌, ◌++◌, length, take, drop, find, eqb-true, Option, None, Some, Result, Ok, Err, IsErr, OnOk, arith, append_assoc, append-nil, length-append, length-take, length-drop}
 use Rattle.std.specs.Option.{option_map, IsSomeAnd}
 use Rattle.std.specs.List.{flat_map, list_all, range_with_len}
+use Rattle.std.proofs.lemmas.List.{drop-drop}
 use Rattle.std.proofs.Math.Nat.{mul-div_cancel_left, mul-le-mul_right}
 use Rattle.std.proofs.lemmas.Bool.{and_parts}
 use Rattle.dnp_objects.specs.Objects.{objects, content_of}
@@ -233,19 +234,10 @@ longer_by k each before after object given some long after_is before_long =
     let all : length after ≡ length (before ++ with_status object given) = ap (λ (xs : List ℕ). length xs) after_is in
     omega (arith, same, sum, all, long, before_long)
 
-drop_none : (n : ℕ) → drop {A = ℕ} n [] ≡ []
-drop_none zero = refl
-drop_none (suc n) = refl
-
-drop_again : (n m : ℕ) (xs : List ℕ) → drop n (drop m xs) ≡ drop (m + n) xs
-drop_again n zero xs = ap (λ k. drop k xs) (sym (zero-add n))
-drop_again n (suc m) [] = drop_none n ∙ sym (drop_none (suc m + n))
-drop_again n (suc m) (x ∷ xs) = let place : suc m + n ≡ suc (m + n) = omega arith in rw place (drop_again n m xs)
-
 pub cut_again : (k each : ℕ) (octets rest behind : List ℕ) → rest ≡ drop (k * each) octets → behind ≡ drop each rest → behind ≡ drop ((k + 1) * each) octets
 cut_again k each octets rest behind left back =
     let place : (k + 1) * each ≡ k * each + each = omega arith in
-    rw (back, left, place) (drop_again each (k * each) octets)
+    rw (back, left, place) (drop-drop each (k * each) octets)
 
 -- ---- the headers, one after another
 

@@ -98,7 +98,8 @@ module _ {Outputs : Type 0} (honest : Outputs → Type 0) (is_stopped : Outputs 
     idle = λ _. same;
     asks = λ fault. cc;
     performed = λ _ _ some. absurd (some none);
-    listed = λ _ _. ap (λ o. (panel o).performed) same ∙ sym (append-nil (panel old).performed) ∙ ap (λ (cs : List Command). (panel old).performed ++ cs) (sym none);
+    listed = λ _ _. ap (λ o. (panel o).performed) same ∙ sym (append-nil (panel old).performed)
+        ∙ ap (λ (cs : List Command). (panel old).performed ++ cs) (sym none);
     not_exhausted = λ _ _ some. absurd (some none);
     unchanged = λ _. tt;
     exhausted = λ h is. cc;

@@ -1,6 +1,6 @@
 //! Control requests.
 
-ghost use Rattle.std.specs.Prelude.{◌≡◌, ◌<◌, ◌≤◌, ℕ, List, [], length, Option, None, Err, if◌then◌else◌, Some, IfOk, IfErr, IfSome, OnErr, is_none};
+ghost use Rattle.std.specs.Prelude.{◌≡◌, ◌<◌, ◌≤◌, ℕ, [], length, Option, None, Err, if◌then◌else◌, Some, IfOk, IfErr, IfSome, OnErr, is_none};
 ghost use Rattle.std.specs.Option.{option_map};
 ghost use Rattle.std.specs.Result.{result_err};
 ghost use Rattle.dnp_appfragment.specs.declared.function.Function.TheVariants as function;
@@ -12,10 +12,8 @@ ghost use Rattle.dnp_controls.specs.Panel.{Panel, accepted};
 ghost use Rattle.dnp_controls.specs.Selecting.{Select};
 ghost use Rattle.dnp_outstation.specs.Answering.{content_by};
 ghost use Rattle.dnp_outstation.specs.Connection.{function_in};
-ghost use Rattle.dnp_outstation.specs.Content.{Executed};
 ghost use Rattle.dnp_outstation.specs.Controls.{commands_in, outcome_of, come_to, outcome_at, with_select, is_silent, is_control, control_content, performs_of, performed_by};
 ghost use Rattle.dnp_outstation.specs.Deciding.{select_by, select_for, select_in, bits_in, headers_in};
-ghost use Rattle.dnp_outstation.specs.Filling.{empty_from};
 ghost use Rattle.dnp_outstation.specs.Items.{no_ids};
 ghost use Rattle.dnp_outstation.specs.Performing.{IsPerforming};
 ghost use Rattle.dnp_outstation.specs.State.{State};

@@ -15,7 +15,8 @@ checks true o all few told is = cc
 checks false o all few told is = ap (λ (cs : List Command). list_all (λ c. o.check c == status.success) cs) is
 
 -- too many are one at least, which isn't answered SUCCESS
-too_many : (b : Bool) (most code : ℕ) (o : Panel) (all : List Command) → nat_lt most (length all) ≡ b → Alike code ≡ (if b then Alike status.too_many_objs else Checked)
+too_many : (b : Bool) (most code : ℕ) (o : Panel) (all : List Command) → nat_lt most (length all) ≡ b
+    → Alike code ≡ (if b then Alike status.too_many_objs else Checked)
     → false ≡ list_all (λ c. (if b then alike status.too_many_objs else o.check) c == status.success) all
 too_many true most code o [] is told = let less : most < 0 = ltb-true most 0 is in absurd (omega (arith, less))
 too_many true most code o (c ∷ cs) is told = refl
@@ -23,10 +24,10 @@ too_many false most code o all is told = cc
 
 pub returns-in-Checked : goal.returns-in-Checked
 returns-in-Checked g c = λ all told few.
-    c.are_accepted.ensures ∙ checks (nat_lt (g.O.Outputs.panel c.args.outputs.now).most (length all)) (g.O.Outputs.panel c.args.outputs.now) all c.args.commands.now
-    (sym c.in-Checked.is ∙ told) few
+    let o = g.O.Outputs.panel c.args.outputs.now in
+    c.are_accepted.ensures ∙ checks (nat_lt o.most (length all)) o all c.args.commands.now (sym c.in-Checked.is ∙ told) few
 
 pub returns-in-Alike : goal.returns-in-Alike
 returns-in-Alike g c = λ all told few.
-    too_many (nat_lt (g.O.Outputs.panel c.args.outputs.now).most (length all)) (g.O.Outputs.panel c.args.outputs.now).most _ (g.O.Outputs.panel c.args.outputs.now) all refl
-    (sym c.in-Alike.is ∙ told)
+    let o = g.O.Outputs.panel c.args.outputs.now in
+    too_many (nat_lt o.most (length all)) o.most _ o all refl (sym c.in-Alike.is ∙ told)

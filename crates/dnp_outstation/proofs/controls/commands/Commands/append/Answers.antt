@@ -22,7 +22,8 @@ loop-k-preserved c =
     let less : c.loop-k.k < count_of h.range = omega (arith, c.loop-k.invariant.end, c.loop-k-test.true) in
     elim c.match-command.branch [
       | in-Some+else-len-most w ↦
-          let is : command_at h c.loop-k.k ≡ Some w.in-Some.command = ap (λ (o : Option (Command × ℕ)). option_map (λ x. x.0) o) (sym w.in-Some.ensures.value) in
+          let is : command_at h c.loop-k.k ≡ Some w.in-Some.command =
+          ap (λ (o : Option (Command × ℕ)). option_map (λ x. x.0) o) (sym w.in-Some.ensures.value) in
           let put = one_put h c.loop-k.k (count_of h.range) c.loop-k.self _ w.in-Some.command less is c.loop-k.invariant.all in
           let sum = length-append c.loop-k.self (w.in-Some.command ∷ []) in
           record {
@@ -31,7 +32,8 @@ loop-k-preserved c =
             few = rw (w.self-is, w.push.ensures) (omega (arith, sum, w.len.ensures, w.if-len-most.false, c.loop-k.invariant.few));
           }
       | in_default w ↦
-          let is : command_at h c.loop-k.k ≡ None = ap (λ (o : Option (Command × ℕ)). option_map (λ x. x.0) o) (sym c.command.ensures.value ∙ w.in_default.is) in
+          let is : command_at h c.loop-k.k ≡ None =
+          ap (λ (o : Option (Command × ℕ)). option_map (λ x. x.0) o) (sym c.command.ensures.value ∙ w.in_default.is) in
           record {
             end = c.loop-k.invariant.end;
             all = rw w.self-is (none_put h c.loop-k.k (count_of h.range) c.loop-k.self _ less is c.loop-k.invariant.all);
