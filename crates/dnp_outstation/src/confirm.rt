@@ -185,8 +185,7 @@ impl OutstationCore {
             awaited.seq.next(),
             ends,
         );
-        self.session
-            .end_call(actions, &mut self.pushes, lanes, starts, self.restart, ends);
+        self.session.end_call(actions, &mut self.pushes, lanes, starts, self.restart, ends);
         Ok(())
     }
 }

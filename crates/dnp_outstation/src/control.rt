@@ -22,18 +22,10 @@ use crate::outstation_core::OutstationCore;
 use crate::released::last_left;
 use crate::sequence::SequenceNumber;
 use crate::session::Session;
-use dnp_appfragment::{Control, Function};
+use dnp_appfragment::Control;
 use dnp_controls::Outputs;
 use dnp_eventbuf::{Lanes, StoreFault};
 use std::alloc::Global;
-
-/// Whether these octets are a request of SELECT, OPERATE, DIRECT_OPERATE or DIRECT_OPERATE_NR.
-pub(crate) fn is_control(octets: &[u8]) -> bool
-    requires { 2 ≤ length octets.now }
-    ensures { result ≡ is_control octets.now }
-{
-    Function::Select.octet() <= octets[1] && octets[1] <= Function::DirectOperateNr.octet()
-}
 
 impl Session {
     /// A request is answered, under its number, by what stands in the writer, or by nothing. Its confirm, if
@@ -130,17 +122,8 @@ impl OutstationCore {
         self.session.take_request(octets);
         let seq = SequenceNumber::of(Control::read(octets[0]));
         let ends = deadline(now, self.times.confirm_ms);
-        self.session.reply(
-            actions,
-            alloc,
-            &mut self.writer,
-            lanes,
-            &answer,
-            seq,
-            ends,
-        );
-        self.session
-            .end_call(actions, &mut self.pushes, lanes, starts, self.restart, ends);
+        self.session.reply(actions, alloc, &mut self.writer, lanes, &answer, seq, ends);
+        self.session.end_call(actions, &mut self.pushes, lanes, starts, self.restart, ends);
         Ok(())
     }
 }

@@ -80,8 +80,7 @@ impl OutstationCore {
         self.session.reset();
         actions.set_nothing(alloc);
         let ends = deadline(now, self.times.confirm_ms);
-        self.session
-            .end_call(actions, &mut self.pushes, lanes, starts, self.restart, ends);
+        self.session.end_call(actions, &mut self.pushes, lanes, starts, self.restart, ends);
         Ok(())
     }
 
@@ -160,8 +159,7 @@ impl OutstationCore {
             .session
             .time_unsolicited(now, self.times.confirm_ms, self.times.retries);
         self.obey(actions, alloc, timer);
-        self.session
-            .end_call(actions, &mut self.pushes, lanes, starts, self.restart, ends);
+        self.session.end_call(actions, &mut self.pushes, lanes, starts, self.restart, ends);
         Ok(())
     }
 }

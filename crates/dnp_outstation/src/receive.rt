@@ -8,7 +8,7 @@ ghost use Rattle.dnp_outstation.specs.Station.{state_of, actions_of, MayAsk};
 
 use crate::actions::Actions;
 use crate::case::Case;
-use crate::control::is_control;
+use crate::controls::is_control;
 use crate::outstation_core::OutstationCore;
 use dnp_controls::Outputs;
 use dnp_eventbuf::{Lanes, StoreFault};

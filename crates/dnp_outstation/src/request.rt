@@ -17,7 +17,6 @@ use crate::connection::deadline;
 use crate::ending::write_ending;
 use crate::execute::execute;
 use crate::outstation_core::OutstationCore;
-use crate::sending::asks_confirm;
 use crate::sequence::SequenceNumber;
 use dnp_appfragment::Control;
 use dnp_controls::Outputs;
@@ -63,7 +62,7 @@ impl OutstationCore {
             switches,
             octets,
         )?;
-        let free = !asks_confirm(&self.writer, &answer) && self.session.unsolicited.is_none();
+        let free = self.session.is_free_sent(&self.writer, &answer);
         let is_due = self.is_due(self.announced, self.is_open, free);
         let enabled = answer.switches.enabled;
         let starts = write_ending(&mut self.pushes, alloc, lanes, is_due, enabled, &None)?;
@@ -80,8 +79,7 @@ impl OutstationCore {
         );
         actions.set_sending(alloc, self.session.response.octets());
         actions.time = answer.time;
-        self.session
-            .end_call(actions, &mut self.pushes, lanes, starts, self.restart, ends);
+        self.session.end_call(actions, &mut self.pushes, lanes, starts, self.restart, ends);
         Ok(())
     }
 
@@ -115,8 +113,7 @@ impl OutstationCore {
         let ends = deadline(now, self.times.confirm_ms);
         self.session.await_again(awaits, seq, &first.upto, ends);
         actions.set_sending(alloc, self.session.response.octets());
-        self.session
-            .end_call(actions, &mut self.pushes, lanes, starts, self.restart, ends);
+        self.session.end_call(actions, &mut self.pushes, lanes, starts, self.restart, ends);
         Ok(())
     }
 

@@ -1,6 +1,6 @@
 //! Sends the fragments of responses.
 
-ghost use Rattle.std.specs.Prelude.{◌≡◌, ◌<◌, ◌≤◌, ℕ, All, length, false, if◌then◌else◌, is_none, None, Some};
+ghost use Rattle.std.specs.Prelude.{◌≡◌, ◌<◌, ◌≤◌, ℕ, All, length, false, not, ◌&&◌, if◌then◌else◌, is_none, None, Some};
 ghost use Rattle.dnp_appfragment.specs.declared.function.Function.TheVariants as function;
 ghost use Rattle.dnp_controls.specs.Selecting.{deadline};
 ghost use Rattle.dnp_outstation.specs.Answering.{content_by, sent_by, KeepsWhole};
@@ -127,6 +127,13 @@ fn awaited_for(asks_confirm: bool, seq: SequenceNumber, upto: &Upto, ends: u64) 
 }
 
 impl Session {
+    /// Whether no confirm is awaited once what stands in the writer was sent.
+    pub(crate) fn is_free_sent(&self, writer: &Writer, answer: &Answer) -> bool
+        ensures { result ≡ (not (asks_confirm (content_by writer.now answer.now)) && is_none self.now.unsolicited) }
+    {
+        !asks_confirm(writer, answer) && self.unsolicited.is_none()
+    }
+
     /// What stands in the writer is sent as the first fragment of the response to the last request. Its
     /// confirm, if it asks for one, is awaited until `ends`.
     pub(crate) fn respond<L: Lanes>(

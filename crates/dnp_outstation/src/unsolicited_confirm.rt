@@ -183,17 +183,9 @@ impl OutstationCore {
         self.restart = after.restart;
         self.enabled = enabled;
         let ends = deadline(now, self.times.confirm_ms);
-        self.session.answer_held(
-            actions,
-            alloc,
-            rows,
-            &mut self.writer,
-            lanes,
-            &held,
-            ends,
-        );
         self.session
-            .end_call(actions, &mut self.pushes, lanes, starts, self.restart, ends);
+            .answer_held(actions, alloc, rows, &mut self.writer, lanes, &held, ends);
+        self.session.end_call(actions, &mut self.pushes, lanes, starts, self.restart, ends);
         Ok(())
     }
 }
