@@ -1,6 +1,6 @@
 //! What a connection remembers of what came and of what was sent.
 
-ghost use Rattle.std.specs.Prelude.{◌≡◌, ◌≤◌, length, None, IsSome};
+ghost use Rattle.std.specs.Prelude.{◌≡◌, ◌≤◌, length, ◌&&◌, is_none, None, IsSome};
 ghost use Rattle.dnp_controls.specs.Selecting.{deadline};
 ghost use Rattle.dnp_outstation.specs.Answering.{KeepsWhole, first_in};
 ghost use Rattle.dnp_outstation.specs.State.{new_session, holds_read};
@@ -87,6 +87,13 @@ impl Session {
                 Reply::Held | Reply::Silent | Reply::Further => None,
             },
         }
+    }
+
+    /// Whether the confirm of this first fragment is awaited again where it is sent again.
+    pub fn awaits_again(&self, first: &FirstFragment) -> bool
+        ensures { result ≡ (first.now.is_awaited && is_none self.now.unsolicited) }
+    {
+        first.is_awaited && self.unsolicited.is_none()
     }
 
     /// Whether a READ waits.

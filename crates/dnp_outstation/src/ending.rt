@@ -1,6 +1,6 @@
 //! The end of a call: where one is due, an unsolicited response is sent after what the call has sent so far.
 
-ghost use Rattle.std.specs.Prelude.{◌≡◌, ◌≤◌, ℕ, All, length, true, false, IsTrue, IsErr, IfOk, OnOk, OnErr};
+ghost use Rattle.std.specs.Prelude.{◌≡◌, ◌≤◌, ℕ, All, length, not, ◌&&◌, true, false, IsTrue, IsErr, IfOk, OnOk, OnErr};
 ghost use Rattle.dnp_appfragment.specs.declared.function.Function.TheVariants as function;
 ghost use Rattle.dnp_controls.specs.Panel.{Panel};
 ghost use Rattle.dnp_controls.specs.Selecting.{deadline};
@@ -83,6 +83,14 @@ impl OutstationCore {
         ensures on { IsTrue result → self.now.times.unsolicited ≡ true }
     {
         self.times.unsolicited && self.announced && self.quiet()
+    }
+
+    /// Whether it is ready for one, unless it awaits a confirm again.
+    pub(crate) fn is_ready_unless(&self, awaits: bool) -> bool
+        ensures value { result ≡ (not awaits && is_ready self.now) }
+        ensures on { IsTrue result → self.now.times.unsolicited ≡ true }
+    {
+        !awaits && self.is_ready()
     }
 
     /// Whether it is ready for one where it is announced, open and free as said.

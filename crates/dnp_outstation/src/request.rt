@@ -105,8 +105,8 @@ impl OutstationCore {
         let Some(first) = self.session.first() else {
             return self.end_only(actions, alloc, lanes, now);
         };
-        let awaits = first.is_awaited && self.session.unsolicited.is_none();
-        let is_due = !awaits && self.is_ready();
+        let awaits = self.session.awaits_again(&first);
+        let is_due = self.is_ready_unless(awaits);
         let enabled = self.enabled;
         let starts = write_ending(&mut self.pushes, alloc, lanes, is_due, enabled, &None)?;
         let seq = SequenceNumber::of(Control::read(octets[0]));

@@ -172,6 +172,7 @@ impl Session {
     /// The first fragment is sent again, and its confirm, where it is awaited again, until `ends`.
     pub(crate) fn await_again(&mut self, awaits: bool, seq: SequenceNumber, upto: &Upto, ends: u64)
         ensures value { self.new ≡ (if awaits then record self.old { awaited = Some (record { seq = seq; upto = upto.now; ends = ends }) } else self.old) }
+        ensures response { self.new.response ≡ self.old.response }
         ensures keeps { KeepsWhole self.old → KeepsWhole self.new }
     {
         if awaits {
