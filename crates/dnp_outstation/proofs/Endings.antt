@@ -1,5 +1,5 @@
 -- The end of a call, by what is known before it.
-use Rattle.std.proofs.Common.{◌≡◌, ℕ, Bool, true, false, not, ◌&&◌, if◌then◌else◌, is_none, List, Option, None, Some, refl, sym, ap, ◌∙◌}
+use Rattle.std.proofs.Common.{◌≡◌, ℕ, Bool, true, false, not, ◌&&◌, if◌then◌else◌, is_none, List, Option, None, Some, IfSome, refl, sym, ap, ◌∙◌}
 use Rattle.std.proofs.lemmas.Bool.{and_parts}
 use Rattle.dnp_controls.specs.Selecting.{deadline}
 use Rattle.dnp_outstation.specs.declared.session.Awaited.{Awaited}
@@ -8,7 +8,10 @@ use Rattle.dnp_outstation.specs.declared.session.LastRequest.{LastRequest}
 use Rattle.dnp_outstation.specs.declared.session.Reply.{Reply}
 use Rattle.dnp_outstation.specs.declared.session.Reply.TheVariants.{Held, Silent, First, Further}
 use Rattle.dnp_outstation.specs.declared.session.Session.{Session}
-use Rattle.dnp_outstation.specs.Answering.{first_in}
+use Rattle.dnp_outstation.specs.Answering.{first_in, goes_on_by, went_on}
+use Rattle.dnp_outstation.specs.declared.answer.Answer.{Answer}
+use Rattle.dnp_outstation.specs.declared.answer.Switches.{Switches}
+use Rattle.dnp_outstation.specs.declared.offer.writer.Writer.{Writer}
 use Rattle.dnp_outstation.specs.Calls.{with_that}
 use Rattle.dnp_outstation.specs.Content.{Content, content_from}
 use Rattle.dnp_outstation.specs.Connection.{asks_confirm, awaits, control_in, on_again, first_sent, starts, at_end, has_enabled_rows}
@@ -96,3 +99,15 @@ pub awaits_in_session : (s : State) (awaits : Bool) (w : Awaited)
     ≡ with_session s (if awaits then record s.core.session { awaited = Some w } else s.core.session)
 awaits_in_session s true w = refl
 awaits_in_session s false w = refl
+
+-- the session of a response that went on, if it did
+pub went_on_session : (s : State) (now seq : ℕ) (w : Writer) (next : Option Answer)
+    → (goes_on_by s now seq w next).state.core.session ≡ went_on s.core.session now s.core.times.confirm_ms seq w next
+went_on_session s now seq w None = refl
+went_on_session s now seq w (Some a) = refl
+
+-- what is switched on the way to a fragment
+pub restart_by : (x : Switches) (restart : Bool) (next : Option Answer) → restart ≡ x.restart → IfSome next (λ a. a.switches ≡ x)
+    → IfSome next (λ a. restart ≡ a.switches.restart)
+restart_by x restart None is all = tt
+restart_by x restart (Some a) is all = is ∙ ap (λ (y : Switches). y.restart) (sym all)

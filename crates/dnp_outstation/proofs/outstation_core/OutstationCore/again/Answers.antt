@@ -1,4 +1,5 @@
 use Rattle.std.proofs.Common.{rules, ◌≡◌, ◌&&◌, not, ℕ, Bool, Some, if◌then◌else◌, refl, ap, sym, subst, ◌∙◌}
+use Rattle.dnp_controls.specs.Selecting.{deadline}
 use Rattle.dnp_eventbuf.specs.Stock.{Stock}
 use Rattle.dnp_outstation.specs.declared.session.Awaited.{Awaited}
 use Rattle.dnp_outstation.specs.declared.session.Session.{Session}
@@ -43,8 +44,8 @@ returns-clause-answered g c = λ honest p.
     let step : Step = record { state = with_session s c.await_again.new.self; does = sending core.session.response } in
     let on : with_that s core.session.last (on_again s now octets) ≡ step =
     first_again s now octets core.session.last f (sym c.first.ensures.value ∙ c.in-Some.is)
-    ∙ ap (λ (b : Bool). awaiting s b _) (sym c.awaits_again-awaits.ensures)
-    ∙ ap (λ (n : ℕ). awaiting s awaits (record { seq = n; upto = f.upto; ends = _ })) seq_is
+    ∙ ap (λ (b : Bool). awaiting s b (record { seq = (control_in octets).seq; upto = f.upto; ends = deadline now core.times.confirm_ms })) (sym c.awaits_again-awaits.ensures)
+    ∙ ap (λ (n : ℕ). awaiting s awaits (record { seq = n; upto = f.upto; ends = deadline now core.times.confirm_ms })) seq_is
     ∙ ap (λ (n : ℕ). awaiting s awaits (record { seq = c.of-seq.result; upto = f.upto; ends = n })) (sym c.deadline-ends.ensures)
     ∙ ap (λ (t : State). let x : Step = record { state = t; does = sending core.session.response } in x) session_is in
     let ready =
