@@ -1,6 +1,6 @@
 //! The confirm of an unsolicited response: its rows leave, and a READ that waited for it is answered.
 
-ghost use Rattle.std.specs.Prelude.{All, ◌≤◌, length, ◌≡◌, ◌≢◌, ℕ, [], true, false, IfOk, IfSome, OnOk, OnErr, IsTrue, Err};
+ghost use Rattle.std.specs.Prelude.{All, ◌<◌, ◌≤◌, length, ◌≡◌, ◌≢◌, ℕ, [], true, false, IfOk, IfSome, OnOk, OnErr, IsTrue, None, Err};
 ghost use Rattle.dnp_appfragment.specs.declared.function.Function.TheVariants as function;
 ghost use Rattle.dnp_controls.specs.Panel.{Panel};
 ghost use Rattle.dnp_controls.specs.Selecting.{deadline};
@@ -9,7 +9,8 @@ ghost use Rattle.dnp_outstation.specs.Answering.{answers_held_by, switched_by, K
 ghost use Rattle.dnp_outstation.specs.Calls.{with_that};
 ghost use Rattle.dnp_outstation.specs.Connection.{control_in, answers_held, on_unsolicited_confirm, at_end};
 ghost use Rattle.dnp_outstation.specs.Filling.{after_release};
-ghost use Rattle.dnp_outstation.specs.State.{State, with_session, is_free, holds_read};
+ghost use Rattle.dnp_outstation.specs.Items.{last_in};
+ghost use Rattle.dnp_outstation.specs.State.{State, with_session, is_free};
 ghost use Rattle.dnp_outstation.specs.Station.{state_of, actions_of, HasRoom};
 
 use crate::actions::Actions;
@@ -46,6 +47,7 @@ fn write_held<L: Lanes, O: Outputs>(
     ensures written { L.honest lanes.new → IfOk result (λ held. (s : State) (now : ℕ) → s.core.points ≡ points.now → s.core.restart ≡ switches.restart → s.core.enabled ≡ switches.enabled
         → s.core.session.request ≡ session.now.request → s.lanes ≡ after_release (L.contents lanes.old) released.now
         → answers_held s (O.panel outputs.now) now session.now.last ≡ answers_held_by s now writer.new held) }
+    ensures stood { L.honest lanes.new → IfOk result (λ held. IfSome held (λ a. a.stood ≡ last_in (after_release (L.contents lanes.old) released.now))) }
     ensures small { IfOk result (λ held. IfSome held (λ a. a.bits < 8)) }
     ensures response { IfOk result (λ held. IfSome held (λ a. writer.new.builder.function ≡ function.Response)) }
     ensures device { result ≡ Err StoreFault.Device → IsTrue (L.is_stopped lanes.new) }
@@ -90,7 +92,7 @@ impl Session {
         requires small { IfSome held.now (λ a. a.bits < 8) }
         ensures same { lanes.new ≡ lanes.old }
         ensures answers { L.honest lanes.new → (s : State) (now : ℕ) → s.lanes ≡ L.contents lanes.new
-            → IfSome held.now (λ a. (s.core.restart ≡ a.switches.restart) × (s.core.enabled ≡ a.switches.enabled))
+            → IfSome held.now (λ a. (s.core.restart ≡ a.switches.restart) × ((s.core.enabled ≡ a.switches.enabled) × (a.stood ≡ last_in s.lanes)))
             → s.core.session ≡ record self.old { unsolicited = None } → ends ≡ deadline now s.core.times.confirm_ms
             → answers_held_by s now writer.old held.now
             ≡ record { state = with_session s self.new; does = record (actions_of actions.new) { discarded = [] } } }
@@ -114,7 +116,7 @@ impl Session {
     /// Whether no confirm is awaited and no READ is held once the unsolicited response was confirmed, and the
     /// READ that waited, if one did, was answered.
     fn is_free_without(&self, writer: &Writer, held: &Option<Answer>) -> bool
-        ensures { (s : State) (now : ℕ) → s.core.session ≡ record self.now { unsolicited = None } → (held.now ≡ None → holds_read self.now.last ≡ false)
+        ensures { (s : State) (now : ℕ) → s.core.session ≡ record self.now { unsolicited = None }
             → result ≡ is_free (answers_held_by s now writer.now held.now).state.core }
     {
         match held {

@@ -1,11 +1,12 @@
-use Rattle.std.proofs.Common.{rules, ◌≡◌, ℕ, ◌+◌, ◌%◌, Option, refl, ap, sym, subst, ◌∙◌}
-use Rattle.dnp_eventbuf.specs.Stock.{Stock, without, all_up_to}
+use Rattle.std.proofs.Common.{rules, ◌≡◌, ℕ, ◌+◌, ◌%◌, [], Option, refl, ap, sym, subst, ◌∙◌}
+use Rattle.dnp_eventbuf.specs.Stock.{Stock, without, all_up_to, rows_in}
 use Rattle.dnp_outstation.specs.declared.answer.Switches.{Switches}
 use Rattle.dnp_outstation.specs.declared.session.Awaited.{Awaited}
 use Rattle.dnp_outstation.specs.Calls.{with_that}
 use Rattle.dnp_outstation.specs.Connection.{at_end, confirmed, goes_on, on_confirm}
 use Rattle.dnp_outstation.specs.State.{Core, State, Step, nothing, with_session}
 use Rattle.dnp_outstation.specs.Station.{state_of, actions_of}
+use Rattle.dnp_outstation.proofs.NoRows.{released_is_there}
 use Rattle.dnp_outstation.proofs.Endings.{went_on_session, restart_by}
 use Rattle.dnp_outstation.proofs.Steps.{confirmed_step}
 use Rattle.dnp_outstation.proofs.outstation_core.OutstationCore.confirm.Goals as goal
@@ -57,3 +58,11 @@ returns-clause-confirmed g c = λ honest p.
     ∙ ap (at_end now) (confirmed_step s o now w (confirmed core.session) new sent c.of-rows.result (actions_of c.go_on.new.actions) refl lanes_is goes rows_is c.go_on.ensures.discarded)
     ∙ c.in_ok-starts.ensures.ends written now step lanes_here refl (c.is_due-is_due.ensures.value step.state.core refl refl refl free)
     ∙ c.end_call.ensures.ended honest step.state now refl refl refl c.deadline-ends.ensures
+
+pub returns-in_err-release-clause-memory : goal.returns-in_err-release-clause-memory
+returns-in_err-release-clause-memory g c = λ honest failed asks none.
+    let written = c.in_err-release.ensures.call.held honest in
+    let read = c.in_ok-starts.ensures.look.held written in
+    let empty : rows_in (g.L.Lanes.contents c.write_ending.new.lanes) ≡ [] =
+    ap rows_in (c.in_ok-starts.ensures.look.same written ∙ c.in_ok-next.ensures.same read) ∙ none in
+    released_is_there (g.L.Lanes.contents c.write_ending.new.lanes) c.in-Some.awaited.upto (c.in_err-release.ensures.memory (search rules) asks) empty

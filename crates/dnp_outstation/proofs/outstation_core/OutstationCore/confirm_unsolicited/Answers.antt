@@ -1,0 +1,81 @@
+use Rattle.std.proofs.Common.{rules, ◌≡◌, ℕ, true, List, [], Option, None, Some, IfSome, refl, ap, sym, subst, ◌∙◌}
+use Rattle.dnp_objects.specs.declared.row.Row.{Row}
+use Rattle.dnp_eventbuf.specs.Stock.{Stock, without, all_up_to, rows_in}
+use Rattle.dnp_outstation.specs.declared.answer.Switches.{Switches}
+use Rattle.dnp_outstation.specs.declared.session.Unsolicited.{Unsolicited}
+use Rattle.dnp_outstation.specs.Answering.{answers_held_by, switched_by}
+use Rattle.dnp_outstation.specs.Calls.{with_that}
+use Rattle.dnp_outstation.specs.Connection.{at_end, answers_held, discarding, on_unsolicited_confirm}
+use Rattle.dnp_outstation.specs.Items.{last_in}
+use Rattle.dnp_outstation.specs.State.{Core, State, Step, Actions, with_session, is_free}
+use Rattle.dnp_outstation.specs.Station.{state_of, actions_of}
+use Rattle.dnp_outstation.proofs.HeldRead.{with_switches, held_switched, held_stands}
+use Rattle.dnp_outstation.proofs.NoRows.{released_is_there}
+use Rattle.dnp_outstation.proofs.outstation_core.OutstationCore.confirm_unsolicited.Goals as goal
+
+pub returns-in_err-release-clause-memory : goal.returns-in_err-release-clause-memory
+returns-in_err-release-clause-memory g c = λ honest failed asks none.
+    let written = c.in_err-release.ensures.call.held honest in
+    let read = c.in_ok-starts.ensures.look.held written in
+    let empty : rows_in (g.L.Lanes.contents c.write_ending.new.lanes) ≡ [] =
+    ap rows_in (c.in_ok-starts.ensures.look.same written ∙ c.in_ok-held.ensures.same read) ∙ none in
+    released_is_there (g.L.Lanes.contents c.write_ending.new.lanes) c.in-Some.response.upto (c.in_err-release.ensures.memory (search rules) asks) empty
+
+pub returns-clause-confirmed : goal.returns-clause-confirmed
+returns-clause-confirmed g c = λ honest p.
+    let o = g.O.Outputs.panel c.args.outputs.now in
+    let old = g.L.Lanes.contents c.args.lanes.now in
+    let new = g.L.Lanes.contents c.end_call.new.lanes in
+    let now = c.args.now in
+    let w = c.in-Some.response in
+    let held = c.in_ok-held.held in
+    let writer = c.write_held.new.writer in
+    let core : Core = record {
+      is_open = c.self.inside.is_open;
+      session = c.self.inside.session;
+      restart = c.self.inside.restart;
+      enabled = c.self.inside.enabled;
+      announced = c.self.inside.announced;
+      points = c.self.inside.points;
+      times = c.self.inside.times;
+    } in
+    let s : State = state_of core old p in
+    let confirming = λ (k : Core). let t = state_of k old p in at_end now (with_that t t.core.session.unsolicited (on_unsolicited_confirm t o now)) in
+    let behind = λ (l : Stock). let x : State = record s { core = record core { announced = true; session = record core.session { unsolicited = None } }; lanes = l } in x in
+    let before = c.switches-before.result in
+    let after : State = with_switches (behind new) c.switched_by-after.result in
+    let gone = subst (λ l. g.L.Lanes.honest l) c.end_call.ensures.same honest in
+    let released = subst (λ l. g.L.Lanes.honest l) c.answer_held.ensures.same gone in
+    let written = c.in_ok-release.ensures.call.held released in
+    let read = c.in_ok-starts.ensures.look.held written in
+    let to_old = c.in_ok-starts.ensures.look.same written ∙ c.in_ok-held.ensures.same read in
+    let to_release = ap g.L.Lanes.contents (c.end_call.ensures.same ∙ c.answer_held.ensures.same) ∙ c.in_ok-release.ensures.released released in
+    let lanes_is : new ≡ without old w.upto = to_release ∙ ap (λ (t : Stock). without t w.upto) to_old in
+    let lanes_here : new ≡ without (g.L.Lanes.contents c.write_held.new.lanes) w.upto =
+    to_release ∙ ap (λ (t : Stock). without t w.upto) (c.in_ok-starts.ensures.look.same written) in
+    let rows_is : c.of-rows.result ≡ all_up_to old w.upto =
+    c.of-rows.ensures ∙ c.in_ok-release.ensures.taken released ∙ ap (λ (t : Stock). all_up_to t w.upto) to_old in
+    let before_is : before ≡ record { restart = core.restart; enabled = core.enabled } =
+    c.switches-before.ensures ∙ ap (λ (k : Core). let x : Switches = record { restart = k.restart; enabled = k.enabled } in x) (sym c.self.view_is) in
+    let read_by : answers_held (behind new) o now core.session.last ≡ answers_held_by (behind new) now writer held =
+    c.in_ok-held.ensures.written read (behind new) now refl (ap (λ (x : Switches). x.restart) (sym before_is))
+    (ap (λ (x : Switches). x.enabled) (sym before_is)) refl lanes_is in
+    let switched : answers_held_by (behind new) now writer held ≡ answers_held_by after now writer held =
+    held_switched (behind new) now writer held before (ap (with_switches (behind new)) before_is)
+    ∙ ap (λ (x : Switches). answers_held_by (with_switches (behind new) x) now writer held) (sym c.switched_by-after.ensures) in
+    let stood = subst (λ (n : ℕ). IfSome held (λ a. a.stood ≡ n)) (ap last_in (sym lanes_is)) (c.in_ok-held.ensures.stood read) in
+    let answers = c.answer_held.ensures.answers gone after now (ap g.L.Lanes.contents c.end_call.ensures.same)
+    (held_stands c.switched_by-after.result before held (last_in new) c.switched_by-after.ensures stood) refl c.deadline-ends.ensures in
+    let does : Actions = actions_of c.answer_held.new.actions in
+    let step : Step = record { state = with_session after c.answer_held.new.self; does = does } in
+    let on : on_unsolicited_confirm s o now w ≡ step =
+    ap (λ (l : Stock). discarding s w.upto (answers_held (behind l) o now core.session.last)) (sym lanes_is)
+    ∙ ap (discarding s w.upto) (read_by ∙ switched ∙ answers)
+    ∙ ap (λ (rows : List Row). let x : Step = record { state = step.state; does = record does { discarded = rows } } in x)
+    (sym (c.answer_held.ensures.discarded ∙ rows_is)) in
+    let free = ap (λ (x : Step). is_free x.state.core) (sym answers) ∙ sym (c.is_free_without-free.ensures after now refl) in
+    ap confirming (sym c.self.view_is)
+    ∙ ap (λ (x : Option Unsolicited). at_end now (with_that s x (on_unsolicited_confirm s o now))) c.in-Some.is
+    ∙ ap (at_end now) on
+    ∙ c.in_ok-starts.ensures.ends written now step lanes_here refl (c.is_due-is_due.ensures.value step.state.core refl refl refl free)
+    ∙ c.end_call.ensures.ended honest step.state now refl refl refl c.deadline-ends.ensures
