@@ -191,13 +191,14 @@ impl OutstationCore {
         let enabled = self.enabled;
         let starts = write_ending(&mut self.pushes, alloc, lanes, is_due, enabled, &None)?;
         let ends = deadline(now, self.times.confirm_ms);
-        self.is_open = self.session.pass_time(
+        let is_open = self.session.pass_time(
             actions,
             alloc,
             now,
             self.times.confirm_ms,
             self.times.retries,
         );
+        self.is_open = is_open;
         self.session.end_call(actions, &mut self.pushes, lanes, starts, self.restart, ends);
         Ok(())
     }
