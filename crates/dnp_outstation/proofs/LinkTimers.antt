@@ -135,7 +135,7 @@ timer_closes s now w is late enough =
 
 -- ---- a tick
 
-open_tick : (s : State) (now : ℕ) → s.core.is_open ≡ true
+pub open_tick : (s : State) (now : ℕ) → s.core.is_open ≡ true
     → tick_of s now ≡ at_end now (unsolicited_timer (record s { core = solicited_timer s.core now }) now)
 open_tick s now opened = rw opened refl
 

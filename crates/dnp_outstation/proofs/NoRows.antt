@@ -1,8 +1,10 @@
--- Lanes without rows offer none and release none.
-use Rattle.std.proofs.Common.{rules, ◌≡◌, ◌≢◌, ℕ, zero, suc, List, [], ◌∷◌, ◌++◌, map, filter, take, length, nat_lt, nat_le, slice_index_or, refl, ap, sym, ◌∙◌}
+-- Lanes without rows offer none, release none and drop none.
+use Rattle.std.proofs.Common.{rules, ◌≡◌, ◌≢◌, ℕ, zero, suc, Bool, true, false, if◌then◌else◌, Option, None, Some, option_to_list, List, [], ◌∷◌, ◌++◌, map, filter, take, length, nat_lt, nat_le, slice_index_or, refl, ap, sym, ◌∙◌}
+use Rattle.dnp_objects.specs.Lanes.{lane_number}
+use Rattle.dnp_objects.specs.declared.lane.LaneRow.{LaneRow}
 use Rattle.dnp_objects.specs.declared.row.Row.{Row}
 use Rattle.dnp_eventbuf.specs.declared.numbered.Numbered.{Numbered}
-use Rattle.dnp_eventbuf.specs.Stock.{Stock, LaneState, no_lane, lane_at, lane_rows, rows_in, row_of, offered, up_to, lanes_up_to, all_up_to}
+use Rattle.dnp_eventbuf.specs.Stock.{Stock, LaneState, no_lane, lane_at, is_full, dropped_from, dropped_by, lane_rows, rows_in, row_of, offered, up_to, lanes_up_to, all_up_to}
 
 -- two lists that are none together are none
 first_none : {A : Type 0} (xs ys : List A) → xs ++ ys ≡ [] → xs ≡ []
@@ -31,6 +33,20 @@ take_none (suc n) = refl
 pub none_offered : (s : Stock) (number after most : ℕ) → rows_in s ≡ [] → offered s number after most ≡ []
 none_offered s number after most none =
     ap (λ (rows : List Numbered). take most (filter (λ x. nat_lt after x.id) rows)) (none_in s.lanes number none) ∙ take_none most
+
+-- where there are no rows, none is dropped for one that comes
+dropped_none : (lane : LaneState) → lane.rows ≡ [] → dropped_from lane ≡ []
+dropped_none lane none = by (is_full lane) (ap (λ (rows : List Numbered). map row_of (take 1 rows)) none)
+  where
+    by : (b : Bool) → map row_of (take 1 lane.rows) ≡ [] → (if b then map row_of (take 1 lane.rows) else []) ≡ []
+    by true is = is
+    by false is = refl
+
+pub none_dropped : (s : Stock) (made : Option LaneRow) → rows_in s ≡ [] → dropped_by s (option_to_list made) ≡ []
+none_dropped s None none = refl
+none_dropped s (Some x) none =
+    let number = lane_number x.lane in
+    ap (λ (rows : List Row). rows ++ []) (dropped_none (lane_at s number) (none_in s.lanes number none))
 
 none_up_to : (lanes : List LaneState) (upto : List ℕ) → lane_rows lanes ≡ [] → lanes_up_to lanes upto ≡ []
 none_up_to [] upto none = refl

@@ -3,12 +3,13 @@
 ghost use Rattle.std.specs.Prelude.{◌≡◌, ◌≤◌, ℕ, All, length, true, false, IsTrue, IsErr, IfOk, OnOk, OnErr};
 ghost use Rattle.dnp_appfragment.specs.declared.function.Function.TheVariants as function;
 ghost use Rattle.dnp_outstation.specs.Calls.{opened_of, tick_of};
-ghost use Rattle.dnp_outstation.specs.Connection.{solicited_timer};
+ghost use Rattle.dnp_outstation.specs.Answering.{KeepsWhole};
+ghost use Rattle.dnp_outstation.specs.Connection.{solicited_timer, unsolicited_timer};
 ghost use Rattle.dnp_outstation.specs.Links.{begun};
 ghost use Rattle.dnp_outstation.specs.declared.unsolicited.AtTimer.TheVariants as at;
 ghost use Rattle.dnp_outstation.specs.Pushing.{ended_by, timed_by};
 ghost use Rattle.dnp_outstation.specs.Putting.{IsLook};
-ghost use Rattle.dnp_outstation.specs.State.{State, still, is_free};
+ghost use Rattle.dnp_outstation.specs.State.{Core, State, still, is_free};
 ghost use Rattle.dnp_outstation.specs.Station.{state_of, actions_of, HasRoom};
 
 use crate::actions::Actions;
@@ -16,6 +17,7 @@ use crate::connection::deadline;
 use crate::ending::write_ending;
 use crate::offer::writer::Writer;
 use crate::outstation_core::OutstationCore;
+use crate::session::Session;
 use crate::unsolicited::AtTimer;
 use dnp_controls::Outputs;
 use dnp_eventbuf::{Lanes, StoreFault};
@@ -41,7 +43,71 @@ fn write_opening<L: Lanes>(
         writer.restart_unsolicited();
         return Ok(true);
     }
-    write_ending(writer, alloc, lanes, is_on, enabled, &None)
+    let starts = write_ending(writer, alloc, lanes, is_on, enabled, &None)?;
+    Ok(starts)
+}
+
+impl Session {
+    /// Where the timer of an awaited confirm has ended, so has the waiting.
+    fn end_waiting(&mut self, now: u64)
+        ensures value { (c : Core) → c.session ≡ self.old → solicited_timer c now ≡ record c { session = self.new } }
+        ensures octets { self.new.unsolicited_response ≡ self.old.unsolicited_response }
+        ensures keeps { KeepsWhole self.old → KeepsWhole self.new }
+    {
+        if let Some(awaited) = &self.awaited {
+            if awaited.ends <= now {
+                self.awaited = None;
+            }
+        }
+    }
+
+    /// Does what the timer of an unsolicited response has come to; answers whether the connection stays open.
+    fn obey(&mut self, actions: &mut Actions, alloc: Global, timer: AtTimer) -> bool
+        ensures value { (s : State) → s.core.is_open ≡ true → timed_by s self.old timer
+            ≡ record { state = record s { core = record s.core { is_open = result; session = self.new } }; does = actions_of actions.new } }
+        ensures room { HasRoom actions.new }
+        ensures whole { (timer ≡ at.Repeats → 4 ≤ length self.old.unsolicited_response) → All (λ fragment. 4 ≤ length fragment) (actions_of actions.new).send }
+        ensures keeps { KeepsWhole self.old → KeepsWhole self.new }
+    {
+        match timer {
+            AtTimer::Waits => {
+                actions.set_nothing(alloc);
+                true
+            }
+            AtTimer::Repeats => {
+                actions.set_sending(alloc, self.unsolicited_response.octets());
+                true
+            }
+            AtTimer::Closes => {
+                self.reset();
+                actions.set_closing(alloc);
+                false
+            }
+        }
+    }
+
+    /// Time has passed in an open connection: what its timers come to is put into the actions, in place of what
+    /// was there. Answers whether the connection stays open.
+    fn pass_time(
+        &mut self,
+        actions: &mut Actions,
+        alloc: Global,
+        now: u64,
+        confirm_ms: u64,
+        retries: u8,
+    ) -> bool
+        ensures passed { (s : State) → s.core.session ≡ self.old → s.core.is_open ≡ true → s.core.times.confirm_ms ≡ confirm_ms → s.core.times.retries ≡ retries
+            → unsolicited_timer (record s { core = solicited_timer s.core now }) now
+            ≡ record { state = record s { core = record s.core { is_open = result; session = self.new } }; does = actions_of actions.new } }
+        ensures room { HasRoom actions.new }
+        ensures whole { (s : State) → s.core.session ≡ self.old → s.core.times.confirm_ms ≡ confirm_ms → s.core.times.retries ≡ retries
+            → KeepsWhole self.old → All (λ fragment. 4 ≤ length fragment) (actions_of actions.new).send }
+        ensures keeps { KeepsWhole self.old → KeepsWhole self.new }
+    {
+        self.end_waiting(now);
+        let timer = self.time_unsolicited(now, confirm_ms, retries);
+        self.obey(actions, alloc, timer)
+    }
 }
 
 impl OutstationCore {
@@ -84,17 +150,6 @@ impl OutstationCore {
         Ok(())
     }
 
-    /// Where the timer of an awaited confirm has ended, so has the waiting.
-    fn end_waiting(&mut self, now: u64)
-        ensures { self.new ≡ solicited_timer self.old now }
-    {
-        if let Some(awaited) = &self.session.awaited {
-            if awaited.ends <= now {
-                self.session.awaited = None;
-            }
-        }
-    }
-
     /// Whether it awaits no confirm and holds no READ, once the timer of an awaited confirm was looked at.
     fn is_free_at(&self, now: u64) -> bool
         ensures { result ≡ is_free (solicited_timer self.now now) }
@@ -104,24 +159,6 @@ impl OutstationCore {
             None => false,
         };
         !awaits && self.session.unsolicited.is_none() && !self.session.holds_read()
-    }
-
-    /// Does what the timer of an unsolicited response has come to.
-    fn obey(&mut self, actions: &mut Actions, alloc: Global, timer: AtTimer)
-        ensures value { (s : State) → s.core ≡ self.old → timed_by s s.core.session timer ≡ record { state = record s { core = self.new }; does = actions_of actions.new } }
-        ensures room { HasRoom actions.new }
-        ensures whole { (timer ≡ at.Repeats → 4 ≤ length self.old.session.unsolicited_response) → All (λ fragment. 4 ≤ length fragment) (actions_of actions.new).send }
-    {
-        match timer {
-            AtTimer::Waits => actions.set_nothing(alloc),
-            AtTimer::Repeats => {
-                actions.set_sending(alloc, self.session.unsolicited_response.octets());
-            }
-            AtTimer::Closes => {
-                self.hung_up();
-                actions.set_closing(alloc);
-            }
-        }
     }
 
     /// Time has passed: the moment is now, in milliseconds. What it does is put into the actions, in place of
@@ -153,12 +190,15 @@ impl OutstationCore {
         let is_due = self.is_due(self.announced, self.is_open, self.is_free_at(now));
         let enabled = self.enabled;
         let starts = write_ending(&mut self.pushes, alloc, lanes, is_due, enabled, &None)?;
-        self.end_waiting(now);
         let ends = deadline(now, self.times.confirm_ms);
-        let timer = self
-            .session
-            .time_unsolicited(now, self.times.confirm_ms, self.times.retries);
-        self.obey(actions, alloc, timer);
+        let is_open = self.session.pass_time(
+            actions,
+            alloc,
+            now,
+            self.times.confirm_ms,
+            self.times.retries,
+        );
+        self.is_open = is_open;
         self.session.end_call(actions, &mut self.pushes, lanes, starts, self.restart, ends);
         Ok(())
     }
