@@ -9,6 +9,8 @@
 #[cfg(test)]
 mod books;
 #[cfg(test)]
+mod controls;
+#[cfg(test)]
 mod journals;
 #[cfg(test)]
 mod lanes;
@@ -23,6 +25,10 @@ mod plans;
 #[cfg(test)]
 mod points;
 #[cfg(test)]
+mod polls;
+#[cfg(test)]
 mod selects;
 #[cfg(test)]
 mod texts;
+#[cfg(test)]
+mod unsolicited;

@@ -1,27 +1,84 @@
-//! What an outstation answers to polls and their confirms, octet for octet.
+//! What an outstation does, octet for octet: the tables of `polls`, `unsolicited` and `controls`, step
+//! by step.
 
+use crate::controls::CONTROLS;
 use crate::plans::{Alike, plan_of};
-use Step::{Gets, Reads, Ticks};
-use dnp_controls::NoOutputs;
-use dnp_eventbuf::PlainLanes;
-use dnp_objects::Kind::{Analog, Binary, Counter};
-use dnp_objects::{Kind, Row};
-use dnp_outstation::{Actions, Fragment, Outstation};
+use crate::polls::POLLS;
+use crate::unsolicited::UNSOLICITED;
+use arrayvec::ArrayVec;
+use dnp_controls::PlainOutputs;
+use dnp_eventbuf::{Lane, LaneRow, Lanes, PlainLanes, is_carried};
+use dnp_objects::{Command, Kind, Row};
+use dnp_outstation::{Actions, Fault, Fragment, Outstation};
 use dnp_pointdb::{PointDb, Reading, Times};
 use std::alloc::Global;
 
-/// A call on an outstation, and what it does.
+/// What happens to an outstation.
 #[derive(Clone, Copy)]
-enum Step<'a> {
-    /// These octets come, these are sent, or none, and these events, known by their index and value,
-    /// are discarded.
-    Gets(&'a [u8], &'a [u8], &'a [(u16, i64)]),
-    /// A point reads this value with flags 01 at a time, if it has one, and these events are
-    /// overwritten.
-    Reads(Kind, u16, i64, Option<u64>, &'a [(u16, i64)]),
-    /// The timers are looked at at this moment.
+pub(crate) enum Call<'a> {
+    /// A connection begins.
+    Opens,
+    /// It ends.
+    HangsUp,
+    /// These octets come.
+    Gets(&'a [u8]),
+    /// These two octets come, with these behind them, the objects of a control request.
+    Controls([u8; 2], &'a [u8]),
+    /// A point reads this value with flags 01 at a time, if it has one.
+    Reads(Kind, u16, i64, Option<u64>),
+    /// The analog 0 reads the values from the first up to the second, each at 1,000.
+    ReadsAll(i64, i64),
+    /// Somebody else appends an event of class 1: the binary 0 with this value at this time.
+    Finds(i64, u64),
+    /// It is this moment from now on, and the timers are looked at.
     Ticks(u64),
 }
+
+/// What it does then, and nothing else. Events are known by their index and value.
+#[derive(Clone, Copy)]
+pub(crate) enum Does<'a> {
+    /// Nothing.
+    Nothing,
+    /// It sends these octets.
+    Sends(&'a [u8]),
+    /// It sends two fragments of these octets.
+    SendsTwo(&'a [u8], &'a [u8]),
+    /// It discards so many events, and sends a fragment of so many octets that begins so.
+    SendsLong(usize, usize, &'a [u8]),
+    /// It discards these events, and sends these octets, or nothing where there are none.
+    Discards(&'a [(u16, i64)], &'a [u8]),
+    /// It overwrites these events, and sends these octets, or nothing where there are none.
+    Overwrites(&'a [(u16, i64)], &'a [u8]),
+    /// It gives this time, and sends these octets.
+    Sets(u64, &'a [u8]),
+    /// It sends these four octets, with these behind them, and from the beginning on its outputs have
+    /// performed just these commands.
+    Answers([u8; 4], &'a [u8], &'a [Command]),
+    /// The same, and it sends these octets, or nothing where there are none.
+    Performs(&'a [Command], &'a [u8]),
+    /// It closes.
+    Closes,
+}
+
+/// A call on an outstation, and what it does.
+pub(crate) type Step = (Call<'static>, Does<'static>);
+
+/// How an outstation is made.
+#[derive(Clone, Copy, PartialEq, Eq)]
+pub(crate) enum Setup {
+    /// It sends no unsolicited responses.
+    Polled,
+    /// The same, and its lanes take two rows each.
+    PolledInTwo,
+    /// It sends them, and repeats them once.
+    Unsolicited,
+    /// The same, and its lanes take two rows each.
+    UnsolicitedInTwo,
+}
+
+/// The points of an outstation with six outputs and three setpoints, how it is made, and what it does
+/// from then on.
+pub(crate) type Case = (&'static [Alike], Setup, &'static [Step]);
 
 /// Whether these are the rows, by index and value.
 fn are(rows: &[Row], wanted: &[(u16, i64)]) -> bool {
@@ -30,48 +87,179 @@ fn are(rows: &[Row], wanted: &[(u16, i64)]) -> bool {
         .eq(wanted.iter().copied())
 }
 
-/// Whether one fragment of these octets is sent, or none where there are none.
-fn sends(send: &[Option<Fragment>; 2], octets: &[u8]) -> bool {
-    match send {
-        [None, None] => octets.is_empty(),
-        [Some(fragment), None] => fragment.as_slice() == octets,
+/// Whether a fragment has these octets, or there is none where there are none.
+fn has(fragment: &Option<Fragment>, octets: &[u8]) -> bool {
+    match fragment {
+        None => octets.is_empty(),
+        Some(fragment) => !octets.is_empty() && fragment.as_slice() == octets,
+    }
+}
+
+/// Whether these two fragments are sent, or one, or none, where there are no octets.
+fn sends(actions: &Actions, first: &[u8], second: &[u8]) -> bool {
+    has(&actions.send[0], first) && has(&actions.send[1], second)
+}
+
+/// Whether one fragment of so many octets is sent, which begins so.
+fn sends_long(actions: &Actions, len: usize, begins: &[u8]) -> bool {
+    match &actions.send {
+        [Some(fragment), None] => fragment.len() == len && fragment.as_slice().starts_with(begins),
         _ => false,
     }
 }
 
-/// Whether a call that answered this did so much and no more.
-fn did(actions: &Actions, sent: &[u8], discarded: &[(u16, i64)], lost: &[(u16, i64)]) -> bool {
-    sends(&actions.send, sent)
-        && are(actions.discarded.as_slice(), discarded)
-        && are(actions.overwritten.as_slice(), lost)
-        && actions.time.is_none()
-        && !actions.close
+/// Whether the first fragment ends with these octets.
+fn ends(actions: &Actions, octets: &[u8]) -> bool {
+    match &actions.send[0] {
+        Some(fragment) => fragment.as_slice().ends_with(octets),
+        None => false,
+    }
 }
 
-type Station = Outstation<PlainLanes, NoOutputs>;
+/// Whether so many events were discarded, and no others lost.
+fn has_discarded(actions: &Actions, count: usize) -> bool {
+    actions.discarded.as_slice().len() == count && actions.overwritten.as_slice().is_empty()
+}
 
-/// Whether the outstation does the step as it says.
-fn does(station: &mut Station, alloc: Global, step: Step<'_>) -> bool {
-    match step {
-        Step::Gets(octets, sent, discarded) => match station.receive(alloc, 0, octets) {
-            Ok(actions) => did(&actions, sent, discarded, &[]),
-            Err(_) => false,
-        },
-        Step::Reads(kind, index, value, time, lost) => {
-            let reading = Reading {
-                value,
-                flags: 1,
-                time,
-            };
-            match station.change(alloc, 0, kind, index, reading) {
-                Ok(actions) => did(&actions, &[], &[], lost),
-                Err(_) => false,
-            }
+/// Whether these events were discarded and these overwritten.
+fn loses(actions: &Actions, discarded: &[(u16, i64)], lost: &[(u16, i64)]) -> bool {
+    are(actions.discarded.as_slice(), discarded) && are(actions.overwritten.as_slice(), lost)
+}
+
+/// Whether a call that answered this did so much and no more.
+fn did(actions: &Actions, does: Does<'_>) -> bool {
+    let time = match does {
+        Does::Sets(time, _) => Some(time),
+        _ => None,
+    };
+    if actions.time != time || actions.close != matches!(does, Does::Closes) {
+        return false;
+    }
+    match does {
+        Does::Nothing | Does::Closes => sends(actions, &[], &[]) && loses(actions, &[], &[]),
+        Does::Sends(octets) | Does::Sets(_, octets) | Does::Performs(_, octets) => {
+            sends(actions, octets, &[]) && loses(actions, &[], &[])
         }
-        Step::Ticks(now) => match station.tick(alloc, now) {
-            Ok(actions) => did(&actions, &[], &[], &[]),
-            Err(_) => false,
-        },
+        Does::SendsTwo(first, second) => {
+            sends(actions, first, second) && loses(actions, &[], &[])
+        }
+        Does::Answers(front, objects, _) => {
+            sends_long(actions, 4 + objects.len(), &front)
+                && ends(actions, objects)
+                && loses(actions, &[], &[])
+        }
+        Does::SendsLong(count, len, begins) => {
+            sends_long(actions, len, begins) && has_discarded(actions, count)
+        }
+        Does::Discards(rows, octets) => sends(actions, octets, &[]) && loses(actions, rows, &[]),
+        Does::Overwrites(rows, octets) => sends(actions, octets, &[]) && loses(actions, &[], rows),
+    }
+}
+
+type Station = Outstation<PlainLanes, PlainOutputs>;
+
+/// A reading with flags 01.
+fn reading(value: i64, time: Option<u64>) -> Reading {
+    Reading {
+        value,
+        flags: 1,
+        time,
+    }
+}
+
+/// Appends the binary 0 of class 1 with this value at this time to its lane; answers whether it was.
+fn append(lanes: &mut PlainLanes, alloc: Global, value: i64, time: u64) -> bool {
+    let row = Row {
+        kind: Kind::Binary,
+        index: 0,
+        flags: 1,
+        value,
+        time: Some(time),
+    };
+    let Some(lane) = Lane::new(1, Kind::Binary) else {
+        return false;
+    };
+    let event = LaneRow { lane, row };
+    is_carried(&event) && lanes.append(alloc, &[event]).is_ok()
+}
+
+/// The analog 0 reads the values from the first up to the second; answers what the last one does, and
+/// nothing where one before it does more than nothing.
+fn read_all(
+    station: &mut Station,
+    alloc: Global,
+    now: u64,
+    from: i64,
+    to: i64,
+) -> Result<Actions, Fault> {
+    for value in from..to {
+        let reading = reading(value, Some(1_000));
+        let actions = station.change(alloc, now, Kind::Analog, 0, reading)?;
+        if !did(&actions, Does::Nothing) {
+            return Ok(actions);
+        }
+    }
+    station.change(alloc, now, Kind::Analog, 0, reading(to, Some(1_000)))
+}
+
+/// Two octets and these objects, of at most 2,046 octets, come.
+fn ask(
+    station: &mut Station,
+    alloc: Global,
+    now: u64,
+    front: [u8; 2],
+    objects: &[u8],
+) -> Result<Actions, Fault> {
+    let mut octets: ArrayVec<u8, 2048> = ArrayVec::new();
+    if octets.try_extend_from_slice(&front).is_err()
+        || octets.try_extend_from_slice(objects).is_err()
+    {
+        return Err(Fault::Exhausted);
+    }
+    station.receive(alloc, now, &octets)
+}
+
+/// Makes a call at this moment.
+fn make(station: &mut Station, alloc: Global, now: u64, call: Call<'_>) -> Result<Actions, Fault> {
+    match call {
+        Call::Opens => station.opened(alloc, now),
+        Call::HangsUp => {
+            station.hung_up();
+            Ok(Actions::none(alloc))
+        }
+        Call::Gets(octets) => station.receive(alloc, now, octets),
+        Call::Controls(front, objects) => ask(station, alloc, now, front, objects),
+        Call::Reads(kind, index, value, time) => {
+            station.change(alloc, now, kind, index, reading(value, time))
+        }
+        Call::ReadsAll(from, to) => read_all(station, alloc, now, from, to),
+        Call::Finds(value, time) => {
+            if !append(station.lanes(), alloc, value, time) {
+                return Err(Fault::Exhausted);
+            }
+            Ok(Actions::none(alloc))
+        }
+        Call::Ticks(now) => station.tick(alloc, now),
+    }
+}
+
+/// Whether the outputs have performed what is said, where it is.
+fn has_performed(outputs: &PlainOutputs, does: Does<'_>) -> bool {
+    match does {
+        Does::Answers(_, _, commands) | Does::Performs(commands, _) => outputs.operated()
+            == commands,
+        _ => true,
+    }
+}
+
+/// Whether the outstation does the step as it says, at this moment or another, which it leaves.
+fn goes(station: &mut Station, alloc: Global, now: &mut u64, step: Step) -> bool {
+    if let Call::Ticks(moment) = step.0 {
+        *now = moment;
+    }
+    match make(station, alloc, *now, step.0) {
+        Ok(actions) => did(&actions, step.1) && has_performed(station.outputs(), step.1),
+        Err(_) => false,
     }
 }
 
@@ -79,173 +267,49 @@ const TIMES: Times = Times {
     confirm_ms: 5_000,
     response_ms: 10_000,
     select_ms: 5_000,
-    retries: 0,
+    retries: 1,
     unsolicited: false,
 };
 
-/// An open outstation with these points, and lanes of two rows each, or of 200.
-fn station_of(alloc: Global, blocks: &[Alike], has_small_lanes: bool) -> Option<Station> {
+/// The times of an outstation that is made so.
+fn times_of(setup: Setup) -> Times {
+    let mut times = TIMES;
+    times.unsolicited = matches!(setup, Setup::Unsolicited | Setup::UnsolicitedInTwo);
+    times
+}
+
+/// A closed outstation with these points, made so, with lanes of two rows each, or of 200.
+fn station_of(alloc: Global, blocks: &[Alike], setup: Setup) -> Option<Station> {
     let Ok(Ok(plan)) = plan_of(alloc, blocks) else {
         return None;
     };
     let points = PointDb::new(alloc, plan).ok()?;
-    let lanes = if has_small_lanes {
-        PlainLanes::new(alloc, [2; 9])
-    } else {
-        PlainLanes::new(alloc, [200; 9])
+    let lanes = match setup {
+        Setup::PolledInTwo | Setup::UnsolicitedInTwo => PlainLanes::new(alloc, [2; 9]),
+        Setup::Polled | Setup::Unsolicited => PlainLanes::new(alloc, [200; 9]),
     };
-    let mut station = Outstation::new(points, lanes.ok()?, NoOutputs, TIMES);
-    station.opened(alloc, 0).ok()?;
-    Some(station)
+    let outputs = PlainOutputs::new(alloc, 6, 3);
+    Some(Outstation::new(points, lanes.ok()?, outputs, times_of(setup)))
 }
 
-/// A WRITE that clears the restart, and its answer.
-const CLEARS: Step<'static> = Step::Gets(
-    &[0xC0, 0x02, 0x50, 0x01, 0x00, 0x07, 0x07, 0x00],
-    &[0xC0, 0x81, 0x00, 0x00],
-    &[],
-);
-
-// Points from index 0 on.
-#[rattlefmt::skip]
-const BINARIES_3_OF_CLASS_0: Alike = Alike { kind: Kind::Binary, base: 0, count: 3, class: 0, deadband: 0 };
-
-#[rattlefmt::skip]
-const BINARIES_4: Alike = Alike { kind: Kind::Binary, base: 0, count: 4, class: 1, deadband: 0 };
-
-#[rattlefmt::skip]
-const BINARY: Alike = Alike { kind: Kind::Binary, base: 0, count: 1, class: 1, deadband: 0 };
-
-#[rattlefmt::skip]
-const COUNTER: Alike = Alike { kind: Kind::Counter, base: 0, count: 1, class: 2, deadband: 0 };
-
-#[rattlefmt::skip]
-const ANALOGS_3: Alike = Alike { kind: Kind::Analog, base: 0, count: 3, class: 3, deadband: 0 };
-
-#[rattlefmt::skip]
-const ANALOG: Alike = Alike { kind: Kind::Analog, base: 0, count: 1, class: 1, deadband: 0 };
-
-/// The points of an outstation, whether its lanes take two rows each, and what it does, from its
-/// opening on.
-#[rattlefmt::skip]
-const CASES: [(&[Alike], bool, &[Step<'static>]); 6] = [
-    // Nothing but the indications: the restart, and what is unknown, or is no point.
-    (&[], false, &[
-        Gets(&[0xC0, 0x0D], &[0xC0, 0x81, 0x80, 0x01], &[]),
-        Gets(&[0xC0, 0x01, 0x6E, 0x00, 0x06], &[0xC0, 0x81, 0x80, 0x02], &[]),
-        Gets(&[0xC0, 0x01, 0x01, 0x02, 0x00, 0x00, 0x00], &[0xC0, 0x81, 0x80, 0x04], &[]),
-        Gets(&[0xC0, 0x03, 0x0C, 0x01, 0x28, 0xFF, 0xFF], &[0xC0, 0x81, 0x80, 0x04], &[]),
-        Gets(&[0xC0, 0x01, 0x01, 0x02, 0x01, 0x00, 0x00, 0xFF, 0xFF], &[0xC0, 0x81, 0x80, 0x04], &[]),
-        CLEARS,
-        Gets(&[0xC1, 0x02, 0x50, 0x01, 0x00, 0x06, 0x06, 0x00], &[0xC1, 0x81, 0x00, 0x04], &[]),
-    ]),
-    // Present values of a block.
-    (&[BINARIES_3_OF_CLASS_0], false, &[
-        Gets(&[0xC0, 0x01, 0x01, 0x00, 0x00, 0x01, 0x02],
-            &[0xC0, 0x81, 0x80, 0x00, 0x01, 0x02, 0x01, 0x01, 0x00, 0x02, 0x00, 0x02, 0x02], &[]),
-    ]),
-    // An event is read, confirmed and gone; the same READ again executes nothing.
-    (&[BINARIES_4], false, &[
-        CLEARS,
-        Reads(Binary, 3, 1, Some(1_000), &[]),
-        Gets(&[0xC1, 0x01, 0x3C, 0x02, 0x06],
-            &[0xE1, 0x81, 0x00, 0x00, 0x02, 0x02, 0x28, 0x01, 0x00, 0x03, 0x00, 0x81, 0xE8, 0x03, 0, 0, 0, 0], &[]),
-        Gets(&[0xC1, 0x00], &[], &[(3, 1)]),
-        Gets(&[0xC1, 0x01, 0x3C, 0x02, 0x06],
-            &[0xE1, 0x81, 0x00, 0x00, 0x02, 0x02, 0x28, 0x01, 0x00, 0x03, 0x00, 0x81, 0xE8, 0x03, 0, 0, 0, 0], &[]),
-        Gets(&[0xC1, 0x00], &[], &[]),
-        Gets(&[0xC2, 0x01, 0x3C, 0x02, 0x06], &[0xC2, 0x81, 0x00, 0x00], &[]),
-    ]),
-    // An event that comes between a READ and its repetition is left for the next one. A confirm
-    // that comes after its timer ended releases nothing, and after the READ was repeated it does.
-    (&[BINARIES_4], false, &[
-        CLEARS,
-        Reads(Binary, 3, 1, Some(1_000), &[]),
-        Gets(&[0xC1, 0x01, 0x3C, 0x02, 0x06],
-            &[0xE1, 0x81, 0x00, 0x00, 0x02, 0x02, 0x28, 0x01, 0x00, 0x03, 0x00, 0x81, 0xE8, 0x03, 0, 0, 0, 0], &[]),
-        Reads(Binary, 3, 0, Some(2_000), &[]),
-        Ticks(5_000),
-        Gets(&[0xC1, 0x00], &[], &[]),
-        Gets(&[0xC1, 0x01, 0x3C, 0x02, 0x06],
-            &[0xE1, 0x81, 0x00, 0x00, 0x02, 0x02, 0x28, 0x01, 0x00, 0x03, 0x00, 0x81, 0xE8, 0x03, 0, 0, 0, 0], &[]),
-        Ticks(4_999),
-        Gets(&[0xC1, 0x00], &[], &[(3, 1)]),
-        Gets(&[0xC2, 0x01, 0x3C, 0x02, 0x06],
-            &[0xE2, 0x81, 0x00, 0x00, 0x02, 0x02, 0x28, 0x01, 0x00, 0x03, 0x00, 0x01, 0xD0, 0x07, 0, 0, 0, 0], &[]),
-    ]),
-    // A lane of two rows takes three: the overflow is told until a release leaves no lane full.
-    (&[BINARY], true, &[
-        CLEARS,
-        Reads(Binary, 0, 1, Some(1), &[]),
-        Reads(Binary, 0, 0, Some(2), &[]),
-        Reads(Binary, 0, 1, Some(3), &[(0, 1)]),
-        Gets(&[0xC1, 0x01, 0x3C, 0x02, 0x06],
-            &[0xE1, 0x81, 0x00, 0x08, 0x02, 0x02, 0x28, 0x02, 0x00, 0x00, 0x00, 0x01, 0x02, 0, 0, 0, 0, 0,
-                0x00, 0x00, 0x81, 0x03, 0, 0, 0, 0, 0], &[]),
-        Gets(&[0xC1, 0x00], &[], &[(0, 0), (0, 1)]),
-        Gets(&[0xC2, 0x01, 0x3C, 0x02, 0x06], &[0xC2, 0x81, 0x00, 0x00], &[]),
-    ]),
-    // Two classes in one READ, the second up to one row, without times; and a negative value.
-    (&[BINARY, COUNTER, ANALOGS_3], false, &[
-        CLEARS,
-        Reads(Binary, 0, 1, None, &[]),
-        Reads(Counter, 0, 7, None, &[]),
-        Gets(&[0xC1, 0x01, 0x3C, 0x02, 0x06, 0x3C, 0x03, 0x07, 0x01],
-            &[0xE1, 0x81, 0x00, 0x00, 0x02, 0x01, 0x28, 0x01, 0x00, 0x00, 0x00, 0x81,
-                0x16, 0x01, 0x28, 0x01, 0x00, 0x00, 0x00, 0x01, 0x07, 0x00, 0x00, 0x00], &[]),
-        Gets(&[0xC1, 0x00], &[], &[(0, 1), (0, 7)]),
-        Reads(Analog, 2, -5, None, &[]),
-        Gets(&[0xC2, 0x01, 0x3C, 0x04, 0x06],
-            &[0xE2, 0x81, 0x00, 0x00, 0x20, 0x01, 0x28, 0x01, 0x00, 0x02, 0x00, 0x01, 0xFB, 0xFF, 0xFF, 0xFF], &[]),
-    ]),
-];
-
 #[test]
-fn polls_step_by_step(rt: HostRuntime) {
+fn outstations_step_by_step(rt: HostRuntime) {
     let alloc = rt.alloc();
-    for (case, (blocks, has_small_lanes, steps)) in CASES.into_iter().enumerate() {
-        let mut station = station_of(alloc, blocks, has_small_lanes).expect(&rt, "a station");
-        for (number, step) in steps.iter().enumerate() {
-            assert!(rt;
-                does(&mut station, alloc, *step),
-                "case {case}, step {number}"
-            );
+    let tables = [
+        ("polls", POLLS.as_slice()),
+        ("unsolicited", UNSOLICITED.as_slice()),
+        ("controls", CONTROLS.as_slice()),
+    ];
+    for (table, cases) in tables {
+        for (case, (points, setup, steps)) in cases.iter().enumerate() {
+            let mut station = station_of(alloc, points, *setup).expect(&rt, "a station");
+            let mut now = 0;
+            for (number, step) in steps.iter().enumerate() {
+                assert!(rt;
+                    goes(&mut station, alloc, &mut now, *step),
+                    "{table}, case {case}, step {number}"
+                );
+            }
         }
     }
-}
-
-/// Whether a READ of class 1 or its confirm is answered by so many octets that begin so.
-fn answers(station: &mut Station, alloc: Global, octets: &[u8], len: usize, begins: &[u8]) -> bool {
-    match station.receive(alloc, 0, octets) {
-        Ok(actions) => match &actions.send {
-            [Some(fragment), None] => {
-                fragment.len() == len && fragment.as_slice().starts_with(begins)
-            }
-            _ => false,
-        },
-        Err(_) => false,
-    }
-}
-
-#[test]
-fn a_response_in_two_fragments(rt: HostRuntime) {
-    let alloc = rt.alloc();
-    let mut station = station_of(alloc, &[ANALOG], false).expect(&rt, "a station");
-    assert!(rt; does(&mut station, alloc, CLEARS));
-    for value in 1..158 {
-        let reads = Step::Reads(Kind::Analog, 0, value, Some(1_000), &[]);
-        assert!(rt; does(&mut station, alloc, reads), "{value}");
-    }
-    let first = [0xA0, 0x81, 0x02, 0x00, 0x20, 0x03, 0x28, 0x9C, 0x00];
-    assert!(rt;
-        answers(
-            &mut station,
-            alloc,
-            &[0xC0, 0x01, 0x3C, 0x02, 0x06],
-            2_037,
-            &first
-        )
-    );
-    let second = [0x61, 0x81, 0x00, 0x00, 0x20, 0x03, 0x28, 0x01, 0x00];
-    assert!(rt; answers(&mut station, alloc, &[0xC0, 0x00], 22, &second));
 }
