@@ -51,6 +51,7 @@ ready_after s now = go s.core.session.unsolicited
       where
         here : State
         here = with_unsolicited s (Some w)
+
         by : (ended often : Bool) → is_ready (at_timer here now w ended often).state.core ≡ is_ready here.core
         by false often = refl
         by true true = closed_unready (closed here.core) refl ∙ sym (busy_unready here.core (awaiting_busy s w))

@@ -20,7 +20,7 @@ returns-then-not-announced-clause-opens g c = λ honest s now lanes_is on_is ann
 pub returns-clause-opens : goal.returns-clause-opens
 returns-clause-opens g c = λ honest s now lanes_is on_is announced_is enabled_is.
     let why : (c.args.is_on ≡ false) ⊎ (c.args.announced ≡ true) =
-        elim c.else-is_on.branch [ else-is_on-via-then-is_on+else-not-announced w ↦ inr (search rules) | else-is_on-via-else-is_on w ↦ inl (search rules) ] in
+    elim c.else-is_on.branch [ else-is_on-via-then-is_on+else-not-announced w ↦ inr (search rules) | else-is_on-via-else-is_on w ↦ inl (search rules) ] in
     let known : (s.core.times.unsolicited ≡ false) ⊎ (s.core.announced ≡ true) = elim why [ inl off ↦ inl (on_is ∙ off) | inr again ↦ inr (announced_is ∙ again) ] in
     opens_again s now known
     ∙ c.in_ok-starts.ensures.ends honest now (still (begun s)) lanes_is enabled_is (sym on_is ∙ begun_ready s known)

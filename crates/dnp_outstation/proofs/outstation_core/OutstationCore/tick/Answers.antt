@@ -35,11 +35,11 @@ returns-clause-ticked g c = λ honest.
     let starts = c.in_ok-starts.starts in
     let waited : State = record s { core = solicited_timer core now } in
     let due : c.is_due-is_due.result ≡ is_ready (solicited_timer core now) =
-        c.is_due-is_due.ensures.value (solicited_timer core now)
-        (ap (λ (k : Core). k.times) (solicited_is core now) ∙ ap (λ (k : Core). k.times) c.self.view_is)
-        (ap (λ (k : Core). k.announced) (solicited_is core now))
-        (ap (λ (k : Core). k.is_open) (solicited_is core now))
-        (ap (λ (k : Core). is_free (solicited_timer k now)) c.self.view_is ∙ sym c.is_free_at.ensures) in
+    c.is_due-is_due.ensures.value (solicited_timer core now)
+    (ap (λ (k : Core). k.times) (solicited_is core now) ∙ ap (λ (k : Core). k.times) c.self.view_is)
+    (ap (λ (k : Core). k.announced) (solicited_is core now))
+    (ap (λ (k : Core). k.is_open) (solicited_is core now))
+    (ap (λ (k : Core). is_free (solicited_timer k now)) c.self.view_is ∙ sym c.is_free_at.ensures) in
     ap (λ (k : Core). tick_of (state_of k old panel) now) (sym c.self.view_is)
     ∙ open_tick s now opened
     ∙ ap (at_end now) passed_is

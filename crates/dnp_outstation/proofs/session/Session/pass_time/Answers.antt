@@ -17,6 +17,6 @@ returns-clause-whole c = λ s session_is confirm_is retries_is keeps.
     let core : Core = record s.core { session = c.end_waiting.new.self } in
     let waited : State = record s { core = core } in
     c.obey.ensures.whole (λ repeats.
-        subst (λ (octets : List ℕ). 4 ≤ length octets) (sym c.time_unsolicited-timer.ensures.octets)
-        (again_whole waited c.args.now c.time_unsolicited-timer.new.self c.time_unsolicited-timer.result
-        (c.time_unsolicited-timer.ensures.timed waited refl confirm_is retries_is) repeats (c.end_waiting.ensures.keeps keeps)))
+    subst (λ (octets : List ℕ). 4 ≤ length octets) (sym c.time_unsolicited-timer.ensures.octets)
+    (again_whole waited c.args.now c.time_unsolicited-timer.new.self c.time_unsolicited-timer.result
+    (c.time_unsolicited-timer.ensures.timed waited refl confirm_is retries_is) repeats (c.end_waiting.ensures.keeps keeps)))
