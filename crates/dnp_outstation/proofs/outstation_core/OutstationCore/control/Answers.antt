@@ -1,4 +1,4 @@
-use Rattle.std.proofs.Common.{rules, ◌≡◌, ℕ, Bool, true, false, ◌&&◌, if◌then◌else◌, List, Option, None, Some, IfSome, is_none, is_some, not, option_map, refl, ap, sym, subst, ◌∙◌}
+use Rattle.std.proofs.Common.{◌≡◌, ℕ, Bool, true, false, ◌&&◌, if◌then◌else◌, List, Option, None, Some, IfSome, is_none, is_some, not, option_map, refl, ap, sym, subst, ◌∙◌}
 use Rattle.dnp_appfragment.specs.Control.{ControlBits}
 use Rattle.dnp_controls.specs.Panel.{Panel}
 use Rattle.dnp_controls.specs.Selecting.{Select}
@@ -49,19 +49,27 @@ replied_free now seq s w (Some a) switches stood upto_is is awaited_is =
     rw (upto_is, ap (λ (x : Answer). x.left) is) (and_true (is_none s.core.session.unsolicited))
 
 -- what the outputs carried out is replied
-controlled : (s : State) (o : Panel) (now : ℕ) (octets : List ℕ) (a : Option Answer) (w : Writer) (selects : Option Select) (performed : List Command) (session : Session)
+controlled : (s : State) (o : Panel) (now : ℕ) (octets : List ℕ) (a : Option Answer) (w : Writer) (selects : Option Select)
+    (performed : List Command) (session : Session)
     → is_control octets ≡ true
     → control_content (asked s octets) o now octets
     ≡ record { state = record (with_select (asked s octets) selects) { performed = performed }; content = option_map (content_by w) a; time = None }
     → session ≡ record s.core.session { selects = selects; request = octets; awaited = None }
     → on_request s o now octets
-    ≡ replied now (control_in octets).seq (record { state = record (with_session s session) { performed = performed }; content = option_map (content_by w) a; time = None })
+    ≡ replied now (control_in octets).seq (record {
+      state = record (with_session s session) { performed = performed };
+      content = option_map (content_by w) a;
+      time = None;
+    })
 controlled s o now octets a w selects performed session is content_is session_is =
     let seq = (control_in octets).seq in
     ap (λ (b : Bool). replied now seq (if b then control_content (asked s octets) o now octets else content_of (asked s octets) o octets)) is
     ∙ ap (replied now seq) content_is
-    ∙ ap (λ (k : Session). let x : Executed = record { state = record (with_session s k) { performed = performed }; content = option_map (content_by w) a; time = None } in
-    replied now seq x) (sym session_is)
+    ∙ ap (λ (k : Session). replied now seq (record {
+      state = record (with_session s k) { performed = performed };
+      content = option_map (content_by w) a;
+      time = None;
+    })) (sym session_is)
 
 pub returns-clause-answered : goal.returns-clause-answered
 returns-clause-answered g c = λ honest outputs_honest.
@@ -94,23 +102,27 @@ returns-clause-answered g c = λ honest outputs_honest.
     let stood = c.last_left-stood.result in
     let stood_is : stood ≡ last_in new = c.last_left-stood.ensures.value left ∙ ap last_in (sym lanes_left) in
     let switches = c.switches-switches.result in
-    let restart_is : core.restart ≡ switches.restart = ap (λ (k : Core). k.restart) c.self.view_is ∙ ap (λ (k : Switches). k.restart) (sym c.switches-switches.ensures) in
+    let restart_is : core.restart ≡ switches.restart =
+    ap (λ (k : Core). k.restart) c.self.view_is ∙ ap (λ (k : Switches). k.restart) (sym c.switches-switches.ensures) in
     let says = c.in_ok-answer.ensures.answer in
     let session_is = c.take_request.ensures in
     let content_is = c.in_ok-answer.ensures.executed outputs_honest (asked s octets) refl refl refl in
-    let request_is = controlled s o now octets answer w c.execute_control.new.selects o'.performed c.take_request.new.self c.requires.control content_is session_is in
+    let selects = c.execute_control.new.selects in
+    let session = c.take_request.new.self in
+    let request_is = controlled s o now octets answer w selects o'.performed session c.requires.control content_is session_is in
     let seq = c.of-seq.result in
     let seq_is : (control_in octets).seq ≡ seq = sym (c.of-seq.ensures ∙ ap (λ (x : ControlBits). x.seq) c.read.ensures.value) in
     let x : Executed = record { state = after; content = option_map (content_by w) answer; time = None } in
     let step : Step = record { state = with_session after c.reply.new.self; does = actions_of c.reply.new.actions } in
     let replied_is : replied now seq x ≡ step =
-    c.reply.ensures.replies replied_honest after now (ap g.L.Lanes.contents c.end_call.ensures.same) (said answer switches stood new core.restart restart_is says stood_is) refl
-    c.deadline-ends.ensures in
+    c.reply.ensures.replies replied_honest after now (ap g.L.Lanes.contents c.end_call.ensures.same)
+    (said answer switches stood new core.restart restart_is says stood_is) refl c.deadline-ends.ensures in
     let awaited_is : after.core.session.awaited ≡ None = ap (λ (k : Session). k.awaited) session_is in
     let free_is : is_free step.state.core ≡ c.is_none-free.result =
     ap (λ (t : Step). is_free t.state.core) (sym replied_is) ∙ replied_free now seq after w answer switches stood c.in_ok-answer.ensures.upto says awaited_is
     ∙ ap (λ (k : Session). is_none k.unsolicited) session_is ∙ none_is c.self.inside.session.unsolicited c.is_none-free.result c.is_none-free.ensures in
-    let due_is : c.is_due-is_due.result ≡ is_ready step.state.core = c.is_due-is_due.ensures.value step.state.core (ap (λ (k : Core). k.times) c.self.view_is) refl refl free_is in
+    let due_is : c.is_due-is_due.result ≡ is_ready step.state.core =
+    c.is_due-is_due.ensures.value step.state.core (ap (λ (k : Core). k.times) c.self.view_is) refl refl free_is in
     ap (λ (l : Stock). at_end now (on_request (state_of c.args.self.now l o) o now octets)) (sym lanes_is)
     ∙ ap (λ (k : Core). at_end now (on_request (state_of k new o) o now octets)) (sym c.self.view_is)
     ∙ ap (at_end now) (request_is ∙ ap (λ (n : ℕ). replied now n x) seq_is ∙ replied_is)

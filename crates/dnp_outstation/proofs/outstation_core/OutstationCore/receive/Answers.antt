@@ -1,10 +1,9 @@
-use Rattle.std.proofs.Common.{rules, ◌≡◌, ◌≢◌, ◌⊎◌, ℕ, Bool, true, List, [], Some, Err, if◌then◌else◌, refl, ap, sym, subst, ◌∙◌}
+use Rattle.std.proofs.Common.{rules, ◌≡◌, ◌≢◌, ◌⊎◌, ℕ, Bool, true, List, [], Some, Err, if◌then◌else◌, ap, sym, subst, ◌∙◌}
 use Rattle.std.specs.Result.{result_err}
 use Rattle.dnp_controls.specs.Panel.{Panel}
 use Rattle.dnp_objects.specs.declared.command.Command.{Command}
 use Rattle.dnp_objects.specs.declared.store.StoreFault.TheVariants as store
 use Rattle.dnp_eventbuf.specs.Stock.{rows_in}
-use Rattle.dnp_outstation.specs.declared.case.Case.{Case}
 use Rattle.dnp_outstation.specs.declared.case.Case.TheVariants.{Asks}
 use Rattle.dnp_outstation.specs.Calls.{performed_of, performed_for, performed_in, received, connection_after}
 use Rattle.dnp_outstation.specs.Connection.{case_of, on_request, at_end}
