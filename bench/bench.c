@@ -3,6 +3,7 @@
 // gives a sum of what it made, and the sums must be one number.
 #include "plain.h"
 
+#include <stdbool.h>
 #include <stdio.h>
 #include <stdlib.h>
 #include <string.h>
@@ -21,6 +22,8 @@ uint64_t dnp_bench_build_apart(uint64_t count, uint16_t most);
 uint64_t dnp_bench_take(const uint8_t *response, size_t size, uint64_t count);
 uint64_t dnp_bench_poll_events(uint64_t count, uint16_t events);
 uint64_t dnp_bench_poll_values(uint64_t count);
+uint64_t dnp_bench_change(uint64_t count, bool is_unsolicited);
+uint64_t dnp_bench_operate(uint64_t count);
 
 // The same in plain Rust: plain_rust/.
 uint64_t plain_feed(const uint8_t *stream, size_t size, size_t piece);
@@ -30,6 +33,8 @@ uint64_t plain_build_apart(uint64_t count, uint16_t most);
 uint64_t plain_take(const uint8_t *response, size_t size, uint64_t count);
 uint64_t plain_poll_events(uint64_t count, uint16_t events);
 uint64_t plain_poll_values(uint64_t count);
+uint64_t plain_change(uint64_t count, bool is_unsolicited);
+uint64_t plain_operate(uint64_t count);
 
 enum { WAYS = 4, UNITS = 64, MOST_OCTETS = 4096 };
 
@@ -244,6 +249,13 @@ static uint64_t polled_156(int way, uint64_t count) { return polled(way, count, 
 
 static uint64_t polled_values(int way, uint64_t count) { return (way ? plain_poll_values : dnp_bench_poll_values)(count); }
 
+// Changes, into a full lane or each reported and confirmed; and controls.
+static uint64_t changed(int way, uint64_t count) { return (way ? plain_change : dnp_bench_change)(count, false); }
+
+static uint64_t reported(int way, uint64_t count) { return (way ? plain_change : dnp_bench_change)(count, true); }
+
+static uint64_t operated(int way, uint64_t count) { return (way ? plain_operate : dnp_bench_operate)(count); }
+
 // A row of `count` works of a kind, as fragments or polls, a round.
 static void work_row(const char *what, const char *unit, uint64_t (*work)(int, uint64_t), uint64_t count) {
     double best[2] = {0};
@@ -292,11 +304,14 @@ static void fragment_rows(void) {
 }
 
 static void poll_rows(void) {
-    printf("\n%-33s %23s   beside plain Rust\n", "polls of an outstation", "proved");
+    printf("\n%-33s %23s   beside plain Rust\n", "an outstation", "proved");
     work_row("no events", "poll", polled_none, 400000);
     work_row("1 event, made and confirmed", "poll", polled_one, 400000);
     work_row("156 events, made and confirmed", "poll", polled_156, 10000);
     work_row("1,000 values, in two fragments", "poll", polled_values, 20000);
+    work_row("a change, into a full lane", "change", changed, 400000);
+    work_row("a change, reported and confirmed", "change", reported, 400000);
+    work_row("a SELECT and its OPERATE", "pair", operated, 200000);
 }
 
 static void master_rows(void) {

@@ -30,6 +30,7 @@ pub struct Header<'a> {
 #[derive(Clone, Copy, PartialEq)]
 pub enum Form {
     Read,
+    Control,
     Response,
 }
 
@@ -47,9 +48,9 @@ fn takes(form: Form, group: u8, variation: u8) -> Option<(usize, &'static [u8])>
         (Form::Read, 60, 2..=4) => (0, ALL_OR_COUNT),
         (Form::Read, 2 | 22 | 32, 0) | (Form::Read, 2, 2) | (Form::Read, 22, 5) | (Form::Read, 32, 3) => (0, ALL_OR_COUNT),
         (Form::Read, 1 | 10 | 20 | 30, 0) | (Form::Read, 1 | 10, 2) | (Form::Read, 20 | 30, 1) => (0, ALL_OR_SPAN),
-        (Form::Response, 12, 1) => (11, INDEXED),
-        (Form::Response, 41, 1) => (5, INDEXED),
-        (Form::Response, 41, 2) => (3, INDEXED),
+        (Form::Control | Form::Response, 12, 1) => (11, INDEXED),
+        (Form::Control | Form::Response, 41, 1) => (5, INDEXED),
+        (Form::Control | Form::Response, 41, 2) => (3, INDEXED),
         (Form::Response, 1 | 10, 2) | (Form::Response, 2, 1) => (1, ANY),
         (Form::Response, 2, 2) => (7, ANY),
         (Form::Response, 20 | 22 | 30 | 32 | 40, 1) => (5, ANY),
@@ -137,10 +138,11 @@ impl<'a> Iterator for Headers<'a> {
     }
 }
 
-/// The headers of a READ or of a response, or the first fault.
+/// The headers of a READ, of a control request or of a response, or the first fault.
 pub fn headers(octets: &[u8]) -> Result<Headers<'_>, Fault> {
     let (form, rest) = match octets {
         [_, 1, rest @ ..] => (Form::Read, rest),
+        [_, 3..=6, rest @ ..] => (Form::Control, rest),
         [_, 129 | 130, _, _, rest @ ..] => (Form::Response, rest),
         [_, 129 | 130, ..] | [] | [_] => return Err(Fault::Short),
         _ => return Err(Fault::Function),

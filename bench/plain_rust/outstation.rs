@@ -1,7 +1,9 @@
-//! An outstation that is polled: READs of classes, events and present values, responses of several
-//! fragments, confirms by sequence number, the repeated request, and the WRITE that clears the restart.
+//! An outstation: READs of classes, events and present values, responses of several fragments, confirms by
+//! sequence number, the repeated request, the WRITE that clears the restart, unsolicited responses with the
+//! READs that wait for their confirms, and controls.
 
-use crate::fragments::{headers, Header, Range, Row};
+use crate::controls::Outputs;
+use crate::fragments::{headers, Fault, Header, Range, Row};
 use std::collections::VecDeque;
 
 const MOST: usize = 2_048;
@@ -48,9 +50,12 @@ struct First {
     is_awaited: bool,
 }
 
-/// The last request, the first fragment of its response while that is the last sent, and what is left.
+/// The last request, the first fragment of its response while that is the last sent, and what is left; or that
+/// it waits.
+#[derive(Default)]
 struct Asked {
     octets: Vec<u8>,
+    is_held: bool,
     first: Option<First>,
     stood: u64,
     left: Option<Place>,
@@ -60,6 +65,15 @@ struct Awaited {
     seq: u8,
     upto: Upto,
     ends: u64,
+}
+
+/// An unsolicited response that awaits its confirm.
+struct Reported {
+    seq: u8,
+    octets: Vec<u8>,
+    upto: Upto,
+    ends: u64,
+    repeats: u8,
 }
 
 /// What the open header stands for.
@@ -154,13 +168,17 @@ impl Writer {
     }
 }
 
-/// What a call did.
+/// What a call did: a response, and an unsolicited one behind it.
+#[allow(dead_code)]
 pub struct Actions {
     pub send: Option<Vec<u8>>,
+    pub report: Option<Vec<u8>>,
     pub discarded: Vec<Row>,
+    pub overwritten: Option<Row>,
+    pub close: bool,
 }
 
-const NOTHING: Actions = Actions { send: None, discarded: Vec::new() };
+const NOTHING: Actions = Actions { send: None, report: None, discarded: Vec::new(), overwritten: None, close: false };
 
 pub struct Outstation {
     kinds: [Vec<Block>; 3],
@@ -169,13 +187,21 @@ pub struct Outstation {
     overflow: bool,
     restart: bool,
     confirm_ms: u64,
+    retries: u8,
+    is_unsolicited: bool,
+    is_open: bool,
+    announced: bool,
+    enabled: [bool; 3],
+    outputs: Outputs,
     last: Option<Asked>,
     awaited: Option<Awaited>,
+    reported: Option<Reported>,
+    next: u8,
 }
 
 impl Outstation {
     /// One block of so many points of each kind, all of class 1.
-    pub fn new(counts: [usize; 3], capacity: usize) -> Outstation {
+    pub fn new(counts: [usize; 3], capacity: usize, is_unsolicited: bool) -> Outstation {
         let block = |count: usize| {
             let points = (0..count).map(|index| Point {
                 class: 1,
@@ -192,13 +218,45 @@ impl Outstation {
             overflow: false,
             restart: true,
             confirm_ms: 5_000,
+            retries: 0,
+            is_unsolicited,
+            is_open: false,
+            announced: false,
+            enabled: [false; 3],
+            outputs: Outputs::new(6, 3, 5_000),
             last: None,
             awaited: None,
+            reported: None,
+            next: 0,
         }
     }
 
+    pub fn hung_up(&mut self) {
+        self.is_open = false;
+        self.last = None;
+        self.awaited = None;
+        self.reported = None;
+        self.next = 0;
+        self.outputs.forget();
+    }
+
+    pub fn opened(&mut self, now: u64) -> Actions {
+        self.hung_up();
+        self.is_open = true;
+        if self.is_unsolicited && !self.announced {
+            let report = Some(self.reports(now, Writer::new(Place::default())));
+            return Actions { report, ..NOTHING };
+        }
+        self.end(now, NOTHING)
+    }
+
     /// A new reading, and the row that a full lane dropped for its event.
-    pub fn change(&mut self, kind: usize, index: u16, value: i64, flags: u8, time: Option<u64>) -> Option<Row> {
+    pub fn change(&mut self, now: u64, kind: usize, index: u16, value: i64, flags: u8, time: Option<u64>) -> Actions {
+        let overwritten = self.set(kind, index, value, flags, time);
+        self.end(now, Actions { overwritten, ..NOTHING })
+    }
+
+    fn set(&mut self, kind: usize, index: u16, value: i64, flags: u8, time: Option<u64>) -> Option<Row> {
         let block = self.kinds[kind].iter_mut().find(|b| usize::from(index.wrapping_sub(b.base)) < b.points.len())?;
         let point = &mut block.points[usize::from(index - block.base)];
         let row = Row { index, flags, value, time };
@@ -349,22 +407,77 @@ impl Outstation {
         self.sends(now, seq, is_first, w, is_last, 0)
     }
 
-    fn request(&mut self, now: u64, octets: &[u8]) -> Vec<u8> {
+    /// Sends an unsolicited response, and awaits its confirm.
+    fn reports(&mut self, now: u64, mut w: Writer) -> Vec<u8> {
+        let [one, two] = self.indications(&w.upto, 0);
+        w.octets[..4].copy_from_slice(&[0xF0 | self.next, 130, one, two]);
+        let ends = now.saturating_add(self.confirm_ms);
+        self.reported = Some(Reported { seq: self.next, octets: w.octets.clone(), upto: w.upto, ends, repeats: 0 });
+        self.next = (self.next + 1) % 16;
+        w.octets
+    }
+
+    fn holds_read(&self) -> bool {
+        self.last.as_ref().is_some_and(|asked| asked.is_held)
+    }
+
+    /// The end of a call, with an unsolicited response where one is due.
+    fn end(&mut self, now: u64, actions: Actions) -> Actions {
+        let is_free = self.awaited.is_none() && self.reported.is_none() && !self.holds_read();
+        let has_rows = |number: usize| self.enabled[number / 3] && !self.lanes[number].rows.is_empty();
+        if !(self.is_unsolicited && self.announced && self.is_open && is_free && (0..9).any(has_rows)) {
+            return actions;
+        }
+        let mut w = Writer::new(Place::default());
+        let rows = (0..9).filter(|number| has_rows(*number)).flat_map(|number| self.lanes[number].rows.iter().map(move |x| (number, x)));
+        for (number, x) in rows {
+            if w.event(0, number, x).is_err() {
+                break;
+            }
+        }
+        let report = Some(self.reports(now, w));
+        Actions { report, ..actions }
+    }
+
+    /// The classes of a request that enables or disables them.
+    fn switch(&mut self, on: bool, headers: &[u8]) -> u8 {
+        if !headers.chunks(3).all(|header| matches!(header, [0x3C, 2..=4, 6])) {
+            return 2;
+        }
+        for header in headers.chunks(3) {
+            self.enabled[usize::from(header[1]) - 2] = on;
+        }
+        0
+    }
+
+    fn request(&mut self, now: u64, octets: &[u8]) -> Option<Vec<u8>> {
         let seq = octets[0] & 15;
-        let bits = match headers(octets).map(|mut headers| headers.all(|header| self.is_inside(&header))) {
-            Err(_) if octets[1] == 2 && octets[2..] == [0x50, 1, 0, 7, 7, 0] => {
+        let mut w = Writer::new(Place::default());
+        let bits = match octets[1] {
+            3..=6 => match self.outputs.answer(now, octets) {
+                Ok(answer) => {
+                    w.octets = answer;
+                    0
+                }
+                Err(Fault::Object) => 2,
+                Err(_) => 4,
+            },
+            20 | 21 => self.switch(octets[1] == 20, &octets[2..]),
+            2 if octets[2..] == [0x50, 1, 0, 7, 7, 0] => {
                 self.restart = false;
                 0
             }
-            Ok(true) => {
-                let stood = self.lanes.iter().filter_map(|lane| lane.rows.back()).map(|x| x.id).max().unwrap_or(0);
-                self.last = Some(Asked { octets: octets.to_vec(), first: None, stood, left: None });
-                return self.read(now, seq, true, Place::default());
-            }
-            Ok(false) | Err(_) => 4,
+            _ => match headers(octets).map(|mut headers| headers.all(|header| self.is_inside(&header))) {
+                Ok(true) => {
+                    let stood = self.lanes.iter().filter_map(|lane| lane.rows.back()).map(|x| x.id).max().unwrap_or(0);
+                    self.last = Some(Asked { octets: octets.to_vec(), stood, ..Asked::default() });
+                    return Some(self.read(now, seq, true, Place::default()));
+                }
+                Ok(false) | Err(_) => 4,
+            },
         };
-        self.last = Some(Asked { octets: octets.to_vec(), first: None, stood: 0, left: None });
-        self.sends(now, seq, true, Writer::new(Place::default()), true, bits)
+        self.last = Some(Asked { octets: octets.to_vec(), ..Asked::default() });
+        (octets[1] != 6).then(|| self.sends(now, seq, true, w, true, bits))
     }
 
     fn confirm(&mut self, now: u64, seq: u8) -> Actions {
@@ -380,38 +493,75 @@ impl Outstation {
             }
         }
         let send = left.map(|place| self.read(now, (seq + 1) % 16, false, place));
-        Actions { send, discarded }
+        Actions { send, discarded, ..NOTHING }
+    }
+
+    /// The confirm of an unsolicited response, behind which a READ that waited is answered.
+    fn confirm_report(&mut self, now: u64, seq: u8) -> Actions {
+        let Some(reported) = self.reported.take_if(|w| w.seq == seq) else {
+            return NOTHING;
+        };
+        self.announced = true;
+        let discarded = self.release(&reported.upto);
+        let held = self.last.take_if(|asked| asked.is_held);
+        let send = held.and_then(|asked| self.request(now, &asked.octets));
+        Actions { send, discarded, ..NOTHING }
     }
 
     fn again(&mut self, now: u64, octets: &[u8]) -> Actions {
         let Some(first) = self.last.as_ref().and_then(|asked| asked.first.as_ref()) else {
             return NOTHING;
         };
-        if first.is_awaited {
+        if first.is_awaited && self.reported.is_none() {
             self.awaited = Some(Awaited { seq: octets[0] & 15, upto: first.upto, ends: now.saturating_add(self.confirm_ms) });
         }
-        Actions { send: Some(first.octets.clone()), discarded: Vec::new() }
+        Actions { send: Some(first.octets.clone()), ..NOTHING }
     }
 
-    pub fn tick(&mut self, now: u64) {
+    pub fn tick(&mut self, now: u64) -> Actions {
         self.awaited.take_if(|w| now >= w.ends);
+        let holds_read = self.holds_read();
+        if let Some(reported) = self.reported.as_mut().filter(|w| now >= w.ends) {
+            if holds_read || reported.repeats >= self.retries {
+                self.hung_up();
+                return Actions { close: true, ..NOTHING };
+            }
+            reported.repeats += 1;
+            reported.ends = now.saturating_add(self.confirm_ms);
+            return Actions { report: Some(reported.octets.clone()), ..NOTHING };
+        }
+        self.end(now, NOTHING)
     }
 
     pub fn receive(&mut self, now: u64, octets: &[u8]) -> Actions {
         let [control, function, ..] = octets else {
             return NOTHING;
         };
-        if octets.len() > MOST || control & 0xC0 != 0xC0 || *function >= 129 || control & 0x10 != 0 && *function != 0 {
+        let is_closed = !self.is_open || octets.len() > MOST;
+        if is_closed || control & 0xC0 != 0xC0 || *function >= 129 || control & 0x10 != 0 && *function != 0 {
             return NOTHING;
         }
-        if *function == 0 {
-            return if control & 0x10 == 0 { self.confirm(now, control & 15) } else { NOTHING };
-        }
-        if self.last.as_ref().is_some_and(|asked| asked.octets == octets) {
-            return self.again(now, octets);
-        }
+        let actions = if *function == 0 {
+            let confirm = if control & 0x10 == 0 { Outstation::confirm } else { Outstation::confirm_report };
+            confirm(self, now, control & 15)
+        } else if self.last.as_ref().is_some_and(|asked| asked.octets == octets) {
+            self.again(now, octets)
+        } else {
+            self.asked(now, octets)
+        };
+        self.end(now, actions)
+    }
+
+    fn asked(&mut self, now: u64, octets: &[u8]) -> Actions {
         self.awaited = None;
-        Actions { send: Some(self.request(now, octets)), discarded: Vec::new() }
+        if !matches!(octets[1], 3..=6) {
+            self.outputs.forget();
+        }
+        if octets[1] == 1 && self.reported.is_some() {
+            self.last = Some(Asked { octets: octets.to_vec(), is_held: true, ..Asked::default() });
+            return NOTHING;
+        }
+        Actions { send: self.request(now, octets), ..NOTHING }
     }
 }
 
@@ -420,7 +570,15 @@ fn number_of(fragment: &[u8]) -> u64 {
     fragment.iter().step_by(97).fold(fragment.len() as u64, |sum, octet| sum.wrapping_mul(31).wrapping_add(u64::from(*octet)))
 }
 
-const CLEARS: [u8; 8] = [0xC0, 0x02, 0x50, 0x01, 0x00, 0x07, 0x07, 0x00];
+/// An open outstation, which was announced, whose restart was cleared and class 1 enabled.
+fn station_of(counts: [usize; 3], is_unsolicited: bool) -> Outstation {
+    let mut station = Outstation::new(counts, 200, is_unsolicited);
+    station.opened(0);
+    station.receive(0, &[0xD0, 0x00]);
+    station.receive(0, &[0xC0, 0x02, 0x50, 0x01, 0x00, 0x07, 0x07, 0x00]);
+    station.receive(0, &[0xC0, 0x14, 0x3C, 0x02, 0x06]);
+    station
+}
 
 /// Sends a READ and each confirm that is asked for, looks at the timers, and makes a number of what comes.
 fn poll(station: &mut Outstation, read: &[u8]) -> u64 {
@@ -439,16 +597,51 @@ fn poll(station: &mut Outstation, read: &[u8]) -> u64 {
     sum
 }
 
+fn change(station: &mut Outstation, turn: u64, event: u16) -> Actions {
+    let value = (turn % 65_536) as i64 * 256 + i64::from(event) + 1;
+    station.change(0, 2, 0, value, 1, Some(1_000 + turn % 65_536))
+}
+
+/// `count` changes of an analog, each of which is reported and confirmed, or none.
+#[no_mangle]
+pub extern "C" fn plain_change(count: u64, is_unsolicited: bool) -> u64 {
+    let mut station = station_of([0, 0, 1], is_unsolicited);
+    let mut sum = 0u64;
+    for turn in 0..count {
+        let actions = change(&mut station, turn, 0);
+        sum = sum.wrapping_mul(31).wrapping_add(u64::from(actions.overwritten.is_some()));
+        if let Some(fragment) = actions.report {
+            sum = sum.wrapping_mul(31).wrapping_add(number_of(&fragment));
+            let actions = station.receive(0, &[0xD0 | fragment[0] & 15, 0]);
+            sum = sum.wrapping_mul(31).wrapping_add(actions.discarded.len() as u64);
+        }
+    }
+    sum
+}
+
+/// `count` pairs of a SELECT and its OPERATE.
+#[no_mangle]
+pub extern "C" fn plain_operate(count: u64) -> u64 {
+    let mut station = station_of([0, 0, 1], false);
+    let mut sum = 0u64;
+    for turn in 0..count {
+        let seq = (2 * turn % 16) as u8;
+        for [control, function] in [[0xC0 | seq, 3], [0xC1 | seq, 4]] {
+            let answer = station.receive(0, &[control, function, 0x0C, 1, 0x28, 1, 0, 5, 0, 3, 1, 0, 0, 0, 0, 0, 0, 0, 0, 0]).send;
+            sum = sum.wrapping_mul(31).wrapping_add(number_of(&answer.unwrap_or_default()));
+        }
+    }
+    sum ^ station.outputs.operated.len() as u64
+}
+
 /// `count` polls of classes 1, 2 and 3, before each of which an analog of class 1 changed `events` times.
 #[no_mangle]
 pub extern "C" fn plain_poll_events(count: u64, events: u16) -> u64 {
-    let mut station = Outstation::new([0, 0, 1], 200);
-    station.receive(0, &CLEARS);
+    let mut station = station_of([0, 0, 1], false);
     let mut sum = 0u64;
     for turn in 0..count {
         for event in 0..events {
-            let value = (turn % 65_536) as i64 * 256 + i64::from(event) + 1;
-            station.change(2, 0, value, 1, Some(1_000 + turn % 65_536));
+            change(&mut station, turn, event);
         }
         let control = 0xC0 | (turn % 16) as u8;
         let read = [control, 0x01, 0x3C, 0x02, 0x06, 0x3C, 0x03, 0x06, 0x3C, 0x04, 0x06];
@@ -460,8 +653,7 @@ pub extern "C" fn plain_poll_events(count: u64, events: u16) -> u64 {
 /// `count` READs of class 0 over 400 binaries, 300 counters and 300 analogs.
 #[no_mangle]
 pub extern "C" fn plain_poll_values(count: u64) -> u64 {
-    let mut station = Outstation::new([400, 300, 300], 200);
-    station.receive(0, &CLEARS);
+    let mut station = station_of([400, 300, 300], false);
     let mut sum = 0u64;
     for turn in 0..count {
         let control = 0xC0 | (2 * turn % 16) as u8;

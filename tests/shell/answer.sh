@@ -79,6 +79,48 @@ done
 for header in {'01 00','01 02','0A 00','0A 02','14 00','14 01','1E 00','1E 01'}{' 00 00 00',' 01 00 00 FF FF'}; do
     asks "has-no-point-of:$header" "C0 01 $header" 'C0 81 80 04'
 done
+asks enables-a-class 'C0 14 3C 02 06 3C 04 06' 'C0 81 80 00'
+asks disables-a-class 'C0 15 3C 03 06' 'C0 81 80 00'
+asks enables-no-present-values 'C0 14 3C 01 06' 'C0 81 80 02'
+asks enables-no-number-of-events 'C0 15 3C 02 07 01' 'C0 81 80 04'
+asks measures-no-delay 'C0 17' 'C0 81 80 00 34 02 07 01 00 00'
+asks measures-no-delay-whatever-follows 'C9 17 FF' 'C9 81 80 00 34 02 07 01 00 00'
+asks takes-a-time 'C0 02 32 01 07 01 E8 03 00 00 00 00' 'C0 81 80 00'
+asks takes-a-time-and-clears-the-restart 'C0 02 32 01 08 01 00 E8 03 00 00 00 00 50 01 00 07 07 00' 'C0 81 00 00'
+asks takes-no-two-times-at-once 'C0 02 32 01 07 02 E8 03 00 00 00 00 E9 03 00 00 00 00' 'C0 81 80 04'
+asks takes-no-time-beside-what-is-unknown 'C0 02 32 01 07 01 E8 03 00 00 00 00 3C 02 06' 'C0 81 80 02'
+
+# What controls are answered where there are no outputs. SELECT and DIRECT_OPERATE: NOT_SUPPORTED. OPERATE without its
+# select: NO_SELECT. Two commands, since there is room for one: TOO_MANY_OBJS each. DIRECT_OPERATE_NR has no answer,
+# in error either.
+# controls NAME OBJECTS SELECTED OPERATED: the four requests of these objects, which come back with other statuses
+controls() {
+    asks "selects-none:$1" "C3 03 $2" "C3 81 80 00 $3"
+    asks "operates-without-a-select-none:$1" "C4 04 $2" "C4 81 80 00 $4"
+    asks "operates-directly-none:$1" "C5 05 $2" "C5 81 80 00 $3"
+    asks "operates-and-does-not-answer:$1" "C6 06 $2" ''
+}
+for object in '0C 01:81 02 64 00 00 00 C8 00 00 00' '29 01:70 11 01 00' '29 02:FE FF'; do
+    for place in '17 01 05' '28 01 00 05 01'; do
+        command="${object%:*} $place ${object#*:}"
+        controls "$command" "$command 00" "$command 04" "$command 02"
+    done
+done
+controls a-status-with-the-bit-above-it '29 02 17 01 05 FE FF 80' '29 02 17 01 05 FE FF 04' '29 02 17 01 05 FE FF 02'
+controls no-command '29 02 17 00' '29 02 17 00' '29 02 17 00'
+controls no-header '' '' ''
+two='29 02 17 02 05 FE FF 08 06 FE FF 08'
+controls two-of-a-header '29 02 17 02 05 FE FF 00 06 FE FF 00' "$two" "$two"
+two='29 02 17 01 05 FE FF 08 29 01 28 01 00 05 00 70 11 01 00 08'
+controls two-under-two-headers '29 02 17 01 05 FE FF 00 29 01 28 01 00 05 00 70 11 01 00 04' "$two" "$two"
+for wrong in '0C 01:04' '0C 01 28 01:04' '0C 01 28 01 00 05 00:04' '0C 01 28 FF FF:04' '29 02 17 02 05 FE FF 00 06 FE FF:04' \
+    '0C 01 06:04' '0C 01 07 01 03 01 00 00 00 00 00 00 00 00 00:04' '0C 02 06:02' '29 03 17 01 05 00 00 00 00 00:02' '3C 02 06:02' \
+    '32 01 07 01 E8 03 00 00 00 00:02' '29 02 17 01 05 FE FF 00 0C 02 06:02'; do
+    for function in 03 04 05; do
+        asks "controls-nothing-by:$function ${wrong%:*}" "C0 $function ${wrong%:*}" "C0 81 80 ${wrong#*:}"
+    done
+    asks "controls-nothing-by:06 ${wrong%:*}" "C0 06 ${wrong%:*}" ''
+done
 
 # What is refused as a frame
 expect refuses-no-octets 1 'refused 1 Short' '' answer

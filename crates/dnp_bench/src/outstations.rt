@@ -1,13 +1,13 @@
-//! An outstation that is polled, as `bench/` calls it from C.
+//! An outstation that is polled, that reports changes and that operates, as `bench/` calls it from C.
 
-use dnp_controls::NoOutputs;
+use dnp_controls::PlainOutputs;
 use dnp_eventbuf::PlainLanes;
 use dnp_objects::Kind;
 use dnp_outstation::{Actions, Fragment, Outstation};
 use dnp_pointdb::{Block, Point, PointDb, PointPlan, Points, Reading, Times};
 use std::alloc::Global;
 
-type Station = Outstation<PlainLanes, NoOutputs>;
+type Station = Outstation<PlainLanes, PlainOutputs>;
 
 const TIMES: Times = Times {
     confirm_ms: 5_000,
@@ -27,19 +27,32 @@ fn block_of(alloc: Global, count: usize) -> Option<Vec<Block>> {
     vec![in alloc; Block { base: 0, points }].ok()
 }
 
-/// An open outstation with a block of so many points of each kind and lanes of 200 rows, whose
-/// restart was cleared.
-fn station_of(alloc: Global, counts: [usize; 3]) -> Option<Station> {
+/// The outstation is opened, announces itself where it does, has its restart cleared and class 1 enabled.
+fn open(alloc: Global, station: &mut Station) -> Option<()> {
+    station.opened(alloc, 0).ok()?;
+    station.receive(alloc, 0, &[0xD0, 0x00]).ok()?;
+    let clears = [0xC0, 0x02, 0x50, 0x01, 0x00, 0x07, 0x07, 0x00];
+    station.receive(alloc, 0, &clears).ok()?;
+    station
+        .receive(alloc, 0, &[0xC0, 0x14, 0x3C, 0x02, 0x06])
+        .ok()?;
+    Some(())
+}
+
+/// An open outstation with a block of so many points of each kind, lanes of 200 rows, six outputs and
+/// three setpoints, which may send unsolicited responses.
+fn station_of(alloc: Global, counts: [usize; 3], is_unsolicited: bool) -> Option<Station> {
     let binary = block_of(alloc, counts[0])?;
     let counter = block_of(alloc, counts[1])?;
     let analog = block_of(alloc, counts[2])?;
     let plan = PointPlan::new(binary, counter, analog).ok()?;
     let points = PointDb::new(alloc, plan).ok()?;
     let lanes = PlainLanes::new(alloc, [200; 9]).ok()?;
-    let mut station = Outstation::new(points, lanes, NoOutputs, TIMES);
-    station.opened(alloc, 0).ok()?;
-    let clears = [0xC0, 0x02, 0x50, 0x01, 0x00, 0x07, 0x07, 0x00];
-    station.receive(alloc, 0, &clears).ok()?;
+    let outputs = PlainOutputs::new(alloc, 6, 3);
+    let mut times = TIMES;
+    times.unsolicited = is_unsolicited;
+    let mut station = Outstation::new(points, lanes, outputs, times);
+    open(alloc, &mut station)?;
     Some(station)
 }
 
@@ -119,7 +132,7 @@ fn change(
 /// times, in one number; all ones where a call was refused.
 #[unsafe(no_mangle)]
 pub extern "C" fn dnp_bench_poll_events(alloc: Global, count: u64, events: u16) -> u64 {
-    let Some(mut station) = station_of(alloc, [0, 0, 1]) else {
+    let Some(mut station) = station_of(alloc, [0, 0, 1], false) else {
         return u64::MAX;
     };
     let mut actions = Actions::none(alloc);
@@ -144,7 +157,7 @@ pub extern "C" fn dnp_bench_poll_events(alloc: Global, count: u64, events: u16) 
 /// where a call was refused.
 #[unsafe(no_mangle)]
 pub extern "C" fn dnp_bench_poll_values(alloc: Global, count: u64) -> u64 {
-    let Some(mut station) = station_of(alloc, [400, 300, 300]) else {
+    let Some(mut station) = station_of(alloc, [400, 300, 300], false) else {
         return u64::MAX;
     };
     let mut actions = Actions::none(alloc);
@@ -158,4 +171,85 @@ pub extern "C" fn dnp_bench_poll_values(alloc: Global, count: u64) -> u64 {
         sum = sum.wrapping_mul(31).wrapping_add(number);
     }
     sum
+}
+
+/// The analog changes once. Makes a number of the row that a full lane drops for it, or of the response
+/// that reports it and of how many rows its confirm discards.
+fn report(
+    actions: &mut Actions,
+    alloc: Global,
+    station: &mut Station,
+    turn: u64,
+    sum: u64,
+) -> Option<u64> {
+    change(actions, alloc, station, turn, 1)?;
+    let lost = actions.overwritten.as_slice().len() as u64;
+    let sum = sum.wrapping_mul(31).wrapping_add(lost);
+    let Some((number, Some(seq))) = taken(&actions.send) else {
+        return Some(sum);
+    };
+    station
+        .receive_into(actions, alloc, 0, &[0xD0 | seq, 0])
+        .ok()?;
+    let discarded = actions.discarded.as_slice().len() as u64;
+    let sum = sum.wrapping_mul(31).wrapping_add(number);
+    Some(sum.wrapping_mul(31).wrapping_add(discarded))
+}
+
+/// `count` changes of an analog of class 1, each of which is reported and confirmed where the outstation
+/// sends unsolicited responses, and else goes to a lane that is full, in one number; all ones where a
+/// call was refused.
+#[unsafe(no_mangle)]
+pub extern "C" fn dnp_bench_change(alloc: Global, count: u64, is_unsolicited: bool) -> u64 {
+    let Some(mut station) = station_of(alloc, [0, 0, 1], is_unsolicited) else {
+        return u64::MAX;
+    };
+    let mut actions = Actions::none(alloc);
+    let mut sum = 0u64;
+    for turn in 0..count {
+        let Some(number) = report(&mut actions, alloc, &mut station, turn, sum) else {
+            return u64::MAX;
+        };
+        sum = number;
+    }
+    sum
+}
+
+/// A SELECT of LATCH_ON of the output 5, and its OPERATE. Makes a number of their answers.
+fn operate(
+    actions: &mut Actions,
+    alloc: Global,
+    station: &mut Station,
+    turn: u64,
+    sum: u64,
+) -> Option<u64> {
+    let seq = (2 * (turn % 8)) as u8;
+    let mut sum = sum;
+    for front in [[0xC0 | seq, 0x03], [0xC1 | seq, 0x04]] {
+        let request = [
+            front[0], front[1], 0x0C, 0x01, 0x28, 0x01, 0x00, 0x05, 0x00, 0x03, 0x01, 0, 0, 0, 0, 0,
+            0, 0, 0, 0,
+        ];
+        station.receive_into(actions, alloc, 0, &request).ok()?;
+        let (number, _) = taken(&actions.send)?;
+        sum = sum.wrapping_mul(31).wrapping_add(number);
+    }
+    Some(sum)
+}
+
+/// `count` pairs of a SELECT and its OPERATE, in one number; all ones where a call was refused.
+#[unsafe(no_mangle)]
+pub extern "C" fn dnp_bench_operate(alloc: Global, count: u64) -> u64 {
+    let Some(mut station) = station_of(alloc, [0, 0, 1], false) else {
+        return u64::MAX;
+    };
+    let mut actions = Actions::none(alloc);
+    let mut sum = 0u64;
+    for turn in 0..count {
+        let Some(number) = operate(&mut actions, alloc, &mut station, turn, sum) else {
+            return u64::MAX;
+        };
+        sum = number;
+    }
+    sum ^ station.outputs().operated().len() as u64
 }

@@ -26,7 +26,8 @@ fn main(rt: HostRuntime) -> io::Result<()> {
     print(&rt, "master", masters::poll(alloc))?;
     print(&rt, "book", controls::add_and_list(alloc))?;
     print(&rt, "outputs", controls::operate(alloc))?;
-    print(&rt, "outstation", outstations::poll(alloc))
+    print(&rt, "outstation", outstations::run(alloc, false))?;
+    print(&rt, "unsolicited", outstations::run(alloc, true))
 }
 
 /// Prints a case's name and its number, or that it took a wrong turn.

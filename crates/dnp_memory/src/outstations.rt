@@ -1,13 +1,13 @@
-//! An outstation that is polled.
+//! An outstation that is polled, and one that sends unsolicited responses and operates.
 
-use dnp_controls::NoOutputs;
-use dnp_eventbuf::PlainLanes;
-use dnp_objects::Kind;
+use dnp_controls::PlainOutputs;
+use dnp_eventbuf::{Lane, LaneRow, Lanes, PlainLanes, is_carried};
+use dnp_objects::{Kind, Row};
 use dnp_outstation::{Actions, Outstation};
 use dnp_pointdb::{Block, Point, PointDb, PointPlan, Points, Reading, Times};
 use std::alloc::Global;
 
-type Station = Outstation<PlainLanes, NoOutputs>;
+type Station = Outstation<PlainLanes, PlainOutputs>;
 
 const TIMES: Times = Times {
     confirm_ms: 5_000,
@@ -17,8 +17,9 @@ const TIMES: Times = Times {
     unsolicited: false,
 };
 
-/// An outstation with a binary of class 1, whose lanes take two rows each.
-fn station(alloc: Global) -> Option<Station> {
+/// An outstation with a binary of class 1 and six outputs, whose lanes take two rows each, and which may
+/// send unsolicited responses.
+fn station(alloc: Global, is_unsolicited: bool) -> Option<Station> {
     let point = Point {
         class: 1,
         deadband: 0,
@@ -29,21 +30,43 @@ fn station(alloc: Global) -> Option<Station> {
     let plan = PointPlan::new(binary, Vec::new(alloc), Vec::new(alloc)).ok()?;
     let points = PointDb::new(alloc, plan).ok()?;
     let lanes = PlainLanes::new(alloc, [2; 9]).ok()?;
-    Some(Outstation::new(points, lanes, NoOutputs, TIMES))
+    let outputs = PlainOutputs::new(alloc, 6, 0);
+    let mut times = TIMES;
+    times.unsolicited = is_unsolicited;
+    Some(Outstation::new(points, lanes, outputs, times))
 }
 
-/// The binary changes, and so many rows are overwritten.
-fn change(alloc: Global, station: &mut Station, value: i64) -> Option<u64> {
+/// The binary changes.
+fn change(alloc: Global, station: &mut Station, value: i64) -> Option<Actions> {
     let reading = Reading {
         value,
         flags: 1,
         time: Some(1_000),
     };
-    let actions = match station.change(alloc, 0, Kind::Binary, 0, reading) {
-        Ok(actions) => actions,
-        Err(_) => station.change(alloc, 0, Kind::Binary, 0, reading).ok()?,
+    match station.change(alloc, 0, Kind::Binary, 0, reading) {
+        Ok(actions) => Some(actions),
+        Err(_) => station.change(alloc, 0, Kind::Binary, 0, reading).ok(),
+    }
+}
+
+/// Somebody else appends an event of the binary.
+fn append(alloc: Global, lanes: &mut PlainLanes) -> Option<()> {
+    let lane = Lane::new(1, Kind::Binary)?;
+    let row = Row {
+        kind: Kind::Binary,
+        index: 0,
+        flags: 1,
+        value: 1,
+        time: Some(1_000),
     };
-    Some(actions.overwritten.as_slice().len() as u64)
+    let event = LaneRow { lane, row };
+    if !is_carried(&event) {
+        return None;
+    }
+    if lanes.append(alloc, &[event]).is_err() {
+        lanes.append(alloc, &[event]).ok()?;
+    }
+    Some(())
 }
 
 /// Octets come.
@@ -68,27 +91,84 @@ fn with_digits(number: u64, digits: u64) -> u64 {
     number.wrapping_mul(100).wrapping_add(digits)
 }
 
+/// How long the fragment is that is sent.
+fn length(actions: &Actions) -> Option<u64> {
+    match &actions.send[0] {
+        Some(fragment) => Some(fragment.len() as u64),
+        None => None,
+    }
+}
+
+/// How many rows were overwritten.
+fn overwritten(actions: &Actions) -> u64 {
+    actions.overwritten.as_slice().len() as u64
+}
+
+/// How many rows were confirmed.
+fn discarded(actions: &Actions) -> u64 {
+    actions.discarded.as_slice().len() as u64
+}
+
 /// Changes a binary three times, reads class 1, confirms, changes it once more and restarts. The
 /// number has two digits for each: how many rows each change overwrites, how long the response is,
 /// how many rows are confirmed, and how many the restart takes.
-pub(crate) fn poll(alloc: Global) -> Option<u64> {
-    let mut made = station(alloc);
+fn poll(alloc: Global, station: &mut Station) -> Option<u64> {
+    let mut number = 0u64;
+    for value in [1, 0, 1] {
+        let changed = change(alloc, station, value)?;
+        number = with_digits(number, overwritten(&changed));
+    }
+    let response = receive(alloc, station, &[0xC1, 0x01, 0x3C, 0x02, 0x06])?;
+    number = with_digits(number, length(&response)?);
+    let confirmed = receive(alloc, station, &[0xC1, 0x00])?;
+    number = with_digits(number, discarded(&confirmed));
+    change(alloc, station, 0)?;
+    Some(with_digits(number, restart(alloc, station)?))
+}
+
+/// Selects the output 5 and operates it twice, once directly. The number has two digits for each: how
+/// long each answer is, and how many commands were performed.
+fn operate(alloc: Global, station: &mut Station, number: u64) -> Option<u64> {
+    let mut number = number;
+    for front in [[0xC3, 0x03], [0xC4, 0x04], [0xC5, 0x05]] {
+        let request = [
+            front[0], front[1], 0x0C, 0x01, 0x28, 0x01, 0x00, 0x05, 0x00, 0x03, 0x01, 0, 0, 0, 0,
+            0, 0, 0, 0, 0,
+        ];
+        let answer = receive(alloc, station, &request)?;
+        number = with_digits(number, length(&answer)?);
+    }
+    Some(with_digits(number, station.outputs().operated().len() as u64))
+}
+
+/// Enables class 1, whose lane somebody else fills, changes the binary, confirms what goes out then, and
+/// operates. The number has two digits for each: how many rows the change overwrites, how long the
+/// response is, how many rows are confirmed, and those of `operate`.
+fn report(alloc: Global, station: &mut Station) -> Option<u64> {
+    receive(alloc, station, &[0xD0, 0x00])?;
+    receive(alloc, station, &[0xC0, 0x14, 0x3C, 0x02, 0x06])?;
+    append(alloc, station.lanes())?;
+    append(alloc, station.lanes())?;
+    let changed = change(alloc, station, 1)?;
+    let mut number = with_digits(overwritten(&changed), length(&changed)?);
+    let confirmed = receive(alloc, station, &[0xD1, 0x00])?;
+    number = with_digits(number, discarded(&confirmed));
+    operate(alloc, station, number)
+}
+
+/// Opens an outstation, and polls it, or has it send unsolicited responses and operate.
+pub(crate) fn run(alloc: Global, is_unsolicited: bool) -> Option<u64> {
+    let mut made = station(alloc, is_unsolicited);
     if made.is_none() {
-        made = station(alloc);
+        made = station(alloc, is_unsolicited);
     }
     let mut station = made?;
     if station.opened(alloc, 0).is_err() {
         station.opened(alloc, 0).ok()?;
     }
-    let mut number = 0u64;
-    for value in [1, 0, 1] {
-        number = with_digits(number, change(alloc, &mut station, value)?);
+    if is_unsolicited {
+        report(alloc, &mut station)
+    } else {
+        poll(alloc, &mut station)
     }
-    let response = receive(alloc, &mut station, &[0xC1, 0x01, 0x3C, 0x02, 0x06])?;
-    let length = response.send[0].as_ref()?.len() as u64;
-    number = with_digits(number, length);
-    let confirmed = receive(alloc, &mut station, &[0xC1, 0x00])?;
-    number = with_digits(number, confirmed.discarded.as_slice().len() as u64);
-    change(alloc, &mut station, 0)?;
-    Some(with_digits(number, restart(alloc, &mut station)?))
 }
