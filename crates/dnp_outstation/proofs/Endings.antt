@@ -1,6 +1,5 @@
 -- The end of a call, by what is known before it.
 use Rattle.std.proofs.Common.{◌≡◌, ℕ, Bool, true, false, not, ◌&&◌, if◌then◌else◌, is_none, List, Option, None, Some, IfSome, refl, sym, ap, ◌∙◌}
-use Rattle.std.proofs.lemmas.Bool.{and_parts}
 use Rattle.dnp_controls.specs.Selecting.{deadline}
 use Rattle.dnp_outstation.specs.declared.session.Awaited.{Awaited}
 use Rattle.dnp_outstation.specs.declared.session.FirstFragment.{FirstFragment}

@@ -1,5 +1,5 @@
 -- A READ that waits for an unsolicited response, and its answer.
-use Rattle.std.proofs.Common.{◌≡◌, ℕ, true, Option, None, Some, IfSome, refl, sym, ap, subst, ◌∙◌}
+use Rattle.std.proofs.Common.{◌≡◌, ℕ, true, Option, None, Some, IfSome, refl, sym, ap}
 use Rattle.dnp_controls.specs.Panel.{Panel}
 use Rattle.dnp_outstation.specs.declared.answer.Answer.{Answer}
 use Rattle.dnp_outstation.specs.declared.answer.Switches.{Switches}

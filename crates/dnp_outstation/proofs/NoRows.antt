@@ -1,5 +1,5 @@
 -- Lanes without rows offer none, release none and drop none.
-use Rattle.std.proofs.Common.{rules, ◌≡◌, ◌≢◌, ℕ, zero, suc, Bool, true, false, if◌then◌else◌, Option, None, Some, option_to_list, List, [], ◌∷◌, ◌++◌, map, filter, take, length, nat_lt, nat_le, slice_index_or, refl, ap, sym, ◌∙◌}
+use Rattle.std.proofs.Common.{◌≡◌, ◌≢◌, ℕ, zero, suc, Bool, true, false, if◌then◌else◌, Option, None, Some, option_to_list, List, [], ◌∷◌, ◌++◌, map, filter, take, nat_lt, nat_le, slice_index_or, refl, ap, ◌∙◌}
 use Rattle.dnp_objects.specs.Lanes.{lane_number}
 use Rattle.dnp_objects.specs.declared.lane.LaneRow.{LaneRow}
 use Rattle.dnp_objects.specs.declared.row.Row.{Row}

@@ -12,18 +12,16 @@ use Rattle.dnp_appfragment.specs.declared.function.Function.TheVariants as funct
 use Rattle.dnp_appfragment.specs.Built.{Built, with_object, with_run, broken, heads, front_size}
 use Rattle.dnp_appfragment.specs.Headers.{Head, spelled}
 use Rattle.dnp_appfragment.specs.Joining.{joined}
-use Rattle.dnp_appfragment.specs.Table.{is_response}
 use Rattle.dnp_eventbuf.specs.declared.numbered.Numbered.{Numbered}
 use Rattle.dnp_objects.specs.declared.limits.TheConstants.{MAX_ID}
 use Rattle.dnp_eventbuf.specs.Stock.{Stock, lane_at}
 use Rattle.dnp_eventbuf.specs.Sound.{IsSound}
 use Rattle.dnp_eventbuf.proofs.Soundness.{IsSound-without}
-use Rattle.dnp_outstation.specs.declared.offer.place.Place.{Place}
 use Rattle.dnp_outstation.specs.declared.offer.writer.Run.{Run}
 use Rattle.dnp_outstation.specs.declared.offer.writer.Writer.{Writer}
 use Rattle.dnp_outstation.specs.Items.{Thing, Item, no_ids, first_place, place_after, given_after, rows_left, event_of, event_items, class_lanes, enabled_lanes, lane_items}
 use Rattle.dnp_outstation.specs.Filling.{after_release, is_same_run, put, fits, fill, ended, built_for, empty_for, empty_from}
-use Rattle.dnp_outstation.specs.Offer.{Filled, offered_of, pushed}
+use Rattle.dnp_outstation.specs.Offer.{Filled, pushed}
 use Rattle.dnp_outstation.specs.Putting.{Puts}
 use Rattle.dnp_outstation.proofs.Carried.{lane_rises}
 use Rattle.dnp_outstation.proofs.Filled.{fill_offers}

@@ -6,17 +6,15 @@ use Rattle.dnp_appfragment.specs.declared.fault.AppFault.{AppFault}
 use Rattle.dnp_appfragment.specs.declared.function.Function.TheVariants as function
 use Rattle.dnp_appfragment.specs.Control.{ControlBits}
 use Rattle.dnp_appfragment.specs.Fragments.{Asked, response_octets}
-use Rattle.dnp_appfragment.specs.Headers.{Head}
 use Rattle.dnp_appfragment.specs.Meaning.{control_of, request_at}
 use Rattle.dnp_appfragment.specs.Table.{function_octet}
 use Rattle.dnp_controls.specs.Panel.{Panel}
 use Rattle.dnp_controls.specs.Selecting.{deadline}
-use Rattle.dnp_eventbuf.specs.Stock.{Stock, lane_at, without, all_up_to}
-use Rattle.dnp_outstation.specs.State.{Core, State, Step, Actions, nothing, sending, still, new_session, with_session, holds_read, is_free}
+use Rattle.dnp_eventbuf.specs.Stock.{lane_at, without, all_up_to}
+use Rattle.dnp_outstation.specs.State.{Core, State, Step, nothing, sending, still, new_session, with_session, holds_read, is_free}
 use Rattle.dnp_outstation.specs.declared.offer.place.Place.{Place}
 use Rattle.dnp_outstation.specs.declared.case.Case.{Case}
 use Rattle.dnp_outstation.specs.declared.case.Case.TheVariants.{PassedOver, Confirms, ConfirmsUnsolicited, Stray, Again, Waits, Asks}
-use Rattle.dnp_outstation.specs.declared.session.FirstFragment.{FirstFragment}
 use Rattle.dnp_outstation.specs.declared.session.Reply.{Reply}
 use Rattle.dnp_outstation.specs.declared.session.Reply.TheVariants.{Held, Silent, First, Further}
 use Rattle.dnp_outstation.specs.declared.session.LastRequest.{LastRequest}

@@ -1,5 +1,5 @@
 -- Private steps: rows that are held while a row is appended, and the rows of the lanes after it.
-use Rattle.std.specs.Prelude.{◌≡◌, ◌≤◌, ◌+◌, ◌*◌, ◌==◌, ◌&&◌, ℕ, Bool, true, false, if◌then◌else◌, List, [], ◌∷◌, ◌++◌, take, drop, All, slice_index_or, Option, None, Some}
+use Rattle.std.specs.Prelude.{◌≡◌, ◌≤◌, ◌+◌, ◌*◌, ◌==◌, ◌&&◌, ℕ, Bool, true, false, if◌then◌else◌, List, [], ◌∷◌, take, drop, All, slice_index_or, Option, None, Some}
 use Rattle.dnp_objects.specs.declared.lane.LaneRow.{LaneRow}
 use Rattle.dnp_objects.specs.Events.{IsEvent}
 use Rattle.dnp_objects.specs.Lanes.{lane_number}

@@ -1,5 +1,5 @@
-use Rattle.std.proofs.Common.{rules, ◌≡◌, true, List, ℕ, refl, ap, sym, ◌∙◌}
-use Rattle.dnp_outstation.specs.Connection.{control_in, replied, answers_held}
+use Rattle.std.proofs.Common.{rules, ◌≡◌, true, List, ℕ, ap, sym, ◌∙◌}
+use Rattle.dnp_outstation.specs.Connection.{control_in, replied}
 use Rattle.dnp_outstation.specs.Content.{content_of}
 use Rattle.dnp_outstation.specs.State.{holds_read}
 use Rattle.dnp_outstation.proofs.HeldRead.{held_is_answered}

@@ -1,4 +1,4 @@
-use Rattle.std.proofs.Common.{rules, ◌≡◌, ◌≢◌, Bool, true, false, ◌&&◌, [], is_some, option_to_list, refl, ap, sym, subst, ◌∙◌, List, Option, Result, Ok, Err}
+use Rattle.std.proofs.Common.{◌≡◌, ◌≢◌, false, ◌&&◌, [], is_some, option_to_list, refl, ap, sym, subst, ◌∙◌, List, Option, Result, Ok, Err}
 use Rattle.std.specs.Result.{IfOk, IsErrAnd}
 use Rattle.std.proofs.lemmas.Bool.{and_left}
 use Rattle.std.proofs.lemmas.Result.{err_from_is_err_and}

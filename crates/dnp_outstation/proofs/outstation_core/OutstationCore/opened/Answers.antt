@@ -1,8 +1,8 @@
-use Rattle.std.proofs.Common.{rules, ◌≡◌, true, refl, ap, sym, subst, ◌∙◌}
+use Rattle.std.proofs.Common.{◌≡◌, true, refl, ap, sym, subst, ◌∙◌}
 use Rattle.dnp_eventbuf.specs.Stock.{Stock}
 use Rattle.dnp_outstation.specs.Calls.{opened_of}
 use Rattle.dnp_outstation.specs.Pushing.{ended_by}
-use Rattle.dnp_outstation.specs.State.{Core, State, Step, Actions, new_session, still}
+use Rattle.dnp_outstation.specs.State.{Core, State, Step, Actions, still}
 use Rattle.dnp_outstation.specs.Station.{state_of}
 use Rattle.dnp_outstation.specs.Links.{begun}
 use Rattle.dnp_outstation.specs.declared.session.Session.{Session}

@@ -1,4 +1,4 @@
-use Rattle.std.proofs.Common.{rules, ◌≡◌, ℕ, ◌≤◌, List, length, refl, ap, sym, subst, ◌∙◌}
+use Rattle.std.proofs.Common.{ℕ, ◌≤◌, List, length, refl, ap, sym, subst, ◌∙◌}
 use Rattle.dnp_outstation.specs.Connection.{unsolicited_timer}
 use Rattle.dnp_outstation.specs.State.{Core, State}
 use Rattle.dnp_outstation.proofs.Timing.{again_whole}
