@@ -11,6 +11,7 @@ use crate::run::{Run, longer};
 use crate::table::{Form, form_of};
 use crate::written::{Event, Indexed, Object, Point};
 use arrayvec::ArrayVec;
+use dnp_objects::laws::a_written_row_fills_its_object;
 use dnp_objects::{Command, MAX_FRAGMENT, Row, Status, write_command};
 use std::marker::Model;
 use thiserror::Error;
@@ -188,6 +189,7 @@ impl Builder {
         ensures err { OnErr result (self.new ≡ self.old) }
         ensures function { self.new.function ≡ self.old.function }
     {
+        a_written_row_fills_its_object();
         self.put(&Event { row })
     }
 
@@ -205,6 +207,7 @@ impl Builder {
         ensures err { OnErr result (self.new ≡ self.old) }
         ensures function { self.new.function ≡ self.old.function }
     {
+        a_written_row_fills_its_object();
         self.put(&Point { group, row })
     }
 

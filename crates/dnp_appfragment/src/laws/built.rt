@@ -10,7 +10,7 @@ ghost use Rattle.dnp_appfragment.specs.Built.{Built, heads, broken, with_header,
 ghost use Rattle.dnp_appfragment.specs.Written.{FitsPoint, event, point, order};
 ghost use Rattle.dnp_appfragment.specs.Items.{Item, Holds, HoldAll, event_item, point_item, command_item};
 
-use dnp_objects::laws::a_written_command_is_read;
+use dnp_objects::laws::{a_written_command_is_read, a_written_row_fills_its_object};
 
 /// A row or a command that is put is one object, as a header of its own.
 pub fn a_header_holds_what_was_put()
@@ -18,7 +18,9 @@ pub fn a_header_holds_what_was_put()
     ensures point { (group : ℕ) (row : Row) → FitsPoint group row → Holds (point group row) (point_item group row ∷ []) }
     ensures order { (command : Command) (status : ℕ) → index_of command < 2 ^ 16
         → Holds (order command status) (command_item command status ∷ []) }
-{}
+{
+    a_written_row_fills_its_object();
+}
 
 /// What a call puts comes after the objects that were put before, whether it
 /// joined a header or not; and ending a run changes no object.

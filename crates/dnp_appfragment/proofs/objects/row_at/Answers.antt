@@ -1,8 +1,8 @@
-use Rattle.std.proofs.Common.{◌≡◌}
+use Rattle.std.proofs.Common.{◌≡◌, ◌∙◌, sym}
+use Rattle.dnp_appfragment.specs.Seen.{head_of}
 use Rattle.dnp_appfragment.proofs.HeaderObjects.{bit_only, sized_only}
 use Rattle.dnp_appfragment.proofs.There.{bits_of, rows_of}
-use Rattle.dnp_appfragment.proofs.Numbers.{are_octets}
-use Rattle.dnp_appfragment.proofs.ObjectValues.{given_bit, given_object_row}
+use Rattle.dnp_appfragment.proofs.ObjectValues.{bit_said, object_row_said}
 use Rattle.dnp_appfragment.proofs.objects.row_at.Goals as goal
 use Rattle.dnp_appfragment.proofs.objects.row_at.Goals.{else-group-eq1-via-then-group-eq1+else-variation-eq1, else-group-eq1-via-else-group-eq1}
 
@@ -42,8 +42,7 @@ returns-else-group-eq1-clause-there c = λ has here.
 pub returns-then-variation-eq1-clause-value : goal.returns-then-variation-eq1-clause-value
 returns-then-variation-eq1-clause-value c =
     let a = c.args in
-    given_bit a.group a.variation a.range a.octets.now a.k c.bit_at.result (are_octets a.octets.now (λ i. let fits = c.type_inv.octets i in fits.fits))
-    c.if-group-eq1.true c.if-variation-eq1.true c.bit_at.ensures.found c.bit_at.ensures.only
+    c.bit_at.ensures.value ∙ sym (bit_said a.group a.variation a.range a.octets.now a.k c.if-group-eq1.true c.if-variation-eq1.true)
 
 pub returns-else-group-eq1-clause-value : goal.returns-else-group-eq1-clause-value
 returns-else-group-eq1-clause-value c =
@@ -53,5 +52,4 @@ returns-else-group-eq1-clause-value c =
       | else-group-eq1-via-then-group-eq1+else-variation-eq1 w ↦ w.if-variation-eq1.false variation
       | else-group-eq1-via-else-group-eq1 w ↦ w.if-group-eq1.false group
     ] in
-    given_object_row a.group a.variation a.range a.octets.now a.k c.object_row_at.result
-    (are_octets a.octets.now (λ i. let fits = c.type_inv.octets i in fits.fits)) other c.object_row_at.ensures.found c.object_row_at.ensures.only
+    c.object_row_at.ensures.value ∙ sym (object_row_said (head_of a.group a.variation a.range a.octets.now) a.k other)
