@@ -70,7 +70,7 @@ pub record IsSized (g v : ℕ) (octets : List ℕ) : Type 0 where
   pub length_is : length octets ≡ size
 
 -- by the law that a row fills the object that it is written as
-abbrev RowsFill : Type 0
+abbrev pub RowsFill : Type 0
 RowsFill = (g v : ℕ) (row : Row) → Fits g v row → object_size g v ≡ Some (length (written g v row))
 
 pub row_sized : RowsFill → (g v : ℕ) (row : Row) → Fits g v row → IsSized g v (written g v row)

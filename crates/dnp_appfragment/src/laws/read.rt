@@ -45,6 +45,17 @@ pub fn objects_say_rows_and_commands()
     octets_are_read_as_one_command();
 }
 
+/// The row and the command that object k of a header is are those that `row_in` and `command_in` give,
+/// of octets and of any other numbers.
+pub fn what_is_there_is_said()
+    ensures row { (header : Head) (k : ℕ) (row : Row) → IsRow header k row → row_in header k ≡ Some row }
+    ensures command { (header : Head) (k : ℕ) (answer : Command × ℕ) → IsCommand header k answer
+        → command_in header k ≡ Some answer }
+{
+    octets_are_read_as_one_row();
+    octets_are_read_as_one_command();
+}
+
 /// A row of a header, of packed bits too, is one that an event object of its kind carries.
 pub fn rows_are_events()
     ensures { (header : Head) (k : ℕ) (row : Row) → IsRow header k row → IsEvent row }
