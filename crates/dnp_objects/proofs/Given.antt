@@ -1,5 +1,5 @@
 -- What octets give by their parts is what they are read as, and a row fills the object that it is written as.
-use Rattle.std.proofs.Common.{◌≡◌, sym, ap, subst, ℕ, ◌<◌, ◌^◌, List, [], length, get_or, arith, Option, Some, None, IfSome, IsTrue, inl, inr}
+use Rattle.std.proofs.Common.{◌≡◌, sym, ap, ℕ, ◌<◌, ◌^◌, List, [], length, get_or, arith, Option, Some, None, IfSome, IsTrue, inl, inr}
 use Rattle.std.specs.List.{All}
 use Rattle.std.specs.Option.{option_map, option_map_or, option_and_then, IsSomeAnd}
 use Rattle.std.proofs.lemmas.Bool.{cases_lt}

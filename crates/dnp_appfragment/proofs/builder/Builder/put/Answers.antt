@@ -1,5 +1,4 @@
-use Rattle.std.proofs.Common.{rules, ◌≡◌, ◌∙◌, ap, subst, refl, sym, true, ℕ, ◌+◌, ◌≤◌, length, Some, None, arith}
-use Rattle.dnp_objects.specs.declared.limits.TheConstants.{MAX_FRAGMENT}
+use Rattle.std.proofs.Common.{rules, ◌≡◌, ◌∙◌, ap, subst, refl, sym, true, ℕ, ◌+◌, length, Some, None, arith}
 use Rattle.dnp_appfragment.specs.Headers.{Head, NumbersFit, IsHeader, number}
 use Rattle.dnp_appfragment.specs.Table.{form_of}
 use Rattle.dnp_appfragment.specs.Overwriting.{written_over}
