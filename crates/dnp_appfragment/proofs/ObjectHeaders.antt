@@ -1,6 +1,5 @@
 -- Rows and commands that are put are headers of their function, each with one object.
 use Rattle.std.proofs.Common.{◌≡◌, Bool, true, false, IsTrue, refl, sym, ◌∙◌, ap, subst, ℕ, ◌+◌, ◌-◌, ◌*◌, ◌^◌, ◌<◌, ◌==◌, ◌||◌, List, [], ◌∷◌, length, arith, Option, Some, None, IsSome, ◌⊎◌, inl, inr, eqb-true}
-use Rattle.std.specs.Option.{option_map, option_map_or, option_and_then, IsSomeAnd}
 use Rattle.dnp_objects.specs.Objects.{objects, content_of, object_size}
 use Rattle.dnp_objects.specs.Rows.{written}
 use Rattle.dnp_objects.specs.Commands.{object_of, index_of, command_octets}
@@ -9,8 +8,6 @@ use Rattle.dnp_objects.specs.declared.command.Command.TheVariants as command
 use Rattle.dnp_objects.specs.declared.row.Kind.{Kind}
 use Rattle.dnp_objects.specs.declared.row.Kind.TheVariants.{Binary, Counter, Analog}
 use Rattle.dnp_objects.specs.declared.row.Row.{Row}
-use Rattle.dnp_objects.specs.declared.table.Content.{Content}
-use Rattle.dnp_objects.specs.declared.table.Content.TheVariants as content
 use Rattle.dnp_objects.proofs.Given.{fills}
 use Rattle.dnp_appfragment.specs.declared.function.Function.{Function}
 use Rattle.dnp_appfragment.specs.declared.header.Range.TheVariants as range

@@ -1,5 +1,5 @@
 -- The functions of object k of a header, `row_in` and `command_in`, give what the relations say, on octets.
-use Rattle.std.proofs.Common.{◌≡◌, refl, sym, ◌∙◌, ap, subst, ℕ, zero, suc, ◌+◌, ◌/◌, ◌<◌, ◌^◌, Bool, true, false, cond, List, [], ◌∷◌, ◌++◌, length, arith, Option, Some, None, IfSome, nat_lt, ◌==◌, ◌&&◌, inl, inr, eqb-true}
+use Rattle.std.proofs.Common.{◌≡◌, refl, sym, ◌∙◌, ap, subst, ℕ, ◌+◌, ◌/◌, ◌<◌, ◌^◌, Bool, true, false, cond, List, [], ◌∷◌, ◌++◌, length, Option, Some, None, IfSome, nat_lt, ◌==◌, ◌&&◌, inl, inr, eqb-true}
 use Rattle.std.specs.List.{All}
 use Rattle.std.specs.Prelude.{is_some, IsSome, pos, ◌%◌, slice_index}
 use Rattle.std.specs.Int.{bit_at}
@@ -28,7 +28,7 @@ use Rattle.dnp_appfragment.specs.Meaning.{start_of, bit_in, shaped_row_in, row_i
 use Rattle.dnp_appfragment.specs.Seen.{head_of}
 use Rattle.dnp_appfragment.proofs.Numbers.{AreOctets}
 use Rattle.dnp_appfragment.proofs.There.{commands_of}
-use Rattle.dnp_appfragment.proofs.HeaderObjects.{object_reads, object_again, packed_unsized, bit_only, sized_only}
+use Rattle.dnp_appfragment.proofs.HeaderObjects.{object_reads, object_again, packed_unsized}
 
 -- ---- the laws of `dnp_objects` that the proofs rest on
 
@@ -197,6 +197,13 @@ bit_again h k row is =
     spans (range.Count wide n) index span at = absurd span
     spans (range.Indexed wide n) index span at = absurd span
 
+-- an object of the size that the table has stands where it is cut
+found_at : (h : Head) (k size n index : ℕ) (octets : List ℕ) → object_size h.group h.variation ≡ Some size → object_size h.group h.variation ≡ Some n
+    → IsObject h size k index octets → object_at h.range h.octets n k ≡ Some (index, octets)
+found_at h k size n index octets is same object =
+    ap (λ (m : ℕ). object_at h.range h.octets m k) (same_some (object_size h.group h.variation) n size same is)
+    ∙ object_again h.group h.variation h.range h.octets size k index octets object
+
 object_row_again : RowsAlone → (h : Head) (k : ℕ) (row : Row) → IsObjectRow h k row
     → option_and_then (shaped_row_in h k) (shape_read h.group h.variation) ≡ Some row
 object_row_again law h k row is =
@@ -206,10 +213,8 @@ object_row_again law h k row is =
         → option_and_then (shaped_row_in h k) o ≡ Some row
     go None at one = cc
     go (Some s) at one =
-        let same : is.size ≡ shape_size s = same_some (object_size h.group h.variation) is.size (shape_size s) is.size_is (shape_sized h.group h.variation s at) in
-        ap (λ (n : ℕ). option_map (λ (x : ℕ × List ℕ). row_of s x.0 x.1) (object_at h.range h.octets n k)) (sym same)
-        ∙ ap (option_map (λ (x : ℕ × List ℕ). row_of s x.0 x.1))
-        (object_again h.group h.variation h.range h.octets is.size k is.index is.octets is.object)
+        ap (option_map (λ (x : ℕ × List ℕ). row_of s x.0 x.1))
+        (found_at h k is.size (shape_size s) is.index is.octets is.size_is (shape_sized h.group h.variation s at) is.object)
         ∙ one
 
 pub row_said : RowsAlone → (h : Head) (k : ℕ) (row : Row) → IsRow h k row → row_in h k ≡ Some row
@@ -294,10 +299,8 @@ command_said law h k answer is =
         → option_and_then (content_command_in h k) o ≡ Some answer
     go None at one = cc
     go (Some c) at one =
-        let same : is.size ≡ content_size c = same_some (object_size h.group h.variation) is.size (content_size c) is.size_is (sized h.group h.variation c at) in
-        ap (λ (n : ℕ). option_and_then (λ (x : ℕ × List ℕ). command_of c x.0 x.1) (object_at h.range h.octets n k)) (sym same)
-        ∙ ap (option_and_then (λ (x : ℕ × List ℕ). command_of c x.0 x.1))
-        (object_again h.group h.variation h.range h.octets is.size k is.index is.octets is.object)
+        ap (option_and_then (λ (x : ℕ × List ℕ). command_of c x.0 x.1))
+        (found_at h k is.size (content_size c) is.index is.octets is.size_is (sized h.group h.variation c at) is.object)
         ∙ one
 
 pub given_command : CommandsRead → CommandsAlone → (h : Head) (k : ℕ) (o : Option (Command × ℕ)) → AreOctets h.octets → IfSome o (IsCommand h k)

@@ -9,9 +9,8 @@ use Rattle.std.proofs.Math.Nat.{suc-mul, mul-le-mul_right}
 use Rattle.dnp_objects.specs.declared.row.Kind.TheVariants.{Binary}
 use Rattle.dnp_objects.specs.declared.row.Row.{Row}
 use Rattle.dnp_objects.specs.declared.table.Shape.{Shape}
-use Rattle.dnp_objects.specs.Objects.{object_size, shape_read, shape_size, IsShape}
+use Rattle.dnp_objects.specs.Objects.{object_size, shape_read, shape_size}
 use Rattle.dnp_objects.specs.Parts.{row_of}
-use Rattle.dnp_objects.specs.Rows.{IsReading}
 use Rattle.dnp_appfragment.specs.declared.header.Range.{Range}
 use Rattle.dnp_appfragment.specs.declared.header.Range.TheVariants as range
 use Rattle.dnp_appfragment.specs.declared.row_walk.Carried.{Carried}
@@ -23,7 +22,7 @@ use Rattle.dnp_appfragment.specs.Objects.{IsSpan, HasRows}
 use Rattle.dnp_appfragment.specs.Seen.{head_of}
 use Rattle.dnp_appfragment.proofs.ObjectValues.{shape_sized}
 use Rattle.dnp_appfragment.proofs.There.{bits_of, rows_of}
-use Rattle.dnp_appfragment.specs.Walking.{carried_by, Cut, cut_octets, cut_at, shaped_left, bits_left, rows_left, IsCarried}
+use Rattle.dnp_appfragment.specs.Walking.{carried_by, Cut, cut_octets, cut_at, shaped_left, bits_left, rows_left}
 
 -- ---- a step
 
