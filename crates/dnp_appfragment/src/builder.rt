@@ -189,6 +189,7 @@ impl Builder {
         ensures err { OnErr result (self.new ≡ self.old) }
         ensures function { self.new.function ≡ self.old.function }
     {
+        // (a law, for the proof: it does nothing)
         a_written_row_fills_its_object();
         self.put(&Event { row })
     }
@@ -207,6 +208,7 @@ impl Builder {
         ensures err { OnErr result (self.new ≡ self.old) }
         ensures function { self.new.function ≡ self.old.function }
     {
+        // (a law, for the proof: it does nothing)
         a_written_row_fills_its_object();
         self.put(&Point { group, row })
     }

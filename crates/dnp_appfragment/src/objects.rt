@@ -114,6 +114,7 @@ pub(crate) fn command_at(
         → result ≡ Some answer }
     ensures there { spec.HasCommands (head_of group variation range octets.now) → k < count range → IsSome result }
 {
+    // (a law, for the proof: it does nothing)
     octets_are_read_as_one_command();
     let size = object_size(group, variation)?;
     let (index, octets) = object_at(range, octets, size, k)?;

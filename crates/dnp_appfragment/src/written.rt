@@ -44,6 +44,7 @@ fn point_size(group: u8, row: &Row) -> usize
     ensures value { result ≡ length (written group (spec.point_variation group) row.now) }
     ensures small { result ≤ 11 }
 {
+    // (a law, for the proof: it does nothing)
     a_written_row_fills_its_object();
     object_size(group, point_variation(group)).unwrap()
 }
