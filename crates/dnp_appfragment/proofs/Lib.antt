@@ -16,6 +16,7 @@ pub mod OneFragment
 pub mod Ranges
 pub mod ReadBack
 pub mod Requests
+pub mod Responses
 pub mod ResponseRows
 pub mod TableLines
 pub mod There

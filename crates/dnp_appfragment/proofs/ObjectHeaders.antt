@@ -1,17 +1,14 @@
 -- Rows and commands that are put are headers of their function, each with one object.
 use Rattle.std.proofs.Common.{◌≡◌, Bool, true, false, IsTrue, refl, sym, ◌∙◌, ap, subst, ℕ, ◌+◌, ◌-◌, ◌*◌, ◌^◌, ◌<◌, ◌==◌, ◌||◌, List, [], ◌∷◌, length, arith, Option, Some, None, IsSome, ◌⊎◌, inl, inr, eqb-true}
-use Rattle.std.specs.Option.{option_map, option_map_or, option_and_then, IsSomeAnd}
-use Rattle.dnp_objects.specs.Objects.{objects, content_of, object_size, content_size, writable, shape_size}
-use Rattle.dnp_objects.specs.Rows.{row_fits, row_octets, written}
+use Rattle.dnp_objects.specs.Objects.{objects, content_of, object_size}
+use Rattle.dnp_objects.specs.Rows.{written}
 use Rattle.dnp_objects.specs.Commands.{object_of, index_of, command_octets}
 use Rattle.dnp_objects.specs.declared.command.Command.{Command}
 use Rattle.dnp_objects.specs.declared.command.Command.TheVariants as command
 use Rattle.dnp_objects.specs.declared.row.Kind.{Kind}
 use Rattle.dnp_objects.specs.declared.row.Kind.TheVariants.{Binary, Counter, Analog}
 use Rattle.dnp_objects.specs.declared.row.Row.{Row}
-use Rattle.dnp_objects.specs.declared.table.Content.{Content}
-use Rattle.dnp_objects.specs.declared.table.Content.TheVariants as content
-use Rattle.dnp_objects.proofs.Spelling.{length-row_octets}
+use Rattle.dnp_objects.proofs.Given.{fills}
 use Rattle.dnp_appfragment.specs.declared.function.Function.{Function}
 use Rattle.dnp_appfragment.specs.declared.header.Range.TheVariants as range
 use Rattle.dnp_appfragment.specs.declared.table.Form.{Form}
@@ -69,17 +66,16 @@ pub record IsSized (g v : ℕ) (octets : List ℕ) : Type 0 where
   pub size_is : object_size g v ≡ Some size
   pub length_is : length octets ≡ size
 
+-- by the law that a row fills the object that it is written as
+abbrev pub RowsFill : Type 0
+RowsFill = (g v : ℕ) (row : Row) → Fits g v row → object_size g v ≡ Some (length (written g v row))
+
+pub row_sized : RowsFill → (g v : ℕ) (row : Row) → Fits g v row → IsSized g v (written g v row)
+row_sized law g v row fits = record { size = length (written g v row); size_is = law g v row fits; length_is = refl }
+
+-- the same by the lemma itself, for proofs above that hand no law down
 pub written_sized : (g v : ℕ) (row : Row) → Fits g v row → IsSized g v (written g v row)
-written_sized g v row fits = go (content_of g v) refl fits
-  where
-    go : (o : Option Content) → content_of g v ≡ o → IsSomeAnd (option_and_then writable o) (λ shape. IsTrue (row_fits shape row))
-        → IsSized g v (option_map_or (λ shape. row_octets shape row) (option_and_then writable o) [])
-    go None is fits = absurd fits
-    go (Some (content.Row s)) is fits = record { size = shape_size s; size_is = ap (option_map content_size) is; length_is = length-row_octets s row fits }
-    go (Some (content.WrittenRow s)) is fits = record { size = shape_size s; size_is = ap (option_map content_size) is; length_is = length-row_octets s row fits }
-    go (Some content.Block) is fits = absurd fits
-    go (Some (content.Setpoint w)) is fits = absurd fits
-    go (Some (content.Other n)) is fits = absurd fits
+written_sized = row_sized fills
 
 pub command_sized : (c : Command) (status : ℕ) → IsSized (object_of c).0 (object_of c).1 (command_octets c status)
 unfolding content_of objects
@@ -170,22 +166,22 @@ command_header f c octets carries sized = go (command_form (form_of f) carries)
 
 -- ---- the same of what a call has found: the object, and its octets as they are shown
 
-pub event_put : (f : Function) (row : Row) (object : ℕ × ℕ) (items shown : List ℕ) → object ≡ event_object row.kind row.time
+pub event_put : RowsFill → (f : Function) (row : Row) (object : ℕ × ℕ) (items shown : List ℕ) → object ≡ event_object row.kind row.time
     → items ≡ written (event_object row.kind row.time).0 (event_object row.kind row.time).1 row → shown ≡ items → IsTrue (is_response f) → IsEvent row
     → IsHeader (form_of f) (indexed object.0 object.1 row.index shown)
-event_put f row object items shown same own seen response fits =
+event_put law f row object items shown same own seen response fits =
     let o = event_object row.kind row.time in
-    let sized : IsSized o.0 o.1 shown = subst (λ (t : List ℕ). IsSized o.0 o.1 t) (sym (seen ∙ own)) (written_sized o.0 o.1 row fits) in
+    let sized : IsSized o.0 o.1 shown = subst (λ (t : List ℕ). IsSized o.0 o.1 t) (sym (seen ∙ own)) (row_sized law o.0 o.1 row fits) in
     subst (λ (p : ℕ × ℕ). IsHeader (form_of f) (indexed p.0 p.1 row.index shown)) (sym same)
     (event_header f row.kind row.time row.index shown response sized)
 
-pub point_put : (f : Function) (g v : ℕ) (row : Row) (items shown : List ℕ) → v ≡ point_variation g
+pub point_put : RowsFill → (f : Function) (g v : ℕ) (row : Row) (items shown : List ℕ) → v ≡ point_variation g
     → items ≡ written g v row → shown ≡ items → IsTrue (is_response f) → FitsPoint g row → row.index < 2 ^ 16
     → IsHeader (form_of f) (spanned g v row.index shown)
-point_put f g v row items shown same own seen response fits index =
+point_put law f g v row items shown same own seen response fits index =
     let octets : shown ≡ written g (point_variation g) row = seen ∙ own ∙ ap (λ (n : ℕ). written g n row) same in
     let sized : IsSized g (point_variation g) shown =
-    subst (λ (t : List ℕ). IsSized g (point_variation g) t) (sym octets) (written_sized g (point_variation g) row fits.row_fits) in
+    subst (λ (t : List ℕ). IsSized g (point_variation g) t) (sym octets) (row_sized law g (point_variation g) row fits.row_fits) in
     subst (λ (n : ℕ). IsHeader (form_of f) (spanned g n row.index shown)) (sym same)
     (point_header f g row.index shown response fits.group_is index sized)
 

@@ -1,9 +1,11 @@
 -- The functions of object k of a header, `row_in` and `command_in`, give what the relations say, on octets.
-use Rattle.std.proofs.Common.{◌≡◌, refl, sym, ◌∙◌, ap, subst, ℕ, zero, suc, ◌+◌, ◌/◌, ◌<◌, Bool, true, false, cond, List, [], ◌∷◌, ◌++◌, length, arith, Option, Some, None, IfSome, nat_lt, ◌==◌, ◌&&◌, inl, inr, eqb-true}
+use Rattle.std.proofs.Common.{◌≡◌, refl, sym, ◌∙◌, ap, subst, ℕ, ◌+◌, ◌/◌, ◌<◌, ◌^◌, Bool, true, false, cond, List, [], ◌∷◌, ◌++◌, length, Option, Some, None, IfSome, nat_lt, ◌==◌, ◌&&◌, inl, inr, eqb-true}
+use Rattle.std.specs.List.{All}
 use Rattle.std.specs.Prelude.{is_some, IsSome, pos, ◌%◌, slice_index}
 use Rattle.std.specs.Int.{bit_at}
 use Rattle.std.specs.Option.{option_map, option_and_then, IsSomeAnd}
 use Rattle.std.proofs.lemmas.Nat.Bits.{bit_at-lt}
+use Rattle.std.proofs.lemmas.List.Elements.{All-nil, All-cons}
 use Rattle.std.proofs.lemmas.Bool.{and_parts, and_from, ltb-true, lt-ltb}
 use Rattle.dnp_objects.specs.declared.row.Kind.TheVariants.{Binary}
 use Rattle.dnp_objects.specs.declared.row.Row.{Row}
@@ -11,16 +13,12 @@ use Rattle.dnp_objects.specs.declared.command.Command.{Command}
 use Rattle.dnp_objects.specs.declared.table.Content.{Content}
 use Rattle.dnp_objects.specs.declared.table.Content.TheVariants as content
 use Rattle.dnp_objects.specs.declared.table.Shape.{Shape}
-use Rattle.dnp_objects.specs.Objects.{objects, content_of, content_size, object_size, readable, shape_read, shape_size, IsShape, IsContent}
-use Rattle.dnp_objects.specs.Rows.{Reads, IsReading}
+use Rattle.dnp_objects.specs.Objects.{objects, content_of, content_size, object_size, readable, shape_read, shape_size}
+use Rattle.dnp_objects.specs.Rows.{Reads}
 use Rattle.dnp_objects.specs.Parts.{row_of, command_of}
-use Rattle.dnp_objects.specs.Commands.{size_read, IsCommandOf}
-use Rattle.dnp_objects.proofs.Values.{AreOctets as AreBytes}
-use Rattle.dnp_objects.proofs.Lines.{content_sound}
-use Rattle.dnp_objects.proofs.Spelling.{is_reading, only_reading}
-use Rattle.dnp_objects.proofs.RowFaults.{shape_read_sound}
+use Rattle.dnp_objects.specs.Commands.{size_read, ReadsCommand}
 use Rattle.dnp_objects.specs.Events.{IsEvent}
-use Rattle.dnp_objects.proofs.CommandsBack.{command_again, command_reads}
+use Rattle.dnp_objects.proofs.Given.{only_row}
 use Rattle.dnp_appfragment.specs.declared.header.Range.{Range}
 use Rattle.dnp_appfragment.specs.declared.header.Range.TheVariants as range
 use Rattle.dnp_appfragment.specs.Headers.{Head, count_of}
@@ -30,7 +28,30 @@ use Rattle.dnp_appfragment.specs.Meaning.{start_of, bit_in, shaped_row_in, row_i
 use Rattle.dnp_appfragment.specs.Seen.{head_of}
 use Rattle.dnp_appfragment.proofs.Numbers.{AreOctets}
 use Rattle.dnp_appfragment.proofs.There.{commands_of}
-use Rattle.dnp_appfragment.proofs.HeaderObjects.{object_reads, object_again, packed_unsized, bit_only, sized_only}
+use Rattle.dnp_appfragment.proofs.HeaderObjects.{object_reads, object_again, packed_unsized}
+
+-- ---- the laws of `dnp_objects` that the proofs rest on
+
+-- octets are read as the row of their parts, and as no other
+abbrev RowsRead : Type 0
+RowsRead =
+    (g v index : ℕ) (octets : List ℕ) → All (λ octet. octet < 2 ^ 8) octets
+    → IfSome (shape_read g v) (λ s. length octets ≡ shape_size s → Reads g v index octets (row_of s index octets))
+
+abbrev RowsAlone : Type 0
+RowsAlone =
+    (g v index : ℕ) (octets : List ℕ) (row : Row) → Reads g v index octets row → option_map (λ s. row_of s index octets) (shape_read g v) ≡ Some row
+
+-- and so are commands
+abbrev CommandsRead : Type 0
+CommandsRead =
+    (g v index : ℕ) (octets : List ℕ) → All (λ octet. octet < 2 ^ 8) octets
+    → IfSome (content_of g v) (λ c. length octets ≡ content_size c → IfSome (command_of c index octets) (ReadsCommand g v index octets))
+
+abbrev CommandsAlone : Type 0
+CommandsAlone =
+    (g v index : ℕ) (octets : List ℕ) (answer : Command × ℕ) → ReadsCommand g v index octets answer
+    → option_and_then (λ c. command_of c index octets) (content_of g v) ≡ Some answer
 
 -- ---- the octets of an object
 
@@ -42,14 +63,13 @@ before : (xs ys : List ℕ) → AreOctets (xs ++ ys) → AreOctets xs
 before [] ys are = tt
 before (x ∷ xs) ys are = (are.0, before xs ys are.1)
 
-octet_in : (bs : List ℕ) → AreOctets bs → AreBytes bs
-octet_in [] are i = omega arith
-octet_in (b ∷ bs) are zero = are.0
-octet_in (b ∷ bs) are (suc i) = octet_in bs are.1 i
+all_octets : (bs : List ℕ) → AreOctets bs → All (λ octet. octet < 2 ^ 8) bs
+all_octets [] are = All-nil (λ octet. octet < 2 ^ 8)
+all_octets (b ∷ bs) are = All-cons (λ octet. octet < 2 ^ 8) b bs are.0 (all_octets bs are.1)
 
-part_octets : (h : Head) (size k index : ℕ) (part : List ℕ) → AreOctets h.octets → IsObject h size k index part → AreBytes part
+part_octets : (h : Head) (size k index : ℕ) (part : List ℕ) → AreOctets h.octets → IsObject h size k index part → All (λ octet. octet < 2 ^ 8) part
 part_octets h size k index part are is =
-    octet_in part (before part is.after (behind (prefix_octets h.range index) (part ++ is.after)
+    all_octets part (before part is.after (behind (prefix_octets h.range index) (part ++ is.after)
     (behind is.before (prefix_octets h.range index ++ (part ++ is.after)) (subst AreOctets is.joined are))))
 
 object_is : (h : Head) (size k : ℕ) (x : ℕ × List ℕ) → AreOctets h.octets → object_at h.range h.octets size k ≡ Some x → IsObject h size k x.0 x.1
@@ -76,24 +96,25 @@ shape_sized g v s is = go (content_of g v) is
     go (Some (content.Setpoint w)) is = cc
     go (Some (content.Other n)) is = cc
 
-shaped_reads : (h : Head) (k : ℕ) (s : Shape) → AreOctets h.octets → IsShape s → shape_read h.group h.variation ≡ Some s
+shaped_reads : RowsRead → (h : Head) (k : ℕ) (s : Shape) → AreOctets h.octets → shape_read h.group h.variation ≡ Some s
     → IfSome (shaped_row_in h k s) (IsObjectRow h k)
-shaped_reads h k s are is shaped = go (object_at h.range h.octets (shape_size s) k) refl
+shaped_reads law h k s are shaped = go (object_at h.range h.octets (shape_size s) k) refl
   where
     go : (o : Option (ℕ × List ℕ)) → object_at h.range h.octets (shape_size s) k ≡ o
         → IfSome (option_map (λ (x : ℕ × List ℕ). row_of s x.0 x.1) o) (IsObjectRow h k)
     go None at = tt
     go (Some x) at =
         let object = object_is h (shape_size s) k x are at in
-        let reading : IsReading s x.0 x.1 (row_of s x.0 x.1) =
-        is_reading s.kind s.flags s.width s.time x.0 x.1 is.number (part_octets h (shape_size s) k x.0 x.1 are object) object.sized in
+        let reads : IfSome (Some s) (λ t. length x.1 ≡ shape_size t → Reads h.group h.variation x.0 x.1 (row_of t x.0 x.1)) =
+        subst (λ (o : Option Shape). IfSome o (λ t. length x.1 ≡ shape_size t → Reads h.group h.variation x.0 x.1 (row_of t x.0 x.1))) shaped
+        (law h.group h.variation x.0 x.1 (part_octets h (shape_size s) k x.0 x.1 are object)) in
         record {
           size = shape_size s;
           size_is = shape_sized h.group h.variation s shaped;
           index = x.0;
           octets = x.1;
           object = object;
-          reads = subst (λ (o : Option Shape). IsSomeAnd o (λ t. IsReading t x.0 x.1 (row_of s x.0 x.1))) (sym shaped) reading;
+          reads = reads object.sized;
         }
 
 -- the binary of this index
@@ -129,8 +150,9 @@ bit_reads r octets k =
     spans (range.Count wide n) here there = tt
     spans (range.Indexed wide n) here there = tt
 
-pub row_reads : (g v : ℕ) (r : Range) (octets : List ℕ) (k : ℕ) → AreOctets octets → IfSome (row_in (head_of g v r octets) k) (IsRow (head_of g v r octets) k)
-row_reads g v r octets k are = go ((g == 1) && (v == 1)) refl
+row_reads : RowsRead → (g v : ℕ) (r : Range) (octets : List ℕ) (k : ℕ) → AreOctets octets
+    → IfSome (row_in (head_of g v r octets) k) (IsRow (head_of g v r octets) k)
+row_reads law g v r octets k are = go ((g == 1) && (v == 1)) refl
   where
     as_bit : (o : Option Row) → IfSome o (IsBit (head_of g v r octets) k) → IfSome o (IsRow (head_of g v r octets) k)
     as_bit None is = tt
@@ -140,11 +162,10 @@ row_reads g v r octets k are = go ((g == 1) && (v == 1)) refl
     as_object None is = tt
     as_object (Some row) is = inr is
 
-    shaped : (o : Option Shape) → shape_read g v ≡ o → IfSome o IsShape
+    shaped : (o : Option Shape) → shape_read g v ≡ o
         → IfSome (option_and_then (shaped_row_in (head_of g v r octets) k) o) (IsRow (head_of g v r octets) k)
-    shaped None is sound = tt
-    shaped (Some s) is sound =
-        as_object (shaped_row_in (head_of g v r octets) k s) (shaped_reads (head_of g v r octets) k s are sound is)
+    shaped None is = tt
+    shaped (Some s) is = as_object (shaped_row_in (head_of g v r octets) k s) (shaped_reads law (head_of g v r octets) k s are is)
 
     go : (b : Bool) → ((g == 1) && (v == 1)) ≡ b
         → IfSome (cond b (bit_in (head_of g v r octets) k) (option_and_then (shaped_row_in (head_of g v r octets) k) (shape_read g v)))
@@ -156,7 +177,7 @@ row_reads g v r octets k are = go ((g == 1) && (v == 1)) refl
         as_bit (bit_in (head_of g v r octets) k)
         (subst (λ (p : ℕ × ℕ). IfSome (bit_in (head_of p.0 p.1 r octets) k) (IsBit (head_of p.0 p.1 r octets) k)) (λ i. (sym group i, sym variation i))
         (bit_reads r octets k))
-    go false is = shaped (shape_read g v) refl (shape_read_sound g v)
+    go false is = shaped (shape_read g v) refl
 
 -- what is a row is given
 bit_again : (h : Head) (k : ℕ) (row : Row) → IsBit h k row → bit_in h k ≡ Some row
@@ -176,26 +197,32 @@ bit_again h k row is =
     spans (range.Count wide n) index span at = absurd span
     spans (range.Indexed wide n) index span at = absurd span
 
-object_row_again : (h : Head) (k : ℕ) (row : Row) → IsObjectRow h k row
-    → option_and_then (shaped_row_in h k) (shape_read h.group h.variation) ≡ Some row
-object_row_again h k row is = go (shape_read h.group h.variation) refl (shape_read_sound h.group h.variation) is.reads
-  where
-    go : (o : Option Shape) → shape_read h.group h.variation ≡ o → IfSome o IsShape → IsSomeAnd o (λ s. IsReading s is.index is.octets row)
-        → option_and_then (shaped_row_in h k) o ≡ Some row
-    go None at sound reads = absurd reads
-    go (Some s) at sound reads =
-        let same : is.size ≡ shape_size s = same_some (object_size h.group h.variation) is.size (shape_size s) is.size_is (shape_sized h.group h.variation s at) in
-        ap (λ (n : ℕ). option_map (λ (x : ℕ × List ℕ). row_of s x.0 x.1) (object_at h.range h.octets n k)) (sym same)
-        ∙ ap (option_map (λ (x : ℕ × List ℕ). row_of s x.0 x.1))
-        (object_again h.group h.variation h.range h.octets is.size k is.index is.octets is.object)
-        ∙ ap (λ (r : Row). Some r) (sym (only_reading s is.index is.octets row sound reads))
+-- an object of the size that the table has stands where it is cut
+found_at : (h : Head) (k size n index : ℕ) (octets : List ℕ) → object_size h.group h.variation ≡ Some size → object_size h.group h.variation ≡ Some n
+    → IsObject h size k index octets → object_at h.range h.octets n k ≡ Some (index, octets)
+found_at h k size n index octets is same object =
+    ap (λ (m : ℕ). object_at h.range h.octets m k) (same_some (object_size h.group h.variation) n size same is)
+    ∙ object_again h.group h.variation h.range h.octets size k index octets object
 
-pub row_again : (h : Head) (k : ℕ) (row : Row) → IsRow h k row → row_in h k ≡ Some row
-row_again h k row (inl bit) =
+object_row_again : RowsAlone → (h : Head) (k : ℕ) (row : Row) → IsObjectRow h k row
+    → option_and_then (shaped_row_in h k) (shape_read h.group h.variation) ≡ Some row
+object_row_again law h k row is =
+    go (shape_read h.group h.variation) refl (law h.group h.variation is.index is.octets row is.reads)
+  where
+    go : (o : Option Shape) → shape_read h.group h.variation ≡ o → option_map (λ s. row_of s is.index is.octets) o ≡ Some row
+        → option_and_then (shaped_row_in h k) o ≡ Some row
+    go None at one = cc
+    go (Some s) at one =
+        ap (option_map (λ (x : ℕ × List ℕ). row_of s x.0 x.1))
+        (found_at h k is.size (shape_size s) is.index is.octets is.size_is (shape_sized h.group h.variation s at) is.object)
+        ∙ one
+
+pub row_said : RowsAlone → (h : Head) (k : ℕ) (row : Row) → IsRow h k row → row_in h k ≡ Some row
+row_said law h k row (inl bit) =
     ap (λ (b : Bool). cond b (bit_in h k) (option_and_then (shaped_row_in h k) (shape_read h.group h.variation)))
     (λ i. (bit.group i == 1) && (bit.variation i == 1))
     ∙ bit_again h k row bit
-row_again h k row (inr is) = go ((h.group == 1) && (h.variation == 1)) refl
+row_said law h k row (inr is) = go ((h.group == 1) && (h.variation == 1)) refl
   where
     unsized : (o : Option ℕ) (n : ℕ) → o ≡ Some n → o ≡ None → ⊥
     unsized o n some none = cc
@@ -207,47 +234,36 @@ row_again h k row (inr is) = go ((h.group == 1) && (h.variation == 1)) refl
         let none : object_size h.group h.variation ≡ None =
         (λ i. object_size (eqb-true h.group 1 names.0 i) (eqb-true h.variation 1 names.1 i)) ∙ packed_unsized in
         absurd (unsized (object_size h.group h.variation) is.size is.size_is none)
-    go false other = object_row_again h k row is
+    go false other = object_row_again law h k row is
 
--- where there is none, none is given
-pub given_row : (h : Head) (k : ℕ) (o : Option Row) → AreOctets h.octets → IfSome o (IsRow h k) → ((row : Row) → IsRow h k row → o ≡ Some row)
-    → o ≡ row_in h k
-given_row h k o are found only = go o (row_in h k) found (row_reads h.group h.variation h.range h.octets k are) only (row_again h k)
-  where
-    go : (o p : Option Row) → IfSome o (IsRow h k) → IfSome p (IsRow h k) → ((row : Row) → IsRow h k row → o ≡ Some row)
-        → ((row : Row) → IsRow h k row → p ≡ Some row) → o ≡ p
-    go None None found reads only again = refl
-    go None (Some row) found reads only again = only row reads
-    go (Some row) p found reads only again = sym (again row found)
+-- the same by the lemma itself, for proofs above that hand no law down
+pub row_again : (h : Head) (k : ℕ) (row : Row) → IsRow h k row → row_in h k ≡ Some row
+row_again = row_said only_row
 
-pub given_bit : (g v : ℕ) (r : Range) (octets : List ℕ) (k : ℕ) (o : Option Row) → AreOctets octets → g ≡ 1 → v ≡ 1
-    → IfSome o (IsBit (head_of 1 1 r octets) k) → ((row : Row) → IsBit (head_of 1 1 r octets) k row → o ≡ Some row)
-    → o ≡ row_in (head_of g v r octets) k
-given_bit g v r octets k o are group variation found only =
-    subst (λ (p : ℕ × ℕ). o ≡ row_in (head_of p.0 p.1 r octets) k) (λ i. (sym group i, sym variation i))
-    (given_row (head_of 1 1 r octets) k o are (row o found) (λ row is. only row (bit_only 1 1 r octets k row refl refl is)))
-  where
-    row : (o : Option Row) → IfSome o (IsBit (head_of 1 1 r octets) k) → IfSome o (IsRow (head_of 1 1 r octets) k)
-    row None is = tt
-    row (Some a) is = inl is
+-- which of the two a header has
+pub bit_said : (g v : ℕ) (r : Range) (octets : List ℕ) (k : ℕ) → g ≡ 1 → v ≡ 1 → row_in (head_of g v r octets) k ≡ bit_in (head_of 1 1 r octets) k
+bit_said g v r octets k group variation = λ i. row_in (head_of (group i) (variation i) r octets) k
 
-pub given_object_row : (g v : ℕ) (r : Range) (octets : List ℕ) (k : ℕ) (o : Option Row) → AreOctets octets → (g ≡ 1 → v ≡ 1 → ⊥)
-    → IfSome o (IsObjectRow (head_of g v r octets) k) → ((row : Row) → IsObjectRow (head_of g v r octets) k row → o ≡ Some row)
-    → o ≡ row_in (head_of g v r octets) k
-given_object_row g v r octets k o are other found only =
-    given_row (head_of g v r octets) k o are (row o found) (λ row is. only row (sized_only g v r octets k row other is))
+pub object_row_said : (h : Head) (k : ℕ) → (h.group ≡ 1 → h.variation ≡ 1 → ⊥)
+    → row_in h k ≡ option_and_then (shaped_row_in h k) (shape_read h.group h.variation)
+object_row_said h k other = go ((h.group == 1) && (h.variation == 1)) refl
   where
-    row : (o : Option Row) → IfSome o (IsObjectRow (head_of g v r octets) k) → IfSome o (IsRow (head_of g v r octets) k)
-    row None is = tt
-    row (Some a) is = inr is
+    shaped : Option Row
+    shaped = option_and_then (shaped_row_in h k) (shape_read h.group h.variation)
+
+    go : (b : Bool) → ((h.group == 1) && (h.variation == 1)) ≡ b → cond b (bit_in h k) shaped ≡ shaped
+    go true packed =
+        let names = and_parts (h.group == 1) (h.variation == 1) packed in
+        absurd (other (eqb-true h.group 1 names.0) (eqb-true h.variation 1 names.1))
+    go false packed = refl
 
 -- ---- a command
 
-pub command_reads_in : (h : Head) (k : ℕ) → AreOctets h.octets → IfSome (command_in h k) (IsCommand h k)
-command_reads_in h k are = go (content_of h.group h.variation) refl (content_sound h.group h.variation)
+command_reads_in : CommandsRead → (h : Head) (k : ℕ) → AreOctets h.octets → IfSome (command_in h k) (IsCommand h k)
+command_reads_in law h k are = go (content_of h.group h.variation) refl
   where
     commands : (c : Content) → content_of h.group h.variation ≡ Some c → (x : ℕ × List ℕ) → IsObject h (content_size c) k x.0 x.1
-        → (o : Option (Command × ℕ)) → IfSome o (λ a. IsCommandOf c x.0 x.1 a.0 a.1) → IfSome o (IsCommand h k)
+        → (o : Option (Command × ℕ)) → IfSome o (ReadsCommand h.group h.variation x.0 x.1) → IfSome o (IsCommand h k)
     commands c is x object None reads = tt
     commands c is x object (Some a) reads = record {
       size = content_size c;
@@ -255,39 +271,42 @@ command_reads_in h k are = go (content_of h.group h.variation) refl (content_sou
       index = x.0;
       octets = x.1;
       object = object;
-      reads = subst (λ (o : Option Content). IsSomeAnd o (λ c. IsCommandOf c x.0 x.1 a.0 a.1)) (sym is) reads;
+      reads = reads;
     }
 
-    at : (c : Content) → content_of h.group h.variation ≡ Some c → IsContent c → (o : Option (ℕ × List ℕ))
+    at : (c : Content) → content_of h.group h.variation ≡ Some c → (o : Option (ℕ × List ℕ))
         → object_at h.range h.octets (content_size c) k ≡ o
         → IfSome (option_and_then (λ (x : ℕ × List ℕ). command_of c x.0 x.1) o) (IsCommand h k)
-    at c is sound None here = tt
-    at c is sound (Some x) here =
+    at c is None here = tt
+    at c is (Some x) here =
         let object = object_is h (content_size c) k x are here in
-        commands c is x object (command_of c x.0 x.1)
-        (command_reads c x.0 x.1 sound (part_octets h (content_size c) k x.0 x.1 are object) object.sized)
+        let P : Content → Type 0 = λ d. length x.1 ≡ content_size d
+        → IfSome (command_of d x.0 x.1) (ReadsCommand h.group h.variation x.0 x.1) in
+        let reads : P c =
+        subst (λ (o : Option Content). IfSome o P) is
+        (law h.group h.variation x.0 x.1 (part_octets h (content_size c) k x.0 x.1 are object)) in
+        commands c is x object (command_of c x.0 x.1) (reads object.sized)
 
-    go : (o : Option Content) → content_of h.group h.variation ≡ o → IfSome o IsContent
-        → IfSome (option_and_then (content_command_in h k) o) (IsCommand h k)
-    go None is sound = tt
-    go (Some c) is sound = at c is sound (object_at h.range h.octets (content_size c) k) refl
+    go : (o : Option Content) → content_of h.group h.variation ≡ o → IfSome (option_and_then (content_command_in h k) o) (IsCommand h k)
+    go None is = tt
+    go (Some c) is = at c is (object_at h.range h.octets (content_size c) k) refl
 
-pub command_in_again : (h : Head) (k : ℕ) (answer : Command × ℕ) → IsCommand h k answer → command_in h k ≡ Some answer
-command_in_again h k answer is = go (content_of h.group h.variation) refl is.reads
+pub command_said : CommandsAlone → (h : Head) (k : ℕ) (answer : Command × ℕ) → IsCommand h k answer → command_in h k ≡ Some answer
+command_said law h k answer is =
+    go (content_of h.group h.variation) refl (law h.group h.variation is.index is.octets answer is.reads)
   where
-    go : (o : Option Content) → content_of h.group h.variation ≡ o → IsSomeAnd o (λ c. IsCommandOf c is.index is.octets answer.0 answer.1)
+    go : (o : Option Content) → content_of h.group h.variation ≡ o → option_and_then (λ c. command_of c is.index is.octets) o ≡ Some answer
         → option_and_then (content_command_in h k) o ≡ Some answer
-    go None at reads = absurd reads
-    go (Some c) at reads =
-        let same : is.size ≡ content_size c = same_some (object_size h.group h.variation) is.size (content_size c) is.size_is (sized h.group h.variation c at) in
-        ap (λ (n : ℕ). option_and_then (λ (x : ℕ × List ℕ). command_of c x.0 x.1) (object_at h.range h.octets n k)) (sym same)
-        ∙ ap (option_and_then (λ (x : ℕ × List ℕ). command_of c x.0 x.1))
-        (object_again h.group h.variation h.range h.octets is.size k is.index is.octets is.object)
-        ∙ command_again c is.index is.octets answer.0 answer.1 reads
+    go None at one = cc
+    go (Some c) at one =
+        ap (option_and_then (λ (x : ℕ × List ℕ). command_of c x.0 x.1))
+        (found_at h k is.size (content_size c) is.index is.octets is.size_is (sized h.group h.variation c at) is.object)
+        ∙ one
 
-pub given_command : (h : Head) (k : ℕ) (o : Option (Command × ℕ)) → AreOctets h.octets → IfSome o (IsCommand h k)
+pub given_command : CommandsRead → CommandsAlone → (h : Head) (k : ℕ) (o : Option (Command × ℕ)) → AreOctets h.octets → IfSome o (IsCommand h k)
     → ((answer : Command × ℕ) → IsCommand h k answer → o ≡ Some answer) → o ≡ command_in h k
-given_command h k o are found only = go o (command_in h k) found (command_reads_in h k are) only (command_in_again h k)
+given_command read alone h k o are found only =
+    go o (command_in h k) found (command_reads_in read h k are) only (command_said alone h k)
   where
     go : (o p : Option (Command × ℕ)) → IfSome o (IsCommand h k) → IfSome p (IsCommand h k) → ((answer : Command × ℕ) → IsCommand h k answer → o ≡ Some answer)
         → ((answer : Command × ℕ) → IsCommand h k answer → p ≡ Some answer) → o ≡ p
@@ -314,12 +333,13 @@ no_command_there h k size is none = go (content_of h.group h.variation) is
 
 -- ---- both ways
 
-pub row_says : (h : Head) (k : ℕ) (row : Row) → AreOctets h.octets → row_in h k ≡ Some row → IsRow h k row
-row_says h k row are is =
-    subst (λ (o : Option Row). IfSome o (IsRow h k)) is (row_reads h.group h.variation h.range h.octets k are)
+pub row_says : RowsRead → (h : Head) (k : ℕ) (row : Row) → AreOctets h.octets → row_in h k ≡ Some row → IsRow h k row
+row_says law h k row are is =
+    subst (λ (o : Option Row). IfSome o (IsRow h k)) is (row_reads law h.group h.variation h.range h.octets k are)
 
-pub command_says : (h : Head) (k : ℕ) (answer : Command × ℕ) → AreOctets h.octets → command_in h k ≡ Some answer → IsCommand h k answer
-command_says h k answer are is = subst (λ (o : Option (Command × ℕ)). IfSome o (IsCommand h k)) is (command_reads_in h k are)
+pub command_says : CommandsRead → (h : Head) (k : ℕ) (answer : Command × ℕ) → AreOctets h.octets → command_in h k ≡ Some answer
+    → IsCommand h k answer
+command_says law h k answer are is = subst (λ (o : Option (Command × ℕ)). IfSome o (IsCommand h k)) is (command_reads_in law h k are)
 
 -- ---- in a fragment each command is there
 

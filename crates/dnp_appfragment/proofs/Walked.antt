@@ -9,10 +9,8 @@ use Rattle.std.proofs.Math.Nat.{suc-mul, mul-le-mul_right}
 use Rattle.dnp_objects.specs.declared.row.Kind.TheVariants.{Binary}
 use Rattle.dnp_objects.specs.declared.row.Row.{Row}
 use Rattle.dnp_objects.specs.declared.table.Shape.{Shape}
-use Rattle.dnp_objects.specs.Objects.{object_size, shape_read, shape_size, IsShape}
+use Rattle.dnp_objects.specs.Objects.{object_size, shape_read, shape_size}
 use Rattle.dnp_objects.specs.Parts.{row_of}
-use Rattle.dnp_objects.specs.Rows.{IsReading}
-use Rattle.dnp_objects.proofs.Spelling.{only_reading}
 use Rattle.dnp_appfragment.specs.declared.header.Range.{Range}
 use Rattle.dnp_appfragment.specs.declared.header.Range.TheVariants as range
 use Rattle.dnp_appfragment.specs.declared.row_walk.Carried.{Carried}
@@ -24,7 +22,7 @@ use Rattle.dnp_appfragment.specs.Objects.{IsSpan, HasRows}
 use Rattle.dnp_appfragment.specs.Seen.{head_of}
 use Rattle.dnp_appfragment.proofs.ObjectValues.{shape_sized}
 use Rattle.dnp_appfragment.proofs.There.{bits_of, rows_of}
-use Rattle.dnp_appfragment.specs.Walking.{carried_by, Cut, cut_octets, cut_at, shaped_left, bits_left, rows_left, IsCarried}
+use Rattle.dnp_appfragment.specs.Walking.{carried_by, Cut, cut_octets, cut_at, shaped_left, bits_left, rows_left}
 
 -- ---- a step
 
@@ -59,13 +57,11 @@ row_step s r octets k (suc n) some =
 
 -- a row that was cut off the front is the first of those that were left
 pub row_given : (before : List Row) (c : Carried) (r : Range) (octets : List ℕ) (k left : ℕ) (s : Shape) (size : ℕ) (cut : Cut) (row : Row)
-    → rows_left c r octets k left ≡ before → c ≡ carried.Rows s → IsCarried c → (left ≡ 0 → ⊥) → size ≡ shape_size s
-    → Some cut ≡ cut_at r size k octets → IsReading s cut.index cut.octets row
+    → rows_left c r octets k left ≡ before → c ≡ carried.Rows s → (left ≡ 0 → ⊥) → size ≡ shape_size s
+    → Some cut ≡ cut_at r size k octets → row ≡ row_of s cut.index cut.octets
     → before ≡ row ∷ rows_left c r cut.rest (k + 1) (left - 1)
-row_given before c r octets k left s size cut row view carries sound some sized is reading =
-    let kind : IsShape s = subst IsCarried carries sound in
+row_given before c r octets k left s size cut row view carries some sized is same =
     let here : cut_at r (shape_size s) k octets ≡ Some cut = ap (λ (n : ℕ). cut_at r n k octets) (sym sized) ∙ sym is in
-    let same : row ≡ row_of s cut.index cut.octets = only_reading s cut.index cut.octets row kind reading in
     sym view ∙ ap (λ (c : Carried). rows_left c r octets k left) carries ∙ row_step s r octets k left (not_none left some)
     ∙ ap (λ (o : Option Cut). option_map_or (λ (cut : Cut). row_of s cut.index cut.octets ∷ shaped_left s r (left - 1) (k + 1) cut.rest) o []) here
     ∙ (λ i. sym same i ∷ rows_left (sym carries i) r cut.rest (k + 1) (left - 1))

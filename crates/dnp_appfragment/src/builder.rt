@@ -11,6 +11,7 @@ use crate::run::{Run, longer};
 use crate::table::{Form, form_of};
 use crate::written::{Event, Indexed, Object, Point};
 use arrayvec::ArrayVec;
+use dnp_objects::laws::a_written_row_fills_its_object;
 use dnp_objects::{Command, MAX_FRAGMENT, Row, Status, write_command};
 use std::marker::Model;
 use thiserror::Error;
@@ -188,6 +189,8 @@ impl Builder {
         ensures err { OnErr result (self.new ≡ self.old) }
         ensures function { self.new.function ≡ self.old.function }
     {
+        // (a law, for the proof: it does nothing)
+        a_written_row_fills_its_object();
         self.put(&Event { row })
     }
 
@@ -205,6 +208,8 @@ impl Builder {
         ensures err { OnErr result (self.new ≡ self.old) }
         ensures function { self.new.function ≡ self.old.function }
     {
+        // (a law, for the proof: it does nothing)
+        a_written_row_fills_its_object();
         self.put(&Point { group, row })
     }
 

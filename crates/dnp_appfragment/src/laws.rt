@@ -1,5 +1,5 @@
 //! Laws of the words of `specs/`: each function does nothing, and its contract is a law.
-ghost use Rattle.std.specs.Prelude.{◌≡◌, ◌^◌, ℕ, false, true, List, [], ◌∷◌, map};
+ghost use Rattle.std.specs.Prelude.{◌≡◌, ◌^◌, ℕ, false, true, List, [], ◌∷◌, map, Ok};
 ghost use Rattle.dnp_appfragment.specs.declared.fault.AppFault.{AppFault};
 ghost use Rattle.dnp_appfragment.specs.declared.iin.Iin.{Iin as IinValue};
 ghost use Rattle.dnp_appfragment.specs.declared.qualifier.TheConstants as qualifier;
@@ -8,6 +8,7 @@ ghost use Rattle.dnp_appfragment.specs.Control.{IsControl};
 ghost use Rattle.dnp_appfragment.specs.Table.{form_of, is_response};
 ghost use Rattle.dnp_appfragment.specs.Headers.{AreHeaders, begin};
 ghost use Rattle.dnp_appfragment.specs.Fragments.{Asked, Answered, IsRequest, IsResponse, request_octets, response_octets};
+ghost use Rattle.dnp_appfragment.specs.Meaning.{request_at, response_at};
 ghost use Rattle.dnp_appfragment.specs.Faults.{IsRequestFault, IsResponseFault};
 
 use crate::iin::Iin;
@@ -15,9 +16,13 @@ use crate::iin::Iin;
 mod built;
 mod read;
 
-pub use built::{a_header_holds_what_was_put, what_is_held_is_read, what_is_put_is_held};
+pub use built::{
+    a_header_holds_what_was_put, what_is_held_is_read, what_is_put_is_held,
+    what_is_put_stands_in_a_response,
+};
 pub use read::{
     objects_say_rows_and_commands, octets_say_a_request, octets_say_a_response, rows_are_events,
+    what_is_there_is_said,
 };
 
 /// Octets are one request at most, and have one fault at most, and never both.
@@ -41,6 +46,14 @@ pub fn what_is_spelled_is_a_fragment()
         → AreHeaders (form_of asked.function) begin asked.headers → IsRequest (request_octets asked) asked }
     ensures response { (answered : Answered) → IsControl answered.control → is_response answered.function ≡ true
         → AreHeaders form.Response begin answered.headers → IsResponse (response_octets answered) answered }
+{}
+
+/// So `request_at` and `response_at` give of those octets what they were spelled from.
+pub fn what_is_spelled_is_said()
+    ensures request { (asked : Asked) → IsControl asked.control → is_response asked.function ≡ false
+        → AreHeaders (form_of asked.function) begin asked.headers → request_at (request_octets asked) ≡ Ok asked }
+    ensures response { (answered : Answered) → IsControl answered.control → is_response answered.function ≡ true
+        → AreHeaders form.Response begin answered.headers → response_at (response_octets answered) ≡ Ok answered }
 {}
 
 /// Where no headers are looked for there are none.

@@ -1,6 +1,6 @@
 //! The objects of a header, one by one.
 ghost use Rattle.std.specs.Prelude.{◌≡◌, ◌≤◌, ◌<◌, ◌/◌, ℕ, List, length, IsSome, IfSome, Some};
-ghost use Rattle.std.specs.Option.{option_map, IsSomeAnd};
+ghost use Rattle.std.specs.Option.{option_map, option_and_then, IsSomeAnd};
 ghost use Rattle.dnp_objects.specs.Objects.{shape_read, object_size as size_of};
 ghost use Rattle.dnp_objects.specs.declared.row.Row.{Row as RowValue};
 ghost use Rattle.dnp_objects.specs.declared.command.Command.{Command as CommandValue};
@@ -13,6 +13,7 @@ ghost use Rattle.dnp_appfragment.specs.Seen.{number_and_rest, head_of};
 use crate::header::Range;
 use crate::range::{count_of, prefix_size};
 use crate::reading::number_at;
+use dnp_objects::laws::octets_are_read_as_one_command;
 use dnp_objects::{Command, Kind, Row, Status, object_size, read_command, row_shape};
 
 /// The index of object k, and the octets after it.
@@ -73,6 +74,8 @@ pub(crate) fn bit_at(range: Range, octets: &[u8], k: usize) -> Option<Row>
 
 /// Row k of a header whose objects have a known size.
 fn object_row_at(group: u8, variation: u8, range: Range, octets: &[u8], k: usize) -> Option<Row>
+    ensures value { result
+        ≡ option_and_then (meaning.shaped_row_in (head_of group variation range octets.now) k) (shape_read group variation) }
     ensures found { IfSome result (spec.IsObjectRow (head_of group variation range octets.now) k) }
     ensures only { (row : RowValue) → spec.IsObjectRow (head_of group variation range octets.now) k row → result ≡ Some row }
     ensures there { IsSome (shape_read group variation)
@@ -111,6 +114,8 @@ pub(crate) fn command_at(
         → result ≡ Some answer }
     ensures there { spec.HasCommands (head_of group variation range octets.now) → k < count range → IsSome result }
 {
+    // (a law, for the proof: it does nothing)
+    octets_are_read_as_one_command();
     let size = object_size(group, variation)?;
     let (index, octets) = object_at(range, octets, size, k)?;
     read_command(group, variation, index, octets).ok()

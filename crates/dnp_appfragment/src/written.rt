@@ -12,6 +12,7 @@ use crate::header::Range;
 use crate::putting::push_number;
 use crate::run::Run;
 use arrayvec::ArrayVec;
+use dnp_objects::laws::a_written_row_fills_its_object;
 use dnp_objects::{
     MAX_FRAGMENT, Row, append_event, append_object, event_object, event_size, fits_object,
     object_size,
@@ -43,6 +44,8 @@ fn point_size(group: u8, row: &Row) -> usize
     ensures value { result ≡ length (written group (spec.point_variation group) row.now) }
     ensures small { result ≤ 11 }
 {
+    // (a law, for the proof: it does nothing)
+    a_written_row_fills_its_object();
     object_size(group, point_variation(group)).unwrap()
 }
 

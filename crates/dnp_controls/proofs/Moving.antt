@@ -1,6 +1,6 @@
 -- What calls make of a book, one after another.
 use Rattle.std.proofs.Common.{◌≡◌, ℕ, zero, suc, ◌+◌, ◌<◌, ◌≤◌, Bool, true, false, not, List, [], ◌∷◌, ◌++◌, length, length-append, get_or, refl, ap, sym, ◌∙◌, arith, subst}
-use Rattle.std.specs.Prelude.{Option, Some, None, eqb, cond, IsTrue, MatchOption, ◌&&◌, count_by, option_map, All, AllPairs}
+use Rattle.std.specs.Prelude.{⊤, Ok, Option, Some, None, eqb, cond, IsTrue, MatchOption, ◌&&◌, count_by, option_map, All, AllPairs}
 use Rattle.std.specs.Option.{option_or, IsSomeAnd}
 use Rattle.std.proofs.lemmas.List.Folds.{find-append}
 use Rattle.std.proofs.lemmas.List.Elements.{All-cons, All-nil, All-push, All-weaker, Contains-append_left, Contains-append_right, Contains-get_or}
@@ -13,8 +13,24 @@ use Rattle.dnp_controls.specs.declared.book.Entry.{Entry}
 use Rattle.dnp_controls.specs.declared.book.State.{State}
 use Rattle.dnp_controls.specs.declared.book.State.TheVariants.{Pending, Spent, Finished}
 use Rattle.dnp_controls.specs.Book.{Ledger, AreNumberedFrom, IsSound, Has, entry_of, next_of, added, in_state, spent, finished, is_pending, is_finished}
+use Rattle.dnp_controls.specs.Calls.{IsBookCall}
 use Rattle.dnp_controls.specs.Moves.{Move, Add, Spend, Finish, IsGranted, moved, AreGranted, after, is_spend_of, IsNext, HasNoNext}
 use Rattle.dnp_controls.proofs.Numbered.{with_state, numbered-push, in_state-numbered}
+
+-- ---- a call of a book in memory that is granted
+
+pub granted_call : {Book Answer : Type 0} (contents : Book → Ledger) (old new : Book) (answer : Answer) → IsSound (contents new)
+    → IsBookCall (λ _. ⊤) (λ _. false) contents old new (Ok answer)
+granted_call contents old new answer sound = record {
+  held = λ h. h;
+  serves = λ _. refl;
+  sound = λ _. sound;
+  beside = λ _. tt;
+  unchanged = λ _. tt;
+  device_stops = λ device. cc;
+  runs_on = λ _. refl;
+  stays = λ stopped _. cc;
+}
 
 -- ---- one entry, when another one or itself comes into a state
 

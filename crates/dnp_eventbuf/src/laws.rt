@@ -9,7 +9,7 @@ ghost use Rattle.dnp_objects.specs.Counts.{IsCoveredBy};
 ghost use Rattle.dnp_eventbuf.specs.Carried.{IsCarried};
 ghost use Rattle.dnp_eventbuf.specs.Latest.{KeepsLatest, numbered_for};
 ghost use Rattle.dnp_eventbuf.specs.Sound.{IsSound};
-ghost use Rattle.dnp_eventbuf.specs.Stock.{Stock, lane_at, empty_stock, arriving, with_rows, dropped_by, exhausts, rows_in, lost_in, all_up_to, without, without_all, offered, last_of, up_to, row_of};
+ghost use Rattle.dnp_eventbuf.specs.Stock.{Stock, above, lane_at, empty_stock, arriving, with_rows, dropped_by, exhausts, rows_in, lost_in, all_up_to, without, without_all, offered, last_of, up_to, row_of};
 
 use crate::numbered::Numbered;
 use dnp_objects::Row;
@@ -34,6 +34,12 @@ pub fn a_release_conserves_rows()
     ensures counts { (s : Stock) (upto : List ℕ) (test : RowValue → Bool) → length upto ≡ length s.lanes
         → count_by test (rows_in s) ≡ count_by test (all_up_to s upto) + count_by test (rows_in (without s upto)) }
     ensures lost { (s : Stock) (upto : List ℕ) → lost_in (without s upto) ≡ lost_in s }
+{}
+
+/// A release takes from each lane, by itself, the rows up to the lane's id, and leaves those above it.
+pub fn a_release_is_lane_by_lane()
+    ensures { (s : Stock) (upto : List ℕ) (number : ℕ) → length upto ≡ length s.lanes → number < length s.lanes
+        → lane_at (without s upto) number ≡ above (slice_index_or upto number 0) (lane_at s number) }
 {}
 
 /// Emptied lanes have no row, and their counts of lost rows stay.

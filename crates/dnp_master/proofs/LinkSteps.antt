@@ -20,7 +20,7 @@ use Rattle.dnp_master.specs.declared.request.Case.TheVariants.{Unheeded, Awaited
 use Rattle.dnp_master.specs.declared.request.OpenRequest.{OpenRequest}
 use Rattle.dnp_master.specs.Calls.{Taking, unheeded, is_report, is_solicited, is_next, case_by, case_of, report_taken, ended, going_on, taken_as, checked, heard, receive_of, confirm_for}
 use Rattle.dnp_master.specs.Rows.{is_from_plan}
-use Rattle.dnp_master.specs.State.{State}
+use Rattle.dnp_master.specs.State.{State, after}
 use Rattle.dnp_master.specs.Steps.{control_in, answered_events, PassesOver, TakesResponse, TakesReport}
 
 -- ---- the control octet
@@ -138,33 +138,26 @@ takes s now octets answered is_open is (Awaited request) says =
     from_plan (is_from_plan s.plan answered.headers) (Steps s octets) (taken_as (Awaited request) s now answered)
     (inr (inl (by_fin answered.control.fin refl)))
   where
+    -- what is made of the last fragment and of another is alike but for the state
+    taken : (t : Taking) → t.events ≡ answered_events (Ok answered) → t.confirm ≡ confirm_for answered.control → t.state.is_open ≡ true
+        → t.state.seq ≡ after s.seq → is_some t.state.request ≡ not answered.control.fin → TakesResponse s octets t
+    taken t events confirm stays_open follows busy =
+        let control : answered.control ≡ control_in octets = control_is octets answered is in
+        record {
+          was_open = is_open;
+          busy = ap is_some says.1;
+          uns = sym (ap (λ (c : ControlBits). c.uns) control) ∙ says.0;
+          seq = sym (ap (λ (c : ControlBits). c.seq) control) ∙ says.2;
+          events = events ∙ ap answered_events (sym is);
+          confirm = confirm ∙ ap confirm_for control;
+          stays_open = stays_open;
+          follows = follows;
+          busy_after = busy ∙ ap (λ (c : ControlBits). not c.fin) control;
+        }
+
     by_fin : (fin : Bool) → answered.control.fin ≡ fin → TakesResponse s octets (cond fin (ended s request answered) (going_on s now request answered))
-    by_fin true last =
-        let control : answered.control ≡ control_in octets = control_is octets answered is in
-        record {
-          was_open = is_open;
-          busy = ap is_some says.1;
-          uns = sym (ap (λ (c : ControlBits). c.uns) control) ∙ says.0;
-          seq = sym (ap (λ (c : ControlBits). c.seq) control) ∙ says.2;
-          events = ap answered_events (sym is);
-          confirm = ap confirm_for control;
-          stays_open = is_open;
-          follows = refl;
-          busy_after = ap not (sym last ∙ ap (λ (c : ControlBits). c.fin) control);
-        }
-    by_fin false last =
-        let control : answered.control ≡ control_in octets = control_is octets answered is in
-        record {
-          was_open = is_open;
-          busy = ap is_some says.1;
-          uns = sym (ap (λ (c : ControlBits). c.uns) control) ∙ says.0;
-          seq = sym (ap (λ (c : ControlBits). c.seq) control) ∙ says.2;
-          events = ap answered_events (sym is);
-          confirm = ap confirm_for control;
-          stays_open = is_open;
-          follows = refl;
-          busy_after = ap not (sym last ∙ ap (λ (c : ControlBits). c.fin) control);
-        }
+    by_fin true last = taken (ended s request answered) refl refl is_open refl (ap not (sym last))
+    by_fin false last = taken (going_on s now request answered) refl refl is_open refl (ap not (sym last))
 
 hears : (s : State) (now : ℕ) (octets : List ℕ) (r : Result Answered AppFault) → s.is_open ≡ true → response_at octets ≡ r
     → IfOk (heard s now r) (Steps s octets)

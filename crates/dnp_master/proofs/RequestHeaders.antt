@@ -18,46 +18,20 @@ use Rattle.std.proofs.lemmas.List.{length-append}
 
 -- ---- a class
 
-read_0 : IsHeader form.Read (class_header 0)
-unfolding takes_of rules content_of objects
-read_0 = record { object = refl; fits = tt; forward = tt; objects = refl }
-
-read_1 : IsHeader form.Read (class_header 1)
-unfolding takes_of rules content_of objects
-read_1 = record { object = refl; fits = tt; forward = tt; objects = refl }
-
-read_2 : IsHeader form.Read (class_header 2)
-unfolding takes_of rules content_of objects
-read_2 = record { object = refl; fits = tt; forward = tt; objects = refl }
-
-read_3 : IsHeader form.Read (class_header 3)
-unfolding takes_of rules content_of objects
-read_3 = record { object = refl; fits = tt; forward = tt; objects = refl }
-
-enable_1 : IsHeader form.Enable (class_header 1)
-unfolding takes_of rules content_of objects
-enable_1 = record { object = refl; fits = tt; forward = tt; objects = refl }
-
-enable_2 : IsHeader form.Enable (class_header 2)
-unfolding takes_of rules content_of objects
-enable_2 = record { object = refl; fits = tt; forward = tt; objects = refl }
-
-enable_3 : IsHeader form.Enable (class_header 3)
-unfolding takes_of rules content_of objects
-enable_3 = record { object = refl; fits = tt; forward = tt; objects = refl }
-
 pub class_is_read : (class : ℕ) → class ≤ 3 → IsHeader form.Read (class_header class)
-class_is_read zero le = read_0
-class_is_read (suc zero) le = read_1
-class_is_read (suc (suc zero)) le = read_2
-class_is_read (suc (suc (suc zero))) le = read_3
+unfolding takes_of rules content_of objects
+class_is_read zero le = record { object = refl; fits = tt; forward = tt; objects = refl }
+class_is_read (suc zero) le = record { object = refl; fits = tt; forward = tt; objects = refl }
+class_is_read (suc (suc zero)) le = record { object = refl; fits = tt; forward = tt; objects = refl }
+class_is_read (suc (suc (suc zero))) le = record { object = refl; fits = tt; forward = tt; objects = refl }
 class_is_read (suc (suc (suc (suc n)))) le = absurd (omega arith)
 
 pub class_is_enabled : (class : ℕ) → 1 ≤ class → class ≤ 3 → IsHeader form.Enable (class_header class)
+unfolding takes_of rules content_of objects
 class_is_enabled zero low le = absurd (omega arith)
-class_is_enabled (suc zero) low le = enable_1
-class_is_enabled (suc (suc zero)) low le = enable_2
-class_is_enabled (suc (suc (suc zero))) low le = enable_3
+class_is_enabled (suc zero) low le = record { object = refl; fits = tt; forward = tt; objects = refl }
+class_is_enabled (suc (suc zero)) low le = record { object = refl; fits = tt; forward = tt; objects = refl }
+class_is_enabled (suc (suc (suc zero))) low le = record { object = refl; fits = tt; forward = tt; objects = refl }
 class_is_enabled (suc (suc (suc (suc n)))) low le = absurd (omega arith)
 
 no_class_0 : (some zero : Bool) → IsTrue (some && not zero) → zero ≡ true → ⊥

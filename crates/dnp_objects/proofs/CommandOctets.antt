@@ -9,7 +9,8 @@ use Rattle.byteorder.specs.Endian.{little_number, little_bytes}
 use Rattle.byteorder.specs.Numbers.{little_from-lt}
 use Rattle.dnp_objects.specs.declared.table.Content.TheVariants as content
 use Rattle.dnp_objects.specs.Parts.{block_of, setpoint_of}
-use Rattle.dnp_objects.specs.Commands.{command_octets, IsCommandOf}
+use Rattle.dnp_objects.specs.declared.command.Command.{Command}
+use Rattle.dnp_objects.specs.Commands.{carrier, index_of, IsInRange, order_octets, command_octets, IsCommandOf}
 use Rattle.dnp_objects.proofs.Values.{AreOctets, dropped_octets, octets_of_number}
 
 -- the last octet stands alone
@@ -54,43 +55,32 @@ signed_16 n below = let fits : Fits w16 n = record { fits = below } in sfits_to_
 signed_32 : (n : ℕ) → n < 2 ^ 32 → FitsSigned w32 (cast_signed w32 n)
 signed_32 n below = let fits : Fits w32 n = record { fits = below } in sfits_to_z fits
 
+-- the octets of a value and a status octet are those of the command with that value
+value_and_status : (w i : ℕ) (octets : List ℕ) (command : Command) → carrier command ≡ content.Setpoint w → index_of command ≡ i → IsInRange command
+    → order_octets command ≡ take w octets → length octets ≡ suc w → IsCommandOf (content.Setpoint w) i octets command (get_or octets w 0 % 128)
+value_and_status w i octets command carries index range value size = record {
+  carrier_is = carries;
+  index_is = index;
+  in_range = range;
+  status_octet = get_or octets w 0;
+  status_is = refl;
+  spelled = sym (take-append-drop w octets) ∙ ap (λ (l : List ℕ). take w octets ++ l) (last_of w octets size)
+      ∙ ap (λ (l : List ℕ). l ++ get_or octets w 0 ∷ []) (sym value);
+}
+
 is_set16 : (i : ℕ) (octets : List ℕ) → AreOctets octets → length octets ≡ 3
     → IsCommandOf (content.Setpoint 2) i octets (setpoint_of 2 i octets) (get_or octets 2 0 % 128)
 is_set16 i octets small size =
-    let n : ℕ = little_number 2 octets in
-    let below : n < 65536 = little_from-lt 0 2 octets small in
-    let value : little_bytes 2 (cast_unsigned w16 (cast_signed w16 n)) ≡ take 2 octets =
-    ap (little_bytes 2) (of_z-to_z w16 n below) ∙ octets_of_number 2 octets small (omega arith) in
-    let spelled : octets ≡ command_octets (setpoint_of 2 i octets) (get_or octets 2 0) =
-    sym (take-append-drop 2 octets) ∙ ap (λ (l : List ℕ). take 2 octets ++ l) (last_of 2 octets size)
-    ∙ ap (λ (l : List ℕ). l ++ get_or octets 2 0 ∷ []) (sym value) in
-    record {
-      carrier_is = refl;
-      index_is = refl;
-      in_range = signed_16 n below;
-      status_octet = get_or octets 2 0;
-      status_is = refl;
-      spelled = spelled;
-    }
+    let below : little_number 2 octets < 65536 = little_from-lt 0 2 octets small in
+    value_and_status 2 i octets (setpoint_of 2 i octets) refl refl (signed_16 (little_number 2 octets) below)
+    (ap (little_bytes 2) (of_z-to_z w16 (little_number 2 octets) below) ∙ octets_of_number 2 octets small (omega arith)) size
 
 is_set32 : (i : ℕ) (octets : List ℕ) → AreOctets octets → length octets ≡ 5
     → IsCommandOf (content.Setpoint 4) i octets (setpoint_of 4 i octets) (get_or octets 4 0 % 128)
 is_set32 i octets small size =
-    let n : ℕ = little_number 4 octets in
-    let below : n < 4294967296 = little_from-lt 0 4 octets small in
-    let value : little_bytes 4 (cast_unsigned w32 (cast_signed w32 n)) ≡ take 4 octets =
-    ap (little_bytes 4) (of_z-to_z w32 n below) ∙ octets_of_number 4 octets small (omega arith) in
-    let spelled : octets ≡ command_octets (setpoint_of 4 i octets) (get_or octets 4 0) =
-    sym (take-append-drop 4 octets) ∙ ap (λ (l : List ℕ). take 4 octets ++ l) (last_of 4 octets size)
-    ∙ ap (λ (l : List ℕ). l ++ get_or octets 4 0 ∷ []) (sym value) in
-    record {
-      carrier_is = refl;
-      index_is = refl;
-      in_range = signed_32 n below;
-      status_octet = get_or octets 4 0;
-      status_is = refl;
-      spelled = spelled;
-    }
+    let below : little_number 4 octets < 4294967296 = little_from-lt 0 4 octets small in
+    value_and_status 4 i octets (setpoint_of 4 i octets) refl refl (signed_32 (little_number 4 octets) below)
+    (ap (little_bytes 4) (of_z-to_z w32 (little_number 4 octets) below) ∙ octets_of_number 4 octets small (omega arith)) size
 
 pub is_setpoint : (w i : ℕ) (octets : List ℕ) → (w ≡ 2) ⊎ (w ≡ 4) → AreOctets octets → length octets ≡ w + 1
     → IsCommandOf (content.Setpoint w) i octets (setpoint_of w i octets) (get_or octets w 0 % 128)

@@ -3,6 +3,7 @@ pub mod CommandsBack
 pub mod Covered
 pub mod EqualityTests
 pub mod FirstFaults
+pub mod Given
 pub mod Lines
 pub mod ReadEvents
 pub mod RowFaults

@@ -1,11 +1,13 @@
 //! Laws of the words of `specs/`: each function does nothing, and its contract is a law.
-ghost use Rattle.std.specs.Prelude.{◌≡◌, ◌≤◌, ◌<◌, ◌+◌, ◌^◌, ◌↔◌, ℕ, Bool, List, [], ◌∷◌, ◌++◌, IsSome, IfSome};
-ghost use Rattle.std.specs.Prelude.{nat_eq, map, filter, All, Contains};
+ghost use Rattle.std.specs.Prelude.{◌≡◌, ◌≤◌, ◌<◌, ◌+◌, ◌^◌, ◌↔◌, ℕ, Bool, List, [], ◌∷◌, ◌++◌, Some, IsSome, IfSome};
+ghost use Rattle.std.specs.Prelude.{nat_eq, map, filter, length, All, Contains};
+ghost use Rattle.std.specs.Option.{option_map, option_and_then};
 ghost use Rattle.std.specs.List.Sorted.{IsPermutation};
 ghost use Rattle.dnp_objects.specs.Counts.{count, IsCoveredBy, HasNoRepeat, IsEqualityTest};
 ghost use Rattle.dnp_objects.specs.Equality.{row_eq, command_eq, pair_eq};
-ghost use Rattle.dnp_objects.specs.Objects.{content_of, shape_read, shape_written, HasNoRow};
-ghost use Rattle.dnp_objects.specs.Rows.{Reads, Writes, carried};
+ghost use Rattle.dnp_objects.specs.Objects.{content_of, content_size, object_size, shape_read, shape_size, shape_written, HasNoRow, IsContent};
+ghost use Rattle.dnp_objects.specs.Parts.{row_of, command_of};
+ghost use Rattle.dnp_objects.specs.Rows.{Fits, Reads, Writes, carried, written};
 ghost use Rattle.dnp_objects.specs.Events.{IsEvent};
 ghost use Rattle.dnp_objects.specs.Commands.{ReadsCommand, IsInRange, carrier, object_of, index_of, command_octets};
 ghost use Rattle.dnp_objects.specs.Lanes.{IsLane, lane_number};
@@ -82,6 +84,41 @@ pub fn rows_have_their_objects()
         → shape_written group variation ≡ None }
     ensures written { (group variation : ℕ)
         → IfSome (shape_read group variation) (λ shape. shape_written group variation ≡ Some shape) }
+{}
+
+/// What an object carries has the widths of its kind: a binary flags and no octets of value, any other
+/// value 2 or 4. No object of rows has more than 11 octets.
+pub fn objects_have_their_widths()
+    ensures { (group variation : ℕ) → IfSome (content_of group variation) IsContent }
+{}
+
+/// Octets of an object's size are read as the row that their parts make, and as no other.
+#[inline(always)]
+pub fn octets_are_read_as_one_row()
+    ensures read { (group variation index : ℕ) (octets : List ℕ) → All (λ octet. octet < 2 ^ 8) octets
+        → IfSome (shape_read group variation) (λ shape. length octets ≡ shape_size shape
+        → Reads group variation index octets (row_of shape index octets)) }
+    ensures only { (group variation index : ℕ) (octets : List ℕ) (row : Row) → Reads group variation index octets row
+        → option_map (λ shape. row_of shape index octets) (shape_read group variation) ≡ Some row }
+{}
+
+/// Octets of an object's size are read as the command, with its status, that their parts make, and as
+/// no other.
+#[inline(always)]
+pub fn octets_are_read_as_one_command()
+    ensures read { (group variation index : ℕ) (octets : List ℕ) → All (λ octet. octet < 2 ^ 8) octets
+        → IfSome (content_of group variation) (λ content. length octets ≡ content_size content
+        → IfSome (command_of content index octets) (ReadsCommand group variation index octets)) }
+    ensures only { (group variation index : ℕ) (octets : List ℕ) (answer : Command × ℕ)
+        → ReadsCommand group variation index octets answer
+        → option_and_then (λ content. command_of content index octets) (content_of group variation) ≡ Some answer }
+{}
+
+/// A row that can be written as an object fills it.
+#[inline(always)]
+pub fn a_written_row_fills_its_object()
+    ensures { (group variation : ℕ) (row : Row) → Fits group variation row
+        → object_size group variation ≡ Some (length (written group variation row)) }
 {}
 
 /// A row that was written is read as the same row, without a time that the object lacks. What is

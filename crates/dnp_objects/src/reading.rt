@@ -77,6 +77,7 @@ impl Shape {
     ghost use Rattle.std.specs.Prelude.{◌≡◌, length};
     ghost use Rattle.dnp_objects.specs.declared.row.Row.{Row as RowValue};
     ghost use Rattle.dnp_objects.specs.Objects.{IsShape, shape_size};
+    ghost use Rattle.dnp_objects.specs.Parts.{row_of};
     ghost use Rattle.dnp_objects.specs.Rows.{IsReading};
 
     /// The row with this index that the octets of an object of this shape are; they have to be as many
@@ -86,6 +87,7 @@ impl Shape {
     pub fn row(self, index: u16, octets: &[u8]) -> Row
         requires shape { IsShape self }
         requires size { length octets.now ≡ shape_size self }
+        ensures value { result ≡ row_of self index octets.now }
         ensures found { IsReading self index octets.now result }
         ensures only { (row : RowValue) → IsReading self index octets.now row → result ≡ row }
     {

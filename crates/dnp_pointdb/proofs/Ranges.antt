@@ -10,7 +10,6 @@ use Rattle.dnp_objects.specs.declared.table.Content.TheVariants as content_of_ro
 use Rattle.dnp_objects.specs.Equality.{kind_eq}
 use Rattle.dnp_objects.specs.Objects.{objects, content_of, shape_written, writable, IsShape, IsNumber, IsContent}
 use Rattle.dnp_objects.specs.Rows.{row_fits, value_fits, flags_fit, time_fits}
-use Rattle.dnp_objects.proofs.Lines.{content_sound}
 use Rattle.dnp_pointdb.specs.declared.reading.Reading.{Reading}
 use Rattle.dnp_pointdb.specs.Events.{row_of}
 use Rattle.dnp_pointdb.specs.Ranges.{is_carried}
@@ -107,11 +106,12 @@ has_object Analog index reading is =
     let parts = both (value_fits Analog 4 reading.value) (flags_fit Analog true reading.flags) is in
     (32, 1, to_true (row_fits (wide Analog 4) (row_of Analog index reading)) (wide_fits Analog 4 index reading parts.0 parts.1 refl))
 
-pub carried_exactly : (kind : Kind) (index : ℕ) (reading : Reading)
+-- by the law of the widths of objects
+pub carried_exactly : ((group variation : ℕ) → IfSome (content_of group variation) IsContent) → (kind : Kind) (index : ℕ) (reading : Reading)
     → (is_carried kind reading ≡ true)
     ↔ ((group : ℕ) × (variation : ℕ)
     × IsSomeAnd (shape_written group variation) (λ shape. IsTrue (row_fits shape (row_of kind index reading))))
-carried_exactly kind index reading = (
+carried_exactly law kind index reading = (
   has_object kind index reading,
-  λ found. from_content (content_of found.0 found.1) kind index reading (content_sound found.0 found.1) found.2,
+  λ found. from_content (content_of found.0 found.1) kind index reading (law found.0 found.1) found.2,
 )

@@ -24,6 +24,8 @@ ghost use Rattle.dnp_pointdb.specs.Database.{Database, state_at, answer_of, new_
 ghost use Rattle.dnp_pointdb.specs.Ranges.{is_carried, is_in_range};
 ghost use Rattle.dnp_pointdb.specs.Runs.{Move, rows_of, rows_at, happened_at, happenings_of};
 
+use dnp_objects::laws::objects_have_their_widths;
+
 /// A change is an event exactly if the point has class 1, 2 or 3 and either the flags are others
 /// than those last reported or the value differs from the one last reported by more than the
 /// deadband. The event is the reading's row, in the lane of the point's class and kind.
@@ -44,7 +46,9 @@ pub fn readings_are_those_that_objects_carry()
         → (is_carried kind reading ≡ true)
         ↔ ((group : ℕ) × (variation : ℕ)
         × IsSomeAnd (shape_written group variation) (λ shape. IsTrue (row_fits shape (row_of kind index reading)))) }
-{}
+{
+    objects_have_their_widths();
+}
 
 /// Lost communication clears ONLINE, bit 0, sets COMM_LOST, bit 2, and leaves the other flags.
 pub fn lost_communication_shows_in_two_flags()

@@ -1,10 +1,12 @@
 //! What a master asks, takes and confirms, octet for octet.
 
-use crate::outputs::block;
 use crate::plans::{Alike, plan_of};
+use Step::{Asks, Gets, HangsUp, Keeps, Opens, Refuses, Rejects, Shows, Ticks};
+use Task::{ClearRestart, Disable, Enable, Operate, Poll, Select, WriteTime};
 use dnp_appfragment::Iin;
 use dnp_eventbuf::{JournalStore, PlainJournal};
 use dnp_master::{AskFault, Classes, Master, MasterFault, Outcome, Task};
+use dnp_objects::Kind::{Analog, Binary, Counter};
 use dnp_objects::{Command, Kind, Status};
 use dnp_pointdb::Times;
 use std::alloc::Global;
@@ -57,7 +59,7 @@ enum Step<'a> {
 }
 
 /// Whether the journal has these rows behind an id.
-fn keeps<J: JournalStore>(
+fn holds<J: JournalStore>(
     journal: &mut J,
     alloc: Global,
     from: u64,
@@ -92,7 +94,7 @@ fn is_told(outcome: Option<Outcome>, told: Told) -> bool {
 }
 
 /// Whether the fragment makes the master do this, and its sink drops no row.
-fn gets<J: JournalStore>(
+fn reacts<J: JournalStore>(
     master: &mut Master,
     journal: &mut J,
     alloc: Global,
@@ -136,14 +138,14 @@ fn does<J: JournalStore>(
             Ok(_) => false,
             Err(fault) => fault == wanted,
         },
-        Step::Gets(now, octets, wanted) => gets(master, journal, alloc, now, octets, wanted),
+        Step::Gets(now, octets, wanted) => reacts(master, journal, alloc, now, octets, wanted),
         Step::Rejects(octets, wanted) => match master.receive(alloc, 0, octets, journal) {
             Ok(_) => false,
             Err(fault) => fault == wanted,
         },
         Step::Ticks(now, has_ended) => master.tick(now) == has_ended,
         Step::Shows(is_idle, selected) => master.idle() == is_idle && master.selected() == selected,
-        Step::Keeps(from, wanted) => keeps(journal, alloc, from, wanted),
+        Step::Keeps(from, wanted) => holds(journal, alloc, from, wanted),
     }
 }
 
@@ -162,9 +164,9 @@ fn points(kind: Kind, count: usize, class: u8) -> Alike {
 /// whose responses have ten seconds.
 fn master_of(alloc: Global) -> Option<Master> {
     let blocks = [
-        points(Kind::Binary, 4, 1),
-        points(Kind::Counter, 2, 0),
-        points(Kind::Analog, 3, 2),
+        points(Binary, 4, 1),
+        points(Counter, 2, 0),
+        points(Analog, 3, 2),
     ];
     let Ok(Ok(plan)) = plan_of(alloc, &blocks) else {
         return None;
@@ -179,14 +181,12 @@ fn master_of(alloc: Global) -> Option<Master> {
     Some(Master::new(plan, times))
 }
 
-/// This is done.
-fn acts(send: Option<[u8; 2]>, taken: usize, told: Told, restart: bool) -> Did {
-    Did {
-        send,
-        taken,
-        told,
-        restart,
-    }
+/// This is done: the confirm, how many events are taken, what is told of the task, and whether a
+/// restart is indicated.
+macro_rules! acts {
+    ($send:expr, $taken:literal, $told:expr, $restart:literal) => {
+        Did { send: $send, taken: $taken, told: $told, restart: $restart }
+    };
 }
 
 /// Nothing is done.
@@ -200,10 +200,8 @@ const NOTHING: Did = Did {
 /// The task is done, and the outstation indicates nothing.
 const DONE: Told = Told::Done(0, 0);
 
-/// The command is answered with this status.
-fn control(code: u8) -> Did {
-    acts(None, 0, Told::Control(code), false)
-}
+/// The task is done, and the outstation indicates that it has started again.
+const RESTARTED: Told = Told::Done(0x80, 0);
 
 /// Classes 1, 2 and 3.
 const EVENTS: Classes = Classes([false, true, true, true]);
@@ -211,131 +209,138 @@ const EVENTS: Classes = Classes([false, true, true, true]);
 /// Class 1.
 const CLASS_1: Classes = Classes([false, true, false, false]);
 
+/// Class 0.
+const CLASS_0: Classes = Classes([true, false, false, false]);
+
+/// No class.
+const NO_CLASS: Classes = Classes([false; 4]);
+
+/// Rows that are asked for, taken and confirmed.
+#[rattlefmt::skip]
+const ROWS: &[Step<'static>] = &[
+    Refuses(Poll(EVENTS), AskFault::Closed),
+    Gets(0, &[0xC0], NOTHING),
+    Opens,
+    Refuses(Poll(NO_CLASS), AskFault::BadTask),
+    Refuses(Enable(CLASS_0), AskFault::BadTask),
+    Asks(0, Poll(EVENTS), &[0xC0, 0x01, 0x3C, 0x02, 0x06, 0x3C, 0x03, 0x06, 0x3C, 0x04, 0x06]),
+    Refuses(Poll(EVENTS), AskFault::Busy),
+    // An event of an outstation that has started again.
+    Gets(0, &[0xE0, 0x81, 0x80, 0x00, 0x02, 0x02, 0x28, 0x01, 0x00, 0x03, 0x00, 0x81, 0xE8, 0x03, 0x00, 0x00, 0x00, 0x00],
+        acts!(Some([0xC0, 0x00]), 1, RESTARTED, true)),
+    Keeps(0, &[(Binary, 3, 0x01, 1, Some(1_000))]),
+    Asks(0, ClearRestart, &[0xC1, 0x02, 0x50, 0x01, 0x00, 0x07, 0x07, 0x00]),
+    Gets(0, &[0xC0, 0x81, 0x00, 0x00], NOTHING),
+    Gets(0, &[0xC1, 0x81, 0x00, 0x00], acts!(None, 0, DONE, false)),
+    // Present values are passed over by a journal; a confirm is sent where one is asked for.
+    Asks(0, Poll(CLASS_0), &[0xC2, 0x01, 0x3C, 0x01, 0x06]),
+    Gets(0, &[0xE2, 0x81, 0x00, 0x00, 0x01, 0x02, 0x00, 0x00, 0x01, 0x81, 0x01], acts!(Some([0xC2, 0x00]), 0, DONE, false)),
+    Keeps(1, &[]),
+    // Two fragments, the first of which has a counter without class beside an event.
+    Asks(0, Poll(EVENTS), &[0xC3, 0x01, 0x3C, 0x02, 0x06, 0x3C, 0x03, 0x06, 0x3C, 0x04, 0x06]),
+    Gets(7_000, &[0xA3, 0x81, 0x00, 0x00, 0x02, 0x01, 0x17, 0x01, 0x02, 0x81, 0x14, 0x01, 0x00, 0x01, 0x01, 0x01, 0x07, 0x00, 0x00, 0x00],
+        acts!(Some([0xC3, 0x00]), 1, Told::Nothing, false)),
+    Gets(7_000, &[0xE4, 0x81, 0x00, 0x00], NOTHING),
+    Ticks(16_999, false),
+    Gets(17_000, &[0x64, 0x81, 0x00, 0x00, 0x20, 0x01, 0x28, 0x01, 0x00, 0x02, 0x00, 0x01, 0xFB, 0xFF, 0xFF, 0xFF],
+        acts!(Some([0xC4, 0x00]), 1, DONE, false)),
+    Keeps(1, &[(Binary, 2, 0x01, 1, None), (Analog, 2, 0x01, -5, None)]),
+    // What comes unasked, without rows and with one, before an answer and after it.
+    Asks(20_000, Enable(CLASS_1), &[0xC5, 0x14, 0x3C, 0x02, 0x06]),
+    Gets(20_000, &[0xF0, 0x82, 0x80, 0x00], acts!(Some([0xD0, 0x00]), 0, Told::Nothing, true)),
+    Shows(false, None),
+    Gets(20_000, &[0xE5, 0x81, 0x00, 0x00], acts!(Some([0xC5, 0x00]), 0, DONE, false)),
+    Gets(20_000, &[0xF1, 0x82, 0x00, 0x00, 0x02, 0x02, 0x28, 0x01, 0x00, 0x03, 0x00, 0x81, 0xE8, 0x03, 0x00, 0x00, 0x00, 0x00],
+        acts!(Some([0xD1, 0x00]), 1, Told::Nothing, false)),
+    Keeps(3, &[(Binary, 3, 0x01, 1, Some(1_000))]),
+    Asks(20_000, Disable(EVENTS), &[0xC6, 0x15, 0x3C, 0x02, 0x06, 0x3C, 0x03, 0x06, 0x3C, 0x04, 0x06]),
+    // Refused octets, and events of points that have none, change nothing.
+    Rejects(&[0xC6, 0x81, 0x00], MasterFault::Malformed),
+    Rejects(&[0xE6, 0x81, 0x00, 0x00, 0x02, 0x01, 0x17, 0x01, 0x04, 0x81], MasterFault::Stranger),
+    Rejects(&[0xE6, 0x81, 0x00, 0x00, 0x16, 0x01, 0x17, 0x01, 0x01, 0x01, 0x07, 0x00, 0x00, 0x00], MasterFault::Stranger),
+    Keeps(4, &[]),
+    Ticks(29_999, false),
+    Ticks(30_000, true),
+    Ticks(30_000, false),
+    Refuses(Poll(CLASS_1), AskFault::Closed),
+    Gets(30_000, &[0xC6, 0x81, 0x00, 0x00], NOTHING),
+    Opens,
+    Asks(30_000, Poll(CLASS_1), &[0xC0, 0x01, 0x3C, 0x02, 0x06]),
+    HangsUp,
+    Shows(false, None),
+];
+
+/// An analog output of -1, and one of -2.
+const SET_1: Command = Command::Set16 {
+    index: 2,
+    value: -1,
+};
+
+const SET_2: Command = Command::Set16 {
+    index: 2,
+    value: -2,
+};
+
+/// An analog output of 32 bits.
+const WIDE: Command = Command::Set32 {
+    index: 5,
+    value: 70_000,
+};
+
+/// Output 5 is latched on.
+#[rattlefmt::skip]
+const LATCH_ON: Command = Command::Block { index: 5, code: 0x03, count: 1, on_ms: 0, off_ms: 0 };
+
+/// The task is done, or was answered with something else, and nothing is taken.
+const IS_DONE: Did = acts!(None, 0, DONE, false);
+
+const UNLIKE: Did = acts!(None, 0, Told::Unlike, false);
+
+/// Commands that are selected and operated.
+#[rattlefmt::skip]
+const COMMANDS: &[Step<'static>] = &[
+    Opens,
+    Refuses(Operate(SET_1), AskFault::NotSelected),
+    Asks(0, Select(SET_1), &[0xC0, 0x03, 0x29, 0x02, 0x28, 0x01, 0x00, 0x02, 0x00, 0xFF, 0xFF, 0x00]),
+    Refuses(Operate(SET_1), AskFault::Busy),
+    Gets(0, &[0xC0, 0x81, 0x00, 0x00, 0x29, 0x02, 0x28, 0x01, 0x00, 0x02, 0x00, 0xFF, 0xFF, 0x00], acts!(None, 0, Told::Control(0), false)),
+    Shows(true, Some(SET_1)),
+    Refuses(Operate(SET_2), AskFault::NotSelected),
+    Asks(0, Operate(SET_1), &[0xC1, 0x04, 0x29, 0x02, 0x28, 0x01, 0x00, 0x02, 0x00, 0xFF, 0xFF, 0x00]),
+    Gets(0, &[0xC1, 0x81, 0x00, 0x00, 0x29, 0x02, 0x28, 0x01, 0x00, 0x02, 0x00, 0xFE, 0xFF, 0x00], UNLIKE),
+    Shows(true, None),
+    Refuses(Operate(SET_1), AskFault::NotSelected),
+    Asks(0, WriteTime(1_000), &[0xC2, 0x02, 0x32, 0x01, 0x07, 0x01, 0xE8, 0x03, 0x00, 0x00, 0x00, 0x00]),
+    Gets(0, &[0xC2, 0x81, 0x00, 0x00], IS_DONE),
+    Refuses(WriteTime(281_474_976_710_656), AskFault::BadTask),
+    // A select that is refused does not stand, nor one that another task comes behind.
+    Asks(0, Select(LATCH_ON),
+        &[0xC3, 0x03, 0x0C, 0x01, 0x28, 0x01, 0x00, 0x05, 0x00, 0x03, 0x01, 0x00, 0x00, 0x00, 0x00, 0x00, 0x00, 0x00, 0x00, 0x00]),
+    Gets(0, &[0xC3, 0x81, 0x00, 0x00, 0x0C, 0x01, 0x28, 0x01, 0x00, 0x05, 0x00, 0x03, 0x01, 0x00, 0x00, 0x00, 0x00, 0x00, 0x00, 0x00, 0x00, 0x04],
+        acts!(None, 0, Told::Control(4), false)),
+    Refuses(Operate(LATCH_ON), AskFault::NotSelected),
+    Asks(0, Select(WIDE), &[0xC4, 0x03, 0x29, 0x01, 0x28, 0x01, 0x00, 0x05, 0x00, 0x70, 0x11, 0x01, 0x00, 0x00]),
+    Gets(0, &[0xC4, 0x81, 0x00, 0x00, 0x29, 0x01, 0x28, 0x01, 0x00, 0x05, 0x00, 0x70, 0x11, 0x01, 0x00, 0x00], acts!(None, 0, Told::Control(0), false)),
+    Asks(0, Poll(CLASS_1), &[0xC5, 0x01, 0x3C, 0x02, 0x06]),
+    Gets(0, &[0xC5, 0x81, 0x00, 0x00], IS_DONE),
+    Refuses(Operate(WIDE), AskFault::NotSelected),
+    // An answer without objects is none.
+    Asks(0, Select(WIDE), &[0xC6, 0x03, 0x29, 0x01, 0x28, 0x01, 0x00, 0x05, 0x00, 0x70, 0x11, 0x01, 0x00, 0x00]),
+    Gets(0, &[0xC6, 0x81, 0x00, 0x04], UNLIKE),
+];
+
 #[test]
-fn rows_are_asked_for_and_confirmed(rt: HostRuntime) -> Result<(), Fail> {
-    use Kind::{Analog, Binary, Counter};
-    use Step::{Asks, Gets, HangsUp, Keeps, Opens, Refuses, Shows, Rejects, Ticks};
-    use Task::{ClearRestart, Disable, Enable, Poll};
-
-    let restarted = Told::Done(0x80, 0);
-    let class_0 = Classes([true, false, false, false]);
-    let none = Classes([false; 4]);
-    #[rattlefmt::skip]
-    let steps = [
-        Refuses(Poll(EVENTS), AskFault::Closed),
-        Gets(0, &[0xC0], NOTHING),
-        Opens,
-        Refuses(Poll(none), AskFault::BadTask),
-        Refuses(Enable(class_0), AskFault::BadTask),
-        Asks(0, Poll(EVENTS), &[0xC0, 0x01, 0x3C, 0x02, 0x06, 0x3C, 0x03, 0x06, 0x3C, 0x04, 0x06]),
-        Refuses(Poll(EVENTS), AskFault::Busy),
-        // An event of an outstation that has started again.
-        Gets(0, &[0xE0, 0x81, 0x80, 0x00, 0x02, 0x02, 0x28, 0x01, 0x00, 0x03, 0x00, 0x81, 0xE8, 0x03, 0x00, 0x00, 0x00, 0x00],
-            acts(Some([0xC0, 0x00]), 1, restarted, true)),
-        Keeps(0, &[(Binary, 3, 0x01, 1, Some(1_000))]),
-        Asks(0, ClearRestart, &[0xC1, 0x02, 0x50, 0x01, 0x00, 0x07, 0x07, 0x00]),
-        Gets(0, &[0xC0, 0x81, 0x00, 0x00], NOTHING),
-        Gets(0, &[0xC1, 0x81, 0x00, 0x00], acts(None, 0, DONE, false)),
-        // Present values are passed over by a journal; a confirm is sent where one is asked for.
-        Asks(0, Poll(class_0), &[0xC2, 0x01, 0x3C, 0x01, 0x06]),
-        Gets(0, &[0xE2, 0x81, 0x00, 0x00, 0x01, 0x02, 0x00, 0x00, 0x01, 0x81, 0x01], acts(Some([0xC2, 0x00]), 0, DONE, false)),
-        Keeps(1, &[]),
-        // Two fragments, the first of which has a counter without class beside an event.
-        Asks(0, Poll(EVENTS), &[0xC3, 0x01, 0x3C, 0x02, 0x06, 0x3C, 0x03, 0x06, 0x3C, 0x04, 0x06]),
-        Gets(7_000, &[0xA3, 0x81, 0x00, 0x00, 0x02, 0x01, 0x17, 0x01, 0x02, 0x81, 0x14, 0x01, 0x00, 0x01, 0x01, 0x01, 0x07, 0x00, 0x00, 0x00],
-            acts(Some([0xC3, 0x00]), 1, Told::Nothing, false)),
-        Gets(7_000, &[0xE4, 0x81, 0x00, 0x00], NOTHING),
-        Ticks(16_999, false),
-        Gets(17_000, &[0x64, 0x81, 0x00, 0x00, 0x20, 0x01, 0x28, 0x01, 0x00, 0x02, 0x00, 0x01, 0xFB, 0xFF, 0xFF, 0xFF],
-            acts(Some([0xC4, 0x00]), 1, DONE, false)),
-        Keeps(1, &[(Binary, 2, 0x01, 1, None), (Analog, 2, 0x01, -5, None)]),
-        // What comes unasked, without rows and with one, before an answer and after it.
-        Asks(20_000, Enable(CLASS_1), &[0xC5, 0x14, 0x3C, 0x02, 0x06]),
-        Gets(20_000, &[0xF0, 0x82, 0x80, 0x00], acts(Some([0xD0, 0x00]), 0, Told::Nothing, true)),
-        Shows(false, None),
-        Gets(20_000, &[0xE5, 0x81, 0x00, 0x00], acts(Some([0xC5, 0x00]), 0, DONE, false)),
-        Gets(20_000, &[0xF1, 0x82, 0x00, 0x00, 0x02, 0x02, 0x28, 0x01, 0x00, 0x03, 0x00, 0x81, 0xE8, 0x03, 0x00, 0x00, 0x00, 0x00],
-            acts(Some([0xD1, 0x00]), 1, Told::Nothing, false)),
-        Keeps(3, &[(Binary, 3, 0x01, 1, Some(1_000))]),
-        Asks(20_000, Disable(EVENTS), &[0xC6, 0x15, 0x3C, 0x02, 0x06, 0x3C, 0x03, 0x06, 0x3C, 0x04, 0x06]),
-        // Refused octets, and events of points that have none, change nothing.
-        Rejects(&[0xC6, 0x81, 0x00], MasterFault::Malformed),
-        Rejects(&[0xE6, 0x81, 0x00, 0x00, 0x02, 0x01, 0x17, 0x01, 0x04, 0x81], MasterFault::Stranger),
-        Rejects(&[0xE6, 0x81, 0x00, 0x00, 0x16, 0x01, 0x17, 0x01, 0x01, 0x01, 0x07, 0x00, 0x00, 0x00], MasterFault::Stranger),
-        Keeps(4, &[]),
-        Ticks(29_999, false),
-        Ticks(30_000, true),
-        Ticks(30_000, false),
-        Refuses(Poll(CLASS_1), AskFault::Closed),
-        Gets(30_000, &[0xC6, 0x81, 0x00, 0x00], NOTHING),
-        Opens,
-        Asks(30_000, Poll(CLASS_1), &[0xC0, 0x01, 0x3C, 0x02, 0x06]),
-        HangsUp,
-        Shows(false, None),
-    ];
+fn masters_step_by_step(rt: HostRuntime) -> Result<(), Fail> {
     let alloc = rt.alloc();
-    let mut journal = PlainJournal::new(alloc);
-    let mut master = master_of(alloc).expect(&rt, "a master");
-    for (number, step) in steps.iter().enumerate() {
-        assert!(rt;
-            does(&mut master, &mut journal, alloc, *step),
-            "step {number}"
-        );
-    }
-    Ok(())
-}
-
-#[test]
-fn commands_are_selected_and_operated(rt: HostRuntime) -> Result<(), Fail> {
-    use Step::{Asks, Gets, Opens, Refuses, Shows};
-    use Task::{Operate, Poll, Select, WriteTime};
-
-    let set = |value| Command::Set16 { index: 2, value };
-    let wide = Command::Set32 {
-        index: 5,
-        value: 70_000,
-    };
-    let unlike = acts(None, 0, Told::Unlike, false);
-    let done = acts(None, 0, DONE, false);
-    #[rattlefmt::skip]
-    let steps = [
-        Opens,
-        Refuses(Operate(set(-1)), AskFault::NotSelected),
-        Asks(0, Select(set(-1)), &[0xC0, 0x03, 0x29, 0x02, 0x28, 0x01, 0x00, 0x02, 0x00, 0xFF, 0xFF, 0x00]),
-        Refuses(Operate(set(-1)), AskFault::Busy),
-        Gets(0, &[0xC0, 0x81, 0x00, 0x00, 0x29, 0x02, 0x28, 0x01, 0x00, 0x02, 0x00, 0xFF, 0xFF, 0x00], control(0)),
-        Shows(true, Some(set(-1))),
-        Refuses(Operate(set(-2)), AskFault::NotSelected),
-        Asks(0, Operate(set(-1)), &[0xC1, 0x04, 0x29, 0x02, 0x28, 0x01, 0x00, 0x02, 0x00, 0xFF, 0xFF, 0x00]),
-        Gets(0, &[0xC1, 0x81, 0x00, 0x00, 0x29, 0x02, 0x28, 0x01, 0x00, 0x02, 0x00, 0xFE, 0xFF, 0x00], unlike),
-        Shows(true, None),
-        Refuses(Operate(set(-1)), AskFault::NotSelected),
-        Asks(0, WriteTime(1_000), &[0xC2, 0x02, 0x32, 0x01, 0x07, 0x01, 0xE8, 0x03, 0x00, 0x00, 0x00, 0x00]),
-        Gets(0, &[0xC2, 0x81, 0x00, 0x00], done),
-        Refuses(WriteTime(281_474_976_710_656), AskFault::BadTask),
-        // A select that is refused does not stand, nor one that another task comes behind.
-        Asks(0, Select(block(5, 0x03, 1)),
-            &[0xC3, 0x03, 0x0C, 0x01, 0x28, 0x01, 0x00, 0x05, 0x00, 0x03, 0x01, 0x00, 0x00, 0x00, 0x00, 0x00, 0x00, 0x00, 0x00, 0x00]),
-        Gets(0, &[0xC3, 0x81, 0x00, 0x00, 0x0C, 0x01, 0x28, 0x01, 0x00, 0x05, 0x00, 0x03, 0x01, 0x00, 0x00, 0x00, 0x00, 0x00, 0x00, 0x00, 0x00, 0x04],
-            control(4)),
-        Refuses(Operate(block(5, 0x03, 1)), AskFault::NotSelected),
-        Asks(0, Select(wide), &[0xC4, 0x03, 0x29, 0x01, 0x28, 0x01, 0x00, 0x05, 0x00, 0x70, 0x11, 0x01, 0x00, 0x00]),
-        Gets(0, &[0xC4, 0x81, 0x00, 0x00, 0x29, 0x01, 0x28, 0x01, 0x00, 0x05, 0x00, 0x70, 0x11, 0x01, 0x00, 0x00], control(0)),
-        Asks(0, Poll(CLASS_1), &[0xC5, 0x01, 0x3C, 0x02, 0x06]),
-        Gets(0, &[0xC5, 0x81, 0x00, 0x00], done),
-        Refuses(Operate(wide), AskFault::NotSelected),
-        // An answer without objects is none.
-        Asks(0, Select(wide), &[0xC6, 0x03, 0x29, 0x01, 0x28, 0x01, 0x00, 0x05, 0x00, 0x70, 0x11, 0x01, 0x00, 0x00]),
-        Gets(0, &[0xC6, 0x81, 0x00, 0x04], unlike),
-    ];
-    let alloc = rt.alloc();
-    let mut journal = PlainJournal::new(alloc);
-    let mut master = master_of(alloc).expect(&rt, "a master");
-    for (number, step) in steps.iter().enumerate() {
-        assert!(rt;
-            does(&mut master, &mut journal, alloc, *step),
-            "step {number}"
-        );
+    for (case, steps) in [ROWS, COMMANDS].into_iter().enumerate() {
+        let mut journal = PlainJournal::new(alloc);
+        let mut master = master_of(alloc).expect(&rt, "a master");
+        for (number, step) in steps.iter().enumerate() {
+            assert!(rt;
+                does(&mut master, &mut journal, alloc, *step),
+                "case {case}, step {number}"
+            );
+        }
     }
     Ok(())
 }

@@ -11,7 +11,9 @@ ghost use Rattle.dnp_appfragment.specs.Headers.{Head, count_of};
 ghost use Rattle.dnp_appfragment.specs.Meaning.{request_at, response_at, row_in, command_in};
 ghost use Rattle.dnp_appfragment.specs.Objects.{IsRow, IsCommand, HasRows, HasCommands};
 
-use dnp_objects::laws::a_read_row_is_an_event;
+use dnp_objects::laws::{
+    a_read_row_is_an_event, octets_are_read_as_one_command, octets_are_read_as_one_row,
+};
 
 /// `request_at` gives the request that octets are, and the fault that they have.
 pub fn octets_say_a_request()
@@ -38,7 +40,21 @@ pub fn objects_say_rows_and_commands()
         → (command_in header k ≡ Some answer) ↔ IsCommand header k answer }
     ensures row_there { (header : Head) (k : ℕ) → HasRows header → k < count_of header.range → IsSome (row_in header k) }
     ensures command_there { (header : Head) (k : ℕ) → HasCommands header → k < count_of header.range → IsSome (command_in header k) }
-{}
+{
+    octets_are_read_as_one_row();
+    octets_are_read_as_one_command();
+}
+
+/// The row and the command that object k of a header is are those that `row_in` and `command_in` give,
+/// of octets and of any other numbers.
+pub fn what_is_there_is_said()
+    ensures row { (header : Head) (k : ℕ) (row : Row) → IsRow header k row → row_in header k ≡ Some row }
+    ensures command { (header : Head) (k : ℕ) (answer : Command × ℕ) → IsCommand header k answer
+        → command_in header k ≡ Some answer }
+{
+    octets_are_read_as_one_row();
+    octets_are_read_as_one_command();
+}
 
 /// A row of a header, of packed bits too, is one that an event object of its kind carries.
 pub fn rows_are_events()

@@ -39,7 +39,8 @@ returns-in_err-index-clause-there c = λ has here.
 pub returns-clause-value : goal.returns-clause-value
 returns-clause-value c =
     let a = c.args in
-    given_command (head_of a.group a.variation a.range a.octets.now) a.k c.ok.result
+    let law = c.octets_are_read_as_one_command.ensures in
+    given_command law.read law.only (head_of a.group a.variation a.range a.octets.now) a.k c.ok.result
     (are_octets a.octets.now (λ i. let fits = c.type_inv.octets i in fits.fits)) (returns-clause-found c) (returns-clause-only c)
 
 pub returns-in_err-size-clause-value : goal.returns-in_err-size-clause-value

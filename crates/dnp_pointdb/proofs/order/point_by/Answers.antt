@@ -1,4 +1,4 @@
-use Rattle.std.proofs.Common.{rules, ℕ, ◌<◌, ◌≡◌, List, length, map, get_or, sym, ◌∙◌, ap, subst, Some, None, arith}
+use Rattle.std.proofs.Common.{rules, ◌<◌, ◌≡◌, List, length, map, get_or, sym, ◌∙◌, ap, subst, Some, None}
 use Rattle.std.proofs.lemmas.List.{get_or_default}
 use Rattle.dnp_pointdb.specs.declared.point.Point.{Point}
 use Rattle.dnp_pointdb.specs.declared.point.Block.{Block}

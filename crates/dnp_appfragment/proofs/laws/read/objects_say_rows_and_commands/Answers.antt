@@ -1,14 +1,19 @@
 use Rattle.dnp_appfragment.proofs.Numbers.{octets_all}
-use Rattle.dnp_appfragment.proofs.ObjectValues.{row_says, row_again, command_says, command_in_again, command_there_in}
+use Rattle.dnp_appfragment.proofs.ObjectValues.{row_says, row_said, command_says, command_said, command_there_in}
 use Rattle.dnp_appfragment.proofs.Walked.{row_there_in}
 use Rattle.dnp_appfragment.proofs.laws.read.objects_say_rows_and_commands.Goals as goal
 
 pub returns-clause-row : goal.returns-clause-row
-returns-clause-row c = λ header k row all. (row_says header k row (octets_all header.octets all), row_again header k row)
+returns-clause-row c = λ header k row all. (
+  row_says c.octets_are_read_as_one_row.ensures.read header k row (octets_all header.octets all),
+  row_said c.octets_are_read_as_one_row.ensures.only header k row,
+)
 
 pub returns-clause-command : goal.returns-clause-command
-returns-clause-command c = λ header k answer all.
-    (command_says header k answer (octets_all header.octets all), command_in_again header k answer)
+returns-clause-command c = λ header k answer all. (
+  command_says c.octets_are_read_as_one_command.ensures.read header k answer (octets_all header.octets all),
+  command_said c.octets_are_read_as_one_command.ensures.only header k answer,
+)
 
 pub returns-clause-row_there : goal.returns-clause-row_there
 returns-clause-row_there c = λ header k. row_there_in header.group header.variation header.range header.octets k

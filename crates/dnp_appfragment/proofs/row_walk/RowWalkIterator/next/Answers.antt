@@ -35,7 +35,7 @@ returns-clause-steps c =
           let cut : Cut = record { index = w.in_ok-index-in-Rows.index; octets = w.in_ok-index-in-Rows.octets.now; rest = w.in_ok-index-in-Rows.rest.now } in
           let first =
           row_given c.args.self.now s.carried s.range s.octets.now s.k s.left w.in-Rows.shape w.size.result cut w.row-row.result c.self.view_is
-          w.in-Rows.is c.self.invariant.sound c.if-self-eq0.false w.size.ensures (w.in_ok-index-in-Rows.ensures).value w.row-row.ensures.found in
+          w.in-Rows.is c.if-self-eq0.false w.size.ensures (w.in_ok-index-in-Rows.ensures).value w.row-row.ensures.value in
           first
           ∙ (λ i. let t = sym w.self-inside-is i in sym w.row-is i ∷ rows_left t.carried t.range t.octets.now (t.k + 1) (t.left - 1))
       | in-Bits+in_ok-row-in-Bits w ↦

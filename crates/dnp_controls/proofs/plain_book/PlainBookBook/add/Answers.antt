@@ -3,7 +3,7 @@ use Rattle.dnp_controls.specs.declared.book.Entry.{Entry}
 use Rattle.dnp_controls.specs.declared.book.State.TheVariants.{Pending}
 use Rattle.dnp_controls.specs.Places.{IsKept}
 use Rattle.dnp_controls.proofs.Numbered.{IsKept-push}
-use Rattle.dnp_controls.proofs.Moving.{sound_numbered}
+use Rattle.dnp_controls.proofs.Moving.{granted_call, sound_numbered}
 use Rattle.dnp_controls.proofs.plain_book.PlainBookBook.add.Goals as goal
 
 pub invariant_of-self-2 : goal.invariant_of-self-2
@@ -14,13 +14,4 @@ invariant_of-self-2 c =
     subst P (sym pushed) (IsKept-push c.self.inside.entries.items c.self.inside.first entry (omega arith) c.self.invariant)
 
 pub returns-clause-call : goal.returns-clause-call
-returns-clause-call c = record {
-  held = λ h. h;
-  serves = λ _. refl;
-  sound = λ _. sound_numbered _ (invariant_of-self-2 c).numbered;
-  beside = λ _. tt;
-  unchanged = λ _. tt;
-  device_stops = λ device. cc;
-  runs_on = λ _. refl;
-  stays = λ stopped _. cc;
-}
+returns-clause-call c = granted_call _ _ _ _ (sound_numbered _ (invariant_of-self-2 c).numbered)

@@ -2,7 +2,7 @@ use Rattle.std.proofs.Common.{◌≡◌, List, length, arith, refl, sym, subst}
 use Rattle.dnp_controls.specs.declared.book.Entry.{Entry}
 use Rattle.dnp_controls.specs.Places.{IsKept}
 use Rattle.dnp_controls.proofs.Numbered.{refilled}
-use Rattle.dnp_controls.proofs.Moving.{sound_numbered}
+use Rattle.dnp_controls.proofs.Moving.{granted_call, sound_numbered}
 use Rattle.dnp_controls.proofs.plain_book.PlainBookBook.spend.Goals as goal
 
 pub invariant_of-self : goal.invariant_of-self
@@ -13,13 +13,4 @@ invariant_of-self c =
     (c.set_state.ensures.kept c.self.inside.first refl (subst P (sym c.deref_mut.ensures.value) c.self.invariant))
 
 pub returns-in-Some-Pending-clause-call : goal.returns-in-Some-Pending-clause-call
-returns-in-Some-Pending-clause-call c = record {
-  held = λ h. h;
-  serves = λ _. refl;
-  sound = λ _. sound_numbered _ (invariant_of-self c).numbered;
-  beside = λ _. tt;
-  unchanged = λ _. tt;
-  device_stops = λ device. cc;
-  runs_on = λ _. refl;
-  stays = λ stopped _. cc;
-}
+returns-in-Some-Pending-clause-call c = granted_call _ _ _ _ (sound_numbered _ (invariant_of-self c).numbered)

@@ -1,0 +1,68 @@
+-- Rows that are put are headers of the table for responses, and stand there after others.
+use Rattle.std.proofs.Common.{◌≡◌, IsSome, refl, sym, ◌∙◌, ap, subst, ℕ, ◌<◌, ◌^◌, List, [], ◌∷◌, ◌++◌, Option, None, Some}
+use Rattle.std.specs.Prelude.{option_to_list}
+use Rattle.std.specs.Option.{option_and_then}
+use Rattle.dnp_objects.specs.Objects.{object_size}
+use Rattle.dnp_objects.specs.Events.{IsEvent, event_object}
+use Rattle.dnp_objects.specs.Rows.{written}
+use Rattle.dnp_objects.specs.declared.row.Row.{Row}
+use Rattle.dnp_appfragment.specs.declared.function.Function.TheVariants as function
+use Rattle.dnp_appfragment.specs.declared.table.Form.TheVariants as form
+use Rattle.dnp_appfragment.specs.Built.{Built, heads, with_run, with_object}
+use Rattle.dnp_appfragment.specs.Headers.{Head, IsHeader, AreHeaders, begin}
+use Rattle.dnp_appfragment.specs.Joining.{joined}
+use Rattle.dnp_appfragment.specs.Written.{FitsPoint, event, point, point_variation}
+use Rattle.dnp_appfragment.proofs.Joins.{heads_join}
+use Rattle.dnp_appfragment.proofs.ObjectHeaders.{IsSized, RowsFill, row_sized, has_size, event_header, point_header}
+
+-- ---- a row
+
+pub event_stands : RowsFill → (row : Row) → IsEvent row
+    → IsHeader form.Response (event row) × IsSome (object_size (event row).group (event row).variation)
+event_stands law row fits =
+    let object = event_object row.kind row.time in
+    let octets = written object.0 object.1 row in
+    let sized : IsSized object.0 object.1 octets = row_sized law object.0 object.1 row fits in
+    (event_header function.Response row.kind row.time row.index octets refl sized, has_size object.0 object.1 octets sized)
+
+pub point_stands : RowsFill → (group : ℕ) (row : Row) → FitsPoint group row → row.index < 2 ^ 16
+    → IsHeader form.Response (point group row) × IsSome (object_size (point group row).group (point group row).variation)
+point_stands law group row fits index =
+    let octets = written group (point_variation group) row in
+    let sized : IsSized group (point_variation group) octets = row_sized law group (point_variation group) row fits.row_fits in (
+      point_header function.Response group row.index octets refl fits.group_is index sized,
+      has_size group (point_variation group) octets sized,
+    )
+
+-- ---- after others
+
+abbrev AreResponse : List Head → Type 0
+AreResponse hs = AreHeaders form.Response begin hs
+
+append : (hs gs : List Head) → AreResponse hs → AreResponse gs → AreResponse (hs ++ gs)
+append [] gs first second = second
+append (h ∷ hs) gs first second = (first.0, append hs gs first.1 second)
+
+parts : (hs gs : List Head) → AreResponse (hs ++ gs) → AreResponse hs × AreResponse gs
+parts [] gs all = (tt, all)
+parts (h ∷ hs) gs all = let rest = parts hs gs all.1 in ((all.0, rest.0), rest.1)
+
+pub object_stands : (b : Built) (object : Head) → IsHeader form.Response object → IsSome (object_size object.group object.variation) → AreResponse (heads b)
+    → AreResponse (heads (with_object b object))
+unfolding with_object
+object_stands b object header sized all = go b.run refl (option_and_then (λ (r : Head). joined r object) b.run) refl
+  where
+    lengthened : (run long : Head) → joined run object ≡ Some long → AreResponse (b.ended ++ run ∷ []) → AreResponse (b.ended ++ long ∷ [])
+    lengthened run long is before =
+        let both = parts b.ended (run ∷ []) before in
+        append b.ended (long ∷ []) both.0 ((heads_join form.Response run object long both.1.0 header sized is).header, tt)
+
+    go : (run : Option Head) → b.run ≡ run → (o : Option Head) → option_and_then (λ (r : Head). joined r object) b.run ≡ o
+        → AreResponse (heads (with_run b o object))
+    go run there None is = append (heads b) (object ∷ []) all (header, tt)
+    go (Some run) there (Some long) is =
+        lengthened run long (ap (λ (o : Option Head). option_and_then (λ (r : Head). joined r object) o) (sym there) ∙ is)
+        (subst (λ (o : Option Head). AreResponse (b.ended ++ option_to_list o)) there all)
+    go None there (Some long) is =
+        let none : None ≡ Some long = ap (λ (o : Option Head). option_and_then (λ (r : Head). joined r object) o) (sym there) ∙ is in
+        cc
