@@ -227,8 +227,8 @@ fn operate(
     let mut sum = sum;
     for front in [[0xC0 | seq, 0x03], [0xC1 | seq, 0x04]] {
         let request = [
-            front[0], front[1], 0x0C, 0x01, 0x28, 0x01, 0x00, 0x05, 0x00, 0x03, 0x01, 0, 0, 0, 0, 0,
-            0, 0, 0, 0,
+            front[0], front[1], 0x0C, 0x01, 0x28, 0x01, 0x00, 0x05, 0x00, 0x03, 0x01, 0, 0, 0, 0,
+            0, 0, 0, 0, 0,
         ];
         station.receive_into(actions, alloc, 0, &request).ok()?;
         let (number, _) = taken(&actions.send)?;

@@ -1,4 +1,5 @@
-//! Tests of a station's parts: `dnp_pointdb`, `dnp_eventbuf` and `dnp_controls`, and of `dnp_master`.
+//! Tests of a station's parts: `dnp_pointdb`, `dnp_eventbuf` and `dnp_controls`, and of `dnp_outstation` and
+//! `dnp_master`.
 //! They stand apart from those crates, since a crate with tests is proved twice.
 //!
 //! They are few: worked values that no clause has, each call that asks for memory once where there
