@@ -3,5 +3,8 @@ pub mod Counting
 pub mod IdRows
 pub mod QueueStatements
 pub mod QueueDeletes
+pub mod QueueUpdates
+pub mod Holding
+pub mod QueueSteps
 pub mod Without
 pub mod Tests

@@ -73,7 +73,7 @@ delete_params number upto = Int (pos number) ∷ Int (pos upto) ∷ []
 abbrev is_taken_by : Row → Row → Bool
 is_taken_by params row = list_all (holds (params ∷ row ∷ [])) tests
 
-and_true : (b : Bool) → (b && true) ≡ b
+pub and_true : (b : Bool) → (b && true) ≡ b
 and_true true = refl
 and_true false = refl
 
@@ -84,7 +84,7 @@ taken_is number upto x =
     ap₂ (λ a b. a && (b && true)) (ap (λ v. is_true (binary (Compare Eq Binary) (Int (pos x.lane)) v)) (numeric_is (pos number)) ∙ eq_holds x.lane number) (le_holds x.id upto)
     ∙ ap (λ b. (x.lane == number) && b) (and_true (nat_le x.id upto))
 
-passes_on : {X Y : Type 0} (p : X → Bool) (f : X → Y) (xs : List X) → flat_map (λ x. cond (p x) (f x ∷ []) []) xs ≡ map f (filter p xs)
+pub passes_on : {X Y : Type 0} (p : X → Bool) (f : X → Y) (xs : List X) → flat_map (λ x. cond (p x) (f x ∷ []) []) xs ≡ map f (filter p xs)
 passes_on p f [] = refl
 passes_on p f (x ∷ xs) = go (p x) (passes_on p f xs)
   where

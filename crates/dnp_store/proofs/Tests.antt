@@ -1,5 +1,5 @@
 -- What the tests of a statement say of whole numbers.
-use Rattle.std.proofs.Common.{◌≡◌, ℕ, ℤ, pos, Bool, true, false, not, Some, refl, ap, ◌∙◌, nat_le, nat_lt, ◌==◌, arith, int_cmp}
+use Rattle.std.proofs.Common.{◌≡◌, ◌≢◌, ℕ, ℤ, pos, Bool, true, false, not, Some, refl, ap, ◌∙◌, nat_le, nat_lt, ◌==◌, arith, int_cmp}
 use Rattle.std.proofs.lemmas.Int.{ints}
 use Rattle.std.specs.Ordering.{is_eq, is_gt, is_le}
 use Rattle.sqlite_value.proofs.OrderLemmas.{value_cmp-Int}
@@ -39,3 +39,12 @@ le_holds a b = truth_of (is_le (value_cmp (Int (pos a)) (Int (pos b)))) ∙ ap i
 pub gt_holds : (a b : ℕ) → is_true (binary (Compare Gt Binary) (Int (pos a)) (Int (pos b))) ≡ nat_lt b a
 unfolding binary
 gt_holds a b = truth_of (is_gt (value_cmp (Int (pos a)) (Int (pos b)))) ∙ ap is_gt (value_cmp-Int (pos a) (pos b)) ∙ gt_is a b
+
+pub has_is : (a b : ℕ) → is_eq (value_cmp (Int (pos a)) (Int (pos b))) ≡ (a == b)
+has_is a b = ap is_eq (value_cmp-Int (pos a) (pos b)) ∙ eq_is a b
+
+pub is_same : (n : ℕ) → (n == n) ≡ true
+is_same n = grind arith
+
+pub is_other : (a b : ℕ) → a ≢ b → (a == b) ≡ false
+is_other a b h = grind (h, arith)

@@ -96,11 +96,9 @@ lane_of rows figures number = record {
   lost = (slice_index_or figures number no_figures).lost;
 }
 
--- The rows of `queue` by their ids and of `lanes` by their numbers are those of the nine lanes. The overflow stands
--- where some lane has raised it.
-pub record HoldsStock (db : Trees) (s : Stock) : Type 0 where
+-- the rows of `queue` by their ids and of `lanes` by their numbers are those of the nine lanes
+pub record HoldsLanes (db : Trees) (s : Stock) (figures : List Figures) : Type 0 where
   pub queued : List Queued
-  pub figures : List Figures
   pub queue_is : db 1 ≡ map queued_row queued
   pub lanes_is : db 3 ≡ figures_rows 0 figures
   pub counted : IsCounted (codes "queue") (db 2) s.last_id
@@ -108,17 +106,26 @@ pub record HoldsStock (db : Trees) (s : Stock) : Type 0 where
   pub up_to_last : AllByRecursion (λ x. x.id ≤ s.last_id) queued
   pub nine : length figures ≡ LANES
   pub lanes : (number : ℕ) → number < LANES → lane_at s number ≡ lane_of queued figures number
-  pub overflow : s.overflow ≡ list_any (λ f. f.raised) figures
 
 -- `form` is one row with the number 1
 abbrev pub IsForm1 : List SqlRow → Type 0
 IsForm1 rows = (id : ℤ) × (rows ≡ (Int id ∷ Int (pos 1) ∷ []) ∷ [])
 
 -- the database is a queue's, and holds these lanes
-pub record IsQueue (db : Database) (s : Stock) : Type 0 where
+pub record HoldsQueue (db : Database) (s : Stock) (figures : List Figures) : Type 0 where
   pub form_checks : List Term
   pub queue_checks : List Term
   pub lanes_checks : List Term
   pub schema : db.schema ≡ queue_schema form_checks queue_checks lanes_checks
   pub form : IsForm1 (db.trees 0)
-  pub stock : HoldsStock db.trees s
+  pub lanes : HoldsLanes db.trees s figures
+
+-- the overflow stands where some lane has raised it
+abbrev pub is_raised : List Figures → Bool
+is_raised figures = list_any (λ f. f.raised) figures
+
+-- the database is a queue's, and holds these lanes and this mark
+pub record IsQueue (db : Database) (s : Stock) : Type 0 where
+  pub figures : List Figures
+  pub holds : HoldsQueue db s figures
+  pub overflow : s.overflow ≡ is_raised figures

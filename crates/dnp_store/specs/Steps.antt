@@ -1,0 +1,28 @@
+-- Words of private steps: the lanes after one statement of a queue.
+use Rattle.std.specs.Prelude.{ℕ, ◌+◌, Bool, List, slice_set, slice_index_or}
+use Rattle.dnp_objects.specs.Lanes.{lane_number}
+use Rattle.dnp_objects.specs.declared.lane.LaneRow.{LaneRow}
+use Rattle.dnp_eventbuf.specs.Stock.{LaneState, Stock, lane_at, added_in, above}
+use Rattle.dnp_store.specs.QueueTables.{Figures, no_figures}
+
+abbrev pub with_lane : Stock → ℕ → LaneState → Stock
+with_lane s number lane = record { lanes = slice_set s.lanes number lane; overflow = s.overflow; last_id = s.last_id }
+
+-- a row stands in its lane under the next id
+abbrev pub added : Stock → LaneRow → Stock
+added s x = record {
+  lanes = slice_set s.lanes (lane_number x.lane) (added_in (lane_at s (lane_number x.lane)) (record { id = s.last_id + 1; row = x.row }));
+  overflow = s.overflow;
+  last_id = s.last_id + 1;
+}
+
+-- the rows of a lane up to an id are gone
+abbrev pub cut : Stock → ℕ → ℕ → Stock
+cut s number upto = with_lane s number (above upto (lane_at s number))
+
+-- a lane has dropped so many rows
+abbrev pub counted : Stock → ℕ → ℕ → Stock
+counted s number lost = with_lane s number (record (lane_at s number) { lost = lost })
+
+abbrev pub noted : List Figures → ℕ → ℕ → Bool → List Figures
+noted figures number lost raised = slice_set figures number (record { capacity = (slice_index_or figures number no_figures).capacity; lost = lost; raised = raised })
