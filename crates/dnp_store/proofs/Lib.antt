@@ -6,5 +6,6 @@ pub mod QueueDeletes
 pub mod QueueUpdates
 pub mod Holding
 pub mod QueueSteps
+pub mod Appending
 pub mod Without
 pub mod Tests

@@ -124,8 +124,17 @@ pub record HoldsQueue (db : Database) (s : Stock) (figures : List Figures) : Typ
 abbrev pub is_raised : List Figures → Bool
 is_raised figures = list_any (λ f. f.raised) figures
 
--- the database is a queue's, and holds these lanes and this mark
-pub record IsQueue (db : Database) (s : Stock) : Type 0 where
+-- the trees are a queue's, and hold these lanes
+pub record HoldsStock (db : Trees) (s : Stock) : Type 0 where
   pub figures : List Figures
-  pub holds : HoldsQueue db s figures
+  pub form : IsForm1 (db 0)
+  pub lanes : HoldsLanes db s figures
   pub overflow : s.overflow ≡ is_raised figures
+
+-- the database is a queue's, and holds these lanes
+pub record IsQueue (db : Database) (s : Stock) : Type 0 where
+  pub form_checks : List Term
+  pub queue_checks : List Term
+  pub lanes_checks : List Term
+  pub schema : db.schema ≡ queue_schema form_checks queue_checks lanes_checks
+  pub holds : HoldsStock db.trees s

@@ -1,8 +1,9 @@
 -- Words of private steps: the lanes after one statement of a queue.
-use Rattle.std.specs.Prelude.{ℕ, ◌+◌, Bool, List, slice_set, slice_index_or}
+use Rattle.std.specs.Prelude.{ℕ, zero, suc, ◌+◌, ◌-◌, ◌||◌, nat_lt, Bool, false, List, [], ◌∷◌, ◌++◌, length, take, drop, slice_set, slice_index_or}
 use Rattle.dnp_objects.specs.Lanes.{lane_number}
 use Rattle.dnp_objects.specs.declared.lane.LaneRow.{LaneRow}
 use Rattle.dnp_eventbuf.specs.Stock.{LaneState, Stock, lane_at, added_in, above}
+use Rattle.dnp_eventbuf.specs.Latest.{numbered_for}
 use Rattle.dnp_store.specs.QueueTables.{Figures, no_figures}
 
 abbrev pub with_lane : Stock → ℕ → LaneState → Stock
@@ -26,3 +27,21 @@ counted s number lost = with_lane s number (record (lane_at s number) { lost = l
 
 abbrev pub noted : List Figures → ℕ → ℕ → Bool → List Figures
 noted figures number lost raised = slice_set figures number (record { capacity = (slice_index_or figures number no_figures).capacity; lost = lost; raised = raised })
+
+-- rows stand in their lanes, as if one by one, whatever the lanes take
+abbrev pub all_added : Stock → List LaneRow → Stock
+all_added s [] = s
+all_added s (x ∷ xs) = all_added (added s x) xs
+
+-- the first lanes are those of the second stock
+abbrev pub mixed : ℕ → Stock → Stock → Stock
+mixed number a b = record { lanes = take number b.lanes ++ drop number a.lanes; overflow = a.overflow; last_id = b.last_id }
+
+-- how many rows a lane drops for these
+abbrev pub over : Stock → List LaneRow → ℕ → ℕ
+over s rows number = (length (lane_at s number).rows + length (numbered_for number s.last_id rows)) - (lane_at s number).capacity
+
+-- whether some of the first lanes drops one
+abbrev pub any_over : Stock → List LaneRow → ℕ → Bool
+any_over s rows zero = false
+any_over s rows (suc number) = any_over s rows number || nat_lt 0 (over s rows number)
