@@ -111,7 +111,7 @@ lost_most s [] k low = omega arith
 lost_most s (x ∷ xs) k low = let one = lost_more s x k low in let more = lost_most (with_row s x) xs k (omega (arith, len_row s x)) in omega (arith, one, more)
 
 -- whether some of the first lanes has lost more
-any_lost : Stock → Stock → ℕ → Bool
+abbrev any_lost : Stock → Stock → ℕ → Bool
 any_lost s t zero = false
 any_lost s t (suc n) = any_lost s t n || nat_lt (lane_at s n).lost (lane_at t n).lost
 

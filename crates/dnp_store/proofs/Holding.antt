@@ -107,7 +107,7 @@ event_is id x carried =
 -- ---- the stock after a statement
 
 -- with one lane replaced, each lane is as it was or the new one
-at_lane : (s : Stock) (number k : ℕ) (new : LaneState) (P : LaneState → Type 0) → length s.lanes ≡ LANES → number < LANES → (k ≡ number → P new) → (k ≢ number → P (lane_at s k)) → P (lane_at (with_lane s number new) k)
+pub at_lane : (s : Stock) (number k : ℕ) (new : LaneState) (P : LaneState → Type 0) → length s.lanes ≡ LANES → number < LANES → (k ≡ number → P new) → (k ≢ number → P (lane_at s k)) → P (lane_at (with_lane s number new) k)
 at_lane s number k new P nine low here else = elim (cases_eq k number) [
   | inl same ↦ subst P (sym (ap (λ (n : ℕ). get_or (set s.lanes number new) n no_lane) same ∙ get_or-set_same s.lanes number new no_lane (omega arith))) (here same)
   | inr other ↦ subst P (sym (get_or-set_other s.lanes number k new no_lane other)) (else other)

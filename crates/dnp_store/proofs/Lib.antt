@@ -7,5 +7,6 @@ pub mod QueueUpdates
 pub mod Holding
 pub mod QueueSteps
 pub mod Appending
+pub mod Trimming
 pub mod Without
 pub mod Tests

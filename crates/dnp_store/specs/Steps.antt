@@ -1,10 +1,11 @@
 -- Words of private steps: the lanes after one statement of a queue.
-use Rattle.std.specs.Prelude.{ℕ, zero, suc, ◌+◌, ◌-◌, ◌||◌, nat_lt, Bool, false, List, [], ◌∷◌, ◌++◌, length, take, drop, slice_set, slice_index_or}
+use Rattle.std.specs.Prelude.{◌≡◌, ℕ, zero, suc, ◌+◌, ◌-◌, ◌||◌, nat_lt, Bool, false, List, [], ◌∷◌, ◌++◌, length, take, drop, slice_set, slice_index_or}
 use Rattle.dnp_objects.specs.Lanes.{lane_number}
 use Rattle.dnp_objects.specs.declared.lane.LaneRow.{LaneRow}
-use Rattle.dnp_eventbuf.specs.Stock.{LaneState, Stock, lane_at, added_in, above}
+use Rattle.dnp_eventbuf.specs.Stock.{LaneState, Stock, lane_at, added_in, above, with_rows}
+use Rattle.sqlite.specs.Effect.{Database}
 use Rattle.dnp_eventbuf.specs.Latest.{numbered_for}
-use Rattle.dnp_store.specs.QueueTables.{Figures, no_figures}
+use Rattle.dnp_store.specs.QueueTables.{Figures, no_figures, HoldsQueue, is_raised}
 
 abbrev pub with_lane : Stock → ℕ → LaneState → Stock
 with_lane s number lane = record { lanes = slice_set s.lanes number lane; overflow = s.overflow; last_id = s.last_id }
@@ -45,3 +46,8 @@ over s rows number = (length (lane_at s number).rows + length (numbered_for numb
 abbrev pub any_over : Stock → List LaneRow → ℕ → Bool
 any_over s rows zero = false
 any_over s rows (suc number) = any_over s rows number || nat_lt 0 (over s rows number)
+
+-- The rows were put in, and the first lanes have dropped what they had to. Before, the overflow was as raised.
+abbrev pub IsTrimmed : Database → Stock → List LaneRow → Bool → ℕ → Type 0
+IsTrimmed db s rows raised number =
+    (figures : List Figures) × HoldsQueue db (mixed number (all_added s rows) (with_rows s rows)) figures × (is_raised figures ≡ (raised || any_over s rows number))

@@ -2,3 +2,4 @@
 #![tactic(auto)]
 
 mod queue_statements;
+mod queue_writing;
