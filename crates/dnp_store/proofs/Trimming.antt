@@ -1,14 +1,15 @@
 -- A lane that drops its oldest rows.
-use Rattle.std.proofs.Common.{◌≡◌, ◌≢◌, inl, inr, ℕ, zero, suc, ◌+◌, ◌-◌, ◌<◌, ◌≤◌, ◌==◌, ◌||◌, nat_lt, Bool, true, false, cond, Option, Some, None, List, [], ◌∷◌, ◌++◌, length, drop, take, set, get_or, map, filter, refl, sym, ap, ap₂, subst, ◌∙◌, arith, append-nil, length-append, length-set, codes}
+use Rattle.std.proofs.Common.{◌≡◌, ◌≢◌, inl, inr, ℕ, zero, suc, ◌+◌, ◌-◌, ◌<◌, ◌≤◌, ◌^◌, ◌==◌, ◌||◌, nat_lt, Bool, true, false, cond, Option, Some, None, List, [], ◌∷◌, ◌++◌, length, drop, take, set, get_or, map, filter, refl, sym, ap, ap₂, subst, ◌∙◌, arith, append-nil, length-append, length-set, codes}
 use Rattle.std.specs.Prelude.{slice_get, slice_index_or, option_map}
 use Rattle.std.specs.List.{AllByRecursion, list_any}
 use Rattle.std.proofs.lemmas.Bool.{cases_eq, cases_lt}
 use Rattle.std.proofs.lemmas.Bool.Decides.{Decides-ltb}
+use Rattle.std.proofs.lemmas.List.Elements.{recursion_from_All}
 use Rattle.std.proofs.lemmas.Grind.{common_steps, elements}
 use Rattle.std.proofs.lemmas.List.{get_or-set_same, get_or-set_other}
 use Rattle.sqlite.specs.Tree.{IsAscending, Trees}
 use Rattle.sqlite.specs.Effect.{Database}
-use Rattle.dnp_objects.specs.declared.limits.TheConstants.{LANES}
+use Rattle.dnp_objects.specs.declared.limits.TheConstants.{LANES, MAX_ID}
 use Rattle.dnp_objects.specs.Lanes.{lane_number}
 use Rattle.dnp_objects.specs.declared.lane.LaneRow.{LaneRow}
 use Rattle.dnp_eventbuf.specs.declared.numbered.Numbered.{Numbered}
@@ -173,3 +174,35 @@ module _ (s : Stock) (rows : List LaneRow) (number : ℕ) (sound : IsSound s) (l
       let all = noted h.0 number lost true in
       let mark : (raised || any_over s rows (suc number)) ≡ true = ap (λ c. raised || (any_over s rows number || c)) ((Decides-ltb 0 (over s rows number)).1 some) ∙ ap (λ c. raised || c) (or_true (any_over s rows number)) ∙ or_true raised in
       (all, same_queue new end (mixed (suc number) a b) all (did m h.0 nine_m held) (moves end else there) refl, raised_set h.0 number _ (omega (arith, held.lanes.nine)) refl ∙ sym mark)
+
+-- ---- numbers that a statement takes
+
+pub lost_low : (s : Stock) (rows : List LaneRow) (number : ℕ) → IsSound s → number < LANES → IsSound (with_rows s rows) → (lane_at s number).lost + over s rows number ≤ MAX_ID
+lost_low s rows number sound low after =
+    let lane = lane_b s rows number sound low after.nine in
+    let most = (after.each number low).lost_at_most in
+    omega (arith, most, ap (λ (l : LaneState). l.lost) lane)
+
+came_low : (number last : ℕ) (rows : List LaneRow) (n : ℕ) → last + length rows ≤ n → AllByRecursion (λ x. x.id ≤ n) (numbered_for number last rows)
+came_low number last [] n few = tt
+came_low number last (x ∷ rows) n few = go (lane_number x.lane == number) (came_low number (last + 1) rows n (omega arith))
+  where
+    go : (c : Bool) → AllByRecursion (λ x. x.id ≤ n) (numbered_for number (last + 1) rows)
+        → AllByRecursion (λ x. x.id ≤ n) (cond c (record { id = last + 1; row = x.row } ∷ numbered_for number (last + 1) rows) (numbered_for number (last + 1) rows))
+    go true rest = (omega arith, rest)
+    go false rest = rest
+
+both_low : (xs ys : List Numbered) (m n : ℕ) → m ≤ n → AllByRecursion (λ x. x.id ≤ m) xs → AllByRecursion (λ x. x.id ≤ n) ys → AllByRecursion (λ x. x.id ≤ n) (xs ++ ys)
+both_low [] ys m n less low more = more
+both_low (x ∷ xs) ys m n less low more = let first = low.0 in (omega arith, both_low xs ys m n less low.1 more)
+
+found_low : (xs : List Numbered) (place id n : ℕ) → AllByRecursion (λ x. x.id ≤ n) xs → option_map (λ (x : Numbered). x.id) (slice_get xs place) ≡ Some id → id ≤ n
+found_low [] place id n all at = absurd cc
+found_low (x ∷ xs) zero id n all at = let same : x.id ≡ id = cc in subst (λ (m : ℕ). m ≤ n) same all.0
+found_low (x ∷ xs) (suc place) id n all at = found_low xs place id n all.1 at
+
+pub id_low : (s : Stock) (rows : List LaneRow) (number place id : ℕ) → IsSound s → number < LANES → s.last_id + length rows ≤ 2 ^ 62
+    → option_map (λ (x : Numbered). x.id) (slice_get ((lane_at s number).rows ++ numbered_for number s.last_id rows) place) ≡ Some id → id ≤ 2 ^ 62
+id_low s rows number place id sound low few at =
+    let lane = recursion_from_All (λ (x : Numbered). x.id ≤ s.last_id) (lane_at s number).rows (sound.each number low).up_to_last in
+    found_low _ place id (2 ^ 62) (both_low (lane_at s number).rows (numbered_for number s.last_id rows) s.last_id (2 ^ 62) (omega arith) lane (came_low number s.last_id rows (2 ^ 62) few)) at

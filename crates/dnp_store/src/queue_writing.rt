@@ -60,7 +60,8 @@ fn trim<S: Alter>(
         .ok_or(Error::InvalidQuery)?;
     let lost = lanes.lost_in(number) + over as u64;
     take(tx, number, upto)?;
-    note(tx, number, lost, true)
+    note(tx, number, lost, true)?;
+    Ok(())
 }
 
 /// Has each lane drop what it has to for these rows.
