@@ -15,11 +15,12 @@ use Rattle.dnp_objects.specs.declared.lane.LaneRow.{LaneRow}
 use Rattle.dnp_eventbuf.specs.declared.numbered.Numbered.{Numbered}
 use Rattle.dnp_eventbuf.specs.Latest.{numbered_for, latest}
 use Rattle.dnp_eventbuf.specs.Sound.{IsSound}
-use Rattle.dnp_eventbuf.specs.Stock.{LaneState, Stock, lane_at, no_lane, with_rows, above}
+use Rattle.dnp_eventbuf.specs.Stock.{LaneState, Stock, lane_at, no_lane, with_row, with_rows, above}
 use Rattle.dnp_eventbuf.proofs.LatestRows.{append_keeps_latest}
-use Rattle.dnp_store.specs.QueueTables.{Queued, event_of, in_lane, lane_of, Figures, no_figures, HoldsLanes, HoldsQueue, is_raised}
+use Rattle.dnp_eventbuf.proofs.LaneNumbers.{lane_number-low}
+use Rattle.dnp_store.specs.QueueTables.{Queued, event_of, in_lane, lane_of, Figures, no_figures, HoldsLanes, HoldsQueue, is_raised, IsQueue}
 use Rattle.dnp_store.specs.Steps.{all_added, mixed, over, any_over, cut, counted, noted, with_lane, IsTrimmed}
-use Rattle.dnp_store.proofs.Appending.{behind, lane_added, nine_added}
+use Rattle.dnp_store.proofs.Appending.{behind, lane_added, nine_added, last_added, overflow_is}
 use Rattle.dnp_store.proofs.Holding.{same_stock, at_lane}
 
 -- ---- rows above an id
@@ -206,3 +207,39 @@ pub id_low : (s : Stock) (rows : List LaneRow) (number place id : ℕ) → IsSou
 id_low s rows number place id sound low few at =
     let lane = recursion_from_All (λ (x : Numbered). x.id ≤ s.last_id) (lane_at s number).rows (sound.each number low).up_to_last in
     found_low _ place id (2 ^ 62) (both_low (lane_at s number).rows (numbered_for number s.last_id rows) s.last_id (2 ^ 62) (omega arith) lane (came_low number s.last_id rows (2 ^ 62) few)) at
+
+-- ---- the whole append
+
+begun : (db : Database) (s : Stock) (rows : List LaneRow) (fs : List Figures) → length s.lanes ≡ LANES → length (with_rows s rows).lanes ≡ LANES → (with_rows s rows).last_id ≡ (all_added s rows).last_id
+    → s.overflow ≡ is_raised fs → HoldsQueue db (all_added s rows) fs → IsTrimmed db s rows s.overflow 0
+begun db s rows fs nine_s nine_b last is h =
+    (fs, same_queue db (all_added s rows) (mixed 0 (all_added s rows) (with_rows s rows)) fs h
+      (λ k low. mixed_high 0 k (all_added s rows) (with_rows s rows) (nine_added s rows ∙ nine_s) nine_b (omega arith) low) last, sym (or_false s.overflow ∙ is))
+
+last_rows : (s : Stock) (xs : List LaneRow) → (with_rows s xs).last_id ≡ s.last_id + length xs
+last_rows s [] = omega arith
+last_rows s (x ∷ xs) = let h = last_rows (with_row s x) xs in omega (arith, h)
+
+as_queue : (db : Database) (s : Stock) (fs : List Figures) → HoldsQueue db s fs → s.overflow ≡ is_raised fs → IsQueue db s
+as_queue db s fs h is = record {
+  form_checks = h.form_checks;
+  queue_checks = h.queue_checks;
+  lanes_checks = h.lanes_checks;
+  schema = h.schema;
+  holds = record { figures = fs; form = h.form; lanes = h.lanes; overflow = is };
+}
+
+pub of_queue : (db : Database) (s : Stock) (h : IsQueue db s) → HoldsQueue db s h.holds.figures
+of_queue db s h = record { form_checks = h.form_checks; queue_checks = h.queue_checks; lanes_checks = h.lanes_checks; schema = h.schema; form = h.holds.form; lanes = h.holds.lanes }
+
+-- the rows are put in, and then the lanes drop what they have to
+pub appended : (old mid new : Database) (s : Stock) (rows : List LaneRow) → IsSound s → IsSound (with_rows s rows) → IsQueue old s
+    → ((t : Stock) (fs : List Figures) → length t.lanes ≡ LANES → HoldsQueue old t fs → HoldsQueue mid (all_added t rows) fs)
+    → ((raised : Bool) → IsTrimmed mid s rows raised 0 → IsTrimmed new s rows raised LANES) → IsQueue new (with_rows s rows)
+appended old mid new s rows sound after h puts trims =
+    let fs = h.holds.figures in
+    let b = with_rows s rows in
+    let held = puts s fs sound.nine (of_queue old s h) in
+    let end = trims s.overflow (begun mid s rows fs sound.nine after.nine (last_rows s rows ∙ sym (last_added s rows)) h.holds.overflow held) in
+    let all = same_queue new (mixed LANES (all_added s rows) b) b end.0 end.1 (λ k low. sym (mixed_low LANES k (all_added s rows) b (nine_added s rows ∙ sound.nine) after.nine (omega arith) low)) refl in
+    as_queue new b end.0 all (overflow_is s rows sound (λ x. lane_number-low x.lane) ∙ sym end.2)

@@ -1,5 +1,6 @@
 -- Definitions, by which contracts promise.
 pub mod Tables
 pub mod QueueTables
+pub mod Kept
 -- Words of private steps.
 pub mod Steps

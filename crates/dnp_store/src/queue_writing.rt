@@ -7,13 +7,14 @@ ghost use Rattle.dnp_objects.specs.declared.limits.TheConstants as limits;
 ghost use Rattle.dnp_eventbuf.specs.Carried.{IsCarried};
 ghost use Rattle.dnp_eventbuf.specs.Sound.{IsSound};
 ghost use Rattle.dnp_eventbuf.specs.Stock.{Stock, exhausts, with_rows};
-ghost use Rattle.dnp_store.specs.QueueTables.{Figures, HoldsQueue};
+ghost use Rattle.dnp_store.specs.Kept.{Stands};
+ghost use Rattle.dnp_store.specs.QueueTables.{Figures, HoldsQueue, HoldsStock};
 ghost use Rattle.dnp_store.specs.Steps.{IsTrimmed, all_added};
 
 use crate::queue_statements::{insert, note, take};
 use dnp_eventbuf::{LaneRow, PlainLanes};
 use dnp_objects::LANES;
-use sqlite::{Alter, Error, Transaction};
+use sqlite::{Alter, Connection, Error, Transaction};
 
 /// Puts the rows into the table, under the ids that follow the last one used.
 fn insert_all<S: Alter>(tx: &mut Transaction<'_, S>, rows: &[LaneRow]) -> Result<(), Error>
@@ -85,4 +86,27 @@ fn trim_all<S: Alter>(
         trim(tx, lanes, number, rows)?;
     }
     Ok(())
+}
+
+/// Writes what an append changes.
+pub(crate) fn write_append<S: Alter>(
+    conn: &mut Connection<S>,
+    lanes: &PlainLanes,
+    rows: &[LaneRow],
+) -> Result<(), Error>
+    requires idle { conn.old.in_transaction ≡ false }
+    requires carried { All IsCarried rows.now }
+    requires sound { IsSound lanes.now }
+    requires after { IsSound (with_rows lanes.now rows.now) }
+    requires few { lanes.now.last_id + length rows.now ≤ 2 ^ 62 }
+    ensures idle { conn.new.in_transaction ≡ false }
+    ensures ok { HasCleanDisk (state S.Store conn.new) → Stands (state S.Store conn.old) lanes.now → OnOk result (Stands (state S.Store conn.new) (with_rows lanes.now rows.now)) }
+    ensures err { HasCleanDisk (state S.Store conn.new) → IsTrue (state S.Store conn.new).is_open → OnErr result (IsTrue (state S.Store conn.old).is_open × ((state S.Store conn.new).committed ≡ (state S.Store conn.old).committed)) }
+    ensures survives { Survives (state S.Store conn.old) (state S.Store conn.new) (λ db. Stands (state S.Store conn.old) lanes.now → HoldsStock db (with_rows lanes.now rows.now)) }
+{
+    prove!(conn.is_autocommit());
+    let mut tx = conn.transaction();
+    insert_all(&mut tx, rows)?;
+    trim_all(&mut tx, lanes, rows)?;
+    tx.commit()
 }
