@@ -8,5 +8,6 @@ pub mod Holding
 pub mod QueueSteps
 pub mod Appending
 pub mod Trimming
+pub mod Standing
 pub mod Without
 pub mod Tests
