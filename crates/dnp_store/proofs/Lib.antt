@@ -9,5 +9,6 @@ pub mod QueueSteps
 pub mod Appending
 pub mod Trimming
 pub mod Standing
+pub mod Releasing
 pub mod Without
 pub mod Tests

@@ -220,7 +220,7 @@ last_rows : (s : Stock) (xs : List LaneRow) → (with_rows s xs).last_id ≡ s.l
 last_rows s [] = omega arith
 last_rows s (x ∷ xs) = let h = last_rows (with_row s x) xs in omega (arith, h)
 
-as_queue : (db : Database) (s : Stock) (fs : List Figures) → HoldsQueue db s fs → s.overflow ≡ is_raised fs → IsQueue db s
+pub as_queue : (db : Database) (s : Stock) (fs : List Figures) → HoldsQueue db s fs → s.overflow ≡ is_raised fs → IsQueue db s
 as_queue db s fs h is = record {
   form_checks = h.form_checks;
   queue_checks = h.queue_checks;

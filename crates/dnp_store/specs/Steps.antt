@@ -1,8 +1,8 @@
 -- Words of private steps: the lanes after one statement of a queue.
-use Rattle.std.specs.Prelude.{◌≡◌, ℕ, zero, suc, ◌+◌, ◌-◌, ◌||◌, nat_lt, Bool, false, List, [], ◌∷◌, ◌++◌, length, take, drop, slice_set, slice_index_or}
+use Rattle.std.specs.Prelude.{◌≡◌, ℕ, zero, suc, ◌+◌, ◌-◌, ◌||◌, ◌&&◌, not, nat_lt, Bool, false, List, [], ◌∷◌, ◌++◌, length, take, drop, slice_set, slice_index_or}
 use Rattle.dnp_objects.specs.Lanes.{lane_number}
 use Rattle.dnp_objects.specs.declared.lane.LaneRow.{LaneRow}
-use Rattle.dnp_eventbuf.specs.Stock.{LaneState, Stock, lane_at, added_in, above, with_rows}
+use Rattle.dnp_eventbuf.specs.Stock.{LaneState, Stock, lane_at, added_in, above, with_rows, lanes_above}
 use Rattle.sqlite.specs.Effect.{Database}
 use Rattle.dnp_eventbuf.specs.Latest.{numbered_for}
 use Rattle.dnp_store.specs.QueueTables.{Figures, no_figures, HoldsQueue, is_raised}
@@ -51,3 +51,11 @@ any_over s rows (suc number) = any_over s rows number || nat_lt 0 (over s rows n
 abbrev pub IsTrimmed : Database → Stock → List LaneRow → Bool → ℕ → Type 0
 IsTrimmed db s rows raised number =
     (figures : List Figures) × HoldsQueue db (mixed number (all_added s rows) (with_rows s rows)) figures × (is_raised figures ≡ (raised || any_over s rows number))
+
+-- the rows of each lane up to its number are gone
+abbrev pub left : Stock → List ℕ → Stock
+left s upto = record { lanes = lanes_above s.lanes upto; overflow = s.overflow; last_id = s.last_id }
+
+-- and the overflow is lowered, if it is to be
+abbrev pub released : Stock → List ℕ → Bool → Stock
+released s upto lower = record { lanes = lanes_above s.lanes upto; overflow = s.overflow && not lower; last_id = s.last_id }

@@ -1,5 +1,6 @@
 //! Stores in SQL databases.
 #![tactic(auto)]
 
+mod queue_release;
 mod queue_statements;
 mod queue_writing;
