@@ -37,7 +37,7 @@ weaker : (m n : ℕ) (xs : List Numbered) → m ≤ n → AllByRecursion (λ x. 
 weaker m n [] low all = tt
 weaker m n (x ∷ xs) low all = let first = all.0 in (omega arith, weaker m n xs low all.1)
 
-nine_left : (s : Stock) (upto : List ℕ) → length s.lanes ≡ LANES → length (left s upto).lanes ≡ LANES
+pub nine_left : (s : Stock) (upto : List ℕ) → length s.lanes ≡ LANES → length (left s upto).lanes ≡ LANES
 nine_left s upto nine = length-lanes_above s.lanes upto ∙ nine
 
 -- one lane more has lost its rows

@@ -1,6 +1,10 @@
-//! Stores in SQL databases.
+//! Event lanes that outlive a power cut: the stores of DNP3 stations in SQL databases.
 #![tactic(auto)]
 
+mod fault;
+mod queue;
 mod queue_release;
 mod queue_statements;
 mod queue_writing;
+
+pub use queue::Queue;
