@@ -4,12 +4,13 @@ use Rattle.std.specs.Prelude.{slice_index_or}
 use Rattle.std.specs.List.{AllByRecursion, list_any}
 use Rattle.std.proofs.lemmas.Bool.{cases_eq, cases_lt}
 use Rattle.std.proofs.lemmas.List.{get_or-set_same, get_or-set_other}
+use Rattle.std.proofs.Math.ListN.{get_or-map}
 use Rattle.std.proofs.lemmas.List.Elements.{recursion_from_All}
 use Rattle.sqlite.specs.Effect.{Database}
 use Rattle.dnp_objects.specs.declared.limits.TheConstants.{LANES, MAX_ID}
 use Rattle.dnp_eventbuf.specs.declared.numbered.Numbered.{Numbered}
 use Rattle.dnp_eventbuf.specs.Sound.{IsSound}
-use Rattle.dnp_eventbuf.specs.Stock.{LaneState, Stock, lane_at, no_lane, above, lanes_above}
+use Rattle.dnp_eventbuf.specs.Stock.{LaneState, Stock, lane_at, no_lane, above, lanes_above, emptied, without_all}
 use Rattle.dnp_eventbuf.proofs.Soundness.{get_or-lanes_above, length-lanes_above}
 use Rattle.dnp_store.specs.QueueTables.{Figures, no_figures, HoldsQueue, IsQueue, is_raised}
 use Rattle.dnp_store.specs.Steps.{mixed, cut, counted, noted, left, released}
@@ -106,3 +107,43 @@ kept_mark db s upto h now held = as_queue now (released s upto false) h.holds.fi
 
 pub lowered_mark : (s : Stock) (upto : List ℕ) (now : Database) (fs : List Figures) → HoldsQueue now (left s upto) fs → is_raised fs ≡ false → IsQueue now (released s upto true)
 lowered_mark s upto now fs held none = as_queue now (released s upto true) fs (same_queue now (left s upto) (released s upto true) fs held (λ k low. refl) refl) (and_false s.overflow ∙ sym none)
+
+-- ---- all rows leave
+
+none_above : (m : ℕ) (xs : List Numbered) → AllByRecursion (λ x. x.id ≤ m) xs → filter (λ x. nat_lt m x.id) xs ≡ []
+none_above m [] all = refl
+none_above m (x ∷ xs) all = ap₂ (λ b (l : List Numbered). cond b (x ∷ l) l) (not_over m x.id all.0) (none_above m xs all.1)
+  where
+    not_over : (m id : ℕ) → id ≤ m → nat_lt m id ≡ false
+    not_over m id low = grind (low, arith)
+
+not_both : (b : Bool) → (b && not b) ≡ false
+not_both true = refl
+not_both false = refl
+
+pub all_left : (db : Database) (s : Stock) (upto : List ℕ) → IsSound s → length upto ≡ LANES → ((k : ℕ) → k < LANES → get_or upto k 0 ≡ MAX_ID)
+    → IsQueue db (released s upto s.overflow) → IsQueue db (without_all s)
+all_left db s upto sound nine all h =
+    let lanes : (k : ℕ) → k < LANES → lane_at (without_all s) k ≡ lane_at (released s upto s.overflow) k = λ k low.
+    let lane = sound.each k low in
+    let ids = weaker s.last_id MAX_ID (lane_at s k).rows sound.last_id_at_most (recursion_from_All (λ (x : Numbered). x.id ≤ s.last_id) (lane_at s k).rows lane.up_to_last) in
+    get_or-map emptied s.lanes k no_lane
+    ∙ sym (get_or-lanes_above s.lanes upto k (omega (arith, sound.nine)) (omega (arith, sound.nine)) ∙ ap (λ (n : ℕ). above n (lane_at s k)) (all k low)
+      ∙ ap (λ (rows : List Numbered). record { capacity = (lane_at s k).capacity; rows = rows; lost = (lane_at s k).lost }) (none_above MAX_ID (lane_at s k).rows ids)) in
+    as_queue db (without_all s) h.holds.figures (same_queue db (released s upto s.overflow) (without_all s) h.holds.figures (of_queue db (released s upto s.overflow) h) lanes refl)
+    (sym (not_both s.overflow) ∙ h.holds.overflow)
+
+abbrev pub nine_most : List ℕ
+nine_most = MAX_ID ∷ MAX_ID ∷ MAX_ID ∷ MAX_ID ∷ MAX_ID ∷ MAX_ID ∷ MAX_ID ∷ MAX_ID ∷ MAX_ID ∷ []
+
+pub all_most : (k : ℕ) → k < LANES → get_or nine_most k 0 ≡ MAX_ID
+all_most zero low = refl
+all_most (suc zero) low = refl
+all_most (suc (suc zero)) low = refl
+all_most (suc (suc (suc zero))) low = refl
+all_most (suc (suc (suc (suc zero)))) low = refl
+all_most (suc (suc (suc (suc (suc zero))))) low = refl
+all_most (suc (suc (suc (suc (suc (suc zero)))))) low = refl
+all_most (suc (suc (suc (suc (suc (suc (suc zero))))))) low = refl
+all_most (suc (suc (suc (suc (suc (suc (suc (suc zero)))))))) low = refl
+all_most (suc (suc (suc (suc (suc (suc (suc (suc (suc k))))))))) low = absurd (omega arith)

@@ -216,7 +216,7 @@ begun db s rows fs nine_s nine_b last is h =
     (fs, same_queue db (all_added s rows) (mixed 0 (all_added s rows) (with_rows s rows)) fs h
       (λ k low. mixed_high 0 k (all_added s rows) (with_rows s rows) (nine_added s rows ∙ nine_s) nine_b (omega arith) low) last, sym (or_false s.overflow ∙ is))
 
-last_rows : (s : Stock) (xs : List LaneRow) → (with_rows s xs).last_id ≡ s.last_id + length xs
+pub last_rows : (s : Stock) (xs : List LaneRow) → (with_rows s xs).last_id ≡ s.last_id + length xs
 last_rows s [] = omega arith
 last_rows s (x ∷ xs) = let h = last_rows (with_row s x) xs in omega (arith, h)
 
