@@ -10,5 +10,6 @@ pub mod Appending
 pub mod Trimming
 pub mod Standing
 pub mod Releasing
+pub mod Creating
 pub mod Without
 pub mod Tests

@@ -64,6 +64,9 @@ sequence = table_of (codes "sqlite_sequence") 2 (column_of (codes "name") Any fa
 abbrev pub schema_of : List Term → Table → List Table → Schema
 schema_of form rows more = record { tables = form_with form ∷ rows ∷ sequence ∷ more; indexes = []; views = [] }
 
+abbrev pub no_schema : Schema
+no_schema = record { tables = []; indexes = []; views = [] }
+
 abbrev pub no_table : Table
 no_table = table_of [] 0 [] false false []
 
