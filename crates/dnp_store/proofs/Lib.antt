@@ -11,5 +11,6 @@ pub mod Trimming
 pub mod Standing
 pub mod Releasing
 pub mod Creating
+pub mod Filling
 pub mod Without
 pub mod Tests
