@@ -24,6 +24,7 @@ use Rattle.dnp_store.proofs.Statements.{went, written, same_value}
 use Rattle.dnp_store.proofs.Counting.{cast_int, cast_null}
 use Rattle.dnp_store.proofs.IdRows.{is_less}
 use Rattle.dnp_store.proofs.QueueStatements.{quiet}
+use Rattle.dnp_store.proofs.Creating.{HasTables}
 
 abbrev pub number_text : List ℕ
 number_text = codes "INSERT INTO form VALUES (1)"
@@ -52,3 +53,124 @@ lane_is f q l = refl
 lane_plain : (f q l : List Term) → IsPlain (understood (queue_schema f q l) lane_text)
 unfolding understood everything
 lane_plain f q l = (refl, refl)
+
+abbrev number_task : List Term → List Term → List Term → Option ℕ → Task
+number_task f q l limit = record { limit = limit; keys = Enforced; schema = queue_schema f q l; table = form_with f; params = [] }
+
+abbrev lane_task : List Term → List Term → List Term → Option ℕ → Row → Task
+lane_task f q l limit params = record { limit = limit; keys = Enforced; schema = queue_schema f q l; table = lanes_with l; params = params }
+
+abbrev fresh : ℕ → Figures
+fresh capacity = record { capacity = capacity; lost = 0; raised = false }
+
+abbrev pub lane_params : ℕ → ℕ → Row
+lane_params number capacity = Int (pos number) ∷ Int (pos capacity) ∷ []
+
+abbrev number_row : Row
+number_row = Int (pos 1) ∷ Int (pos 1) ∷ []
+
+-- one table has one row more, and no other changes
+record PutsIn (tree : ℕ) (row : Row) (db now : Trees) : Type 0 where
+  pub table : now tree ≡ put_row row (db tree)
+  pub others : (t : ℕ) → t ≢ tree → now t ≡ db t
+
+number_put : (f q l : List Term) (limit : Option ℕ) (db : Trees) (a : Written) → db 0 ≡ [] → Inserts (number_task f q l limit) (Values number_terms 2) db (Ok a) → PutsIn 0 number_row db a.trees
+unfolding everything
+number_put f q l limit db a empty h =
+    let sourced = went h in
+    let counter = went sourced.2 in
+    let edited_to = went counter.2 in
+    let next = went edited_to.2 in
+    let out = same_value next.2 in
+    let source : sourced.0 ≡ (Null ∷ Int (pos 1) ∷ []) ∷ [] = sourced.1.1 in
+    let edit = λ (rows : List Row). edit_of db (form_with f) [] Chosen 0 rows in
+    let news : (edit sourced.0).news ≡ number_row ∷ [] =
+    ap (λ rows. (edit rows).news) source ∙ rw (cast_null, cast_int (pos 1), empty) refl in
+    let step = one_step (queue_schema f q l) Enforced db edited_to.0 (edit sourced.0) (quiet f q l db (edit sourced.0)) edited_to.1 in
+    let last : next.0 ≡ edited_to.0 = same_value next.1 in
+    record {
+      table = ap (λ (w : Written). w.trees 0) out ∙ ap (λ (t : Trees). t 0) last ∙ step.rows ∙ ap (put_all (db 0)) news;
+      others = λ t not_0. ap (λ (w : Written). w.trees t) out ∙ ap (λ (d : Trees). d t) last ∙ step.others t not_0 tt;
+    }
+
+lane_put : (f q l : List Term) (limit : Option ℕ) (number capacity : ℕ) (db : Trees) (a : Written) → Inserts (lane_task f q l limit (lane_params number capacity)) (Values lane_terms 5) db (Ok a)
+    → PutsIn 3 (Int (pos number) ∷ figures_cells (fresh capacity)) db a.trees
+unfolding everything
+lane_put f q l limit number capacity db a h =
+    let sourced = went h in
+    let counter = went sourced.2 in
+    let edited_to = went counter.2 in
+    let next = went edited_to.2 in
+    let out = same_value next.2 in
+    let row = Int (pos number) ∷ figures_cells (fresh capacity) in
+    let source : sourced.0 ≡ row ∷ [] = sourced.1.1 in
+    let edit = λ (rows : List Row). edit_of db (lanes_with l) [] Chosen 0 rows in
+    let news : (edit sourced.0).news ≡ row ∷ [] =
+    ap (λ rows. (edit rows).news) source ∙ rw (cast_int (pos number), cast_null, cast_int (pos capacity), cast_int (pos 0)) refl in
+    let step = one_step (queue_schema f q l) Enforced db edited_to.0 (edit sourced.0) (quiet f q l db (edit sourced.0)) edited_to.1 in
+    let last : next.0 ≡ edited_to.0 = same_value next.1 in
+    record {
+      table = ap (λ (w : Written). w.trees 3) out ∙ ap (λ (t : Trees). t 3) last ∙ step.rows ∙ ap (put_all (db 3)) news;
+      others = λ t not_3. ap (λ (w : Written). w.trees t) out ∙ ap (λ (d : Trees). d t) last ∙ step.others t not_3 tt;
+    }
+
+put_end : (n number : ℕ) (fs : List Figures) (new : Figures) → number ≡ n + length fs → put_row (Int (pos number) ∷ figures_cells new) (figures_rows n fs) ≡ figures_rows n (fs ++ new ∷ [])
+put_end n number [] new is = let same : number ≡ n = omega arith in ap (λ (m : ℕ). (Int (pos m) ∷ figures_cells new) ∷ []) same
+put_end n number (f ∷ fs) new is = rw (is_less n number (omega arith)) (ap (λ rows. (Int (pos n) ∷ figures_cells f) ∷ rows) (put_end (n + 1) number fs new (omega arith)))
+
+-- ---- the statements
+
+-- the form is numbered, and so many lanes stand in their table
+pub record HasLanes (db : Database) (fs : List Figures) : Type 0 where
+  pub form : List Term
+  pub queue : List Term
+  pub lanes : List Term
+  pub schema : db.schema ≡ queue_schema form queue lanes
+  pub numbered : db.trees 0 ≡ number_row ∷ []
+  pub empty : (db.trees 1 ≡ []) × (db.trees 2 ≡ [])
+  pub filled : db.trees 3 ≡ figures_rows 0 fs
+
+pub numbers : (old new : State) (count : ℕ) → HasTables old.now → Executes number_text [] old new (Ok count) → HasLanes new.now []
+numbers old new count has h =
+    let f = has.form in
+    let q = has.queue in
+    let l = has.lanes in
+    let command = Insert 0 (Values number_terms 2) in
+    let w = runs_as number_text [] old new (queue_schema f q l) has.schema command (number_is f q l) (number_plain f q l) count h in
+    let does = subst (λ s. Does old.step_limit (mode_of old) [] (record old.now { schema = s }) (statement_of number_text (understood (queue_schema f q l) number_text)) None command (Ok (w.tally, new.now))) has.schema w.changed in
+    let done = written (number_task f q l old.step_limit) (mode_of old) command old.now.trees w.tally new.now does in
+    let put = number_put f q l old.step_limit old.now.trees done.0 has.empty.0 done.1 in
+    let is = done.2 in
+    record {
+      form = f;
+      queue = q;
+      lanes = l;
+      schema = ap (λ (d : Database). d.schema) is;
+      numbered = ap (λ (d : Database). d.trees 0) is ∙ put.table ∙ ap (put_row number_row) has.empty.0;
+      empty = (ap (λ (d : Database). d.trees 1) is ∙ put.others 1 (λ e. absurd (omega arith)) ∙ has.empty.1, ap (λ (d : Database). d.trees 2) is ∙ put.others 2 (λ e. absurd (omega arith)) ∙ has.empty.2);
+      filled = ap (λ (d : Database). d.trees 3) is ∙ put.others 3 (λ e. absurd (omega arith)) ∙ has.empty.3;
+    }
+
+pub lane_made : (old new : State) (number capacity count : ℕ) (fs : List Figures) → number ≡ length fs → HasLanes old.now fs → Executes lane_text (lane_params number capacity) old new (Ok count)
+    → HasLanes new.now (fs ++ fresh capacity ∷ [])
+lane_made old new number capacity count fs at has h =
+    let f = has.form in
+    let q = has.queue in
+    let l = has.lanes in
+    let params = lane_params number capacity in
+    let command = Insert 3 (Values lane_terms 5) in
+    let w = runs_as lane_text params old new (queue_schema f q l) has.schema command (lane_is f q l) (lane_plain f q l) count h in
+    let does = subst (λ s. Does old.step_limit (mode_of old) params (record old.now { schema = s }) (statement_of lane_text (understood (queue_schema f q l) lane_text)) None command (Ok (w.tally, new.now))) has.schema w.changed in
+    let done = written (lane_task f q l old.step_limit params) (mode_of old) command old.now.trees w.tally new.now does in
+    let put = lane_put f q l old.step_limit number capacity old.now.trees done.0 done.1 in
+    let is = done.2 in
+    let row = Int (pos number) ∷ figures_cells (fresh capacity) in
+    record {
+      form = f;
+      queue = q;
+      lanes = l;
+      schema = ap (λ (d : Database). d.schema) is;
+      numbered = ap (λ (d : Database). d.trees 0) is ∙ put.others 0 (λ e. absurd (omega arith)) ∙ has.numbered;
+      empty = (ap (λ (d : Database). d.trees 1) is ∙ put.others 1 (λ e. absurd (omega arith)) ∙ has.empty.0, ap (λ (d : Database). d.trees 2) is ∙ put.others 2 (λ e. absurd (omega arith)) ∙ has.empty.1);
+      filled = ap (λ (d : Database). d.trees 3) is ∙ put.table ∙ ap (put_row row) has.filled ∙ put_end 0 number fs (fresh capacity) (omega arith);
+    }
