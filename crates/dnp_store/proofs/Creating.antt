@@ -18,6 +18,7 @@ use Rattle.sqlite.specs.Given.{IsPlain}
 use Rattle.sqlite.proofs.Callers.{command_of, statement_of, runs_as}
 use Rattle.dnp_store.specs.Tables.{form_with, no_table, no_schema, sequence}
 use Rattle.dnp_store.specs.QueueTables.{queue_with, lanes_with, queue_schema}
+use Rattle.dnp_store.specs.Making.{form_schema, rows_schema, HasForm, HasRows, HasTables}
 use Rattle.dnp_store.proofs.Statements.{went, same_value, picked, otherwise}
 
 abbrev pub form_text : List ℕ
@@ -32,12 +33,6 @@ lanes_text = codes "CREATE TABLE lanes (lane INTEGER PRIMARY KEY CHECK (lane BET
 abbrev table_of_text : Result Table CompileError → Table
 table_of_text (Ok t) = t
 table_of_text (Err e) = no_table
-
-abbrev form_schema : List Term → Schema
-form_schema f = record { tables = form_with f ∷ []; indexes = []; views = [] }
-
-abbrev rows_schema : List Term → List Term → Schema
-rows_schema f q = record { tables = form_with f ∷ queue_with q ∷ sequence ∷ []; indexes = []; views = [] }
 
 -- ---- what the texts define
 
@@ -85,25 +80,6 @@ makes old new sql schema count has is plain h =
     let inner = went outer.1 in
     let end : new.now ≡ outer.0 = ap (λ (p : Tally × Database). p.1) (same_value outer.2) in
     (inner.0, inner.1, subst (λ d. MakesSequence inner.0 (Ok d)) (sym end) inner.2)
-
--- the tables so far have no row
-pub record HasForm (db : Database) : Type 0 where
-  pub form : List Term
-  pub schema : db.schema ≡ form_schema form
-  pub empty : db.trees 0 ≡ []
-
-pub record HasRows (db : Database) : Type 0 where
-  pub form : List Term
-  pub queue : List Term
-  pub schema : db.schema ≡ rows_schema form queue
-  pub empty : (db.trees 0 ≡ []) × (db.trees 1 ≡ []) × (db.trees 2 ≡ [])
-
-pub record HasTables (db : Database) : Type 0 where
-  pub form : List Term
-  pub queue : List Term
-  pub lanes : List Term
-  pub schema : db.schema ≡ queue_schema form queue lanes
-  pub empty : (db.trees 0 ≡ []) × (db.trees 1 ≡ []) × (db.trees 2 ≡ []) × (db.trees 3 ≡ [])
 
 pub created_form : (old new : State) (count : ℕ) → old.now.schema ≡ no_schema → Executes form_text [] old new (Ok count) → HasForm new.now
 created_form old new count has h =

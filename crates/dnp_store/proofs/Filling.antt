@@ -1,5 +1,5 @@
 -- What the first INSERTs make of a queue's tables.
-use Rattle.std.proofs.Common.{◌≡◌, ◌≢◌, ℕ, zero, suc, ◌+◌, ◌<◌, ℤ, pos, List, [], ◌∷◌, ◌++◌, length, codes, Bool, true, false, Option, Some, None, Ok, Result, refl, sym, ap, subst, ◌∙◌, arith}
+use Rattle.std.proofs.Common.{◌≡◌, ◌≢◌, ℕ, zero, suc, ◌+◌, ◌<◌, ℤ, pos, List, [], ◌∷◌, ◌++◌, length, map, get_or, length-map, inl, codes, Bool, true, false, Option, Some, None, Ok, Result, refl, sym, ap, subst, ◌∙◌, arith}
 use Rattle.sqlite_tied.specs.Compute.{everything}
 use Rattle.sqlite_schema.specs.declared.schema.Keys.TheVariants.{Enforced}
 use Rattle.sqlite.specs.declared.types.Value.TheVariants.{Null, Int}
@@ -19,12 +19,14 @@ use Rattle.sqlite.specs.Given.{IsPlain}
 use Rattle.sqlite.specs.State.{State, Executes, mode_of}
 use Rattle.sqlite.proofs.Callers.{command_of, statement_of, runs_as, one_step}
 use Rattle.dnp_store.specs.Tables.{form_with}
-use Rattle.dnp_store.specs.QueueTables.{queue_schema, lanes_with, Figures, figures_cells, figures_rows}
+use Rattle.dnp_store.specs.QueueTables.{queue_schema, lanes_with, Figures, figures_cells, figures_rows, no_figures, is_raised, IsQueue}
 use Rattle.dnp_store.proofs.Statements.{went, written, same_value}
 use Rattle.dnp_store.proofs.Counting.{cast_int, cast_null}
 use Rattle.dnp_store.proofs.IdRows.{is_less}
 use Rattle.dnp_store.proofs.QueueStatements.{quiet}
-use Rattle.dnp_store.proofs.Creating.{HasTables}
+use Rattle.dnp_objects.specs.declared.limits.TheConstants.{LANES}
+use Rattle.dnp_eventbuf.specs.Stock.{LaneState, empty_stock, empty_lane, no_lane}
+use Rattle.dnp_store.specs.Making.{HasTables, HasLanes, fresh, number_row}
 
 abbrev pub number_text : List ℕ
 number_text = codes "INSERT INTO form VALUES (1)"
@@ -60,14 +62,8 @@ number_task f q l limit = record { limit = limit; keys = Enforced; schema = queu
 abbrev lane_task : List Term → List Term → List Term → Option ℕ → Row → Task
 lane_task f q l limit params = record { limit = limit; keys = Enforced; schema = queue_schema f q l; table = lanes_with l; params = params }
 
-abbrev fresh : ℕ → Figures
-fresh capacity = record { capacity = capacity; lost = 0; raised = false }
-
 abbrev pub lane_params : ℕ → ℕ → Row
 lane_params number capacity = Int (pos number) ∷ Int (pos capacity) ∷ []
-
-abbrev number_row : Row
-number_row = Int (pos 1) ∷ Int (pos 1) ∷ []
 
 -- one table has one row more, and no other changes
 record PutsIn (tree : ℕ) (row : Row) (db now : Trees) : Type 0 where
@@ -120,16 +116,6 @@ put_end n number (f ∷ fs) new is = rw (is_less n number (omega arith)) (ap (λ
 
 -- ---- the statements
 
--- the form is numbered, and so many lanes stand in their table
-pub record HasLanes (db : Database) (fs : List Figures) : Type 0 where
-  pub form : List Term
-  pub queue : List Term
-  pub lanes : List Term
-  pub schema : db.schema ≡ queue_schema form queue lanes
-  pub numbered : db.trees 0 ≡ number_row ∷ []
-  pub empty : (db.trees 1 ≡ []) × (db.trees 2 ≡ [])
-  pub filled : db.trees 3 ≡ figures_rows 0 fs
-
 pub numbers : (old new : State) (count : ℕ) → HasTables old.now → Executes number_text [] old new (Ok count) → HasLanes new.now []
 numbers old new count has h =
     let f = has.form in
@@ -174,3 +160,38 @@ lane_made old new number capacity count fs at has h =
       empty = (ap (λ (d : Database). d.trees 1) is ∙ put.others 1 (λ e. absurd (omega arith)) ∙ has.empty.0, ap (λ (d : Database). d.trees 2) is ∙ put.others 2 (λ e. absurd (omega arith)) ∙ has.empty.1);
       filled = ap (λ (d : Database). d.trees 3) is ∙ put.table ∙ ap (put_row row) has.filled ∙ put_end 0 number fs (fresh capacity) (omega arith);
     }
+
+-- ---- the lanes are empty
+
+get_or_map : {X : Type 0} (g : ℕ → X) (cs : List ℕ) (k : ℕ) (d : X) → k < length cs → get_or (map g cs) k d ≡ g (get_or cs k 0)
+get_or_map g [] k d low = absurd (omega arith)
+get_or_map g (c ∷ cs) zero d low = refl
+get_or_map g (c ∷ cs) (suc k) d low = get_or_map g cs k d (omega arith)
+
+none_raised : (capacities : List ℕ) → is_raised (map fresh capacities) ≡ false
+none_raised [] = refl
+none_raised (c ∷ cs) = none_raised cs
+
+pub made_empty : (db : Database) (capacities : List ℕ) → length capacities ≡ LANES → HasLanes db (map fresh capacities) → IsQueue db (empty_stock capacities)
+made_empty db capacities nine has = record {
+  form_checks = has.form;
+  queue_checks = has.queue;
+  lanes_checks = has.lanes;
+  schema = has.schema;
+  holds = record {
+    figures = map fresh capacities;
+    form = (pos 1, has.numbered);
+    lanes = record {
+      queued = [];
+      queue_is = has.empty.0;
+      lanes_is = has.filled;
+      counted = inl (has.empty.1, refl);
+      rise = tt;
+      up_to_last = tt;
+      nine = length-map fresh capacities ∙ nine;
+      lanes = λ k low. get_or_map empty_lane capacities k no_lane (omega (arith, nine))
+        ∙ sym (ap (λ (fig : Figures). record { capacity = fig.capacity; rows = []; lost = fig.lost }) (get_or_map fresh capacities k no_figures (omega (arith, nine))));
+    };
+    overflow = sym (none_raised capacities);
+  };
+}

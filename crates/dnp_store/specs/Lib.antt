@@ -4,3 +4,4 @@ pub mod QueueTables
 pub mod Kept
 -- Words of private steps.
 pub mod Steps
+pub mod Making

@@ -5,6 +5,7 @@ mod fault;
 mod queue;
 mod queue_release;
 mod queue_statements;
+mod queue_tables;
 mod queue_writing;
 
 pub use queue::Queue;
