@@ -1,5 +1,5 @@
 -- What the first INSERTs make of a queue's tables.
-use Rattle.std.proofs.Common.{◌≡◌, ◌≢◌, ℕ, zero, suc, ◌+◌, ◌<◌, ℤ, pos, List, [], ◌∷◌, ◌++◌, length, map, get_or, length-map, inl, codes, Bool, true, false, Option, Some, None, Ok, Result, refl, sym, ap, subst, ◌∙◌, arith}
+use Rattle.std.proofs.Common.{◌≡◌, ◌≢◌, ℕ, zero, suc, ◌+◌, ◌<◌, ℤ, pos, List, [], ◌∷◌, ◌++◌, length, map, get_or, inl, codes, Bool, true, false, Option, Some, None, Ok, Result, refl, sym, ap, subst, ◌∙◌, arith}
 use Rattle.sqlite_tied.specs.Compute.{everything}
 use Rattle.sqlite_schema.specs.declared.schema.Keys.TheVariants.{Enforced}
 use Rattle.sqlite.specs.declared.types.Value.TheVariants.{Null, Int}
@@ -168,6 +168,10 @@ get_or_map g [] k d low = absurd (omega arith)
 get_or_map g (c ∷ cs) zero d low = refl
 get_or_map g (c ∷ cs) (suc k) d low = get_or_map g cs k d (omega arith)
 
+pub length_fresh : (cs : List ℕ) → length (map fresh cs) ≡ length cs
+length_fresh [] = refl
+length_fresh (c ∷ cs) = ap suc (length_fresh cs)
+
 none_raised : (capacities : List ℕ) → is_raised (map fresh capacities) ≡ false
 none_raised [] = refl
 none_raised (c ∷ cs) = none_raised cs
@@ -188,7 +192,7 @@ made_empty db capacities nine has = record {
       counted = inl (has.empty.1, refl);
       rise = tt;
       up_to_last = tt;
-      nine = length-map fresh capacities ∙ nine;
+      nine = length_fresh capacities ∙ nine;
       lanes = λ k low. get_or_map empty_lane capacities k no_lane (omega (arith, nine))
         ∙ sym (ap (λ (fig : Figures). record { capacity = fig.capacity; rows = []; lost = fig.lost }) (get_or_map fresh capacities k no_figures (omega (arith, nine))));
     };

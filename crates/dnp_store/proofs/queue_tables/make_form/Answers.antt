@@ -9,4 +9,4 @@ returns-clause-made g c clean has =
     let old = state g.S.Store c.args.tx.now.conn.now in
     let new = state g.S.Store c.execute.new.self.conn.now in
     let early : HasCleanDisk old = omega (arith, c.execute.ensures.survives.clean) in
-    created_form old new c.in_ok-execute.field-0 has (c.in_ok-execute.ensures.runs clean (c.requires early)).0
+    created_form old new c.in_ok-execute.field-0 has (c.in_ok-execute.ensures.runs clean (c.requires.inside early)).0

@@ -13,4 +13,4 @@ returns-clause-made g c clean figures at has =
     let early : HasCleanDisk old = omega (arith, c.execute.ensures.survives.clean) in
     let given = ap₂ (λ (a b : Value). bound_value a ∷ bound_value b ∷ []) c.params-to_sql.ensures c.params-to_sql-2.ensures in
     lane_made old new c.args.number c.args.capacity c.in_ok-execute.field-0 figures at has
-    (subst (λ ps. Executes lane_text ps old new (Ok c.in_ok-execute.field-0)) given (c.in_ok-execute.ensures.runs clean (c.requires early)).0)
+    (subst (λ ps. Executes lane_text ps old new (Ok c.in_ok-execute.field-0)) given (c.in_ok-execute.ensures.runs clean (c.requires.inside early)).0)
