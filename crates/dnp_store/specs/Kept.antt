@@ -15,10 +15,13 @@ pub record Kept (S : Type 0) : Type 0 where
   pub conn : Held S
   pub stock : Stock
   pub stopped : Bool
+  -- the database had no other tables as the queue began
+  pub owned : Bool
 
 abbrev pub kept_code : {S : Type 0} → Coded S → Coded (Kept S)
 kept_code {S} s =
-    code_by (Held S × (Stock × Bool)) (coded× (held_code s) (coded× plain.the_row.coded coded_bool)) (λ k. (k.conn, (k.stock, k.stopped))) (λ p. record { conn = p.0; stock = p.1.0; stopped = p.1.1 }) (λ _. refl)
+    code_by (Held S × (Stock × (Bool × Bool))) (coded× (held_code s) (coded× plain.the_row.coded (coded× coded_bool coded_bool))) (λ k. (k.conn, (k.stock, (k.stopped, k.owned))))
+    (λ p. record { conn = p.0; stock = p.1.0; stopped = p.1.1.0; owned = p.1.1.1 }) (λ _. refl)
 
 -- the connection serves, and the last commit holds this stock
 pub record Stands (s : State) (stock : Stock) : Type 0 where
@@ -26,10 +29,10 @@ pub record Stands (s : State) (stock : Stock) : Type 0 where
   pub holds : IsQueue s.committed stock
 
 -- what is so of a queue at all times
-pub record Keeps {S : Type 0} (g : Ghosts S) (conn : Held S) (stock : Stock) (stopped : Bool) : Type 0 where
+pub record Keeps {S : Type 0} (g : Ghosts S) (conn : Held S) (stock : Stock) (stopped owned : Bool) : Type 0 where
   pub idle : conn.in_transaction ≡ false
   pub sound : IsSound stock
-  pub stands : stopped ≡ false → HasCleanDisk (state g conn) → Stands (state g conn) stock
+  pub stands : stopped ≡ false → IsTrue owned → HasCleanDisk (state g conn) → Stands (state g conn) stock
 
 -- each database that a crash may leave holds the one stock or the other
 abbrev pub LeavesEither : State → Stock → Stock → Type 0

@@ -2,10 +2,12 @@
 #![tactic(auto)]
 
 mod fault;
+mod open;
 mod queue;
 mod queue_release;
 mod queue_statements;
 mod queue_tables;
 mod queue_writing;
 
+pub use open::OpenFault;
 pub use queue::Queue;

@@ -1,6 +1,6 @@
 //! Event lanes in a SQL database.
 
-ghost use Rattle.std.specs.Prelude.{◌≡◌, false, IfOk, OnOk, [], true};
+ghost use Rattle.std.specs.Prelude.{◌≡◌, false, true, IsTrue, []};
 ghost use Rattle.sqlite.specs.Held.{state};
 ghost use Rattle.sqlite.specs.State.{HasCleanDisk};
 
@@ -18,11 +18,14 @@ use std::marker::Model;
 #[derive(Drop)]
 pub struct Queue<S: Alter> {
     /// The connection to the database, which is the queue's own.
-    conn: Connection<S>,
+    pub(crate) conn: Connection<S>,
     /// What the last commit holds.
-    lanes: PlainLanes,
+    pub(crate) lanes: PlainLanes,
     /// Whether the queue has answered Device.
-    stopped: bool,
+    pub(crate) stopped: bool,
+    /// Whether the database had no other tables as the queue began: what a statement means is known for
+    /// no others.
+    pub(crate) owned: bool,
 }
 
 impl<S: Alter> Model for Queue<S> {
@@ -32,9 +35,9 @@ impl<S: Alter> Model for Queue<S> {
 
     ghost coded = { kept_code S.code };
 
-    ghost view = { λ q. record { conn = q.conn; stock = q.lanes; stopped = q.stopped } };
+    ghost view = { λ q. record { conn = q.conn; stock = q.lanes; stopped = q.stopped; owned = q.owned } };
 
-    ghost invariant = { λ q. Keeps S.Store q.conn q.lanes q.stopped };
+    ghost invariant = { λ q. Keeps S.Store q.conn q.lanes q.stopped q.owned };
 }
 
 impl<S: Alter> Lanes for Queue<S> {
@@ -42,7 +45,7 @@ impl<S: Alter> Lanes for Queue<S> {
 
     ghost beside = { λ _. [] };
 
-    ghost honest = { λ q. HasCleanDisk (state S.Store q.conn) × (q.stopped ≡ false) };
+    ghost honest = { λ q. HasCleanDisk (state S.Store q.conn) × (q.stopped ≡ false) × IsTrue q.owned };
 
     ghost is_stopped = { λ q. q.stopped };
 
