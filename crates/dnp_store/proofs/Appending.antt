@@ -1,5 +1,5 @@
 -- An append, lane by lane: the rows are put in first, and then full lanes drop their oldest.
-use Rattle.std.proofs.Common.{◌≡◌, ◌≢◌, ◌⊎◌, inl, inr, ℕ, zero, suc, ◌+◌, ◌-◌, ◌<◌, ◌≤◌, ◌==◌, ◌||◌, nat_lt, nat_le, Bool, true, false, cond, List, [], ◌∷◌, ◌++◌, length, drop, take, set, get_or, map, filter, refl, sym, ap, ap₂, subst, ◌∙◌, arith, append_assoc, append-nil, length-append, length-set}
+use Rattle.std.proofs.Common.{◌≡◌, ◌≢◌, inl, inr, ℕ, zero, suc, ◌+◌, ◌-◌, ◌<◌, ◌≤◌, ◌==◌, ◌||◌, nat_lt, Bool, true, false, cond, List, [], ◌∷◌, ◌++◌, length, set, get_or, refl, sym, ap, ap₂, subst, ◌∙◌, arith, append_assoc, append-nil, length-append, length-set}
 use Rattle.std.proofs.lemmas.Bool.{cases_eq}
 use Rattle.std.proofs.lemmas.Bool.Decides.{Decides-ltb}
 use Rattle.dnp_eventbuf.specs.Sound.{IsSound}
@@ -9,9 +9,9 @@ use Rattle.dnp_objects.specs.declared.limits.TheConstants.{LANES}
 use Rattle.dnp_objects.specs.Lanes.{lane_number}
 use Rattle.dnp_objects.specs.declared.lane.LaneRow.{LaneRow}
 use Rattle.dnp_eventbuf.specs.declared.numbered.Numbered.{Numbered}
-use Rattle.dnp_eventbuf.specs.Latest.{numbered_for, latest, KeepsLatest}
+use Rattle.dnp_eventbuf.specs.Latest.{numbered_for}
 use Rattle.dnp_eventbuf.specs.Stock.{LaneState, Stock, lane_at, no_lane, is_full, put_in, with_row, with_rows, added_in}
-use Rattle.dnp_store.specs.Steps.{with_lane, added, all_added, over, any_over}
+use Rattle.dnp_store.specs.Steps.{added, all_added, over, any_over}
 use Rattle.dnp_store.proofs.Tests.{is_same, is_other}
 
 -- ---- the rows are put in
@@ -46,16 +46,16 @@ lane_added s (x ∷ xs) k low =
     let rest = lane_added (added s x) xs k (omega (arith, length-set s.lanes n new)) in
     elim (cases_eq n k) [
       | inl same ↦
-      let here : lane_at (added s x) k ≡ added_in (lane_at s k) r =
-      ap (λ (m : ℕ). get_or (set s.lanes n new) m no_lane) (sym same) ∙ get_or-set_same s.lanes n new no_lane (omega arith) ∙ ap (λ (m : ℕ). added_in (lane_at s m) r) same in
-      let is : (n == k) ≡ true = ap (λ (m : ℕ). m == k) same ∙ is_same k in
-      rest ∙ ap (λ (lane : LaneState). behind lane (numbered_for k (s.last_id + 1) xs)) here
-      ∙ ap (λ rows. record { capacity = (lane_at s k).capacity; rows = rows; lost = (lane_at s k).lost }) (append_assoc (lane_at s k).rows (r ∷ []) (numbered_for k (s.last_id + 1) xs)
-        ∙ ap (λ b. (lane_at s k).rows ++ cond b (r ∷ numbered_for k (s.last_id + 1) xs) (numbered_for k (s.last_id + 1) xs)) (sym is))
+          let here : lane_at (added s x) k ≡ added_in (lane_at s k) r =
+          ap (λ (m : ℕ). get_or (set s.lanes n new) m no_lane) (sym same) ∙ get_or-set_same s.lanes n new no_lane (omega arith) ∙ ap (λ (m : ℕ). added_in (lane_at s m) r) same in
+          let is : (n == k) ≡ true = ap (λ (m : ℕ). m == k) same ∙ is_same k in
+          rest ∙ ap (λ (lane : LaneState). behind lane (numbered_for k (s.last_id + 1) xs)) here
+          ∙ ap (λ rows. record { capacity = (lane_at s k).capacity; rows = rows; lost = (lane_at s k).lost }) (append_assoc (lane_at s k).rows (r ∷ []) (numbered_for k (s.last_id + 1) xs)
+          ∙ ap (λ b. (lane_at s k).rows ++ cond b (r ∷ numbered_for k (s.last_id + 1) xs) (numbered_for k (s.last_id + 1) xs)) (sym is))
       | inr other ↦
-      let here : lane_at (added s x) k ≡ lane_at s k = get_or-set_other s.lanes n k new no_lane (λ e. other (sym e)) in
-      rest ∙ ap (λ (lane : LaneState). behind lane (numbered_for k (s.last_id + 1) xs)) here
-      ∙ ap (λ b. behind (lane_at s k) (cond b (r ∷ numbered_for k (s.last_id + 1) xs) (numbered_for k (s.last_id + 1) xs))) (sym (is_other n k other))
+          let here : lane_at (added s x) k ≡ lane_at s k = get_or-set_other s.lanes n k new no_lane (λ e. other (sym e)) in
+          rest ∙ ap (λ (lane : LaneState). behind lane (numbered_for k (s.last_id + 1) xs)) here
+          ∙ ap (λ b. behind (lane_at s k) (cond b (r ∷ numbered_for k (s.last_id + 1) xs) (numbered_for k (s.last_id + 1) xs))) (sym (is_other n k other))
     ]
 
 -- ---- the mark
@@ -96,10 +96,10 @@ cond_more false m = omega arith
 lost_more : (s : Stock) (x : LaneRow) (k : ℕ) → k < length s.lanes → (lane_at s k).lost ≤ (lane_at (with_row s x) k).lost
 lost_more s x k low = elim (cases_eq k (lane_number x.lane)) [
   | inl same ↦
-  let low' : lane_number x.lane < length s.lanes = omega arith in
-  let n = lane_number x.lane in
-  let full = is_full (lane_at s n) in
-  subst (λ (m : ℕ). (lane_at s m).lost ≤ (lane_at (with_row s x) m).lost) (sym same) (omega (arith, lost_there s x full low' refl, cond_more full (lane_at s n).lost))
+      let low' : lane_number x.lane < length s.lanes = omega arith in
+      let n = lane_number x.lane in
+      let full = is_full (lane_at s n) in
+      subst (λ (m : ℕ). (lane_at s m).lost ≤ (lane_at (with_row s x) m).lost) (sym same) (omega (arith, lost_there s x full low' refl, cond_more full (lane_at s n).lost))
   | inr other ↦ omega (arith, lost_else s x k other)
 ]
 
@@ -123,8 +123,8 @@ any_true : (s t : Stock) (n k : ℕ) → k < n → (lane_at s k).lost < (lane_at
 any_true s t zero k low less = absurd (omega arith)
 any_true s t (suc n) k low less = elim (cases_eq k n) [
   | inl same ↦
-  let here : nat_lt (lane_at s n).lost (lane_at t n).lost ≡ true = subst (λ (m : ℕ). nat_lt (lane_at s m).lost (lane_at t m).lost ≡ true) same ((Decides-ltb (lane_at s k).lost (lane_at t k).lost).1 less) in
-  ap (λ b. any_lost s t n || b) here ∙ or_true (any_lost s t n)
+      let here : nat_lt (lane_at s n).lost (lane_at t n).lost ≡ true = subst (λ (m : ℕ). nat_lt (lane_at s m).lost (lane_at t m).lost ≡ true) same ((Decides-ltb (lane_at s k).lost (lane_at t k).lost).1 less) in
+      ap (λ b. any_lost s t n || b) here ∙ or_true (any_lost s t n)
   | inr other ↦ ap (λ b. b || nat_lt (lane_at s n).lost (lane_at t n).lost) (any_true s t n k (omega (arith, other)) less)
 ]
 
@@ -166,6 +166,7 @@ overflow_is s xs sound low = overflow_after s xs sound.nine low ∙ ap (λ b. s.
   where
     grows : (m k : ℕ) → nat_lt m (m + k) ≡ nat_lt 0 k
     grows m k = grind arith
+
     go : (n : ℕ) → n ≤ LANES → any_lost s (with_rows s xs) n ≡ any_over s xs n
     go zero few = refl
     go (suc n) few =

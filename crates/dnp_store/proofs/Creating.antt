@@ -1,13 +1,11 @@
 -- What CREATE TABLE makes of a database without tables.
-use Rattle.std.proofs.Common.{◌≡◌, ◌≢◌, ℕ, List, [], ◌∷◌, codes, true, false, None, Some, Ok, Err, Result, refl, sym, ap, subst, subst₂, ◌∙◌, Bool, ◌⊎◌, inl, inr}
+use Rattle.std.proofs.Common.{◌≡◌, ℕ, List, [], ◌∷◌, codes, true, false, None, Ok, Err, Result, refl, sym, ap, subst, subst₂, ◌∙◌}
 use Rattle.sqlite_tied.specs.Compute.{everything}
 use Rattle.sqlite_resolve.specs.Compile.{table_defined_by}
 use Rattle.sqlite_resolve.specs.declared.error.CompileError.{CompileError}
 use Rattle.sqlite.specs.Command.TheVariants.{CreateTable}
 use Rattle.sqlite.specs.Schema.{Schema}
 use Rattle.sqlite.specs.Table.{Table}
-use Rattle.sqlite.specs.Tree.{Trees}
-use Rattle.sqlite.specs.Order.{Row}
 use Rattle.sqlite.specs.Term.{Term}
 use Rattle.sqlite.specs.Effect.{Database}
 use Rattle.sqlite.specs.Does.{Tally, Does, MakesTable, MakesSequence, lacks_sequence, sequence_text}
@@ -16,8 +14,8 @@ use Rattle.sqlite.specs.State.{State, Executes, mode_of}
 use Rattle.sqlite.specs.Listing.{understood}
 use Rattle.sqlite.specs.Given.{IsPlain}
 use Rattle.sqlite.proofs.Callers.{command_of, statement_of, runs_as}
-use Rattle.dnp_store.specs.Tables.{form_with, no_table, no_schema, sequence}
-use Rattle.dnp_store.specs.QueueTables.{queue_with, lanes_with, queue_schema}
+use Rattle.dnp_store.specs.Tables.{form_with, no_table, no_schema}
+use Rattle.dnp_store.specs.QueueTables.{queue_with, queue_schema}
 use Rattle.dnp_store.specs.Making.{form_schema, rows_schema, HasForm, HasRows, HasTables}
 use Rattle.dnp_store.proofs.Statements.{went, same_value, picked, otherwise}
 
@@ -146,6 +144,10 @@ created_lanes old new count has h =
       queue = q;
       lanes = l_checks;
       schema = ap (λ (d : Database). d.schema) same ∙ mid;
-      empty = (ap (λ (d : Database). d.trees 0) same ∙ kept.0 ∙ has.empty.0, ap (λ (d : Database). d.trees 1) same ∙ kept.1.0 ∙ has.empty.1,
-        ap (λ (d : Database). d.trees 2) same ∙ kept.1.1.0 ∙ has.empty.2, ap (λ (d : Database). d.trees 3) same ∙ made.empty);
+      empty = (
+        ap (λ (d : Database). d.trees 0) same ∙ kept.0 ∙ has.empty.0,
+        ap (λ (d : Database). d.trees 1) same ∙ kept.1.0 ∙ has.empty.1,
+        ap (λ (d : Database). d.trees 2) same ∙ kept.1.1.0 ∙ has.empty.2,
+        ap (λ (d : Database). d.trees 3) same ∙ made.empty,
+      );
     }

@@ -1,5 +1,5 @@
 -- What the first INSERTs make of a queue's tables.
-use Rattle.std.proofs.Common.{◌≡◌, ◌≢◌, ℕ, zero, suc, ◌+◌, ◌<◌, ℤ, pos, List, [], ◌∷◌, ◌++◌, length, map, get_or, inl, codes, Bool, true, false, Option, Some, None, Ok, Result, refl, sym, ap, subst, ◌∙◌, arith}
+use Rattle.std.proofs.Common.{◌≡◌, ◌≢◌, ℕ, zero, suc, ◌+◌, ◌<◌, pos, List, [], ◌∷◌, ◌++◌, length, map, get_or, inl, codes, false, Option, None, Ok, refl, sym, ap, subst, ◌∙◌, arith}
 use Rattle.sqlite_tied.specs.Compute.{everything}
 use Rattle.sqlite_schema.specs.declared.schema.Keys.TheVariants.{Enforced}
 use Rattle.sqlite.specs.declared.types.Value.TheVariants.{Null, Int}
@@ -8,12 +8,11 @@ use Rattle.sqlite.specs.Source.TheVariants.{Values}
 use Rattle.sqlite.specs.Term.{Term, lit, col}
 use Rattle.sqlite.specs.Order.{Row}
 use Rattle.sqlite.specs.Tree.{Trees, put_row}
-use Rattle.sqlite.specs.Edit.{Edit, edit_of, put_all}
+use Rattle.sqlite.specs.Edit.{edit_of, put_all}
 use Rattle.sqlite.specs.Rowids.TheVariants.{Chosen}
 use Rattle.sqlite.specs.Effect.{Database}
 use Rattle.sqlite.specs.Does.{Does}
-use Rattle.sqlite.specs.Rows.{Task, Written, Inserts, Sourced, stamped}
-use Rattle.sqlite.specs.Cast.{cast_row}
+use Rattle.sqlite.specs.Rows.{Task, Written, Inserts}
 use Rattle.sqlite.specs.Listing.{understood}
 use Rattle.sqlite.specs.Given.{IsPlain}
 use Rattle.sqlite.specs.State.{State, Executes, mode_of}
@@ -25,7 +24,7 @@ use Rattle.dnp_store.proofs.Counting.{cast_int, cast_null}
 use Rattle.dnp_store.proofs.IdRows.{is_less}
 use Rattle.dnp_store.proofs.QueueStatements.{quiet}
 use Rattle.dnp_objects.specs.declared.limits.TheConstants.{LANES}
-use Rattle.dnp_eventbuf.specs.Stock.{LaneState, empty_stock, empty_lane, no_lane}
+use Rattle.dnp_eventbuf.specs.Stock.{empty_stock, empty_lane, no_lane}
 use Rattle.dnp_store.specs.Making.{HasTables, HasLanes, fresh, number_row}
 
 abbrev pub number_text : List ℕ
@@ -194,7 +193,7 @@ made_empty db capacities nine has = record {
       up_to_last = tt;
       nine = length_fresh capacities ∙ nine;
       lanes = λ k low. get_or_map empty_lane capacities k no_lane (omega (arith, nine))
-        ∙ sym (ap (λ (fig : Figures). record { capacity = fig.capacity; rows = []; lost = fig.lost }) (get_or_map fresh capacities k no_figures (omega (arith, nine))));
+          ∙ sym (ap (λ (fig : Figures). record { capacity = fig.capacity; rows = []; lost = fig.lost }) (get_or_map fresh capacities k no_figures (omega (arith, nine))));
     };
     overflow = sym (none_raised capacities);
   };

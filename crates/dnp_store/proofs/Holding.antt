@@ -1,21 +1,18 @@
 -- The lanes that the tables hold after a statement.
-use Rattle.std.proofs.Common.{◌≡◌, ◌≢◌, ◌⊎◌, inl, inr, ℕ, zero, suc, ◌+◌, ◌-◌, ◌*◌, ◌<◌, ◌≤◌, ◌==◌, ◌&&◌, ◌||◌, nat_le, nat_lt, not, ℤ, pos, Bool, true, false, cond, List, [], ◌∷◌, ◌++◌, map, filter, length, set, get_or, codes, refl, sym, ap, ap₂, subst, ◌∙◌, arith, append-nil}
-use Rattle.std.specs.Prelude.{slice_index_or, slice_set}
-use Rattle.std.specs.List.{AllByRecursion, list_any}
+use Rattle.std.proofs.Common.{◌≡◌, ◌≢◌, inl, inr, ℕ, zero, suc, ◌+◌, ◌-◌, ◌*◌, ◌<◌, ◌≤◌, ◌==◌, ◌&&◌, nat_le, nat_lt, not, Bool, true, false, cond, List, [], ◌∷◌, ◌++◌, map, filter, length, set, get_or, codes, refl, sym, ap, ap₂, subst, ◌∙◌, arith, append-nil}
+use Rattle.std.specs.Prelude.{slice_index_or}
+use Rattle.std.specs.List.{AllByRecursion}
 use Rattle.sqlite.specs.Order.{Row}
 use Rattle.sqlite.specs.Tree.{Trees}
-use Rattle.sqlite.specs.Effect.{Database}
 use Rattle.dnp_objects.specs.declared.limits.TheConstants.{LANES}
 use Rattle.dnp_objects.specs.declared.row.Kind.{Kind}
 use Rattle.dnp_objects.specs.declared.row.Kind.TheVariants.{Binary, Counter, Analog}
-use Rattle.dnp_objects.specs.declared.lane.Lane.{Lane}
 use Rattle.dnp_objects.specs.declared.lane.LaneRow.{LaneRow}
 use Rattle.dnp_objects.specs.Lanes.{lane_number, kind_number}
 use Rattle.dnp_eventbuf.specs.Carried.{IsCarried}
-use Rattle.dnp_eventbuf.specs.declared.numbered.Numbered.{Numbered}
 use Rattle.dnp_eventbuf.specs.Stock.{LaneState, Stock, lane_at, no_lane, added_in, above}
 use Rattle.dnp_store.specs.Tables.{IsCounted}
-use Rattle.dnp_store.specs.QueueTables.{Queued, queued_row, queued_cells, event_of, kind_in, Figures, no_figures, figures_rows, in_lane, lane_of, HoldsLanes}
+use Rattle.dnp_store.specs.QueueTables.{Queued, queued_row, queued_cells, event_of, kind_in, Figures, no_figures, in_lane, lane_of, HoldsLanes}
 use Rattle.std.proofs.lemmas.Bool.{cases_eq}
 use Rattle.std.proofs.lemmas.List.{map-append, get_or-set_same, get_or-set_other}
 use Rattle.std.proofs.Common.{length-set}
@@ -128,10 +125,10 @@ put db now s fs x h nine low carried puts =
       up_to_last = id_rows.up_to-push id_of queued_cells h.queued new (s.last_id + 1) (id_rows.up_to-more id_of queued_cells h.queued s.last_id (s.last_id + 1) (omega arith) h.up_to_last) (omega arith);
       nine = h.nine;
       lanes = λ k k_low. at_lane s number k (added_in (lane_at s number) (record { id = s.last_id + 1; row = x.row })) (λ lane. lane ≡ lane_of (h.queued ++ new ∷ []) fs k) nine low
-        (λ same. subst (λ (n : ℕ). added_in (lane_at s number) (record { id = s.last_id + 1; row = x.row }) ≡ lane_of (h.queued ++ new ∷ []) fs n) (sym same)
+          (λ same. subst (λ (n : ℕ). added_in (lane_at s number) (record { id = s.last_id + 1; row = x.row }) ≡ lane_of (h.queued ++ new ∷ []) fs n) (sym same)
           (ap₂ (λ (lane : LaneState) y. added_in lane y) (h.lanes number low) (sym (event_is (s.last_id + 1) x carried))
           ∙ ap (λ rows. record { capacity = (slice_index_or fs number no_figures).capacity; rows = rows; lost = (slice_index_or fs number no_figures).lost }) (sym (pushed_here number h.queued new refl))))
-        (λ other. h.lanes k k_low
+          (λ other. h.lanes k k_low
           ∙ ap (λ rows. record { capacity = (slice_index_or fs k no_figures).capacity; rows = rows; lost = (slice_index_or fs k no_figures).lost }) (sym (pushed_else k h.queued new (λ e. other (sym e)))));
     }
 
@@ -149,10 +146,10 @@ took db now s fs number upto h nine low takes =
       up_to_last = id_rows.up_to-filter id_of queued_cells (stays number upto) h.queued s.last_id h.up_to_last;
       nine = h.nine;
       lanes = λ k k_low. at_lane s number k (above upto (lane_at s number)) (λ lane. lane ≡ lane_of left fs k) nine low
-        (λ same. subst (λ (n : ℕ). above upto (lane_at s number) ≡ lane_of left fs n) (sym same)
+          (λ same. subst (λ (n : ℕ). above upto (lane_at s number) ≡ lane_of left fs n) (sym same)
           (ap (above upto) (h.lanes number low)
           ∙ ap (λ rows. record { capacity = (slice_index_or fs number no_figures).capacity; rows = rows; lost = (slice_index_or fs number no_figures).lost }) (sym (cut_here number upto h.queued))))
-        (λ other. h.lanes k k_low
+          (λ other. h.lanes k k_low
           ∙ ap (λ rows. record { capacity = (slice_index_or fs k no_figures).capacity; rows = rows; lost = (slice_index_or fs k no_figures).lost }) (sym (cut_else number upto k h.queued other)));
     }
 
@@ -171,10 +168,10 @@ noted_in db now s fs number lost raised h nine low notes =
       up_to_last = h.up_to_last;
       nine = length-set fs number new ∙ h.nine;
       lanes = λ k k_low. at_lane s number k new_lane (λ lane. lane ≡ lane_of h.queued all k) nine low
-        (λ same. subst (λ (n : ℕ). new_lane ≡ lane_of h.queued all n) (sym same)
+          (λ same. subst (λ (n : ℕ). new_lane ≡ lane_of h.queued all n) (sym same)
           (ap (λ (lane : LaneState). record lane { lost = lost }) (h.lanes number low)
           ∙ ap (λ (f : Figures). record { capacity = f.capacity; rows = in_lane number h.queued; lost = f.lost }) (sym (get_or-set_same fs number new no_figures (omega (arith, h.nine))))))
-        (λ other. h.lanes k k_low
+          (λ other. h.lanes k k_low
           ∙ ap (λ (f : Figures). record { capacity = f.capacity; rows = in_lane k h.queued; lost = f.lost }) (sym (get_or-set_other fs number k new no_figures other)));
     }
 

@@ -1,12 +1,10 @@
 -- What a DELETE takes out of a queue's table.
 use Rattle.std.proofs.lemmas.Simd.{map-map}
-use Rattle.std.proofs.Common.{◌≡◌, ◌≢◌, ℕ, ℤ, pos, negsuc, List, [], ◌∷◌, ◌++◌, map, filter, codes, Bool, true, false, not, cond, None, Some, Ok, Result, Option, suc, refl, sym, ap, ap₂, subst, ◌∙◌, ◌&&◌, nat_le, ◌==◌, arith, int_cmp}
-use Rattle.std.specs.List.{list_all, list_any, AllByRecursion}
+use Rattle.std.proofs.Common.{◌≡◌, ◌≢◌, ℕ, pos, negsuc, List, [], ◌∷◌, ◌++◌, map, filter, codes, Bool, true, false, not, cond, None, Ok, Option, refl, sym, ap, ap₂, subst, ◌∙◌, ◌&&◌, nat_le, ◌==◌}
+use Rattle.std.specs.List.{list_all, AllByRecursion}
 use Rattle.std.specs.List.Sorted.{IsPermutation}
 use Rattle.std.specs.Prelude.{flat_map}
-use Rattle.std.proofs.lemmas.Int.{ints}
 use Rattle.sqlite_tied.specs.Compute.{everything}
-use Rattle.sqlite_value.proofs.OrderLemmas.{value_cmp-Int}
 use Rattle.sqlite_sql.specs.declared.ops.BinaryOp.TheVariants.{Compare}
 use Rattle.sqlite_sql.specs.declared.ops.CompareOp.TheVariants.{Eq, Le}
 use Rattle.sqlite_sql.specs.declared.ops.UnaryOp.TheVariants.{ToNumeric}
@@ -28,7 +26,7 @@ use Rattle.sqlite.specs.Command.TheVariants.{Delete}
 use Rattle.sqlite.specs.Listing.{understood}
 use Rattle.sqlite.specs.Given.{IsPlain}
 use Rattle.sqlite.specs.Rowids.TheVariants.{Given}
-use Rattle.sqlite.specs.Rows.{Task, Written, Deletes}
+use Rattle.sqlite.specs.Rows.{Written, Deletes}
 use Rattle.sqlite.specs.State.{State, Executes, mode_of}
 use Rattle.sqlite.proofs.Callers.{command_of, statement_of, runs_as, one_step}
 use Rattle.sqlite_rules.specs.Calls.{ids_of}
@@ -138,7 +136,7 @@ takes f q l limit number upto xs db a is rise h =
     let all = subst (AllByRecursion HasInt) (sym is) (have_int xs) in
     record {
       table = ap (λ (w : Written). w.trees 1) out ∙ step.rows ∙ ap (λ rows. without_all (db 1) (ids_of rows)) found.2
-      ∙ deleted (is_taken_by params) (db 1) found.0 table all found.1 ∙ ap (filter (λ r. not (is_taken_by params r))) is ∙ left number upto xs;
+          ∙ deleted (is_taken_by params) (db 1) found.0 table all found.1 ∙ ap (filter (λ r. not (is_taken_by params r))) is ∙ left number upto xs;
       others = λ t not_1. ap (λ (w : Written). w.trees t) out ∙ step.others t not_1 tt;
     }
 

@@ -1,8 +1,7 @@
 -- What the statements of a queue make of its tables.
-use Rattle.std.proofs.Common.{◌≡◌, ◌≢◌, ℕ, ◌+◌, ◌≤◌, ℤ, pos, List, [], ◌∷◌, ◌++◌, map, codes, Bool, true, false, Option, Some, None, Ok, Result, refl, sym, ap, subst, subst₂, ◌∙◌}
+use Rattle.std.proofs.Common.{◌≡◌, ℕ, ◌+◌, ◌≤◌, pos, List, [], ◌∷◌, codes, Option, Some, None, Ok, refl, sym, ap, subst}
 use Rattle.sqlite_tied.specs.Compute.{everything}
 use Rattle.sqlite_schema.specs.declared.schema.Keys.TheVariants.{Enforced}
-use Rattle.sqlite.specs.declared.types.Value.{Value}
 use Rattle.sqlite.specs.declared.types.Value.TheVariants.{Null, Int}
 use Rattle.sqlite.specs.Command.TheVariants.{Insert}
 use Rattle.sqlite.specs.Source.TheVariants.{Values}
@@ -11,16 +10,16 @@ use Rattle.sqlite.specs.Order.{Row}
 use Rattle.sqlite.specs.Tree.{Trees, put_row}
 use Rattle.sqlite.specs.Edit.{Edit, taken_by}
 use Rattle.sqlite.specs.Effect.{Database}
-use Rattle.sqlite.specs.Rows.{Written, Inserts, Sourced, stamped, sequence as counters_of}
+use Rattle.sqlite.specs.Rows.{Sourced, stamped, sequence as counters_of}
 use Rattle.sqlite.specs.Cast.{cast_row}
 use Rattle.sqlite_rules.specs.Action.{works}
 use Rattle.sqlite.specs.Listing.{understood}
 use Rattle.sqlite.specs.Given.{IsPlain}
-use Rattle.sqlite.specs.State.{State, Executes, ExecutesInside, mode_of}
+use Rattle.sqlite.specs.State.{State, Executes, mode_of}
 use Rattle.sqlite.proofs.Callers.{command_of, statement_of, runs_as}
 use Rattle.dnp_store.specs.Tables.{sequence, or_null, IsCounted}
-use Rattle.dnp_store.specs.QueueTables.{queue_schema, queue_with, queue_columns, lanes_with, Queued, queued_cells, queued_row}
-use Rattle.dnp_store.proofs.Statements.{written, same_value}
+use Rattle.dnp_store.specs.QueueTables.{queue_schema, queue_with, queue_columns, lanes_with, Queued, queued_cells}
+use Rattle.dnp_store.proofs.Statements.{written}
 use Rattle.dnp_store.proofs.Counting as counting
 use Rattle.dnp_store.proofs.Counting.{cast_int, cast_null, PutsAt}
 

@@ -1,6 +1,6 @@
 -- What an UPDATE makes of a queue's lanes.
-use Rattle.std.proofs.Common.{◌≡◌, ◌≢◌, ℕ, zero, suc, ◌+◌, ◌-◌, ◌<◌, ◌≤◌, ℤ, pos, negsuc, List, [], ◌∷◌, ◌++◌, map, filter, codes, length, set, get_or, Bool, true, false, not, cond, None, Some, Ok, Result, Option, refl, sym, ap, ap₂, subst, ◌∙◌, ◌&&◌, ◌==◌, arith, int_cmp}
-use Rattle.std.specs.List.{list_all, list_any, AllByRecursion}
+use Rattle.std.proofs.Common.{◌≡◌, ◌≢◌, ℕ, zero, suc, ◌+◌, ◌<◌, pos, negsuc, List, [], ◌∷◌, map, filter, codes, length, set, Bool, false, None, Ok, Option, refl, sym, ap, subst, ◌∙◌, ◌==◌, arith, int_cmp}
+use Rattle.std.specs.List.{list_all}
 use Rattle.sqlite_tied.specs.Compute.{everything}
 use Rattle.sqlite_sql.specs.declared.ops.BinaryOp.TheVariants.{Compare}
 use Rattle.sqlite_sql.specs.declared.ops.CompareOp.TheVariants.{Eq}
@@ -12,8 +12,8 @@ use Rattle.sqlite.specs.Command.TheVariants.{Update}
 use Rattle.sqlite.specs.Listing.{understood}
 use Rattle.sqlite.specs.Given.{IsPlain}
 use Rattle.sqlite.proofs.Callers.{command_of, statement_of, runs_as, one_step}
-use Rattle.std.proofs.Common.{Greater, inl, inr}
-use Rattle.std.specs.Prelude.{flat_map, slice_index_or, if◌then◌else◌}
+use Rattle.std.proofs.Common.{Greater}
+use Rattle.std.specs.Prelude.{slice_index_or, if◌then◌else◌}
 use Rattle.std.specs.List.Sorted.{IsPermutation}
 use Rattle.std.proofs.lemmas.Simd.{map-map}
 use Rattle.std.proofs.lemmas.Int.{ints}
@@ -168,8 +168,8 @@ notes f q l limit number lost raised fs db a is low h =
     let step = one_step (queue_schema f q l) Enforced db edited_to.0 (edit queried.0) (quiet f q l db (edit queried.0)) edited_to.1 in
     record {
       table = ap (λ (w : Written). w.trees 3) out ∙ step.rows ∙ ap (λ rs. put_all (Rattle.sqlite.specs.Edit.without_all (db 3) (edit rs).gone) (edit rs).news) rows
-      ∙ ap (λ r. put_row r (without_rowid (pos number) (db 3))) (casts l number new) ∙ ap (λ rs. put_row (cells_row number new) (without_rowid (pos number) rs)) is
-      ∙ replaced number number 0 new fs (omega arith) low;
+          ∙ ap (λ r. put_row r (without_rowid (pos number) (db 3))) (casts l number new) ∙ ap (λ rs. put_row (cells_row number new) (without_rowid (pos number) rs)) is
+          ∙ replaced number number 0 new fs (omega arith) low;
       others = λ t not_3. ap (λ (w : Written). w.trees t) out ∙ step.others t not_3 tt;
     }
 

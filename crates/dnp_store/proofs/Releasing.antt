@@ -1,7 +1,7 @@
 -- A release, lane by lane.
-use Rattle.std.proofs.Common.{◌≡◌, ◌≢◌, inl, inr, ℕ, zero, suc, ◌+◌, ◌-◌, ◌<◌, ◌≤◌, ◌||◌, ◌&&◌, not, nat_lt, min, Bool, true, false, cond, List, [], ◌∷◌, length, set, get_or, filter, refl, sym, ap, ap₂, subst, ◌∙◌, arith, length-set}
+use Rattle.std.proofs.Common.{◌≡◌, ◌≢◌, inl, inr, ℕ, zero, suc, ◌<◌, ◌≤◌, ◌||◌, ◌&&◌, not, nat_lt, min, Bool, true, false, cond, List, [], ◌∷◌, length, set, get_or, filter, refl, sym, ap, ap₂, subst, ◌∙◌, arith}
 use Rattle.std.specs.Prelude.{slice_index_or}
-use Rattle.std.specs.List.{AllByRecursion, list_any}
+use Rattle.std.specs.List.{AllByRecursion}
 use Rattle.std.proofs.lemmas.Bool.{cases_eq, cases_lt}
 use Rattle.std.proofs.lemmas.List.{get_or-set_same, get_or-set_other}
 use Rattle.std.proofs.Math.ListN.{get_or-map}
@@ -10,7 +10,7 @@ use Rattle.sqlite.specs.Effect.{Database}
 use Rattle.dnp_objects.specs.declared.limits.TheConstants.{LANES, MAX_ID}
 use Rattle.dnp_eventbuf.specs.declared.numbered.Numbered.{Numbered}
 use Rattle.dnp_eventbuf.specs.Sound.{IsSound}
-use Rattle.dnp_eventbuf.specs.Stock.{LaneState, Stock, lane_at, no_lane, above, lanes_above, emptied, without_all}
+use Rattle.dnp_eventbuf.specs.Stock.{LaneState, Stock, lane_at, no_lane, above, emptied, without_all}
 use Rattle.dnp_eventbuf.proofs.Soundness.{get_or-lanes_above, length-lanes_above}
 use Rattle.dnp_store.specs.QueueTables.{Figures, no_figures, HoldsQueue, IsQueue, is_raised}
 use Rattle.dnp_store.specs.Steps.{mixed, cut, counted, noted, left, released}
@@ -74,7 +74,7 @@ note_step db s fs number lost nine low is h =
     let new : LaneState = record (lane_at s number) { lost = lost } in
     same_queue db (counted s number lost) s fs h (λ k k_low. elim (cases_eq k number) [
       | inl same ↦ subst (λ (m : ℕ). lane_at s m ≡ lane_at (counted s number lost) m) (sym same)
-      (sym (get_or-set_same s.lanes number new no_lane (omega (arith, nine)) ∙ ap (λ (n : ℕ). record (lane_at s number) { lost = n }) is))
+          (sym (get_or-set_same s.lanes number new no_lane (omega (arith, nine)) ∙ ap (λ (n : ℕ). record (lane_at s number) { lost = n }) is))
       | inr other ↦ sym (get_or-set_other s.lanes number k new no_lane other)
     ]) refl
 
@@ -129,7 +129,7 @@ all_left db s upto sound nine all h =
     let ids = weaker s.last_id MAX_ID (lane_at s k).rows sound.last_id_at_most (recursion_from_All (λ (x : Numbered). x.id ≤ s.last_id) (lane_at s k).rows lane.up_to_last) in
     get_or-map emptied s.lanes k no_lane
     ∙ sym (get_or-lanes_above s.lanes upto k (omega (arith, sound.nine)) (omega (arith, sound.nine)) ∙ ap (λ (n : ℕ). above n (lane_at s k)) (all k low)
-      ∙ ap (λ (rows : List Numbered). record { capacity = (lane_at s k).capacity; rows = rows; lost = (lane_at s k).lost }) (none_above MAX_ID (lane_at s k).rows ids)) in
+    ∙ ap (λ (rows : List Numbered). record { capacity = (lane_at s k).capacity; rows = rows; lost = (lane_at s k).lost }) (none_above MAX_ID (lane_at s k).rows ids)) in
     as_queue db (without_all s) h.holds.figures (same_queue db (released s upto s.overflow) (without_all s) h.holds.figures (of_queue db (released s upto s.overflow) h) lanes refl)
     (sym (not_both s.overflow) ∙ h.holds.overflow)
 

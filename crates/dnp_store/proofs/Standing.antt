@@ -1,9 +1,8 @@
 -- What stays where a call failed, and what a crash leaves.
-use Rattle.std.proofs.Common.{rules, [], inl, inr, IsTrue, ◌≡◌, ◌⊎◌, List, ℕ, ap, ◌∙◌, subst, sym, false, Ok, Err, Result}
+use Rattle.std.proofs.Common.{inl, inr, IsTrue, ◌≡◌, ◌⊎◌, List, ℕ, subst, sym, Ok, Err, Result}
 use Rattle.std.specs.Prelude.{OnOk}
 use Rattle.sqlite.specs.Order.{Row}
 use Rattle.sqlite.specs.Tree.{Trees}
-use Rattle.sqlite.specs.Effect.{Database}
 use Rattle.sqlite.specs.declared.error.Error.{Error}
 use Rattle.sqlite.specs.State.{State, HasCleanDisk, IsNotRun, Survives}
 use Rattle.sqlite.proofs.InsideLemmas.{unchanged_keeps}
@@ -31,6 +30,7 @@ either_of old mid new stock next clean early settled stands one two db may = go 
     left : old.may_leave db ⊎ (Stands old stock → HoldsStock db next) → HoldsStock db stock ⊎ HoldsStock db next
     left (inl before) = inl (leaves_last old stock settled stands db before)
     left (inr after) = inr (after stands)
+
     go : mid.may_leave db ⊎ ⊥ → HoldsStock db stock ⊎ HoldsStock db next
     go (inl may_mid) = left (one.crash early db may_mid)
     go (inr none) = absurd none

@@ -1,5 +1,5 @@
 -- What the tests of a statement say of whole numbers.
-use Rattle.std.proofs.Common.{◌≡◌, ◌≢◌, ℕ, ℤ, pos, Bool, true, false, not, Some, refl, ap, ◌∙◌, nat_le, nat_lt, ◌==◌, arith, int_cmp}
+use Rattle.std.proofs.Common.{◌≡◌, ◌≢◌, ℕ, ℤ, pos, Bool, true, false, Some, refl, ap, ◌∙◌, nat_le, nat_lt, ◌==◌, arith, int_cmp}
 use Rattle.std.proofs.lemmas.Int.{ints}
 use Rattle.std.specs.Ordering.{is_eq, is_gt, is_le}
 use Rattle.sqlite_value.proofs.OrderLemmas.{value_cmp-Int}

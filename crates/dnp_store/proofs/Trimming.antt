@@ -1,27 +1,27 @@
 -- A lane that drops its oldest rows.
-use Rattle.std.proofs.Common.{◌≡◌, ◌≢◌, inl, inr, ℕ, zero, suc, ◌+◌, ◌-◌, ◌<◌, ◌≤◌, ◌^◌, ◌==◌, ◌||◌, nat_lt, Bool, true, false, cond, Option, Some, None, List, [], ◌∷◌, ◌++◌, length, drop, take, set, get_or, map, filter, refl, sym, ap, ap₂, subst, ◌∙◌, arith, append-nil, length-append, length-set, codes}
-use Rattle.std.specs.Prelude.{slice_get, slice_index_or, option_map}
-use Rattle.std.specs.List.{AllByRecursion, list_any}
+use Rattle.std.proofs.Common.{◌≡◌, ◌≢◌, inl, inr, ℕ, zero, suc, ◌+◌, ◌-◌, ◌<◌, ◌≤◌, ◌^◌, ◌==◌, ◌||◌, nat_lt, Bool, true, false, cond, Some, List, [], ◌∷◌, ◌++◌, length, drop, set, map, filter, refl, sym, ap, ap₂, subst, ◌∙◌, arith, length-append, length-set}
+use Rattle.std.specs.Prelude.{slice_get, option_map}
+use Rattle.std.specs.List.{AllByRecursion}
 use Rattle.std.proofs.lemmas.Bool.{cases_eq, cases_lt}
 use Rattle.std.proofs.lemmas.Bool.Decides.{Decides-ltb}
 use Rattle.std.proofs.lemmas.List.Elements.{recursion_from_All}
-use Rattle.std.proofs.lemmas.Grind.{common_steps, elements}
+use Rattle.std.proofs.lemmas.Grind.{elements}
 use Rattle.std.proofs.lemmas.List.{get_or-set_same, get_or-set_other}
-use Rattle.sqlite.specs.Tree.{IsAscending, Trees}
+use Rattle.sqlite.specs.Tree.{IsAscending}
 use Rattle.sqlite.specs.Effect.{Database}
 use Rattle.dnp_objects.specs.declared.limits.TheConstants.{LANES, MAX_ID}
 use Rattle.dnp_objects.specs.Lanes.{lane_number}
 use Rattle.dnp_objects.specs.declared.lane.LaneRow.{LaneRow}
 use Rattle.dnp_eventbuf.specs.declared.numbered.Numbered.{Numbered}
-use Rattle.dnp_eventbuf.specs.Latest.{numbered_for, latest}
+use Rattle.dnp_eventbuf.specs.Latest.{numbered_for}
 use Rattle.dnp_eventbuf.specs.Sound.{IsSound}
 use Rattle.dnp_eventbuf.specs.Stock.{LaneState, Stock, lane_at, no_lane, with_row, with_rows, above}
 use Rattle.dnp_eventbuf.proofs.LatestRows.{append_keeps_latest}
 use Rattle.dnp_eventbuf.proofs.LaneNumbers.{lane_number-low}
-use Rattle.dnp_store.specs.QueueTables.{Queued, event_of, in_lane, lane_of, Figures, no_figures, HoldsLanes, HoldsQueue, is_raised, IsQueue}
-use Rattle.dnp_store.specs.Steps.{all_added, mixed, over, any_over, cut, counted, noted, with_lane, IsTrimmed}
+use Rattle.dnp_store.specs.QueueTables.{Queued, event_of, in_lane, Figures, HoldsQueue, is_raised, IsQueue}
+use Rattle.dnp_store.specs.Steps.{all_added, mixed, over, any_over, cut, counted, noted, IsTrimmed}
 use Rattle.dnp_store.proofs.Appending.{behind, lane_added, nine_added, last_added, overflow_is}
-use Rattle.dnp_store.proofs.Holding.{same_stock, at_lane}
+use Rattle.dnp_store.proofs.Holding.{same_stock}
 
 -- ---- rows above an id
 
@@ -212,9 +212,12 @@ id_low s rows number place id sound low few at =
 
 begun : (db : Database) (s : Stock) (rows : List LaneRow) (fs : List Figures) → length s.lanes ≡ LANES → length (with_rows s rows).lanes ≡ LANES → (with_rows s rows).last_id ≡ (all_added s rows).last_id
     → s.overflow ≡ is_raised fs → HoldsQueue db (all_added s rows) fs → IsTrimmed db s rows s.overflow 0
-begun db s rows fs nine_s nine_b last is h =
-    (fs, same_queue db (all_added s rows) (mixed 0 (all_added s rows) (with_rows s rows)) fs h
-      (λ k low. mixed_high 0 k (all_added s rows) (with_rows s rows) (nine_added s rows ∙ nine_s) nine_b (omega arith) low) last, sym (or_false s.overflow ∙ is))
+begun db s rows fs nine_s nine_b last is h = (
+  fs,
+  same_queue db (all_added s rows) (mixed 0 (all_added s rows) (with_rows s rows)) fs h
+      (λ k low. mixed_high 0 k (all_added s rows) (with_rows s rows) (nine_added s rows ∙ nine_s) nine_b (omega arith) low) last,
+  sym (or_false s.overflow ∙ is),
+)
 
 pub last_rows : (s : Stock) (xs : List LaneRow) → (with_rows s xs).last_id ≡ s.last_id + length xs
 last_rows s [] = omega arith

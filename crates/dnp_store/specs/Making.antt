@@ -48,4 +48,3 @@ pub record HasLanes (db : Database) (fs : List Figures) : Type 0 where
   pub numbered : db.trees 0 ≡ number_row ∷ []
   pub empty : (db.trees 1 ≡ []) × (db.trees 2 ≡ [])
   pub filled : db.trees 3 ≡ figures_rows 0 fs
-

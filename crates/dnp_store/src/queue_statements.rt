@@ -65,7 +65,10 @@ pub(crate) fn take<S: Alter>(
 {
     let lane = number as u32;
     let upto = upto as i64;
-    tx.execute("DELETE FROM queue WHERE lane = ?1 AND id <= ?2", params![lane, upto])?;
+    tx.execute(
+        "DELETE FROM queue WHERE lane = ?1 AND id <= ?2",
+        params![lane, upto],
+    )?;
     Ok(())
 }
 

@@ -74,11 +74,7 @@ fn put_number<S: Alter>(tx: &mut Transaction<'_, S>) -> Result<(), Error>
 }
 
 /// Puts an empty lane into `lanes`.
-fn put_lane<S: Alter>(
-    tx: &mut Transaction<'_, S>,
-    number: u32,
-    capacity: u32,
-) -> Result<(), Error>
+fn put_lane<S: Alter>(tx: &mut Transaction<'_, S>, number: u32, capacity: u32) -> Result<(), Error>
     requires inside { HasCleanDisk (state S.Store tx.old.conn.now) → IsTrue (state S.Store tx.old.conn.now).in_transaction }
     ensures same_reference { tx.new.conn.ghost_name ≡ tx.old.conn.ghost_name }
     ensures inside { HasCleanDisk (state S.Store tx.new.conn.now) → OnOk result (IsTrue (state S.Store tx.new.conn.now).in_transaction) }
@@ -94,10 +90,7 @@ fn put_lane<S: Alter>(
 }
 
 /// Puts nine empty lanes into `lanes`.
-fn put_lanes<S: Alter>(
-    tx: &mut Transaction<'_, S>,
-    capacities: &[u32; LANES],
-) -> Result<(), Error>
+fn put_lanes<S: Alter>(tx: &mut Transaction<'_, S>, capacities: &[u32; LANES]) -> Result<(), Error>
     requires inside { HasCleanDisk (state S.Store tx.old.conn.now) → IsTrue (state S.Store tx.old.conn.now).in_transaction }
     ensures same_reference { tx.new.conn.ghost_name ≡ tx.old.conn.ghost_name }
     ensures inside { HasCleanDisk (state S.Store tx.new.conn.now) → OnOk result (IsTrue (state S.Store tx.new.conn.now).in_transaction) }
@@ -112,10 +105,7 @@ fn put_lanes<S: Alter>(
 }
 
 /// Makes the tables and what stands in them at first.
-fn make_all<S: Alter>(
-    tx: &mut Transaction<'_, S>,
-    capacities: &[u32; LANES],
-) -> Result<(), Error>
+fn make_all<S: Alter>(tx: &mut Transaction<'_, S>, capacities: &[u32; LANES]) -> Result<(), Error>
     requires inside { HasCleanDisk (state S.Store tx.old.conn.now) → IsTrue (state S.Store tx.old.conn.now).in_transaction }
     ensures same_reference { tx.new.conn.ghost_name ≡ tx.old.conn.ghost_name }
     ensures inside { HasCleanDisk (state S.Store tx.new.conn.now) → OnOk result (IsTrue (state S.Store tx.new.conn.now).in_transaction) }

@@ -1,4 +1,4 @@
-use Rattle.std.proofs.Common.{rules, [], IsTrue}
+use Rattle.std.proofs.Common.{[]}
 use Rattle.sqlite.specs.Held.{state}
 use Rattle.dnp_store.proofs.Standing.{keeps_open}
 use Rattle.dnp_store.proofs.fault.probe.Goals as goal

@@ -14,5 +14,5 @@ invariant-loop-number g l =
     let now = state g.S.Store l.tx.conn.now in
     (l.tx.conn.ghost_name ≡ l.fn.tx.conn.ghost_name) × Survives old now (λ _. ⊥)
     × (HasCleanDisk now → IsTrue now.in_transaction × KeepsCommit old now
-      × ((s : Stock) (figures : List Figures) → length s.lanes ≡ LANES → ((k : ℕ) → k < LANES → (lane_at s k).lost ≡ (lane_at l.lanes k).lost) → HoldsQueue old.now s figures
-        → (lowered : List Figures) × HoldsQueue now.now s lowered × ((k : ℕ) → k < l.number → (slice_index_or lowered k no_figures).raised ≡ false)))
+    × ((s : Stock) (figures : List Figures) → length s.lanes ≡ LANES → ((k : ℕ) → k < LANES → (lane_at s k).lost ≡ (lane_at l.lanes k).lost) → HoldsQueue old.now s figures
+    → (lowered : List Figures) × HoldsQueue now.now s lowered × ((k : ℕ) → k < l.number → (slice_index_or lowered k no_figures).raised ≡ false)))

@@ -14,4 +14,4 @@ invariant-loop-number g l =
     let now = state g.S.Store l.tx.conn.now in
     (l.tx.conn.ghost_name ≡ l.fn.tx.conn.ghost_name) × Survives old now (λ _. ⊥)
     × (HasCleanDisk now → IsTrue now.in_transaction × KeepsCommit old now
-      × ((s : Stock) (figures : List Figures) → IsSound s → HoldsQueue old.now s figures → HoldsQueue now.now (mixed l.number s (left s l.upto)) figures))
+    × ((s : Stock) (figures : List Figures) → IsSound s → HoldsQueue old.now s figures → HoldsQueue now.now (mixed l.number s (left s l.upto)) figures))

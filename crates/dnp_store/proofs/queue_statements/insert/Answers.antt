@@ -1,4 +1,4 @@
-use Rattle.std.proofs.Common.{rules, ◌≡◌, pos, ap, ap₂, [], ◌∷◌, ◌∙◌, IsTrue, Ok, arith, to_z, of_z, subst, sym, ◌<◌}
+use Rattle.std.proofs.Common.{rules, pos, ap, ◌∙◌, Ok, arith, subst, ◌<◌}
 use Rattle.std.proofs.lemmas.Int.{to_z-of_z}
 use mir.Val.{SFits}
 use mir.Syntax.{w64}

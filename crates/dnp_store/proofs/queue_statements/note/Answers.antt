@@ -1,4 +1,4 @@
-use Rattle.std.proofs.Common.{rules, ◌≡◌, pos, ap, ap₂, [], ◌∷◌, ◌∙◌, IsTrue, Ok, arith, to_z, of_z, subst}
+use Rattle.std.proofs.Common.{ap, ◌∙◌, Ok, arith, subst}
 use Rattle.std.proofs.lemmas.Int.{to_z_pos}
 use mir.Syntax.{w64}
 use Rattle.sqlite.specs.declared.types.Value.TheVariants.{Int}

@@ -1,11 +1,10 @@
-use Rattle.std.proofs.Common.{rules, ◌≡◌, pos, ap, ap₂, [], ◌∷◌, ◌∙◌, IsTrue, Ok, arith, to_z, of_z, subst}
+use Rattle.std.proofs.Common.{ap, ◌∙◌, Ok, arith, subst}
 use Rattle.std.proofs.lemmas.Int.{to_z_pos}
 use mir.Syntax.{w64}
 use Rattle.sqlite.specs.declared.types.Value.TheVariants.{Int}
-use Rattle.sqlite.specs.Values.{bound}
 use Rattle.sqlite.specs.Held.{state}
 use Rattle.sqlite.specs.State.{HasCleanDisk, Executes}
-use Rattle.dnp_store.proofs.QueueDeletes.{delete_text, delete_params}
+use Rattle.dnp_store.proofs.QueueDeletes.{delete_text}
 use Rattle.dnp_store.proofs.QueueSteps.{take_holds, delete_bound}
 use Rattle.dnp_store.proofs.queue_statements.take.Goals as goal
 

@@ -1,4 +1,4 @@
-use Rattle.std.proofs.Common.{◌≡◌, [], ◌∷◌, pos, Ok, arith, subst, ap₂}
+use Rattle.std.proofs.Common.{[], ◌∷◌, Ok, arith, subst, ap₂}
 use Rattle.sqlite.specs.declared.types.Value.{Value}
 use Rattle.sqlite.specs.Values.{bound_value}
 use Rattle.sqlite.specs.State.{HasCleanDisk, Executes}

@@ -1,4 +1,4 @@
-use Rattle.std.proofs.Common.{◌≡◌, true, take, length, List, IsTrue}
+use Rattle.std.proofs.Common.{◌≡◌, take, length, List, IsTrue}
 use Rattle.sqlite.specs.State.{HasCleanDisk, Survives, KeepsCommit}
 use Rattle.sqlite.specs.Held.{state}
 use Rattle.dnp_objects.specs.declared.limits.TheConstants.{LANES}
@@ -14,4 +14,4 @@ invariant-loop-x g l =
     let now = state g.S.Store l.tx.conn.now in
     (l.tx.conn.ghost_name ≡ l.fn.tx.conn.ghost_name) × Survives old now (λ _. ⊥)
     × (HasCleanDisk now → IsTrue now.in_transaction × KeepsCommit old now
-      × ((s : Stock) (figures : List Figures) → length s.lanes ≡ LANES → HoldsQueue old.now s figures → HoldsQueue now.now (all_added s (take l.x-index l.rows)) figures))
+    × ((s : Stock) (figures : List Figures) → length s.lanes ≡ LANES → HoldsQueue old.now s figures → HoldsQueue now.now (all_added s (take l.x-index l.rows)) figures))

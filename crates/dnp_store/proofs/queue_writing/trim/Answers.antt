@@ -1,7 +1,6 @@
-use Rattle.std.proofs.Common.{rules, ◌≡◌, ◌+◌, ◌-◌, ◌<◌, ◌≤◌, ◌^◌, length, ◌++◌, slice_get, option_map, length-set, Some, arith, sym, ap, subst, ◌∙◌, add-one}
+use Rattle.std.proofs.Common.{rules, ◌≡◌, ◌+◌, ◌-◌, ◌<◌, ◌++◌, slice_get, option_map, length-set, Some, arith, sym, ap, subst, ◌∙◌, add-one}
 use Rattle.sqlite.specs.State.{HasCleanDisk}
 use Rattle.sqlite.specs.Held.{state}
-use Rattle.dnp_objects.specs.declared.limits.TheConstants.{LANES, MAX_ID}
 use Rattle.dnp_eventbuf.specs.Stock.{lane_at, above}
 use Rattle.dnp_eventbuf.specs.declared.numbered.Numbered.{Numbered}
 use Rattle.dnp_eventbuf.specs.Latest.{numbered_for}
@@ -50,4 +49,4 @@ returns-clause-trimmed g c clean raised h =
     let sum : lost ≡ (lane_at s number).lost + over s rows number = omega (arith, c.lost_in.ensures, c.drops_in-over.ensures) in
     subst (λ n. IsTrimmed new.now s rows raised n) (sym (add-one number))
     (trimmed_some s rows number c.requires.sound c.requires.number c.requires.after.nine old.now new.now raised upto lost some there sum
-      (λ t fs nine held. c.in_ok-note.ensures.noted clean (cut t number upto) fs (length-set t.lanes number (above upto (lane_at t number)) ∙ nine) (c.in_ok-take.ensures.cut early t fs nine held)) h)
+    (λ t fs nine held. c.in_ok-note.ensures.noted clean (cut t number upto) fs (length-set t.lanes number (above upto (lane_at t number)) ∙ nine) (c.in_ok-take.ensures.cut early t fs nine held)) h)

@@ -1,4 +1,4 @@
-use Rattle.std.proofs.Common.{◌≡◌, true, Bool, IsTrue}
+use Rattle.std.proofs.Common.{◌≡◌, Bool, IsTrue}
 use Rattle.sqlite.specs.State.{HasCleanDisk, Survives, KeepsCommit}
 use Rattle.sqlite.specs.Held.{state}
 use Rattle.dnp_store.specs.Steps.{IsTrimmed}
