@@ -5,6 +5,7 @@ ghost use Rattle.sqlite.specs.Held.{state};
 ghost use Rattle.sqlite.specs.State.{HasCleanDisk, Survives};
 
 use dnp_objects::StoreFault;
+use sqlite_resolve::CompileError;
 use sqlite::{Alter, Connection, Error, ErrorCode};
 use std::alloc::AllocError;
 
@@ -33,9 +34,26 @@ fn serves<S: Alter>(conn: &mut Connection<S>) -> bool
     probe(conn).is_ok()
 }
 
+/// Whether memory ran out, as a statement was read or as it ran.
+fn is_memory(error: &Error) -> bool {
+    matches!(
+        error,
+        Error::SqliteFailure(ErrorCode::OutOfMemory)
+            | Error::SqlInputError(CompileError::OutOfMemory)
+    )
+}
+
+/// Whether a statement wanted a name that is taken.
+pub(crate) fn is_taken(error: &Error) -> bool {
+    matches!(
+        error,
+        Error::SqliteFailure(ErrorCode::NameTaken) | Error::SqlInputError(CompileError::Exists)
+    )
+}
+
 /// Whether a store is to answer Device for an error, and not Memory: memory ran out, and the connection
 /// still serves.
-pub(crate) fn is_lost<S: Alter>(conn: &mut Connection<S>, error: Error) -> bool
+pub(crate) fn is_lost<S: Alter>(conn: &mut Connection<S>, error: &Error) -> bool
     requires { conn.old.in_transaction ≡ false }
     ensures idle { conn.new.in_transaction ≡ false }
     ensures serves { HasCleanDisk (state S.Store conn.new) → result ≡ false → IsTrue (state S.Store conn.new).is_open }
@@ -43,9 +61,8 @@ pub(crate) fn is_lost<S: Alter>(conn: &mut Connection<S>, error: Error) -> bool
         → IsTrue (state S.Store conn.old).is_open × ((state S.Store conn.new).committed ≡ (state S.Store conn.old).committed) }
     ensures survives { Survives (state S.Store conn.old) (state S.Store conn.new) (λ _. ⊥) }
 {
-    let is_memory = error == Error::SqliteFailure(ErrorCode::OutOfMemory);
     let serves = serves(conn);
-    !is_memory || !serves
+    !is_memory(error) || !serves
 }
 
 /// Device where the store is lost, else Memory.

@@ -1,18 +1,19 @@
 //! Stores on databases: how they begin.
 
-ghost use Rattle.std.specs.Prelude.{◌≡◌, ◌≢◌, ◌≤◌, true, false, All, IsTrue, IfOk, IfErr};
+ghost use Rattle.std.specs.Prelude.{◌≡◌, ◌≢◌, ◌≤◌, true, false, not, All, IsTrue, IfOk, IfErr};
 ghost use Rattle.sqlite.specs.Held.{state};
 ghost use Rattle.sqlite.specs.State.{HasCleanDisk, Survives};
 ghost use Rattle.dnp_eventbuf.specs.Stock.{empty_stock};
+ghost use Rattle.dnp_store.specs.Kept.{Leaves};
 ghost use Rattle.dnp_store.specs.QueueTables.{HoldsStock};
 ghost use Rattle.dnp_store.specs.Tables.{no_schema};
 
-use crate::fault::is_lost;
+use crate::fault::{is_lost, is_taken};
 use crate::queue::Queue;
 use crate::queue_tables::write_tables;
 use dnp_eventbuf::{MAX_CAPACITY, PlainLanes};
 use dnp_objects::LANES;
-use sqlite::{Alter, Connection, Error, ErrorCode};
+use sqlite::{Alter, Connection};
 use std::alloc::Global;
 use thiserror::Error;
 
@@ -78,9 +79,8 @@ impl<S: Alter> Queue<S> {
         let owned = is_bare(&conn);
         let mut conn = conn;
         if let Err(error) = write_tables(&mut conn, &capacities) {
-            let is_taken = error == Error::SqliteFailure(ErrorCode::NameTaken);
-            let lost = is_lost(&mut conn, error);
-            return Err((open_fault(is_taken, lost), conn));
+            let lost = is_lost(&mut conn, &error);
+            return Err((open_fault(is_taken(&error), lost), conn));
         }
         Ok(Queue {
             conn,
@@ -88,6 +88,15 @@ impl<S: Alter> Queue<S> {
             stopped: false,
             owned,
         })
+    }
+
+    /// Whether the queue has not answered Device. If so, whatever a crash at this moment leaves holds the
+    /// lanes as they stand.
+    pub fn serves(&self) -> bool
+        ensures value { result ≡ not self.now.stopped }
+        ensures left { HasCleanDisk (state S.Store self.now.conn) → IsTrue result → IsTrue self.now.owned → Leaves (state S.Store self.now.conn) self.now.stock }
+    {
+        !self.stopped
     }
 
     /// The connection to the database, as it stands.

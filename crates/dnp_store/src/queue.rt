@@ -58,7 +58,7 @@ impl<S: Alter> Lanes for Queue<S> {
         let count = self.lanes.drops(rows).ok_or(StoreFault::Exhausted)?;
         let mut dropped = Vec::with_capacity(alloc, count).map_err(memory)?;
         if let Err(error) = write_append(&mut self.conn, &self.lanes, rows) {
-            let lost = is_lost(&mut self.conn, error);
+            let lost = is_lost(&mut self.conn, &error);
             self.stopped = lost;
             return Err(fault(lost));
         }
@@ -86,7 +86,7 @@ impl<S: Alter> Lanes for Queue<S> {
         let taken = self.lanes.rows_up_to(alloc, upto).map_err(memory)?;
         let lower = self.lanes.has_overflow() && !self.lanes.keeps_overflow(upto);
         if let Err(error) = write_release(&mut self.conn, &self.lanes, upto, lower) {
-            let lost = is_lost(&mut self.conn, error);
+            let lost = is_lost(&mut self.conn, &error);
             self.stopped = lost;
             return Err(fault(lost));
         }
@@ -101,7 +101,7 @@ impl<S: Alter> Lanes for Queue<S> {
         let taken = self.lanes.all_rows(alloc).map_err(memory)?;
         let lower = self.lanes.has_overflow();
         if let Err(error) = write_release(&mut self.conn, &self.lanes, &[MAX_ID; LANES], lower) {
-            let lost = is_lost(&mut self.conn, error);
+            let lost = is_lost(&mut self.conn, &error);
             self.stopped = lost;
             return Err(fault(lost));
         }
