@@ -1,0 +1,16 @@
+pub mod Statements
+pub mod Counting
+pub mod IdRows
+pub mod QueueStatements
+pub mod QueueDeletes
+pub mod QueueUpdates
+pub mod Holding
+pub mod QueueSteps
+pub mod Appending
+pub mod Trimming
+pub mod Standing
+pub mod Releasing
+pub mod Creating
+pub mod Filling
+pub mod Without
+pub mod Tests
