@@ -17,6 +17,16 @@ const TIMES: Times = Times {
     unsolicited: false,
 };
 
+/// What an outstation does beside answering READs.
+#[derive(Clone, Copy, PartialEq, Eq)]
+enum Setup {
+    Nothing,
+    /// It sends unsolicited responses.
+    Reports,
+    /// It has six outputs and three setpoints.
+    Operates,
+}
+
 /// One block of so many points of class 1, from index 0 on.
 fn block_of(alloc: Global, count: usize) -> Option<Vec<Block>> {
     let point = Point {
@@ -39,18 +49,20 @@ fn open(alloc: Global, station: &mut Station) -> Option<()> {
     Some(())
 }
 
-/// An open outstation with a block of so many points of each kind, lanes of 200 rows, six outputs and
-/// three setpoints, which may send unsolicited responses.
-fn station_of(alloc: Global, counts: [usize; 3], is_unsolicited: bool) -> Option<Station> {
+/// An open outstation with a block of so many points of each kind and lanes of 200 rows.
+fn station_of(alloc: Global, counts: [usize; 3], setup: Setup) -> Option<Station> {
     let binary = block_of(alloc, counts[0])?;
     let counter = block_of(alloc, counts[1])?;
     let analog = block_of(alloc, counts[2])?;
     let plan = PointPlan::new(binary, counter, analog).ok()?;
     let points = PointDb::new(alloc, plan).ok()?;
     let lanes = PlainLanes::new(alloc, [200; 9]).ok()?;
-    let outputs = PlainOutputs::new(alloc, 6, 3);
+    let outputs = match setup {
+        Setup::Operates => PlainOutputs::new(alloc, 6, 3),
+        Setup::Nothing | Setup::Reports => PlainOutputs::new(alloc, 0, 0),
+    };
     let mut times = TIMES;
-    times.unsolicited = is_unsolicited;
+    times.unsolicited = matches!(setup, Setup::Reports);
     let mut station = Outstation::new(points, lanes, outputs, times);
     open(alloc, &mut station)?;
     Some(station)
@@ -132,7 +144,7 @@ fn change(
 /// times, in one number; all ones where a call was refused.
 #[unsafe(no_mangle)]
 pub extern "C" fn dnp_bench_poll_events(alloc: Global, count: u64, events: u16) -> u64 {
-    let Some(mut station) = station_of(alloc, [0, 0, 1], false) else {
+    let Some(mut station) = station_of(alloc, [0, 0, 1], Setup::Nothing) else {
         return u64::MAX;
     };
     let mut actions = Actions::none(alloc);
@@ -157,7 +169,7 @@ pub extern "C" fn dnp_bench_poll_events(alloc: Global, count: u64, events: u16) 
 /// where a call was refused.
 #[unsafe(no_mangle)]
 pub extern "C" fn dnp_bench_poll_values(alloc: Global, count: u64) -> u64 {
-    let Some(mut station) = station_of(alloc, [400, 300, 300], false) else {
+    let Some(mut station) = station_of(alloc, [400, 300, 300], Setup::Nothing) else {
         return u64::MAX;
     };
     let mut actions = Actions::none(alloc);
@@ -201,7 +213,12 @@ fn report(
 /// call was refused.
 #[unsafe(no_mangle)]
 pub extern "C" fn dnp_bench_change(alloc: Global, count: u64, is_unsolicited: bool) -> u64 {
-    let Some(mut station) = station_of(alloc, [0, 0, 1], is_unsolicited) else {
+    let setup = if is_unsolicited {
+        Setup::Reports
+    } else {
+        Setup::Nothing
+    };
+    let Some(mut station) = station_of(alloc, [0, 0, 1], setup) else {
         return u64::MAX;
     };
     let mut actions = Actions::none(alloc);
@@ -240,7 +257,7 @@ fn operate(
 /// `count` pairs of a SELECT and its OPERATE, in one number; all ones where a call was refused.
 #[unsafe(no_mangle)]
 pub extern "C" fn dnp_bench_operate(alloc: Global, count: u64) -> u64 {
-    let Some(mut station) = station_of(alloc, [0, 0, 1], false) else {
+    let Some(mut station) = station_of(alloc, [0, 0, 1], Setup::Operates) else {
         return u64::MAX;
     };
     let mut actions = Actions::none(alloc);

@@ -144,7 +144,7 @@ fn did(actions: &Actions, does: Does<'_>) -> bool {
             sends(actions, first, second) && loses(actions, &[], &[])
         }
         Does::Answers(front, objects, _) => {
-            sends_long(actions, 4 + objects.len(), &front)
+            sends_long(actions, objects.len().saturating_add(4), &front)
                 && ends(actions, objects)
                 && loses(actions, &[], &[])
         }

@@ -17,4 +17,4 @@ returns-in-Ok-receive c =
     (state_of c.opened.new.self.core c.opened.new.self.lanes no_panel) (actions_of c.in-Ok.field-0) c.args.fragment.now
     (state_of c.receive.new.self.core c.receive.new.self.lanes no_panel) (actions_of c.in-Ok-receive.actions)
     plan_is c.in_ok-points.ensures.value c.new-station.ensures.core c.new-station.ensures.lanes c.in_ok-lanes.ensures
-    c.in-Ok.ensures.opened (c.in-Ok-receive.ensures.received (record {}))
+    (c.in-Ok.ensures.opened (record {})) (c.in-Ok-receive.ensures.received (record {}) (record {}))
