@@ -2,7 +2,6 @@
 //! numbered lists of rows that wait to be reported, and that count what they drop.
 #![tactic(auto)]
 
-mod arriving;
 mod carried;
 mod journal;
 pub mod journal_laws;

@@ -1,16 +1,14 @@
 //! Lanes in memory.
 
-ghost use Rattle.std.specs.Prelude.{◌≡◌, ◌≢◌, ◌^◌, ◌<◌, ◌≤◌, ◌+◌, ◌-◌, slice_get, option_map, Bool, true, false, IfOk, IfErr, IfSome, IfNone, OnOk, OnErr, IsTrue, All, length, map, [], ◌++◌, vec_len, vec_capacity, ⊤};
+ghost use Rattle.std.specs.Prelude.{◌≡◌, ◌≢◌, ◌^◌, ◌<◌, ◌≤◌, ◌+◌, Bool, true, false, IfOk, IfErr, IfSome, IfNone, OnOk, OnErr, IsTrue, All, length, map, [], ◌++◌, vec_len, vec_capacity, ⊤};
 ghost use Rattle.std.specs.List.{list_any};
 ghost use Rattle.std.specs.Option.{option_to_list};
 ghost use Rattle.dnp_objects.specs.Lanes.{lane_number};
 ghost use Rattle.dnp_eventbuf.specs.Carried.{IsCarried};
-ghost use Rattle.dnp_eventbuf.specs.Latest.{numbered_for};
 ghost use Rattle.dnp_eventbuf.specs.Sound.{IsSound};
 ghost use Rattle.dnp_eventbuf.specs.Stock.{Stock, lane_at, is_full, dropped_from, empty_stock, with_row, with_rows, dropped_by, is_past, exhausts, offered, lanes_above, lanes_up_to, emptied, lane_rows, without, all_up_to, without_all, rows_in, last_of};
 ghost use Rattle.dnp_eventbuf.specs.Tallies.{tally_of};
 
-use crate::arriving::{count_for, id_for};
 use crate::lanes::Lanes;
 use crate::numbered::{Numbered, Upto};
 use crate::plain_lane::PlainLane;
@@ -71,62 +69,6 @@ impl PlainLanes {
         }
         let mut tallies = tallies(&self.lanes);
         drops(&mut tallies, rows)
-    }
-
-    /// How many rows the lane of this number would drop for these.
-    pub fn drops_in(&self, number: usize, rows: &[LaneRow]) -> usize
-        requires number { number < LANES }
-        requires few { length rows.now ≤ 2 ^ 62 }
-        ensures { result ≡ (length (lane_at self.now number).rows + length (numbered_for number self.now.last_id rows.now)) - (lane_at self.now number).capacity }
-    {
-        self.lanes[number].over(count_for(number, rows))
-    }
-
-    /// The id of the row at this place among those of the lane of this number and, behind them, these
-    /// that would come for it, if there are so many.
-    pub fn id_at(&self, number: usize, rows: &[LaneRow], place: usize) -> Option<u64>
-        requires number { number < LANES }
-        requires few { self.now.last_id + length rows.now ≤ 2 ^ 62 }
-        ensures { result ≡ option_map (λ x. x.id) (slice_get ((lane_at self.now number).rows ++ numbered_for number self.now.last_id rows.now) place) }
-    {
-        let lane = &self.lanes[number];
-        let len = lane.len() as usize;
-        if place < len {
-            lane.id_at(place)
-        } else {
-            id_for(number, self.last_id, rows, place - len)
-        }
-    }
-
-    /// How many rows the lane of this number has dropped.
-    pub fn lost_in(&self, number: usize) -> u64
-        requires { number < LANES }
-        ensures { result ≡ (lane_at self.now number).lost }
-    {
-        self.lanes[number].lost()
-    }
-
-    /// The last id used, of all lanes; 0 before the first.
-    pub fn last_id(&self) -> u64
-        ensures sound { IsSound self.now }
-        ensures value { result ≡ self.now.last_id }
-    {
-        prove!(self.last_id <= MAX_ID);
-        self.last_id
-    }
-
-    /// Whether a row was dropped, and some lane has been full since.
-    pub fn has_overflow(&self) -> bool
-        ensures { result ≡ self.now.overflow }
-    {
-        self.overflow
-    }
-
-    /// Whether the overflow stands after a release.
-    pub fn keeps_overflow(&self, upto: &Upto) -> bool
-        ensures { result ≡ (without self.now upto.now).overflow }
-    {
-        self.overflow && any_full_above(&self.lanes, upto)
     }
 
     /// Puts one row into its lane, under the next id.
@@ -220,18 +162,6 @@ fn any_full(lanes: &[PlainLane; LANES]) -> bool
     ensures { result ≡ list_any is_full lanes.now }
 {
     lanes.iter().any(|lane| lane.is_full())
-}
-
-/// Whether some lane is full without its rows with ids up to its number.
-fn any_full_above(lanes: &[PlainLane; LANES], upto: &Upto) -> bool
-    ensures { result ≡ list_any is_full (lanes_above lanes.now upto.now) }
-{
-    for k in 0..LANES {
-        if lanes[k].is_full_above(upto[k]) {
-            return true;
-        }
-    }
-    false
 }
 
 /// Adds the rows of each lane with ids up to its number.

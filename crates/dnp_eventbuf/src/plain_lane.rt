@@ -1,6 +1,6 @@
 //! One lane in memory.
 
-ghost use Rattle.std.specs.Prelude.{◌≡◌, ◌≢◌, ◌^◌, ◌+◌, ◌-◌, ◌<◌, ◌≤◌, ◌++◌, slice_get, option_map, IfOk, OnOk, OnErr, [], length, map, nat_le, nat_lt, vec_len, vec_capacity, filter, take};
+ghost use Rattle.std.specs.Prelude.{◌≡◌, ◌≢◌, ◌<◌, ◌≤◌, ◌++◌, IfOk, OnOk, OnErr, [], length, map, nat_le, nat_lt, vec_len, vec_capacity, filter, take};
 ghost use Rattle.std.specs.List.{list_any};
 ghost use Rattle.std.specs.Option.{option_to_list};
 ghost use Rattle.std.specs.VecDeque.{deque_len, deque_capacity};
@@ -149,37 +149,6 @@ impl PlainLane {
         ensures { result ≡ last_of self.now.rows }
     {
         self.rows.back().map_or(0, |x| x.id)
-    }
-
-    /// How many rows it would have to drop, with so many more.
-    pub fn over(&self, more: usize) -> usize
-        requires { more ≤ 2 ^ 62 }
-        ensures { result ≡ (length self.now.rows + more) - self.now.capacity }
-    {
-        (self.rows.len() + more).saturating_sub(self.capacity as usize)
-    }
-
-    /// Whether it has as many rows as it takes without those with ids up to this one.
-    pub fn is_full_above(&self, upto: u64) -> bool
-        ensures { result ≡ is_full (above upto self.now) }
-    {
-        let mut count = 0usize;
-        for x in self.rows.iter() {
-            if upto < x.id {
-                count += 1;
-            }
-        }
-        count >= self.capacity as usize
-    }
-
-    /// The id of the row at this place, if it has so many.
-    pub fn id_at(&self, place: usize) -> Option<u64>
-        ensures { result ≡ option_map (λ x. x.id) (slice_get self.now.rows place) }
-    {
-        match self.rows.get(place) {
-            Some(x) => Some(x.id),
-            None => None,
-        }
     }
 
     /// How many rows it has dropped.

@@ -1,5 +1,0 @@
-//! Tests of the stores in SQL databases, apart from `dnp_store`, since a crate with tests is proved twice.
-#![tactic(auto)]
-
-#[cfg(test)]
-mod queues;
