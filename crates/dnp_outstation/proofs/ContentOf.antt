@@ -178,11 +178,6 @@ abbrev IsReady : (List Head → Type 0) → Result (Outcome × List Head) ℕ �
 IsReady Fine (Err bits) = ⊤
 IsReady Fine (Ok x) = (code : Command → ℕ) → Fine (headers_with code x.1)
 
-come_to_ready : (Fine : List Head → Type 0) (x : Option Outcome) (headers : List Head) → ((code : Command → ℕ) → Fine (headers_with code headers))
-    → IsReady Fine (come_to x headers)
-come_to_ready Fine None headers repeats = tt
-come_to_ready Fine (Some x) headers repeats = repeats
-
 module _ (Fine : List Head → Type 0) (s : State) (o : Panel) (now : ℕ) (octets : List ℕ) (fine : IsFine Fine octets) where
   -- of each function
   function_ready : (f : Function) (commands : List Command) (headers : List Head)

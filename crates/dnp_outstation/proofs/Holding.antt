@@ -28,13 +28,6 @@ puts_both w v w' xs ys fit first second = λ more. ap (fill w) (append_assoc xs 
 pub puts_none_more : (w w' : Writer) (xs ys : List Item) → Puts w xs false w' → Puts w (xs ++ ys) false w'
 puts_none_more w w' xs ys first = λ more. ap (fill w) (append_assoc xs ys more) ∙ first (ys ++ more)
 
-pub puts_one : (w w' : Writer) (x : Item) (fit : Bool) → (fit ≡ true → w' ≡ put w x) → fit ≡ fits (put w x) → (fit ≡ false → ended false w' ≡ ended false w)
-    → Puts w (x ∷ []) fit w'
-puts_one w w' x true was room full = λ more.
-    ap (λ (b : Bool). if b then fill (put w x) more else ended false w) (sym room) ∙ ap (λ (v : Writer). fill v more) (sym (was refl))
-puts_one w w' x false was room full = λ more.
-    ap (λ (b : Bool). if b then fill (put w x) more else ended false w) (sym room) ∙ sym (full refl)
-
 -- ---- the rows of one lane
 
 -- as many as are held, and the others

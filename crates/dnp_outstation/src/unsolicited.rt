@@ -86,7 +86,7 @@ impl Session {
     }
 
     /// What becomes of the unsolicited response at this moment. Where it is sent again, its repeat is counted
-    /// and its confirm awaited anew.
+    /// and its confirm awaited from then on.
     pub(crate) fn time_unsolicited(&mut self, now: u64, confirm_ms: u64, retries: u8) -> AtTimer
         ensures timed { (s : State) → s.core.session ≡ self.old → s.core.times.confirm_ms ≡ confirm_ms → s.core.times.retries ≡ retries
             → unsolicited_timer s now ≡ timed_by s self.new result }

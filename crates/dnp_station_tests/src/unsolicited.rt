@@ -80,7 +80,7 @@ pub(crate) const UNSOLICITED: [Case; 8] = [
         OPENS,
         (Reads(Binary, 2, 1, None), Sends(&[0xF0, 0x82, 0x00, 0x00, 0x02, 0x01, 0x28, 0x01, 0x00, 0x02, 0x00, 0x81])),
     ]),
-    // A response with rows is repeated once and closes, and is sent anew as the next connection begins. Where a
+    // A response with rows is repeated once and closes, and is sent again as the next connection begins. Where a
     // READ waits, its timer closes at once. A READ in error waits too.
     (&[BINARIES_4], Unsolicited, &[
         ANNOUNCES,
