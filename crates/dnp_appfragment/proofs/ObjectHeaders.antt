@@ -8,7 +8,6 @@ use Rattle.dnp_objects.specs.declared.command.Command.TheVariants as command
 use Rattle.dnp_objects.specs.declared.row.Kind.{Kind}
 use Rattle.dnp_objects.specs.declared.row.Kind.TheVariants.{Binary, Counter, Analog}
 use Rattle.dnp_objects.specs.declared.row.Row.{Row}
-use Rattle.dnp_objects.proofs.Given.{fills}
 use Rattle.dnp_appfragment.specs.declared.function.Function.{Function}
 use Rattle.dnp_appfragment.specs.declared.header.Range.TheVariants as range
 use Rattle.dnp_appfragment.specs.declared.table.Form.{Form}
@@ -72,10 +71,6 @@ RowsFill = (g v : ℕ) (row : Row) → Fits g v row → object_size g v ≡ Some
 
 pub row_sized : RowsFill → (g v : ℕ) (row : Row) → Fits g v row → IsSized g v (written g v row)
 row_sized law g v row fits = record { size = length (written g v row); size_is = law g v row fits; length_is = refl }
-
--- the same by the lemma itself, for proofs above that hand no law down
-pub written_sized : (g v : ℕ) (row : Row) → Fits g v row → IsSized g v (written g v row)
-written_sized = row_sized fills
 
 pub command_sized : (c : Command) (status : ℕ) → IsSized (object_of c).0 (object_of c).1 (command_octets c status)
 unfolding content_of objects

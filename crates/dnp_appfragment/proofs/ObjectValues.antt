@@ -18,7 +18,6 @@ use Rattle.dnp_objects.specs.Rows.{Reads}
 use Rattle.dnp_objects.specs.Parts.{row_of, command_of}
 use Rattle.dnp_objects.specs.Commands.{size_read, ReadsCommand}
 use Rattle.dnp_objects.specs.Events.{IsEvent}
-use Rattle.dnp_objects.proofs.Given.{only_row}
 use Rattle.dnp_appfragment.specs.declared.header.Range.{Range}
 use Rattle.dnp_appfragment.specs.declared.header.Range.TheVariants as range
 use Rattle.dnp_appfragment.specs.Headers.{Head, count_of}
@@ -235,10 +234,6 @@ row_said law h k row (inr is) = go ((h.group == 1) && (h.variation == 1)) refl
         (λ i. object_size (eqb-true h.group 1 names.0 i) (eqb-true h.variation 1 names.1 i)) ∙ packed_unsized in
         absurd (unsized (object_size h.group h.variation) is.size is.size_is none)
     go false other = object_row_again law h k row is
-
--- the same by the lemma itself, for proofs above that hand no law down
-pub row_again : (h : Head) (k : ℕ) (row : Row) → IsRow h k row → row_in h k ≡ Some row
-row_again = row_said only_row
 
 -- which of the two a header has
 pub bit_said : (g v : ℕ) (r : Range) (octets : List ℕ) (k : ℕ) → g ≡ 1 → v ≡ 1 → row_in (head_of g v r octets) k ≡ bit_in (head_of 1 1 r octets) k

@@ -125,7 +125,7 @@ impl Builder {
     /// Puts an object, which comes as a header of its own. Its octets are written where they stay. It
     /// stands in its callers, since each puts another object.
     #[inline(always)]
-    fn put<O: Object>(&mut self, object: &O) -> Result<(), Full>
+    fn put<O: Object + Copy>(&mut self, object: &O) -> Result<(), Full>
         requires can { O.can_put object.now }
         requires fits { NumbersFit (O.head object.now).range → IsHeader (table.form_of self.old.function) (O.head object.now) }
         requires sized { IsSome (object_size (O.head object.now).group (O.head object.now).variation) }
@@ -147,7 +147,11 @@ impl Builder {
                 self.run = Some(longer);
                 Ok(())
             }
-            None => self.begin(object),
+            None => {
+                // (a copy, so that the object itself needs no address)
+                let object = *object;
+                self.begin(&object)
+            }
         }
     }
 
@@ -210,7 +214,7 @@ impl Builder {
     {
         // (a law, for the proof: it does nothing)
         a_written_row_fills_its_object();
-        self.put(&Point { group, row })
+        self.put(&Point { group, row: *row })
     }
 
     /// Puts a command with its status, after its index, into a fragment that carries commands:

@@ -123,17 +123,18 @@ fn span_of(index: u16) -> Range
     }
 }
 
-/// A row as a present value of a group, in a range of its index: qualifier 01.
+/// A row as a present value of a group, in a range of its index: qualifier 01. It holds the row itself, so that a
+/// loop over points needs no memory for it.
 #[derive(Clone, Copy)]
-pub(crate) struct Point<'a> {
+pub(crate) struct Point {
     pub group: u8,
-    pub row: &'a Row,
+    pub row: Row,
 }
 
-impl<'a> Object for Point<'a> {
-    ghost can_put = { λ p. spec.FitsPoint p.group p.row.now };
+impl Object for Point {
+    ghost can_put = { λ p. spec.FitsPoint p.group p.row };
 
-    ghost head = { λ p. spec.point p.group p.row.now };
+    ghost head = { λ p. spec.point p.group p.row };
 
     #[inline]
     fn run(&self) -> Run {
@@ -146,12 +147,12 @@ impl<'a> Object for Point<'a> {
 
     #[inline]
     fn size(&self) -> usize {
-        point_size(self.group, self.row)
+        point_size(self.group, &self.row)
     }
 
     #[inline]
     fn append(&self, octets: &mut ArrayVec<u8, MAX_FRAGMENT>) {
-        append_object(self.group, point_variation(self.group), self.row, octets);
+        append_object(self.group, point_variation(self.group), &self.row, octets);
     }
 }
 

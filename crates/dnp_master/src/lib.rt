@@ -14,7 +14,8 @@ mod requesting;
 mod taking;
 mod task;
 
-pub use actions::{MasterActions, Rows};
+pub use actions::MasterActions;
+pub use dnp_eventbuf::Rows;
 pub use fault::{AskFault, MasterFault};
 pub use master::Master;
 pub use outcome::Outcome;

@@ -6,10 +6,10 @@ ghost use Rattle.dnp_objects.specs.Events.{IsEvent};
 ghost use Rattle.dnp_master.specs.Calls.{actions_of, has_rows, receive_of};
 ghost use Rattle.dnp_master.specs.Sinks.{IsSinkFault, LeavesSink};
 
-use crate::actions::{MasterActions, Rows};
+use crate::actions::MasterActions;
 use crate::fault::MasterFault;
 use crate::master::Master;
-use dnp_eventbuf::Sink;
+use dnp_eventbuf::{Rows, Sink};
 use dnp_objects::Row;
 use std::alloc::Global;
 
@@ -32,7 +32,7 @@ fn give<S: Sink>(
     ensures named { IfErr result IsSinkFault }
 {
     if events.is_empty() && statics.is_empty() {
-        return Ok(Rows::none(alloc));
+        return Ok(Rows::new(alloc));
     }
     let dropped = sink.append(alloc, events, statics)?;
     Ok(Rows::of(dropped))

@@ -14,15 +14,15 @@ ghost use Rattle.dnp_master.specs.Requests as spec;
 use crate::task::{Classes, Task};
 use arrayvec::ArrayVec;
 use dnp_appfragment::{Builder, Control, Function, Header, Iin, Range};
-use dnp_objects::{Command, Status};
+use dnp_objects::{Command, MAX_FRAGMENT, Status};
 
 /// A fragment, of at most 2,048 octets.
-pub type Fragment = ArrayVec<u8, 2048>;
+pub type Fragment = ArrayVec<u8, MAX_FRAGMENT>;
 
 /// Puts a header for which there is room.
 fn put(builder: &mut Builder, header: &Header<'_>)
     requires fits { IsHeader (form_of builder.old.function) (head header.now) }
-    requires room { size builder.old + length (header_octets (head header.now)) ≤ 2048 }
+    requires room { size builder.old + length (header_octets (head header.now)) ≤ MAX_FRAGMENT }
     ensures { builder.new ≡ with_header builder.old (head header.now) }
 {
     builder.header(header).unwrap();

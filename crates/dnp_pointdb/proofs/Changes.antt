@@ -17,16 +17,6 @@ use Rattle.dnp_pointdb.proofs.Lookups.{lookup_found, lookup_lacks}
 abbrev pub tested : PointState → Bool → Bool → Result PointState ChangeFault
 tested s carried timely = cond carried (cond timely (Ok s) (Err TimeRange)) (Err ValueRange)
 
-by_tests : (s t : PointState) (carried timely : Bool) → tested s carried timely ≡ Ok t → (carried && timely ≡ true) × (t ≡ s)
-by_tests s t true true is = (refl, cc)
-by_tests s t true false is = absurd (cc)
-by_tests s t false timely is = absurd (cc)
-
--- a point that can have the reading is the point that was found
-pub checked_ok : (s t : PointState) (kind : Kind) (reading : Reading) → checked (Some s) kind reading ≡ Ok t
-    → (is_in_range kind reading ≡ true) × (t ≡ s)
-checked_ok s t kind reading is = by_tests s t (is_carried kind reading) (is_in_time reading.time) is
-
 -- a refusal of a point that was found is one of the reading
 out_of_range : (s : PointState) (fault : ChangeFault) (carried timely : Bool) → tested s carried timely ≡ Err fault → carried && timely ≡ false
 out_of_range s fault true true is = absurd (cc)
@@ -75,14 +65,13 @@ put_at blocks after index n p s x f at there x_is is =
 
 -- where the point can have it
 pub read_at : (f : PointState → PointState) (blocks after : List BlockState) (kind : Kind) (index : ℕ) (reading : Reading) (n p : ℕ) (s x : PointState)
-    → place_in (extents blocks) index ≡ Some (n, p) → state_in blocks index ≡ Some s → checked (state_in blocks index) kind reading ≡ Ok s
+    → place_in (extents blocks) index ≡ Some (n, p) → state_in blocks index ≡ Some s → is_in_range kind reading ≡ true
     → x ≡ f s
     → ((d : BlockState) → after ≡ set blocks n (record (get_or blocks n d) { points = set (get_or blocks n d).points p x }))
     → after ≡ cond (is_in_range kind reading) (updated_in f blocks index) blocks
 read_at f blocks after kind index reading n p s x at there can x_is is =
-    let passed = checked_ok s s kind reading (sym (ap (λ (o : Option PointState). checked o kind reading) there) ∙ can) in
     put_at blocks after index n p s x f at there x_is is
-    ∙ sym (ap (λ (t : Bool). cond t (updated_in f blocks index) blocks) passed.0)
+    ∙ sym (ap (λ (t : Bool). cond t (updated_in f blocks index) blocks) can)
 
 same_either_way : {A : Type 0} (b : Bool) (x y : A) → x ≡ y → cond b x y ≡ y
 same_either_way true x y same = same

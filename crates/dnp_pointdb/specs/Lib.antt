@@ -4,6 +4,7 @@ pub mod Classes
 pub mod Database
 pub mod Events
 pub mod Plan
+pub mod PointPlaces
 pub mod Ranges
 pub mod Runs
 pub mod Sound

@@ -1,12 +1,13 @@
 //! The points of one kind.
 
-ghost use Rattle.std.specs.Prelude.{◌≡◌, ◌<◌, List, map, length, Option, IfOk, IfErr, OnErr, Some, Ok, Err, slice_index_or, slice_set};
+ghost use Rattle.std.specs.Prelude.{◌≡◌, ◌<◌, List, map, length, Option, true, IfOk, IfErr, OnErr, Some, Ok, Err, slice_index_or, slice_set};
 ghost use Rattle.std.specs.List.{HoldsAt};
 ghost use Rattle.dnp_pointdb.specs.declared.state.BlockState.{BlockState as BlockValue};
 ghost use Rattle.dnp_pointdb.specs.Database as spec;
 
 use crate::fault::ChangeFault;
 use crate::order::{Place, find, order_of};
+use crate::place::PointPlace;
 use crate::point::Block;
 use crate::reading::Reading;
 use crate::state::{BlockState, PointState};
@@ -58,6 +59,8 @@ impl Bank {
     ghost use Rattle.dnp_pointdb.specs.Database as spec;
     ghost use Rattle.dnp_pointdb.specs.Order.{extents, place_in};
     ghost use Rattle.dnp_pointdb.specs.Blocks.{ShareIndex};
+    ghost use Rattle.dnp_pointdb.specs.Ranges.{is_in_range};
+    ghost use Rattle.dnp_pointdb.specs.PointPlaces.{IsPlaceIn};
 
     /// Points of which nothing was read.
     pub fn new(alloc: Global, blocks: &[Block]) -> Result<Self, AllocError>
@@ -89,24 +92,25 @@ impl Bank {
         find(&self.order, index)
     }
 
-    /// The number of the block that has the index, the point's place in it and the point, if it can
-    /// have the reading, or the first cause to refuse it.
-    fn find_checked(
-        &self,
-        kind: Kind,
-        index: u16,
-        reading: Reading,
-    ) -> Result<(usize, usize, PointState), ChangeFault>
-        ensures place { IfOk result (λ found. place_in (extents self.now) index ≡ Some (found.0, found.1)) }
-        ensures state { IfOk result (λ found. spec.state_in self.now index ≡ Some found.2) }
-        ensures checked { IfOk result (λ found. spec.checked (spec.state_in self.now index) kind reading ≡ Ok found.2) }
+    /// Where the point stands, if it is there and can have the reading, or the first cause to refuse it.
+    pub fn check(&self, kind: Kind, index: u16, reading: Reading) -> Result<PointPlace, ChangeFault>
+        ensures place { IfOk result (IsPlaceIn self.now index) }
+        ensures in_range { IfOk result (λ _. is_in_range kind reading ≡ true) }
         ensures fault { IfErr result (λ fault. spec.checked (spec.state_in self.now index) kind reading ≡ Err fault) }
     {
         let Some((block, place)) = self.find(index) else {
             return Err(ChangeFault::NoPoint);
         };
-        let state = checked(Some(self.blocks[block].state(place)), kind, reading)?;
-        Ok((block, place, state))
+        let _ = checked(Some(self.blocks[block].state(place)), kind, reading)?;
+        Ok(PointPlace { block, place })
+    }
+
+    /// The point that stands there.
+    fn state_at(&self, index: u16, at: PointPlace) -> PointState
+        requires { IsPlaceIn self.now index at }
+        ensures { spec.state_in self.now index ≡ Some result }
+    {
+        self.blocks[at.block].state(at.place)
     }
 
     /// Puts the point at this place of the block with this number.
@@ -127,6 +131,31 @@ impl Bank {
         Some(self.blocks[block].state(place))
     }
 
+    /// The row that a change of the point that stands there makes, if it makes one.
+    pub fn event_at(
+        &self,
+        at: PointPlace,
+        kind: Kind,
+        index: u16,
+        reading: Reading,
+    ) -> Option<LaneRow>
+        requires place { IsPlaceIn self.now index at }
+        requires in_range { is_in_range kind reading ≡ true }
+        ensures { spec.answer_in self.now kind index reading ≡ Ok result }
+    {
+        self.state_at(index, at).event(kind, index, reading)
+    }
+
+    /// Changes the point that stands there.
+    pub fn change_at(&mut self, at: PointPlace, kind: Kind, index: u16, reading: Reading)
+        requires place { IsPlaceIn self.old index at }
+        requires in_range { is_in_range kind reading ≡ true }
+        ensures { self.new ≡ spec.changed_in self.old kind index reading }
+    {
+        let state = self.state_at(index, at);
+        self.put(at.block, at.place, state.changed(kind, index, reading));
+    }
+
     /// What a change answers.
     pub fn would(
         &self,
@@ -136,8 +165,8 @@ impl Bank {
     ) -> Result<Option<LaneRow>, ChangeFault>
         ensures { result ≡ spec.answer_in self.now kind index reading }
     {
-        let state = checked(self.state(index), kind, reading)?;
-        Ok(state.event(kind, index, reading))
+        let at = self.check(kind, index, reading)?;
+        Ok(self.event_at(at, kind, index, reading))
     }
 
     /// A change.
@@ -151,10 +180,10 @@ impl Bank {
         ensures after { self.new ≡ spec.changed_in self.old kind index reading }
         ensures err { OnErr result (self.new ≡ self.old) }
     {
-        let (block, place, state) = self.find_checked(kind, index, reading)?;
-        let (state, event) = state.change(kind, index, reading);
-        self.put(block, place, state);
-        Ok(event)
+        let at = self.check(kind, index, reading)?;
+        let made = self.event_at(at, kind, index, reading);
+        self.change_at(at, kind, index, reading);
+        Ok(made)
     }
 
     /// A reading without an event.
@@ -163,8 +192,9 @@ impl Bank {
         ensures after { self.new ≡ spec.set_in self.old kind index reading }
         ensures err { OnErr result (self.new ≡ self.old) }
     {
-        let (block, place, state) = self.find_checked(kind, index, reading)?;
-        self.put(block, place, state.set(reading));
+        let at = self.check(kind, index, reading)?;
+        let state = self.state_at(index, at);
+        self.put(at.block, at.place, state.set(reading));
         Ok(())
     }
 

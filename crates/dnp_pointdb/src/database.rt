@@ -1,9 +1,10 @@
 //! The points of a station, by kind and index.
 
-ghost use Rattle.std.specs.Prelude.{◌≡◌, ◌≤◌, true, OnErr, IfOk, IfErr, IfSome, Err, map};
+ghost use Rattle.std.specs.Prelude.{◌≡◌, ◌≤◌, true, OnErr, IfOk, IfErr, IfSome, Ok, Err, map};
 ghost use Rattle.std.specs.Option.{option_map};
 ghost use Rattle.dnp_objects.specs.Events.{IsEvent};
 ghost use Rattle.dnp_pointdb.specs.declared.fault.ChangeFault.{ChangeFault as FaultValue};
+ghost use Rattle.dnp_pointdb.specs.PointPlaces.{IsPlace};
 ghost use Rattle.dnp_pointdb.specs.Database as spec;
 ghost use Rattle.dnp_pointdb.specs.Plan as plan_words;
 ghost use Rattle.dnp_pointdb.specs.Ranges.{is_in_range};
@@ -11,6 +12,7 @@ ghost use Rattle.dnp_pointdb.specs.Sound.{IsSound, IsSoundPoint, AreSound};
 
 use crate::bank::Bank;
 use crate::fault::ChangeFault;
+use crate::place::PointPlace;
 use crate::plan::PointPlan;
 use crate::reading::Reading;
 use crate::state::{BlockState, PointState};
@@ -121,6 +123,41 @@ impl PointDb {
         ensures sound { IsSound self.now }
     {
         self.bank(kind).would(kind, index, reading)
+    }
+
+    /// Where the point stands, if `change` would take the reading, or what it refuses it with.
+    pub fn check(&self, kind: Kind, index: u16, reading: Reading) -> Result<PointPlace, ChangeFault>
+        ensures place { IfOk result (IsPlace self.now kind index) }
+        ensures in_range { IfOk result (λ _. is_in_range kind reading ≡ true) }
+        ensures fault { IfErr result (λ fault. spec.answer_of self.now kind index reading ≡ Err fault) }
+    {
+        self.bank(kind).check(kind, index, reading)
+    }
+
+    /// What `change` answers for the point that `check` has found, with nothing changed.
+    pub fn event_at(
+        &self,
+        at: PointPlace,
+        kind: Kind,
+        index: u16,
+        reading: Reading,
+    ) -> Option<LaneRow>
+        requires place { IsPlace self.now kind index at }
+        requires in_range { is_in_range kind reading ≡ true }
+        ensures answer { spec.answer_of self.now kind index reading ≡ Ok result }
+        ensures carried { IfSome result (λ x. (x.row.kind ≡ x.lane.kind) × IsEvent x.row) }
+    {
+        self.bank(kind).event_at(at, kind, index, reading)
+    }
+
+    /// Changes the point that `check` has found, as `change` does.
+    pub fn change_at(&mut self, at: PointPlace, kind: Kind, index: u16, reading: Reading)
+        requires place { IsPlace self.old kind index at }
+        requires in_range { is_in_range kind reading ≡ true }
+        ensures after { self.new ≡ spec.changed_of self.old kind index reading }
+        ensures sound { IsSound self.new }
+    {
+        self.banks[kind.number()].change_at(at, kind, index, reading);
     }
 
     /// Takes in a new reading of a point, and answers the event that it is, with its lane, or none.

@@ -42,23 +42,21 @@ impl PointState {
         event_of(kind, index, self.point, self.reported, reading)
     }
 
-    /// The point after a change, and the row that the change makes, if it makes one.
-    pub(crate) fn change(self, kind: Kind, index: u16, reading: Reading) -> (Self, Option<LaneRow>)
-        ensures state { result.0 ≡ spec.changed_state kind index reading self }
-        ensures event { result.1 ≡ event.event_of kind index self.point self.reported reading }
+    /// The point after a change.
+    pub(crate) fn changed(self, kind: Kind, index: u16, reading: Reading) -> Self
+        ensures { result ≡ spec.changed_state kind index reading self }
     {
-        let event = self.event(kind, index, reading);
-        let reported = if event.is_some() {
-            Report::of(reading)
+        // (the two fields apart: a report that is moved as a whole takes its padding along)
+        let (value, flags) = if self.event(kind, index, reading).is_some() {
+            (reading.value, reading.flags)
         } else {
-            self.reported
+            (self.reported.value, self.reported.flags)
         };
-        let state = PointState {
+        PointState {
             point: self.point,
             reading,
-            reported,
-        };
-        (state, event)
+            reported: Report { value, flags },
+        }
     }
 
     /// The point after a reading without an event.

@@ -4,8 +4,8 @@ use Rattle.dnp_pointdb.specs.declared.state.BlockState.{BlockState}
 use Rattle.dnp_pointdb.specs.Database.{state_in, checked}
 use Rattle.dnp_pointdb.specs.Order.{extents, place_in}
 use Rattle.dnp_pointdb.proofs.Lookups.{lookup_lacks}
-use Rattle.dnp_pointdb.proofs.Changes.{checked_ok, in_blocks, in_points_of, state_in-place}
-use Rattle.dnp_pointdb.proofs.bank.Bank.find_checked.Goals as goal
+use Rattle.dnp_pointdb.proofs.Changes.{in_blocks, in_points_of, state_in-place}
+use Rattle.dnp_pointdb.proofs.bank.Bank.check.Goals as goal
 
 pub returns-in_default-clause-fault : goal.returns-in_default-clause-fault
 returns-in_default-clause-fault c =
@@ -24,8 +24,8 @@ state-requires c =
     c.index.ensures ∙ ap (λ (bs : List BlockState). get_or bs c.in-Some.block c.index.result.now) c.self.view_is in
     in_points_of c.args.self.now c.args.index c.in-Some.block c.in-Some.place c.index.result.now at block_is
 
-pub returns-in_err-state-clause-fault : goal.returns-in_err-state-clause-fault
-returns-in_err-state-clause-fault c =
+pub returns-in_err-checked-clause-fault : goal.returns-in_err-checked-clause-fault
+returns-in_err-checked-clause-fault c =
     let at : place_in (extents c.args.self.now) c.args.index ≡ Some (c.in-Some.block, c.in-Some.place) = sym c.in-Some.ensures in
     let block_is : c.index.result.now ≡ get_or c.args.self.now c.in-Some.block c.index.result.now =
     c.index.ensures ∙ ap (λ (bs : List BlockState). get_or bs c.in-Some.block c.index.result.now) c.self.view_is in
@@ -33,26 +33,5 @@ returns-in_err-state-clause-fault c =
     state_in-place c.args.self.now c.args.index c.in-Some.block c.in-Some.place c.index.result.now c.state.result at block_is c.state.ensures in
     let asked : checked (state_in c.args.self.now c.args.index) c.args.kind c.args.reading ≡ c.checked.result =
     ap (λ (o : Option PointState). checked o c.args.kind c.args.reading) there ∙ sym c.checked.ensures in
-    let refused : checked (state_in c.args.self.now c.args.index) c.args.kind c.args.reading ≡ Err c.in_err-state.field-0.0 = asked ∙ c.in_err-state.was in
+    let refused : checked (state_in c.args.self.now c.args.index) c.args.kind c.args.reading ≡ Err c.in_err-checked.field-0.0 = asked ∙ c.in_err-checked.was in
     search (rules, refused)
-
-pub returns-clause-state : goal.returns-clause-state
-returns-clause-state c =
-    let at : place_in (extents c.args.self.now) c.args.index ≡ Some (c.in-Some.block, c.in-Some.place) = sym c.in-Some.ensures in
-    let block_is : c.index.result.now ≡ get_or c.args.self.now c.in-Some.block c.index.result.now =
-    c.index.ensures ∙ ap (λ (bs : List BlockState). get_or bs c.in-Some.block c.index.result.now) c.self.view_is in
-    let there : state_in c.args.self.now c.args.index ≡ Some c.state.result =
-    state_in-place c.args.self.now c.args.index c.in-Some.block c.in-Some.place c.index.result.now c.state.result at block_is c.state.ensures in
-    let passed = checked_ok c.state.result c.in_ok-state.state c.args.kind c.args.reading (sym c.checked.ensures ∙ c.in_ok-state.was) in
-    there ∙ ap (λ (s : PointState). Some s) (sym passed.1)
-
-pub returns-clause-checked : goal.returns-clause-checked
-returns-clause-checked c =
-    let at : place_in (extents c.args.self.now) c.args.index ≡ Some (c.in-Some.block, c.in-Some.place) = sym c.in-Some.ensures in
-    let block_is : c.index.result.now ≡ get_or c.args.self.now c.in-Some.block c.index.result.now =
-    c.index.ensures ∙ ap (λ (bs : List BlockState). get_or bs c.in-Some.block c.index.result.now) c.self.view_is in
-    let there : state_in c.args.self.now c.args.index ≡ Some c.state.result =
-    state_in-place c.args.self.now c.args.index c.in-Some.block c.in-Some.place c.index.result.now c.state.result at block_is c.state.ensures in
-    let asked : checked (state_in c.args.self.now c.args.index) c.args.kind c.args.reading ≡ c.checked.result =
-    ap (λ (o : Option PointState). checked o c.args.kind c.args.reading) there ∙ sym c.checked.ensures in
-    asked ∙ c.in_ok-state.was
