@@ -13,4 +13,5 @@ pub mod Offers
 pub mod Over
 pub mod Released
 pub mod Remaining
+pub mod Restoring
 pub mod Soundness

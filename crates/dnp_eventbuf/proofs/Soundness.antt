@@ -94,7 +94,7 @@ IsSoundLane-later number last lane sound = record {
 }
 
 -- a row that fits one lane of a number fits each lane of that number
-fits_number : (x : LaneRow) → IsCarried x → (of : Lane) → lane_number of ≡ lane_number x.lane → IsCarried (record { lane = of; row = x.row })
+pub fits_number : (x : LaneRow) → IsCarried x → (of : Lane) → lane_number of ≡ lane_number x.lane → IsCarried (record { lane = of; row = x.row })
 fits_number x carried of same = record {
   of_its_kind = carried.of_its_kind ∙ same_kind x.lane.kind of.kind (x.lane.class - 1) (of.class - 1) (sym same);
   fits = carried.fits;

@@ -4,6 +4,7 @@ pub mod Buffered
 pub mod Calls
 pub mod Carried
 pub mod Latest
+pub mod Restored
 pub mod SinkCalls
 pub mod Sound
 pub mod Stock

@@ -37,6 +37,7 @@ pub fn a_release_conserves_rows()
 {}
 
 /// A release takes from each lane, by itself, the rows up to the lane's id, and leaves those above it.
+#[inline(always)]
 pub fn a_release_is_lane_by_lane()
     ensures { (s : Stock) (upto : List ℕ) (number : ℕ) → length upto ≡ length s.lanes → number < length s.lanes
         → lane_at (without s upto) number ≡ above (slice_index_or upto number 0) (lane_at s number) }
@@ -61,6 +62,7 @@ pub fn ids_are_used_once()
 {}
 
 /// Empty lanes are sound, and each step keeps lanes sound.
+#[inline(always)]
 pub fn lanes_stay_sound()
     ensures made { (capacities : List ℕ) → length capacities ≡ LANES → All (λ capacity. 1 ≤ capacity) capacities
         → IsSound (empty_stock capacities) }
@@ -103,6 +105,7 @@ pub fn a_release_takes_what_was_offered()
 
 /// What is offered after a release was offered before it, from after the id up to which the lane's rows
 /// are released, where that is the larger one.
+#[inline(always)]
 pub fn an_offer_after_a_release()
     ensures { (s : Stock) (upto : List ℕ) (number after most : ℕ) → length upto ≡ length s.lanes → number < length s.lanes
         → offered (without s upto) number after most ≡ offered s number (max after (slice_index_or upto number 0)) most }

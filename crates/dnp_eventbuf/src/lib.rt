@@ -2,6 +2,7 @@
 //! numbered lists of rows that wait to be reported, and that count what they drop.
 #![tactic(auto)]
 
+mod arriving;
 mod carried;
 mod journal;
 pub mod journal_laws;
@@ -12,6 +13,8 @@ mod numbered;
 mod plain;
 mod plain_journal;
 mod plain_lane;
+mod restore;
+mod rows;
 mod sink;
 mod tally;
 
@@ -22,4 +25,5 @@ pub use lanes::Lanes;
 pub use numbered::{Numbered, Upto};
 pub use plain::{MAX_CAPACITY, PlainLanes};
 pub use plain_journal::PlainJournal;
+pub use rows::Rows;
 pub use sink::Sink;

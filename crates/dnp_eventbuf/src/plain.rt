@@ -1,14 +1,18 @@
 //! Lanes in memory.
 
-ghost use Rattle.std.specs.Prelude.{◌≡◌, ◌≢◌, ◌^◌, ◌<◌, ◌≤◌, ◌+◌, Bool, true, false, IfOk, IfErr, IfSome, IfNone, OnOk, OnErr, IsTrue, All, length, map, [], ◌++◌, vec_len, vec_capacity, ⊤};
+ghost use Rattle.std.specs.Prelude.{◌≡◌, ◌≢◌, ◌^◌, ◌<◌, ◌≤◌, ◌+◌, ◌-◌, slice_get, option_map, Bool, true, false, IfOk, IfErr, IfSome, IfNone, OnOk, OnErr, IsTrue, All, List, length, map, [], ◌∷◌, ◌++◌, vec_len, vec_capacity, ⊤};
 ghost use Rattle.std.specs.List.{list_any};
 ghost use Rattle.std.specs.Option.{option_to_list};
 ghost use Rattle.dnp_objects.specs.Lanes.{lane_number};
 ghost use Rattle.dnp_eventbuf.specs.Carried.{IsCarried};
+ghost use Rattle.dnp_eventbuf.specs.Latest.{numbered_for};
 ghost use Rattle.dnp_eventbuf.specs.Sound.{IsSound};
 ghost use Rattle.dnp_eventbuf.specs.Stock.{Stock, lane_at, is_full, dropped_from, empty_stock, with_row, with_rows, dropped_by, is_past, exhausts, offered, lanes_above, lanes_up_to, emptied, lane_rows, without, all_up_to, without_all, rows_in, last_of};
-ghost use Rattle.dnp_eventbuf.specs.Tallies.{tally_of};
+ghost use Rattle.dnp_objects.specs.declared.lane.LaneRow.{LaneRow as RowValue};
+ghost use Rattle.dnp_eventbuf.specs.declared.tally.Tally.{Tally as TallyValue};
+ghost use Rattle.dnp_eventbuf.specs.Tallies.{tally_of, tally_at, drops_from};
 
+use crate::arriving::{count_for, id_for};
 use crate::lanes::Lanes;
 use crate::numbered::{Numbered, Upto};
 use crate::plain_lane::PlainLane;
@@ -24,11 +28,11 @@ pub const MAX_CAPACITY: u32 = 4096;
 #[derive(Drop)]
 pub struct PlainLanes {
     /// The lanes, by their numbers.
-    lanes: [PlainLane; LANES],
+    pub(crate) lanes: [PlainLane; LANES],
     /// Whether a row was dropped, and some lane has been full since.
-    overflow: bool,
+    pub(crate) overflow: bool,
     /// The last id used, of all lanes; 0 before the first.
-    last_id: u64,
+    pub(crate) last_id: u64,
 }
 
 impl Model for PlainLanes {
@@ -67,8 +71,63 @@ impl PlainLanes {
         if rows.len() as u64 > MAX_ID - self.last_id {
             return None;
         }
-        let mut tallies = tallies(&self.lanes);
-        drops(&mut tallies, rows)
+        drops_for(&self.lanes, rows)
+    }
+
+    /// How many rows the lane of this number would drop for these.
+    pub fn drops_in(&self, number: usize, rows: &[LaneRow]) -> usize
+        requires number { number < LANES }
+        requires few { length rows.now ≤ 2 ^ 62 }
+        ensures { result ≡ (length (lane_at self.now number).rows + length (numbered_for number self.now.last_id rows.now)) - (lane_at self.now number).capacity }
+    {
+        self.lanes[number].over(count_for(number, rows))
+    }
+
+    /// The id of the row at this place among those of the lane of this number and, behind them, these
+    /// that would come for it, if there are so many.
+    pub fn id_at(&self, number: usize, rows: &[LaneRow], place: usize) -> Option<u64>
+        requires number { number < LANES }
+        requires few { self.now.last_id + length rows.now ≤ 2 ^ 62 }
+        ensures { result ≡ option_map (λ x. x.id) (slice_get ((lane_at self.now number).rows ++ numbered_for number self.now.last_id rows.now) place) }
+    {
+        let lane = &self.lanes[number];
+        let len = lane.len() as usize;
+        if place < len {
+            lane.id_at(place)
+        } else {
+            id_for(number, self.last_id, rows, place - len)
+        }
+    }
+
+    /// How many rows the lane of this number has dropped.
+    pub fn lost_in(&self, number: usize) -> u64
+        requires { number < LANES }
+        ensures { result ≡ (lane_at self.now number).lost }
+    {
+        self.lanes[number].lost()
+    }
+
+    /// The last id used, of all lanes; 0 before the first.
+    pub fn last_id(&self) -> u64
+        ensures sound { IsSound self.now }
+        ensures value { result ≡ self.now.last_id }
+    {
+        prove!(self.last_id <= MAX_ID);
+        self.last_id
+    }
+
+    /// Whether a row was dropped, and some lane has been full since.
+    pub fn has_overflow(&self) -> bool
+        ensures { result ≡ self.now.overflow }
+    {
+        self.overflow
+    }
+
+    /// Whether the overflow stands after a release.
+    pub fn keeps_overflow(&self, upto: &Upto) -> bool
+        ensures { result ≡ (without self.now upto.now).overflow }
+    {
+        self.overflow && any_full_above(&self.lanes, upto)
     }
 
     /// Puts one row into its lane, under the next id.
@@ -88,6 +147,7 @@ impl PlainLanes {
     }
 
     /// Puts the rows one by one. There is room for those that are dropped.
+    #[inline(always)]
     pub fn put_all(&mut self, rows: &[LaneRow], dropped: &mut Vec<Row>)
         requires carried { All IsCarried rows.now }
         requires fits { exhausts self.old rows.now ≡ false }
@@ -146,6 +206,33 @@ impl PlainLanes {
     }
 }
 
+/// How many rows the lanes drop for these, or `None` where a count of lost rows would pass the limit. Most
+/// appends are of one row, for which one lane is looked at.
+fn drops_for(lanes: &[PlainLane; LANES], rows: &[LaneRow]) -> Option<usize>
+    ensures { result ≡ drops_from 0 (map tally_of lanes.now) rows.now }
+{
+    if let [x] = rows {
+        return drops_one(&lanes[x.lane.number()]);
+    }
+    let mut tallies = tallies(lanes);
+    drops(&mut tallies, rows)
+}
+
+/// How many rows a lane drops for one more.
+fn drops_one(lane: &PlainLane) -> Option<usize>
+    ensures { (tallies : List TallyValue) (x : RowValue) → tally_at tallies (lane_number x.lane) ≡ tally_of lane.now
+        → result ≡ drops_from 0 tallies (x ∷ []) }
+{
+    let tally = lane.tally();
+    if tally.free > 0 {
+        Some(0)
+    } else if tally.lost < MAX_ID {
+        Some(1)
+    } else {
+        None
+    }
+}
+
 /// Each lane's tally.
 fn tallies(lanes: &[PlainLane; LANES]) -> [Tally; LANES]
     ensures { result ≡ map tally_of lanes.now }
@@ -162,6 +249,18 @@ fn any_full(lanes: &[PlainLane; LANES]) -> bool
     ensures { result ≡ list_any is_full lanes.now }
 {
     lanes.iter().any(|lane| lane.is_full())
+}
+
+/// Whether some lane is full without its rows with ids up to its number.
+fn any_full_above(lanes: &[PlainLane; LANES], upto: &Upto) -> bool
+    ensures { result ≡ list_any is_full (lanes_above lanes.now upto.now) }
+{
+    for k in 0..LANES {
+        if lanes[k].is_full_above(upto[k]) {
+            return true;
+        }
+    }
+    false
 }
 
 /// Adds the rows of each lane with ids up to its number.
@@ -226,6 +325,7 @@ impl Lanes for PlainLanes {
 
     ghost asks_memory = { false };
 
+    #[inline(always)]
     fn append(&mut self, alloc: Global, rows: &[LaneRow]) -> Result<Vec<Row>, StoreFault> {
         let count = self.drops(rows).ok_or(StoreFault::Exhausted)?;
         let mut dropped = Vec::with_capacity(alloc, count).map_err(memory)?;

@@ -1,6 +1,6 @@
 //! One lane in memory.
 
-ghost use Rattle.std.specs.Prelude.{◌≡◌, ◌≢◌, ◌<◌, ◌≤◌, ◌++◌, IfOk, OnOk, OnErr, [], length, map, nat_le, nat_lt, vec_len, vec_capacity, filter, take};
+ghost use Rattle.std.specs.Prelude.{not, ◌&&◌, ◌≡◌, ◌≢◌, ◌^◌, ◌+◌, ◌-◌, ◌<◌, ◌≤◌, ◌++◌, slice_get, option_map, IfOk, OnOk, OnErr, [], length, map, nat_le, nat_lt, vec_len, vec_capacity, filter, take};
 ghost use Rattle.std.specs.List.{list_any};
 ghost use Rattle.std.specs.Option.{option_to_list};
 ghost use Rattle.std.specs.VecDeque.{deque_len, deque_capacity};
@@ -151,11 +151,57 @@ impl PlainLane {
         self.rows.back().map_or(0, |x| x.id)
     }
 
+    /// How many rows it would have to drop, with so many more.
+    pub fn over(&self, more: usize) -> usize
+        requires { more ≤ 2 ^ 62 }
+        ensures { result ≡ (length self.now.rows + more) - self.now.capacity }
+    {
+        (self.rows.len() + more).saturating_sub(self.capacity as usize)
+    }
+
+    /// Whether it has as many rows as it takes without those with ids up to this one.
+    pub fn is_full_above(&self, upto: u64) -> bool
+        ensures { result ≡ is_full (above upto self.now) }
+    {
+        let mut count = 0usize;
+        for x in self.rows.iter() {
+            if upto < x.id {
+                count += 1;
+            }
+        }
+        count >= self.capacity as usize
+    }
+
+    /// The id of the row at this place, if it has so many.
+    pub fn id_at(&self, place: usize) -> Option<u64>
+        ensures { result ≡ option_map (λ x. x.id) (slice_get self.now.rows place) }
+    {
+        match self.rows.get(place) {
+            Some(x) => Some(x.id),
+            None => None,
+        }
+    }
+
     /// How many rows it has dropped.
     pub fn lost(&self) -> u64
         ensures { result ≡ self.now.lost }
     {
         self.lost
+    }
+
+    /// Whether it has room for a row with this id behind its others.
+    pub fn takes(&self, id: u64) -> bool
+        ensures { result ≡ not (is_full self.now) && nat_lt (last_of self.now.rows) id }
+    {
+        let last = self.last();
+        !self.is_full() && last < id
+    }
+
+    /// Notes how many rows it dropped.
+    pub fn restore_lost(&mut self, lost: u64)
+        ensures { self.new ≡ record self.old { lost = lost } }
+    {
+        self.lost = lost;
     }
 
     /// Its free places and its lost rows.

@@ -1,5 +1,4 @@
-use Rattle.std.proofs.Common.{◌≡◌, ◌∙◌, subst, ap, map, arith, List}
-use Rattle.dnp_eventbuf.specs.declared.tally.Tally.{Tally}
+use Rattle.std.proofs.Common.{◌≡◌, ◌∙◌, subst, ap, map, arith}
 use Rattle.dnp_eventbuf.specs.Sound.{IsSound}
 use Rattle.dnp_eventbuf.specs.Stock.{Stock}
 use Rattle.dnp_eventbuf.specs.Tallies.{tally_of, drops_from}
@@ -17,15 +16,13 @@ returns-clause-some c =
     let same = ap (λ (s : Stock). s.last_id) c.self.view_is in
     let sound : IsSound c.args.self.now = subst IsSound c.self.view_is c.self.invariant in
     let last = c.self.invariant.last_id_at_most in
-    let is : c.drops.result ≡ drops_from 0 (map tally_of c.args.self.now.lanes) c.args.rows.now =
-    c.drops.ensures ∙ ap (λ (ts : List Tally). drops_from 0 ts c.args.rows.now) (c.tallies-tallies.ensures ∙ ap (λ (s : Stock). map tally_of s.lanes) c.self.view_is)
-    in
-    drops-Some c.args.self.now c.args.rows.now c.drops.result sound (omega (arith, last, same)) is
+    let is : c.drops_for.result ≡ drops_from 0 (map tally_of c.args.self.now.lanes) c.args.rows.now =
+    c.drops_for.ensures ∙ ap (λ (s : Stock). drops_from 0 (map tally_of s.lanes) c.args.rows.now) c.self.view_is in
+    drops-Some c.args.self.now c.args.rows.now c.drops_for.result sound (omega (arith, last, same)) is
 
 pub returns-clause-none : goal.returns-clause-none
 returns-clause-none c =
     let sound : IsSound c.args.self.now = subst IsSound c.self.view_is c.self.invariant in
-    let is : c.drops.result ≡ drops_from 0 (map tally_of c.args.self.now.lanes) c.args.rows.now =
-    c.drops.ensures ∙ ap (λ (ts : List Tally). drops_from 0 ts c.args.rows.now) (c.tallies-tallies.ensures ∙ ap (λ (s : Stock). map tally_of s.lanes) c.self.view_is)
-    in
-    drops-None c.args.self.now c.args.rows.now c.drops.result sound is
+    let is : c.drops_for.result ≡ drops_from 0 (map tally_of c.args.self.now.lanes) c.args.rows.now =
+    c.drops_for.ensures ∙ ap (λ (s : Stock). drops_from 0 (map tally_of s.lanes) c.args.rows.now) c.self.view_is in
+    drops-None c.args.self.now c.args.rows.now c.drops_for.result sound is
