@@ -6,6 +6,7 @@ use Rattle.std.proofs.lemmas.Bool.{cases_eq}
 use Rattle.std.proofs.lemmas.List.Sorted.{IsPermutation-refl, IsPermutation-sym, IsPermutation-cons, IsPermutation-trans, IsPermutation-append_right, IsPermutation-middle}
 use Rattle.dnp_eventbuf.specs.declared.numbered.Numbered.{Numbered}
 use Rattle.dnp_eventbuf.specs.Stock.{row_of}
+use Rattle.dnp_objects.specs.declared.limits.TheConstants.{LANES}
 use Rattle.dnp_objects.specs.declared.row.Row.{Row}
 use Rattle.dnp_outstation.specs.Items.{Thing, Item}
 use Rattle.dnp_outstation.specs.Items.Thing.{Event, Present}
@@ -30,8 +31,8 @@ among_range lane from (suc n) low high = by (cases_eq from lane) (λ next. among
     by (inl same) behind = inl (same, apart_behind lane (from + 1) n (omega arith))
     by (inr other) behind = inr (other, behind (omega arith))
 
-among_lanes : (lane : ℕ) → lane < 9 → IsAmong lane lane_numbers
-among_lanes lane low = among_range lane 0 9 (omega arith) (omega arith)
+among_lanes : (lane : ℕ) → lane < LANES → IsAmong lane lane_numbers
+among_lanes lane low = among_range lane 0 LANES (omega arith) (omega arith)
 
 abbrev rows_over : List Item → List ℕ → List Row
 rows_over items numbers = flat_map (λ lane. map row_of (rows_in_lane lane items)) numbers
@@ -82,7 +83,7 @@ abbrev pub IsLow : Item → Type 0
 IsLow x = of x.thing
   where
     of : Thing → Type 0
-    of (Event lane row) = lane < 9
+    of (Event lane row) = lane < LANES
     of (Present static) = Unit {0}
 
 pub same_by_lanes : (items : List Item) → AllByRecursion IsLow items → IsPermutation (events_in items) (rows_by_lane items)

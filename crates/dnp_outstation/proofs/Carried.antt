@@ -8,6 +8,7 @@ use Rattle.std.proofs.lemmas.List.Elements.{filter_map-append}
 use Rattle.dnp_eventbuf.specs.declared.numbered.Numbered.{Numbered}
 use Rattle.dnp_eventbuf.specs.Sound.{IsSound}
 use Rattle.dnp_eventbuf.specs.Stock.{Stock, LaneState, lane_at, no_lane, row_of, up_to, lanes_up_to, all_up_to}
+use Rattle.dnp_objects.specs.declared.limits.TheConstants.{LANES}
 use Rattle.dnp_objects.specs.declared.row.Row.{Row}
 use Rattle.dnp_appfragment.specs.Headers.{Head}
 use Rattle.dnp_outstation.specs.declared.offer.place.Place.{Place}
@@ -21,7 +22,7 @@ use Rattle.dnp_outstation.proofs.ReadLanes.{read_once, enabled_once}
 use Rattle.dnp_outstation.proofs.Longest.{begins_with}
 
 -- the ids of a lane's rows rise
-pub lane_rises : (s : Stock) (lane : ℕ) → IsSound s → lane < 9 → Rising 0 (lane_at s lane).rows
+pub lane_rises : (s : Stock) (lane : ℕ) → IsSound s → lane < LANES → Rising 0 (lane_at s lane).rows
 lane_rises s lane sound low =
     let l = sound.each lane low in
     rising_from 0 (lane_at s lane).rows l.rising (λ k d short. let h : 1 ≤ (get_or (lane_at s lane).rows k d).id = l.from_1 k d short in omega arith)
@@ -36,12 +37,12 @@ held_rows items lane =
       is = ap (rows_in_lane lane) (begins_with fits_fragment items refl) ∙ filter_map-append (row_in lane) (held_of items) rest;
     }
 
-pub last_id_is : (items : List Item) (lane : ℕ) → lane < 9 → slice_index (last_ids items) lane ≡ last_or 0 (rows_in_lane lane items)
+pub last_id_is : (items : List Item) (lane : ℕ) → lane < LANES → slice_index (last_ids items) lane ≡ last_or 0 (rows_in_lane lane items)
 last_id_is items lane low =
-    last_given no_ids items lane low ∙ ap (λ (id : ℕ). last_or id (rows_in_lane lane items)) (get_or-replicate 9 lane 0 0 low)
+    last_given no_ids items lane low ∙ ap (λ (id : ℕ). last_or id (rows_in_lane lane items)) (get_or-replicate LANES lane 0 0 low)
 
 -- the first rows of a lane are those up to the last of them
-rows_upto : (rows : List Numbered) (items : List Item) (lane : ℕ) → lane < 9 → Rising 0 rows → Starts (rows_in_lane lane items) rows
+rows_upto : (rows : List Numbered) (items : List Item) (lane : ℕ) → lane < LANES → Rising 0 rows → Starts (rows_in_lane lane items) rows
     → rows_in_lane lane items ≡ filter (λ x. nat_le x.id (slice_index (last_ids items) lane)) rows
 rows_upto rows items lane low rising starts =
     let held = rows_in_lane lane items in
@@ -52,7 +53,7 @@ rows_upto rows items lane low rising starts =
 -- ---- of a READ
 
 -- the rows left of a tidy lane are a beginning of it
-left_starts : (s : Stock) (stood : ℕ) (given : List ℕ) (lane : ℕ) → IsSound s → IsTidy s given → lane < 9
+left_starts : (s : Stock) (stood : ℕ) (given : List ℕ) (lane : ℕ) → IsSound s → IsTidy s given → lane < LANES
     → Starts (rows_left s stood given lane) (lane_at s lane).rows
 left_starts s stood given lane sound tidy low =
     let rows = (lane_at s lane).rows in
@@ -61,7 +62,7 @@ left_starts s stood given lane sound tidy low =
     let first : filter (upto stood) rows ++ filter (over stood) rows ≡ rows = upto_first stood 0 rows (lane_rises s lane sound low) in
     record { rest = filter (over stood) rows; is = sym first ∙ ap (λ (l : List Numbered). filter (upto stood) l ++ filter (over stood) rows) (sym all) }
 
-pub read_rows : (s : Source) (stood : ℕ) (place : Place) (headers : List Head) (lane : ℕ) → IsSound s.lanes → length place.given ≡ 9 → lane < 9
+pub read_rows : (s : Source) (stood : ℕ) (place : Place) (headers : List Head) (lane : ℕ) → IsSound s.lanes → length place.given ≡ LANES → lane < LANES
     → Starts (rows_in_lane lane (held_of (items_left s stood place headers))) (rows_left s.lanes stood place.given lane)
 read_rows s stood place headers lane sound nine low =
     let items = items_left s stood place headers in
@@ -70,7 +71,7 @@ read_rows s stood place headers lane sound nine low =
     (lane_rises s.lanes lane sound low) (omega arith)
     (read_once s place.count place.header headers lane))
 
-pub fragment_rows : (s : Source) (stood : ℕ) (place : Place) (headers : List Head) → IsSound s.lanes → IsTidy s.lanes place.given → length place.given ≡ 9
+pub fragment_rows : (s : Source) (stood : ℕ) (place : Place) (headers : List Head) → IsSound s.lanes → IsTidy s.lanes place.given → length place.given ≡ LANES
     → AreRowsUpto s.lanes (offered s stood place headers).upto (held_of (items_left s stood place headers))
 unfolding offered_of
 fragment_rows s stood place headers sound tidy nine = λ lane low.
@@ -158,14 +159,14 @@ flat_map_agree : {A : Type 0} (n : ℕ) (f g : ℕ → List A) (ks : List ℕ) �
 flat_map_agree n f g [] below same = refl
 flat_map_agree n f g (k ∷ ks) below same = ap (λ l. l ++ flat_map f ks) (same k below.0) ∙ ap (λ l. g k ++ l) (flat_map_agree n f g ks below.1 same)
 
-nine_below : AllBelow 9 lane_numbers
+nine_below : AllBelow LANES lane_numbers
 nine_below = (omega arith, (omega arith, (omega arith, (omega arith, (omega arith, (omega arith, (omega arith, (omega arith, (omega arith, tt)))))))))
 
 -- a release of ids takes the rows up to them
-pub released_rows : (s : Stock) (ids : List ℕ) (items : List Item) → length s.lanes ≡ 9 → length ids ≡ 9 → AreRowsUpto s ids items
+pub released_rows : (s : Stock) (ids : List ℕ) (items : List Item) → length s.lanes ≡ LANES → length ids ≡ LANES → AreRowsUpto s ids items
     → all_up_to s ids ≡ rows_by_lane items
 released_rows s ids items nine nine_ids are =
     each_lane s.lanes ids (nine_ids ∙ sym nine)
     ∙ ap (λ (n : ℕ). flat_map (taken_rows s.lanes ids) (counted n)) nine
-    ∙ flat_map_agree 9 (taken_rows s.lanes ids) (λ lane. map row_of (rows_in_lane lane items)) lane_numbers nine_below
+    ∙ flat_map_agree LANES (taken_rows s.lanes ids) (λ lane. map row_of (rows_in_lane lane items)) lane_numbers nine_below
     (λ lane low. ap (map row_of) (sym (are lane low)))

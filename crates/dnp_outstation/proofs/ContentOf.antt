@@ -1,5 +1,5 @@
 -- What a request makes of an outstation: the connection and the lanes stay, and the answer is that of a READ or plain.
-use Rattle.std.proofs.Common.{◌≡◌, Bool, true, false, if◌then◌else◌, refl, ◌∙◌, subst, ℕ, ◌<◌, ◌^◌, ◌↔◌, ◌==◌, nat_lt, List, [], ◌∷◌, ◌++◌, length, arith, Option, None, Some, IfSome, IsSome, Result, Ok, Err, eqb-true}
+use Rattle.std.proofs.Common.{◌≡◌, Bool, true, false, if◌then◌else◌, refl, ◌∙◌, subst, ℕ, ◌<◌, ◌^◌, ◌↔◌, ◌-◌, ◌==◌, nat_lt, List, [], ◌∷◌, ◌++◌, length, arith, Option, None, Some, IfSome, IsSome, Result, Ok, Err, eqb-true}
 use Rattle.std.specs.Prelude.{⊤}
 use Rattle.std.specs.List.{All, list_all}
 use Rattle.dnp_appfragment.specs.declared.fault.AppFault.{AppFault}
@@ -16,6 +16,7 @@ use Rattle.dnp_appfragment.specs.Meaning.{request_at}
 use Rattle.std.proofs.Math.ListN.{length-set}
 use Rattle.dnp_controls.specs.Panel.{Panel}
 use Rattle.dnp_controls.specs.Selecting.{Select}
+use Rattle.dnp_objects.specs.declared.limits.TheConstants.{MAX_FRAGMENT}
 use Rattle.dnp_outstation.specs.Items.{first_place, last_in, is_inside}
 use Rattle.dnp_outstation.specs.State.{State}
 use Rattle.dnp_outstation.specs.Content.{Content, Executed, plain, answered, content_of, for_request, by_function, read_content, source_of, refused, written, write_bits, time_written, enabled_after, switched, class_in, no_delay, bits_of, parameter_error, no_func_code_support}
@@ -192,7 +193,7 @@ module _ (Fine : List Head → Type 0) (s : State) (o : Panel) (now : ℕ) (octe
   outcome_ready : (r : Result Asked AppFault) → request_at octets ≡ r
       → IsReady Fine (outcome_at s.core.session.selects s.core.times.select_ms o now octets r)
   outcome_ready (Err fault) is = tt
-  outcome_ready (Ok asked) is = by (nat_lt 2046 (length octets))
+  outcome_ready (Ok asked) is = by (nat_lt (MAX_FRAGMENT - 2) (length octets))
     where
       by : (b : Bool)
           → IsReady Fine (if b then Err parameter_error

@@ -5,11 +5,11 @@ use Rattle.std.specs.List.{flat_map, list_all, range_with_len}
 use Rattle.std.proofs.lemmas.List.{drop-drop}
 use Rattle.std.proofs.Math.Nat.{mul-div_cancel_left, mul-le-mul_right}
 use Rattle.std.proofs.lemmas.Bool.{and_parts}
-use Rattle.dnp_objects.specs.Objects.{objects, content_of}
+use Rattle.dnp_objects.specs.Objects.{objects, content_of, object_size}
 use Rattle.dnp_objects.specs.declared.command.Command.{Command}
 use Rattle.dnp_appfragment.specs.declared.table.Form.TheVariants as form
-use Rattle.dnp_appfragment.specs.Table.{Rule, allows, form_eq, rules, takes_of, is_rule}
-use Rattle.dnp_appfragment.specs.Headers.{Head, IsHeader, count_of, prefix_size, header_octets, qualifier_of, range_octets, spelled}
+use Rattle.dnp_appfragment.specs.Table.{Rule, allows, form_eq, rules, takes_of, is_rule, IsInTable}
+use Rattle.dnp_appfragment.specs.Headers.{Head, IsHeader, count_of, octets_of, prefix_size, header_octets, qualifier_of, range_octets, spelled}
 use Rattle.dnp_appfragment.specs.declared.header.Range.{Range}
 use Rattle.std.proofs.lemmas.List.Concat.{flat_map-append}
 use Rattle.dnp_appfragment.specs.Built.{Built, heads, size, with_header}
@@ -93,32 +93,28 @@ OfObject : ℕ → ℕ → Type 0
 OfObject g v = (r : Range) (octets : List ℕ) → IsHeader form.Command (record { group = g; variation = v; range = r; octets = octets })
     → OfCommands (record { group = g; variation = v; range = r; octets = octets })
 
+-- objects of n octets each, which may stand in a response too
+of_size : (n g v : ℕ) (r : Range) (octets : List ℕ) → 1 ≤ n → object_size g v ≡ Some n → IsInTable form.Response g v (qualifier_of r)
+    → IsHeader form.Command (record { group = g; variation = v; range = r; octets = octets })
+    → OfCommands (record { group = g; variation = v; range = r; octets = octets })
+of_size n g v r octets some size stands is = record {
+  each = prefix_size r + n;
+  some = omega arith;
+  whole = is.objects ∙ ap (octets_of (count_of r) (prefix_size r)) size;
+  answers = λ others same. record { object = stands; fits = is.fits; forward = is.forward; objects = same ∙ is.objects };
+}
+
 block : OfObject 12 1
 unfolding OfObject takes_of rules objects content_of
-block r octets is = record {
-  each = prefix_size r + 11;
-  some = omega arith;
-  whole = is.objects;
-  answers = λ others same. record { object = is.object; fits = is.fits; forward = is.forward; objects = same ∙ is.objects };
-}
+block r octets is = of_size 11 12 1 r octets (omega arith) refl is.object is
 
 wide : OfObject 41 1
 unfolding OfObject takes_of rules objects content_of
-wide r octets is = record {
-  each = prefix_size r + 5;
-  some = omega arith;
-  whole = is.objects;
-  answers = λ others same. record { object = is.object; fits = is.fits; forward = is.forward; objects = same ∙ is.objects };
-}
+wide r octets is = of_size 5 41 1 r octets (omega arith) refl is.object is
 
 narrow : OfObject 41 2
 unfolding OfObject takes_of rules objects content_of
-narrow r octets is = record {
-  each = prefix_size r + 3;
-  some = omega arith;
-  whole = is.objects;
-  answers = λ others same. record { object = is.object; fits = is.fits; forward = is.forward; objects = same ∙ is.objects };
-}
+narrow r octets is = of_size 3 41 2 r octets (omega arith) refl is.object is
 
 pub of_commands : (h : Head) → IsHeader form.Command h → OfCommands h
 unfolding OfObject takes_of

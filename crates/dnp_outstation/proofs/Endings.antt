@@ -110,3 +110,18 @@ pub restart_by : (x : Switches) (restart : Bool) (next : Option Answer) → rest
     → IfSome next (λ a. restart ≡ a.switches.restart)
 restart_by x restart None is all = tt
 restart_by x restart (Some a) is all = is ∙ ap (λ (y : Switches). y.restart) (sym all)
+
+-- what isn't ready starts nothing
+pub nothing_at_end : (now : ℕ) (step : Step) → false ≡ is_ready step.state.core → at_end now step ≡ step
+nothing_at_end now step unready =
+    let c = step.state.core in
+    ap (λ (b : Bool). if b then starts step now (content_from (pushed step.state.lanes c.enabled)) else step)
+    (unready_rows c.times.unsolicited c.announced c.is_open (is_free c) (has_enabled_rows step.state) unready)
+  where
+    unready_rows : (on announced opened free rows : Bool) → false ≡ (on && (announced && (opened && free)))
+        → (on && (announced && (opened && (free && rows)))) ≡ false
+    unready_rows true true true true rows unready = cc
+    unready_rows true true true false rows unready = refl
+    unready_rows true true false free rows unready = refl
+    unready_rows true false opened free rows unready = refl
+    unready_rows false announced opened free rows unready = refl

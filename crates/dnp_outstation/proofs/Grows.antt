@@ -5,6 +5,7 @@ use Rattle.std.proofs.lemmas.Bool.{leb-true, le-leb}
 use Rattle.std.proofs.lemmas.List.{length-append}
 use Rattle.dnp_appfragment.specs.Headers.{header_octets, spelled}
 use Rattle.dnp_appfragment.specs.Items.{item_octets}
+use Rattle.dnp_objects.specs.declared.limits.TheConstants.{MAX_FRAGMENT}
 use Rattle.dnp_outstation.specs.Items.{Thing, Item}
 use Rattle.dnp_outstation.specs.Items.Thing.{Event, Present}
 use Rattle.dnp_outstation.specs.Layout.{object_of, goes_on, Stretch, alone, in_front, stretches, range_of, header_of, response_size, fits_fragment}
@@ -158,9 +159,9 @@ response_grows xs ys = let e = sizes_grow xs ys in omega arith
 
 pub fits_begins : (xs ys : List Item) → fits_fragment (xs ++ ys) ≡ true → fits_fragment xs ≡ true
 fits_begins xs ys fit =
-    let within = leb-true (response_size (xs ++ ys)) 2048 fit in
+    let within = leb-true (response_size (xs ++ ys)) MAX_FRAGMENT fit in
     let grows = response_grows xs ys in
-    le-leb (response_size xs) 2048 (omega arith)
+    le-leb (response_size xs) MAX_FRAGMENT (omega arith)
 
 -- one item's response: the front, a header, the object
 pub one_size : (x : Item) → response_size (x ∷ []) ≡ 4 + (own x + overhead x.thing)

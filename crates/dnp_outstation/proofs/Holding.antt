@@ -5,6 +5,7 @@ use Rattle.std.proofs.lemmas.Bool.{cases_eq, leb-true}
 use Rattle.std.proofs.lemmas.Bool.Decides.{nat_tests}
 use Rattle.std.proofs.lemmas.List.{take-append-drop, map-append, get_or-set_same, get_or-set_other}
 use Rattle.dnp_objects.specs.declared.lane.LaneRow.{LaneRow}
+use Rattle.dnp_objects.specs.declared.limits.TheConstants.{LANES}
 use Rattle.dnp_objects.specs.declared.row.Row.{Row}
 use Rattle.dnp_objects.specs.Lanes.{lane_number}
 use Rattle.dnp_eventbuf.specs.declared.numbered.Numbered.{Numbered}
@@ -13,7 +14,7 @@ use Rattle.dnp_eventbuf.specs.Stock.{Stock, LaneState, no_lane, lane_at, is_full
 use Rattle.dnp_outstation.specs.declared.held.NewRow.{NewRow}
 use Rattle.dnp_outstation.specs.declared.offer.writer.Writer.{Writer}
 use Rattle.dnp_outstation.specs.Items.{Item, event_of, class_lanes, enabled_lanes, lane_items}
-use Rattle.dnp_outstation.specs.Filling.{put, fits, fill, ended}
+use Rattle.dnp_outstation.specs.Filling.{put, fill}
 use Rattle.dnp_outstation.specs.Holding.{new_of, kept_of, more_of}
 use Rattle.dnp_outstation.specs.Putting.{Puts}
 use Rattle.dnp_outstation.proofs.LeftLanes.{last_is}
@@ -100,7 +101,7 @@ new_rows : (lane : LaneState) (x : Numbered) (full : Bool) → is_full lane ≡ 
 new_rows lane x true is = ap (λ (b : Bool). (if b then moved_on lane x else added_in lane x).rows) is
 new_rows lane x false is = ap (λ (b : Bool). (if b then moved_on lane x else added_in lane x).rows) is
 
-pub rows_then : (s : Stock) (made : Option LaneRow) (lane : ℕ) → length s.lanes ≡ 9 → lane < 9
+pub rows_then : (s : Stock) (made : Option LaneRow) (lane : ℕ) → length s.lanes ≡ LANES → lane < LANES
     → (lane_at (with_rows s (option_to_list made)) lane).rows ≡ kept_of (lane_at s lane).rows (new_of s made) lane ++ more_of (new_of s made) lane
 rows_then s None lane nine low = sym (append-nil (lane_at s lane).rows)
 rows_then s (Some x) lane nine low = elim (cases_eq (lane_number x.lane) lane) [
@@ -147,7 +148,7 @@ last_new xs x = last_is (xs ++ x ∷ []) ∙ behind 0 xs
     behind low [] = refl
     behind low (y ∷ ys) = behind y.id ys
 
-pub last_then : (s : Stock) (x : LaneRow) → length s.lanes ≡ 9 → lane_number x.lane < 9
+pub last_then : (s : Stock) (x : LaneRow) → length s.lanes ≡ LANES → lane_number x.lane < LANES
     → last_of (lane_at (with_rows s (x ∷ [])) (lane_number x.lane)).rows ≡ s.last_id + 1
 last_then s x nine low =
     let lane : ℕ = lane_number x.lane in
@@ -159,7 +160,7 @@ last_then s x nine low =
     ∙ last_new (if full then drop 1 (lane_at s lane).rows else (lane_at s lane).rows) row
 
 -- a full lane drops a row
-pub dropped_then : (s : Stock) (x : LaneRow) (rows : List Row) → IsSound s → lane_number x.lane < 9 → rows ≡ dropped_by s (x ∷ [])
+pub dropped_then : (s : Stock) (x : LaneRow) (rows : List Row) → IsSound s → lane_number x.lane < LANES → rows ≡ dropped_by s (x ∷ [])
     → nat_lt 0 (length rows) ≡ is_full (lane_at s (lane_number x.lane))
 dropped_then s x rows sound low is =
     ap (λ (l : List Row). nat_lt 0 (length l)) is ∙ by (lane_at s (lane_number x.lane)) (is_full (lane_at s (lane_number x.lane))) refl
@@ -180,7 +181,7 @@ dropped_then s x rows sound low is =
 
 -- ---- whole lanes, one after the other
 
-pub lane_put : (s : Stock) (made : Option LaneRow) (new : Option NewRow) (lane : ℕ) (w w' : Writer) (fit : Bool) → IsSound s → lane < 9 → new ≡ new_of s made
+pub lane_put : (s : Stock) (made : Option LaneRow) (new : Option NewRow) (lane : ℕ) (w w' : Writer) (fit : Bool) → IsSound s → lane < LANES → new ≡ new_of s made
     → Puts w (map (event_of 0 lane) (kept_of (lane_at s lane).rows new lane ++ more_of new lane)) fit w'
     → Puts w (lane_items (with_rows s (option_to_list made)) (lane ∷ [])) fit w'
 lane_put s made new lane w w' fit sound low new_is put =

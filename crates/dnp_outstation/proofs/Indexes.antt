@@ -8,9 +8,8 @@ use Rattle.dnp_objects.specs.Lanes.{lane_number}
 use Rattle.dnp_objects.specs.declared.lane.LaneRow.{LaneRow}
 use Rattle.dnp_eventbuf.specs.declared.numbered.Numbered.{Numbered}
 use Rattle.dnp_eventbuf.specs.Stock.{LaneState, Stock, lane_at, no_lane, is_full, put_in, added_in, moved_on, with_row, with_rows, without, without_all}
-use Rattle.dnp_eventbuf.proofs.Ids.{left}
 use Rattle.dnp_outstation.specs.Said.{HaveIndexes}
-use Rattle.dnp_outstation.proofs.Left.{no_row}
+use Rattle.dnp_outstation.proofs.Left.{OnlyOldLeft, no_row}
 
 abbrev HasIndex : Numbered → Type 0
 HasIndex x = x.row.index < 2 ^ 16
@@ -51,8 +50,8 @@ appended_indexes s (x ∷ xs) all have =
     let Has : LaneRow → Type 0 = λ y. y.row.index < 2 ^ 16 in
     appended_indexes (with_row s x) xs (All-tail Has x xs all) (one_row s x (All-head Has x xs all) have)
 
-pub released_indexes : (s : Stock) (upto : List ℕ) → HaveIndexes s → HaveIndexes (without s upto)
-released_indexes s upto have = λ lane low.
+pub released_indexes : OnlyOldLeft → (s : Stock) (upto : List ℕ) → HaveIndexes s → HaveIndexes (without s upto)
+released_indexes left s upto have = λ lane low.
     All-weaker (Contains (lane_at s lane).rows) HasIndex (λ x there. All-contains HasIndex (lane_at s lane).rows x (have lane low) there)
     (lane_at (without s upto) lane).rows (left s upto lane)
 

@@ -5,6 +5,7 @@ use Rattle.std.proofs.lemmas.List.Elements.{All-nil, All-append, All-map, All-fi
 use Rattle.dnp_objects.specs.Lanes.{lane_number}
 use Rattle.dnp_objects.specs.Events.{IsEvent}
 use Rattle.dnp_objects.specs.declared.lane.Lane.{Lane}
+use Rattle.dnp_objects.specs.declared.limits.TheConstants.{LANES}
 use Rattle.dnp_objects.specs.declared.row.Kind.TheVariants.{Binary, Counter, Analog}
 use Rattle.dnp_eventbuf.specs.declared.numbered.Numbered.{Numbered}
 use Rattle.dnp_eventbuf.specs.Carried.{IsCarried}
@@ -23,11 +24,11 @@ use Rattle.dnp_outstation.proofs.Left.{All-first}
 
 abbrev AreLow : List ℕ → Type 0
 AreLow [] = Unit {0}
-AreLow (lane ∷ lanes) = (lane < 9) × AreLow lanes
+AreLow (lane ∷ lanes) = (lane < LANES) × AreLow lanes
 
 -- so of each row and each present value, for whatever header
 record AreAll (Q : Item → Type 0) (s : Source) : Type 0 where
-  events : (lane : ℕ) → lane < 9 → All (λ x. (header : ℕ) → Q (event_of header lane x)) (lane_at s.lanes lane).rows
+  events : (lane : ℕ) → lane < LANES → All (λ x. (header : ℕ) → Q (event_of header lane x)) (lane_at s.lanes lane).rows
   present : (group : ℕ) → All (λ x. (header : ℕ) → Q (present_of header x)) (statics_of s group)
 
 abbrev IsPart : (Item → Type 0) → Part → Type 0
@@ -128,7 +129,7 @@ read_are : (Q : Item → Type 0) (s : Source) (stood : ℕ) (place : Place) (hea
     → All Q (held_of (items_left s stood place headers))
 read_are Q s stood place headers all = held_are Q (items_left s stood place headers) (left_are Q s stood place headers all)
 
-lane_items_are : (Q : Item → Type 0) (s : Stock) (lanes : List ℕ) → ((lane : ℕ) → lane < 9 → All (λ x. Q (event_of 0 lane x)) (lane_at s lane).rows)
+lane_items_are : (Q : Item → Type 0) (s : Stock) (lanes : List ℕ) → ((lane : ℕ) → lane < LANES → All (λ x. Q (event_of 0 lane x)) (lane_at s lane).rows)
     → AreLow lanes → All Q (lane_items s lanes)
 lane_items_are Q s [] all low = All-nil Q
 lane_items_are Q s (lane ∷ lanes) all low =
@@ -142,7 +143,7 @@ enabled_low class (false ∷ bs) few = enabled_low (class + 1) bs (omega arith)
 
 -- ---- they can be written, and their lanes are nine
 
-lane_of : (n : ℕ) → n < 9 → (lane : Lane) × (lane_number lane ≡ n)
+lane_of : (n : ℕ) → n < LANES → (lane : Lane) × (lane_number lane ≡ n)
 lane_of zero low = (record { class = 1; kind = Binary; at_least_1 = omega arith; at_most_3 = omega arith }, refl)
 lane_of (suc zero) low = (record { class = 1; kind = Counter; at_least_1 = omega arith; at_most_3 = omega arith }, refl)
 lane_of (suc (suc zero)) low = (record { class = 1; kind = Analog; at_least_1 = omega arith; at_most_3 = omega arith }, refl)
@@ -155,13 +156,13 @@ lane_of (suc (suc (suc (suc (suc (suc (suc (suc zero)))))))) low =
     (record { class = 3; kind = Analog; at_least_1 = omega arith; at_most_3 = omega arith }, refl)
 lane_of (suc (suc (suc (suc (suc (suc (suc (suc (suc n))))))))) low = absurd (omega arith)
 
-lane_events : (s : Stock) (lane : ℕ) → IsSound s → lane < 9 → All (λ x. IsEvent x.row) (lane_at s lane).rows
+lane_events : (s : Stock) (lane : ℕ) → IsSound s → lane < LANES → All (λ x. IsEvent x.row) (lane_at s lane).rows
 lane_events s lane sound low =
     let of = lane_of lane low in
     All-weaker (λ (x : Numbered). IsCarried (record { lane = of.0; row = x.row })) (λ (x : Numbered). IsEvent x.row) (λ x h. h.fits) (lane_at s lane).rows
     ((sound.each lane low).carried of.0 of.1)
 
-events_stand : (s : Stock) (lane : ℕ) → IsSound s → lane < 9 → All (λ x. x.row.index < 2 ^ 16) (lane_at s lane).rows
+events_stand : (s : Stock) (lane : ℕ) → IsSound s → lane < LANES → All (λ x. x.row.index < 2 ^ 16) (lane_at s lane).rows
     → All (λ x. (header : ℕ) → CanStand (event_of header lane x)) (lane_at s lane).rows
 events_stand s lane sound low short = λ k d within header. (lane_events s lane sound low k d within, short k d within)
 
@@ -186,7 +187,7 @@ held_low s stood place headers = read_are IsLow s stood place headers (record {
 })
 
 pub pushed_stand : (s : Stock) (enabled : List Bool) → IsSound s → length enabled ≤ 3
-    → ((lane : ℕ) → lane < 9 → All (λ x. x.row.index < 2 ^ 16) (lane_at s lane).rows)
+    → ((lane : ℕ) → lane < LANES → All (λ x. x.row.index < 2 ^ 16) (lane_at s lane).rows)
     → All CanStand (held_of (lane_items s (enabled_lanes 0 enabled)))
 pushed_stand s enabled sound few short =
     held_are CanStand (lane_items s (enabled_lanes 0 enabled))

@@ -1,5 +1,5 @@
 -- What stands in the lanes of what a READ was given: rows once, and nothing but the last fragment's.
-use Rattle.std.proofs.Common.{◌≡◌, ◌⊎◌, inl, inr, Bool, true, false, refl, sym, ◌∙◌, ap, subst, ℕ, ◌<◌, ◌≤◌, ◌==◌, List, [], ◌∷◌, ◌++◌, map, length, get_or, arith, None, Some, ◌↔◌, eq-eqb, eqb-true}
+use Rattle.std.proofs.Common.{◌≡◌, ◌⊎◌, inl, inr, Bool, true, false, refl, sym, ◌∙◌, ap, subst, ℕ, ◌+◌, ◌<◌, ◌≤◌, ◌==◌, List, [], ◌∷◌, ◌++◌, map, length, get_or, arith, None, Some, ◌↔◌, eq-eqb, eqb-true}
 use Rattle.std.specs.Prelude.{fold, slice_index, if◌then◌else◌}
 use Rattle.std.specs.List.{All, Contains, filter}
 use Rattle.std.proofs.lemmas.Bool.{cases_lt, ltb-true, leb-true}
@@ -9,10 +9,8 @@ use Rattle.dnp_objects.specs.declared.lane.LaneRow.{LaneRow}
 use Rattle.dnp_eventbuf.specs.declared.numbered.Numbered.{Numbered}
 use Rattle.dnp_eventbuf.specs.Sound.{IsSound}
 use Rattle.dnp_eventbuf.specs.Stock.{Stock, LaneState, lane_at, no_lane, emptied, above, with_rows, without, without_all}
-use Rattle.dnp_eventbuf.proofs.Ids.{new_ids, left}
-use Rattle.dnp_eventbuf.proofs.Limits.{last_id-with_rows}
-use Rattle.dnp_eventbuf.proofs.Soundness.{get_or-lanes_above}
 use Rattle.dnp_appfragment.specs.Headers.{Head}
+use Rattle.dnp_objects.specs.declared.limits.TheConstants.{LANES}
 use Rattle.dnp_outstation.specs.declared.offer.place.Place.{Place}
 use Rattle.dnp_outstation.specs.Items.{Item, Source, no_ids, given_after, place_after, rows_left, items_left}
 use Rattle.dnp_outstation.specs.Offer.{held_of, last_ids, offered_of, offered}
@@ -28,7 +26,7 @@ All-first P xs ys all = λ k d low. subst P (get_or_append_left xs ys d k low) (
 
 -- ---- the rows of a fragment, in order
 
-given_rise : (s : Stock) (stood : ℕ) (given : List ℕ) (lane : ℕ) → IsSound s → lane < 9 → Rising (slice_index given lane) (rows_left s stood given lane)
+given_rise : (s : Stock) (stood : ℕ) (given : List ℕ) (lane : ℕ) → IsSound s → lane < LANES → Rising (slice_index given lane) (rows_left s stood given lane)
 given_rise s stood given lane sound low =
     let rows = (lane_at s lane).rows in
     let id = slice_index given lane in
@@ -39,7 +37,7 @@ given_rise s stood given lane sound low =
     rising_from id (filter (upto stood) passed) (pairs_from 0 (filter (upto stood) passed) up)
     (All-filter (upto stood) (λ (x : Numbered). id < x.id) passed behind)
 
-held_rise : (s : Source) (stood : ℕ) (place : Place) (headers : List Head) (lane : ℕ) → IsSound s.lanes → length place.given ≡ 9 → lane < 9
+held_rise : (s : Source) (stood : ℕ) (place : Place) (headers : List Head) (lane : ℕ) → IsSound s.lanes → length place.given ≡ LANES → lane < LANES
     → Rising (slice_index place.given lane) (rows_in_lane lane (held_of (items_left s stood place headers)))
 held_rise s stood place headers lane sound nine low =
     let held = rows_in_lane lane (held_of (items_left s stood place headers)) in
@@ -47,7 +45,7 @@ held_rise s stood place headers lane sound nine low =
     rising_begins (slice_index place.given lane) held starts.rest
     (subst (Rising (slice_index place.given lane)) starts.is (given_rise s.lanes stood place.given lane sound low))
 
-held_stood : (s : Source) (stood : ℕ) (place : Place) (headers : List Head) (lane : ℕ) → IsSound s.lanes → length place.given ≡ 9 → lane < 9
+held_stood : (s : Source) (stood : ℕ) (place : Place) (headers : List Head) (lane : ℕ) → IsSound s.lanes → length place.given ≡ LANES → lane < LANES
     → All (λ x. x.id ≤ stood) (rows_in_lane lane (held_of (items_left s stood place headers)))
 held_stood s stood place headers lane sound nine low =
     let P : Numbered → Type 0 = λ x. x.id ≤ stood in
@@ -59,7 +57,7 @@ held_stood s stood place headers lane sound nine low =
     (filter_passes (upto stood) passed) in
     All-first P held starts.rest (subst (All P) starts.is all)
 
-pub held_next : (s : Source) (stood : ℕ) (place : Place) (headers : List Head) → IsSound s.lanes → length place.given ≡ 9
+pub held_next : (s : Source) (stood : ℕ) (place : Place) (headers : List Head) → IsSound s.lanes → length place.given ≡ LANES
     → AreNext place.given stood (held_of (items_left s stood place headers))
 held_next s stood place headers sound nine =
     let held = held_of (items_left s stood place headers) in
@@ -84,7 +82,7 @@ chosen true x y is = cc
 chosen false x y is = cc
 
 -- the last id given in a lane after a fragment
-given_is : (s : Source) (stood : ℕ) (place next : Place) (headers : List Head) (lane : ℕ) → length place.given ≡ 9 → lane < 9
+given_is : (s : Source) (stood : ℕ) (place next : Place) (headers : List Head) (lane : ℕ) → length place.given ≡ LANES → lane < LANES
     → (offered s stood place headers).left ≡ Some next
     → slice_index next.given lane ≡ last_or (slice_index place.given lane) (rows_in_lane lane (held_of (items_left s stood place headers)))
 unfolding offered_of
@@ -95,15 +93,15 @@ given_is s stood place next headers lane nine low is =
     ∙ ap (λ (ids : List ℕ). slice_index ids lane) (place_given place held)
     ∙ last_given place.given held lane (omega arith)
 
-nine_after : (s : Source) (stood : ℕ) (place next : Place) (headers : List Head) → length place.given ≡ 9 → (offered s stood place headers).left ≡ Some next
-    → length next.given ≡ 9
+nine_after : (s : Source) (stood : ℕ) (place next : Place) (headers : List Head) → length place.given ≡ LANES → (offered s stood place headers).left ≡ Some next
+    → length next.given ≡ LANES
 unfolding offered_of
 nine_after s stood place next headers nine is =
     let held = held_of (items_left s stood place headers) in
     let p : fold place_after place held ≡ next = chosen (length held == length (items_left s stood place headers)) (fold place_after place held) next is in
     ap (λ (q : Place). length q.given) (sym p) ∙ ap length (place_given place held) ∙ length_given place.given held ∙ nine
 
-pub moves_onward : (s : Source) (stood : ℕ) (place next : Place) (headers : List Head) → IsSound s.lanes → length place.given ≡ 9
+pub moves_onward : (s : Source) (stood : ℕ) (place next : Place) (headers : List Head) → IsSound s.lanes → length place.given ≡ LANES
     → (offered s stood place headers).left ≡ Some next
     → IsOnward place.given next.given
 moves_onward s stood place next headers sound nine is = record {
@@ -116,7 +114,7 @@ moves_onward s stood place next headers sound nine is = record {
       omega arith;
 }
 
-pub all_given : (s : Source) (stood : ℕ) (place next : Place) (headers : List Head) → IsSound s.lanes → length place.given ≡ 9
+pub all_given : (s : Source) (stood : ℕ) (place next : Place) (headers : List Head) → IsSound s.lanes → length place.given ≡ LANES
     → (offered s stood place headers).left ≡ Some next
     → AreGiven next.given (held_of (items_left s stood place headers))
 all_given s stood place next headers sound nine is = λ lane low.
@@ -142,7 +140,7 @@ from_first low low' (x ∷ xs) = inr refl
 
 -- of what a READ was given nothing is left but what its new fragment carries
 pub new_leaves_nothing : (s : Source) (stood : ℕ) (place next : Place) (headers : List Head) → IsSound s.lanes → IsTidy s.lanes place.given
-    → length place.given ≡ 9
+    → length place.given ≡ LANES
     → All (λ id. id ≤ s.lanes.last_id) place.given → (offered s stood place headers).left ≡ Some next
     → LeavesOnly s.lanes next.given (offered s stood place headers).upto
 unfolding offered_of
@@ -157,7 +155,7 @@ new_leaves_nothing s stood place next headers sound tidy nine used is = record {
     items : List Item
     items = held_of (items_left s stood place headers)
 
-    last : (lane : ℕ) → lane < 9 → slice_index next.given lane ≡ last_or (slice_index place.given lane) (rows_in_lane lane items)
+    last : (lane : ℕ) → lane < LANES → slice_index next.given lane ≡ last_or (slice_index place.given lane) (rows_in_lane lane items)
     last lane low = given_is s stood place next headers lane nine low is
 
     last_within : (low most : ℕ) (xs : List Numbered) → low ≤ most → All (λ x. x.id ≤ most) xs → last_or low xs ≤ most
@@ -165,7 +163,7 @@ new_leaves_nothing s stood place next headers sound tidy nine used is = record {
     last_within low most (x ∷ xs) few all =
         last_within x.id most xs (All-head (λ (y : Numbered). y.id ≤ most) x xs all) (All-tail (λ (y : Numbered). y.id ≤ most) x xs all)
 
-    used_at : (lane : ℕ) → lane < 9 → slice_index next.given lane ≤ s.lanes.last_id
+    used_at : (lane : ℕ) → lane < LANES → slice_index next.given lane ≤ s.lanes.last_id
     used_at lane low =
         let P : Numbered → Type 0 = λ x. x.id ≤ s.lanes.last_id in
         let held = rows_in_lane lane items in
@@ -181,7 +179,7 @@ new_leaves_nothing s stood place next headers sound tidy nine used is = record {
         let within = last_within (slice_index place.given lane) s.lanes.last_id held first few in
         omega arith
 
-    carried : (lane : ℕ) → lane < 9 → All (λ x. x.id ≤ slice_index next.given lane → x.id ≤ slice_index (last_ids items) lane) (lane_at s.lanes lane).rows
+    carried : (lane : ℕ) → lane < LANES → All (λ x. x.id ≤ slice_index next.given lane → x.id ≤ slice_index (last_ids items) lane) (lane_at s.lanes lane).rows
     carried lane low = λ k d short given.
         let x = get_or (lane_at s.lanes lane).rows k d in
         let after : slice_index place.given lane < x.id = tidy lane low k d short in
@@ -192,14 +190,40 @@ new_leaves_nothing s stood place next headers sound tidy nine used is = record {
           | inr some ↦ omega arith
         ]
 
+-- ---- what the laws of the lanes say, for lemmas that rest on them
+
+-- a release leaves of each lane the rows above its id
+abbrev pub LaneByLane : Type 0
+LaneByLane = (s : Stock) (upto : List ℕ) (lane : ℕ) → length upto ≡ length s.lanes → lane < length s.lanes
+    → lane_at (without s upto) lane ≡ above (slice_index upto lane) (lane_at s lane)
+
+-- a release leaves only rows that stood there
+abbrev pub OnlyOldLeft : Type 0
+OnlyOldLeft = (s : Stock) (upto : List ℕ) (lane : ℕ) → All (Contains (lane_at s lane).rows) (lane_at (without s upto) lane).rows
+
+-- a row that comes has an id over the last one used
+abbrev pub NewIds : Type 0
+NewIds = (s : Stock) (rows : List LaneRow) (lane : ℕ)
+    → All (λ x. Contains (lane_at s lane).rows x ⊎ (s.last_id < x.id)) (lane_at (with_rows s rows) lane).rows
+
+-- and the last one used rises by as many
+abbrev pub IdsRise : Type 0
+IdsRise = (s : Stock) (rows : List LaneRow) → (with_rows s rows).last_id ≡ s.last_id + length rows
+
+-- a release keeps lanes sound
+abbrev pub StaySound : Type 0
+StaySound = (s : Stock) (upto : List ℕ) → IsSound s → length upto ≡ LANES → IsSound (without s upto)
+
+-- ---- what a release leaves
+
 -- after the release of its ids nothing that was given is left
-pub released_is_tidy : (s : Stock) (given ids : List ℕ) → length s.lanes ≡ 9 → LeavesOnly s given ids → IsTidy (without s ids) given
-released_is_tidy s given ids nine leaves = λ lane low.
+pub released_is_tidy : LaneByLane → (s : Stock) (given ids : List ℕ) → length s.lanes ≡ LANES → LeavesOnly s given ids → IsTidy (without s ids) given
+released_is_tidy by_lane s given ids nine leaves = λ lane low.
     let rows = (lane_at s lane).rows in
     let id = slice_index ids lane in
     let P : Numbered → Type 0 = λ x. slice_index given lane < x.id in
     let lane_is : lane_at (without s ids) lane ≡ above id (lane_at s lane) =
-    get_or-lanes_above s.lanes ids lane (nine ∙ sym leaves.nine_upto) (omega arith) in
+    by_lane s ids lane (leaves.nine_upto ∙ sym nine) (omega arith) in
     let carried : All (λ (x : Numbered). x.id ≤ slice_index given lane → x.id ≤ id) (filter (over id) rows) =
     All-filter (over id) (λ (x : Numbered). x.id ≤ slice_index given lane → x.id ≤ id) rows (leaves.carried lane low) in
     let passed : All (λ (x : Numbered). over id x ≡ true) (filter (over id) rows) = filter_passes (over id) rows in
@@ -217,11 +241,12 @@ released_is_tidy s given ids nine leaves = λ lane low.
 
 -- ---- what changes of the lanes keep
 
-pub appended_leaves : (s : Stock) (rows : List LaneRow) (given ids : List ℕ) → LeavesOnly s given ids → LeavesOnly (with_rows s rows) given ids
-appended_leaves s rows given ids leaves = record {
+pub appended_leaves : NewIds → IdsRise → (s : Stock) (rows : List LaneRow) (given ids : List ℕ) → LeavesOnly s given ids
+    → LeavesOnly (with_rows s rows) given ids
+appended_leaves new_ids rise s rows given ids leaves = record {
   nine = leaves.nine;
   nine_upto = leaves.nine_upto;
-  used = λ k d low. let few : get_or given k d ≤ s.last_id = leaves.used k d low in omega (arith, last_id-with_rows s rows);
+  used = λ k d low. let few : get_or given k d ≤ s.last_id = leaves.used k d low in omega (arith, rise s rows);
   carried = λ lane low.
       let P : Numbered → Type 0 = λ x. x.id ≤ slice_index given lane → x.id ≤ slice_index ids lane in
       let used : slice_index given lane ≤ s.last_id = leaves.used lane 0 (let n = leaves.nine in omega arith) in
@@ -233,8 +258,8 @@ appended_leaves s rows given ids leaves = record {
       (lane_at (with_rows s rows) lane).rows (new_ids s rows lane);
 }
 
-pub released_leaves : (s : Stock) (others given ids : List ℕ) → LeavesOnly s given ids → LeavesOnly (without s others) given ids
-released_leaves s others given ids leaves = record {
+pub released_leaves : OnlyOldLeft → (s : Stock) (others given ids : List ℕ) → LeavesOnly s given ids → LeavesOnly (without s others) given ids
+released_leaves left s others given ids leaves = record {
   nine = leaves.nine;
   nine_upto = leaves.nine_upto;
   used = leaves.used;
@@ -266,11 +291,11 @@ emptied_leaves s given ids leaves = record {
 pub begins_tidy : (s : Stock) → IsSound s → IsTidy s no_ids
 begins_tidy s sound = λ lane low k d short.
     let first : 1 ≤ (get_or (lane_at s lane).rows k d).id = (sound.each lane low).from_1 k d short in
-    let none : slice_index no_ids lane ≡ 0 = get_or-replicate 9 lane 0 0 low in
+    let none : slice_index no_ids lane ≡ 0 = get_or-replicate LANES lane 0 0 low in
     omega arith
 
 pub begins_used : (s : Stock) → All (λ id. id ≤ s.last_id) no_ids
-begins_used s = All-replicate (λ (id : ℕ). id ≤ s.last_id) 9 0 (omega arith)
+begins_used s = All-replicate (λ (id : ℕ). id ≤ s.last_id) LANES 0 (omega arith)
 
 -- ---- where nothing is left
 

@@ -2,6 +2,7 @@
 use Rattle.std.proofs.Common.{◌≡◌, ◌≢◌, inl, inr, Bool, true, false, if◌then◌else◌, refl, ap, ℕ, ◌==◌, ◌&&◌, ◌||◌, not, nat_le, nat_lt, is_none, List, [], length, Option, None, Some, IsSome, option_to_list}
 use Rattle.std.proofs.lemmas.Bool.{and_parts, and_left, and_right}
 use Rattle.dnp_objects.specs.declared.lane.LaneRow.{LaneRow}
+use Rattle.dnp_objects.specs.declared.limits.TheConstants.{MAX_FRAGMENT}
 use Rattle.dnp_objects.specs.declared.row.Kind.{Kind}
 use Rattle.dnp_pointdb.specs.Database.{changed_of}
 use Rattle.dnp_pointdb.specs.declared.reading.Reading.{Reading}
@@ -39,7 +40,7 @@ held_some s o octets = (content_answered AnyHeaders s o tt tt octets).some
 closed_case : (c : Core) (octets : List ℕ) → c.is_open ≡ false → case_of c octets ≡ PassedOver
 closed_case c octets closed =
     let none : is_looked_at c octets ≡ false =
-    ap (λ (opened : Bool). (opened && (nat_le 2 (length octets) && nat_le (length octets) 2048))
+    ap (λ (opened : Bool). (opened && (nat_le 2 (length octets) && nat_le (length octets) MAX_FRAGMENT))
     && (((control_in octets).fir && (control_in octets).fin)
     && (nat_lt (function_in octets) 129 && (not (control_in octets).uns || function_in octets == 0)))) closed
     in

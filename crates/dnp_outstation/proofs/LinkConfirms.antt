@@ -12,6 +12,7 @@ use Rattle.dnp_outstation.specs.declared.session.Reply.{Reply}
 use Rattle.dnp_outstation.specs.declared.session.Reply.TheVariants.{Held, Silent, First, Further}
 use Rattle.dnp_outstation.specs.declared.session.LastRequest.{LastRequest}
 use Rattle.dnp_outstation.specs.declared.session.Awaited.{Awaited}
+use Rattle.dnp_outstation.specs.declared.session.Session.{Session}
 use Rattle.dnp_outstation.specs.declared.session.Unsolicited.{Unsolicited}
 use Rattle.dnp_outstation.specs.Offer.{pushed}
 use Rattle.dnp_outstation.specs.State.{State, Step, sending, still, with_session, holds_read, is_free}
@@ -19,55 +20,39 @@ use Rattle.dnp_outstation.specs.Content.{Content, Executed, content_from, conten
 use Rattle.dnp_outstation.specs.Controls.{content_at}
 use Rattle.dnp_outstation.specs.Connection.{replied, asked, on_request, on_again, marked, confirmed, goes_on, on_confirm, discarding, awaits, control_in, waiting, answers_held, on_unsolicited_confirm, starts, at_end, has_enabled_rows, case_of}
 use Rattle.dnp_outstation.specs.Calls.{with_that, received, connection_after}
-use Rattle.dnp_outstation.specs.Links.{Releases, ReleasesNone, unsolicited_confirmed}
+use Rattle.dnp_outstation.specs.Links.{ExecutesNothing, Releases, ReleasesNone, unsolicited_confirmed}
 use Rattle.dnp_outstation.proofs.ContentOf.{AnyHeaders, any_fine, content_answered, content_done}
 
 -- ---- the end of a call
 
--- it releases nothing, and changes no request, no points and no lanes
+-- a session that keeps the request, its answer and the select executes nothing
+pub session_executes : (s : State) (session : Session) → session.request ≡ s.core.session.request → session.response ≡ s.core.session.response
+    → session.last ≡ s.core.session.last → session.selects ≡ s.core.session.selects → ExecutesNothing s (with_session s session)
+session_executes s session request response last selects = record {
+  restart = refl;
+  enabled = refl;
+  announced = refl;
+  points = refl;
+  times = refl;
+  request = request;
+  response = response;
+  last = last;
+  selects = selects;
+  lanes = refl;
+  performed = refl;
+}
+
+pub same_executes : (s : State) → ExecutesNothing s s
+same_executes s = session_executes s s.core.session refl refl refl refl
+
+-- it executes nothing, and releases nothing
 pub record KeptAtEnd (old new : Step) : Type 0 where
-  pub restart : new.state.core.restart ≡ old.state.core.restart
-  pub enabled : new.state.core.enabled ≡ old.state.core.enabled
-  pub announced : new.state.core.announced ≡ old.state.core.announced
-  pub points : new.state.core.points ≡ old.state.core.points
-  pub times : new.state.core.times ≡ old.state.core.times
-  pub request : new.state.core.session.request ≡ old.state.core.session.request
-  pub response : new.state.core.session.response ≡ old.state.core.session.response
-  pub last : new.state.core.session.last ≡ old.state.core.session.last
-  pub selects : new.state.core.session.selects ≡ old.state.core.session.selects
-  pub lanes : new.state.lanes ≡ old.state.lanes
-  pub performed : new.state.performed ≡ old.state.performed
+  pub state : ExecutesNothing old.state new.state
   pub discarded : new.does.discarded ≡ old.does.discarded
 
 starts_kept : (step : Step) (now : ℕ) (content : Content) → KeptAtEnd step (starts step now content)
 starts_kept step now content = record {
-  restart = refl;
-  enabled = refl;
-  announced = refl;
-  points = refl;
-  times = refl;
-  request = refl;
-  response = refl;
-  last = refl;
-  selects = refl;
-  lanes = refl;
-  performed = refl;
-  discarded = refl;
-}
-
-same_kept : (step : Step) → KeptAtEnd step step
-same_kept step = record {
-  restart = refl;
-  enabled = refl;
-  announced = refl;
-  points = refl;
-  times = refl;
-  request = refl;
-  response = refl;
-  last = refl;
-  selects = refl;
-  lanes = refl;
-  performed = refl;
+  state = session_executes step.state (starts step now content).state.core.session refl refl refl refl;
   discarded = refl;
 }
 
@@ -78,17 +63,17 @@ end_kept now step =
   where
     by : (b : Bool) → KeptAtEnd step (if b then starts step now (content_from (pushed step.state.lanes step.state.core.enabled)) else step)
     by true = starts_kept step now (content_from (pushed step.state.lanes step.state.core.enabled))
-    by false = same_kept step
+    by false = record { state = same_executes step.state; discarded = refl }
 
 releases_at_end : (old : State) (upto : List ℕ) (now : ℕ) (step : Step) → Releases old upto step → Releases old upto (at_end now step)
 releases_at_end old upto now step is =
     let end = end_kept now step in
-    record { lanes = end.lanes ∙ is.lanes; discarded = end.discarded ∙ is.discarded }
+    record { lanes = end.state.lanes ∙ is.lanes; discarded = end.discarded ∙ is.discarded }
 
 none_at_end : (old : State) (now : ℕ) (step : Step) → ReleasesNone old step → ReleasesNone old (at_end now step)
 none_at_end old now step is =
     let end = end_kept now step in
-    record { lanes = end.lanes ∙ is.lanes; discarded = end.discarded ∙ is.discarded }
+    record { lanes = end.state.lanes ∙ is.lanes; discarded = end.discarded ∙ is.discarded }
 
 -- ---- answers
 

@@ -8,21 +8,18 @@ use Rattle.std.proofs.lemmas.List.{get_or_past, nil_from_length}
 use Rattle.std.proofs.lemmas.List.Elements.{All-head, All-tail, All-filter, All-weaker}
 use Rattle.std.proofs.lemmas.List.Sorted.{IsPermutation-refl, length_permutation}
 use Rattle.dnp_appfragment.specs.declared.function.Function.TheVariants as function
+use Rattle.dnp_objects.specs.declared.limits.TheConstants.{LANES}
 use Rattle.dnp_objects.specs.declared.row.Row.{Row}
 use Rattle.dnp_appfragment.specs.Control.{ControlBits, IsControl}
 use Rattle.dnp_appfragment.specs.Fragments.{Answered, response_octets}
 use Rattle.dnp_appfragment.specs.declared.table.Form.TheVariants as form
 use Rattle.dnp_appfragment.specs.Headers.{Head, AreHeaders, begin}
 use Rattle.dnp_appfragment.specs.Table.{is_response}
-use Rattle.dnp_appfragment.proofs.OneFragment.{spelled_response}
-use Rattle.dnp_appfragment.proofs.Requests.{response_again}
 use Rattle.dnp_controls.specs.Panel.{Panel}
 use Rattle.dnp_eventbuf.specs.declared.numbered.Numbered.{Numbered}
 use Rattle.dnp_eventbuf.specs.Buffered.{Buffered, buffered_in, buffered_row, id_limit, is_upto}
 use Rattle.dnp_eventbuf.specs.Sound.{IsSound}
-use Rattle.dnp_eventbuf.specs.Stock.{Stock, lane_at}
-use Rattle.dnp_eventbuf.proofs.BufferedCalls.{release_seen}
-use Rattle.dnp_eventbuf.proofs.BufferedOnce.{sound_numbered}
+use Rattle.dnp_eventbuf.specs.Stock.{Stock, lane_at, all_up_to}
 use Rattle.dnp_outstation.specs.declared.offer.place.Place.{Place}
 use Rattle.dnp_outstation.specs.Items.{Item, no_ids, first_place, last_in, items_left, enabled_lanes, lane_items}
 use Rattle.dnp_outstation.specs.Layout.{headers_of, fits_fragment}
@@ -41,7 +38,22 @@ use Rattle.dnp_outstation.proofs.ByLanes.{IsLow}
 use Rattle.dnp_outstation.proofs.Carried.{last_id_is, fragment_rows, pushed_rows}
 use Rattle.dnp_outstation.proofs.ItemsOf.{held_stand, held_low, pushed_stand, pushed_low}
 use Rattle.dnp_outstation.proofs.Left.{begins_tidy, none_left}
-use Rattle.dnp_outstation.proofs.Reported.{response_is, held_fits, nine_ids, said_and_released}
+use Rattle.dnp_outstation.proofs.Reported.{SpelledIsSaid, RowsAreSaid, ResponsesAreSaid, held_fits, nine_ids, said_and_released}
+
+-- ---- what the laws say, for lemmas that rest on them
+
+-- buffered rows have ids from 1 up to the last one used
+abbrev pub IdsAreUsed : Type 0
+IdsAreUsed = (s : Stock) → IsSound s → All (λ x. (1 ≤ x.id) × (x.id ≤ s.last_id)) (buffered_in s)
+
+-- what a fragment says, and what a release of its ids gives
+pub record ReportLaws : Type 0 where
+  pub rows : RowsAreSaid
+  pub response : ResponsesAreSaid
+  pub spelled : SpelledIsSaid
+  pub given : (s : Stock) (upto : List ℕ) → length upto ≡ length s.lanes
+      → all_up_to s upto ≡ map buffered_row (filter (is_upto upto) (buffered_in s))
+  pub ids : IdsAreUsed
 
 -- ---- the ids of a fragment were used
 
@@ -51,9 +63,9 @@ last_within low most (x ∷ xs) few all =
     last_within x.id most xs (All-head (λ (y : Numbered). y.id ≤ most) x xs all) (All-tail (λ (y : Numbered). y.id ≤ most) x xs all)
 
 ids_used : (s : Stock) (items : List Item) → IsSound s → AreRowsUpto s (last_ids items) items → (lane : ℕ) → id_limit (last_ids items) lane ≤ s.last_id
-ids_used s items sound are lane = by (cases_lt lane 9)
+ids_used s items sound are lane = by (cases_lt lane LANES)
   where
-    by : (lane < 9) ⊎ (9 ≤ lane) → id_limit (last_ids items) lane ≤ s.last_id
+    by : (lane < LANES) ⊎ (LANES ≤ lane) → id_limit (last_ids items) lane ≤ s.last_id
     by (inl low) =
         let P : Numbered → Type 0 = λ x. x.id ≤ s.last_id in
         let all : All P (rows_in_lane lane items) =
@@ -66,39 +78,40 @@ ids_used s items sound are lane = by (cases_lt lane 9)
 
 -- ---- a response with these items
 
-reports : (s : Stock) (answered : Answered) (items : List Item) → IsSound s → answered.headers ≡ headers_of items → IsControl answered.control
+reports : ReportLaws → (s : Stock) (answered : Answered) (items : List Item) → IsSound s → answered.headers ≡ headers_of items → IsControl answered.control
     → is_response answered.function ≡ true
     → All CanStand items → All IsLow items → fits_fragment items ≡ true → AreRowsUpto s (last_ids items) items
     → Reports s (response_octets answered) answered.control (last_ids items)
-reports s answered items sound headers control function can low fit are = record {
+reports law s answered items sound headers control function can low fit are = record {
   answered = answered;
-  read = response_is answered items headers control function can fit;
+  read = law.response answered items headers control function can fit;
   control_is = refl;
   rows =
       subst (λ (hs : List Head). IsPermutation (rows_said hs) (map buffered_row (filter (is_upto (last_ids items)) (buffered_in s)))) (sym headers)
-      (subst (IsPermutation (rows_said (headers_of items))) (release_seen s (last_ids items) (nine_ids items ∙ sym sound.nine)).1
-      (said_and_released s items sound can low fit are));
+      (subst (IsPermutation (rows_said (headers_of items))) (law.given s (last_ids items) (nine_ids items ∙ sym sound.nine))
+      (said_and_released law.rows s items sound can low fit are));
   used = ids_used s items sound are;
 }
 
 -- a fragment of a READ whose place is tidy
-read_reports : (s : State) (o : Panel) (stood : ℕ) (place : Place) (headers : List Head) (answered : Answered) → IsSound s.lanes → AreWritable (source_of s o)
-    → IsTidy s.lanes place.given → length place.given ≡ 9 → answered.headers ≡ (read_content s o stood place headers).headers → IsControl answered.control
+read_reports : ReportLaws → (s : State) (o : Panel) (stood : ℕ) (place : Place) (headers : List Head) (answered : Answered) → IsSound s.lanes
+    → AreWritable (source_of s o) → IsTidy s.lanes place.given → length place.given ≡ LANES
+    → answered.headers ≡ (read_content s o stood place headers).headers → IsControl answered.control
     → is_response answered.function ≡ true → Reports s.lanes (response_octets answered) answered.control (read_content s o stood place headers).upto
 unfolding offered_of
-read_reports s o stood place headers answered sound writable tidy nine same control function =
+read_reports law s o stood place headers answered sound writable tidy nine same control function =
     let items = items_left (source_of s o) stood place headers in
-    reports s.lanes answered (held_of items) sound same control function (held_stand (source_of s o) stood place headers sound writable)
+    reports law s.lanes answered (held_of items) sound same control function (held_stand (source_of s o) stood place headers sound writable)
     (held_low (source_of s o) stood place headers) (held_fits items) (fragment_rows (source_of s o) stood place headers sound tidy nine)
 
 -- an unsolicited response
-pushed_reports : (s : Stock) (enabled : List Bool) (answered : Answered) → IsSound s → HaveIndexes s → length enabled ≤ 3
+pushed_reports : ReportLaws → (s : Stock) (enabled : List Bool) (answered : Answered) → IsSound s → HaveIndexes s → length enabled ≤ 3
     → answered.headers ≡ (pushed s enabled).headers
     → IsControl answered.control → is_response answered.function ≡ true → Reports s (response_octets answered) answered.control (pushed s enabled).upto
 unfolding offered_of
-pushed_reports s enabled answered sound indexes few same control function =
+pushed_reports law s enabled answered sound indexes few same control function =
     let items = lane_items s (enabled_lanes 0 enabled) in
-    reports s answered (held_of items) sound same control function (pushed_stand s enabled sound few indexes) (pushed_low s enabled few) (held_fits items)
+    reports law s answered (held_of items) sound same control function (pushed_stand s enabled sound few indexes) (pushed_low s enabled few) (held_fits items)
     (pushed_rows s enabled sound)
 
 -- ---- no rows
@@ -131,26 +144,26 @@ none_upto ids (x ∷ xs) none all =
     not_at true within past = absurd (let w : x.id ≤ id_limit ids x.lane = within refl in omega arith)
     not_at false within past = refl
 
-no_rows_upto : (s : Stock) (ids : List ℕ) → IsSound s → has_rows ids ≡ false → map buffered_row (filter (is_upto ids) (buffered_in s)) ≡ []
-no_rows_upto s ids sound none =
+no_rows_upto : IdsAreUsed → (s : Stock) (ids : List ℕ) → IsSound s → has_rows ids ≡ false → map buffered_row (filter (is_upto ids) (buffered_in s)) ≡ []
+no_rows_upto used s ids sound none =
     let all : All (λ (x : Buffered). 1 ≤ x.id) (buffered_in s) =
     All-weaker (λ (x : Buffered). (1 ≤ x.id) × (x.id ≤ s.last_id)) (λ (x : Buffered). 1 ≤ x.id) (λ x h. h.0) (buffered_in s)
-    (sound_numbered s sound) in
+    (used s sound) in
     ap (map buffered_row) (none_upto ids (buffered_in s) none all)
 
 -- a response with objects, of which none is an event
-plain_reports : (s : Stock) (answered : Answered) (headers : List Head) → IsSound s → answered.headers ≡ headers → AreHeaders form.Response begin headers
-    → rows_said headers ≡ [] → IsControl answered.control → is_response answered.function ≡ true
+plain_reports : ReportLaws → (s : Stock) (answered : Answered) (headers : List Head) → IsSound s → answered.headers ≡ headers
+    → AreHeaders form.Response begin headers → rows_said headers ≡ [] → IsControl answered.control → is_response answered.function ≡ true
     → Reports s (response_octets answered) answered.control no_ids
-plain_reports s answered headers sound same stand none control function =
+plain_reports law s answered headers sound same stand none control function =
     let stands : AreHeaders form.Response begin answered.headers = subst (λ (hs : List Head). AreHeaders form.Response begin hs) (sym same) stand in
     record {
       answered = answered;
-      read = response_again (response_octets answered) answered (spelled_response answered control function stands);
+      read = law.spelled answered control function stands;
       control_is = refl;
       rows =
           subst (λ (rows : List Row). IsPermutation rows (map buffered_row (filter (is_upto no_ids) (buffered_in s)))) (sym (ap rows_said same ∙ none))
-          (subst (IsPermutation []) (sym (no_rows_upto s no_ids sound refl)) (IsPermutation-refl []));
+          (subst (IsPermutation []) (sym (no_rows_upto law.ids s no_ids sound refl)) (IsPermutation-refl []));
       used = λ lane. let e = no_id no_ids lane refl in omega arith;
     }
 
@@ -161,20 +174,20 @@ abbrev IsReported : State → Content → Type 0
 IsReported s content = (answered : Answered) → answered.headers ≡ content.headers → IsControl answered.control → is_response answered.function ≡ true
     → Reports s.lanes (response_octets answered) answered.control content.upto
 
-is_reported : (s : State) (o : Panel) (content : Content) → IsSound s.lanes → AreWritable (source_of s o) → IsContent HoldNoEvents s o content
+is_reported : ReportLaws → (s : State) (o : Panel) (content : Content) → IsSound s.lanes → AreWritable (source_of s o) → IsContent HoldNoEvents s o content
     → IsReported s content
-is_reported s o _ sound writable (Reads headers) =
-    λ answer same control function. read_reports s o (last_in s.lanes) first_place headers answer sound writable
+is_reported law s o _ sound writable (Reads headers) =
+    λ answer same control function. read_reports law s o (last_in s.lanes) first_place headers answer sound writable
     (begins_tidy s.lanes sound) refl same control function
-is_reported s o _ sound writable (Plain bits headers fine) =
-    λ answer same control function. plain_reports s.lanes answer headers sound same fine.stand fine.none control function
+is_reported law s o _ sound writable (Plain bits headers fine) =
+    λ answer same control function. plain_reports law s.lanes answer headers sound same fine.stand fine.none control function
 
 -- ---- the fragments
 
-first_reports : (s after : State) (o : Panel) (seq : ℕ) (content : Content) → IsSound s.lanes → AreWritable (source_of s o) → seq < 16
+first_reports : ReportLaws → (s after : State) (o : Panel) (seq : ℕ) (content : Content) → IsSound s.lanes → AreWritable (source_of s o) → seq < 16
     → IsContent HoldNoEvents s o content → Reports s.lanes (fragment_of after true seq content) (control_for true seq content) content.upto
-first_reports s after o seq content sound writable small made =
-    is_reported s o content sound writable made
+first_reports law s after o seq content sound writable small made =
+    is_reported law s o content sound writable made
     (record {
       control = control_for true seq content;
       function = function.Response;
@@ -186,39 +199,38 @@ first_reports s after o seq content sound writable small made =
 abbrev Made : State → Panel → Option Content → Type 0
 Made s o c = IfSome c (IsContent HoldNoEvents s o)
 
-pub answer_reports : RequestsAreRead → (s after : State) (o : Panel) (now : ℕ) (octets : List ℕ) (seq : ℕ) (content : Content) → IsSound s.lanes
-    → AreWritable (source_of s o) → All (λ octet. octet < 2 ^ 8) octets → seq < 16 → (content_at s o now octets).content ≡ Some content
+pub answer_reports : ReportLaws → RequestsAreRead → (s after : State) (o : Panel) (now : ℕ) (octets : List ℕ) (seq : ℕ) (content : Content)
+    → IsSound s.lanes → AreWritable (source_of s o) → All (λ octet. octet < 2 ^ 8) octets → seq < 16 → (content_at s o now octets).content ≡ Some content
     → Reports s.lanes (fragment_of after true seq content) (control_for true seq content) content.upto
-answer_reports reads s after o now octets seq content sound writable are small is =
-    first_reports s after o seq content sound writable small
+answer_reports law reads s after o now octets seq content sound writable are small is =
+    first_reports law s after o seq content sound writable small
     (subst (Made s o) is (content_done HoldNoEvents s o now octets (no_events_fine reads octets are)).content)
 
-pub held_reports : (s after : State) (o : Panel) (octets : List ℕ) (seq : ℕ) (content : Content) → IsSound s.lanes
+pub held_reports : ReportLaws → (s after : State) (o : Panel) (octets : List ℕ) (seq : ℕ) (content : Content) → IsSound s.lanes
     → AreWritable (source_of s o) → seq < 16 → (content_of s o octets).content ≡ Some content
     → Reports s.lanes (fragment_of after true seq content) (control_for true seq content) content.upto
-held_reports s after o octets seq content sound writable small is =
-    first_reports s after o seq content sound writable small
+held_reports law s after o octets seq content sound writable small is =
+    first_reports law s after o seq content sound writable small
     (subst (Made s o) is (content_answered HoldNoEvents s o no_headers delay_alone octets).done.content)
 
-pub further_reports : (s : State) (o : Panel) (stood : ℕ) (place : Place) (headers : List Head) (seq : ℕ) → IsSound s.lanes → AreWritable (source_of s o)
-    → IsTidy s.lanes place.given
-    → length place.given ≡ 9 → seq < 16
+pub further_reports : ReportLaws → (s : State) (o : Panel) (stood : ℕ) (place : Place) (headers : List Head) (seq : ℕ) → IsSound s.lanes
+    → AreWritable (source_of s o) → IsTidy s.lanes place.given → length place.given ≡ LANES → seq < 16
     → (let content = read_content s o stood place headers in Reports s.lanes (fragment_of s false seq content) (control_for false seq content) content.upto)
-further_reports s o stood place headers seq sound writable tidy nine small =
+further_reports law s o stood place headers seq sound writable tidy nine small =
     let content = read_content s o stood place headers in
-    read_reports s o stood place headers
+    read_reports law s o stood place headers
     (record { control = control_for false seq content; function = function.Response; iin = indications s content.upto content.bits; headers = content.headers })
     sound writable tidy nine refl small refl
 
 abbrev pub unsolicited_control : ℕ → ControlBits
 unsolicited_control seq = record { fir = true; fin = true; con = true; uns = true; seq = seq }
 
-pub unsolicited_reports : (s : State) → IsSound s.lanes → HaveIndexes s.lanes → length s.core.enabled ≤ 3 → s.core.session.next < 16
+pub unsolicited_reports : ReportLaws → (s : State) → IsSound s.lanes → HaveIndexes s.lanes → length s.core.enabled ≤ 3 → s.core.session.next < 16
     → (let content = content_from (pushed s.lanes s.core.enabled) in
     Reports s.lanes (unsolicited_of s content) (record { fir = true; fin = true; con = true; uns = true; seq = s.core.session.next }) content.upto)
-unsolicited_reports s sound indexes few small =
+unsolicited_reports law s sound indexes few small =
     let content = content_from (pushed s.lanes s.core.enabled) in
-    pushed_reports s.lanes s.core.enabled
+    pushed_reports law s.lanes s.core.enabled
     (record {
       control = unsolicited_control s.core.session.next;
       function = function.UnsolicitedResponse;
@@ -227,10 +239,10 @@ unsolicited_reports s sound indexes few small =
     })
     sound indexes few refl small refl
 
-pub first_unsolicited_reports : (s : State) → IsSound s.lanes → s.core.session.next < 16
+pub first_unsolicited_reports : ReportLaws → (s : State) → IsSound s.lanes → s.core.session.next < 16
     → Reports s.lanes (unsolicited_of s (plain 0 [])) (record { fir = true; fin = true; con = true; uns = true; seq = s.core.session.next }) no_ids
-first_unsolicited_reports s sound small =
-    plain_reports s.lanes
+first_unsolicited_reports law s sound small =
+    plain_reports law s.lanes
     (record { control = unsolicited_control s.core.session.next; function = function.UnsolicitedResponse; iin = indications s no_ids 0; headers = [] })
     [] sound refl tt refl small refl
 
@@ -240,12 +252,12 @@ permutes_none : {A : Type 0} (xs : List A) → IsPermutation xs [] → xs ≡ []
 permutes_none xs same = nil_from_length xs (sym (length_permutation xs [] same))
 
 -- what asks for no confirm reports no rows
-pub unconfirmed_reports_none : (s : Stock) (octets : List ℕ) (control : ControlBits) (ids : List ℕ) (r : Reports s octets control ids) → IsSound s
+pub unconfirmed_reports_none : IdsAreUsed → (s : Stock) (octets : List ℕ) (control : ControlBits) (ids : List ℕ) (r : Reports s octets control ids) → IsSound s
     → has_rows ids ≡ false
     → rows_said r.answered.headers ≡ []
-unconfirmed_reports_none s octets control ids r sound none =
+unconfirmed_reports_none used s octets control ids r sound none =
     permutes_none (rows_said r.answered.headers)
-    (subst (IsPermutation (rows_said r.answered.headers)) (no_rows_upto s ids sound none) r.rows)
+    (subst (IsPermutation (rows_said r.answered.headers)) (no_rows_upto used s ids sound none) r.rows)
 
 -- where no item is left, the fragment is the last one, without objects and without a confirm
 pub emptied_ends : (s : State) (o : Panel) (stood seq : ℕ) (place : Place) (headers : List Head) (first : Bool)

@@ -23,7 +23,7 @@ record LeavesAlone (s : State) (step : Step) : Type 0 where
 alone_at_end : (s : State) (now : ℕ) (step : Step) → LeavesAlone s step → LeavesAlone s (at_end now step)
 alone_at_end s now step is =
     let end = end_kept now step in
-    record { lanes = end.lanes ∙ is.lanes; discarded = end.discarded ∙ is.discarded; performed = end.performed ∙ is.performed }
+    record { lanes = end.state.lanes ∙ is.lanes; discarded = end.discarded ∙ is.discarded; performed = end.state.performed ∙ is.performed }
 
 abbrev with_unsolicited : State → Option Unsolicited → State
 with_unsolicited s u = record s { core = record s.core { session = record s.core.session { unsolicited = u } } }
@@ -91,4 +91,4 @@ change_discards s now kind index reading made = (end_kept now (changing s now ki
 
 pub change_performed : (s : State) (now : ℕ) (kind : Kind) (index : ℕ) (reading : Reading) (made : Option LaneRow)
     → (change_of s now kind index reading made).state.performed ≡ s.performed
-change_performed s now kind index reading made = (end_kept now (changing s now kind index reading made)).performed
+change_performed s now kind index reading made = (end_kept now (changing s now kind index reading made)).state.performed

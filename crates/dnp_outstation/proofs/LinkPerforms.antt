@@ -26,7 +26,7 @@ use Rattle.dnp_outstation.specs.Connection.{replied, asked, on_request, on_again
 use Rattle.dnp_outstation.specs.Calls.{with_that, answered_by, received, connection_after}
 use Rattle.dnp_outstation.specs.Links.{CaseSays, Performs, IsMade, ExecutesNothing, unsolicited_confirmed}
 use Rattle.dnp_outstation.proofs.LinkCases.{case_says}
-use Rattle.dnp_outstation.proofs.LinkConfirms.{end_kept}
+use Rattle.dnp_outstation.proofs.LinkConfirms.{end_kept, same_executes, session_executes}
 use Rattle.dnp_outstation.proofs.Performing.{AcceptedAreCovered, SelectsServe, Serves, content_none, content_performs, content_serves, content_makes, none_of}
 
 -- ---- answers
@@ -78,35 +78,8 @@ held_same s o now (Some last) = go last.reply
 
 -- ---- the last request again
 
-same_executes : (s : State) → ExecutesNothing s s
-same_executes s = record {
-  restart = refl;
-  enabled = refl;
-  announced = refl;
-  points = refl;
-  times = refl;
-  request = refl;
-  response = refl;
-  last = refl;
-  selects = refl;
-  lanes = refl;
-  performed = refl;
-}
-
 awaits_executes : (s : State) (awaited : Option Awaited) → ExecutesNothing s (with_session s (record s.core.session { awaited = awaited }))
-awaits_executes s awaited = record {
-  restart = refl;
-  enabled = refl;
-  announced = refl;
-  points = refl;
-  times = refl;
-  request = refl;
-  response = refl;
-  last = refl;
-  selects = refl;
-  lanes = refl;
-  performed = refl;
-}
+awaits_executes s awaited = session_executes s (record s.core.session { awaited = awaited }) refl refl refl refl
 
 again_executes : (s : State) (now : ℕ) (octets : List ℕ) (last : LastRequest) → ExecutesNothing s (on_again s now octets last).state
 again_executes s now octets last = go last.reply
@@ -126,7 +99,7 @@ again_executes s now octets last = go last.reply
 
 executes_at_end : (s : State) (now : ℕ) (step : Step) → ExecutesNothing s step.state → ExecutesNothing s (at_end now step).state
 executes_at_end s now step is =
-    let end = end_kept now step in
+    let end = (end_kept now step).state in
     record {
       restart = end.restart ∙ is.restart;
       enabled = end.enabled ∙ is.enabled;
@@ -173,7 +146,7 @@ unsolicited_same s o now (Some w) =
 -- but for requests
 confirms_same : (s : State) (now : ℕ) (step : Step) → SameOutputs s step.state → SameOutputs s (at_end now step).state
 confirms_same s now step same =
-    let end = end_kept now step in record { performed = end.performed ∙ same.performed; selects = end.selects ∙ same.selects }
+    let end = (end_kept now step).state in record { performed = end.performed ∙ same.performed; selects = end.selects ∙ same.selects }
 
 -- a request that is executed alone performs commands
 others_performed : (s : State) (o : Panel) (now : ℕ) (octets : List ℕ) (case : Case) → case ≢ Asks
@@ -183,21 +156,21 @@ others_performed s o now octets Confirms other =
     (confirms_same s now (answered_by s o now octets Confirms) (confirm_same s o now s.core.session.awaited)).performed
 others_performed s o now octets ConfirmsUnsolicited other =
     (confirms_same s now (answered_by s o now octets ConfirmsUnsolicited) (unsolicited_same s o now s.core.session.unsolicited)).performed
-others_performed s o now octets Stray other = (end_kept now (still s)).performed
+others_performed s o now octets Stray other = (end_kept now (still s)).state.performed
 others_performed s o now octets Again other = (repeat_executes s o now octets).performed
-others_performed s o now octets Waits other = (end_kept now (still (record s { core = waiting s.core octets }))).performed
+others_performed s o now octets Waits other = (end_kept now (still (record s { core = waiting s.core octets }))).state.performed
 others_performed s o now octets Asks other = absurd (other refl)
 
 request_performed : (s : State) (o : Panel) (now : ℕ) (octets : List ℕ)
     → (received s o now octets Asks).state.performed ≡ (content_at (asked s octets) o now octets).state.performed
 request_performed s o now octets =
-    (end_kept now (on_request s o now octets)).performed
+    (end_kept now (on_request s o now octets)).state.performed
     ∙ (replied_as now (control_in octets).seq (content_at (asked s octets) o now octets)).performed
 
 request_selects : (s : State) (o : Panel) (now : ℕ) (octets : List ℕ)
     → (received s o now octets Asks).state.core.session.selects ≡ (content_at (asked s octets) o now octets).state.core.session.selects
 request_selects s o now octets =
-    (end_kept now (on_request s o now octets)).selects
+    (end_kept now (on_request s o now octets)).state.selects
     ∙ (replied_as now (control_in octets).seq (content_at (asked s octets) o now octets)).selects
 
 pub connection_performs : (s : State) (o : Panel) (now : ℕ) (octets : List ℕ) → AcceptedAreCovered
@@ -288,9 +261,9 @@ connection_makes s o now octets select = go (case_of s.core octets)
         inl (sym (confirms_same s now (answered_by s o now octets Confirms) (confirm_same s o now s.core.session.awaited)).selects ∙ is)
     go ConfirmsUnsolicited is =
         inl (sym (confirms_same s now (answered_by s o now octets ConfirmsUnsolicited) (unsolicited_same s o now s.core.session.unsolicited)).selects ∙ is)
-    go Stray is = inl (sym (end_kept now (still s)).selects ∙ is)
+    go Stray is = inl (sym (end_kept now (still s)).state.selects ∙ is)
     go Again is = inl (sym (repeat_executes s o now octets).selects ∙ is)
-    go Waits is = inl (left_stood s octets select (sym (end_kept now (still (record s { core = waiting s.core octets }))).selects ∙ is))
+    go Waits is = inl (left_stood s octets select (sym (end_kept now (still (record s { core = waiting s.core octets }))).state.selects ∙ is))
     go Asks is = elim (content_makes (asked s octets) o now octets select (sym (request_selects s o now octets) ∙ is)) [
       | inl there ↦ inl (left_stood s octets select there)
       | inr made ↦ inr made

@@ -6,6 +6,7 @@ use Rattle.std.proofs.lemmas.List.{length-append}
 use Rattle.std.proofs.lemmas.List.Elements.{All-head}
 use Rattle.dnp_objects.specs.Objects.{objects, content_of, object_size}
 use Rattle.dnp_objects.specs.Events.{event_object}
+use Rattle.dnp_objects.specs.declared.limits.TheConstants.{MAX_FRAGMENT}
 use Rattle.dnp_objects.specs.declared.row.Kind.{Kind}
 use Rattle.dnp_objects.specs.declared.row.Kind.TheVariants.{Binary, Counter, Analog}
 use Rattle.dnp_appfragment.specs.Headers.{Head, number}
@@ -21,7 +22,7 @@ use Rattle.dnp_outstation.proofs.Grows.{one_size}
 use Rattle.dnp_outstation.proofs.ItemsOf.{left_stand}
 use Rattle.dnp_outstation.proofs.Left.{left_none}
 use Rattle.dnp_outstation.proofs.Longest.{longest_longest}
-use Rattle.dnp_outstation.proofs.Written.{stands_alone}
+use Rattle.dnp_outstation.proofs.Written.{PutLaws, stands_alone}
 
 -- ---- no object is long
 
@@ -61,8 +62,8 @@ point_short g is =
 short_octets : (size : Option ℕ) (octets : List ℕ) → IsShort size → size ≡ Some (length octets) → length octets ≤ 11
 short_octets size octets short is = subst IsShort is short
 
-short_object : (x : Item) → CanStand x → length (object_of x).octets ≤ 11
-short_object x can = go x.header x.thing can (stands_alone x can).holds.each.0.size
+short_object : PutLaws → (x : Item) → CanStand x → length (object_of x).octets ≤ 11
+short_object law x can = go x.header x.thing can (stands_alone law x can).holds.each.0.size
   where
     go : (h : ℕ) (thing : Thing)
         → (let y : Item = record { header = h; thing = thing } in
@@ -77,11 +78,11 @@ short_object x can = go x.header x.thing can (stands_alone x can).holds.each.0.s
 
 -- ---- so one item fits
 
-one_fits : (x : Item) → CanStand x → fits_fragment (x ∷ []) ≡ true
-one_fits x can = le-leb (response_size (x ∷ [])) 2048 (small x.header x.thing (short_object x can))
+one_fits : PutLaws → (x : Item) → CanStand x → fits_fragment (x ∷ []) ≡ true
+one_fits law x can = le-leb (response_size (x ∷ [])) MAX_FRAGMENT (small x.header x.thing (short_object law x can))
   where
     small : (h : ℕ) (thing : Thing)
-        → (let y : Item = record { header = h; thing = thing } in length (object_of y).octets ≤ 11 → response_size (y ∷ []) ≤ 2048)
+        → (let y : Item = record { header = h; thing = thing } in length (object_of y).octets ≤ 11 → response_size (y ∷ []) ≤ MAX_FRAGMENT)
     small h (Event lane row) short =
         let y : Item = record { header = h; thing = Event lane row } in
         let octets = length-append (number true row.row.index) (object_of y).octets in
@@ -90,20 +91,20 @@ one_fits x can = le-leb (response_size (x ∷ [])) 2048 (small x.header x.thing 
         let y : Item = record { header = h; thing = Present static } in
         omega (arith, one_size y)
 
-held_some : (items : List Item) → All CanStand items → held_of items ≡ [] → items ≡ []
+held_some : PutLaws → (items : List Item) → All CanStand items → held_of items ≡ [] → items ≡ []
 unfolding held_of
-held_some [] can none = refl
-held_some (x ∷ xs) can none =
+held_some law [] can none = refl
+held_some law (x ∷ xs) can none =
     let found = longest_longest fits_fragment (x ∷ xs) refl in
     let over : fits_fragment (x ∷ []) ≡ false = found.more 1 (omega (arith, ap length none)) (omega arith) in
-    absurd (let fits : fits_fragment (x ∷ []) ≡ true = one_fits x (All-head CanStand x xs can) in cc)
+    absurd (let fits : fits_fragment (x ∷ []) ≡ true = one_fits law x (All-head CanStand x xs can) in cc)
 
 -- a READ goes on only behind a fragment that holds something
-pub goes_on_behind_some : (s : Source) (stood : ℕ) (place next : Place) (headers : List Head) → IsSound s.lanes → AreWritable s
+pub goes_on_behind_some : PutLaws → (s : Source) (stood : ℕ) (place next : Place) (headers : List Head) → IsSound s.lanes → AreWritable s
     → (offered s stood place headers).left ≡ Some next → held_of (items_left s stood place headers) ≡ [] → ⊥
-goes_on_behind_some s stood place next headers sound writable left none =
+goes_on_behind_some law s stood place next headers sound writable left none =
     let items = items_left s stood place headers in
-    let empty : items ≡ [] = held_some items (left_stand s stood place headers sound writable) none in
+    let empty : items ≡ [] = held_some law items (left_stand s stood place headers sound writable) none in
     let ended : (offered_of place items).left ≡ None = (left_none place items).1 (none ∙ sym empty) in
     let both : None ≡ Some next = sym ended ∙ left in
     cc

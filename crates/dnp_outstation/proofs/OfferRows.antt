@@ -8,6 +8,7 @@ use Rattle.std.proofs.lemmas.List.{take_all, take-append-drop, map-append}
 use Rattle.dnp_eventbuf.specs.declared.numbered.Numbered.{Numbered}
 use Rattle.dnp_eventbuf.specs.Stock.{Stock, lane_at, offered, without}
 use Rattle.dnp_eventbuf.specs.Sound.{IsSound}
+use Rattle.dnp_objects.specs.declared.limits.TheConstants.{LANES}
 use Rattle.dnp_outstation.specs.declared.offer.writer.Writer.{Writer}
 use Rattle.dnp_outstation.specs.Items.{Item, event_of, at_most, rows_left}
 use Rattle.dnp_outstation.specs.Filling.{after_release, over_of, fill, ended}
@@ -64,8 +65,8 @@ left_after s upto number after over law =
     sym (take_all (length old + length new) new (omega arith)) ∙ law (length old + length new) ∙ take_all (length old + length new) old (omega arith)
 
 -- the rows over an id that stood, at most so many, are those that a header may still give
-pub rows_given : (s : Stock) (released : Option (List ℕ)) (stood : ℕ) (given : List ℕ) (number : ℕ) (most : Option ℕ) → IsSound s → number < 9
-    → IfSome released (λ upto. length upto ≡ 9)
+pub rows_given : (s : Stock) (released : Option (List ℕ)) (stood : ℕ) (given : List ℕ) (number : ℕ) (most : Option ℕ) → IsSound s → number < LANES
+    → IfSome released (λ upto. length upto ≡ LANES)
     → ((t : Stock) (upto : List ℕ) (n after limit : ℕ) → length upto ≡ length t.lanes → n < length t.lanes → offered (without t upto) n after limit
     ≡ offered t n (max after (get_or upto n 0)) limit)
     → filter (stood_at stood) (at_most most (filter (λ x. nat_lt (over_of given released number) x.id) (lane_at s number).rows))
@@ -82,7 +83,7 @@ rows_given s released stood given number most sound low nine law =
         (AllPairs-filter (λ (x y : Numbered). x.id < y.id) (λ x. nat_lt (over_of given released number) x.id) (lane_at s number).rows
         (sound.each number low).rising)
 
-    by_release : (r : Option (List ℕ)) → IfSome r (λ upto. length upto ≡ 9)
+    by_release : (r : Option (List ℕ)) → IfSome r (λ upto. length upto ≡ LANES)
         → filter (λ x. nat_lt (over_of given r number) x.id) (lane_at s number).rows
         ≡ filter (λ x. nat_lt (get_or given number 0) x.id) (lane_at (after_release s r) number).rows
     by_release None nine = refl

@@ -1,5 +1,5 @@
 -- What a request performs: commands of its own, by its function and its select.
-use Rattle.std.proofs.Common.{cond, find, ◌≡◌, ◌≢◌, ◌⊎◌, inl, inr, Bool, true, false, if◌then◌else◌, refl, sym, ◌∙◌, ap, subst, ℕ, ◌≤◌, ◌==◌, ◌↔◌, nat_lt, List, [], ◌∷◌, ◌++◌, length, filter, arith, Option, None, Some, Result, Ok, Err, eqb-true}
+use Rattle.std.proofs.Common.{cond, find, ◌≡◌, ◌≢◌, ◌⊎◌, inl, inr, Bool, true, false, if◌then◌else◌, refl, sym, ◌∙◌, ap, subst, ℕ, ◌≤◌, ◌-◌, ◌==◌, ◌↔◌, nat_lt, List, [], ◌∷◌, ◌++◌, length, filter, arith, Option, None, Some, Result, Ok, Err, eqb-true}
 use Rattle.std.specs.Prelude.{⊤}
 use Rattle.std.specs.List.{list_all}
 use Rattle.std.proofs.lemmas.Bool.{ltb-false}
@@ -19,6 +19,7 @@ use Rattle.dnp_appfragment.specs.Reading.{◌>>=◌, headers_at}
 use Rattle.dnp_appfragment.specs.Table.{codes, function_octet, function_of, form_of, is_response}
 use Rattle.dnp_controls.specs.Panel.{Panel, accepted}
 use Rattle.dnp_controls.specs.Selecting.{Select, GoesWith, IsRunning, answer}
+use Rattle.dnp_objects.specs.declared.limits.TheConstants.{MAX_FRAGMENT}
 use Rattle.dnp_outstation.specs.Items.{first_place, last_in, is_inside}
 use Rattle.dnp_outstation.specs.State.{State}
 use Rattle.dnp_outstation.specs.Content.{Executed, plain, answered, content_of, for_request, by_function, read_content, source_of, refused, written, write_bits, time_written, bits_of, parameter_error, no_func_code_support}
@@ -188,7 +189,7 @@ outcome_granted : (s : State) (o : Panel) (now : ℕ) (octets : List ℕ) (r : R
     → AreGranted o octets (outcome_at s.core.session.selects s.core.times.select_ms o now octets r)
 unfolding AreGranted
 outcome_granted s o now octets (Err fault) covers is = tt
-outcome_granted s o now octets (Ok asked) covers is = by (nat_lt 2046 (length octets))
+outcome_granted s o now octets (Ok asked) covers is = by (nat_lt (MAX_FRAGMENT - 2) (length octets))
   where
     asks : performs asked.function ≡ true → commands_asked octets ≡ commands_in asked.headers
     asks does = ap asked_commands is ∙ ap (λ (b : Bool). if b then commands_in asked.headers else []) does
@@ -306,7 +307,7 @@ function_serves s o now octets _ headers serves is = λ other. absurd (other ref
 outcome_serves : (s : State) (o : Panel) (now : ℕ) (octets : List ℕ) (r : Result Asked AppFault) → SelectsServe → request_at octets ≡ r
     → function_in octets ≡ function_octet function.Operate → Serving s now octets (outcome_at s.core.session.selects s.core.times.select_ms o now octets r)
 outcome_serves s o now octets (Err fault) serves is operate = λ other. absurd (other refl)
-outcome_serves s o now octets (Ok asked) serves is operate = by (nat_lt 2046 (length octets))
+outcome_serves s o now octets (Ok asked) serves is operate = by (nat_lt (MAX_FRAGMENT - 2) (length octets))
   where
     by : (b : Bool) → Serving s now octets (if b then Err parameter_error
         else come_to (outcome_of asked.function s.core.session.selects s.core.times.select_ms o now octets (commands_in asked.headers)) asked.headers)
@@ -367,7 +368,7 @@ outcome_makes : (s : State) (o : Panel) (now : ℕ) (octets : List ℕ) (r : Res
     → MadeOf s now octets (carried_out s (outcome_at s.core.session.selects s.core.times.select_ms o now octets r)).state.core.session.selects
 unfolding MadeOf
 outcome_makes s o now octets (Err fault) is = λ select there. inl there
-outcome_makes s o now octets (Ok asked) is = by (nat_lt 2046 (length octets))
+outcome_makes s o now octets (Ok asked) is = by (nat_lt (MAX_FRAGMENT - 2) (length octets))
   where
     by : (b : Bool) → MadeOf s now octets (carried_out s (if b then Err parameter_error
         else come_to (outcome_of asked.function s.core.session.selects s.core.times.select_ms o now octets (commands_in asked.headers))

@@ -13,10 +13,9 @@ use Rattle.dnp_appfragment.specs.Built.{Built, with_object, with_run, broken, he
 use Rattle.dnp_appfragment.specs.Headers.{Head, spelled}
 use Rattle.dnp_appfragment.specs.Joining.{joined}
 use Rattle.dnp_eventbuf.specs.declared.numbered.Numbered.{Numbered}
-use Rattle.dnp_objects.specs.declared.limits.TheConstants.{MAX_ID}
+use Rattle.dnp_objects.specs.declared.limits.TheConstants.{LANES, MAX_FRAGMENT, MAX_ID}
 use Rattle.dnp_eventbuf.specs.Stock.{Stock, lane_at}
 use Rattle.dnp_eventbuf.specs.Sound.{IsSound}
-use Rattle.dnp_eventbuf.proofs.Soundness.{IsSound-without}
 use Rattle.dnp_outstation.specs.declared.offer.writer.Run.{Run}
 use Rattle.dnp_outstation.specs.declared.offer.writer.Writer.{Writer}
 use Rattle.dnp_outstation.specs.Items.{Thing, Item, no_ids, first_place, place_after, given_after, rows_left, event_of, event_items, class_lanes, enabled_lanes, lane_items}
@@ -26,6 +25,7 @@ use Rattle.dnp_outstation.specs.Putting.{Puts}
 use Rattle.dnp_outstation.proofs.Carried.{lane_rises}
 use Rattle.dnp_outstation.proofs.Filled.{fill_offers}
 use Rattle.dnp_outstation.proofs.Joined.{run_at, written_of}
+use Rattle.dnp_outstation.proofs.Left.{StaySound}
 use Rattle.dnp_outstation.proofs.OfferParts.{ended_if}
 use Rattle.dnp_outstation.proofs.OfferPresent.{puts_more, puts_full}
 use Rattle.dnp_outstation.proofs.OfferRows.{stood_at}
@@ -34,9 +34,10 @@ use Rattle.dnp_outstation.proofs.Taken.{put_is}
 
 -- ---- the rows of a class
 
-pub after_sound : (s : Stock) (released : Option (List ℕ)) → IfSome released (λ upto. length upto ≡ 9) → IsSound s → IsSound (after_release s released)
-after_sound s None nine sound = sound
-after_sound s (Some upto) nine sound = IsSound-without s upto nine sound
+pub after_sound : StaySound → (s : Stock) (released : Option (List ℕ)) → IfSome released (λ upto. length upto ≡ LANES) → IsSound s
+    → IsSound (after_release s released)
+after_sound stay s None nine sound = sound
+after_sound stay s (Some upto) nine sound = stay s upto sound nine
 
 -- all rows are left where all ids are low enough
 all_stood : (stood : ℕ) (rows : List Numbered) → All (λ x. x.id ≤ stood) rows → filter (stood_at stood) rows ≡ rows
@@ -46,35 +47,35 @@ all_stood stood (x ∷ xs) low =
     ap (λ (b : Bool). cond b (x ∷ filter (stood_at stood) xs) (filter (stood_at stood) xs)) (le-leb x.id stood first)
     ∙ ap (λ (rows : List Numbered). x ∷ rows) (all_stood stood xs (λ k d short. low (suc k) d (omega arith)))
 
-each_left : (s : Stock) (stood lane : ℕ) → IsSound s → s.last_id ≤ stood → lane < 9 → rows_left s stood no_ids lane ≡ (lane_at s lane).rows
+each_left : (s : Stock) (stood lane : ℕ) → IsSound s → s.last_id ≤ stood → lane < LANES → rows_left s stood no_ids lane ≡ (lane_at s lane).rows
 each_left s stood lane sound high low =
     let rows : List Numbered = (lane_at s lane).rows in
-    ap (λ (id : ℕ). filter (stood_at stood) (filter (over id) rows)) (get_or-replicate 9 lane 0 0 low)
+    ap (λ (id : ℕ). filter (stood_at stood) (filter (over id) rows)) (get_or-replicate LANES lane 0 0 low)
     ∙ ap (filter (stood_at stood)) (over_all 0 0 rows (omega arith) (lane_rises s lane sound low))
     ∙ all_stood stood rows (λ k d short. let h : (get_or rows k d).id ≤ s.last_id = (sound.each lane low).up_to_last k d short in omega arith)
 
-lanes_left : (s : Stock) (stood : ℕ) (lanes : List ℕ) → IsSound s → s.last_id ≤ stood → All (λ lane. lane < 9) lanes
+lanes_left : (s : Stock) (stood : ℕ) (lanes : List ℕ) → IsSound s → s.last_id ≤ stood → All (λ lane. lane < LANES) lanes
     → event_items s stood no_ids 0 None lanes ≡ lane_items s lanes
 lanes_left s stood [] sound high low = refl
 lanes_left s stood (lane ∷ lanes) sound high low =
     ap (λ (rows : List Numbered). map (event_of 0 lane) rows ++ event_items s stood no_ids 0 None lanes)
-    (each_left s stood lane sound high (All-head (λ (n : ℕ). n < 9) lane lanes low))
+    (each_left s stood lane sound high (All-head (λ (n : ℕ). n < LANES) lane lanes low))
     ∙ ap (λ (items : List Item). map (event_of 0 lane) (lane_at s lane).rows ++ items)
     (lanes_left s stood lanes sound high (λ k d short. low (suc k) d (omega arith)))
 
-class_below : (class : ℕ) → class < 3 → All (λ lane. lane < 9) (class_lanes class)
+class_below : (class : ℕ) → class < 3 → All (λ lane. lane < LANES) (class_lanes class)
 class_below class low =
-    let P : ℕ → Type 0 = λ lane. lane < 9 in
+    let P : ℕ → Type 0 = λ lane. lane < LANES in
     All-cons P (3 * class) ((3 * class + 1) ∷ (3 * class + 2) ∷ []) (omega arith)
     (All-cons P (3 * class + 1) ((3 * class + 2) ∷ []) (omega arith) (All-cons P (3 * class + 2) [] (omega arith) (All-nil P)))
 
 -- a READ of a class that begins, with no bound of ids, gives the rows of its lanes as they are after the release
-pub class_left : (s : Stock) (released : Option (List ℕ)) (stood class : ℕ) (lanes : List ℕ) → IsSound s → IfSome released (λ upto. length upto ≡ 9)
-    → MAX_ID ≤ stood → class < 3 → lanes ≡ class_lanes class
+pub class_left : StaySound → (s : Stock) (released : Option (List ℕ)) (stood class : ℕ) (lanes : List ℕ) → IsSound s
+    → IfSome released (λ upto. length upto ≡ LANES) → MAX_ID ≤ stood → class < 3 → lanes ≡ class_lanes class
     → event_items (after_release s released) stood no_ids 0 None lanes ≡ lane_items (after_release s released) (class_lanes class)
-class_left s released stood class lanes sound nine high low lanes_are =
+class_left stay s released stood class lanes sound nine high low lanes_are =
     let t : Stock = after_release s released in
-    let after : IsSound t = after_sound s released nine sound in
+    let after : IsSound t = after_sound stay s released nine sound in
     ap (λ (numbers : List ℕ). event_items t stood no_ids 0 None numbers) lanes_are
     ∙ lanes_left t stood (class_lanes class) after (omega (arith, after.last_id_at_most)) (class_below class low)
 
@@ -157,7 +158,7 @@ filled_as : (f g : Function) (w : Writer) (items : List Item) → front_size f �
 filled_as f g w [] same = refl
 filled_as f g w (x ∷ xs) same =
     ap (λ (v : Writer). cond (fits v) (fill v xs) (ended false w)) (put_as f w x)
-    ∙ ap (λ (n : ℕ). cond (nat_le (n + length (spelled (heads (put w x).builder))) 2048) (fill (under f (put w x)) xs) (ended false w)) same
+    ∙ ap (λ (n : ℕ). cond (nat_le (n + length (spelled (heads (put w x).builder))) MAX_FRAGMENT) (fill (under f (put w x)) xs) (ended false w)) same
     ∙ ap (λ (filled : Filled). cond (fits (under g (put w x))) filled (ended false w)) (filled_as f g (put w x) xs same)
     ∙ ap (λ (v : Writer). cond (fits v) (fill v xs) (ended false w)) (sym (put_as g w x))
 

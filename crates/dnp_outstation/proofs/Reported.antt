@@ -3,6 +3,7 @@ use Rattle.std.proofs.Common.{◌≡◌, true, refl, sym, subst, ℕ, ◌<◌, �
 use Rattle.std.specs.List.{All}
 use Rattle.std.specs.List.Sorted.{IsPermutation}
 use Rattle.std.proofs.lemmas.List.Elements.{recursion_from_All}
+use Rattle.dnp_objects.specs.declared.limits.TheConstants.{LANES}
 use Rattle.dnp_objects.specs.declared.row.Row.{Row}
 use Rattle.dnp_appfragment.specs.Control.{IsControl}
 use Rattle.dnp_appfragment.specs.Fragments.{Answered, response_octets}
@@ -10,8 +11,6 @@ use Rattle.dnp_appfragment.specs.Headers.{Head, AreHeaders, begin}
 use Rattle.dnp_appfragment.specs.declared.table.Form.TheVariants as form
 use Rattle.dnp_appfragment.specs.Meaning.{response_at}
 use Rattle.dnp_appfragment.specs.Table.{is_response}
-use Rattle.dnp_appfragment.proofs.OneFragment.{spelled_response}
-use Rattle.dnp_appfragment.proofs.Requests.{response_again}
 use Rattle.dnp_eventbuf.specs.Sound.{IsSound}
 use Rattle.dnp_eventbuf.specs.Stock.{Stock, lane_at, all_up_to}
 use Rattle.dnp_outstation.specs.declared.offer.place.Place.{Place}
@@ -25,70 +24,81 @@ use Rattle.dnp_outstation.proofs.Carried.{fragment_rows, pushed_rows, released_r
 use Rattle.dnp_outstation.proofs.ItemsOf.{held_stand, held_low, pushed_stand, pushed_low}
 use Rattle.dnp_outstation.proofs.LaneRows.{length_given}
 use Rattle.dnp_outstation.proofs.Longest.{longest_longest}
-use Rattle.dnp_outstation.proofs.SaidRows.{headers_say}
-use Rattle.dnp_outstation.proofs.Written.{items_written}
+use Rattle.dnp_outstation.proofs.SaidRows.{EventsAreSaid, headers_say}
+use Rattle.dnp_outstation.proofs.Written.{PutLaws, items_written}
 
-pub rows_are_said : (items : List Item) → All CanStand items → fits_fragment items ≡ true → rows_said (headers_of items) ≡ events_in items
-rows_are_said items can fit =
+-- by the law of what is spelled: a response is said of its octets
+abbrev pub SpelledIsSaid : Type 0
+SpelledIsSaid = (answered : Answered) → IsControl answered.control → is_response answered.function ≡ true
+    → AreHeaders form.Response begin answered.headers → response_at (response_octets answered) ≡ Ok answered
+
+-- by the law of what octets say of items: their rows, and a response that holds them
+abbrev pub RowsAreSaid : Type 0
+RowsAreSaid = (items : List Item) → All CanStand items → fits_fragment items ≡ true → rows_said (headers_of items) ≡ events_in items
+
+abbrev pub ResponsesAreSaid : Type 0
+ResponsesAreSaid = (answered : Answered) (items : List Item) → answered.headers ≡ headers_of items → IsControl answered.control
+    → is_response answered.function ≡ true → All CanStand items → fits_fragment items ≡ true → response_at (response_octets answered) ≡ Ok answered
+
+pub rows_are_said : PutLaws → EventsAreSaid → RowsAreSaid
+rows_are_said law said items can fit =
     let each = recursion_from_All CanStand items can in
-    headers_say (headers_of items) items each (items_written items each fit).hold
+    headers_say said (headers_of items) items each (items_written law items each fit).hold
 
-pub response_is : (answered : Answered) (items : List Item) → answered.headers ≡ headers_of items → IsControl answered.control
-    → is_response answered.function ≡ true
-    → All CanStand items → fits_fragment items ≡ true → response_at (response_octets answered) ≡ Ok answered
-response_is answered items headers_are control function can fit =
-    response_again (response_octets answered) answered
-    (spelled_response answered control function
-    (subst (λ (hs : List Head). AreHeaders form.Response begin hs) (sym headers_are) (items_written items (recursion_from_All CanStand items can) fit).stand))
+pub response_is : PutLaws → SpelledIsSaid → ResponsesAreSaid
+response_is law said answered items headers_are control function can fit =
+    said answered control function
+    (subst (λ (hs : List Head). AreHeaders form.Response begin hs) (sym headers_are)
+    (items_written law items (recursion_from_All CanStand items can) fit).stand)
 
 -- what is held fits
 pub held_fits : (items : List Item) → fits_fragment (held_of items) ≡ true
 unfolding held_of
 held_fits items = (longest_longest fits_fragment items refl).fits
 
-pub nine_ids : (items : List Item) → length (last_ids items) ≡ 9
+pub nine_ids : (items : List Item) → length (last_ids items) ≡ LANES
 nine_ids items = length_given no_ids items
 
 -- the rows said of items are those that a release of their ids takes
-pub said_and_released : (s : Stock) (items : List Item) → IsSound s → All CanStand items → All IsLow items → fits_fragment items ≡ true
+pub said_and_released : RowsAreSaid → (s : Stock) (items : List Item) → IsSound s → All CanStand items → All IsLow items → fits_fragment items ≡ true
     → AreRowsUpto s (last_ids items) items
     → IsPermutation (rows_said (headers_of items)) (all_up_to s (last_ids items))
-said_and_released s items sound can low fit are =
-    subst (λ (rows : List Row). IsPermutation rows (all_up_to s (last_ids items))) (sym (rows_are_said items can fit))
+said_and_released said s items sound can low fit are =
+    subst (λ (rows : List Row). IsPermutation rows (all_up_to s (last_ids items))) (sym (said items can fit))
     (subst (λ (rows : List Row). IsPermutation (events_in items) rows) (sym (released_rows s (last_ids items) items sound.nine (nine_ids items) are))
     (same_by_lanes items (recursion_from_All IsLow items low)))
 
-pub fragment_says : (s : Source) (stood : ℕ) (place : Place) (headers : List Head) → IsSound s.lanes → AreWritable s → IsTidy s.lanes place.given
-    → length place.given ≡ 9
+pub fragment_says : RowsAreSaid → (s : Source) (stood : ℕ) (place : Place) (headers : List Head) → IsSound s.lanes → AreWritable s → IsTidy s.lanes place.given
+    → length place.given ≡ LANES
     → IsPermutation (rows_said (offered s stood place headers).headers) (all_up_to s.lanes (offered s stood place headers).upto)
 unfolding offered_of
-fragment_says s stood place headers sound writable tidy nine =
+fragment_says said s stood place headers sound writable tidy nine =
     let items = items_left s stood place headers in
-    said_and_released s.lanes (held_of items) sound (held_stand s stood place headers sound writable) (held_low s stood place headers) (held_fits items)
+    said_and_released said s.lanes (held_of items) sound (held_stand s stood place headers sound writable) (held_low s stood place headers) (held_fits items)
     (fragment_rows s stood place headers sound tidy nine)
 
-pub pushed_says : (s : Stock) (enabled : List Bool) → IsSound s → length enabled ≤ 3
-    → ((lane : ℕ) → lane < 9 → All (λ x. x.row.index < 2 ^ 16) (lane_at s lane).rows)
+pub pushed_says : RowsAreSaid → (s : Stock) (enabled : List Bool) → IsSound s → length enabled ≤ 3
+    → ((lane : ℕ) → lane < LANES → All (λ x. x.row.index < 2 ^ 16) (lane_at s lane).rows)
     → IsPermutation (rows_said (pushed s enabled).headers) (all_up_to s (pushed s enabled).upto)
 unfolding offered_of
-pushed_says s enabled sound few short =
+pushed_says said s enabled sound few short =
     let items = lane_items s (enabled_lanes 0 enabled) in
-    said_and_released s (held_of items) sound (pushed_stand s enabled sound few short) (pushed_low s enabled few) (held_fits items)
+    said_and_released said s (held_of items) sound (pushed_stand s enabled sound few short) (pushed_low s enabled few) (held_fits items)
     (pushed_rows s enabled sound)
 
-pub fragment_is : (answered : Answered) (s : Source) (stood : ℕ) (place : Place) (headers : List Head)
+pub fragment_is : ResponsesAreSaid → (answered : Answered) (s : Source) (stood : ℕ) (place : Place) (headers : List Head)
     → answered.headers ≡ (offered s stood place headers).headers
     → IsControl answered.control → is_response answered.function ≡ true → IsSound s.lanes → AreWritable s
     → response_at (response_octets answered) ≡ Ok answered
 unfolding offered_of
-fragment_is answered s stood place headers same control function sound writable =
+fragment_is said answered s stood place headers same control function sound writable =
     let items = items_left s stood place headers in
-    response_is answered (held_of items) same control function (held_stand s stood place headers sound writable) (held_fits items)
+    said answered (held_of items) same control function (held_stand s stood place headers sound writable) (held_fits items)
 
-pub pushed_is : (answered : Answered) (s : Stock) (enabled : List Bool) → answered.headers ≡ (pushed s enabled).headers
+pub pushed_is : ResponsesAreSaid → (answered : Answered) (s : Stock) (enabled : List Bool) → answered.headers ≡ (pushed s enabled).headers
     → IsControl answered.control → is_response answered.function ≡ true → IsSound s → length enabled ≤ 3
-    → ((lane : ℕ) → lane < 9 → All (λ x. x.row.index < 2 ^ 16) (lane_at s lane).rows) → response_at (response_octets answered) ≡ Ok answered
+    → ((lane : ℕ) → lane < LANES → All (λ x. x.row.index < 2 ^ 16) (lane_at s lane).rows) → response_at (response_octets answered) ≡ Ok answered
 unfolding offered_of
-pushed_is answered s enabled same control function sound few short =
+pushed_is said answered s enabled same control function sound few short =
     let items = lane_items s (enabled_lanes 0 enabled) in
-    response_is answered (held_of items) same control function (pushed_stand s enabled sound few short) (held_fits items)
+    said answered (held_of items) same control function (pushed_stand s enabled sound few short) (held_fits items)

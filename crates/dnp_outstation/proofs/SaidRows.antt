@@ -9,15 +9,18 @@ use Rattle.dnp_objects.specs.declared.row.Kind.{Kind}
 use Rattle.dnp_objects.specs.declared.row.Kind.TheVariants.{Binary, Counter, Analog}
 use Rattle.dnp_objects.specs.declared.row.Row.{Row}
 use Rattle.dnp_appfragment.specs.Headers.{Head, count_of}
-use Rattle.dnp_appfragment.specs.Items.{IsOf, Holds, HoldAll, event_item}
+use Rattle.dnp_appfragment.specs.Items.{Item as Object, IsOf, Holds, HoldAll, event_item}
 use Rattle.dnp_appfragment.specs.Meaning.{row_in}
 use Rattle.dnp_appfragment.specs.Written.{is_point_group}
-use Rattle.dnp_appfragment.proofs.ObjectValues.{row_again}
-use Rattle.dnp_appfragment.proofs.ReadBack.{event_back}
 use Rattle.dnp_outstation.specs.Items.{Thing, Item}
 use Rattle.dnp_outstation.specs.Items.Thing.{Event, Present}
 use Rattle.dnp_outstation.specs.Layout.{object_of}
 use Rattle.dnp_outstation.specs.Said.{is_event_header, event_rows, rows_said, event_in, events_in, CanStand}
+
+-- by the laws of what is held and read: an event that a header holds is the row that is said at its place
+abbrev pub EventsAreSaid : Type 0
+EventsAreSaid = (h : Head) (objects : List Object) (k : ℕ) (row : Row) → Holds h objects → IsEvent row → slice_get objects k ≡ Some (event_item row)
+    → row_in h k ≡ Some row
 
 -- ---- a list by its places
 
@@ -127,8 +130,8 @@ no_events (x ∷ xs) all = go x.thing all.0 (no_events xs all.1)
     go (Event lane row) one behind = absurd (let e : Some row.row ≡ None = one in cc)
     go (Present static) one behind = behind
 
-header_says : (h : Head) (xs : List Item) → AllByRecursion CanStand xs → Holds h (map object_of xs) → event_rows h ≡ events_in xs
-header_says h xs can holds = by (is_event_header h) refl
+header_says : EventsAreSaid → (h : Head) (xs : List Item) → AllByRecursion CanStand xs → Holds h (map object_of xs) → event_rows h ≡ events_in xs
+header_says said h xs can holds = by (is_event_header h) refl
   where
     rows : List Row
     rows = flat_map (λ k. option_to_list (row_in h k)) (range_with_len 0 (count_of h.range))
@@ -145,7 +148,7 @@ header_says h xs can holds = by (is_event_header h) refl
         ∙ by_places (row_in h) 0 (events_in xs) (λ k row at.
         let there = event_at xs k row all can at in
         let e : 0 + k ≡ k = omega arith in
-        ap (row_in h) e ∙ row_again h k row (event_back h (map object_of xs) k row holds there.is_event there.at))
+        ap (row_in h) e ∙ said h (map object_of xs) k row holds there.is_event there.at)
     by false is = chosen false is ∙ sym (no_events xs (all_one_of h xs false is can holds.each))
 
 -- ---- of all headers
@@ -164,14 +167,14 @@ none_of : (xs : List Item) → map object_of xs ≡ [] → xs ≡ []
 none_of [] none = refl
 none_of (x ∷ xs) none = absurd (omega (arith, ap length none))
 
-pub headers_say : (hs : List Head) (xs : List Item) → AllByRecursion CanStand xs → HoldAll hs (map object_of xs) → rows_said hs ≡ events_in xs
-headers_say [] xs can all = ap events_in (sym (none_of xs all))
-headers_say (h ∷ hs) xs can all =
+pub headers_say : EventsAreSaid → (hs : List Head) (xs : List Item) → AllByRecursion CanStand xs → HoldAll hs (map object_of xs) → rows_said hs ≡ events_in xs
+headers_say said [] xs can all = ap events_in (sym (none_of xs all))
+headers_say said (h ∷ hs) xs can all =
     let n = length all.0 in
     let first : map object_of (take n xs) ≡ all.0 = sym (take-map object_of n xs) ∙ ap (take n) all.2 ∙ take_at all.0 all.1 n refl in
     let rest : map object_of (drop n xs) ≡ all.1 = sym (drop-map object_of n xs) ∙ ap (drop n) all.2 ∙ drop_at all.0 all.1 n refl in
-    let here = header_says h (take n xs) (can_take n xs can) (subst (Holds h) (sym first) all.3) in
-    let there = headers_say hs (drop n xs) (can_drop n xs can) (subst (HoldAll hs) (sym rest) all.4) in
+    let here = header_says said h (take n xs) (can_take n xs can) (subst (Holds h) (sym first) all.3) in
+    let there = headers_say said hs (drop n xs) (can_drop n xs can) (subst (HoldAll hs) (sym rest) all.4) in
     ap (λ (l : List Row). l ++ rows_said hs) here
     ∙ ap (λ (l : List Row). events_in (take n xs) ++ l) there
     ∙ sym (filter_map-append event_in (take n xs) (drop n xs))

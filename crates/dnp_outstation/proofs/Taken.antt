@@ -14,6 +14,7 @@ use Rattle.dnp_appfragment.specs.Built.{Built, front_size, heads, size, broken, 
 use Rattle.dnp_appfragment.specs.Headers.{Head, number, header_octets, range_octets, spelled}
 use Rattle.dnp_appfragment.specs.Items.{Item as Object, item_octets}
 use Rattle.dnp_appfragment.specs.Joining.{joined}
+use Rattle.dnp_objects.specs.declared.limits.TheConstants.{MAX_FRAGMENT}
 use Rattle.dnp_outstation.specs.declared.offer.place.Place.{Place}
 use Rattle.dnp_outstation.specs.declared.offer.writer.Run.{Run}
 use Rattle.dnp_outstation.specs.declared.offer.writer.Run.TheVariants.{NoRun}
@@ -248,7 +249,7 @@ within_size b h run_is =
     let inner : length (range_octets h.range ++ h.octets) ≡ length (range_octets h.range) + length h.octets = length-append (range_octets h.range) h.octets in
     omega arith
 
-pub few : (b : Built) (first : Item) (more : List Item) → b.run ≡ Some (header_of (record { first = first; more = more })) → size b ≤ 2048 → IsFew first more
+pub few : (b : Built) (first : Item) (more : List Item) → b.run ≡ Some (header_of (record { first = first; more = more })) → size b ≤ MAX_FRAGMENT → IsFew first more
 few b first more run_is small = go first.header first.thing run_is
   where
     go : (header : ℕ) (thing : Thing)
@@ -271,8 +272,8 @@ put_holds place w items y holds fit = subst (λ (v : Writer). Holds place v (ite
   stands = inr (after holds.stands);
 })
   where
-    small : size w.builder ≤ 2048
-    small = leb-true (size w.builder) 2048 fit
+    small : size w.builder ≤ MAX_FRAGMENT
+    small = leb-true (size w.builder) MAX_FRAGMENT fit
 
     by : (s : Stands w.builder w.run items) (t : Bool) → goes_on (last_item s.first s.more) y ≡ t
         → Stands (with_object (built_for w (run_at y)) (written_of y)) (run_at y) (items ++ y ∷ [])
@@ -291,4 +292,4 @@ pub fits_is : (place : Place) (w : Writer) (items : List Item) → Holds place w
 fits_is place w items holds =
     let front : size w.builder ≡ 4 + length (spelled (heads w.builder)) =
     ap (λ (f : Function). front_size f + length (spelled (heads w.builder))) (function_is place w items holds) in
-    ap (λ (n : ℕ). nat_le n 2048) front ∙ ap (λ (hs : List Head). nat_le (4 + length (spelled hs)) 2048) (heads_are place w items holds)
+    ap (λ (n : ℕ). nat_le n MAX_FRAGMENT) front ∙ ap (λ (hs : List Head). nat_le (4 + length (spelled hs)) MAX_FRAGMENT) (heads_are place w items holds)

@@ -2,6 +2,7 @@
 use Rattle.std.proofs.Common.{◌≡◌, Bool, true, false, if◌then◌else◌, refl, sym, subst, ℕ, ◌+◌, ◌≤◌, ◌%◌, ◌&&◌, ◌||◌, not, nat_le, is_none, List, [], length, Option, None, Some, IfSome, Result, Ok, Err, option_map, option_to_list}
 use Rattle.std.specs.List.{All}
 use Rattle.dnp_objects.specs.declared.lane.LaneRow.{LaneRow}
+use Rattle.dnp_objects.specs.declared.limits.TheConstants.{LANES}
 use Rattle.dnp_objects.specs.declared.row.Kind.{Kind}
 use Rattle.dnp_pointdb.specs.Database.{changed_of}
 use Rattle.dnp_pointdb.specs.declared.reading.Reading.{Reading}
@@ -13,7 +14,6 @@ use Rattle.dnp_controls.specs.Panel.{Panel}
 use Rattle.dnp_controls.specs.Selecting.{deadline}
 use Rattle.dnp_eventbuf.specs.Sound.{IsSound}
 use Rattle.dnp_eventbuf.specs.Stock.{Stock, with_rows, dropped_by, without, without_all}
-use Rattle.dnp_eventbuf.proofs.Soundness.{IsSound-without}
 use Rattle.dnp_outstation.specs.declared.offer.place.Place.{Place}
 use Rattle.dnp_outstation.specs.declared.case.Case.{Case}
 use Rattle.dnp_outstation.specs.declared.case.Case.TheVariants.{PassedOver, Confirms, ConfirmsUnsolicited, Stray, Again, Waits, Asks}
@@ -35,13 +35,25 @@ use Rattle.dnp_outstation.specs.Tidy.{IsLastGiven, IsFirstGiven, LeavesNothing}
 use Rattle.dnp_outstation.proofs.ContentOf.{IsContent, IsDone, AnyHeaders, any_fine, content_answered, content_done}
 use Rattle.dnp_outstation.proofs.ContentOf.IsContent.{Reads, Plain}
 use Rattle.dnp_outstation.proofs.LaneRows.{length_given}
-use Rattle.dnp_outstation.proofs.Left.{begins_tidy, begins_used, new_leaves_nothing, released_is_tidy, appended_leaves, released_leaves, emptied_leaves}
+use Rattle.dnp_outstation.proofs.Left.{StaySound, begins_tidy, begins_used, new_leaves_nothing, emptied_leaves}
 
 -- ---- lanes that change
 
 -- whatever leaves only a fragment's rows leaves only these after the change
-abbrev Keeps : Stock → Stock → Type 0
+abbrev pub Keeps : Stock → Stock → Type 0
 Keeps old new = (given upto : List ℕ) → LeavesOnly old given upto → LeavesOnly new given upto
+
+-- by the laws of what is left, and of sound lanes
+abbrev pub AppendsKeep : Type 0
+AppendsKeep = (s : Stock) (rows : List LaneRow) → Keeps s (with_rows s rows)
+
+abbrev pub ReleasesKeep : Type 0
+ReleasesKeep = (s : Stock) (others : List ℕ) → Keeps s (without s others)
+
+pub record ReleaseLaws : Type 0 where
+  pub sound : StaySound
+  pub kept : ReleasesKeep
+  pub tidy : (s : Stock) (given upto : List ℕ) → length s.lanes ≡ LANES → LeavesOnly s given upto → IsTidy (without s upto) given
 
 last_kept : (old new : Stock) (left : Option Place) (upto : List ℕ) → Keeps old new → IsLastGiven old left upto → IsLastGiven new left upto
 last_kept old new None upto keeps is = tt
@@ -82,7 +94,7 @@ if_some P None each = tt
 if_some P (Some x) each = each x refl
 
 -- of a READ that begins here or goes on where only rows of its last fragment were left
-read_given : (s : State) (o : Panel) (stood : ℕ) (place : Place) (headers : List Head) → IsSound s.lanes → IsTidy s.lanes place.given → length place.given ≡ 9
+read_given : (s : State) (o : Panel) (stood : ℕ) (place : Place) (headers : List Head) → IsSound s.lanes → IsTidy s.lanes place.given → length place.given ≡ LANES
     → All (λ id. id ≤ s.lanes.last_id) place.given → IsGiven s.lanes (read_content s o stood place headers)
 read_given s o stood place headers sound tidy nine used =
     if_some (λ (next : Place). LeavesOnly s.lanes next.given (offered (source_of s o) stood place headers).upto)
@@ -103,11 +115,11 @@ awaited_if s true w last is = is
 awaited_if s false w last is = tt
 
 replied_tidy : (s : State) (o : Panel) (now seq : ℕ) (x : Executed) → IsSound s.lanes → IsDone AnyHeaders s o x
-    → IfSome s.core.session.unsolicited (λ w. length w.upto ≡ 9) → LeavesNothing (replied now seq x).state
+    → IfSome s.core.session.unsolicited (λ w. length w.upto ≡ LANES) → LeavesNothing (replied now seq x).state
 replied_tidy s o now seq x sound done unsolicited = go x.content done.content
   where
-    unsolicited' : IfSome x.state.core.session.unsolicited (λ w. length w.upto ≡ 9)
-    unsolicited' = subst (λ (q : Option Unsolicited). IfSome q (λ w. length w.upto ≡ 9)) (sym done.keeps.unsolicited) unsolicited
+    unsolicited' : IfSome x.state.core.session.unsolicited (λ w. length w.upto ≡ LANES)
+    unsolicited' = subst (λ (q : Option Unsolicited). IfSome q (λ w. length w.upto ≡ LANES)) (sym done.keeps.unsolicited) unsolicited
 
     none_left : (awaited : Option Awaited) → AwaitedIs x.state.lanes awaited (Some (record { reply = Silent; stood = 0; left = None }))
     none_left None = tt
@@ -173,20 +185,17 @@ marked_first s (Some last) is = go last.reply is
     go (First f) is = is
     go Further is = tt
 
-released : (s : Stock) (upto : List ℕ) → Keeps s (without s upto)
-released s upto given ids leaves = released_leaves s upto given ids leaves
-
 -- a place from which the response may go on
 record IsTidyPlace (s : Stock) (place : Place) : Type 0 where
   sound : IsSound s
   tidy : IsTidy s place.given
-  nine : length place.given ≡ 9
+  nine : length place.given ≡ LANES
   used : All (λ id. id ≤ s.last_id) place.given
 
-place_tidy : (s : Stock) (place : Place) (upto : List ℕ) → IsSound s → LeavesOnly s place.given upto → IsTidyPlace (without s upto) place
-place_tidy s place upto sound leaves = record {
-  sound = IsSound-without s upto leaves.nine_upto sound;
-  tidy = released_is_tidy s place.given upto sound.nine leaves;
+place_tidy : ReleaseLaws → (s : Stock) (place : Place) (upto : List ℕ) → IsSound s → LeavesOnly s place.given upto → IsTidyPlace (without s upto) place
+place_tidy law s place upto sound leaves = record {
+  sound = law.sound s upto sound leaves.nine_upto;
+  tidy = law.tidy s place.given upto sound.nine leaves;
   nine = leaves.nine;
   used = leaves.used;
 }
@@ -218,24 +227,23 @@ goes_on_tidy s o now seq (Some last) places tidy = go last.left places
         by (Ok r) is = rw is (further_tidy s o now last.stood seq place r.headers at tidy)
         by (Err fault) is = rw is tidy
 
-marked_places : (s : Stock) (last : Option LastRequest) (upto : List ℕ) → IsSound s → IfSome last (λ l. IsLastGiven s l.left upto)
+marked_places : ReleaseLaws → (s : Stock) (last : Option LastRequest) (upto : List ℕ) → IsSound s → IfSome last (λ l. IsLastGiven s l.left upto)
     → IfSome (option_map marked last) (λ l. IfSome l.left (IsTidyPlace (without s upto)))
-marked_places s None upto sound given = tt
-marked_places s (Some last) upto sound given = go last.left given
+marked_places law s None upto sound given = tt
+marked_places law s (Some last) upto sound given = go last.left given
   where
     go : (left : Option Place) → IsLastGiven s left upto → IfSome left (IsTidyPlace (without s upto))
     go None given = tt
-    go (Some place) given = place_tidy s place upto sound given
+    go (Some place) given = place_tidy law s place upto sound given
 
-confirms_tidy : (s : State) (o : Panel) (now : ℕ) (w : Awaited) → IsSound s.lanes → IfSome s.core.session.last (λ l. IsLastGiven s.lanes l.left w.upto)
-    → LeavesNothing s
-    → LeavesNothing (on_confirm s o now w).state
-confirms_tidy s o now w sound given tidy =
+confirms_tidy : ReleaseLaws → (s : State) (o : Panel) (now : ℕ) (w : Awaited) → IsSound s.lanes
+    → IfSome s.core.session.last (λ l. IsLastGiven s.lanes l.left w.upto) → LeavesNothing s → LeavesNothing (on_confirm s o now w).state
+confirms_tidy law s o now w sound given tidy =
     let after : State = record (with_session s (confirmed s.core.session)) { lanes = without s.lanes w.upto } in
-    goes_on_tidy after o now ((w.seq + 1) % 16) (option_map marked s.core.session.last) (marked_places s.lanes s.core.session.last w.upto sound given)
+    goes_on_tidy after o now ((w.seq + 1) % 16) (option_map marked s.core.session.last) (marked_places law s.lanes s.core.session.last w.upto sound given)
     (record {
       awaited = tt;
-      first = marked_first after.lanes s.core.session.last (first_kept s.lanes after.lanes s.core.session.last (released s.lanes w.upto) tidy.first);
+      first = marked_first after.lanes s.core.session.last (first_kept s.lanes after.lanes s.core.session.last (law.kept s.lanes w.upto) tidy.first);
       unsolicited = tidy.unsolicited;
     })
 
@@ -253,26 +261,26 @@ held_tidy s o now (Some last) sound tidy = go last.reply
     go (First f) = tidy
     go Further = tidy
 
-unsolicited_confirms_tidy : (s : State) (o : Panel) (now : ℕ) (w : Unsolicited) → IsSound s.lanes → length w.upto ≡ 9 → LeavesNothing s
+unsolicited_confirms_tidy : ReleaseLaws → (s : State) (o : Panel) (now : ℕ) (w : Unsolicited) → IsSound s.lanes → length w.upto ≡ LANES → LeavesNothing s
     → LeavesNothing (on_unsolicited_confirm s o now w).state
-unsolicited_confirms_tidy s o now w sound nine tidy =
+unsolicited_confirms_tidy law s o now w sound nine tidy =
     let lanes = without s.lanes w.upto in
     let after : State =
     record s { core = record s.core { announced = true; session = record s.core.session { unsolicited = None } }; lanes = without s.lanes w.upto } in
-    held_tidy after o now s.core.session.last (IsSound-without s.lanes w.upto nine sound)
+    held_tidy after o now s.core.session.last (law.sound s.lanes w.upto sound nine)
     (record {
-      awaited = awaited_kept s.lanes lanes s.core.session.awaited s.core.session.last (released s.lanes w.upto) tidy.awaited;
-      first = first_kept s.lanes lanes s.core.session.last (released s.lanes w.upto) tidy.first;
+      awaited = awaited_kept s.lanes lanes s.core.session.awaited s.core.session.last (law.kept s.lanes w.upto) tidy.awaited;
+      first = first_kept s.lanes lanes s.core.session.last (law.kept s.lanes w.upto) tidy.first;
       unsolicited = tt;
     })
 
 -- ---- the end of a call
 
-pushed_nine : (s : Stock) (enabled : List Bool) → length (pushed s enabled).upto ≡ 9
+pushed_nine : (s : Stock) (enabled : List Bool) → length (pushed s enabled).upto ≡ LANES
 unfolding offered_of
 pushed_nine s enabled = length_given no_ids (held_of (lane_items s (enabled_lanes 0 enabled)))
 
-starts_tidy : (step : Step) (now : ℕ) (content : Content) → length content.upto ≡ 9 → LeavesNothing step.state → LeavesNothing (starts step now content).state
+starts_tidy : (step : Step) (now : ℕ) (content : Content) → length content.upto ≡ LANES → LeavesNothing step.state → LeavesNothing (starts step now content).state
 starts_tidy step now content nine tidy = record { awaited = tidy.awaited; first = tidy.first; unsolicited = nine }
 
 end_tidy : (now : ℕ) (step : Step) → LeavesNothing step.state → LeavesNothing (at_end now step).state
@@ -287,49 +295,49 @@ end_tidy now step tidy =
 
 -- ---- the calls
 
-answered_tidy : (s : State) (o : Panel) (now : ℕ) (octets : List ℕ) (case : Case) → IsSound s.lanes → LeavesNothing s
+answered_tidy : ReleaseLaws → (s : State) (o : Panel) (now : ℕ) (octets : List ℕ) (case : Case) → IsSound s.lanes → LeavesNothing s
     → LeavesNothing (answered_by s o now octets case).state
-answered_tidy s o now octets PassedOver sound tidy = tidy
-answered_tidy s o now octets Confirms sound tidy = go s.core.session.awaited tidy.awaited
+answered_tidy law s o now octets PassedOver sound tidy = tidy
+answered_tidy law s o now octets Confirms sound tidy = go s.core.session.awaited tidy.awaited
   where
     go : (awaited : Option Awaited) → AwaitedIs s.lanes awaited s.core.session.last → LeavesNothing (with_that s awaited (on_confirm s o now)).state
     go None given = tidy
-    go (Some w) given = confirms_tidy s o now w sound given tidy
-answered_tidy s o now octets ConfirmsUnsolicited sound tidy = go s.core.session.unsolicited tidy.unsolicited
+    go (Some w) given = confirms_tidy law s o now w sound given tidy
+answered_tidy law s o now octets ConfirmsUnsolicited sound tidy = go s.core.session.unsolicited tidy.unsolicited
   where
-    go : (awaited : Option Unsolicited) → IfSome awaited (λ w. length w.upto ≡ 9) → LeavesNothing (with_that s awaited (on_unsolicited_confirm s o now)).state
+    go : (awaited : Option Unsolicited) → IfSome awaited (λ w. length w.upto ≡ LANES) → LeavesNothing (with_that s awaited (on_unsolicited_confirm s o now)).state
     go None nine = tidy
-    go (Some w) nine = unsolicited_confirms_tidy s o now w sound nine tidy
-answered_tidy s o now octets Stray sound tidy = tidy
-answered_tidy s o now octets Again sound tidy = go s.core.session.last refl
+    go (Some w) nine = unsolicited_confirms_tidy law s o now w sound nine tidy
+answered_tidy law s o now octets Stray sound tidy = tidy
+answered_tidy law s o now octets Again sound tidy = go s.core.session.last refl
   where
     go : (last : Option LastRequest) → s.core.session.last ≡ last → LeavesNothing (with_that s last (on_again s now octets)).state
     go None is = tidy
     go (Some last) is = again_tidy s now octets last is tidy
-answered_tidy s o now octets Waits sound tidy = record { awaited = tt; first = tt; unsolicited = tidy.unsolicited }
-answered_tidy s o now octets Asks sound tidy = asks_tidy s o now octets sound tidy
+answered_tidy law s o now octets Waits sound tidy = record { awaited = tt; first = tt; unsolicited = tidy.unsolicited }
+answered_tidy law s o now octets Asks sound tidy = asks_tidy s o now octets sound tidy
 
-received_by : (s : State) (o : Panel) (now : ℕ) (octets : List ℕ) (case : Case) → IsSound s.lanes → LeavesNothing s
+received_by : ReleaseLaws → (s : State) (o : Panel) (now : ℕ) (octets : List ℕ) (case : Case) → IsSound s.lanes → LeavesNothing s
     → LeavesNothing (received s o now octets case).state
-received_by s o now octets PassedOver sound tidy = tidy
-received_by s o now octets Confirms sound tidy = end_tidy now (answered_by s o now octets Confirms) (answered_tidy s o now octets Confirms sound tidy)
-received_by s o now octets ConfirmsUnsolicited sound tidy =
-    end_tidy now (answered_by s o now octets ConfirmsUnsolicited) (answered_tidy s o now octets ConfirmsUnsolicited sound tidy)
-received_by s o now octets Stray sound tidy = end_tidy now (answered_by s o now octets Stray) (answered_tidy s o now octets Stray sound tidy)
-received_by s o now octets Again sound tidy = end_tidy now (answered_by s o now octets Again) (answered_tidy s o now octets Again sound tidy)
-received_by s o now octets Waits sound tidy = end_tidy now (answered_by s o now octets Waits) (answered_tidy s o now octets Waits sound tidy)
-received_by s o now octets Asks sound tidy = end_tidy now (answered_by s o now octets Asks) (answered_tidy s o now octets Asks sound tidy)
+received_by law s o now octets PassedOver sound tidy = tidy
+received_by law s o now octets Confirms sound tidy = end_tidy now (answered_by s o now octets Confirms) (answered_tidy law s o now octets Confirms sound tidy)
+received_by law s o now octets ConfirmsUnsolicited sound tidy =
+    end_tidy now (answered_by s o now octets ConfirmsUnsolicited) (answered_tidy law s o now octets ConfirmsUnsolicited sound tidy)
+received_by law s o now octets Stray sound tidy = end_tidy now (answered_by s o now octets Stray) (answered_tidy law s o now octets Stray sound tidy)
+received_by law s o now octets Again sound tidy = end_tidy now (answered_by s o now octets Again) (answered_tidy law s o now octets Again sound tidy)
+received_by law s o now octets Waits sound tidy = end_tidy now (answered_by s o now octets Waits) (answered_tidy law s o now octets Waits sound tidy)
+received_by law s o now octets Asks sound tidy = end_tidy now (answered_by s o now octets Asks) (answered_tidy law s o now octets Asks sound tidy)
 
-pub received_tidy : (s : State) (o : Panel) (now : ℕ) (octets : List ℕ) → IsSound s.lanes → LeavesNothing s
+pub received_tidy : ReleaseLaws → (s : State) (o : Panel) (now : ℕ) (octets : List ℕ) → IsSound s.lanes → LeavesNothing s
     → LeavesNothing (connection_after s o now octets).state
-received_tidy s o now octets sound tidy = received_by s o now octets (case_of s.core octets) sound tidy
+received_tidy law s o now octets sound tidy = received_by law s o now octets (case_of s.core octets) sound tidy
 
 -- a connection that begins remembers nothing
 begun_tidy : (s : State) → s.core.session ≡ new_session → LeavesNothing s
 begun_tidy s new = record {
   awaited = subst (λ (q : Session). AwaitedIs s.lanes q.awaited q.last) (sym new) tt;
   first = subst (λ (q : Session). FirstIs s.lanes q.last) (sym new) tt;
-  unsolicited = subst (λ (q : Session). IfSome q.unsolicited (λ w. length w.upto ≡ 9)) (sym new) tt;
+  unsolicited = subst (λ (q : Session). IfSome q.unsolicited (λ w. length w.upto ≡ LANES)) (sym new) tt;
 }
 
 pub closed_tidy : (s : State) → LeavesNothing (record s { core = closed s.core })
@@ -394,21 +402,21 @@ lanes_tidy s lanes keeps tidy = record {
   unsolicited = tidy.unsolicited;
 }
 
-pub appended_tidy : (s : State) (rows : List LaneRow) → LeavesNothing s → LeavesNothing (record s { lanes = with_rows s.lanes rows })
-appended_tidy s rows tidy = lanes_tidy s (with_rows s.lanes rows) (λ given upto leaves. appended_leaves s.lanes rows given upto leaves) tidy
+pub appended_tidy : AppendsKeep → (s : State) (rows : List LaneRow) → LeavesNothing s → LeavesNothing (record s { lanes = with_rows s.lanes rows })
+appended_tidy keep s rows tidy = lanes_tidy s (with_rows s.lanes rows) (keep s.lanes rows) tidy
 
-pub released_tidy : (s : State) (upto : List ℕ) → LeavesNothing s → LeavesNothing (record s { lanes = without s.lanes upto })
-released_tidy s upto tidy = lanes_tidy s (without s.lanes upto) (released s.lanes upto) tidy
+pub released_tidy : ReleasesKeep → (s : State) (upto : List ℕ) → LeavesNothing s → LeavesNothing (record s { lanes = without s.lanes upto })
+released_tidy keep s upto tidy = lanes_tidy s (without s.lanes upto) (keep s.lanes upto) tidy
 
 pub emptied_tidy : (s : State) → LeavesNothing s → LeavesNothing (record s { lanes = without_all s.lanes })
 emptied_tidy s tidy = lanes_tidy s (without_all s.lanes) (λ given upto leaves. emptied_leaves s.lanes given upto leaves) tidy
 
-pub changed_tidy : (s : State) (now : ℕ) (kind : Kind) (index : ℕ) (reading : Reading) (made : Option LaneRow) → LeavesNothing s
+pub changed_tidy : AppendsKeep → (s : State) (now : ℕ) (kind : Kind) (index : ℕ) (reading : Reading) (made : Option LaneRow) → LeavesNothing s
     → LeavesNothing (change_of s now kind index reading made).state
-changed_tidy s now kind index reading made tidy =
+changed_tidy keep s now kind index reading made tidy =
     let after : State =
     record s { core = record s.core { points = changed_of s.core.points kind index reading }; lanes = with_rows s.lanes (option_to_list made) } in
-    let more = appended_tidy s (option_to_list made) tidy in
+    let more = appended_tidy keep s (option_to_list made) tidy in
     end_tidy now (record { state = after; does = record nothing { overwritten = dropped_by s.lanes (option_to_list made) } })
     (record { awaited = more.awaited; first = more.first; unsolicited = more.unsolicited })
 
@@ -430,14 +438,15 @@ restarted_tidy s keep = begun_tidy (restart_of s keep) refl
 
 -- ---- what a further fragment finds
 
-pub goes_on_tidily : (s : State) (w : Awaited) (last : LastRequest) (place : Place) → IsSound s.lanes → LeavesNothing s → s.core.session.awaited ≡ Some w
-    → s.core.session.last ≡ Some last → last.left ≡ Some place → IsTidy (without s.lanes w.upto) place.given × (length place.given ≡ 9)
-goes_on_tidily s w last place sound tidy awaited_is last_is left_is =
+pub goes_on_tidily : ReleaseLaws → (s : State) (w : Awaited) (last : LastRequest) (place : Place) → IsSound s.lanes → LeavesNothing s
+    → s.core.session.awaited ≡ Some w → s.core.session.last ≡ Some last → last.left ≡ Some place
+    → IsTidy (without s.lanes w.upto) place.given × (length place.given ≡ LANES)
+goes_on_tidily law s w last place sound tidy awaited_is last_is left_is =
     let given : IfSome s.core.session.last (λ l. IsLastGiven s.lanes l.left w.upto) =
     subst (λ (o : Option Awaited). AwaitedIs s.lanes o s.core.session.last) awaited_is tidy.awaited
     in
     let of_last : IsLastGiven s.lanes last.left w.upto =
     subst (λ (o : Option LastRequest). IfSome o (λ l. IsLastGiven s.lanes l.left w.upto)) last_is given in
     let of_place : LeavesOnly s.lanes place.given w.upto = subst (λ (o : Option Place). IsLastGiven s.lanes o w.upto) left_is of_last in
-    let at = place_tidy s.lanes place w.upto sound of_place in
+    let at = place_tidy law s.lanes place w.upto sound of_place in
     (at.tidy, at.nine)

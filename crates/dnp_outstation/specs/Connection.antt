@@ -11,6 +11,7 @@ use Rattle.dnp_appfragment.specs.Table.{function_octet}
 use Rattle.dnp_controls.specs.Panel.{Panel}
 use Rattle.dnp_controls.specs.Selecting.{deadline}
 use Rattle.dnp_eventbuf.specs.Stock.{lane_at, without, all_up_to}
+use Rattle.dnp_objects.specs.declared.limits.TheConstants.{MAX_FRAGMENT}
 use Rattle.dnp_outstation.specs.State.{Core, State, Step, nothing, sending, still, new_session, with_session, holds_read, is_free}
 use Rattle.dnp_outstation.specs.declared.offer.place.Place.{Place}
 use Rattle.dnp_outstation.specs.declared.case.Case.{Case}
@@ -37,7 +38,7 @@ function_in octets = slice_index octets 1
 -- a closed outstation looks at nothing, an open one at whole fragments that a master may send
 abbrev pub is_looked_at : Core → List ℕ → Bool
 is_looked_at c octets =
-    (c.is_open && (nat_le 2 (length octets) && nat_le (length octets) 2048))
+    (c.is_open && (nat_le 2 (length octets) && nat_le (length octets) MAX_FRAGMENT))
     && (((control_in octets).fir && (control_in octets).fin)
     && (nat_lt (function_in octets) 129 && (not (control_in octets).uns || function_in octets == 0)))
 

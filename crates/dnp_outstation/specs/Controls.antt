@@ -14,6 +14,7 @@ use Rattle.dnp_appfragment.specs.Meaning.{control_of, command_in, request_at}
 use Rattle.dnp_appfragment.specs.Table.{function_octet}
 use Rattle.dnp_controls.specs.Panel.{Panel, accepted}
 use Rattle.dnp_controls.specs.Selecting.{Select, answer}
+use Rattle.dnp_objects.specs.declared.limits.TheConstants.{MAX_FRAGMENT}
 use Rattle.dnp_outstation.specs.State.{State, with_session}
 use Rattle.dnp_outstation.specs.Content.{Executed, plain, answered, refused, bits_of, parameter_error, no_func_code_support, content_of}
 
@@ -133,7 +134,7 @@ come_to (Some x) headers = Ok (x, headers)
 abbrev pub outcome_at : Option Select → ℕ → Panel → ℕ → List ℕ → Result Asked AppFault → Result (Outcome × List Head) ℕ
 outcome_at select time o now octets (Err fault) = Err (bits_of fault)
 outcome_at select time o now octets (Ok request) =
-    if nat_lt 2046 (length octets) then Err parameter_error
+    if nat_lt (MAX_FRAGMENT - 2) (length octets) then Err parameter_error
     else come_to (outcome_of request.function select time o now octets (commands_in request.headers)) request.headers
 
 abbrev pub with_select : State → Option Select → State

@@ -9,6 +9,7 @@ use Rattle.dnp_appfragment.specs.Built as built
 use Rattle.dnp_appfragment.specs.Built.{Built}
 use Rattle.dnp_appfragment.specs.Written as written
 use Rattle.dnp_eventbuf.specs.Stock.{Stock, lane_at, without}
+use Rattle.dnp_objects.specs.declared.limits.TheConstants.{MAX_FRAGMENT}
 use Rattle.dnp_outstation.specs.declared.offer.place.Place.{Place}
 use Rattle.dnp_outstation.specs.declared.offer.place.RowPart.{RowPart}
 use Rattle.dnp_outstation.specs.declared.offer.place.Wanted.{Wanted}
@@ -98,7 +99,7 @@ put w x = put_thing x.thing
     }
 
 abbrev pub fits : Writer → Bool
-fits w = nat_le (built.size w.builder) 2048
+fits w = nat_le (built.size w.builder) MAX_FRAGMENT
 
 abbrev pub ended : Bool → Writer → Filled
 ended is_last w = record { headers = built.heads w.builder; upto = w.upto; left = if is_last then None else Some w.place }

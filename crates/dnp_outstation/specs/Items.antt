@@ -1,6 +1,7 @@
 -- Definition: what a READ asks for, and the items of it that are still to be given (IEEE Std 1815-2012, application
 -- layer: READ, event classes, responses of several fragments).
 use Rattle.std.specs.Prelude.{ℕ, zero, suc, ◌+◌, ◌-◌, ◌*◌, ◌==◌, Bool, true, false, ◌&&◌, if◌then◌else◌, nat_le, nat_lt, min, ◌^◌, max, List, [], ◌∷◌, ◌++◌, length, map, filter, take, drop, fold, replicate, slice_set, slice_index, Option, None, Some, option_map, is_some, pos}
+use Rattle.dnp_objects.specs.declared.limits.TheConstants.{LANES}
 use Rattle.dnp_objects.specs.declared.row.Row.{Row}
 use Rattle.dnp_objects.specs.declared.row.Kind.{Kind}
 use Rattle.dnp_objects.specs.declared.row.Kind.TheVariants.{Binary, Counter, Analog}
@@ -127,7 +128,7 @@ part_of s h =
 
 -- nine times no id
 abbrev pub no_ids : List ℕ
-no_ids = replicate 9 0
+no_ids = replicate LANES 0
 
 -- where a READ begins
 abbrev pub first_place : Place

@@ -1,7 +1,8 @@
 -- Definition: words of the laws of a response: the longest beginning, and which rows of the lanes a fragment carries
 -- (IEEE Std 1815-2012, application layer: responses, confirms, event buffers).
-use Rattle.std.specs.Prelude.{◌≡◌, ℕ, ◌<◌, ◌≤◌, ◌==◌, Bool, true, false, if◌then◌else◌, nat_le, List, [], ◌∷◌, length, map, filter, take, slice_index, Option, None, Some, All, AllPairs}
-use Rattle.std.specs.List.{filter_map, flat_map}
+use Rattle.std.specs.Prelude.{◌≡◌, ℕ, ◌<◌, ◌≤◌, ◌==◌, Bool, true, false, if◌then◌else◌, nat_le, List, length, map, filter, take, slice_index, Option, None, Some, All, AllPairs}
+use Rattle.std.specs.List.{filter_map, flat_map, range_with_len}
+use Rattle.dnp_objects.specs.declared.limits.TheConstants.{LANES}
 use Rattle.dnp_objects.specs.declared.row.Row.{Row}
 use Rattle.dnp_eventbuf.specs.declared.numbered.Numbered.{Numbered}
 use Rattle.dnp_eventbuf.specs.Stock.{Stock, lane_at, row_of}
@@ -32,7 +33,7 @@ rows_in_lane lane items = filter_map (row_in lane) items
 
 -- the numbers of the lanes
 abbrev pub lane_numbers : List ℕ
-lane_numbers = 0 ∷ 1 ∷ 2 ∷ 3 ∷ 4 ∷ 5 ∷ 6 ∷ 7 ∷ 8 ∷ []
+lane_numbers = range_with_len 0 LANES
 
 -- all event rows among items, lane by lane
 abbrev pub rows_by_lane : List Item → List Row
@@ -40,41 +41,41 @@ rows_by_lane items = flat_map (λ lane. map row_of (rows_in_lane lane items)) la
 
 -- lane by lane, these items' rows are those that stand in the lanes with ids up to the lane's number
 abbrev pub AreRowsUpto : Stock → List ℕ → List Item → Type 0
-AreRowsUpto s upto items = (lane : ℕ) → lane < 9
+AreRowsUpto s upto items = (lane : ℕ) → lane < LANES
     → rows_in_lane lane items ≡ filter (λ x. nat_le x.id (slice_index upto lane)) (lane_at s lane).rows
 
 -- ---- the fragments of one response
 
 -- the rows of each lane come in order, behind the last ones given, and none came after the READ was first answered
 pub record AreNext (given : List ℕ) (stood : ℕ) (items : List Item) : Type 0 where
-  pub in_order : (lane : ℕ) → lane < 9 → AllPairs (λ x y. x.id < y.id) (rows_in_lane lane items)
-  pub after_given : (lane : ℕ) → lane < 9 → All (λ x. slice_index given lane < x.id) (rows_in_lane lane items)
-  pub within_stood : (lane : ℕ) → lane < 9 → All (λ x. x.id ≤ stood) (rows_in_lane lane items)
+  pub in_order : (lane : ℕ) → lane < LANES → AllPairs (λ x y. x.id < y.id) (rows_in_lane lane items)
+  pub after_given : (lane : ℕ) → lane < LANES → All (λ x. slice_index given lane < x.id) (rows_in_lane lane items)
+  pub within_stood : (lane : ℕ) → lane < LANES → All (λ x. x.id ≤ stood) (rows_in_lane lane items)
 
 -- the last ids given only rise
 pub record IsOnward (given later : List ℕ) : Type 0 where
-  pub nine : length later ≡ 9
-  pub rises : (lane : ℕ) → lane < 9 → slice_index given lane ≤ slice_index later lane
+  pub nine : length later ≡ LANES
+  pub rises : (lane : ℕ) → lane < LANES → slice_index given lane ≤ slice_index later lane
 
 -- none of these items' rows is behind the last ones given
 abbrev pub AreGiven : List ℕ → List Item → Type 0
-AreGiven given items = (lane : ℕ) → lane < 9 → All (λ x. x.id ≤ slice_index given lane) (rows_in_lane lane items)
+AreGiven given items = (lane : ℕ) → lane < LANES → All (λ x. x.id ≤ slice_index given lane) (rows_in_lane lane items)
 
 -- each row of the first items is before each row of the second in its lane, so none stands in both
 abbrev pub AreBefore : List Item → List Item → Type 0
-AreBefore items others = (lane : ℕ) → lane < 9
+AreBefore items others = (lane : ℕ) → lane < LANES
     → All (λ x. All (λ y. x.id < y.id) (rows_in_lane lane others)) (rows_in_lane lane items)
 
 -- ---- what stands in the lanes of what was given
 
 -- nothing that was given before is left: each row of a lane has an id over the last one that was given
 abbrev pub IsTidy : Stock → List ℕ → Type 0
-IsTidy s given = (lane : ℕ) → lane < 9 → All (λ x. slice_index given lane < x.id) (lane_at s lane).rows
+IsTidy s given = (lane : ℕ) → lane < LANES → All (λ x. slice_index given lane < x.id) (lane_at s lane).rows
 
 -- of what was given nothing is left but what the fragment with these ids carries, and no id is given twice
 pub record LeavesOnly (s : Stock) (given upto : List ℕ) : Type 0 where
-  pub nine : length given ≡ 9
-  pub nine_upto : length upto ≡ 9
+  pub nine : length given ≡ LANES
+  pub nine_upto : length upto ≡ LANES
   pub used : All (λ id. id ≤ s.last_id) given
-  pub carried : (lane : ℕ) → lane < 9
+  pub carried : (lane : ℕ) → lane < LANES
       → All (λ x. x.id ≤ slice_index given lane → x.id ≤ slice_index upto lane) (lane_at s lane).rows

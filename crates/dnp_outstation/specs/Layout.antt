@@ -6,6 +6,7 @@ use Rattle.dnp_appfragment.specs.declared.header.Range.{Range}
 use Rattle.dnp_appfragment.specs.declared.header.Range.TheVariants as range
 use Rattle.dnp_appfragment.specs.Headers.{Head, spelled}
 use Rattle.dnp_appfragment.specs.Items.{Item as Object, item_octets, event_item, point_item}
+use Rattle.dnp_objects.specs.declared.limits.TheConstants.{MAX_FRAGMENT}
 use Rattle.dnp_outstation.specs.Items.{Thing, Item}
 use Rattle.dnp_outstation.specs.Items.Thing.{Event, Present}
 
@@ -85,4 +86,4 @@ response_size items = 4 + length (spelled (headers_of items))
 
 -- a fragment has at most 2,048 octets
 abbrev pub fits_fragment : List Item → Bool
-fits_fragment items = nat_le (response_size items) 2048
+fits_fragment items = nat_le (response_size items) MAX_FRAGMENT

@@ -3,6 +3,7 @@
 use Rattle.std.specs.Prelude.{ℕ, ◌<◌, ◌^◌, Bool, ◌||◌, ◌==◌, if◌then◌else◌, List, [], option_to_list, Option, None, Some, All}
 use Rattle.std.specs.List.{flat_map, filter_map, range_with_len}
 use Rattle.dnp_objects.specs.Events.{IsEvent}
+use Rattle.dnp_objects.specs.declared.limits.TheConstants.{LANES}
 use Rattle.dnp_objects.specs.declared.row.Row.{Row}
 use Rattle.dnp_appfragment.specs.Headers.{Head, count_of}
 use Rattle.dnp_appfragment.specs.Meaning.{row_in}
@@ -50,7 +51,7 @@ CanStand x = of x.thing
 
 -- the indexes of the lanes' rows have 16 bits
 abbrev pub HaveIndexes : Stock → Type 0
-HaveIndexes s = (lane : ℕ) → lane < 9 → All (λ x. x.row.index < 2 ^ 16) (lane_at s lane).rows
+HaveIndexes s = (lane : ℕ) → lane < LANES → All (λ x. x.row.index < 2 ^ 16) (lane_at s lane).rows
 
 -- the rows that a READ may give can be written
 pub record AreWritable (s : Source) : Type 0 where

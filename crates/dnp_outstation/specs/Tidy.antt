@@ -2,6 +2,7 @@
 -- several fragments, confirms).
 use Rattle.std.specs.Prelude.{◌≡◌, ℕ, List, length, Option, IfSome, ⊤}
 use Rattle.dnp_eventbuf.specs.Stock.{Stock}
+use Rattle.dnp_objects.specs.declared.limits.TheConstants.{LANES}
 use Rattle.dnp_outstation.specs.declared.offer.place.Place.{Place}
 use Rattle.dnp_outstation.specs.declared.session.Reply.{Reply}
 use Rattle.dnp_outstation.specs.declared.session.Reply.TheVariants.{Held, Silent, First, Further}
@@ -29,4 +30,4 @@ pub record LeavesNothing (s : State) : Type 0 where
   pub awaited : IfSome s.core.session.awaited (λ w. IfSome s.core.session.last (λ last. IsLastGiven s.lanes last.left w.upto))
   pub first : IfSome s.core.session.last (IsFirstGiven s.lanes)
   -- an unsolicited response has an id for each lane
-  pub unsolicited : IfSome s.core.session.unsolicited (λ w. length w.upto ≡ 9)
+  pub unsolicited : IfSome s.core.session.unsolicited (λ w. length w.upto ≡ LANES)

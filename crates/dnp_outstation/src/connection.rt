@@ -2,6 +2,7 @@
 
 ghost use Rattle.std.specs.Prelude.{◌≡◌, ◌≤◌, length, ◌&&◌, is_none, None, IsSome};
 ghost use Rattle.dnp_controls.specs.Selecting.{deadline};
+ghost use Rattle.dnp_objects.specs.declared.limits.TheConstants.{MAX_FRAGMENT};
 ghost use Rattle.dnp_outstation.specs.Answering.{KeepsWhole, first_in};
 ghost use Rattle.dnp_outstation.specs.State.{new_session, holds_read};
 ghost use Rattle.dnp_outstation.specs.Connection.{is_last_request, is_number, awaited_number, confirmed, new_request, no_response, held};
@@ -125,7 +126,7 @@ impl Session {
     /// Another request than the last one came.
     pub fn new_request(&mut self, octets: &[u8])
         requires some { 2 ≤ length octets.now }
-        requires few { length octets.now ≤ 2048 }
+        requires few { length octets.now ≤ MAX_FRAGMENT }
         ensures { self.new ≡ new_request self.old octets.now }
     {
         self.request.keep(octets);
@@ -137,7 +138,7 @@ impl Session {
 
     /// Another request than the last one came and was carried out: the select is as that left it.
     pub fn take_request(&mut self, octets: &[u8])
-        requires { length octets.now ≤ 2048 }
+        requires { length octets.now ≤ MAX_FRAGMENT }
         ensures { self.new ≡ record self.old { request = octets.now; awaited = None } }
     {
         self.request.keep(octets);

@@ -4,10 +4,11 @@ ghost use Rattle.std.specs.Prelude.{All, ◌⊎◌, ◌≡◌, ◌≢◌, ◌<�
 ghost use Rattle.dnp_appfragment.specs.declared.function.Function.TheVariants as function;
 ghost use Rattle.dnp_controls.specs.Selecting.{deadline};
 ghost use Rattle.dnp_eventbuf.specs.Stock.{rows_in};
+ghost use Rattle.dnp_objects.specs.declared.limits.TheConstants.{MAX_FRAGMENT};
 ghost use Rattle.dnp_outstation.specs.Answering.{content_by, KeepsWhole};
 ghost use Rattle.dnp_outstation.specs.Connection.{on_request, at_end, replied};
 ghost use Rattle.dnp_outstation.specs.Controls.{is_control};
-ghost use Rattle.dnp_outstation.specs.Calls.{performed_of};
+ghost use Rattle.dnp_outstation.specs.Calls.{performed_at};
 ghost use Rattle.dnp_outstation.specs.Items.{last_in};
 ghost use Rattle.dnp_outstation.specs.State.{State, with_session};
 ghost use Rattle.dnp_outstation.specs.Station.{state_of, actions_of, HasRoom};
@@ -77,7 +78,7 @@ impl OutstationCore {
         octets: &[u8],
     ) -> Result<(), StoreFault>
         requires some { 2 ≤ length octets.now }
-        requires few { length octets.now ≤ 2048 }
+        requires few { length octets.now ≤ MAX_FRAGMENT }
         requires control { is_control octets.now ≡ true }
         ensures held { L.honest lanes.new → L.honest lanes.old }
         ensures beside { L.honest lanes.new → L.beside lanes.new ≡ L.beside lanes.old }
@@ -90,17 +91,19 @@ impl OutstationCore {
         ensures actions_unchanged { OnErr result (actions.new ≡ actions.old) }
         ensures same { L.honest lanes.new → L.contents lanes.new ≡ L.contents lanes.old }
         ensures outputs_unchanged { O.honest outputs.new → OnErr result (O.panel outputs.new ≡ O.panel outputs.old) }
-        ensures idle { performed_of self.old (O.panel outputs.old) now octets.now ≡ [] → outputs.new ≡ outputs.old }
-        ensures performed { O.honest outputs.new → OnOk result (performed_of self.old (O.panel outputs.old) now octets.now ≢ []
-            → O.performs outputs.old (performed_of self.old (O.panel outputs.old) now octets.now) outputs.new) }
+        ensures idle { performed_at self.old (O.panel outputs.old) now octets.now ≡ [] → outputs.new ≡ outputs.old }
+        ensures performed { O.honest outputs.new → OnOk result (performed_at self.old (O.panel outputs.old) now octets.now ≢ []
+            → O.performs outputs.old (performed_at self.old (O.panel outputs.old) now octets.now) outputs.new) }
         ensures device { result ≡ Err StoreFault.Device → IsTrue (L.is_stopped lanes.new) ⊎ IsTrue (O.is_stopped outputs.new) }
         ensures runs_on { result ≢ Err StoreFault.Device → L.is_stopped lanes.new ≡ L.is_stopped lanes.old }
         ensures outputs_run_on { result ≢ Err StoreFault.Device → O.is_stopped outputs.new ≡ O.is_stopped outputs.old }
         ensures memory { L.honest lanes.new → result ≡ Err StoreFault.Memory → L.asks_memory ≡ false
-            → (rows_in (L.contents lanes.old) ≢ []) ⊎ (performed_of self.old (O.panel outputs.old) now octets.now ≢ []) }
-        ensures exhausted { O.honest outputs.new → result ≡ Err StoreFault.Exhausted → O.exhausts outputs.old (performed_of self.old (O.panel outputs.old) now octets.now) }
+            → (rows_in (L.contents lanes.old) ≢ []) ⊎ (performed_at self.old (O.panel outputs.old) now octets.now ≢ []) }
+        ensures exhausted { O.honest outputs.new → result ≡ Err StoreFault.Exhausted → O.exhausts outputs.old (performed_at self.old (O.panel outputs.old) now octets.now) }
+        ensures not_exhausted { O.honest outputs.new → OnOk result (performed_at self.old (O.panel outputs.old) now octets.now ≢ []
+            → O.exhausts outputs.old (performed_at self.old (O.panel outputs.old) now octets.now) → ⊥) }
         ensures named { result ≡ Err StoreFault.Exhausted → IsTrue (O.may_fault StoreFault.Exhausted) }
-        ensures asks { IsErr result → (self.old.times.unsolicited ≡ true) ⊎ (performed_of self.old (O.panel outputs.old) now octets.now ≢ []) }
+        ensures asks { IsErr result → (self.old.times.unsolicited ≡ true) ⊎ (performed_at self.old (O.panel outputs.old) now octets.now ≢ []) }
     {
         let switches = self.switches();
         let stood = last_left(lanes, &None);

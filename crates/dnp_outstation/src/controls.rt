@@ -1,6 +1,6 @@
 //! Control requests.
 
-ghost use Rattle.std.specs.Prelude.{◌≡◌, ◌<◌, ◌≤◌, ℕ, [], length, Option, None, Err, if◌then◌else◌, Some, IfOk, IfErr, IfSome, OnErr, is_none};
+ghost use Rattle.std.specs.Prelude.{◌≡◌, ◌-◌, ◌<◌, ◌≤◌, ℕ, [], length, Option, None, Err, if◌then◌else◌, Some, IfOk, IfErr, IfSome, OnErr, is_none};
 ghost use Rattle.std.specs.Option.{option_map};
 ghost use Rattle.std.specs.Result.{result_err};
 ghost use Rattle.dnp_appfragment.specs.declared.function.Function.TheVariants as function;
@@ -34,10 +34,11 @@ use crate::offer::writer::Writer;
 use dnp_appfragment::{Control, Function, Request};
 use dnp_controls::{Outputs, Selects};
 use dnp_eventbuf::StoreFault;
+use dnp_objects::MAX_FRAGMENT;
 use std::alloc::Global;
 
 /// The most octets of a control request: its answer, of two octets more, still fits in a fragment.
-const MAX_CONTROL: usize = 2046;
+const MAX_CONTROL: usize = MAX_FRAGMENT - 2;
 
 /// The function octet of a request, or 0.
 fn function_in(octets: &[u8]) -> u8
@@ -62,7 +63,7 @@ fn control_in(octets: &[u8]) -> Result<Request<'_>, u8>
     ensures ok { IfOk result (λ r. (select : Option Select) (time : ℕ) (o : Panel) (now : ℕ) → outcome_at select time o now octets.now (request_at octets.now)
         ≡ come_to (outcome_of r.function select time o now octets.now (commands_in r.headers.headers)) r.headers.headers) }
     ensures found { IfOk result (λ r. IsRequest octets.now (request r)) }
-    ensures short { IfOk result (λ r. length octets.now ≤ 2046) }
+    ensures short { IfOk result (λ r. length octets.now ≤ MAX_FRAGMENT - 2) }
     ensures err { IfErr result (λ bits. (select : Option Select) (time : ℕ) (o : Panel) (now : ℕ) →
         outcome_at select time o now octets.now (request_at octets.now) ≡ Err bits) }
     ensures small { IfErr result (λ bits. bits < 8) }
@@ -144,7 +145,7 @@ fn decide_control<O: Outputs>(
 /// before it.
 fn leave(selects: &mut Selects, standing: Standing, now: u64, octets: &[u8])
     requires some { 2 ≤ length octets.now }
-    requires few { length octets.now ≤ 2048 }
+    requires few { length octets.now ≤ MAX_FRAGMENT }
     ensures { selects.new ≡ select_by standing (select_for octets.now selects.old) now octets.now }
 {
     match standing {
@@ -189,7 +190,7 @@ pub(crate) fn execute_control<O: Outputs>(
     octets: &[u8],
 ) -> Result<Option<Answer>, StoreFault>
     requires some { 2 ≤ length octets.now }
-    requires few { length octets.now ≤ 2048 }
+    requires few { length octets.now ≤ MAX_FRAGMENT }
     ensures executed { O.honest outputs.new → IfOk result (λ a. (s : State) → s.core.session.selects ≡ select_for octets.now selects.old
         → s.core.times.select_ms ≡ select_ms → s.performed ≡ (O.panel outputs.old).performed
         → control_content s (O.panel outputs.old) now octets.now

@@ -27,6 +27,7 @@ use byteorder::{ByteOrder, LittleEndian};
 use dnp_appfragment::{AppFault, Function, Header, Headers, Range, Request, read_request};
 use dnp_controls::Outputs;
 use dnp_eventbuf::{Lanes, StoreFault, Upto};
+use dnp_objects::LANES;
 use dnp_pointdb::PointDb;
 use std::alloc::Global;
 
@@ -43,7 +44,7 @@ pub(crate) const PARAMETER_ERROR: u8 = 0x04;
 pub(crate) const FIRST_PLACE: Place = Place {
     header: 0,
     count: 0,
-    given: [0; 9],
+    given: [0; LANES],
 };
 
 /// The request that the octets are, with fewer headers than a number can count.

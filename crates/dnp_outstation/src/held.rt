@@ -10,6 +10,7 @@ ghost use Rattle.dnp_eventbuf.specs.declared.numbered.Numbered.{Numbered as Numb
 ghost use Rattle.dnp_eventbuf.specs.Carried.{IsCarried};
 ghost use Rattle.dnp_eventbuf.specs.Sound.{IsSound};
 ghost use Rattle.dnp_eventbuf.specs.Stock.{Stock, rows_in, with_rows, dropped_by};
+ghost use Rattle.dnp_objects.specs.declared.limits.TheConstants.{LANES};
 ghost use Rattle.dnp_outstation.specs.Filling.{empty_for, ended};
 ghost use Rattle.dnp_outstation.specs.Holding.{IsLaneHeld, IsClassHeld, IsHeld, AreClassEvents, AreEvents, new_of, kept_of, more_of};
 ghost use Rattle.dnp_outstation.specs.Items.{event_of, class_lanes, lane_items, first_place};
@@ -56,7 +57,7 @@ fn held_lane<L: Lanes>(
     alloc: Global,
     number: usize,
 ) -> Result<Vec<Numbered>, StoreFault>
-    requires { number < 9 }
+    requires { number < LANES }
     ensures rows { L.honest lanes.new → IfOk result (λ rows. IsLaneHeld (L.contents lanes.old) number rows.items) }
     ensures events { IfOk result (λ rows. All (λ x. IsEvent x.row) rows.items) }
     ensures look { IsLook L.honest L.is_stopped L.contents L.beside L.asks_memory lanes.old lanes.new result }
@@ -157,7 +158,7 @@ fn kept<'a>(rows: &'a [Numbered], new: &Option<NewRow>, lane: usize) -> &'a [Num
 impl Writer {
     /// Puts the row that the lane took, if it took one and it fits; answers whether that is so.
     fn put_new(&mut self, lane: usize, new: &Option<NewRow>) -> bool
-        requires lane { lane < 9 }
+        requires lane { lane < LANES }
         requires response { IsTrue (is_response self.old.builder.function) }
         requires event { IfSome new.now (λ new. IsEvent new.row.row) }
         ensures written { Puts self.old (map (event_of 0 lane) (more_of new.now lane)) result self.new }
@@ -175,7 +176,7 @@ impl Writer {
     /// Puts the rows of a lane as they are once the new one was appended, as far as they fit; answers whether
     /// all do.
     fn put_held_lane(&mut self, lane: usize, rows: &[Numbered], new: &Option<NewRow>) -> bool
-        requires lane { lane < 9 }
+        requires lane { lane < LANES }
         requires response { IsTrue (is_response self.old.builder.function) }
         requires events { All (λ x. IsEvent x.row) rows.now }
         requires event { IfSome new.now (λ new. IsEvent new.row.row) }

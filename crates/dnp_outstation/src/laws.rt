@@ -2,6 +2,7 @@
 ghost use Rattle.std.specs.Prelude.{◌≡◌, ◌≢◌, ◌↔◌, ◌≤◌, ℕ, Bool, true, All, List, [], ◌++◌, length, map, Option, None, Some, Ok};
 ghost use Rattle.std.specs.List.Sorted.{IsPermutation};
 ghost use Rattle.dnp_objects.specs.declared.lane.LaneRow.{LaneRow};
+ghost use Rattle.dnp_objects.specs.declared.limits.TheConstants.{LANES};
 ghost use Rattle.dnp_objects.specs.declared.row.Kind.{Kind};
 ghost use Rattle.dnp_pointdb.specs.declared.reading.Reading.{Reading};
 ghost use Rattle.dnp_controls.specs.Panel.{Panel};
@@ -26,6 +27,12 @@ ghost use Rattle.dnp_outstation.specs.Connection.{closed};
 ghost use Rattle.dnp_outstation.specs.Calls.{connection_after, tick_of, change_of, opened_of, restart_of};
 ghost use Rattle.dnp_outstation.specs.Tidy.{LeavesNothing};
 
+use dnp_appfragment::laws::{
+    a_header_holds_what_was_put, what_is_held_is_read, what_is_put_is_held,
+    what_is_put_stands_in_a_response, what_is_spelled_is_said, what_is_there_is_said,
+};
+use dnp_eventbuf::laws::{a_release_is_lane_by_lane, ids_are_used_once, lanes_stay_sound};
+
 /// A fragment holds the longest beginning of the items left that fits: with one item more it wouldn't,
 /// since a response with more items is no smaller. Nothing is left exactly where it holds them all, and
 /// where no item was left it is empty and the last.
@@ -41,11 +48,11 @@ pub fn a_fragment_holds_as_much_as_fits()
 /// unsolicited response. So a release of these numbers takes what was carried and nothing else.
 pub fn a_fragment_carries_the_rows_up_to_its_ids()
     ensures fragment { (s : Source) (stood : ℕ) (place : Place) (headers : List Head) → IsSound s.lanes
-        → IsTidy s.lanes place.given → length place.given ≡ 9
+        → IsTidy s.lanes place.given → length place.given ≡ LANES
         → AreRowsUpto s.lanes (offered s stood place headers).upto (held_of (items_left s stood place headers)) }
     ensures unsolicited { (s : Stock) (enabled : List Bool) → IsSound s
         → AreRowsUpto s (pushed s enabled).upto (held_of (lane_items s (enabled_lanes 0 enabled))) }
-    ensures released { (s : Stock) (upto : List ℕ) (items : List Item) → length s.lanes ≡ 9 → length upto ≡ 9
+    ensures released { (s : Stock) (upto : List ℕ) (items : List Item) → length s.lanes ≡ LANES → length upto ≡ LANES
         → AreRowsUpto s upto items → all_up_to s upto ≡ rows_by_lane items }
 {}
 
@@ -54,11 +61,11 @@ pub fn a_fragment_carries_the_rows_up_to_its_ids()
 /// answered.
 pub fn a_row_stands_once_in_a_response()
     ensures next { (s : Source) (stood : ℕ) (place : Place) (headers : List Head) → IsSound s.lanes
-        → length place.given ≡ 9 → AreNext place.given stood (held_of (items_left s stood place headers)) }
+        → length place.given ≡ LANES → AreNext place.given stood (held_of (items_left s stood place headers)) }
     ensures onward { (s : Source) (stood : ℕ) (place left : Place) (headers : List Head) → IsSound s.lanes
-        → length place.given ≡ 9 → (offered s stood place headers).left ≡ Some left → IsOnward place.given left.given }
+        → length place.given ≡ LANES → (offered s stood place headers).left ≡ Some left → IsOnward place.given left.given }
     ensures given { (s : Source) (stood : ℕ) (place left : Place) (headers : List Head) → IsSound s.lanes
-        → length place.given ≡ 9 → (offered s stood place headers).left ≡ Some left
+        → length place.given ≡ LANES → (offered s stood place headers).left ≡ Some left
         → AreGiven left.given (held_of (items_left s stood place headers)) }
     ensures once { (given later : List ℕ) (stood : ℕ) (items others : List Item) → AreGiven given items
         → IsOnward given later → AreNext later stood others → AreBefore items others }
@@ -71,10 +78,10 @@ pub fn nothing_else_given_is_left()
     ensures begins { (s : Stock) → IsSound s → IsTidy s no_ids }
     ensures begins_used { (s : Stock) → All (λ id. id ≤ s.last_id) no_ids }
     ensures new { (s : Source) (stood : ℕ) (place left : Place) (headers : List Head) → IsSound s.lanes
-        → IsTidy s.lanes place.given → length place.given ≡ 9 → All (λ id. id ≤ s.lanes.last_id) place.given
+        → IsTidy s.lanes place.given → length place.given ≡ LANES → All (λ id. id ≤ s.lanes.last_id) place.given
         → (offered s stood place headers).left ≡ Some left
         → LeavesOnly s.lanes left.given (offered s stood place headers).upto }
-    ensures released { (s : Stock) (given upto : List ℕ) → length s.lanes ≡ 9 → LeavesOnly s given upto
+    ensures released { (s : Stock) (given upto : List ℕ) → length s.lanes ≡ LANES → LeavesOnly s given upto
         → IsTidy (without s upto) given }
     ensures appended { (s : Stock) (rows : List LaneRow) (given upto : List ℕ) → LeavesOnly s given upto
         → LeavesOnly (with_rows s rows) given upto }
@@ -82,7 +89,10 @@ pub fn nothing_else_given_is_left()
         → LeavesOnly (without s others) given upto }
     ensures emptied { (s : Stock) (given upto : List ℕ) → LeavesOnly s given upto
         → LeavesOnly (without_all s) given upto }
-{}
+{
+    a_release_is_lane_by_lane();
+    ids_are_used_once();
+}
 
 /// Items that can be written and fit are a response, whose headers hold just these, and the rows that its
 /// event headers say are the event rows among them, in order. The items of a READ can be written where the
@@ -99,7 +109,14 @@ pub fn octets_say_what_is_held()
         → All CanStand (held_of (items_left s stood place headers)) }
     ensures some { (s : Source) (stood : ℕ) (place left : Place) (headers : List Head) → IsSound s.lanes → AreWritable s
         → (offered s stood place headers).left ≡ Some left → held_of (items_left s stood place headers) ≢ [] }
-{}
+{
+    a_header_holds_what_was_put();
+    what_is_put_is_held();
+    what_is_put_stands_in_a_response();
+    what_is_held_is_read();
+    what_is_there_is_said();
+    what_is_spelled_is_said();
+}
 
 /// A fragment is read as itself, and the event rows that its headers say are, but for order, those that a
 /// release of its ids takes; likewise an unsolicited response.
@@ -109,7 +126,7 @@ pub fn a_release_takes_what_the_octets_said()
         → is_response answered.function ≡ true → IsSound s.lanes → AreWritable s
         → response_at (response_octets answered) ≡ Ok answered }
     ensures fragment { (s : Source) (stood : ℕ) (place : Place) (headers : List Head) → IsSound s.lanes → AreWritable s
-        → IsTidy s.lanes place.given → length place.given ≡ 9
+        → IsTidy s.lanes place.given → length place.given ≡ LANES
         → IsPermutation (rows_said (offered s stood place headers).headers)
         (all_up_to s.lanes (offered s stood place headers).upto) }
     ensures unsolicited_read { (answered : Answered) (s : Stock) (enabled : List Bool)
@@ -118,14 +135,16 @@ pub fn a_release_takes_what_the_octets_said()
         → response_at (response_octets answered) ≡ Ok answered }
     ensures unsolicited { (s : Stock) (enabled : List Bool) → IsSound s → length enabled ≤ 3 → HaveIndexes s
         → IsPermutation (rows_said (pushed s enabled).headers) (all_up_to s (pushed s enabled).upto) }
-{}
+{
+    octets_say_what_is_held();
+}
 
 /// So it is at all times: where a connection begins, and after each call and each change of the lanes. So where
 /// a response goes on behind a confirm, nothing that it gave before is left.
 pub fn calls_leave_nothing_else_given()
     ensures further { (s : State) (w : Awaited) (last : LastRequest) (place : Place) → IsSound s.lanes → LeavesNothing s
         → s.core.session.awaited ≡ Some w → s.core.session.last ≡ Some last → last.left ≡ Some place
-        → IsTidy (without s.lanes w.upto) place.given × (length place.given ≡ 9) }
+        → IsTidy (without s.lanes w.upto) place.given × (length place.given ≡ LANES) }
     ensures opened { (s : State) (now : ℕ) → LeavesNothing (opened_of s now).state }
     ensures received { (s : State) (o : Panel) (now : ℕ) (octets : List ℕ) → IsSound s.lanes → LeavesNothing s
         → LeavesNothing (connection_after s o now octets).state }
@@ -139,4 +158,7 @@ pub fn calls_leave_nothing_else_given()
     ensures released { (s : State) (upto : List ℕ) → LeavesNothing s
         → LeavesNothing (record s { lanes = without s.lanes upto }) }
     ensures emptied { (s : State) → LeavesNothing s → LeavesNothing (record s { lanes = without_all s.lanes }) }
-{}
+{
+    nothing_else_given_is_left();
+    lanes_stay_sound();
+}

@@ -17,6 +17,7 @@ mod fault_from;
 mod held;
 mod indications;
 mod kept;
+pub mod lane_laws;
 pub mod laws;
 pub mod link_laws;
 mod moments;

@@ -3,6 +3,7 @@
 //! contract is a law.
 ghost use Rattle.std.specs.Prelude.{◌≡◌, ◌≢◌, ◌⊎◌, ◌≤◌, ◌<◌, ◌+◌, ◌^◌, ℕ, Bool, true, false, All, List, [], ◌∷◌, ◌++◌, length, Option, None, Some, IsSome};
 ghost use Rattle.dnp_objects.specs.declared.lane.LaneRow.{LaneRow};
+ghost use Rattle.dnp_objects.specs.declared.limits.TheConstants.{LANES};
 ghost use Rattle.dnp_objects.specs.declared.row.Kind.{Kind};
 ghost use Rattle.dnp_appfragment.specs.declared.function.Function.TheVariants as function;
 ghost use Rattle.dnp_appfragment.specs.Control.{ControlBits};
@@ -31,8 +32,11 @@ ghost use Rattle.dnp_outstation.specs.Controls.{content_at};
 ghost use Rattle.dnp_outstation.specs.Connection.{has_rows, control_for, control_in, fragment_of, function_in, unsolicited_of, case_of, is_last_request, waiting, replied, discarding, starts, at_end, solicited_timer, closed};
 ghost use Rattle.dnp_outstation.specs.Calls.{connection_after, tick_of, change_of, opened_of, restart_of};
 
-use dnp_appfragment::laws::octets_say_a_request;
+use crate::laws::octets_say_what_is_held;
+use dnp_appfragment::laws::{octets_say_a_request, what_is_spelled_is_said};
 use dnp_controls::laws::an_operate_is_answered_by_its_select;
+use dnp_eventbuf::laws::ids_are_used_once;
+use dnp_eventbuf::link_laws::{a_release_is_by_ids, each_row_stands_once};
 use dnp_objects::Command;
 use dnp_objects::laws::parts_are_covered;
 use dnp_pointdb::laws::readings_fit_their_static_objects;
@@ -49,7 +53,7 @@ pub fn fragments_report_the_rows_up_to_their_ids()
         → AreWritable (source_of s o) → seq < 16 → (content_of s o octets).content ≡ Some content
         → Reports s.lanes (fragment_of after true seq content) (control_for true seq content) content.upto }
     ensures further { (s : State) (o : Panel) (stood : ℕ) (place : Place) (headers : List Head) (seq : ℕ)
-        → IsSound s.lanes → AreWritable (source_of s o) → IsTidy s.lanes place.given → length place.given ≡ 9 → seq < 16
+        → IsSound s.lanes → AreWritable (source_of s o) → IsTidy s.lanes place.given → length place.given ≡ LANES → seq < 16
         → (let content = read_content s o stood place headers in
         Reports s.lanes (fragment_of s false seq content) (control_for false seq content) content.upto) }
     ensures unsolicited { (s : State) → IsSound s.lanes → HaveIndexes s.lanes → length s.core.enabled ≤ 3
@@ -62,6 +66,10 @@ pub fn fragments_report_the_rows_up_to_their_ids()
         (record { fir = true; fin = true; con = true; uns = true; seq = s.core.session.next }) no_ids }
 {
     octets_say_a_request();
+    octets_say_what_is_held();
+    what_is_spelled_is_said();
+    a_release_is_by_ids();
+    each_row_stands_once();
 }
 
 /// What a READ may give can be written where the points are sound, outputs show octets at indexes of 16 bits, and
@@ -79,7 +87,9 @@ pub fn indexes_keep_their_bits()
     ensures emptied { (s : Stock) → HaveIndexes (without_all s) }
     ensures appended { (s : Stock) (rows : List LaneRow) → All (λ x. x.row.index < 2 ^ 16) rows → HaveIndexes s
         → HaveIndexes (with_rows s rows) }
-{}
+{
+    ids_are_used_once();
+}
 
 /// A fragment that asks for no confirm reports no rows. Where a READ has no item left, the fragment is the
 /// last one, without objects and without a confirm.
@@ -91,7 +101,9 @@ pub fn what_asks_no_confirm_reports_no_rows()
         → items_left (source_of s o) stood place headers ≡ []
         → (let content = read_content s o stood place headers in (content.headers ≡ [])
         × (control_for first seq content ≡ record { fir = first; fin = true; con = false; uns = false; seq = seq })) }
-{}
+{
+    each_row_stands_once();
+}
 
 /// What a request makes of an outstation leaves the connection and the lanes alone, but for the select. Each
 /// request has an answer, a DIRECT_OPERATE_NR alone has none. A READ is answered the same whether it was held

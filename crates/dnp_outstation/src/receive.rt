@@ -50,6 +50,8 @@ impl OutstationCore {
             → (rows_in (L.contents lanes.old) ≢ []) ⊎ (performed_in self.old (O.panel outputs.old) now octets.now ≢ []) }
         ensures exhausted { O.honest outputs.new → result ≡ Err StoreFault.Exhausted
             → O.exhausts outputs.old (performed_in self.old (O.panel outputs.old) now octets.now) }
+        ensures not_exhausted { O.honest outputs.new → OnOk result (performed_in self.old (O.panel outputs.old) now octets.now ≢ []
+            → O.exhausts outputs.old (performed_in self.old (O.panel outputs.old) now octets.now) → ⊥) }
         ensures named { result ≡ Err StoreFault.Exhausted → IsTrue (O.may_fault StoreFault.Exhausted) }
         ensures looked_at { IsErr result → is_looked_at self.old octets.now ≡ true }
         ensures asks { IsErr result → self.old.times.unsolicited ≡ false → MayAsk self.old (O.panel outputs.old) now octets.now }

@@ -2,18 +2,20 @@
 
 ghost use Rattle.std.specs.Prelude.{◌≡◌, ◌<◌, ◌+◌, ◌*◌, if◌then◌else◌, [], IfSome, length};
 ghost use Rattle.dnp_eventbuf.specs.Stock.{lane_at, last_of};
+ghost use Rattle.dnp_objects.specs.declared.limits.TheConstants.{LANES};
 ghost use Rattle.dnp_outstation.specs.Connection.{has_enabled_rows};
 ghost use Rattle.dnp_outstation.specs.Filling.{after_release, released_to, has_rows_in};
 ghost use Rattle.dnp_outstation.specs.Items.{class_lanes, last_in_class, last_in};
 ghost use Rattle.dnp_outstation.specs.State.{State};
 
+use dnp_eventbuf::laws::{a_release_is_lane_by_lane, lanes_stay_sound};
 use dnp_eventbuf::{Lane, Lanes, Upto};
 
 /// Up to which id the rows of a lane are released.
 fn released_to(released: &Option<Upto>, number: usize) -> u64
-    requires { number < 9 }
+    requires { number < LANES }
     ensures value { result ≡ released_to released.now number }
-    ensures nine { IfSome released.now (λ upto. length upto ≡ 9) }
+    ensures nine { IfSome released.now (λ upto. length upto ≡ LANES) }
 {
     match released {
         Some(upto) => upto[number],
@@ -23,10 +25,11 @@ fn released_to(released: &Option<Upto>, number: usize) -> u64
 
 /// The last id in the lane of this number after the release, or 0.
 fn last_at<L: Lanes>(lanes: &mut L, released: &Option<Upto>, number: usize) -> u64
-    requires { number < 9 }
+    requires { number < LANES }
     ensures same { lanes.new ≡ lanes.old }
     ensures value { L.honest lanes.new → result ≡ last_of (lane_at (after_release (L.contents lanes.new) released.now) number).rows }
 {
+    a_release_is_lane_by_lane();
     let last = match Lane::numbered(number) {
         Some(lane) => lanes.last(lane),
         None => unreachable!(),
@@ -72,6 +75,7 @@ fn has_rows<L: Lanes>(
     ensures same { lanes.new ≡ lanes.old }
     ensures value { L.honest lanes.new → result ≡ has_rows_in (after_release (L.contents lanes.new) released.now) (if is_enabled then class_lanes class else []) }
 {
+    lanes_stay_sound();
     // Whatever the lanes say without a refusal says that ids rise from 1 on.
     let _raised = lanes.raised();
     let _over = released_to(released, 0);

@@ -5,6 +5,7 @@ ghost use Rattle.dnp_appfragment.specs.declared.function.Function.TheVariants as
 ghost use Rattle.dnp_appfragment.specs.Table.{function_octet};
 ghost use Rattle.dnp_controls.specs.Panel.{Panel};
 ghost use Rattle.dnp_eventbuf.specs.Stock.{Stock, rows_in};
+ghost use Rattle.dnp_objects.specs.declared.limits.TheConstants.{MAX_FRAGMENT};
 ghost use Rattle.dnp_outstation.specs.Calls.{with_that};
 ghost use Rattle.dnp_outstation.specs.Connection.{function_in, waiting, on_request, on_again, at_end};
 ghost use Rattle.dnp_outstation.specs.Controls.{is_control};
@@ -35,7 +36,7 @@ impl OutstationCore {
         octets: &[u8],
     ) -> Result<(), StoreFault>
         requires some { 2 ≤ length octets.now }
-        requires few { length octets.now ≤ 2048 }
+        requires few { length octets.now ≤ MAX_FRAGMENT }
         requires other { is_control octets.now ≡ false }
         ensures held { L.honest lanes.new → L.honest lanes.old }
         ensures beside { L.honest lanes.new → L.beside lanes.new ≡ L.beside lanes.old }
@@ -120,7 +121,7 @@ impl OutstationCore {
     /// A READ that has to wait for the confirm of an unsolicited response.
     pub(crate) fn wait(&mut self, actions: &mut Actions, alloc: Global, octets: &[u8])
         requires some { 2 ≤ length octets.now }
-        requires few { length octets.now ≤ 2048 }
+        requires few { length octets.now ≤ MAX_FRAGMENT }
         ensures waits { (lanes : Stock) (p : Panel) (now : ℕ) → let s = state_of self.old lanes p in
             at_end now (still (record s { core = waiting s.core octets.now }))
             ≡ record { state = state_of self.new lanes p; does = actions_of actions.new } }

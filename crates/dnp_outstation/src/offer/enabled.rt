@@ -14,12 +14,14 @@ use crate::offer::place::RowPart;
 use crate::offer::rows::Bounds;
 use crate::offer::wanted::of_class;
 use crate::offer::writer::Writer;
+use dnp_eventbuf::laws::lanes_stay_sound;
 use dnp_eventbuf::{Lanes, StoreFault, Upto};
+use dnp_objects::LANES;
 use std::alloc::Global;
 
 /// A release has an id for each of the nine lanes.
 fn has_nine(released: &Option<Upto>)
-    ensures { IfSome released.now (λ upto. length upto ≡ 9) }
+    ensures { IfSome released.now (λ upto. length upto ≡ LANES) }
 {
     if let Some(upto) = released {
         let _first = upto[0];
@@ -49,12 +51,13 @@ impl Writer {
             return Ok(true);
         }
         has_nine(released);
+        lanes_stay_sound();
         let part = RowPart {
             lanes: of_class(class + 1),
             most: None,
         };
         let bounds = Bounds {
-            given: &[0; 9],
+            given: &[0; LANES],
             stood: u64::MAX,
             released,
         };

@@ -6,6 +6,7 @@ ghost use Rattle.dnp_objects.specs.Lanes.{lane_number};
 ghost use Rattle.dnp_eventbuf.specs.declared.numbered.Numbered.{Numbered as NumberedRow};
 ghost use Rattle.dnp_appfragment.specs.Built.{size};
 ghost use Rattle.dnp_appfragment.specs.Table.{is_response};
+ghost use Rattle.dnp_objects.specs.declared.limits.TheConstants.{LANES, MAX_FRAGMENT};
 ghost use Rattle.dnp_outstation.specs.Items.{event_of, given_after, event_items, rows_left, at_most, less};
 ghost use Rattle.dnp_outstation.specs.Filling.{after_release, over_of};
 ghost use Rattle.dnp_outstation.specs.Putting.{Puts, IsLook};
@@ -28,9 +29,9 @@ pub struct Bounds<'a> {
 impl<'a> Bounds<'a> {
     /// Over which id a lane's rows are still to be given.
     fn over(&self, number: usize) -> u64
-        requires { number < 9 }
+        requires { number < LANES }
         ensures over { result ≡ over_of self.now.given.now self.now.released.now number }
-        ensures nine { IfSome self.now.released.now (λ upto. length upto ≡ 9) }
+        ensures nine { IfSome self.now.released.now (λ upto. length upto ≡ LANES) }
     {
         match self.released {
             Some(upto) => self.given[number].max(upto[number]),
@@ -89,12 +90,12 @@ pub(crate) fn less(most: Option<usize>, given: usize) -> Option<usize>
 impl Writer {
     /// Puts rows of a lane as far as they fit; answers whether all do.
     pub(crate) fn put_rows(&mut self, header: usize, lane: usize, rows: &[Numbered]) -> bool
-        requires lane { lane < 9 }
+        requires lane { lane < LANES }
         requires response { IsTrue (is_response self.old.builder.function) }
         requires events { All (λ x. IsEvent x.row) rows.now }
         ensures given { IsTrue result → self.new.place.given ≡ fold given_after self.old.place.given (map (event_of header lane) rows.now) }
         ensures written { Puts self.old (map (event_of header lane) rows.now) result self.new }
-        ensures room { IsTrue result → size self.old.builder ≤ 2048 → size self.old.builder + 2 * length rows.now ≤ 2048 }
+        ensures room { IsTrue result → size self.old.builder ≤ MAX_FRAGMENT → size self.old.builder + 2 * length rows.now ≤ MAX_FRAGMENT }
         ensures response { self.new.builder.function ≡ self.old.builder.function }
     {
         for x in rows {

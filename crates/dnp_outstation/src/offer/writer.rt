@@ -5,6 +5,7 @@ ghost use Rattle.dnp_objects.specs.Events.{IsEvent};
 ghost use Rattle.dnp_appfragment.specs.Built.{size};
 ghost use Rattle.dnp_appfragment.specs.Table.{is_response};
 ghost use Rattle.dnp_appfragment.specs.Written.{FitsPoint};
+ghost use Rattle.dnp_objects.specs.declared.limits.TheConstants.{MAX_FRAGMENT};
 ghost use Rattle.dnp_outstation.specs.Items.{first_place, event_of, present_of, passed, place_after};
 ghost use Rattle.dnp_appfragment.specs.declared.function.Function.TheVariants as function;
 ghost use Rattle.dnp_outstation.specs.Filling.{put, fits, ended, empty_from, empty_for, is_same_run};
@@ -12,7 +13,7 @@ ghost use Rattle.dnp_outstation.specs.Filling.{put, fits, ended, empty_from, emp
 use crate::offer::place::Place;
 use dnp_appfragment::{Builder, Function};
 use dnp_eventbuf::Numbered;
-use dnp_objects::Row;
+use dnp_objects::{LANES, Row};
 
 /// What stands under the last header of the fragment.
 #[derive(Clone, Copy, Debug)]
@@ -55,7 +56,7 @@ pub struct Writer {
     pub builder: Builder,
     pub run: Run,
     pub place: Place,
-    pub upto: [u64; 9],
+    pub upto: [u64; LANES],
 }
 
 impl Place {
@@ -70,7 +71,7 @@ impl Place {
 
     /// A row of a lane was given for this header.
     fn pass_event(&mut self, header: usize, lane: usize, x: &Numbered)
-        requires { lane < 9 }
+        requires { lane < LANES }
         ensures { self.new ≡ place_after self.old (event_of header lane x.now) }
     {
         self.pass(header);
@@ -89,9 +90,9 @@ impl Writer {
             place: Place {
                 header: 0,
                 count: 0,
-                given: [0; 9],
+                given: [0; LANES],
             },
-            upto: [0; 9],
+            upto: [0; LANES],
         }
     }
 
@@ -103,7 +104,7 @@ impl Writer {
         self.builder.restart(function, true);
         self.run = Run::NoRun;
         self.place = place;
-        self.upto = [0; 9];
+        self.upto = [0; LANES];
     }
 
     /// Starts over, with an empty fragment for a READ that has come to this place: so that one writer
@@ -121,7 +122,7 @@ impl Writer {
         let place = Place {
             header: 0,
             count: 0,
-            given: [0; 9],
+            given: [0; LANES],
         };
         self.begin(Function::UnsolicitedResponse, place);
     }
@@ -129,23 +130,26 @@ impl Writer {
     /// Puts a row of a lane, if it fits; answers whether it does.
     #[tactic(auto, using(crate::proofs::OfferLemmas::heads_broken))]
     pub(crate) fn put_event(&mut self, header: usize, lane: usize, x: &Numbered) -> bool
-        requires lane { lane < 9 }
+        requires lane { lane < LANES }
         requires response { IsTrue (is_response self.old.builder.function) }
         requires event { IsEvent x.now.row }
         ensures fits { IsTrue result → self.new ≡ put self.old (event_of header lane x.now) }
         ensures room { result ≡ fits (put self.old (event_of header lane x.now)) }
         ensures longer { IsTrue result → size self.old.builder + 2 ≤ size self.new.builder }
-        ensures short { IsTrue result → size self.new.builder ≤ 2048 }
+        ensures short { IsTrue result → size self.new.builder ≤ MAX_FRAGMENT }
         ensures full { result ≡ false → ended false self.new ≡ ended false self.old }
         ensures response { self.new.builder.function ≡ self.old.builder.function }
     {
-        if !self.run.is_lane(lane) {
+        let joins = self.run.is_lane(lane);
+        if !joins {
             self.builder.break_run();
         }
         if self.builder.event(&x.row).is_err() {
             return false;
         }
-        self.run = Run::OfLane(lane);
+        if !joins {
+            self.run = Run::OfLane(lane);
+        }
         self.place.pass_event(header, lane, x);
         self.upto[lane] = x.id;
         true
@@ -162,13 +166,16 @@ impl Writer {
         ensures response { self.new.builder.function ≡ self.old.builder.function }
         ensures given { self.new.place.given ≡ self.old.place.given }
     {
-        if !self.run.is_block(header, group, block) {
+        let joins = self.run.is_block(header, group, block);
+        if !joins {
             self.builder.break_run();
         }
         if self.builder.point(group, row).is_err() {
             return false;
         }
-        self.run = Run::OfBlock(header, group, block);
+        if !joins {
+            self.run = Run::OfBlock(header, group, block);
+        }
         self.place.pass(header);
         true
     }

@@ -11,13 +11,13 @@ pub returns-clause-new : goal.returns-clause-new
 returns-clause-new c = new_leaves_nothing
 
 pub returns-clause-released : goal.returns-clause-released
-returns-clause-released c = released_is_tidy
+returns-clause-released c = released_is_tidy c.a_release_is_lane_by_lane.ensures
 
 pub returns-clause-appended : goal.returns-clause-appended
-returns-clause-appended c = appended_leaves
+returns-clause-appended c = appended_leaves c.ids_are_used_once.ensures.new_ids c.ids_are_used_once.ensures.last_id
 
 pub returns-clause-others_released : goal.returns-clause-others_released
-returns-clause-others_released c = released_leaves
+returns-clause-others_released c = released_leaves c.ids_are_used_once.ensures.left
 
 pub returns-clause-emptied : goal.returns-clause-emptied
 returns-clause-emptied c = emptied_leaves

@@ -8,5 +8,5 @@ returns-clause-value g c = λ honest.
     let s = g.L.Lanes.contents c.last_in_class.new.lanes in
     let here : g.L.Lanes.honest c.raised-raised.new.self = search rules in
     let sound : IsSound s = rw (← c.last_in_class.ensures.same) at (c.raised-raised.ensures.sound here) in
-    class_has_rows s c.args.released.now c.args.class c.last_in_class.result c.args.is_enabled sound c.released_to-over.ensures.nine c.requires
-    (c.last_in_class.ensures.value honest) c.if-not-is_enabled.false
+    class_has_rows c.lanes_stay_sound.ensures.released s c.args.released.now c.args.class c.last_in_class.result c.args.is_enabled sound
+    c.released_to-over.ensures.nine c.requires (c.last_in_class.ensures.value honest) c.if-not-is_enabled.false

@@ -10,7 +10,8 @@ returns-then-released_to-last-clause-value g c = λ honest.
     let last = c.last-last.result in
     let is : last ≡ last_of (lane_at s c.args.number).rows = search rules in
     let test : nat_lt (released_to c.args.released.now c.args.number) last ≡ true = search rules in
-    sym (last_after s c.args.released.now c.args.number last (c.last-last.ensures.sound honest) c.released_to.ensures.nine c.requires is
+    sym (last_after c.a_release_is_lane_by_lane.ensures s c.args.released.now c.args.number last (c.last-last.ensures.sound honest)
+    c.released_to.ensures.nine c.requires is
     ∙ ap (λ (b : Bool). if b then last else 0) test)
 
 pub returns-else-released_to-last-clause-value : goal.returns-else-released_to-last-clause-value
@@ -19,5 +20,6 @@ returns-else-released_to-last-clause-value g c = λ honest.
     let last = c.last-last.result in
     let is : last ≡ last_of (lane_at s c.args.number).rows = search rules in
     let test : nat_lt (released_to c.args.released.now c.args.number) last ≡ false = search rules in
-    sym (last_after s c.args.released.now c.args.number last (c.last-last.ensures.sound honest) c.released_to.ensures.nine c.requires is
+    sym (last_after c.a_release_is_lane_by_lane.ensures s c.args.released.now c.args.number last (c.last-last.ensures.sound honest)
+    c.released_to.ensures.nine c.requires is
     ∙ ap (λ (b : Bool). if b then last else 0) test)

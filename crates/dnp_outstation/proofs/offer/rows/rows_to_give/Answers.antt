@@ -1,5 +1,6 @@
 use Rattle.std.proofs.Common.{rules, ◌≡◌, ℕ, Some, Err, filter, ap, sym, ◌∙◌, arith, ◌<◌}
 use Rattle.dnp_objects.specs.Lanes.{lane_number}
+use Rattle.dnp_objects.specs.declared.limits.TheConstants.{LANES}
 use Rattle.dnp_objects.specs.declared.store.StoreFault.TheVariants.{Memory}
 use Rattle.dnp_eventbuf.specs.Stock.{Stock, offered, rows_in}
 use Rattle.dnp_outstation.specs.Items.{rows_left}
@@ -30,7 +31,7 @@ returns-clause-rows g c = λ honest.
     let bounds = c.args.bounds.now in
     let number = lane_number c.args.lane in
     let stood = stood_at bounds.stood in
-    let low : number < 9 = omega (arith, c.number.ensures.value, c.number.ensures.range) in
+    let low : number < LANES = omega (arith, c.number.ensures.value, c.number.ensures.range) in
     let over : c.over-over.result ≡ over_of bounds.given.now bounds.released.now number =
     c.over-over.ensures.over ∙ ap (over_of bounds.given.now bounds.released.now) c.number.ensures.value in
     let ask = c.asked.result in

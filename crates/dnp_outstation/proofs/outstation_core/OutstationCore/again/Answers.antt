@@ -8,6 +8,7 @@ use Rattle.dnp_outstation.specs.Connection.{control_in, on_again, at_end}
 use Rattle.dnp_outstation.specs.Pushing.{is_ready, ended_by}
 use Rattle.dnp_outstation.specs.State.{Core, State, Step, Actions, sending, with_session}
 use Rattle.dnp_outstation.specs.Station.{state_of}
+use Rattle.dnp_outstation.proofs.Cores.{core_in}
 use Rattle.dnp_outstation.proofs.Endings.{awaits_in_session, first_again, ready_unless}
 use Rattle.dnp_outstation.proofs.outstation_core.OutstationCore.again.Goals as goal
 
@@ -24,15 +25,7 @@ returns-clause-answered g c = λ honest p.
     let now = c.args.now in
     let octets = c.args.octets.now in
     let f = c.in-Some.first in
-    let core : Core = record {
-      is_open = c.self.inside.is_open;
-      session = c.self.inside.session;
-      restart = c.self.inside.restart;
-      enabled = c.self.inside.enabled;
-      announced = c.self.inside.announced;
-      points = c.self.inside.points;
-      times = c.self.inside.times;
-    } in
+    let core = core_in c.self.inside in
     let s : State = state_of core new p in
     let again = λ (k : Core) (l : Stock). let t = state_of k l p in at_end now (with_that t t.core.session.last (on_again t now octets)) in
     let written = subst (λ l. g.L.Lanes.honest l) c.end_call.ensures.same honest in

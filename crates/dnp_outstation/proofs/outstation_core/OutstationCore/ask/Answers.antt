@@ -10,6 +10,7 @@ use Rattle.dnp_outstation.specs.Controls.{control_content}
 use Rattle.dnp_outstation.specs.Pushing.{ended_by}
 use Rattle.dnp_outstation.specs.State.{Core, State, Step, Actions, sending, with_session}
 use Rattle.dnp_outstation.specs.Station.{state_of, actions_of}
+use Rattle.dnp_outstation.proofs.Cores.{core_in}
 use Rattle.dnp_outstation.proofs.Endings.{first_is_free}
 use Rattle.dnp_outstation.proofs.outstation_core.OutstationCore.ask.Goals as goal
 
@@ -29,15 +30,7 @@ returns-clause-answered g c = λ honest p.
     let octets = c.args.octets.now in
     let a = c.in_ok-answer.answer in
     let w = c.execute.new.writer in
-    let core : Core = record {
-      is_open = c.self.inside.is_open;
-      session = c.self.inside.session;
-      restart = c.self.inside.restart;
-      enabled = c.self.inside.enabled;
-      announced = c.self.inside.announced;
-      points = c.self.inside.points;
-      times = c.self.inside.times;
-    } in
+    let core = core_in c.self.inside in
     let s : State = state_of core new p in
     let sa : State = asked s octets in
     let answering : State = state_by sa a in

@@ -6,6 +6,7 @@ use Rattle.dnp_outstation.specs.Calls.{with_that}
 use Rattle.dnp_outstation.specs.Connection.{at_end, confirmed, goes_on, on_confirm}
 use Rattle.dnp_outstation.specs.State.{Core, State, Step, nothing, with_session}
 use Rattle.dnp_outstation.specs.Station.{state_of, actions_of}
+use Rattle.dnp_outstation.proofs.Cores.{core_in}
 use Rattle.dnp_outstation.proofs.NoRows.{released_is_there}
 use Rattle.dnp_outstation.proofs.Endings.{went_on_session, restart_by}
 use Rattle.dnp_outstation.proofs.Steps.{confirmed_step}
@@ -20,15 +21,7 @@ returns-clause-confirmed g c = λ honest p.
     let w = c.in-Some.awaited in
     let seq = c.next.result in
     let next = c.in_ok-next.next in
-    let core : Core = record {
-      is_open = c.self.inside.is_open;
-      session = c.self.inside.session;
-      restart = c.self.inside.restart;
-      enabled = c.self.inside.enabled;
-      announced = c.self.inside.announced;
-      points = c.self.inside.points;
-      times = c.self.inside.times;
-    } in
+    let core = core_in c.self.inside in
     let s : State = state_of core old p in
     let after : State = record (with_session s (confirmed core.session)) { lanes = new } in
     let confirming = λ (k : Core). let t = state_of k old p in at_end now (with_that t t.core.session.awaited (on_confirm t o now)) in

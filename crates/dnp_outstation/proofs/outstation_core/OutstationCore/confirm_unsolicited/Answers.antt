@@ -9,6 +9,7 @@ use Rattle.dnp_outstation.specs.Connection.{at_end, answers_held, discarding, on
 use Rattle.dnp_outstation.specs.Items.{last_in}
 use Rattle.dnp_outstation.specs.State.{Core, State, Step, Actions, with_session, is_free}
 use Rattle.dnp_outstation.specs.Station.{state_of, actions_of}
+use Rattle.dnp_outstation.proofs.Cores.{core_in}
 use Rattle.dnp_outstation.proofs.HeldRead.{with_switches, held_switched, held_stands}
 use Rattle.dnp_outstation.proofs.NoRows.{released_is_there}
 use Rattle.dnp_outstation.proofs.outstation_core.OutstationCore.confirm_unsolicited.Goals as goal
@@ -30,15 +31,7 @@ returns-clause-confirmed g c = λ honest p.
     let w = c.in-Some.response in
     let held = c.in_ok-held.held in
     let writer = c.write_held.new.writer in
-    let core : Core = record {
-      is_open = c.self.inside.is_open;
-      session = c.self.inside.session;
-      restart = c.self.inside.restart;
-      enabled = c.self.inside.enabled;
-      announced = c.self.inside.announced;
-      points = c.self.inside.points;
-      times = c.self.inside.times;
-    } in
+    let core = core_in c.self.inside in
     let s : State = state_of core old p in
     let confirming = λ (k : Core). let t = state_of k old p in at_end now (with_that t t.core.session.unsolicited (on_unsolicited_confirm t o now)) in
     let behind = λ (l : Stock). let x : State = record s { core = record core { announced = true; session = record core.session { unsolicited = None } }; lanes = l } in x in

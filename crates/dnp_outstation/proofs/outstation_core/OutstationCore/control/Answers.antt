@@ -16,6 +16,7 @@ use Rattle.dnp_outstation.specs.Items.{no_ids, last_in}
 use Rattle.dnp_outstation.specs.Pushing.{is_ready}
 use Rattle.dnp_outstation.specs.State.{Core, State, Step, with_session, is_free}
 use Rattle.dnp_outstation.specs.Station.{state_of, actions_of}
+use Rattle.dnp_outstation.proofs.Cores.{core_in}
 use Rattle.dnp_outstation.proofs.outstation_core.OutstationCore.control.Goals as goal
 
 -- what is answered without rows, and has no more fragments
@@ -79,15 +80,7 @@ returns-clause-answered g c = λ honest outputs_honest.
     let new = g.L.Lanes.contents c.end_call.new.lanes in
     let now = c.args.now in
     let octets = c.args.octets.now in
-    let core : Core = record {
-      is_open = c.self.inside.is_open;
-      session = c.self.inside.session;
-      restart = c.self.inside.restart;
-      enabled = c.self.inside.enabled;
-      announced = c.self.inside.announced;
-      points = c.self.inside.points;
-      times = c.self.inside.times;
-    } in
+    let core : Core = core_in c.self.inside in
     let s : State = state_of core new o in
     let after : State = state_of (record core { session = c.take_request.new.self }) new o' in
     let replied_lanes : c.reply.new.lanes ≡ c.write_ending.new.lanes = c.reply.ensures.same in

@@ -4,6 +4,7 @@ use Rattle.dnp_outstation.specs.Connection.{at_end}
 use Rattle.dnp_outstation.specs.Pushing.{is_ready, ended_by}
 use Rattle.dnp_outstation.specs.State.{Core, State, Step, Actions, still}
 use Rattle.dnp_outstation.specs.Station.{state_of}
+use Rattle.dnp_outstation.proofs.Cores.{core_in}
 use Rattle.dnp_outstation.proofs.outstation_core.OutstationCore.end_only.Goals as goal
 
 pub returns-clause-ended : goal.returns-clause-ended
@@ -11,15 +12,7 @@ returns-clause-ended g c = λ honest p.
     let old = g.L.Lanes.contents c.args.lanes.now in
     let new = g.L.Lanes.contents c.end_call.new.lanes in
     let now = c.args.now in
-    let core : Core = record {
-      is_open = c.self.inside.is_open;
-      session = c.self.inside.session;
-      restart = c.self.inside.restart;
-      enabled = c.self.inside.enabled;
-      announced = c.self.inside.announced;
-      points = c.self.inside.points;
-      times = c.self.inside.times;
-    } in
+    let core = core_in c.self.inside in
     let s : State = state_of core new p in
     let written = subst (λ l. g.L.Lanes.honest l) c.end_call.ensures.same honest in
     let lanes_is : new ≡ old = ap g.L.Lanes.contents c.end_call.ensures.same ∙ c.in_ok-starts.ensures.look.same written in

@@ -6,6 +6,7 @@ use Rattle.dnp_outstation.specs.State.{Core, State, Step, Actions, still}
 use Rattle.dnp_outstation.specs.Station.{state_of}
 use Rattle.dnp_outstation.specs.Links.{begun}
 use Rattle.dnp_outstation.specs.declared.session.Session.{Session}
+use Rattle.dnp_outstation.proofs.Cores.{core_in}
 use Rattle.dnp_outstation.proofs.outstation_core.OutstationCore.opened.Goals as goal
 
 pub returns-clause-opened : goal.returns-clause-opened
@@ -14,15 +15,7 @@ returns-clause-opened g c = λ honest.
     let old = g.L.Lanes.contents c.args.lanes.now in
     let new = g.L.Lanes.contents c.end_call.new.lanes in
     let now = c.args.now in
-    let core : Core = record {
-      is_open = c.self.inside.is_open;
-      session = c.self.inside.session;
-      restart = c.self.inside.restart;
-      enabled = c.self.inside.enabled;
-      announced = c.self.inside.announced;
-      points = c.self.inside.points;
-      times = c.self.inside.times;
-    } in
+    let core = core_in c.self.inside in
     let s : State = state_of core old panel in
     let begun_core : Core = record core { is_open = true; session = c.reset.new.self } in
     let after : State = state_of begun_core new panel in

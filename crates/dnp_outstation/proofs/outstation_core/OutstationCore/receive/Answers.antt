@@ -5,7 +5,7 @@ use Rattle.dnp_objects.specs.declared.command.Command.{Command}
 use Rattle.dnp_objects.specs.declared.store.StoreFault.TheVariants as store
 use Rattle.dnp_eventbuf.specs.Stock.{rows_in}
 use Rattle.dnp_outstation.specs.declared.case.Case.TheVariants.{Asks}
-use Rattle.dnp_outstation.specs.Calls.{performed_of, performed_for, performed_in, received, connection_after}
+use Rattle.dnp_outstation.specs.Calls.{performed_at, performed_for, performed_in, received, connection_after}
 use Rattle.dnp_outstation.specs.Connection.{case_of, on_request, at_end}
 use Rattle.dnp_outstation.specs.Controls.{is_control}
 use Rattle.dnp_outstation.specs.State.{Core, State}
@@ -18,9 +18,9 @@ asks_received : (s : State) (o : Panel) (now : ℕ) (octets : List ℕ) → case
 asks_received s o now octets is = ap (received s o now octets) is
 
 control_performed : (c : Core) (o : Panel) (now : ℕ) (octets : List ℕ) → case_of c octets ≡ Asks → is_control octets ≡ true
-    → performed_in c o now octets ≡ performed_of c o now octets
+    → performed_in c o now octets ≡ performed_at c o now octets
 control_performed c o now octets is control =
-    ap (performed_for c o now octets) is ∙ ap (λ (b : Bool). if b then performed_of c o now octets else []) control
+    ap (performed_for c o now octets) is ∙ ap (λ (b : Bool). if b then performed_at c o now octets else []) control
 
 pub returns-in_err-control-in-Asks-clause-memory : goal.returns-in_err-control-in-Asks-clause-memory
 returns-in_err-control-in-Asks-clause-memory g c = λ honest fault asks.

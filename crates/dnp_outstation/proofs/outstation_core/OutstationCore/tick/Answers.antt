@@ -5,6 +5,7 @@ use Rattle.dnp_outstation.specs.Connection.{at_end, solicited_timer}
 use Rattle.dnp_outstation.specs.Pushing.{is_ready, ended_by}
 use Rattle.dnp_outstation.specs.State.{Core, State, Step, is_free}
 use Rattle.dnp_outstation.specs.Station.{state_of, actions_of}
+use Rattle.dnp_outstation.proofs.Cores.{core_in}
 use Rattle.dnp_outstation.proofs.LinkTimers.{open_tick, solicited_is}
 use Rattle.dnp_outstation.proofs.Timing.{ready_after}
 use Rattle.dnp_outstation.proofs.outstation_core.OutstationCore.tick.Goals as goal
@@ -15,15 +16,7 @@ returns-clause-ticked g c = λ honest.
     let old = g.L.Lanes.contents c.args.lanes.now in
     let new = g.L.Lanes.contents c.end_call.new.lanes in
     let now = c.args.now in
-    let core : Core = record {
-      is_open = c.self.inside.is_open;
-      session = c.self.inside.session;
-      restart = c.self.inside.restart;
-      enabled = c.self.inside.enabled;
-      announced = c.self.inside.announced;
-      points = c.self.inside.points;
-      times = c.self.inside.times;
-    } in
+    let core = core_in c.self.inside in
     let s : State = state_of core old panel in
     let opened : core.is_open ≡ true = search rules in
     let timed : Core = record core { is_open = c.pass_time-is_open.result; session = c.pass_time-is_open.new.self } in
@@ -50,14 +43,6 @@ returns-clause-ticked g c = λ honest.
 
 pub returns-clause-whole : goal.returns-clause-whole
 returns-clause-whole g c =
-    let core : Core = record {
-      is_open = c.self.inside.is_open;
-      session = c.self.inside.session;
-      restart = c.self.inside.restart;
-      enabled = c.self.inside.enabled;
-      announced = c.self.inside.announced;
-      points = c.self.inside.points;
-      times = c.self.inside.times;
-    } in
+    let core = core_in c.self.inside in
     let s : State = state_of core (g.L.Lanes.contents c.args.lanes.now) (g.O.Outputs.panel c.args.outputs.now) in
     c.end_call.ensures.whole (c.pass_time-is_open.ensures.whole s refl refl refl c.self.invariant)

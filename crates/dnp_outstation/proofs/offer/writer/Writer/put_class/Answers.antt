@@ -12,8 +12,8 @@ returns-clause-written g c = λ honest.
     let old = after_release (g.L.Lanes.contents c.args.lanes.now) c.args.released.now in
     let number_is : c.args.class + 1 - 1 ≡ c.args.class = omega arith in
     let lanes_are : map lane_number c.of_class.result ≡ class_lanes c.args.class = c.of_class.ensures ∙ ap class_lanes number_is in
-    let same = class_left (g.L.Lanes.contents c.args.lanes.now) c.args.released.now (2 ^ 64 - 1) c.args.class (map lane_number c.of_class.result)
-    (c.requires.sound before) c.has_nine.ensures (omega arith) c.requires.class lanes_are in
+    let same = class_left c.lanes_stay_sound.ensures.released (g.L.Lanes.contents c.args.lanes.now) c.args.released.now (2 ^ 64 - 1) c.args.class
+    (map lane_number c.of_class.result) (c.requires.sound before) c.has_nine.ensures (omega arith) c.requires.class lanes_are in
     let on : true ≡ c.args.is_enabled = search rules in
     let all = same ∙ ap (λ (b : Bool). lane_items old (if b then class_lanes c.args.class else [])) on in
     subst (λ (items : List Item). IfOk c.put_lanes.result (λ fit. Puts c.args.self.now items fit c.put_lanes.new.self)) all

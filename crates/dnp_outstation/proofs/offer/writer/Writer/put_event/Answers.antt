@@ -7,9 +7,9 @@ use Rattle.dnp_outstation.proofs.offer.writer.Writer.put_event.Goals as goal
 pub returns-clause-longer : goal.returns-clause-longer
 returns-clause-longer c = λ _.
     let new : Writer = record {
-      builder = c.event.new.self;
+      builder = c.if-not-joins-2.self.builder;
       run = OfLane c.args.lane;
       place = c.pass_event.new.self;
-      upto = slice_set c.if-not-is_lane.self.upto c.args.lane c.args.x.now.id;
+      upto = slice_set c.if-not-joins-2.self.upto c.args.lane c.args.x.now.id;
     } in
     put_room c.args.self.now new c.args.header c.args.lane c.args.x.now (search rules)

@@ -1,5 +1,6 @@
 use Rattle.std.proofs.Common.{rules, ◌≡◌, ◌≤◌, Bool, if◌then◌else◌, true, IsTrue, ap, arith}
 use Rattle.dnp_appfragment.specs.Built.{size, front_size}
+use Rattle.dnp_objects.specs.declared.limits.TheConstants.{MAX_FRAGMENT}
 use Rattle.dnp_outstation.proofs.Holding.{held_full, held_fits}
 use Rattle.dnp_outstation.proofs.offer.writer.Writer.put_held_lane.Goals as goal
 
@@ -12,7 +13,7 @@ pub returns-clause-written : goal.returns-clause-written
 returns-clause-written c = λ all most many is.
     let b = c.args.self.now.builder in
     let front : front_size b.function ≡ 4 = ap (λ (response : Bool). if response then 4 else 2) c.requires.response in
-    let short : size b ≤ 2048 = omega (arith, c.left-left.ensures) in
+    let short : size b ≤ MAX_FRAGMENT = omega (arith, c.left-left.ensures) in
     let yes' : IsTrue true = search rules in
     let room = c.if-not-put_rows.ensures.room yes' short in
     held_fits c.args.self.now c.put_rows.new.self c.put_new.new.self c.args.lane most all c.args.rows.now c.kept.result.now c.args.new.now c.put_new.result
