@@ -5,3 +5,8 @@ pub mod Moves
 pub mod Standing
 pub mod Lanes
 pub mod Round
+pub mod OutstationSeen
+pub mod MasterSeen
+pub mod OneLinkEvents
+pub mod OneLinkParts
+pub mod Joined

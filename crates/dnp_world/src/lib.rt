@@ -1,5 +1,19 @@
 //! The whole system of DNP3 stations and what holds of it. It begins with the law of one link between an outstation
-//! and its master: [`laws`].
+//! and its master, [`laws`], with what the calls of an outstation and of a master are to their link,
+//! [`outstation_laws`] and [`master_laws`], and with one link by itself, [`OneLink`], of which the law holds,
+//! [`joined_laws`].
 #![tactic(auto)]
 
+pub mod joined_laws;
 pub mod laws;
+mod link_event;
+mod listing;
+pub mod master_laws;
+mod one_link;
+pub mod outstation_laws;
+mod sending;
+mod stopped;
+
+pub use link_event::{End, LinkEvent, Way};
+pub use one_link::OneLink;
+pub use stopped::{Cause, Stopped};

@@ -1,0 +1,211 @@
+-- Each event of a link of real stations.
+use Rattle.std.proofs.Common.{◌≡◌, ℕ, ◌<◌, ◌^◌, true, false, List, [], ◌++◌, length, map, refl, sym, ap, ◌∙◌, subst, append-nil, arith}
+use Rattle.std.specs.List.{All}
+use Rattle.std.specs.List.Sorted.{IsPermutation}
+use Rattle.std.proofs.lemmas.Bool.{both_ways}
+use Rattle.std.proofs.lemmas.List.{map-append, drop_all}
+use Rattle.std.proofs.lemmas.List.Elements.{All-nil}
+use Rattle.dnp_objects.specs.declared.row.Row.{Row}
+use Rattle.dnp_eventbuf.specs.Buffered.{Buffered, buffered_row}
+use Rattle.dnp_eventbuf.specs.Stock.{arriving}
+use Rattle.dnp_line.specs.Lines.{LineState, cleared_on, delivered_on, repeated_on, lost_on}
+use Rattle.dnp_line.specs.Ports.{reset_of}
+use Rattle.dnp_outstation.specs.Calls.{tick_of, opened_of, restart_of, emptied_of}
+use Rattle.dnp_outstation.specs.Connection.{closed}
+use Rattle.dnp_outstation.specs.State.{Step, nothing, still}
+use Rattle.dnp_pointdb.specs.Runs.{rows_of}
+use Rattle.dnp_world.specs.declared.link_event.End.TheVariants as end
+use Rattle.dnp_world.specs.declared.link_event.Way.TheVariants as way
+use Rattle.dnp_world.specs.declared.link_event.LinkEvent.{LinkEvent}
+use Rattle.dnp_world.specs.declared.link_event.LinkEvent.TheVariants as event
+use Rattle.dnp_world.specs.Joined.{Carries, Joined, Follows, point_moves}
+use Rattle.dnp_world.specs.Link.{Link}
+use Rattle.dnp_world.specs.Moves.{LoseDown, Open, lost_down, opened}
+use Rattle.dnp_world.specs.OneLinkEvents.{LinkState, Steps, ComesDown, ComesUp, HappensOn, opening, outstation_gone, outstation_restarted}
+use Rattle.dnp_world.specs.OutstationSeen.{octets_of, Simulates}
+use Rattle.dnp_world.specs.Standing.{Stands}
+use Rattle.dnp_world.proofs.JoinedChanges.{change_follows}
+use Rattle.dnp_world.proofs.JoinedLaws.{Laws}
+use Rattle.dnp_world.proofs.JoinedMaster.{came_up, asks_follow, tick_follows, master_goes}
+use Rattle.dnp_world.proofs.JoinedPoints.{opened_leaves, ticked_leaves}
+use Rattle.dnp_world.proofs.JoinedSteps.{Beside, after_step, left_behind, plain_step, shows_still, stays_as, moves_before, came_down}
+use Rattle.dnp_world.proofs.JoinedWays.{carries_still, carries_cleared, carries_mute, carries_opened, carries_lost, carries_damaged, carries_delivered, carries_repeated, heard_port}
+use Rattle.dnp_world.proofs.OutstationSteps.{moves_after, one_move}
+
+-- ---- the front unit of a line
+
+comes_down : {Sink : Type 0} → Laws → (others : List Row) (s new : LinkState Sink) (l : Link) → Stands l → Joined others s l
+    → ComesDown (delivered_on s.down) s new → Follows others [] l new
+comes_down laws others s new l stands j h =
+    came_down laws others s new l (delivered_on s.down) h.port h.given stands j (heard_port _ s.outstation_port h.port [] h.given h.heard)
+    (carries_delivered laws.line s.down s.master_port s.outstation_port h.port s.master.is_open j.going_down h.given h.heard j.down) h.came
+
+comes_down_again : {Sink : Type 0} → Laws → (others : List Row) (s new : LinkState Sink) (l : Link) → Stands l → Joined others s l
+    → ComesDown (repeated_on s.down) s new → Follows others [] l new
+comes_down_again laws others s new l stands j h =
+    came_down laws others s new l (repeated_on s.down) h.port h.given stands j (heard_port _ s.outstation_port h.port [] h.given h.heard)
+    (carries_repeated laws.line s.down s.master_port s.outstation_port h.port s.master.is_open j.going_down h.given h.heard j.down) h.came
+
+comes_up : {Sink : Type 0} → Laws → (takes : Sink → List Row → List Row → List Row → Sink → Type 0) (others : List Row)
+    → (s new : LinkState Sink) (l : Link) → Stands l → Joined others s l
+    → ComesUp takes (delivered_on s.up) s new → Follows others [] l new
+comes_up laws takes others s new l stands j h =
+    came_up laws takes others s new l (delivered_on s.up) h.port h.given stands j (heard_port _ s.master_port h.port [] h.given h.heard)
+    (carries_delivered laws.line s.up s.outstation_port s.master_port h.port s.outstation.core.is_open (map octets_of l.up) h.given h.heard j.up) h.came
+
+comes_up_again : {Sink : Type 0} → Laws → (takes : Sink → List Row → List Row → List Row → Sink → Type 0) (others : List Row)
+    → (s new : LinkState Sink) (l : Link) → Stands l → Joined others s l
+    → ComesUp takes (repeated_on s.up) s new → Follows others [] l new
+comes_up_again laws takes others s new l stands j h =
+    came_up laws takes others s new l (repeated_on s.up) h.port h.given stands j (heard_port _ s.master_port h.port [] h.given h.heard)
+    (carries_repeated laws.line s.up s.outstation_port s.master_port h.port s.outstation.core.is_open (map octets_of l.up) h.given h.heard j.up) h.came
+
+-- ---- a line carries less, or the moment is another
+
+with_lines : {Sink : Type 0} (others : List Row) (s : LinkState Sink) (l : Link) (down up : LineState) (now : ℕ) (j : Joined others s l)
+    → Carries down s.master_port s.outstation_port s.master.is_open j.going_down
+    → Carries up s.outstation_port s.master_port s.outstation.core.is_open (map octets_of l.up)
+    → Joined others (record s { down = down; up = up; now = now }) l
+with_lines others s l down up now j going_down going_up = record {
+  outstation = j.outstation;
+  master = j.master;
+  number = j.number;
+  going_down = j.going_down;
+  down = going_down;
+  down_is = j.down_is;
+  octets = j.octets;
+  up = going_up;
+  taken = j.taken;
+  released = j.released;
+  left = j.left;
+}
+
+-- the sink may be another: the law sees what it took, and no more
+pub with_sink : {Sink : Type 0} (others : List Row) (s : LinkState Sink) (l : Link) (sink : Sink) → Joined others s l → Joined others (record s { sink = sink }) l
+with_sink others s l sink j = record {
+  outstation = j.outstation;
+  master = j.master;
+  number = j.number;
+  going_down = j.going_down;
+  down = j.down;
+  down_is = j.down_is;
+  octets = j.octets;
+  up = j.up;
+  taken = j.taken;
+  released = j.released;
+  left = j.left;
+}
+
+-- ---- the outstation goes
+
+goes_away : {Sink : Type 0} → Laws → (others : List Row) (s new : LinkState Sink) (l : Link) (step : Step) → step.does.send ≡ []
+    → step.does.discarded ≡ []
+    → step.state.core.is_open ≡ false → Joined others s l → Simulates s.outstation [] step l
+    → new ≡ record s { outstation = step.state; down = cleared_on s.down; outstation_port = reset_of s.outstation_port; left = s.left ++ step.does.overwritten }
+    → Follows others [] l new
+goes_away {Sink = Sink} laws others s new l step silent none closes j sim h =
+    let all : ℕ = length sim.link.down in
+    let link : Link = lost_down all sim.link in
+    let after : LinkState Sink = record s { outstation = step.state; down = cleared_on s.down; outstation_port = reset_of s.outstation_port; left = s.left ++ step.does.overwritten } in
+    let up_is : map octets_of sim.link.up ≡ map octets_of l.up =
+    ap (map octets_of) sim.up ∙ map-append octets_of l.up sim.sent ∙ ap (λ (fs : List (List ℕ)). map octets_of l.up ++ fs) (sim.octets ∙ silent) ∙ append-nil (map octets_of l.up) in
+    let up : Carries s.up (reset_of s.outstation_port) s.master_port step.state.core.is_open (map octets_of l.up) =
+    carries_still s.up (reset_of s.outstation_port) s.master_port false step.state.core.is_open (map octets_of l.up) (λ e. closes)
+    (carries_mute laws.line s.up s.outstation_port s.master_port s.outstation.core.is_open (map octets_of l.up) j.up) in
+    let joined : Joined others after link = record {
+      outstation = shows_still step.state sim.link link refl refl refl sim.shows;
+      master = sim.master.master ∙ j.master;
+      number = j.number;
+      going_down = [];
+      down = carries_cleared laws.line s.down s.master_port s.outstation_port s.master.is_open j.going_down j.down;
+      down_is = drop_all all sim.link.down (omega arith);
+      octets = All-nil (All (λ octet. octet < 2 ^ 8));
+      up = subst (λ (fs : List (List ℕ)). Carries s.up (reset_of s.outstation_port) s.master_port step.state.core.is_open fs) (sym up_is) up;
+      taken = subst (λ (xs : List Buffered). IsPermutation s.taken (map buffered_row xs)) (sym sim.master.took) j.taken;
+      released = sim.released ∙ ap (λ (xs : List Row). map buffered_row l.released ++ xs) none ∙ append-nil (map buffered_row l.released) ∙ j.released;
+      left = subst (λ (xs : List Row). IsPermutation xs ((s.left ++ step.does.overwritten) ++ others)) (sym sim.left)
+          (left_behind (map buffered_row l.left) s.left others step.does.overwritten j.left);
+    } in
+    record {
+      link = link;
+      moves = moves_after l sim.link link sim.moves (one_move sim.link link (LoseDown all refl));
+      joined = subst (λ (x : LinkState Sink). Joined others x link) (sym h) joined;
+      stood = sim.stood;
+    }
+
+hangs_up : {Sink : Type 0} → Laws → (others : List Row) (s new : LinkState Sink) (l : Link) → Joined others s l → new ≡ outstation_gone s
+    → Follows others [] l new
+hangs_up {Sink = Sink} laws others s new l j h =
+    let step : Step = still (record s.outstation { core = closed s.outstation.core }) in
+    let after : List Row → LinkState Sink = λ left. record s { outstation = step.state; down = cleared_on s.down; outstation_port = reset_of s.outstation_port; left = left } in
+    goes_away laws others s new l step refl refl refl j (laws.outstation.closes s.outstation l j.outstation) (h ∙ ap after (sym (append-nil s.left)))
+
+restarts : {Sink : Type 0} → Laws → (others : List Row) (s new : LinkState Sink) (l : Link) → Joined others s l
+    → new ≡ outstation_restarted s → Follows others [] l new
+restarts laws others s new l j h =
+    let step : Step = record { state = restart_of s.outstation false; does = record nothing { overwritten = emptied_of s.outstation false } } in
+    goes_away laws others s new l step refl refl refl j (laws.outstation.restarts s.outstation false l j.outstation) h
+
+-- ---- both ends are opened
+
+opens : {Sink : Type 0} → Laws → (others : List Row) (s new : LinkState Sink) (l : Link) → Stands l → Joined others s l
+    → Steps (opened_of s.outstation s.now) (opening s) new → Follows others [] l new
+opens {Sink = Sink} laws others s new l stands j h =
+    let step : Step = opened_of s.outstation s.now in
+    let beside : Beside others s.left (opening s) true (opened l) = record {
+      master = refl;
+      number = omega arith;
+      going_down = [];
+      down = carries_opened laws.line s.down s.master_port s.outstation_port s.master.is_open j.going_down j.down;
+      down_is = refl;
+      octets = All-nil (All (λ octet. octet < 2 ^ 8));
+      up = carries_opened laws.line s.up s.outstation_port s.master_port s.outstation.core.is_open (map octets_of l.up) j.up;
+      taken = j.taken;
+      released = j.released;
+      left = j.left;
+    } in
+    moves_before others [] l (opened l) new (one_move l (opened l) (Open refl)) refl
+    (after_step laws.line others s.left [] (opening s) new true (opened l) step
+    (sym (append-nil s.left) ∙ ap (λ (xs : List Row). s.left ++ xs) (sym (opened_leaves s.outstation s.now).none))
+    (λ e. absurd (both_ways true e refl)) (λ e. absurd (both_ways true e refl))
+    beside (laws.outstation.opens s.outstation s.now l j.outstation stands) h)
+
+-- ---- each event
+
+pub event_follows : {Sink : Type 0} → Laws → (takes : Sink → List Row → List Row → List Row → Sink → Type 0) (others : List Row)
+    → (s new : LinkState Sink) (l : Link) (e : LinkEvent)
+    → Stands l → Joined others s l → HappensOn takes s e new
+    → Follows others (arriving (rows_of s.outstation.core.points (point_moves e))) l new
+event_follows laws takes others s new l event.Open stands j h = opens laws others s new l stands j h
+event_follows laws takes others s new l (event.HangUp end.Master) stands j h = master_goes laws others s new l j h
+event_follows laws takes others s new l (event.HangUp end.Outstation) stands j h = hangs_up laws others s new l j h
+event_follows laws takes others s new l (event.Deliver way.Down) stands j h = comes_down laws others s new l stands j h
+event_follows laws takes others s new l (event.Deliver way.Up) stands j h = comes_up laws takes others s new l stands j h
+event_follows laws takes others s new l (event.Repeat way.Down) stands j h = comes_down_again laws others s new l stands j h
+event_follows laws takes others s new l (event.Repeat way.Up) stands j h = comes_up_again laws takes others s new l stands j h
+event_follows {Sink = Sink} laws takes others s new l (event.Lose way.Down) stands j h =
+    stays_as others l new (record s { down = lost_on s.down }) h
+    (with_lines others s l (lost_on s.down) s.up s.now j (carries_lost laws.line s.down s.master_port s.outstation_port s.master.is_open j.going_down j.down) j.up)
+event_follows laws takes others s new l (event.Lose way.Up) stands j h =
+    stays_as others l new (record s { up = lost_on s.up }) h
+    (with_lines others s l s.down (lost_on s.up) s.now j j.down
+    (carries_lost laws.line s.up s.outstation_port s.master_port s.outstation.core.is_open (map octets_of l.up) j.up))
+event_follows laws takes others s new l (event.Damage way.Down octets) stands j h =
+    stays_as others l new (record s { down = h.damaged }) h.is
+    (with_lines others s l h.damaged s.up s.now j
+    (carries_damaged laws.line s.down h.damaged s.master_port s.outstation_port s.master.is_open j.going_down octets.items h.damages j.down) j.up)
+event_follows laws takes others s new l (event.Damage way.Up octets) stands j h =
+    stays_as others l new (record s { up = h.damaged }) h.is
+    (with_lines others s l s.down h.damaged s.now j j.down
+    (carries_damaged laws.line s.up h.damaged s.outstation_port s.master_port s.outstation.core.is_open (map octets_of l.up) octets.items h.damages j.up))
+event_follows laws takes others s new l (event.Change kind index reading) stands j h =
+    subst (λ rows. Follows others (arriving rows) l new) (sym (append-nil _)) (change_follows laws others s new l kind index reading stands j h)
+event_follows laws takes others s new l (event.Ask task) stands j h = asks_follow laws others s new l task j h
+event_follows laws takes others s new l (event.Pass ms) stands j h =
+    stays_as others l new _ h (with_lines others s l s.down s.up _ j j.down j.up)
+event_follows laws takes others s new l (event.Tick end.Master) stands j h = tick_follows laws others s new l j h
+event_follows laws takes others s new l (event.Tick end.Outstation) stands j h =
+    plain_step laws.line others s new l (tick_of s.outstation s.now) (ticked_leaves s.outstation s.now).none (laws.outstation.silent_ticked s.outstation s.now) j
+    (laws.outstation.ticks s.outstation s.now l j.outstation stands) h
+event_follows laws takes others s new l (event.Restart end.Master) stands j h = master_goes laws others s new l j h
+event_follows laws takes others s new l (event.Restart end.Outstation) stands j h = restarts laws others s new l j h

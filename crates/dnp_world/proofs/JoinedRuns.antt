@@ -1,0 +1,176 @@
+-- Lists of events over a link of real stations, appends by others, and a new link.
+use Rattle.std.proofs.Common.{◌≡◌, ℕ, ◌<◌, ◌^◌, Bool, true, false, List, [], ◌∷◌, ◌++◌, map, take, refl, sym, ap, ◌∙◌, subst, append_assoc, append-nil, arith}
+use Rattle.std.specs.List.{All}
+use Rattle.std.specs.List.Sorted.{IsPermutation}
+use Rattle.std.proofs.lemmas.List.{map-append}
+use Rattle.std.proofs.lemmas.List.Elements.{All-nil}
+use Rattle.std.proofs.lemmas.List.Sorted.{IsPermutation-refl, IsPermutation-trans, IsPermutation-append_left}
+use Rattle.dnp_objects.specs.declared.lane.LaneRow.{LaneRow}
+use Rattle.dnp_objects.specs.declared.command.Command.{Command}
+use Rattle.dnp_objects.specs.declared.row.Row.{Row}
+use Rattle.dnp_eventbuf.specs.Buffered.{Buffered, buffered_row}
+use Rattle.dnp_eventbuf.specs.Stock.{Stock, arriving, with_rows, dropped_by}
+use Rattle.dnp_line.specs.Flows.{Flows}
+use Rattle.dnp_line.specs.Ways.{new_way}
+use Rattle.dnp_pointdb.specs.Database.{Database, new_database}
+use Rattle.dnp_pointdb.specs.Plan.{Plan}
+use Rattle.dnp_pointdb.specs.declared.times.Times.{Times}
+use Rattle.dnp_pointdb.specs.Runs.{rows_of}
+use Rattle.dnp_outstation.specs.State as outstation
+use Rattle.dnp_outstation.specs.Station.{new_core}
+use Rattle.dnp_outstation.specs.State.{Step, nothing}
+use Rattle.dnp_world.specs.declared.link_event.Way.TheVariants as way
+use Rattle.dnp_world.specs.declared.link_event.LinkEvent.{LinkEvent}
+use Rattle.dnp_world.specs.declared.link_event.LinkEvent.TheVariants as event
+use Rattle.dnp_world.specs.Joined.{Carries, Joined, Follows, point_moves, rows_made_by, new_link_of, with_others_rows}
+use Rattle.dnp_world.specs.Link.{Link}
+use Rattle.dnp_world.specs.Lanes.{fresh_link}
+use Rattle.dnp_world.specs.OneLinkEvents.{LinkState, HappensOn, RunsTo, CountsFor, StopsAt, StopsAfter}
+use Rattle.dnp_world.specs.OutstationSeen.{octets_of, Shows, Simulates}
+use Rattle.dnp_world.specs.Standing.{Stands}
+use Rattle.dnp_world.proofs.JoinedEvents.{event_follows, with_sink}
+use Rattle.dnp_world.proofs.JoinedHappenings.{made_behind, event_points}
+use Rattle.dnp_world.proofs.JoinedLaws.{Laws}
+use Rattle.dnp_world.proofs.JoinedSteps.{left_behind, stays_as}
+use Rattle.dnp_world.proofs.Keeping.{moves_stand}
+use Rattle.dnp_world.proofs.OutstationSteps.{moves_after}
+
+-- ---- one behind the other
+
+follows_both : {Sink : Type 0} (others first second : List Row) (l : Link) (next new : LinkState Sink) (f : Follows others first l next)
+    → Follows others second f.link new → Follows others (first ++ second) l new
+follows_both others first second l next new f g = record {
+  link = g.link;
+  moves = moves_after l f.link g.link f.moves g.moves;
+  joined = g.joined;
+  stood = g.stood ∙ ap (λ (xs : List Row). xs ++ second) f.stood ∙ append_assoc (map buffered_row l.stood) first second;
+}
+
+pub run_follows : {Sink : Type 0} → Laws → (takes : Sink → List Row → List Row → List Row → Sink → Type 0) (others : List Row)
+    → (s new : LinkState Sink) (l : Link) (events : List LinkEvent)
+    → Stands l → Joined others s l → RunsTo takes s events new → Follows others (rows_made_by s.outstation.core.points events) l new
+run_follows laws takes others s new l [] stands j h = stays_as others l new s h j
+run_follows laws takes others s new l (e ∷ events) stands j (next, first, later) =
+    let f : Follows others (arriving (rows_of s.outstation.core.points (point_moves e))) l next = event_follows laws takes others s next l e stands j first in
+    let g : Follows others (rows_made_by next.outstation.core.points events) f.link new =
+    run_follows laws takes others next new f.link events (moves_stand l f.link f.moves stands) f.joined later in
+    let rows : arriving (rows_of s.outstation.core.points (point_moves e)) ++ rows_made_by next.outstation.core.points events ≡ rows_made_by s.outstation.core.points (e ∷ events) =
+    ap (λ (d : Database). arriving (rows_of s.outstation.core.points (point_moves e)) ++ rows_made_by d events) (event_points laws.points takes s next e first)
+    ∙ made_behind s.outstation.core.points e events in
+    subst (λ (rows : List Row). Follows others rows l new) rows
+    (follows_both others (arriving (rows_of s.outstation.core.points (point_moves e))) (rows_made_by next.outstation.core.points events) l next new f g)
+
+pub one_follows : {Sink : Type 0} → Laws → (takes : Sink → List Row → List Row → List Row → Sink → Type 0) (others : List Row)
+    → (s new : LinkState Sink) (l : Link) (e : LinkEvent)
+    → Stands l → Joined others s l → HappensOn takes s e new → Follows others (rows_made_by s.outstation.core.points (e ∷ [])) l new
+one_follows laws takes others s new l e stands j h = run_follows laws takes others s new l (e ∷ []) stands j (new, h, refl)
+
+-- ---- a list that stops
+
+counts_follows : {Sink : Type 0} → Laws → (takes : Sink → List Row → List Row → List Row → Sink → Type 0) (others : List Row)
+    → (s new : LinkState Sink) (l : Link) (e : LinkEvent)
+    → Stands l → Joined others s l → CountsFor takes s e new → Follows others [] l new
+counts_follows laws takes others s new l (event.Deliver way.Down) stands j h = event_follows laws takes others s new l (event.Lose way.Down) stands j h
+counts_follows laws takes others s new l (event.Deliver way.Up) stands j h = event_follows laws takes others s new l (event.Lose way.Up) stands j h
+counts_follows laws takes others s new l event.Open stands j h = stays_as others l new s h j
+counts_follows laws takes others s new l (event.HangUp end) stands j h = stays_as others l new s h j
+counts_follows laws takes others s new l (event.Repeat way) stands j h = stays_as others l new s h j
+counts_follows laws takes others s new l (event.Lose way) stands j h = stays_as others l new s h j
+counts_follows laws takes others s new l (event.Damage way octets) stands j h = stays_as others l new s h j
+counts_follows laws takes others s new l (event.Change kind index reading) stands j h = stays_as others l new s h j
+counts_follows laws takes others s new l (event.Ask task) stands j h = stays_as others l new s h j
+counts_follows laws takes others s new l (event.Pass ms) stands j h = stays_as others l new s h j
+counts_follows laws takes others s new l (event.Tick end) stands j h = stays_as others l new s h j
+counts_follows laws takes others s new l (event.Restart end) stands j h = stays_as others l new s h j
+
+pub stop_follows : {Sink : Type 0} → Laws → (takes : Sink → List Row → List Row → List Row → Sink → Type 0) (keeps : Sink → Sink → Type 0)
+    → (others : List Row) (s new : LinkState Sink) (l : Link)
+    (e : LinkEvent) → Stands l → Joined others s l → StopsAt takes keeps s e new → Follows others [] l new
+stop_follows laws takes keeps others s new l e stands j h =
+    counts_follows laws takes others (record s { sink = h.sink }) new l e stands (with_sink others s l h.sink j) h.counts
+
+pub stopped_follows : {Sink : Type 0} → Laws → (takes : Sink → List Row → List Row → List Row → Sink → Type 0)
+    → (keeps : Sink → Sink → Type 0) (others : List Row) (s new : LinkState Sink) (l : Link)
+    (events : List LinkEvent) (done : ℕ) → Stands l → Joined others s l → StopsAfter takes keeps s events done new
+    → Follows others (rows_made_by s.outstation.core.points (take done events)) l new
+stopped_follows laws takes keeps others s new l events done stands j h =
+    let rows : List Row = rows_made_by s.outstation.core.points (take done events) in
+    let f : Follows others rows l h.before = run_follows laws takes others s h.before l (take done events) stands j h.ran in
+    let g : Follows others [] f.link new = stop_follows laws takes keeps others h.before new f.link h.event (moves_stand l f.link f.moves stands) f.joined h.stops in
+    subst (λ (rows : List Row). Follows others rows l new) (append-nil rows) (follows_both others rows [] l h.before new f g)
+
+-- ---- rows that others append
+
+abbrev pub append_of : outstation.State → List LaneRow → Step
+append_of s rows = record { state = record s { lanes = with_rows s.lanes rows }; does = record nothing { overwritten = dropped_by s.lanes rows } }
+
+pub append_follows : {Sink : Type 0} (others : List Row) (s : LinkState Sink) (l : Link) (rows : List LaneRow) → Joined others s l
+    → Simulates s.outstation (arriving rows) (append_of s.outstation rows) l
+    → Follows (others ++ dropped_by s.outstation.lanes rows) (arriving rows) l (with_others_rows rows s)
+append_follows others s l rows j sim =
+    let dropped : List Row = dropped_by s.outstation.lanes rows in
+    let up_is : map octets_of sim.link.up ≡ map octets_of l.up =
+    ap (map octets_of) sim.up ∙ map-append octets_of l.up sim.sent ∙ ap (λ (fs : List (List ℕ)). map octets_of l.up ++ fs) sim.octets ∙ append-nil (map octets_of l.up) in
+    record {
+      link = sim.link;
+      moves = sim.moves;
+      joined = record {
+        outstation = sim.shows;
+        master = sim.master.master ∙ j.master;
+        number = j.number;
+        going_down = j.going_down;
+        down = j.down;
+        down_is = sim.master.down ∙ j.down_is;
+        octets = j.octets;
+        up = subst (λ (fs : List (List ℕ)). Carries s.up s.outstation_port s.master_port s.outstation.core.is_open fs) (sym up_is) j.up;
+        taken = subst (λ (xs : List Buffered). IsPermutation s.taken (map buffered_row xs)) (sym sim.master.took) j.taken;
+        released = sim.released ∙ append-nil (map buffered_row l.released) ∙ j.released;
+        left = subst (λ (xs : List Row). IsPermutation xs (s.left ++ (others ++ dropped))) (sym sim.left)
+            (subst (λ (xs : List Row). IsPermutation (map buffered_row l.left ++ dropped) xs) (append_assoc s.left others dropped)
+            (IsPermutation-append_left dropped (map buffered_row l.left) (s.left ++ others) j.left));
+      };
+      stood = sim.stood;
+    }
+
+-- what left for others may be listed with the rest
+pub listed : {Sink : Type 0} (others dropped : List Row) (s : LinkState Sink) (l : Link) → Joined (others ++ dropped) s l → Joined others (record s { left = s.left ++ dropped }) l
+listed others dropped s l j = record {
+  outstation = j.outstation;
+  master = j.master;
+  number = j.number;
+  going_down = j.going_down;
+  down = j.down;
+  down_is = j.down_is;
+  octets = j.octets;
+  up = j.up;
+  taken = j.taken;
+  released = j.released;
+  left = IsPermutation-trans (map buffered_row l.left) (s.left ++ (others ++ dropped)) ((s.left ++ dropped) ++ others) j.left
+      (subst (λ (xs : List Row). IsPermutation xs ((s.left ++ dropped) ++ others)) (append_assoc s.left others dropped)
+      (left_behind (s.left ++ others) s.left others dropped (IsPermutation-refl (s.left ++ others))));
+}
+
+-- ---- a new link
+
+abbrev pub Opened : Type 0
+Opened = (own peer : ℕ) (from_master : Bool) → Flows (new_way own peer from_master) []
+
+pub new_joined : {Sink : Type 0} → Opened → (plan : Plan) (times : Times) (lanes : Stock) (performed : List Command) (peer own : ℕ)
+    → (sink : Sink)
+    → (let o : outstation.State = record { core = new_core (new_database plan) times; lanes = lanes; performed = performed } in Shows o (fresh_link lanes))
+    → Joined [] (new_link_of plan times lanes performed peer own sink) (fresh_link lanes)
+new_joined opened plan times lanes performed peer own sink shows =
+    let no_rows : List Row = [] in
+    record {
+      outstation = shows;
+      master = refl;
+      number = omega arith;
+      going_down = [];
+      down = record { mute = false; sent = []; given = []; flows = opened peer own true; silent = λ e. refl };
+      down_is = refl;
+      octets = All-nil (All (λ octet. octet < 2 ^ 8));
+      up = record { mute = false; sent = []; given = []; flows = opened own peer false; silent = λ e. refl };
+      taken = IsPermutation-refl no_rows;
+      released = refl;
+      left = IsPermutation-refl no_rows;
+    }

@@ -1,0 +1,234 @@
+-- The steps of an outstation, over a link of real stations.
+use Rattle.std.proofs.Common.{◌≡◌, ℕ, suc, zero, ◌<◌, ◌^◌, Bool, false, List, [], ◌∷◌, ◌++◌, drop, map, Some, refl, sym, ap, ◌∙◌, subst, append_assoc, append-nil, arith}
+use Rattle.std.specs.Prelude.{slice_get}
+use Rattle.std.specs.List.{All}
+use Rattle.std.specs.List.Sorted.{IsPermutation}
+use Rattle.std.proofs.lemmas.List.{map-append, drop-map}
+use Rattle.std.proofs.lemmas.List.Elements.{All-drop, All-head}
+use Rattle.std.proofs.lemmas.List.Sorted.{IsPermutation-trans, IsPermutation-append_left, IsPermutation-append_right, IsPermutation-append_comm}
+use Rattle.std.proofs.lemmas.Option.{none-some, same_Some}
+use Rattle.dnp_objects.specs.declared.row.Row.{Row}
+use Rattle.dnp_controls.specs.Latches.{no_panel}
+use Rattle.dnp_eventbuf.specs.Buffered.{Buffered, buffered_row}
+use Rattle.dnp_line.specs.Flows.{MayGive, Nothing, One}
+use Rattle.dnp_line.specs.Lines.{LineState}
+use Rattle.dnp_line.specs.Ports.{PortState}
+use Rattle.dnp_outstation.specs.Calls.{connection_after}
+use Rattle.dnp_outstation.specs.State as outstation
+use Rattle.dnp_outstation.specs.State.{Step, still}
+use Rattle.dnp_world.specs.Joined.{Carries, Joined, Follows}
+use Rattle.dnp_world.specs.Link.{Down, Link}
+use Rattle.dnp_world.specs.MasterSeen.{master_of}
+use Rattle.dnp_world.specs.Moves.{Moves, Done, LoseDown, lost_down}
+use Rattle.dnp_world.specs.OneLinkEvents.{LinkState, Steps, ComeDown}
+use Rattle.dnp_world.specs.OutstationSeen.{down_of, octets_of, ShowOctets, Shows, Simulates}
+use Rattle.dnp_world.specs.Standing.{Stands}
+use Rattle.dnp_world.proofs.JoinedLaws.{Laws}
+use Rattle.dnp_world.proofs.JoinedPoints.{received_leaves}
+use Rattle.dnp_world.proofs.JoinedWays.{LineLaws, Came, carries_still, carries_sent, back_all_sent, back_came, IsSamePort}
+use Rattle.dnp_world.proofs.Keeping.{move_stands}
+use Rattle.dnp_world.proofs.OutstationSteps.{moves_after, one_move}
+
+-- what is joined but for the outstation: whether it was open before, and what had left the lanes
+pub record Beside {Sink : Type 0} (others listed : List Row) (s : LinkState Sink) (was_open : Bool) (l : Link) : Type 0 where
+  pub master : l.master ≡ master_of s.master
+  pub number : s.master.seq < 16
+  pub going_down : List (List ℕ)
+  pub down : Carries s.down s.master_port s.outstation_port s.master.is_open going_down
+  pub down_is : l.down ≡ map down_of going_down
+  pub octets : All (All (λ octet. octet < 2 ^ 8)) going_down
+  pub up : Carries s.up s.outstation_port s.master_port was_open (map octets_of l.up)
+  pub taken : IsPermutation s.taken (map buffered_row l.took)
+  pub released : map buffered_row l.released ≡ s.released
+  pub left : IsPermutation (map buffered_row l.left) (listed ++ others)
+
+pub beside_of : {Sink : Type 0} (others : List Row) (s : LinkState Sink) (l : Link) → Joined others s l
+    → Beside others s.left s s.outstation.core.is_open l
+beside_of others s l j = record {
+  master = j.master;
+  number = j.number;
+  going_down = j.going_down;
+  down = j.down;
+  down_is = j.down_is;
+  octets = j.octets;
+  up = j.up;
+  taken = j.taken;
+  released = j.released;
+  left = j.left;
+}
+
+-- a link with the same outstation and lanes
+pub shows_still : (s : outstation.State) (l l' : Link) → l'.outstation ≡ l.outstation → l'.lanes ≡ l.lanes → l'.last_id ≡ l.last_id → Shows s l → Shows s l'
+shows_still s l l' same lanes last_id shows = record {
+  outstation = shows.outstation ∙ sym same;
+  lanes = record { rows = lanes ∙ shows.lanes.rows; last_id = last_id ∙ shows.lanes.last_id };
+  well = shows.well;
+}
+
+-- rows that leave go behind those that left
+pub left_behind : (all first others gone : List Row) → IsPermutation all (first ++ others)
+    → IsPermutation (all ++ gone) ((first ++ gone) ++ others)
+left_behind all first others gone h =
+    let behind : IsPermutation (all ++ gone) ((first ++ others) ++ gone) = IsPermutation-append_left gone all (first ++ others) h in
+    let turned : IsPermutation (first ++ (others ++ gone)) (first ++ (gone ++ others)) =
+    IsPermutation-append_right first (others ++ gone) (gone ++ others) (IsPermutation-append_comm others gone) in
+    IsPermutation-trans (all ++ gone) (first ++ (others ++ gone)) ((first ++ gone) ++ others)
+    (subst (λ (xs : List Row). IsPermutation (all ++ gone) xs) (append_assoc first others gone) behind)
+    (subst (λ (xs : List Row). IsPermutation (first ++ (others ++ gone)) xs) (sym (append_assoc first gone others)) turned)
+
+-- ---- a step
+
+pub after_step : {Sink : Type 0} → LineLaws → (others listed came : List Row) (s new : LinkState Sink) (was_open : Bool) (l : Link)
+    → (step : Step)
+    → s.left ≡ listed ++ step.does.overwritten
+    → (was_open ≡ false → step.does.send ≡ []) → (was_open ≡ false → step.state.core.is_open ≡ false)
+    → Beside others listed s was_open l → Simulates s.outstation came step l → Steps step s new → Follows others came l new
+after_step {Sink = Sink} line others listed came s new was_open l step grown quiet closes b sim steps =
+    let after : LinkState Sink = record s {
+      outstation = step.state;
+      up = new.up;
+      outstation_port = new.outstation_port;
+      released = s.released ++ step.does.discarded;
+    } in
+    let up_is : map octets_of sim.link.up ≡ map octets_of l.up ++ step.does.send =
+    ap (map octets_of) sim.up ∙ map-append octets_of l.up sim.sent ∙ ap (λ (fs : List (List ℕ)). map octets_of l.up ++ fs) sim.octets in
+    let up : Carries new.up new.outstation_port s.master_port was_open (map octets_of l.up ++ step.does.send) =
+    carries_sent line step.does.send s.up new.up s.outstation_port new.outstation_port s.master_port was_open (map octets_of l.up) quiet steps.sent b.up in
+    let joined : Joined others after sim.link = record {
+      outstation = sim.shows;
+      master = sim.master.master ∙ b.master;
+      number = b.number;
+      going_down = b.going_down;
+      down = back_all_sent line step.does.send s.up new.up s.down s.outstation_port new.outstation_port s.master_port s.master.is_open b.going_down
+          steps.sent b.down;
+      down_is = sim.master.down ∙ b.down_is;
+      octets = b.octets;
+      up = subst (λ (fs : List (List ℕ)). Carries new.up new.outstation_port s.master_port step.state.core.is_open fs) (sym up_is)
+          (carries_still new.up new.outstation_port s.master_port was_open step.state.core.is_open (map octets_of l.up ++ step.does.send) closes up);
+      taken = subst (λ (xs : List Buffered). IsPermutation s.taken (map buffered_row xs)) (sym sim.master.took) b.taken;
+      released = sim.released ∙ ap (λ (xs : List Row). xs ++ step.does.discarded) b.released;
+      left = subst (λ (xs : List Row). IsPermutation (map buffered_row sim.link.left) (xs ++ others)) (sym grown)
+          (subst (λ (xs : List Row). IsPermutation xs ((listed ++ step.does.overwritten) ++ others)) (sym sim.left)
+          (left_behind (map buffered_row l.left) listed others step.does.overwritten b.left));
+    } in
+    record {
+      link = sim.link;
+      moves = sim.moves;
+      joined = subst (λ (x : LinkState Sink). Joined others x sim.link) (sym steps.after) joined;
+      stood = sim.stood;
+    }
+
+-- moves in front
+pub moves_before : {Sink : Type 0} (others came : List Row) (l first : Link) (new : LinkState Sink) → Moves l first
+    → map buffered_row first.stood ≡ map buffered_row l.stood → Follows others came first new → Follows others came l new
+moves_before others came l first new moves same f = record {
+  link = f.link;
+  moves = moves_after l first f.link moves f.moves;
+  joined = f.joined;
+  stood = f.stood ∙ ap (λ (xs : List Row). xs ++ came) same;
+}
+
+-- nothing comes to the lanes, and no move is made
+pub stays : {Sink : Type 0} (others : List Row) (l : Link) (new : LinkState Sink) → Joined others new l → Follows others [] l new
+stays others l new j = record { link = l; moves = Done; joined = j; stood = sym (append-nil (map buffered_row l.stood)) }
+
+pub stays_as : {Sink : Type 0} (others : List Row) (l : Link) (new after : LinkState Sink) → new ≡ after → Joined others after l → Follows others [] l new
+stays_as {Sink = Sink} others l new after e j = stays others l new (subst (λ (x : LinkState Sink). Joined others x l) (sym e) j)
+
+-- ---- a fragment comes down
+
+-- the member at a place is the first of what is left there
+pub left_at : {X : Type 0} (n : ℕ) (xs : List X) (x : X) → slice_get xs n ≡ Some x → drop n xs ≡ x ∷ drop (suc n) xs
+left_at zero [] x e = absurd (none-some x e)
+left_at zero (y ∷ xs) x e = let same : y ≡ x = same_Some y x e in ap (λ z. z ∷ xs) same
+left_at (suc n) [] x e = absurd (none-some x e)
+left_at (suc n) (y ∷ xs) x e = left_at n xs x e
+
+-- no outputs show no octets
+no_octets : ShowOctets no_panel
+no_octets = record { outputs = omega arith; status = λ index low. omega arith }
+
+-- a closed outstation does nothing
+still_sends : (s : outstation.State) (step : Step) → step ≡ still s → step.does.send ≡ []
+still_sends s step e = ap (λ (x : Step). x.does.send) e
+
+still_closed : (s : outstation.State) (step : Step) → step ≡ still s → s.core.is_open ≡ false → step.state.core.is_open ≡ false
+still_closed s step e closed = ap (λ (x : Step). x.state.core.is_open) e ∙ closed
+
+-- a step that drops nothing, of an outstation that does nothing where it is closed
+pub plain_step : {Sink : Type 0} → LineLaws → (others : List Row) (s new : LinkState Sink) (l : Link) (step : Step)
+    → step.does.overwritten ≡ [] → (s.outstation.core.is_open ≡ false → step ≡ still s.outstation)
+    → Joined others s l → Simulates s.outstation [] step l → Steps step s new → Follows others [] l new
+plain_step line others s new l step none quiet j sim steps =
+    after_step line others s.left [] s new s.outstation.core.is_open l step
+    (sym (append-nil s.left) ∙ ap (λ (xs : List Row). s.left ++ xs) (sym none))
+    (λ closed. still_sends s.outstation step (quiet closed)) (λ closed. still_closed s.outstation step (quiet closed) closed)
+    (beside_of others s l j) sim steps
+
+-- what the port gives comes to the outstation
+come_down : {Sink : Type 0} → Laws → (others : List Row) (s new : LinkState Sink) (l : Link) (fragment : List ℕ) (rest : List Down)
+    → Stands l → Joined others s l
+    → All (λ octet. octet < 2 ^ 8) fragment → l.down ≡ down_of fragment ∷ rest
+    → Steps (connection_after s.outstation no_panel s.now fragment) s new → Follows others [] l new
+come_down laws others s new l fragment rest stands j small down_is steps =
+    plain_step laws.line others s new l (connection_after s.outstation no_panel s.now fragment)
+    (received_leaves laws.points s.outstation no_panel s.now fragment).none
+    (laws.outstation.silent_received s.outstation no_panel s.now fragment) j
+    (laws.outstation.comes s.outstation no_panel s.now fragment l rest no_octets small j.outstation stands down_is) steps
+
+pub came_down : {Sink : Type 0} → Laws → (others : List Row) (s new : LinkState Sink) (l : Link) (line : LineState) (port : PortState)
+    → (given : List (List ℕ))
+    → Stands l → (j : Joined others s l) → IsSamePort s.outstation_port port
+    → Came line s.master_port port s.master.is_open j.going_down given
+    → ComeDown given (record s { down = line; outstation_port = port }) new → Follows others [] l new
+came_down {Sink = Sink} laws others s new l line port given stands j same came h = by came.gives
+  where
+    base : LinkState Sink
+    base = record s { down = line; outstation_port = port }
+
+    up : Carries s.up port s.master_port s.outstation.core.is_open (map octets_of l.up)
+    up = back_came laws.line s.up s.outstation_port s.master_port port s.outstation.core.is_open (map octets_of l.up) same.same_ends same.number j.up
+
+    by : MayGive j.going_down [] came.left given → Follows others [] l new
+    by (Nothing left_is none) =
+        stays others l new
+        (subst (λ (x : LinkState Sink). Joined others x l) (sym (subst (λ (fs : List (List ℕ)). ComeDown fs base new) none h))
+        (record {
+          outstation = j.outstation;
+          master = j.master;
+          number = j.number;
+          going_down = j.going_down;
+          down = subst (λ (fs : List (List ℕ)). Carries line s.master_port port s.master.is_open fs) left_is came.carries;
+          down_is = j.down_is;
+          octets = j.octets;
+          up = up;
+          taken = j.taken;
+          released = j.released;
+          left = j.left;
+        }))
+    by (One n fragment at left_is one) =
+        let first : Link = lost_down n l in
+        let there : drop n j.going_down ≡ fragment ∷ drop (suc n) j.going_down = left_at n j.going_down fragment at in
+        let small : All (All (λ octet. octet < 2 ^ 8)) (fragment ∷ drop (suc n) j.going_down) =
+        subst (λ (fs : List (List ℕ)). All (All (λ octet. octet < 2 ^ 8)) fs) there (All-drop (All (λ octet. octet < 2 ^ 8)) n j.going_down j.octets) in
+        let stands_first : Stands first = move_stands l first (LoseDown n refl) stands in
+        let joined : Joined others base first = record {
+          outstation = shows_still s.outstation l first refl refl refl j.outstation;
+          master = j.master;
+          number = j.number;
+          going_down = came.left;
+          down = came.carries;
+          down_is = ap (drop n) j.down_is ∙ drop-map down_of n j.going_down ∙ ap (map down_of) (sym left_is);
+          octets = subst (λ (fs : List (List ℕ)). All (All (λ octet. octet < 2 ^ 8)) fs) (sym left_is)
+              (All-drop (All (λ octet. octet < 2 ^ 8)) n j.going_down j.octets);
+          up = up;
+          taken = j.taken;
+          released = j.released;
+          left = j.left;
+        } in
+        let head : first.down ≡ down_of fragment ∷ map down_of (drop (suc n) j.going_down) =
+        ap (drop n) j.down_is ∙ drop-map down_of n j.going_down ∙ ap (map down_of) there in
+        moves_before others [] l first new (one_move l first (LoseDown n refl)) refl
+        (come_down laws others base new first fragment (map down_of (drop (suc n) j.going_down)) stands_first joined
+        (All-head (All (λ octet. octet < 2 ^ 8)) fragment (drop (suc n) j.going_down) small) head
+        (subst (λ (fs : List (List ℕ)). ComeDown fs base new) one h))

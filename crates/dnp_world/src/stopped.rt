@@ -1,0 +1,47 @@
+//! Why a list of events is not done to its end.
+
+use dnp_outstation::Fault;
+use std::alloc::AllocError;
+use thiserror::Error;
+
+/// What an event can stop at.
+#[derive(Clone, Copy, Debug, PartialEq, Eq, Hash, Error)]
+pub enum Cause {
+    /// A store has no number left.
+    #[error("a store has no number left")]
+    Exhausted = 1,
+    /// A request for memory was refused.
+    #[error("out of memory")]
+    Memory = 2,
+    /// The device under a store failed.
+    #[error("a store's device failed")]
+    Device = 3,
+}
+
+/// A list of events was not done to its end.
+#[derive(Clone, Copy, Debug, PartialEq, Eq, Hash, Error)]
+#[error("stopped at an event: {cause}")]
+pub struct Stopped {
+    /// How many events were done. The one behind them counts as `Lose` if it is `Deliver`, and else it is left out.
+    pub done: usize,
+    /// Why.
+    pub cause: Cause,
+}
+
+/// A request for memory that was refused is a cause.
+impl From<AllocError> for Cause {
+    fn from(_: AllocError) -> Cause {
+        Cause::Memory
+    }
+}
+
+/// What a store under an outstation refuses is a cause. A reading that its points refuse is none, and stops nothing.
+impl From<Fault> for Cause {
+    fn from(fault: Fault) -> Cause {
+        match fault {
+            Fault::Exhausted => Cause::Exhausted,
+            Fault::Device => Cause::Device,
+            Fault::NoPoint | Fault::ValueRange | Fault::TimeRange | Fault::Memory => Cause::Memory,
+        }
+    }
+}
