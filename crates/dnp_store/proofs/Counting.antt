@@ -1,0 +1,182 @@
+-- The count that AUTOINCREMENT keeps, and the id that follows it.
+use Rattle.std.proofs.Common.{◌≡◌, ◌≢◌, ◌⊎◌, inl, inr, ℕ, ◌+◌, ◌≤◌, ℤ, pos, List, [], ◌∷◌, Bool, true, false, Option, Some, None, Ok, refl, sym, ap, subst, subst₂, ◌∙◌, arith, int_cmp}
+use Rattle.std.specs.Prelude.{fold}
+use Rattle.std.specs.Ordering.{is_eq, is_lt}
+use Rattle.std.proofs.lemmas.Cmp.{tied_itself, int_cmp_total, nat_list_cmp_total}
+use Rattle.std.proofs.lemmas.Int.{ints}
+use Rattle.sqlite_value.proofs.OrderLemmas.{value_cmp-Int, value_cmp-Text}
+use Rattle.sqlite_value.specs.Order.{value_cmp}
+use Rattle.sqlite_tied.specs.Compute.{everything}
+use Rattle.sqlite.specs.declared.types.Value.{Value}
+use Rattle.sqlite.specs.declared.types.Value.TheVariants.{Null, Int, Text}
+use Rattle.sqlite_schema.specs.declared.schema.Keys.TheVariants.{Enforced}
+use Rattle.sqlite_schema.specs.declared.schema.Column.{Column}
+use Rattle.sqlite.specs.Table.{Table}
+use Rattle.sqlite.specs.Term.{Term}
+use Rattle.sqlite.specs.Schema.{Schema}
+use Rattle.sqlite.specs.Order.{Row}
+use Rattle.sqlite.specs.Tree.{Trees, put_row}
+use Rattle.sqlite.specs.Edit.{Edit, next_rowid, at_least, edit_of, put_all, with_rowid, taken_by}
+use Rattle.sqlite.specs.Rowids.TheVariants.{Above, Chosen}
+use Rattle.sqlite.specs.Source.{Source}
+use Rattle.sqlite.specs.Cast.{cast, cast_row}
+use Rattle.sqlite.specs.Kind.TheVariants.{Integer}
+use Rattle.sqlite.specs.Ops.{unary}
+use Rattle.sqlite.specs.Rows.{Task, Written, Sourced, CounterIn, CountsIn, Counts, Inserts, counter_in, count_of, counting, higher, stamped, sequence as counters_of}
+use Rattle.sqlite_rules.specs.Action.{works}
+use Rattle.sqlite.proofs.Callers.{one_step}
+use Rattle.dnp_store.specs.Tables.{sequence, schema_of, table_of, count_row, IsCounted}
+use Rattle.dnp_store.proofs.Statements.{went, same_value, picked}
+use Rattle.std.proofs.Common.{cond}
+
+-- ---- numbers and texts as INTEGER columns take them
+
+either : (b : Bool) (x : Value) → cond b x x ≡ x
+either true x = refl
+either false x = refl
+
+pub cast_int : (n : ℤ) → cast Integer (Int n) ≡ Int n
+unfolding unary
+cast_int n = either _ (Int n)
+
+pub cast_null : cast Integer Null ≡ Null
+unfolding unary
+cast_null = either _ Null
+
+same_id : (id : ℤ) → is_eq (value_cmp (Int id) (Int id)) ≡ true
+same_id id = ap is_eq (value_cmp-Int id id ∙ tied_itself int_cmp_total id)
+
+same_name : (name : List ℕ) → is_eq (value_cmp (Text name) (Text name)) ≡ true
+same_name name = ap is_eq (value_cmp-Text name name ∙ tied_itself nat_list_cmp_total name)
+
+-- where no row is above the count, the next id follows it
+pub next_id : (rows : List Row) (n m : ℕ) → next_rowid rows ≡ pos m → m ≤ n + 1 → at_least (Above (pos n)) (next_rowid rows) ≡ pos (n + 1)
+next_id rows n m is low = grind (is, low, arith, ints)
+
+rises : (n : ℕ) → is_lt (int_cmp (pos n) (pos (n + 1))) ≡ true
+rises n = grind (arith, ints)
+
+higher_is : (n : ℕ) (rest : Row) → higher (pos n) (Int (pos (n + 1)) ∷ rest) ≡ pos (n + 1)
+higher_is n rest = rw (rises n)
+
+-- ---- the row of `sqlite_sequence`
+
+cast_count : (name : List ℕ) (id : ℤ) (n : ℕ) → cast_row sequence (count_row name id n) ≡ count_row name id n
+cast_count name id n = ap (λ (v : Value). v ∷ Text name ∷ Int (pos n) ∷ []) (cast_int id)
+
+cast_first : (name : List ℕ) (n : ℕ) → cast_row sequence (Null ∷ Text name ∷ Int (pos n) ∷ []) ≡ Null ∷ Text name ∷ Int (pos n) ∷ []
+cast_first name n = ap (λ (v : Value). v ∷ Text name ∷ Int (pos n) ∷ []) cast_null
+
+count_is : (name : List ℕ) (id : ℤ) (n : ℕ) → count_of (Some (count_row name id n)) ≡ pos n
+unfolding unary
+count_is name id n = refl
+
+none_is : count_of None ≡ pos 0
+unfolding unary
+none_is = refl
+
+-- one row more, under the id that follows the count, which rises with it
+pub record PutsAt (name : List ℕ) (db : Trees) (rest : Row) (n : ℕ) (now : Trees) : Type 0 where
+  pub table : now 1 ≡ put_row (Int (pos (n + 1)) ∷ rest) (db 1)
+  pub count : IsCounted name (now 2) (n + 1)
+  pub others : (t : ℕ) → t ≢ 1 → t ≢ 2 → now t ≡ db t
+
+2_apart : (t : ℕ) → t ≡ 2 → t ≢ 1
+2_apart t two e = absurd (omega arith)
+
+1_apart : (t : ℕ) → t ≡ 1 → t ≢ 2
+1_apart t one e = absurd (omega arith)
+
+module _ (name : List ℕ) (columns : List Column) (form checks : List Term) (more : List Table) where
+  abbrev pub table : Table
+  table = table_of name 1 columns true true checks
+
+  abbrev pub schema : Schema
+  schema = schema_of form table more
+
+  abbrev pub task : Option ℕ → Row → Task
+  task limit params = record { limit = limit; keys = Enforced; schema = schema; table = table; params = params }
+
+  module _ (listed : counters_of schema ≡ Some sequence) (quiet : (db : Trees) (e : Edit) → works schema Enforced 0 e.table.tree (taken_by db e) e.news ≡ [])
+      (limit : Option ℕ) (params : Row) where
+    counter_is : (db : Trees) (counter : Option Row) → CounterIn (task limit params) db (counters_of schema) (Ok counter)
+        → counter ≡ counter_in db table sequence
+    counter_is db counter h = same_value (subst (λ s. CounterIn (task limit params) db s (Ok counter)) listed h)
+
+    -- the count rises
+    abbrev pub Raised : ℕ → Trees → Trees → Type 0
+    Raised n mid next = IsCounted name (next 2) (n + 1) × ((t : ℕ) → t ≢ 2 → next t ≡ mid t)
+
+    counts_some : (mid next : Trees) (id : ℤ) (n : ℕ) → mid 2 ≡ count_row name id n ∷ []
+        → Counts (task limit params) mid (Some (count_row name id n)) (pos (n + 1)) (Ok next) → Raised n mid next
+    unfolding everything
+    counts_some mid next id n is h =
+        let counter = Some (count_row name id n) in
+        let in_table = picked _ (is_lt (int_cmp (count_of counter) (pos (n + 1)))) (ap (λ c. is_lt (int_cmp c (pos (n + 1)))) (count_is name id n) ∙ rises n)
+        h in
+        let edits = subst (λ s. CountsIn (task limit params) mid counter (pos (n + 1)) s (Ok next)) listed in_table in
+        let edit = counting mid table sequence (pos (n + 1)) counter in
+        let step = one_step schema Enforced mid next edit (quiet mid edit) edits in
+        (inr (id, step.rows ∙ rw (is, same_id id) (ap (λ (r : Row). r ∷ []) (cast_count name id (n + 1)))), λ t other. step.others t other tt)
+
+    counts_first : (mid next : Trees) → mid 2 ≡ [] → Counts (task limit params) mid None (pos 1) (Ok next) → Raised 0 mid next
+    unfolding everything
+    counts_first mid next is h =
+        let in_table = picked _ (is_lt (int_cmp (count_of None) (pos 1))) (ap (λ c. is_lt (int_cmp c (pos 1))) none_is ∙ rises 0) h in
+        let edits = subst (λ s. CountsIn (task limit params) mid None (pos 1) s (Ok next)) listed in_table in
+        let edit = counting mid table sequence (pos 1) None in
+        let step = one_step schema Enforced mid next edit (quiet mid edit) edits in
+        (inr (pos 1, step.rows ∙ rw is (ap (λ (r : Row). put_row (with_rowid Chosen [] r) []) (cast_first name 1))), λ t other. step.others t other tt)
+
+    -- the row is found that counts, or there is none
+    abbrev Found : Trees → Option Row → ℕ → Type 0
+    Found db counter n = ((counter ≡ None) × (db 2 ≡ []) × (n ≡ 0)) ⊎ ((id : ℤ) × (counter ≡ Some (count_row name id n)) × (db 2 ≡ count_row name id n ∷ []))
+
+    found : (db : Trees) (counter : Option Row) (n : ℕ) → counter ≡ counter_in db table sequence → IsCounted name (db 2) n → Found db counter n
+    found db counter n is (inl none) = inl (rw none.0 at is, none.0, none.1)
+    found db counter n is (inr one) = inr (one.0, is ∙ rw (one.1, same_name name) refl, one.1)
+
+    top_is : (db : Trees) (counter : Option Row) (n : ℕ) → Found db counter n → count_of counter ≡ pos n
+    top_is db counter n (inl none) = ap count_of none.0 ∙ none_is ∙ ap pos (sym none.2)
+    top_is db counter n (inr one) = ap count_of one.1 ∙ count_is name one.0 n
+
+    counted_to : (db mid next : Trees) (counter : Option Row) (n : ℕ) → Found db counter n → mid 2 ≡ db 2
+        → Counts (task limit params) mid counter (pos (n + 1)) (Ok next) → Raised n mid next
+    counted_to db mid next counter n (inl none) same h =
+        subst (λ (k : ℕ). Raised k mid next) (sym none.2) (counts_first mid next (same ∙ none.1)
+        (subst₂ (λ c (k : ℕ). Counts (task limit params) mid c (pos (k + 1)) (Ok next)) none.0 none.2 h))
+    counted_to db mid next counter n (inr one) same h =
+        counts_some mid next one.0 n (same ∙ one.2) (subst (λ c. Counts (task limit params) mid c (pos (n + 1)) (Ok next)) one.1 h)
+
+    news_are : (db : Trees) (source rest : Row) (t : ℤ) (n m : ℕ) → t ≡ pos n → next_rowid (db 1) ≡ pos m → m ≤ n + 1 → cast_row table source ≡ Null ∷ rest
+        → (edit_of db table [] (Above t) 0 (source ∷ [])).news ≡ (Int (pos (n + 1)) ∷ rest) ∷ []
+    unfolding everything
+    news_are db source rest t n m t_is next_is low casts =
+        ap (λ (r : Row). with_rowid (Above t) (db 1) r ∷ []) casts ∙ ap (λ (x : ℤ). (Int (at_least (Above x) (next_rowid (db 1))) ∷ rest) ∷ []) t_is
+        ∙ ap (λ (x : ℤ). (Int x ∷ rest) ∷ []) (next_id (db 1) n m next_is low)
+
+    pub inserted : (db : Trees) (a : Written) (source rest : Row) (from : Source) (n m : ℕ) → IsCounted name (db 2) n → next_rowid (db 1) ≡ pos m → m ≤ n + 1
+        → ((rows : List Row) → Sourced limit (record { schema = schema; trees = db }) (stamped table params) from (Ok rows) → rows ≡ source ∷ [])
+        → cast_row table source ≡ Null ∷ rest → Inserts (task limit params) from db (Ok a) → PutsAt name db rest n a.trees
+    unfolding everything
+    inserted db a source rest from n m counted next_is low sources casts h =
+        let sourced = went h in
+        let counter = went sourced.2 in
+        let edited_to = went counter.2 in
+        let next = went edited_to.2 in
+        let out = same_value next.2 in
+        let at : Found db counter.0 n = found db counter.0 n (counter_is db counter.0 counter.1) counted in
+        let top = count_of counter.0 in
+        let edit = λ (rows : List Row). edit_of db table [] (Above top) 0 rows in
+        let news : (edit sourced.0).news ≡ (Int (pos (n + 1)) ∷ rest) ∷ [] =
+        ap (λ rows. (edit rows).news) (sources sourced.0 sourced.1) ∙ news_are db source rest top n m (top_is db counter.0 n at) next_is low casts in
+        let step = one_step schema Enforced db edited_to.0 (edit sourced.0) (quiet db (edit sourced.0)) edited_to.1 in
+        let risen : fold higher top (edit sourced.0).news ≡ pos (n + 1) =
+        ap (λ rows. fold higher top rows) news ∙ ap (λ t. higher t (Int (pos (n + 1)) ∷ rest)) (top_is db counter.0 n at) ∙ higher_is n rest in
+        let last = counted_to db edited_to.0 next.0 counter.0 n at (step.others 2 (2_apart 2 refl) tt)
+        (subst (λ t. Counts (task limit params) edited_to.0 counter.0 t (Ok next.0)) risen next.1) in
+        record {
+          table = ap (λ (w : Written). w.trees 1) out ∙ last.1 1 (1_apart 1 refl) ∙ step.rows ∙ ap (put_all (db 1)) news;
+          count = subst (λ (w : Written). IsCounted name (w.trees 2) (n + 1)) (sym out) last.0;
+          others = λ t not_1 not_2. ap (λ (w : Written). w.trees t) out ∙ last.1 t not_2 ∙ step.others t not_1 tt;
+        }

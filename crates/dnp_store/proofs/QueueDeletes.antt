@@ -1,0 +1,167 @@
+-- What a DELETE takes out of a queue's table.
+use Rattle.std.proofs.lemmas.Simd.{map-map}
+use Rattle.std.proofs.Common.{◌≡◌, ◌≢◌, ℕ, pos, negsuc, List, [], ◌∷◌, ◌++◌, map, filter, codes, Bool, true, false, not, cond, None, Ok, Option, refl, sym, ap, ap₂, subst, subst₂, ◌∙◌, ◌&&◌, nat_le, ◌==◌}
+use Rattle.std.specs.List.{list_all, AllByRecursion}
+use Rattle.std.specs.List.Sorted.{IsPermutation}
+use Rattle.std.specs.Prelude.{flat_map}
+use Rattle.sqlite_tied.specs.Compute.{everything}
+use Rattle.sqlite_sql.specs.declared.ops.BinaryOp.TheVariants.{Compare}
+use Rattle.sqlite_sql.specs.declared.ops.CompareOp.TheVariants.{Eq, Le}
+use Rattle.sqlite_sql.specs.declared.ops.UnaryOp.TheVariants.{ToNumeric}
+use Rattle.sqlite.specs.Collation.TheVariants.{Binary}
+use Rattle.sqlite.specs.declared.types.Value.TheVariants.{Null, Int}
+use Rattle.sqlite.specs.Query.{Query, inner, end, IsAnswer, output, Output}
+use Rattle.sqlite.specs.Program.{overlay}
+use Rattle.sqlite.specs.Term.{Term, lit, col, op1, op2, holds}
+use Rattle.sqlite.specs.Order.{Row}
+use Rattle.sqlite.specs.Ops.{binary, is_true}
+use Rattle.dnp_store.proofs.Tests.{numeric_is, eq_holds, le_holds}
+use Rattle.dnp_store.proofs.IdRows as id_rows
+use Rattle.dnp_store.specs.QueueTables.{queued_cells}
+use Rattle.sqlite.specs.Tree.{Trees, rowid}
+use Rattle.sqlite_trees.proofs.ListLemmas.{IsPermutation-filter}
+use Rattle.sqlite.specs.Edit.{without_all, edit_of}
+use Rattle.sqlite.specs.Effect.{Database}
+use Rattle.sqlite.specs.Does.{Does}
+use Rattle.sqlite.specs.Command.TheVariants.{Delete}
+use Rattle.sqlite.specs.Listing.{understood}
+use Rattle.sqlite.specs.Given.{IsPlain}
+use Rattle.sqlite.specs.Rowids.TheVariants.{Given}
+use Rattle.sqlite.specs.Rows.{Written, Deletes}
+use Rattle.sqlite.specs.State.{State, Executes, mode_of}
+use Rattle.sqlite.proofs.Callers.{command_of, statement_of, runs_as, one_step}
+use Rattle.sqlite_rules.specs.Calls.{ids_of}
+use Rattle.sqlite_schema.specs.declared.schema.Keys.TheVariants.{Enforced}
+use Rattle.dnp_store.specs.QueueTables.{queue_schema, queue_with, queue_columns, lanes_with, Queued, queued_row}
+use Rattle.dnp_store.proofs.Statements.{went, written, same_value}
+use Rattle.dnp_store.proofs.Without.{HasInt, deleted}
+use Rattle.dnp_store.proofs.Counting as counting
+use Rattle.dnp_store.proofs.QueueStatements.{quiet}
+
+abbrev pub delete_text : List ℕ
+delete_text = codes "DELETE FROM queue WHERE lane = ?1 AND id <= ?2"
+
+abbrev tests : List Term
+tests = op2 (Compare Eq Binary) (col 1 2) (op1 ToNumeric (col 0 0)) ∷ op2 (Compare Le Binary) (col 1 0) (col 0 1) ∷ []
+
+abbrev query : Query
+query = record {
+  from = inner 1 end;
+  filter = tests;
+  group = None;
+  project = col 1 0 ∷ [];
+  distinct = false;
+  collations = [];
+  order = [];
+  limit = lit (Int (negsuc 0));
+  offset = lit (Int (pos 0));
+}
+
+delete_is : (f q l : List Term) → command_of (understood (queue_schema f q l) delete_text) ≡ Delete 1 (record { lets = []; body = query })
+unfolding understood everything
+delete_is f q l = refl
+
+delete_plain : (f q l : List Term) → IsPlain (understood (queue_schema f q l) delete_text)
+unfolding understood everything
+delete_plain f q l = (refl, refl)
+
+abbrev pub delete_params : ℕ → ℕ → Row
+delete_params number upto = Int (pos number) ∷ Int (pos upto) ∷ []
+
+-- a row that the statement takes
+abbrev is_taken_by : Row → Row → Bool
+is_taken_by params row = list_all (holds (params ∷ row ∷ [])) tests
+
+pub and_true : (b : Bool) → (b && true) ≡ b
+and_true true = refl
+and_true false = refl
+
+-- in numbers
+taken_is : (number upto : ℕ) (x : Queued) → is_taken_by (delete_params number upto) (queued_row x) ≡ (x.lane == number) && nat_le x.id upto
+unfolding everything
+taken_is number upto x =
+    ap₂ (λ a b. a && (b && true)) (ap (λ v. is_true (binary (Compare Eq Binary) (Int (pos x.lane)) v)) (numeric_is (pos number)) ∙ eq_holds x.lane number)
+    (le_holds x.id upto)
+    ∙ ap (λ b. (x.lane == number) && b) (and_true (nat_le x.id upto))
+
+pub passes_on : {X Y : Type 0} (p : X → Bool) (f : X → Y) (xs : List X) → flat_map (λ x. cond (p x) (f x ∷ []) []) xs ≡ map f (filter p xs)
+passes_on p f [] = refl
+passes_on p f (x ∷ xs) = go (p x) (passes_on p f xs)
+  where
+    go : (b : Bool) → flat_map (λ y. cond (p y) (f y ∷ []) []) xs ≡ map f (filter p xs)
+        → cond b (f x ∷ []) [] ++ flat_map (λ y. cond (p y) (f y ∷ []) []) xs ≡ map f (cond b (x ∷ filter p xs) (filter p xs))
+    go true h = ap (λ ys. f x ∷ ys) h
+    go false h = h
+
+-- the outputs of the query, in some order
+taken : (params : Row) (db : Trees) (rows : List Row) → IsAnswer query (overlay db []) params rows → (ordered : List Output)
+    × IsPermutation (map (λ r. ([], rowid r ∷ [])) (filter (is_taken_by params) (db 1))) ordered × (rows ≡ map (λ (o : Output). o.1) ordered)
+taken params db rows a =
+    let few = filter (is_taken_by params) (db 1) in
+    let staged : a.staged ≡ map (λ r. params ∷ r ∷ []) few = a.grouped ∙ passes_on (is_taken_by params) (λ r. params ∷ r ∷ []) (db 1) in
+    let made : Row → Output = λ r. ([], rowid r ∷ []) in
+    let kept : a.kept ≡ map made few = a.distinct ∙ ap (map (output query)) staged ∙ map-map (output query) (λ r. params ∷ r ∷ []) few in
+    (a.ordered, subst (λ k. IsPermutation k a.ordered) kept a.same, a.shown)
+
+-- a row that is above the number or in another lane
+abbrev pub stays : ℕ → ℕ → Queued → Bool
+stays number upto x = not ((x.lane == number) && nat_le x.id upto)
+
+left : (number upto : ℕ) (xs : List Queued) → filter (λ r. not (is_taken_by (delete_params number upto) r)) (map queued_row xs) ≡ map queued_row
+    (filter (stays number upto) xs)
+left number upto [] = refl
+left number upto (x ∷ xs) =
+    ap₂ (λ b (rows : List Row). cond (not b) (queued_row x ∷ rows) rows) (taken_is number upto x) (left number upto xs) ∙ go (stays number upto x)
+  where
+    go : (b : Bool) → cond b (queued_row x ∷ map queued_row (filter (stays number upto) xs)) (map queued_row (filter (stays number upto) xs)) ≡ map
+        queued_row (cond b (x ∷ filter (stays number upto) xs) (filter (stays number upto) xs))
+    go true = refl
+    go false = refl
+
+have_int : (xs : List Queued) → AllByRecursion HasInt (map queued_row xs)
+have_int [] = tt
+have_int (x ∷ xs) = ((pos x.id, refl), have_int xs)
+
+-- the rows of a lane up to an id leave the table, and no other tree changes
+pub record Takes (db : Trees) (number upto : ℕ) (xs : List Queued) (now : Trees) : Type 0 where
+  pub table : IsPermutation (map queued_row (filter (stays number upto) xs)) (now 1)
+  pub others : (t : ℕ) → t ≢ 1 → now t ≡ db t
+
+takes : (f q l : List Term) (limit : Option ℕ) (number upto : ℕ) (xs : List Queued) (db : Trees) (a : Written)
+    → IsPermutation (map queued_row xs) (db 1)
+    → id_rows.Rise (λ (x : Queued). x.id) queued_cells xs
+    → Deletes (counting.task (codes "queue") queue_columns f q (lanes_with l ∷ []) limit (delete_params number upto)) (record { lets = []; body = query }) db
+    (Ok a) → Takes db number upto xs a.trees
+unfolding everything
+takes f q l limit number upto xs db a is rise h =
+    let params = delete_params number upto in
+    let queried = went h in
+    let found = taken params db queried.0 (queried.1.answer Null) in
+    let edited_to = went queried.2 in
+    let out = same_value edited_to.2 in
+    let edit = edit_of db (queue_with q) (ids_of queried.0) Given 0 [] in
+    let step = one_step (queue_schema f q l) Enforced db edited_to.0 edit (quiet f q l db edit) edited_to.1 in
+    let table = id_rows.is_table (λ (x : Queued). x.id) queued_cells xs rise in
+    let rest : Row → Bool = λ r. not (is_taken_by params r) in
+    let gone : a.trees 1 ≡ filter rest (db 1) = ap (λ (w : Written). w.trees 1) out ∙ step.rows
+    ∙ ap (λ rows. without_all (db 1) (ids_of rows)) found.2
+    ∙ deleted (is_taken_by params) (map queued_row xs) (db 1) found.0 table (have_int xs) is found.1 in
+    record {
+      table = subst₂ IsPermutation (left number upto xs) (sym gone) (IsPermutation-filter rest (map queued_row xs) (db 1) is);
+      others = λ t not_1. ap (λ (w : Written). w.trees t) out ∙ step.others t not_1 tt;
+    }
+
+pub deletes : (old new : State) (f q l : List Term) (number upto count : ℕ) (xs : List Queued) → old.now.schema ≡ queue_schema f q l
+    → IsPermutation (map queued_row xs) (old.now.trees 1)
+    → id_rows.Rise (λ (x : Queued). x.id) queued_cells xs → Executes delete_text (delete_params number upto) old new (Ok count)
+    → (new.now.schema ≡ queue_schema f q l) × Takes old.now.trees number upto xs new.now.trees
+deletes old new f q l number upto count xs has is rise h =
+    let params = delete_params number upto in
+    let command = Delete 1 (record { lets = []; body = query }) in
+    let w = runs_as delete_text params old new (queue_schema f q l) has command (delete_is f q l) (delete_plain f q l) count h in
+    let task = counting.task (codes "queue") queue_columns f q (lanes_with l ∷ []) old.step_limit params in
+    let does = subst (λ s. Does old.step_limit (mode_of old) params (record old.now { schema = s })
+    (statement_of delete_text (understood (queue_schema f q l) delete_text)) None command (Ok (w.tally, new.now))) has w.changed in
+    let done = written task (mode_of old) command old.now.trees w.tally new.now does in
+    let took = takes f q l old.step_limit number upto xs old.now.trees done.0 is rise done.1 in
+    (ap (λ (d : Database). d.schema) done.2, subst (λ (d : Database). Takes old.now.trees number upto xs d.trees) (sym done.2) took)

@@ -1,0 +1,176 @@
+-- Rows that are put back into lanes are those of the table.
+use Rattle.std.proofs.Common.{◌≡◌, ℕ, ◌-◌, ◌<◌, ◌≤◌, ◌&&◌, ◌==◌, Bool, true, false, cond, List, [], ◌∷◌, ◌++◌, map, filter, length, codes, Option, Some, None, Ok, Err, Result, IfOk, refl, sym, ap, ap₂, subst, ◌∙◌, arith, append-nil, append_assoc, length-set, IsPermutation}
+use Rattle.std.specs.Prelude.{Vec, if◌then◌else◌}
+use Rattle.std.specs.declared.alloc.Global.{Global}
+use Rattle.std.specs.List.{AllByRecursion}
+use Rattle.std.proofs.lemmas.Bool.{leb-true}
+use Rattle.std.proofs.lemmas.List.Sorted.{IsPermutation-sym}
+use Rattle.sqlite_trees.proofs.ListLemmas.{all-permutation, all_weaker}
+use Rattle.sqlite.specs.declared.types.Value.{Value}
+use Rattle.sqlite.specs.Order.{Row, column}
+use Rattle.sqlite.specs.Tree.{Trees, IsAscending}
+use Rattle.sqlite.specs.State.{State, Shown}
+use Rattle.sqlite.proofs.Callers.{reads_as}
+use Rattle.dnp_objects.specs.declared.limits.TheConstants.{LANES}
+use Rattle.dnp_objects.specs.declared.lane.LaneRow.{LaneRow}
+use Rattle.dnp_objects.specs.declared.row.Kind.{Kind}
+use Rattle.dnp_objects.specs.Lanes.{lane_number}
+use Rattle.dnp_eventbuf.specs.declared.numbered.Numbered.{Numbered}
+use Rattle.dnp_eventbuf.specs.Carried.{IsCarried}
+use Rattle.dnp_eventbuf.specs.Restored.{with_old_row, fits_behind}
+use Rattle.dnp_eventbuf.specs.Stock.{LaneState, Stock, lane_at, added_in}
+use Rattle.dnp_store.specs.Tables.{IsCounted}
+use Rattle.dnp_store.specs.QueueTables.{queue_schema, queue_columns, Queued, queued_row, event_of, in_lane, Figures, figures_rows, IsForm1, IsQueue}
+use Rattle.sqlite.specs.Effect.{Database}
+use Rattle.sqlite.specs.Term.{Term}
+use Rattle.dnp_store.specs.Shown.{Reads, AreNine, IsBegun, Restores, PutBack}
+use Rattle.dnp_store.proofs.Appending.{behind}
+use Rattle.dnp_store.proofs.Holding.{at_lane, kind_is}
+use Rattle.dnp_store.proofs.Opening.{listed, queue_is, queue_plain, queue_query, queue_terms, shown_by, unchanged}
+use Rattle.dnp_store.proofs.Rows.{IsTyped, typed_queue, queue_row, queued_of}
+use Rattle.dnp_store.proofs.Tests.{is_same, is_other}
+
+abbrev row_of : ℕ → LaneRow → Bool → Queued
+row_of id x short = queued_of id (lane_number x.lane) x.row.index x.row.flags x.row.value x.row.time short
+
+-- a row of the table is the event that was put back
+event_of_row : (id : ℕ) (x : LaneRow) (short : Bool) → IsCarried x → (if short then None else x.row.time) ≡ x.row.time
+    → event_of (row_of id x short) ≡ record { id = id; row = x.row }
+event_of_row id x short carried time =
+    ap₂ (λ (kind : Kind) (t : Option ℕ). record { id = id; row = record { kind = kind; index = x.row.index; flags = x.row.flags; value = x.row.value; time = t } })
+    (kind_is (x.lane.class - 1) x.lane.kind ∙ sym carried.of_its_kind) time
+
+abbrev shown_queued : Row → Row
+shown_queued = shown_by queue_terms
+
+record Restored (last : ℕ) (rs : List Row) (a b : Stock) : Type 0 where
+  pub queued : List Queued
+  pub rows_are : rs ≡ map queued_row queued
+  pub rise : IsAscending (λ x y. x.id < y.id) queued
+  pub above : AllByRecursion (λ x. last < x.id) queued
+  pub up_to : AllByRecursion (λ x. x.id ≤ a.last_id) queued
+  pub lanes : (k : ℕ) → k < LANES → lane_at b k ≡ behind (lane_at a k) (in_lane k queued)
+  pub overflow : b.overflow ≡ a.overflow
+  pub last_is : b.last_id ≡ a.last_id
+
+at_most : (a : Stock) (id : ℕ) (x : LaneRow) → fits_behind a id x ≡ true → id ≤ a.last_id
+at_most a id x fits = leb-true id a.last_id (right _ _ fits)
+  where
+    right : (p q : Bool) → (p && q) ≡ true → q ≡ true
+    right true q h = h
+    right false q h = absurd cc
+
+more : (xs : List Numbered) (e : Numbered) (ys : List Numbered) → (xs ++ e ∷ []) ++ ys ≡ xs ++ (e ∷ ys)
+more xs e ys = append_assoc xs (e ∷ []) ys
+
+-- what one row adds to each lane
+one_more : (a : Stock) (id : ℕ) (x : LaneRow) (y : Queued) (ys : List Queued) → length a.lanes ≡ LANES → lane_number x.lane < LANES → y.lane ≡ lane_number x.lane
+    → event_of y ≡ record { id = id; row = x.row } → (k : ℕ) → k < LANES
+    → behind (lane_at (with_old_row a id x) k) (in_lane k ys) ≡ behind (lane_at a k) (in_lane k (y ∷ ys))
+one_more a id x y ys nine low its event k k_low =
+    let n = lane_number x.lane in
+    let e : Numbered = record { id = id; row = x.row } in
+    at_lane a n k (added_in (lane_at a n) e) (λ lane. behind lane (in_lane k ys) ≡ behind (lane_at a k) (in_lane k (y ∷ ys))) nine low
+    (λ same.
+    let here : (y.lane == k) ≡ true = ap (λ (m : ℕ). m == k) (its ∙ sym same) ∙ is_same k in
+    let found : in_lane k (y ∷ ys) ≡ e ∷ in_lane k ys =
+    ap (λ b. map event_of (cond b (y ∷ filter (λ z. z.lane == k) ys) (filter (λ z. z.lane == k) ys))) here ∙ ap (λ (v : Numbered). v ∷ in_lane k ys) event in
+    ap (λ (m : ℕ). behind (added_in (lane_at a m) e) (in_lane k ys)) (sym same)
+    ∙ ap (λ rows. record { capacity = (lane_at a k).capacity; rows = rows; lost = (lane_at a k).lost }) (more (lane_at a k).rows e (in_lane k ys))
+    ∙ ap (behind (lane_at a k)) (sym found))
+    (λ apart.
+    let here : (y.lane == k) ≡ false = ap (λ (m : ℕ). m == k) its ∙ is_other n k (λ is. apart (sym is)) in
+    let found : in_lane k (y ∷ ys) ≡ in_lane k ys =
+    ap (λ b. map event_of (cond b (y ∷ filter (λ z. z.lane == k) ys) (filter (λ z. z.lane == k) ys))) here in
+    ap (behind (lane_at a k)) (sym found))
+
+restored : (last : ℕ) (rs : List Row) (a b : Stock) → AllByRecursion (IsTyped (Some 0) queue_columns) rs → length a.lanes ≡ LANES
+    → Restores last (map shown_queued rs) a b → Restored last rs a b
+restored last [] a b typed nine h = record {
+  queued = [];
+  rows_are = refl;
+  rise = tt;
+  above = tt;
+  up_to = tt;
+  lanes = λ k _. ap (λ (s : Stock). lane_at s k) h
+      ∙ ap (λ rows. record { capacity = (lane_at a k).capacity; rows = rows; lost = (lane_at a k).lost }) (sym (append-nil (lane_at a k).rows));
+  overflow = ap (λ (s : Stock). s.overflow) h;
+  last_is = ap (λ (s : Stock). s.last_id) h;
+}
+restored last (r ∷ rs) a b typed nine h =
+    let id = h.0 in
+    let x = h.1 in
+    let shows = h.2 in
+    let row = queue_row r id (lane_number x.lane) x.row.index x.row.flags x.row.value x.row.time typed.0 shows.id_is shows.lane shows.index shows.flags shows.value
+    shows.time in
+    let y = row_of id x row.0 in
+    let n = lane_number x.lane in
+    let rest = restored id rs (with_old_row a id x) b typed.1
+    (length-set a.lanes n (added_in (lane_at a n) (record { id = id; row = x.row })) ∙ nine) h.6 in
+    let less = h.4 in
+    record {
+      queued = y ∷ rest.queued;
+      rows_are = ap₂ (λ (v : Row) vs. v ∷ vs) row.1 rest.rows_are;
+      rise = (rest.above, rest.rise);
+      above = (less, all_weaker (λ (z : Queued). id < z.id) (λ (z : Queued). last < z.id) (λ z over. omega arith) rest.queued rest.above);
+      up_to = (at_most a id x h.5, rest.up_to);
+      lanes = λ k k_low. rest.lanes k k_low ∙ one_more a id x y rest.queued nine shows.low refl (event_of_row id x row.0 h.3 row.2) k k_low;
+      overflow = rest.overflow;
+      last_is = rest.last_is;
+    }
+
+pub reads_queued : (old new : State) (rows : List Row) → Shown queue_query [] old new rows
+    → Reads old new (λ db. (a b : Stock) → length a.lanes ≡ LANES → ((k : ℕ) → k < LANES → (lane_at a k).rows ≡ []) → Restores 0 rows a b → PutBack (db 1) a b)
+reads_queued old new rows shown f q l sound has =
+    let read = reads_as queue_query [] old new (queue_schema f q l) has _ (queue_is f q l).0 (queue_plain f q l) (queue_is f q l).1 rows shown in
+    let got = listed 1 queue_terms old.now.trees rows refl (read.answer Rattle.sqlite.specs.declared.types.Value.TheVariants.Null) in
+    let typed = all-permutation (IsTyped (Some 0) queue_columns) (old.now.trees 1) got.0 got.1 (typed_queue old.now f q l has sound) in (
+      unchanged queue_query old new (queue_schema f q l) rows has (queue_plain f q l) shown,
+      λ a b nine none restores.
+          let did = restored 0 got.0 a b typed nine (subst (λ (xs : List Row). Restores 0 xs a b) got.2 restores) in
+          record {
+            queued = did.queued;
+            queue_is = subst (λ xs. IsPermutation xs (old.now.trees 1)) did.rows_are (IsPermutation-sym (old.now.trees 1) got.0 got.1);
+            rise = did.rise;
+            up_to_last = did.up_to;
+            lanes = λ k k_low. did.lanes k k_low
+                ∙ ap (λ (xs : List Numbered). record { capacity = (lane_at a k).capacity; rows = xs ++ in_lane k did.queued; lost = (lane_at a k).lost }) (none k k_low);
+            overflow = did.overflow;
+            last_is = did.last_is;
+          },
+    )
+
+pub queued_if : {E : Type 0} (old new : State) (r : Result (Vec (List Value) Global) E)
+    → IfOk r (λ rows. Shown queue_query [] old new rows.items)
+    → IfOk r (λ rows. Reads old new (λ db. (a b : Stock) → length a.lanes ≡ LANES → ((k : ℕ) → k < LANES → (lane_at a k).rows ≡ []) → Restores 0 rows.items a b
+    → PutBack (db 1) a b))
+queued_if old new (Ok rows) shown = reads_queued old new rows.items shown
+queued_if old new (Err e) shown = tt
+
+-- lanes whose rows were put back are those of the database
+pub opened : (db : Database) (f q l : List Term) (figures : List Figures) (a b : Stock) (n : ℕ) → db.schema ≡ queue_schema f q l → IsForm1 (db.trees 0)
+    → AreNine figures → IsPermutation (figures_rows 0 figures) (db.trees 3) → IsCounted (codes "queue") (db.trees 2) n → IsBegun a figures n
+    → PutBack (db.trees 1) a b → IsQueue db b
+opened db f q l figures a b n has form nine lanes counted begun put =
+    let last : b.last_id ≡ n = put.last_is ∙ begun.last_is in
+    record {
+      form_checks = f;
+      queue_checks = q;
+      lanes_checks = l;
+      schema = has;
+      holds = record {
+        figures = figures;
+        form = form;
+        lanes = record {
+          queued = put.queued;
+          queue_is = put.queue_is;
+          lanes_is = lanes;
+          counted = subst (λ (m : ℕ). IsCounted (codes "queue") (db.trees 2) m) (sym last) counted;
+          rise = put.rise;
+          up_to_last = subst (λ (m : ℕ). AllByRecursion (λ x. x.id ≤ m) put.queued) (sym put.last_is) put.up_to_last;
+          nine = nine.nine;
+          lanes = λ k low. put.lanes k low ∙ ap (λ (lane : LaneState). record lane { rows = in_lane k put.queued }) (begun.lanes k low);
+        };
+        overflow = put.overflow ∙ begun.overflow;
+      };
+    }

@@ -1,0 +1,56 @@
+-- What a statement on the rows of a table makes of a database.
+use Rattle.std.proofs.Common.{◌≡◌, ◌⊎◌, inl, inr, Bool, true, false, IsTrue, None, Ok, Err, Result, sym, ap, subst}
+use Rattle.std.specs.Prelude.{MatchBool}
+use Rattle.sqlite.specs.declared.run.Mode.{Mode}
+use Rattle.sqlite.specs.Command.{Command}
+use Rattle.sqlite.specs.Tree.{Trees}
+use Rattle.sqlite.specs.Effect.{Database}
+use Rattle.sqlite.specs.Rows.{Task, Written}
+use Rattle.sqlite.specs.Does.{Tally, WritesRows, OnRows}
+use Rattle.sqlite.specs.declared.error.Error.{Error}
+use Rattle.std.specs.Prelude.{OnOk}
+use Rattle.sqlite_trees.specs.declared.store.Store.{Ghosts}
+use Rattle.sqlite.specs.Held.{Held, state}
+use Rattle.sqlite.specs.State.{State, HasCleanDisk, Shows, Survives}
+use Rattle.sqlite.proofs.StateLemmas.{survives_then}
+use Rattle.sqlite.proofs.Callers.{survives_begin}
+
+-- a part that gave a value did not stop on the way
+pub went : {B E R : Type 0} {b : B} {Stops : E → Type 0} → ((stop : E) × Stops stop × (Ok b ≡ Err stop)) ⊎ R → R
+went (inl stopped) = absurd (let e = stopped.2 in cc)
+went (inr on) = on
+
+pub same_value : {B E : Type 0} {a b : B} → ◌≡◌ {A = Result B E} (Ok a) (Ok b) → a ≡ b
+same_value e = cc
+
+pub picked : {X : Type 0} (Y : Type 0) (b : Bool) → b ≡ true → MatchBool b X Y → X
+picked Y true is h = h
+picked Y false is h = absurd cc
+
+pub otherwise : {Y : Type 0} (X : Type 0) (b : Bool) → b ≡ false → MatchBool b X Y → Y
+otherwise X true is h = absurd cc
+otherwise X false is h = h
+
+-- a statement without RETURNING leaves the trees that its rows make
+pub written : (task : Task) (mode : Mode) (command : Command) (db : Trees) (tally : Tally) (now : Database) → OnRows task mode None command db (Ok (tally, now))
+    → (a : Written) × WritesRows task db command (Ok a) × (now ≡ record { schema = task.schema; trees = a.trees })
+written task mode command db tally now h =
+    let wrote = went h in
+    let tested = went wrote.2 in
+    let shown = went tested.2 in
+    (wrote.0, wrote.1, ap (λ (p : Tally × Database). p.1) (same_value shown.2))
+
+-- ---- transactions
+
+-- a commit that was answered Ok
+pub finished : (X Y : Type 0) (mid new : State) (P : Database → Type 0) (r : Result (Unit {0}) Error) → P mid.now
+    → OnOk r (IsTrue mid.in_transaction × Shows mid new mid.now mid.now false × X × Y) → OnOk r (IsTrue new.is_open × P new.committed)
+finished X Y mid new P (Ok _) holds h = (h.1.is_open, subst P (sym h.1.committed_is) holds)
+finished X Y mid new P (Err _) holds h = tt
+
+-- what a transaction leaves that did one thing and then committed
+pub survives_commit : {S : Type 0} (g : Ghosts S) (old begun : Held S) (mid new : State) (P : Trees → Type 0) → begun ≡ record old { in_transaction = true }
+    → Survives (state g begun) mid (λ _. ⊥) → Survives mid new (λ db. db ≡ mid.now.trees) → (HasCleanDisk new → P mid.now.trees) → Survives (state g old) new P
+survives_commit g old begun mid new P is one two holds =
+    survives_then (state g old) mid new (λ _. ⊥) (λ db. db ≡ mid.now.trees) P (λ _ db none. absurd none) (λ clean db same. subst P (sym same) (holds clean))
+    (survives_begin g old mid (λ _. ⊥) (subst (λ h. Survives (state g h) mid (λ _. ⊥)) is one)) two

@@ -1,0 +1,34 @@
+use Rattle.std.proofs.Common.{rules, ◌≡◌, true, false, length, arith, sym, subst}
+use Rattle.sqlite.specs.State.{HasCleanDisk}
+use Rattle.sqlite.specs.Held.{state}
+use Rattle.dnp_objects.specs.declared.limits.TheConstants.{LANES}
+use Rattle.dnp_store.specs.QueueTables.{IsQueue}
+use Rattle.dnp_store.specs.Steps.{left, released}
+use Rattle.dnp_store.proofs.Trimming.{of_queue}
+use Rattle.dnp_store.proofs.Releasing.{lost_left, nine_left, kept_mark, lowered_mark}
+use Rattle.dnp_store.proofs.queue_release.release_in.Goals as goal
+
+pub returns-in_ok-lower_all-clause-released : goal.returns-in_ok-lower_all-clause-released
+returns-in_ok-lower_all-clause-released g c clean held =
+    let s = c.args.lanes.now in
+    let upto = c.args.upto.now in
+    let old = state g.S.Store c.args.tx.now.conn.now in
+    let mid = state g.S.Store c.take_all.new.tx.conn.now in
+    let new = state g.S.Store c.lower_all.new.tx.conn.now in
+    let early : HasCleanDisk mid = omega (arith, c.lower_all.ensures.survives.clean) in
+    let nine_u : length upto ≡ LANES = search rules in
+    let is : c.args.lower ≡ true = search rules in
+    let took = c.in_ok-take_all.ensures.taken early s held.holds.figures c.requires.sound (of_queue old.now s held) in
+    let low = c.in_ok-lower_all.ensures.lowered clean (left s upto) held.holds.figures (nine_left s upto c.requires.sound.nine)
+    (lost_left s upto c.requires.sound.nine nine_u) took in
+    subst (λ b. IsQueue new.now (released s upto b)) (sym is) (lowered_mark s upto new.now low.0 low.1 low.2)
+
+pub returns-else-lower-clause-released : goal.returns-else-lower-clause-released
+returns-else-lower-clause-released g c clean held =
+    let s = c.args.lanes.now in
+    let upto = c.args.upto.now in
+    let old = state g.S.Store c.args.tx.now.conn.now in
+    let new = state g.S.Store c.take_all.new.tx.conn.now in
+    let is : c.args.lower ≡ false = search rules in
+    let took = c.in_ok-take_all.ensures.taken clean s held.holds.figures c.requires.sound (of_queue old.now s held) in
+    subst (λ b. IsQueue new.now (released s upto b)) (sym is) (kept_mark old.now s upto held new.now took)

@@ -1,0 +1,46 @@
+use Rattle.std.proofs.Common.{rules, ◌≡◌, not, IsTrue, arith, sym, ap, subst, ◌∙◌}
+use Rattle.std.specs.Prelude.{OnOk}
+use Rattle.sqlite.specs.State.{HasCleanDisk, Survives}
+use Rattle.sqlite.specs.Held.{state}
+use Rattle.sqlite.specs.Tree.{Trees}
+use Rattle.dnp_store.specs.Steps.{released}
+use Rattle.dnp_store.specs.Kept.{Stands}
+use Rattle.dnp_store.specs.QueueTables.{IsQueue, HoldsStock}
+use Rattle.dnp_store.proofs.Statements.{finished, survives_commit}
+use Rattle.dnp_store.proofs.Standing.{stands_if}
+use Rattle.dnp_store.proofs.queue_release.write_release.Goals as goal
+
+done : (g : _) (c : goal.After-conn-2-1 g) → HasCleanDisk (state g.S.Store c.release_in.new.tx.conn.now)
+    → Stands (state g.S.Store c.args.conn.now) c.args.lanes.now
+    → IsQueue (state g.S.Store c.release_in.new.tx.conn.now).now (released c.args.lanes.now c.args.upto.now c.args.lower)
+done g c clean stood =
+    let old = state g.S.Store c.args.conn.now in
+    let begun = state g.S.Store c.transaction-tx.result.conn.now in
+    let idle : IsTrue c.is_autocommit.result = c.is_autocommit.ensures.value ∙ ap not c.requires.idle in
+    let same : begun.now ≡ old.committed = ap (λ h. (state g.S.Store h).now) c.transaction-tx.ensures.begun
+    ∙ c.is_autocommit.ensures.settled idle stood.is_open in
+    c.in_ok-release_in.ensures.released clean (subst (λ d. IsQueue d c.args.lanes.now) (sym same) stood.holds)
+
+pub returns-clause-ok : goal.returns-clause-ok
+returns-clause-ok g c clean stood =
+    let mid = state g.S.Store c.release_in.new.tx.conn.now in
+    let end = state g.S.Store c.commit.new.self.0 in
+    let b = released c.args.lanes.now c.args.upto.now c.args.lower in
+    let same : c.commit.new.self.0 ≡ c.conn-2-1.given.0 = search rules in
+    let late : HasCleanDisk end = subst (λ h. HasCleanDisk (state g.S.Store h)) (sym same) clean in
+    let early : HasCleanDisk mid = omega (arith, late, c.commit.ensures.survives.clean) in
+    subst (λ h. OnOk c.commit.result (Stands (state g.S.Store h) b)) same
+    (stands_if end b c.commit.result (finished _ _ mid end (λ d. IsQueue d b) c.commit.result (done g c early stood) (c.commit.ensures.ok late)))
+
+pub returns-clause-survives : goal.returns-clause-survives
+returns-clause-survives g c =
+    let mid = state g.S.Store c.release_in.new.tx.conn.now in
+    let end = state g.S.Store c.commit.new.self.0 in
+    let b = released c.args.lanes.now c.args.upto.now c.args.lower in
+    let old = c.args.conn.now in
+    let P = λ (db : Trees). Stands (state g.S.Store old) c.args.lanes.now → HoldsStock db b in
+    let same : c.commit.new.self.0 ≡ c.conn-2-1.given.0 = search rules in
+    subst (λ h. Survives (state g.S.Store old) (state g.S.Store h) P) same
+    (survives_commit g.S.Store old c.transaction-tx.result.conn.now mid end P c.transaction-tx.ensures.begun
+    c.release_in.ensures.survives c.commit.ensures.survives
+    (λ clean stood. (let early : HasCleanDisk mid = omega (arith, clean, c.commit.ensures.survives.clean) in (done g c early stood).holds)))

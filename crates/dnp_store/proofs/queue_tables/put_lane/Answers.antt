@@ -1,0 +1,16 @@
+use Rattle.std.proofs.Common.{[], ◌∷◌, Ok, arith, subst, ap₂}
+use Rattle.sqlite.specs.declared.types.Value.{Value}
+use Rattle.sqlite.specs.Values.{bound_value}
+use Rattle.sqlite.specs.State.{HasCleanDisk, Executes}
+use Rattle.sqlite.specs.Held.{state}
+use Rattle.dnp_store.proofs.Filling.{lane_made, lane_text}
+use Rattle.dnp_store.proofs.queue_tables.put_lane.Goals as goal
+
+pub returns-clause-made : goal.returns-clause-made
+returns-clause-made g c clean figures at has =
+    let old = state g.S.Store c.args.tx.now.conn.now in
+    let new = state g.S.Store c.execute.new.self.conn.now in
+    let early : HasCleanDisk old = omega (arith, c.execute.ensures.survives.clean) in
+    let given = ap₂ (λ (a b : Value). bound_value a ∷ bound_value b ∷ []) c.params-to_sql.ensures c.params-to_sql-2.ensures in
+    lane_made old new c.args.number c.args.capacity c.in_ok-execute.field-0 figures at has
+    (subst (λ ps. Executes lane_text ps old new (Ok c.in_ok-execute.field-0)) given (c.in_ok-execute.ensures.runs clean (c.requires.inside early)).0)

@@ -1,0 +1,56 @@
+use Rattle.std.proofs.Common.{rules, ◌≡◌, ◌+◌, ◌-◌, ◌<◌, ◌++◌, slice_get, option_map, length-set, Some, arith, sym, ap, subst, ◌∙◌, add-one}
+use Rattle.sqlite.specs.State.{HasCleanDisk}
+use Rattle.sqlite.specs.Held.{state}
+use Rattle.dnp_eventbuf.specs.Stock.{lane_at, above}
+use Rattle.dnp_eventbuf.specs.declared.numbered.Numbered.{Numbered}
+use Rattle.dnp_eventbuf.specs.Latest.{numbered_for}
+use Rattle.dnp_store.specs.Steps.{over, cut, IsTrimmed}
+use Rattle.dnp_store.proofs.Trimming.{trimmed_none, trimmed_some, lost_low, id_low}
+use Rattle.dnp_store.proofs.queue_writing.trim.Goals as goal
+
+pub returns-then-over-eq0-clause-trimmed : goal.returns-then-over-eq0-clause-trimmed
+returns-then-over-eq0-clause-trimmed g c clean raised h =
+    let s = c.args.lanes.now in
+    let rows = c.args.rows.now in
+    let db = (state g.S.Store c.args.tx.now.conn.now).now in
+    let none : over s rows c.args.number ≡ 0 = search rules in
+    subst (λ n. IsTrimmed db s rows raised n) (sym (add-one c.args.number))
+    (trimmed_none s rows c.args.number c.requires.sound c.requires.number c.requires.after.nine db raised none h)
+
+pub overflow_add-lost : goal.overflow_add-lost
+overflow_add-lost g c =
+    let most = lost_low c.args.lanes.now c.args.rows.now c.args.number c.requires.sound c.requires.number c.requires.after in
+    omega (arith, most, c.lost_in.ensures, c.drops_in-over.ensures)
+
+pub note-requires-clause-lost : goal.note-requires-clause-lost
+note-requires-clause-lost g c =
+    let most = lost_low c.args.lanes.now c.args.rows.now c.args.number c.requires.sound c.requires.number c.requires.after in
+    omega (arith, most, c.lost_in.ensures, c.drops_in-over.ensures)
+
+pub take-requires-clause-upto : goal.take-requires-clause-upto
+take-requires-clause-upto g c =
+    let at : c.id_at.result ≡ Some c.in_ok-upto.upto = search rules in
+    let most = id_low c.args.lanes.now c.args.rows.now c.args.number (c.drops_in-over.result - 1) c.in_ok-upto.upto c.requires.sound c.requires.number
+    c.requires.few (sym c.id_at.ensures ∙ at) in
+    omega (arith, most)
+
+pub returns-clause-trimmed : goal.returns-clause-trimmed
+returns-clause-trimmed g c clean raised h =
+    let s = c.args.lanes.now in
+    let rows = c.args.rows.now in
+    let number = c.args.number in
+    let upto = c.in_ok-upto.upto in
+    let lost = c.lost_in.result + c.drops_in-over.result in
+    let old = state g.S.Store c.args.tx.now.conn.now in
+    let mid = state g.S.Store c.take.new.tx.conn.now in
+    let new = state g.S.Store c.note.new.tx.conn.now in
+    let early : HasCleanDisk mid = omega (arith, c.note.ensures.survives.clean) in
+    let some : 0 < over s rows number = search rules in
+    let at : c.id_at.result ≡ Some upto = search rules in
+    let there = ap (λ n. option_map (λ (x : Numbered). x.id) (slice_get ((lane_at s number).rows ++ numbered_for number s.last_id rows) (n - 1)))
+    (sym c.drops_in-over.ensures) ∙ sym c.id_at.ensures ∙ at in
+    let sum : lost ≡ (lane_at s number).lost + over s rows number = omega (arith, c.lost_in.ensures, c.drops_in-over.ensures) in
+    subst (λ n. IsTrimmed new.now s rows raised n) (sym (add-one number))
+    (trimmed_some s rows number c.requires.sound c.requires.number c.requires.after.nine old.now new.now raised upto lost some there sum
+    (λ t fs nine held. c.in_ok-note.ensures.noted clean (cut t number upto) fs (length-set t.lanes number (above upto (lane_at t number)) ∙ nine)
+    (c.in_ok-take.ensures.cut early t fs nine held)) h)

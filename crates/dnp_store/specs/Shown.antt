@@ -1,0 +1,101 @@
+-- Words of private steps: what queries show of a queue's tables, and the lanes that are put together from it.
+use Rattle.std.specs.Prelude.{◌≡◌, ◌⊎◌, ℕ, ◌<◌, ◌≤◌, ℤ, pos, true, if◌then◌else◌, List, [], ◌∷◌, map, length, codes, slice_index_or}
+use Rattle.std.specs.List.{AllByRecursion}
+use Rattle.std.specs.List.Sorted.{IsPermutation}
+use Rattle.sqlite.specs.declared.types.Value.TheVariants.{Int, Text}
+use Rattle.sqlite.specs.Order.{Row as SqlRow, column}
+use Rattle.sqlite.specs.Tree.{Trees, IsAscending}
+use Rattle.sqlite.specs.Term.{Term}
+use Rattle.sqlite.specs.Effect.{IsDatabase}
+use Rattle.sqlite.specs.State.{State}
+use Rattle.dnp_objects.specs.declared.limits.TheConstants.{LANES, MAX_ID}
+use Rattle.dnp_objects.specs.declared.lane.LaneRow.{LaneRow}
+use Rattle.dnp_objects.specs.Lanes.{lane_number}
+use Rattle.dnp_eventbuf.specs.declared.plain.TheConstants.{MAX_CAPACITY}
+use Rattle.dnp_eventbuf.specs.Carried.{IsCarried}
+use Rattle.dnp_eventbuf.specs.Restored.{with_old_row, fits_behind}
+use Rattle.dnp_eventbuf.specs.Stock.{Stock, lane_at}
+use Rattle.dnp_store.specs.Tables.{or_null}
+use Rattle.dnp_store.specs.QueueTables.{queue_schema, Queued, queued_row, Figures, no_figures, in_lane, is_raised}
+
+-- a queue's database shows this of its trees, and stays as it was
+abbrev pub Reads : State → State → (Trees → Type 0) → Type 0
+Reads old new P = (f q l : List Term) → IsDatabase old.now → old.now.schema ≡ queue_schema f q l → (new.now ≡ old.now) × P old.now.trees
+
+-- ---- `form`
+
+-- one row, with the number 1
+pub record ShowsForm1 (rows : List SqlRow) (id : ℤ) : Type 0 where
+  pub one : length rows ≡ 1
+  pub id_is : column (slice_index_or rows 0 []) 0 ≡ Int id
+  pub number : column (slice_index_or rows 0 []) 1 ≡ Int (pos 1)
+
+-- ---- `lanes`
+
+pub record ShowsFigures (row : SqlRow) (number : ℕ) (f : Figures) : Type 0 where
+  pub lane : column row 0 ≡ Int (pos number)
+  pub capacity : column row 1 ≡ Int (pos f.capacity)
+  pub lost : column row 2 ≡ Int (pos f.lost)
+  pub raised : column row 3 ≡ Int (if f.raised then pos 1 else pos 0)
+
+pub record AreInRange (f : Figures) : Type 0 where
+  pub takes_one : 1 ≤ f.capacity
+  pub takes_most : f.capacity ≤ MAX_CAPACITY
+  pub lost : f.lost ≤ MAX_ID
+
+-- nine figures in their ranges
+pub record AreNine (figures : List Figures) : Type 0 where
+  pub nine : length figures ≡ LANES
+  pub in_range : (k : ℕ) → k < LANES → AreInRange (slice_index_or figures k no_figures)
+
+-- nine rows, one for each lane
+pub record ShowNine (rows : List SqlRow) (figures : List Figures) : Type 0 where
+  pub rows_nine : length rows ≡ LANES
+  pub each : (k : ℕ) → k < LANES → ShowsFigures (slice_index_or rows k []) k (slice_index_or figures k no_figures)
+
+-- lanes without rows
+pub record IsBegun (s : Stock) (figures : List Figures) (last : ℕ) : Type 0 where
+  pub nine : length s.lanes ≡ LANES
+  pub lanes : (k : ℕ) → k < LANES
+      → lane_at s k ≡ record { capacity = (slice_index_or figures k no_figures).capacity; rows = []; lost = (slice_index_or figures k no_figures).lost }
+  pub overflow : s.overflow ≡ is_raised figures
+  pub last_is : s.last_id ≡ last
+
+-- ---- `sqlite_sequence`
+
+pub record ShowsCountOf (row : SqlRow) (id n : ℕ) : Type 0 where
+  pub id_is : column row 0 ≡ Int (pos id)
+  pub name : column row 1 ≡ Text (codes "queue")
+  pub count : column row 2 ≡ Int (pos n)
+
+abbrev pub ShowsCount : List SqlRow → ℕ → Type 0
+ShowsCount rows n =
+    ((length rows ≡ 0) × (n ≡ 0))
+    ⊎ ((id : ℕ) × (length rows ≡ 1) × ShowsCountOf (slice_index_or rows 0 []) id n)
+
+-- ---- `queue`
+
+pub record ShowsQueued (row : SqlRow) (id : ℕ) (x : LaneRow) : Type 0 where
+  pub id_is : column row 0 ≡ Int (pos id)
+  pub low : lane_number x.lane < LANES
+  pub lane : column row 1 ≡ Int (pos (lane_number x.lane))
+  pub index : column row 2 ≡ Int (pos x.row.index)
+  pub flags : column row 3 ≡ Int (pos x.row.flags)
+  pub value : column row 4 ≡ Int x.row.value
+  pub time : column row 5 ≡ or_null x.row.time
+
+-- rows under ids that rise from the last one on are put back into lanes
+abbrev pub Restores : ℕ → List SqlRow → Stock → Stock → Type 0
+Restores last [] a b = b ≡ a
+Restores last (r ∷ rs) a b =
+    (id : ℕ) × (x : LaneRow) × ShowsQueued r id x × IsCarried x × (last < id) × (fits_behind a id x ≡ true) × Restores id rs (with_old_row a id x) b
+
+-- the rows of `queue` stand behind those of the lanes
+pub record PutBack (rows : List SqlRow) (a b : Stock) : Type 0 where
+  pub queued : List Queued
+  pub queue_is : IsPermutation (map queued_row queued) rows
+  pub rise : IsAscending (λ x y. x.id < y.id) queued
+  pub up_to_last : AllByRecursion (λ x. x.id ≤ a.last_id) queued
+  pub lanes : (k : ℕ) → k < LANES → lane_at b k ≡ record (lane_at a k) { rows = in_lane k queued }
+  pub overflow : b.overflow ≡ a.overflow
+  pub last_is : b.last_id ≡ a.last_id

@@ -1,0 +1,63 @@
+-- Words of private steps: the lanes after one statement of a queue.
+use Rattle.std.specs.Prelude.{◌≡◌, ℕ, zero, suc, ◌+◌, ◌-◌, ◌||◌, ◌&&◌, not, nat_lt, Bool, false, List, [], ◌∷◌, ◌++◌, length, take, drop, slice_set, slice_index_or}
+use Rattle.dnp_objects.specs.Lanes.{lane_number}
+use Rattle.dnp_objects.specs.declared.lane.LaneRow.{LaneRow}
+use Rattle.dnp_eventbuf.specs.Stock.{LaneState, Stock, lane_at, added_in, above, with_rows, lanes_above}
+use Rattle.sqlite.specs.Effect.{Database}
+use Rattle.dnp_eventbuf.specs.Latest.{numbered_for}
+use Rattle.dnp_store.specs.QueueTables.{Figures, no_figures, HoldsQueue, is_raised}
+
+abbrev pub with_lane : Stock → ℕ → LaneState → Stock
+with_lane s number lane = record { lanes = slice_set s.lanes number lane; overflow = s.overflow; last_id = s.last_id }
+
+-- a row stands in its lane under the next id
+abbrev pub added : Stock → LaneRow → Stock
+added s x = record {
+  lanes = slice_set s.lanes (lane_number x.lane) (added_in (lane_at s (lane_number x.lane)) (record { id = s.last_id + 1; row = x.row }));
+  overflow = s.overflow;
+  last_id = s.last_id + 1;
+}
+
+-- the rows of a lane up to an id are gone
+abbrev pub cut : Stock → ℕ → ℕ → Stock
+cut s number upto = with_lane s number (above upto (lane_at s number))
+
+-- a lane has dropped so many rows
+abbrev pub counted : Stock → ℕ → ℕ → Stock
+counted s number lost = with_lane s number (record (lane_at s number) { lost = lost })
+
+abbrev pub noted : List Figures → ℕ → ℕ → Bool → List Figures
+noted figures number lost raised = slice_set figures number (record
+    { capacity = (slice_index_or figures number no_figures).capacity; lost = lost; raised = raised })
+
+-- rows stand in their lanes, as if one by one, whatever the lanes take
+abbrev pub all_added : Stock → List LaneRow → Stock
+all_added s [] = s
+all_added s (x ∷ xs) = all_added (added s x) xs
+
+-- the first lanes are those of the second stock
+abbrev pub mixed : ℕ → Stock → Stock → Stock
+mixed number a b = record { lanes = take number b.lanes ++ drop number a.lanes; overflow = a.overflow; last_id = b.last_id }
+
+-- how many rows a lane drops for these
+abbrev pub over : Stock → List LaneRow → ℕ → ℕ
+over s rows number = (length (lane_at s number).rows + length (numbered_for number s.last_id rows)) - (lane_at s number).capacity
+
+-- whether some of the first lanes drops one
+abbrev pub any_over : Stock → List LaneRow → ℕ → Bool
+any_over s rows zero = false
+any_over s rows (suc number) = any_over s rows number || nat_lt 0 (over s rows number)
+
+-- The rows were put in, and the first lanes have dropped what they had to. Before, the overflow was as raised.
+abbrev pub IsTrimmed : Database → Stock → List LaneRow → Bool → ℕ → Type 0
+IsTrimmed db s rows raised number =
+    (figures : List Figures) × HoldsQueue db (mixed number (all_added s rows) (with_rows s rows)) figures
+    × (is_raised figures ≡ (raised || any_over s rows number))
+
+-- the rows of each lane up to its number are gone
+abbrev pub left : Stock → List ℕ → Stock
+left s upto = record { lanes = lanes_above s.lanes upto; overflow = s.overflow; last_id = s.last_id }
+
+-- and the overflow is lowered, if it is to be
+abbrev pub released : Stock → List ℕ → Bool → Stock
+released s upto lower = record { lanes = lanes_above s.lanes upto; overflow = s.overflow && not lower; last_id = s.last_id }

@@ -1,0 +1,240 @@
+//! What rows that queries show of a queue's tables say.
+
+ghost use Rattle.std.specs.Prelude.{◌≡◌, ◌<◌, ◌≤◌, ℕ, false, IsTrue, IfOk, IfSome, [], ◌∷◌, List, codes, length, pos, All, slice_index_or, if◌then◌else◌};
+ghost use Rattle.sqlite.specs.declared.types.Value.TheVariants.{Int, Text};
+ghost use Rattle.sqlite.specs.Order.{column};
+ghost use Rattle.dnp_objects.specs.declared.limits.TheConstants as limits;
+ghost use Rattle.dnp_eventbuf.specs.Carried.{IsCarried};
+ghost use Rattle.dnp_eventbuf.specs.Stock.{lane_at};
+ghost use Rattle.dnp_store.specs.QueueTables.{is_raised, no_figures};
+ghost use Rattle.dnp_store.specs.Shown.{AreInRange, AreNine, IsBegun, Restores, ShowNine, ShowsCount, ShowsCountOf, ShowsFigures, ShowsForm1, ShowsQueued};
+
+use crate::fault::Unread;
+use crate::figures::Figures;
+use dnp_eventbuf::{LaneRow, MAX_CAPACITY, PlainLanes, is_carried};
+use dnp_objects::{LANES, Lane, MAX_ID, Row};
+use sqlite::Row as Shown;
+use sqlite_value::value::ValueRef;
+use std::alloc::{AllocError, Global};
+
+/// The number in this column, if it is one from 0 on.
+fn whole(row: &Shown, at: usize) -> Option<u64>
+    ensures { IfSome result (λ n. column row.now at ≡ Int (pos n)) }
+{
+    row.get::<u64>(at).ok()
+}
+
+/// The number in this column, if it is in range.
+fn small(row: &Shown, at: usize) -> Option<u32>
+    ensures { IfSome result (λ n. column row.now at ≡ Int (pos n)) }
+{
+    row.get::<u32>(at).ok()
+}
+
+/// The rowid of the only row, if its number is 1.
+pub(crate) fn form1(rows: &[Shown]) -> Option<i64>
+    ensures { IfSome result (λ id. ShowsForm1 rows.now id) }
+{
+    if rows.len() != 1 {
+        return None;
+    }
+    let id = rows[0].get::<i64>(0).ok()?;
+    if whole(&rows[0], 1)? == 1 {
+        Some(id)
+    } else {
+        None
+    }
+}
+
+/// The mark in this column, 0 or 1.
+fn mark(row: &Shown, at: usize) -> Option<bool>
+    ensures { IfSome result (λ b. column row.now at ≡ Int (if b then pos 1 else pos 0)) }
+{
+    match whole(row, at)? {
+        0 => Some(false),
+        1 => Some(true),
+        _ => None,
+    }
+}
+
+/// The figures of the lane of this number, if the row has them, in their ranges.
+fn figures_in(row: &Shown, number: usize) -> Option<Figures>
+    ensures { IfSome result (λ f. ShowsFigures row.now number f × AreInRange f) }
+{
+    let lane = whole(row, 0)?;
+    let capacity = small(row, 1)?;
+    let lost = whole(row, 2)?;
+    let raised = mark(row, 3)?;
+    if lane == number as u64 && 1 <= capacity && capacity <= MAX_CAPACITY && lost <= MAX_ID {
+        Some(Figures {
+            capacity,
+            lost,
+            raised,
+        })
+    } else {
+        None
+    }
+}
+
+/// The figures of the nine lanes, if the rows have them.
+pub(crate) fn all_figures(alloc: Global, rows: &[Shown]) -> Result<Vec<Figures>, Unread>
+    ensures in_range { IfOk result (λ figures. AreNine figures.items) }
+    ensures shown { IfOk result (λ figures. ShowNine rows.now figures.items) }
+{
+    if rows.len() != LANES {
+        return Err(Unread::Form);
+    }
+    let mut figures = Vec::new(alloc);
+    for number in 0..LANES {
+        let f = figures_in(&rows[number], number).ok_or(Unread::Form)?;
+        figures.push(f).map_err(|_| Unread::Memory)?;
+    }
+    Ok(figures)
+}
+
+/// The rowid of a row that counts for `queue`, and the number that it notes.
+fn count_in(row: &Shown) -> Option<(u64, u64)>
+    ensures { IfSome result (λ x. ShowsCountOf row.now x.0 x.1) }
+{
+    match row.get_ref(1).ok()? {
+        ValueRef::Text(name) if name == "queue".as_bytes() => {
+            let id = whole(row, 0)?;
+            let n = whole(row, 2)?;
+            Some((id, n))
+        }
+        _ => None,
+    }
+}
+
+/// The last id used, if nothing else is noted.
+fn counted(rows: &[Shown]) -> Option<u64>
+    ensures { IfSome result (λ n. ShowsCount rows.now n) }
+{
+    if rows.is_empty() {
+        return Some(0);
+    }
+    if rows.len() > 1 {
+        return None;
+    }
+    let (_id, n) = count_in(&rows[0])?;
+    Some(n)
+}
+
+/// The greatest number that is noted for `queue`, or 0.
+fn greatest(rows: &[Shown]) -> u64 {
+    let mut greatest = 0;
+    for row in rows {
+        if let Some((_id, n)) = count_in(row) {
+            greatest = greatest.max(n);
+        }
+    }
+    greatest
+}
+
+/// The last id used, at most `MAX_ID`, and whether that alone is noted.
+pub(crate) fn last_used(counts: &[Shown], rows: &[Shown]) -> Option<(u64, bool)>
+    ensures { IfSome result (λ last. (last.0 ≤ limits.MAX_ID) × (IsTrue last.1 → ShowsCount counts.now last.0)) }
+{
+    let top = match rows.last() {
+        Some(row) => whole(row, 0)?,
+        None => 0,
+    };
+    let noted = counted(counts);
+    let last = noted.unwrap_or(greatest(counts)).max(top);
+    if last <= MAX_ID {
+        Some((last, noted == Some(last)))
+    } else {
+        None
+    }
+}
+
+/// The lanes' capacities.
+fn capacities_of(figures: &[Figures]) -> [u32; LANES]
+    requires { AreNine figures.now }
+    ensures in_range { All (λ capacity. (1 ≤ capacity) × (capacity ≤ MAX_CAPACITY)) result }
+    ensures each { (k : ℕ) → k < limits.LANES → slice_index_or result k 0 ≡ (slice_index_or figures.now k no_figures).capacity }
+{
+    let mut capacities = [1u32; LANES];
+    for number in 0..LANES {
+        capacities[number] = figures[number].capacity;
+    }
+    capacities
+}
+
+/// Notes how many rows each lane has dropped.
+fn restore_lost(lanes: &mut PlainLanes, figures: &[Figures])
+    requires { AreNine figures.now }
+    ensures nine { length lanes.new.lanes ≡ length lanes.old.lanes }
+    ensures each { (k : ℕ) → k < limits.LANES → lane_at lanes.new k ≡ record (lane_at lanes.old k) { lost = (slice_index_or figures.now k no_figures).lost } }
+    ensures same { (lanes.new.overflow ≡ lanes.old.overflow) × (lanes.new.last_id ≡ lanes.old.last_id) }
+{
+    let _last = lanes.last_id();
+    for number in 0..LANES {
+        lanes.restore_lost(number, figures[number].lost);
+    }
+}
+
+/// Whether some lane raised the overflow.
+fn any_raised(figures: &[Figures]) -> bool
+    ensures { result ≡ is_raised figures.now }
+{
+    figures.iter().any(|f| f.raised)
+}
+
+/// Lanes without rows.
+pub(crate) fn begun(
+    alloc: Global,
+    figures: &[Figures],
+    last_id: u64,
+) -> Result<PlainLanes, AllocError>
+    requires figures { AreNine figures.now }
+    requires last { last_id ≤ limits.MAX_ID }
+    ensures { IfOk result (λ lanes. IsBegun lanes figures.now last_id) }
+{
+    let mut lanes = PlainLanes::new(alloc, capacities_of(figures))?;
+    restore_lost(&mut lanes, figures);
+    lanes.restore_marks(any_raised(figures), last_id);
+    Ok(lanes)
+}
+
+/// The row's id, lane and event, if it has them, in their ranges.
+fn queued_in(row: &Shown) -> Option<(u64, LaneRow)>
+    ensures { IfSome result (λ x. ShowsQueued row.now x.0 x.1 × IsCarried x.1) }
+{
+    let id = whole(row, 0)?;
+    let lane = Lane::numbered(small(row, 1)? as usize)?;
+    let index = u16::try_from(small(row, 2)?).ok()?;
+    let flags = u8::try_from(small(row, 3)?).ok()?;
+    let value = row.get::<i64>(4).ok()?;
+    let time = row.get::<Option<u64>>(5).ok()?;
+    let kind = lane.kind;
+    let row = Row {
+        kind,
+        index,
+        flags,
+        value,
+        time,
+    };
+    let x = LaneRow { lane, row };
+    if is_carried(&x) { Some((id, x)) } else { None }
+}
+
+/// Puts rows back into their lanes: whether each is as it should be and fits, under ids that rise.
+pub(crate) fn restore_rows(rows: &[Shown], lanes: &mut PlainLanes) -> bool
+    ensures { IsTrue result → Restores 0 rows.now lanes.old lanes.new }
+{
+    let mut last = 0;
+    for row in rows {
+        let Some((id, x)) = queued_in(row) else {
+            return false;
+        };
+        if id <= last {
+            return false;
+        }
+        if !lanes.restore_row(id, x) {
+            return false;
+        }
+        last = id;
+    }
+    true
+}

@@ -1,0 +1,18 @@
+//! Event lanes that outlive a power cut: the stores of DNP3 stations in SQL databases.
+#![tactic(auto)]
+
+mod decoding;
+mod fault;
+mod figures;
+mod open;
+mod queue;
+mod queue_form;
+mod queue_opening;
+mod queue_reading;
+mod queue_release;
+mod queue_statements;
+mod queue_tables;
+mod queue_writing;
+
+pub use open::OpenFault;
+pub use queue::Queue;

@@ -1,0 +1,175 @@
+//! Stores on databases: how they begin.
+
+ghost use Rattle.std.specs.Prelude.{◌≡◌, ◌≢◌, ◌↔◌, ◌≤◌, true, false, not, All, IsTrue, IfOk, IfErr};
+ghost use Rattle.sqlite.specs.Held.{state};
+ghost use Rattle.sqlite.specs.State.{HasCleanDisk, Survives};
+ghost use Rattle.dnp_eventbuf.specs.Stock.{empty_stock};
+ghost use Rattle.dnp_store.specs.Kept.{Leaves, Stands};
+ghost use Rattle.dnp_store.specs.QueueTables.{HoldsStock, IsQueue};
+ghost use Rattle.dnp_store.specs.Tables.{no_schema};
+
+use crate::fault::{Unread, is_lost, is_taken, is_unread, serves};
+use crate::queue::Queue;
+use crate::queue_opening::read_queue;
+use crate::queue_tables::write_tables;
+use dnp_eventbuf::{MAX_CAPACITY, PlainLanes};
+use dnp_objects::LANES;
+use sqlite::{Alter, Connection};
+use std::alloc::Global;
+use thiserror::Error;
+
+/// Why a store does not begin on a database, in the order in which the causes are looked for.
+#[derive(Clone, Copy, Debug, PartialEq, Eq, Error)]
+pub enum OpenFault {
+    /// The database, or the connection, is not of the form that is wanted.
+    #[error("the database is not of this form")]
+    WrongForm,
+    /// Memory ran out.
+    #[error("out of memory")]
+    Memory,
+    /// The device under the database failed.
+    #[error("the device under the database failed")]
+    Device,
+}
+
+/// Whether the database has no table, index or view.
+fn is_bare<S: Alter>(conn: &Connection<S>) -> bool
+    ensures { IsTrue result ↔ ((state S.Store conn.now).now.schema ≡ no_schema) }
+{
+    let schema = conn.schema();
+    schema.tables.is_empty() && schema.indexes.is_empty() && schema.views.is_empty()
+}
+
+/// Why a store does not begin or open, by whether what stands there is wrong and whether the connection is
+/// lost.
+fn open_fault(is_wrong: bool, lost: bool) -> OpenFault
+    ensures { result ≡ OpenFault.WrongForm → IsTrue is_wrong }
+{
+    if is_wrong {
+        OpenFault::WrongForm
+    } else if lost {
+        OpenFault::Device
+    } else {
+        OpenFault::Memory
+    }
+}
+
+/// Why a store does not open, where its tables could not be read.
+fn unread_fault<S: Alter>(conn: &mut Connection<S>, unread: &Unread) -> OpenFault
+    requires { conn.old.in_transaction ≡ false }
+    ensures clean { HasCleanDisk (state S.Store conn.new) → HasCleanDisk (state S.Store conn.old) }
+    ensures same { HasCleanDisk (state S.Store conn.new) → IsTrue (state S.Store conn.new).is_open
+        → IsTrue (state S.Store conn.old).is_open × ((state S.Store conn.new).committed ≡ (state S.Store conn.old).committed) }
+{
+    match unread {
+        Unread::Form => OpenFault::WrongForm,
+        Unread::Memory => OpenFault::Memory,
+        Unread::Failed(error) => {
+            let lost = is_lost(conn, error);
+            open_fault(is_unread(error), lost)
+        }
+    }
+}
+
+impl<S: Alter> Queue<S> {
+    /// Makes empty lanes in the database, which take this many rows each, 1 to `MAX_CAPACITY`. Other
+    /// tables are left alone, but the lanes promise to hold their rows only where there are none.
+    ///
+    /// WrongForm where a name of its tables is taken, or the connection is inside a transaction; else
+    /// Memory or Device. A refusal hands the connection back, with the database as it was.
+    pub fn create(
+        alloc: Global,
+        conn: Connection<S>,
+        capacities: [u32; LANES],
+    ) -> Result<Queue<S>, (OpenFault, Connection<S>)>
+        requires { All (λ capacity. (1 ≤ capacity) × (capacity ≤ MAX_CAPACITY)) capacities }
+        ensures held { IfOk result (λ q. HasCleanDisk (state S.Store q.conn) → HasCleanDisk (state S.Store conn)) }
+        ensures empty { IfOk result (λ q. (q.stock ≡ empty_stock capacities) × (q.stopped ≡ false)) }
+        ensures owned { IfOk result (λ q. IsTrue q.owned ↔ ((state S.Store conn).now.schema ≡ no_schema)) }
+        ensures stands { IfOk result (λ q. HasCleanDisk (state S.Store q.conn) → IsTrue q.owned → Stands (state S.Store q.conn) q.stock) }
+        ensures same { IfErr result (λ e. HasCleanDisk (state S.Store e.1) → IsTrue (state S.Store e.1).is_open → (state S.Store e.1).committed ≡ (state S.Store conn).committed) }
+        ensures made { IfOk result (λ q. Survives (state S.Store conn) (state S.Store q.conn) (λ db. (state S.Store conn).now.schema ≡ no_schema → HoldsStock db (empty_stock capacities))) }
+    {
+        if !conn.is_autocommit() {
+            return Err((OpenFault::WrongForm, conn));
+        }
+        let Ok(lanes) = PlainLanes::new(alloc, capacities) else {
+            return Err((OpenFault::Memory, conn));
+        };
+        let owned = is_bare(&conn);
+        let mut conn = conn;
+        if let Err(error) = write_tables(&mut conn, &capacities) {
+            let lost = is_lost(&mut conn, &error);
+            return Err((open_fault(is_taken(&error), lost), conn));
+        }
+        Ok(Queue {
+            conn,
+            lanes,
+            stopped: false,
+            owned,
+        })
+    }
+
+    /// Opens the lanes that the database holds, with the capacities that stand there. Nothing is written.
+    ///
+    /// WrongForm where a table or a column of theirs is missing; where `form` isn't one row with the number
+    /// 1, or `lanes` isn't its nine rows; where a value isn't a whole number in its column's range, an id
+    /// isn't in 1 to `MAX_ID`, a lane holds more rows than its capacity, or a row that its event object
+    /// can't carry; or where the connection is inside a transaction. Else Memory or Device. A refusal hands
+    /// the connection back, with the database as it was.
+    pub fn open(alloc: Global, conn: Connection<S>) -> Result<Queue<S>, (OpenFault, Connection<S>)>
+        ensures held { IfOk result (λ q. HasCleanDisk (state S.Store q.conn) → HasCleanDisk (state S.Store conn)) }
+        ensures serves { IfOk result (λ q. q.stopped ≡ false) }
+        ensures found { IfOk result (λ q. HasCleanDisk (state S.Store q.conn) → IsTrue q.owned → IsQueue (state S.Store conn).committed q.stock) }
+        ensures stands { IfOk result (λ q. HasCleanDisk (state S.Store q.conn) → IsTrue q.owned → Stands (state S.Store q.conn) q.stock) }
+        ensures same { IfErr result (λ e. HasCleanDisk (state S.Store e.1) → IsTrue (state S.Store e.1).is_open → (state S.Store e.1).committed ≡ (state S.Store conn).committed) }
+        ensures unwritten { IfOk result (λ q. Survives (state S.Store conn) (state S.Store q.conn) (λ _. ⊥)) }
+    {
+        if !conn.is_autocommit() {
+            return Err((OpenFault::WrongForm, conn));
+        }
+        let mut conn = conn;
+        match read_queue(&mut conn, alloc) {
+            Ok((lanes, owned)) => {
+                if !serves(&mut conn) {
+                    return Err((OpenFault::Device, conn));
+                }
+                let _last = lanes.last_id();
+                Ok(Queue {
+                    conn,
+                    lanes,
+                    stopped: false,
+                    owned,
+                })
+            }
+            Err(unread) => {
+                let fault = unread_fault(&mut conn, &unread);
+                Err((fault, conn))
+            }
+        }
+    }
+
+    /// Whether the queue has not answered Device. If so, whatever a crash at this moment leaves holds the
+    /// lanes as they stand.
+    pub fn serves(&self) -> bool
+        ensures value { result ≡ not self.now.stopped }
+        ensures left { HasCleanDisk (state S.Store self.now.conn) → IsTrue result → IsTrue self.now.owned → Leaves (state S.Store self.now.conn) self.now.stock }
+    {
+        !self.stopped
+    }
+
+    /// Whether the database had no tables but the queue's own as it began or opened. Where it had, the
+    /// queue works alike, and promises nothing of its rows.
+    pub fn owns_database(&self) -> bool
+        ensures { result ≡ self.now.owned }
+    {
+        self.owned
+    }
+
+    /// The connection to the database, as it stands.
+    pub fn into_connection(self) -> Connection<S>
+        ensures { result ≡ self.conn }
+    {
+        self.conn
+    }
+}

@@ -1,0 +1,164 @@
+//! Event lanes in a SQL database.
+
+ghost use Rattle.std.specs.Prelude.{◌≡◌, ◌≢◌, false, true, IsTrue, [], All, IfOk, IfErr, OnOk};
+ghost use Rattle.sqlite.specs.Held.{state};
+ghost use Rattle.sqlite.specs.State.{HasCleanDisk};
+ghost use Rattle.dnp_eventbuf.specs.Calls.{IsLanesCall};
+ghost use Rattle.dnp_eventbuf.specs.Carried.{IsCarried};
+ghost use Rattle.dnp_eventbuf.specs.Stock.{with_rows, dropped_by, exhausts, without, all_up_to, without_all, rows_in};
+ghost use Rattle.dnp_store.specs.Kept.{IsHonest, Leaves, LeavesEither};
+
+use crate::fault::{fault, is_lost, memory};
+use crate::queue_release::{lowers, write_release};
+use crate::queue_writing::write_append;
+use dnp_eventbuf::{Lane, LaneRow, Lanes, Numbered, PlainLanes, StoreFault, Upto};
+use dnp_objects::{LANES, MAX_ID, Row};
+use sqlite::{Alter, Connection};
+use std::alloc::Global;
+use std::marker::Model;
+
+/// Event lanes in a SQL database, which keep their rows in memory too: only calls that write touch the
+/// database.
+#[derive(Drop)]
+pub struct Queue<S: Alter> {
+    /// The connection to the database, which is the queue's own.
+    pub(crate) conn: Connection<S>,
+    /// What the last commit holds.
+    pub(crate) lanes: PlainLanes,
+    /// Whether the queue has answered Device.
+    pub(crate) stopped: bool,
+    /// Whether the database had no other tables as the queue began: what a statement means is known for
+    /// no others.
+    pub(crate) owned: bool,
+}
+
+impl<S: Alter> Model for Queue<S> {
+    ghost use Rattle.dnp_store.specs.Kept.{Kept, kept_code, Keeps};
+
+    ghost Value = { Kept S };
+
+    ghost coded = { kept_code S.code };
+
+    ghost view = { λ q. record { conn = q.conn; stock = q.lanes; stopped = q.stopped; owned = q.owned } };
+
+    ghost invariant = { λ q. Keeps S.Store q.conn q.lanes q.stopped q.owned };
+}
+
+impl<S: Alter> Lanes for Queue<S> {
+    ghost contents = { λ q. q.stock };
+
+    ghost beside = { λ _. [] };
+
+    ghost honest = { IsHonest S.Store };
+
+    ghost is_stopped = { λ q. q.stopped };
+
+    ghost asks_memory = { true };
+
+    /// What a crash leaves at any exit holds the lanes before or after, and after Ok those after.
+    fn append(&mut self, alloc: Global, rows: &[LaneRow]) -> Result<Vec<Row>, StoreFault>
+        requires { All IsCarried rows.now }
+        ensures call { IsLanesCall (IsHonest S.Store) (λ q. q.stopped) (λ q. q.stock) (λ _. []) self.old self.new result }
+        ensures appended { IsHonest S.Store self.new → OnOk result (self.new.stock ≡ with_rows self.old.stock rows.now) }
+        ensures dropped { IsHonest S.Store self.new → IfOk result (λ dropped. dropped.items ≡ dropped_by self.old.stock rows.now) }
+        ensures not_exhausted { IsHonest S.Store self.new → OnOk result (exhausts self.old.stock rows.now ≡ false) }
+        ensures exhausted { IsHonest S.Store self.new → IfErr result (λ e. e ≡ StoreFault.Exhausted → IsTrue (exhausts self.old.stock rows.now)) }
+        ensures exhausted_first { IsHonest S.Store self.new → IfErr result (λ e. e ≡ StoreFault.Memory → exhausts self.old.stock rows.now ≡ false) }
+        ensures memory { result ≡ Err StoreFault.Memory → true ≡ false → dropped_by self.old.stock rows.now ≢ [] }
+        ensures either { HasCleanDisk (state S.Store self.new.conn) → self.old.stopped ≡ false → IsTrue self.old.owned → LeavesEither (state S.Store self.new.conn) self.old.stock (with_rows self.old.stock rows.now) }
+        ensures after { HasCleanDisk (state S.Store self.new.conn) → IsTrue self.old.owned → OnOk result (Leaves (state S.Store self.new.conn) self.new.stock) }
+        ensures untouched { IsTrue self.old.stopped → self.new.conn ≡ self.old.conn }
+    {
+        if self.stopped {
+            return Err(StoreFault::Device);
+        }
+        let count = self.lanes.drops(rows).ok_or(StoreFault::Exhausted)?;
+        let mut dropped = Vec::with_capacity(alloc, count).map_err(memory)?;
+        if let Err(error) = write_append(&mut self.conn, &self.lanes, rows) {
+            let lost = is_lost(&mut self.conn, &error);
+            self.stopped = lost;
+            return Err(fault(lost));
+        }
+        self.lanes.put_all(rows, &mut dropped);
+        Ok(dropped)
+    }
+
+    fn offer(
+        &mut self,
+        alloc: Global,
+        lane: Lane,
+        after: u64,
+        most: usize,
+    ) -> Result<Vec<Numbered>, StoreFault> {
+        if self.stopped {
+            return Err(StoreFault::Device);
+        }
+        self.lanes.offer(alloc, lane, after, most)
+    }
+
+    /// What a crash leaves at any exit holds the lanes before or after, and after Ok those after.
+    fn release(&mut self, alloc: Global, upto: &Upto) -> Result<Vec<Row>, StoreFault>
+        ensures call { IsLanesCall (IsHonest S.Store) (λ q. q.stopped) (λ q. q.stock) (λ _. []) self.old self.new result }
+        ensures released { IsHonest S.Store self.new → OnOk result (self.new.stock ≡ without self.old.stock upto.now) }
+        ensures taken { IsHonest S.Store self.new → IfOk result (λ rows. rows.items ≡ all_up_to self.old.stock upto.now) }
+        ensures memory { result ≡ Err StoreFault.Memory → true ≡ false → all_up_to self.old.stock upto.now ≢ [] }
+        ensures named { IfErr result (λ e. e ≢ StoreFault.Exhausted) }
+        ensures either { HasCleanDisk (state S.Store self.new.conn) → self.old.stopped ≡ false → IsTrue self.old.owned → LeavesEither (state S.Store self.new.conn) self.old.stock (without self.old.stock upto.now) }
+        ensures after { HasCleanDisk (state S.Store self.new.conn) → IsTrue self.old.owned → OnOk result (Leaves (state S.Store self.new.conn) self.new.stock) }
+        ensures untouched { IsTrue self.old.stopped → self.new.conn ≡ self.old.conn }
+    {
+        if self.stopped {
+            return Err(StoreFault::Device);
+        }
+        let taken = self.lanes.rows_up_to(alloc, upto).map_err(memory)?;
+        let lower = lowers(&self.lanes, upto);
+        if let Err(error) = write_release(&mut self.conn, &self.lanes, upto, lower) {
+            let lost = is_lost(&mut self.conn, &error);
+            self.stopped = lost;
+            return Err(fault(lost));
+        }
+        self.lanes.cut(upto);
+        Ok(taken)
+    }
+
+    /// What a crash leaves at any exit holds the lanes before or after, and after Ok those after.
+    fn empty(&mut self, alloc: Global) -> Result<Vec<Row>, StoreFault>
+        ensures call { IsLanesCall (IsHonest S.Store) (λ q. q.stopped) (λ q. q.stock) (λ _. []) self.old self.new result }
+        ensures emptied { IsHonest S.Store self.new → OnOk result (self.new.stock ≡ without_all self.old.stock) }
+        ensures taken { IsHonest S.Store self.new → IfOk result (λ rows. rows.items ≡ rows_in self.old.stock) }
+        ensures memory { result ≡ Err StoreFault.Memory → true ≡ false → rows_in self.old.stock ≢ [] }
+        ensures named { IfErr result (λ e. e ≢ StoreFault.Exhausted) }
+        ensures either { HasCleanDisk (state S.Store self.new.conn) → self.old.stopped ≡ false → IsTrue self.old.owned → LeavesEither (state S.Store self.new.conn) self.old.stock (without_all self.old.stock) }
+        ensures after { HasCleanDisk (state S.Store self.new.conn) → IsTrue self.old.owned → OnOk result (Leaves (state S.Store self.new.conn) self.new.stock) }
+        ensures untouched { IsTrue self.old.stopped → self.new.conn ≡ self.old.conn }
+    {
+        if self.stopped {
+            return Err(StoreFault::Device);
+        }
+        let taken = self.lanes.all_rows(alloc).map_err(memory)?;
+        let lower = self.lanes.has_overflow();
+        if let Err(error) = write_release(&mut self.conn, &self.lanes, &[MAX_ID; LANES], lower) {
+            let lost = is_lost(&mut self.conn, &error);
+            self.stopped = lost;
+            return Err(fault(lost));
+        }
+        self.lanes.clear();
+        Ok(taken)
+    }
+
+    fn len(&mut self, lane: Lane) -> u32 {
+        self.lanes.len(lane)
+    }
+
+    fn last(&mut self, lane: Lane) -> u64 {
+        self.lanes.last(lane)
+    }
+
+    fn lost(&mut self, lane: Lane) -> u64 {
+        self.lanes.lost(lane)
+    }
+
+    fn raised(&mut self) -> bool {
+        self.lanes.raised()
+    }
+}

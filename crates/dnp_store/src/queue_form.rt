@@ -1,0 +1,163 @@
+//! Whether a database has the tables of a queue.
+
+ghost use Rattle.std.specs.Prelude.{◌≡◌, IsTrue, true, false, List, [], ◌∷◌, codes, None, Some, if◌then◌else◌, length, take, drop};
+ghost use Rattle.sqlite.specs.Held.{state};
+ghost use Rattle.sqlite.specs.Kind.TheVariants.{Integer, Any};
+ghost use Rattle.sqlite.specs.State.{IsLive};
+ghost use Rattle.dnp_store.specs.QueueTables.{queue_with, lanes_with, queue_schema};
+ghost use Rattle.dnp_store.specs.Tables.{column_of, table_of, form_with, sequence, checks_at};
+
+use sqlite::{Alter, Connection};
+use sqlite_schema::schema::{Column, Kind, Stamps, Table};
+use sqlite_value::keys::Collation;
+use sqlite_value::value::Value;
+
+/// Whether the column has this name, type and NOT NULL, and nothing else.
+fn is_column(column: &Column, name: &str, kind: Kind, not_null: bool) -> bool
+    ensures { IsTrue result → column.now ≡ column_of name.now kind not_null }
+{
+    column.name.as_slice() == name.as_bytes()
+        && column.kind == kind
+        && !column.is_strict
+        && column.not_null == not_null
+        && matches!(column.default, Value::Null)
+        && column.collation == Collation::Binary
+}
+
+/// Whether the first column is the INTEGER PRIMARY KEY, or there is none.
+fn is_keyed(table: &Table, keyed: bool) -> bool
+    ensures key { IsTrue result → table.now.key ≡ (if keyed then Some 0 else None) }
+    ensures primary { IsTrue result → table.now.primary ≡ (if keyed then 0 ∷ [] else []) }
+{
+    if keyed {
+        table.key == Some(0) && table.primary.as_slice() == &[0usize][..]
+    } else {
+        table.key.is_none() && table.primary.is_empty()
+    }
+}
+
+/// Whether no column takes the present time.
+fn is_unstamped(stamps: &Stamps) -> bool
+    ensures { IsTrue result → stamps.now ≡ record { places = []; terms = []; formats = [] } }
+{
+    stamps.places.is_empty() && stamps.terms.roots.is_empty() && stamps.formats.is_empty()
+}
+
+/// Whether nothing but a name, columns, CHECKs and perhaps an INTEGER PRIMARY KEY in the first column makes
+/// the table.
+fn is_plain(table: &Table, name: &str, tree: u32, keyed: bool, counted: bool) -> bool
+    ensures { IsTrue result → table.now ≡ table_of name.now tree table.now.columns keyed counted table.now.checks }
+{
+    table.name.as_slice() == name.as_bytes()
+        && table.tree == tree
+        && is_keyed(table, keyed)
+        && table.uniques.is_empty()
+        && table.orders.is_empty()
+        && table.references.is_empty()
+        && table.computed.is_empty()
+        && is_unstamped(&table.stamps)
+        && table.is_counted == counted
+}
+
+/// Whether the table is `form`.
+fn is_form(table: &Table) -> bool
+    ensures { IsTrue result → table.now ≡ form_with table.now.checks }
+{
+    let columns = table.columns.as_slice();
+    columns.len() == 1
+        && is_column(&columns[0], "number", Kind::Integer, true)
+        && is_plain(table, "form", 0, false, false)
+}
+
+/// Whether the first three of six columns are those of `queue`.
+fn are_first(columns: &[Column]) -> bool
+    requires { length columns.now ≡ 6 }
+    ensures { IsTrue result → take 3 columns.now ≡ column_of (codes "id") Integer false ∷ column_of (codes "lane") Integer true ∷ column_of (codes "point") Integer true ∷ [] }
+{
+    is_column(&columns[0], "id", Kind::Integer, false)
+        && is_column(&columns[1], "lane", Kind::Integer, true)
+        && is_column(&columns[2], "point", Kind::Integer, true)
+}
+
+/// Whether the last three of six columns are those of `queue`.
+fn are_last(columns: &[Column]) -> bool
+    requires { length columns.now ≡ 6 }
+    ensures { IsTrue result → drop 3 columns.now ≡ column_of (codes "flags") Integer true ∷ column_of (codes "value") Integer true ∷ column_of (codes "time") Integer false ∷ [] }
+{
+    is_column(&columns[3], "flags", Kind::Integer, true)
+        && is_column(&columns[4], "value", Kind::Integer, true)
+        && is_column(&columns[5], "time", Kind::Integer, false)
+}
+
+/// Whether the table is `queue`.
+fn is_queue(table: &Table) -> bool
+    ensures { IsTrue result → table.now ≡ queue_with table.now.checks }
+{
+    let columns = table.columns.as_slice();
+    columns.len() == 6
+        && are_first(columns)
+        && are_last(columns)
+        && is_plain(table, "queue", 1, true, true)
+}
+
+/// Whether the table is that in which AUTOINCREMENT counts.
+fn is_sequence(table: &Table) -> bool
+    ensures { IsTrue result → table.now ≡ sequence }
+{
+    let columns = table.columns.as_slice();
+    columns.len() == 2
+        && is_column(&columns[0], "name", Kind::Any, false)
+        && is_column(&columns[1], "seq", Kind::Any, false)
+        && table.checks.roots.is_empty()
+        && is_plain(table, "sqlite_sequence", 2, false, false)
+}
+
+/// Whether the first two of four columns are those of `lanes`.
+fn are_first_of_lanes(columns: &[Column]) -> bool
+    requires { length columns.now ≡ 4 }
+    ensures { IsTrue result → take 2 columns.now ≡ column_of (codes "lane") Integer false ∷ column_of (codes "cap") Integer true ∷ [] }
+{
+    is_column(&columns[0], "lane", Kind::Integer, false)
+        && is_column(&columns[1], "cap", Kind::Integer, true)
+}
+
+/// Whether the last two of four columns are those of `lanes`.
+fn are_last_of_lanes(columns: &[Column]) -> bool
+    requires { length columns.now ≡ 4 }
+    ensures { IsTrue result → drop 2 columns.now ≡ column_of (codes "lost") Integer true ∷ column_of (codes "raised") Integer true ∷ [] }
+{
+    is_column(&columns[2], "lost", Kind::Integer, true)
+        && is_column(&columns[3], "raised", Kind::Integer, true)
+}
+
+/// Whether the table is `lanes`.
+fn is_lanes(table: &Table) -> bool
+    ensures { IsTrue result → table.now ≡ lanes_with table.now.checks }
+{
+    let columns = table.columns.as_slice();
+    columns.len() == 4
+        && are_first_of_lanes(columns)
+        && are_last_of_lanes(columns)
+        && is_plain(table, "lanes", 3, true, false)
+}
+
+/// Whether the tables are those of a queue.
+fn are_tables(tables: &[Table]) -> bool
+    ensures { IsTrue result → tables.now ≡ form_with (checks_at tables.now 0) ∷ queue_with (checks_at tables.now 1) ∷ sequence ∷ lanes_with (checks_at tables.now 3) ∷ [] }
+{
+    tables.len() == 4
+        && is_form(&tables[0])
+        && is_queue(&tables[1])
+        && is_sequence(&tables[2])
+        && is_lanes(&tables[3])
+}
+
+/// Whether the database has the tables of a queue, and no others.
+pub(crate) fn is_of_queue<S: Alter>(conn: &Connection<S>) -> bool
+    ensures live { IsLive (state S.Store conn.now) }
+    ensures schema { IsTrue result → (state S.Store conn.now).now.schema ≡ queue_schema (checks_at (state S.Store conn.now).now.schema.tables 0)
+        (checks_at (state S.Store conn.now).now.schema.tables 1) (checks_at (state S.Store conn.now).now.schema.tables 3) }
+{
+    let schema = conn.schema();
+    are_tables(schema.tables.as_slice()) && schema.indexes.is_empty() && schema.views.is_empty()
+}

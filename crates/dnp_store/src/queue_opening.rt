@@ -1,0 +1,74 @@
+//! The lanes that a queue's database holds.
+
+ghost use Rattle.std.specs.Prelude.{◌≡◌, false, IsTrue, OnOk, IfOk, List};
+ghost use Rattle.sqlite.specs.Effect.{IsDatabase};
+ghost use Rattle.sqlite.specs.Held.{state};
+ghost use Rattle.sqlite.specs.State.{HasCleanDisk, KeepsCommit, Survives};
+ghost use Rattle.sqlite.specs.Term.{Term};
+ghost use Rattle.dnp_store.specs.QueueTables.{IsQueue, queue_schema};
+
+use crate::decoding::{begun, last_used, restore_rows};
+use crate::fault::Unread;
+use crate::queue_form::is_of_queue;
+use crate::queue_reading::{read_counts, read_figures, read_form, read_queued};
+use dnp_eventbuf::PlainLanes;
+use sqlite::{Alter, Connection, Transaction};
+use std::alloc::Global;
+
+/// The lanes, and whether `sqlite_sequence` counts for them alone.
+fn read_all<S: Alter>(
+    tx: &mut Transaction<'_, S>,
+    alloc: Global,
+) -> Result<(PlainLanes, bool), Unread>
+    requires inside { HasCleanDisk (state S.Store tx.old.conn.now) → IsTrue (state S.Store tx.old.conn.now).in_transaction }
+    ensures same_reference { tx.new.conn.ghost_name ≡ tx.old.conn.ghost_name }
+    ensures inside { HasCleanDisk (state S.Store tx.new.conn.now) → OnOk result (IsTrue (state S.Store tx.new.conn.now).in_transaction) }
+    ensures open { HasCleanDisk (state S.Store tx.new.conn.now) → OnOk result (IsTrue (state S.Store tx.old.conn.now).is_open) }
+    ensures read { HasCleanDisk (state S.Store tx.new.conn.now) → IfOk result (λ found. IsTrue found.1 → (f q l : List Term) → IsDatabase (state S.Store tx.old.conn.now).now
+        → (state S.Store tx.old.conn.now).now.schema ≡ queue_schema f q l → IsQueue (state S.Store tx.old.conn.now).now found.0) }
+    ensures kept { HasCleanDisk (state S.Store tx.new.conn.now) → KeepsCommit (state S.Store tx.old.conn.now) (state S.Store tx.new.conn.now) }
+    ensures survives { Survives (state S.Store tx.old.conn.now) (state S.Store tx.new.conn.now) (λ _. ⊥) }
+{
+    read_form(tx)?;
+    let figures = read_figures(tx, alloc)?;
+    let counts = read_counts(tx)?;
+    let rows = read_queued(tx)?;
+    let Some((last_id, counted)) = last_used(&counts, &rows) else {
+        return Err(Unread::Form);
+    };
+    let Ok(mut lanes) = begun(alloc, &figures, last_id) else {
+        return Err(Unread::Memory);
+    };
+    if restore_rows(&rows, &mut lanes) {
+        Ok((lanes, counted))
+    } else {
+        Err(Unread::Form)
+    }
+}
+
+/// Whether both are so.
+fn both(one: bool, other: bool) -> bool
+    ensures { IsTrue result → IsTrue one × IsTrue other }
+{
+    one && other
+}
+
+/// The lanes, and whether the database has the tables of a queue and nothing else.
+pub(crate) fn read_queue<S: Alter>(
+    conn: &mut Connection<S>,
+    alloc: Global,
+) -> Result<(PlainLanes, bool), Unread>
+    requires idle { conn.old.in_transaction ≡ false }
+    ensures idle { conn.new.in_transaction ≡ false }
+    ensures read { HasCleanDisk (state S.Store conn.new) → IfOk result (λ found. IsTrue found.1 → IsQueue (state S.Store conn.old).committed found.0) }
+    ensures same { HasCleanDisk (state S.Store conn.new) → IsTrue (state S.Store conn.new).is_open
+        → IsTrue (state S.Store conn.old).is_open × ((state S.Store conn.new).committed ≡ (state S.Store conn.old).committed) }
+    ensures survives { Survives (state S.Store conn.old) (state S.Store conn.new) (λ _. ⊥) }
+{
+    prove!(conn.is_autocommit());
+    let ours = is_of_queue(conn);
+    let mut tx = conn.transaction();
+    let (lanes, counted) = read_all(&mut tx, alloc)?;
+    tx.rollback();
+    Ok((lanes, both(ours, counted)))
+}

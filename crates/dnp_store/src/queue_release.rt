@@ -1,0 +1,100 @@
+//! What a release or an emptying writes of a queue, in one transaction.
+
+ghost use Rattle.std.specs.Prelude.{◌≡◌, ℕ, ◌<◌, false, IsTrue, OnOk, OnErr, List, length};
+ghost use Rattle.sqlite.specs.Held.{state};
+ghost use Rattle.sqlite.specs.State.{HasCleanDisk, KeepsCommit, Survives};
+ghost use Rattle.dnp_objects.specs.declared.limits.TheConstants as limits;
+ghost use Rattle.dnp_eventbuf.specs.Sound.{IsSound};
+ghost use Rattle.dnp_eventbuf.specs.Stock.{Stock, lane_at, without};
+ghost use Rattle.dnp_store.specs.Kept.{Stands};
+ghost use Rattle.dnp_store.specs.QueueTables.{Figures, HoldsQueue, HoldsStock, IsQueue, is_raised};
+ghost use Rattle.dnp_store.specs.Steps.{left, released};
+
+use crate::queue_statements::{note, take};
+use dnp_eventbuf::{PlainLanes, Upto};
+use dnp_objects::{LANES, MAX_ID};
+use sqlite::{Alter, Connection, Error, Transaction};
+
+/// Takes the rows of each lane with ids up to its number out of the table.
+fn take_all<S: Alter>(tx: &mut Transaction<'_, S>, upto: &Upto) -> Result<(), Error>
+    requires inside { HasCleanDisk (state S.Store tx.old.conn.now) → IsTrue (state S.Store tx.old.conn.now).in_transaction }
+    ensures same_reference { tx.new.conn.ghost_name ≡ tx.old.conn.ghost_name }
+    ensures inside { HasCleanDisk (state S.Store tx.new.conn.now) → OnOk result (IsTrue (state S.Store tx.new.conn.now).in_transaction) }
+    ensures taken { HasCleanDisk (state S.Store tx.new.conn.now) → OnOk result ((s : Stock) (figures : List Figures) → IsSound s
+        → HoldsQueue (state S.Store tx.old.conn.now).now s figures → HoldsQueue (state S.Store tx.new.conn.now).now (left s upto.now) figures) }
+    ensures kept { HasCleanDisk (state S.Store tx.new.conn.now) → KeepsCommit (state S.Store tx.old.conn.now) (state S.Store tx.new.conn.now) }
+    ensures survives { Survives (state S.Store tx.old.conn.now) (state S.Store tx.new.conn.now) (λ _. ⊥) }
+{
+    for number in 0..LANES {
+        take(tx, number, upto[number].min(MAX_ID))?;
+    }
+    Ok(())
+}
+
+/// Notes for each lane that it doesn't raise the overflow.
+fn lower_all<S: Alter>(tx: &mut Transaction<'_, S>, lanes: &PlainLanes) -> Result<(), Error>
+    requires inside { HasCleanDisk (state S.Store tx.old.conn.now) → IsTrue (state S.Store tx.old.conn.now).in_transaction }
+    requires sound { IsSound lanes.now }
+    ensures same_reference { tx.new.conn.ghost_name ≡ tx.old.conn.ghost_name }
+    ensures inside { HasCleanDisk (state S.Store tx.new.conn.now) → OnOk result (IsTrue (state S.Store tx.new.conn.now).in_transaction) }
+    ensures lowered { HasCleanDisk (state S.Store tx.new.conn.now) → OnOk result ((s : Stock) (figures : List Figures) → length s.lanes ≡ limits.LANES
+        → ((k : ℕ) → k < limits.LANES → (lane_at s k).lost ≡ (lane_at lanes.now k).lost) → HoldsQueue (state S.Store tx.old.conn.now).now s figures
+        → (lowered : List Figures) × HoldsQueue (state S.Store tx.new.conn.now).now s lowered × (is_raised lowered ≡ false)) }
+    ensures kept { HasCleanDisk (state S.Store tx.new.conn.now) → KeepsCommit (state S.Store tx.old.conn.now) (state S.Store tx.new.conn.now) }
+    ensures survives { Survives (state S.Store tx.old.conn.now) (state S.Store tx.new.conn.now) (λ _. ⊥) }
+{
+    for number in 0..LANES {
+        note(tx, number, lanes.lost_in(number), false)?;
+    }
+    Ok(())
+}
+
+/// Takes rows out, and lowers the overflow if told to.
+fn release_in<S: Alter>(
+    tx: &mut Transaction<'_, S>,
+    lanes: &PlainLanes,
+    upto: &Upto,
+    lower: bool,
+) -> Result<(), Error>
+    requires inside { HasCleanDisk (state S.Store tx.old.conn.now) → IsTrue (state S.Store tx.old.conn.now).in_transaction }
+    requires sound { IsSound lanes.now }
+    ensures same_reference { tx.new.conn.ghost_name ≡ tx.old.conn.ghost_name }
+    ensures released { HasCleanDisk (state S.Store tx.new.conn.now) → OnOk result (
+        IsQueue (state S.Store tx.old.conn.now).now lanes.now → IsQueue (state S.Store tx.new.conn.now).now (released lanes.now upto.now lower)) }
+    ensures kept { HasCleanDisk (state S.Store tx.new.conn.now) → KeepsCommit (state S.Store tx.old.conn.now) (state S.Store tx.new.conn.now) }
+    ensures survives { Survives (state S.Store tx.old.conn.now) (state S.Store tx.new.conn.now) (λ _. ⊥) }
+{
+    take_all(tx, upto)?;
+    if lower {
+        lower_all(tx, lanes)?;
+    }
+    Ok(())
+}
+
+/// Whether a release ends the overflow.
+pub(crate) fn lowers(lanes: &PlainLanes, upto: &Upto) -> bool
+    ensures { released lanes.now upto.now result ≡ without lanes.now upto.now }
+{
+    lanes.has_overflow() && !lanes.keeps_overflow(upto)
+}
+
+/// Writes what a release of the rows with ids up to these numbers changes; the overflow is lowered if told
+/// to.
+pub(crate) fn write_release<S: Alter>(
+    conn: &mut Connection<S>,
+    lanes: &PlainLanes,
+    upto: &Upto,
+    lower: bool,
+) -> Result<(), Error>
+    requires idle { conn.old.in_transaction ≡ false }
+    requires sound { IsSound lanes.now }
+    ensures idle { conn.new.in_transaction ≡ false }
+    ensures ok { HasCleanDisk (state S.Store conn.new) → Stands (state S.Store conn.old) lanes.now → OnOk result (Stands (state S.Store conn.new) (released lanes.now upto.now lower)) }
+    ensures err { HasCleanDisk (state S.Store conn.new) → IsTrue (state S.Store conn.new).is_open → OnErr result (IsTrue (state S.Store conn.old).is_open × ((state S.Store conn.new).committed ≡ (state S.Store conn.old).committed)) }
+    ensures survives { Survives (state S.Store conn.old) (state S.Store conn.new) (λ db. Stands (state S.Store conn.old) lanes.now → HoldsStock db (released lanes.now upto.now lower)) }
+{
+    prove!(conn.is_autocommit());
+    let mut tx = conn.transaction();
+    release_in(&mut tx, lanes, upto, lower)?;
+    tx.commit()
+}

@@ -1,0 +1,112 @@
+//! What an append, a release or an emptying writes of a queue, each in one transaction.
+
+ghost use Rattle.std.specs.Prelude.{◌≡◌, ◌≤◌, ◌<◌, ◌+◌, ◌^◌, Bool, false, IsTrue, OnOk, OnErr, All, List, length};
+ghost use Rattle.sqlite.specs.Held.{state};
+ghost use Rattle.sqlite.specs.State.{HasCleanDisk, KeepsCommit, Survives};
+ghost use Rattle.dnp_objects.specs.declared.limits.TheConstants as limits;
+ghost use Rattle.dnp_eventbuf.specs.Carried.{IsCarried};
+ghost use Rattle.dnp_eventbuf.specs.Sound.{IsSound};
+ghost use Rattle.dnp_eventbuf.specs.Stock.{Stock, exhausts, with_rows};
+ghost use Rattle.dnp_store.specs.Kept.{Stands};
+ghost use Rattle.dnp_store.specs.QueueTables.{Figures, HoldsQueue, HoldsStock};
+ghost use Rattle.dnp_store.specs.Steps.{IsTrimmed, all_added};
+
+use crate::queue_statements::{insert, note, take};
+use dnp_eventbuf::{LaneRow, PlainLanes};
+use dnp_objects::LANES;
+use sqlite::{Alter, Connection, Error, Transaction};
+
+/// Puts the rows into the table, under the ids that follow the last one used.
+fn insert_all<S: Alter>(tx: &mut Transaction<'_, S>, rows: &[LaneRow]) -> Result<(), Error>
+    requires inside { HasCleanDisk (state S.Store tx.old.conn.now) → IsTrue (state S.Store tx.old.conn.now).in_transaction }
+    requires carried { All IsCarried rows.now }
+    ensures same_reference { tx.new.conn.ghost_name ≡ tx.old.conn.ghost_name }
+    ensures inside { HasCleanDisk (state S.Store tx.new.conn.now) → OnOk result (IsTrue (state S.Store tx.new.conn.now).in_transaction) }
+    ensures added { HasCleanDisk (state S.Store tx.new.conn.now) → OnOk result ((s : Stock) (figures : List Figures) → length s.lanes ≡ limits.LANES
+        → HoldsQueue (state S.Store tx.old.conn.now).now s figures → HoldsQueue (state S.Store tx.new.conn.now).now (all_added s rows.now) figures) }
+    ensures kept { HasCleanDisk (state S.Store tx.new.conn.now) → KeepsCommit (state S.Store tx.old.conn.now) (state S.Store tx.new.conn.now) }
+    ensures survives { Survives (state S.Store tx.old.conn.now) (state S.Store tx.new.conn.now) (λ _. ⊥) }
+{
+    for x in rows {
+        insert(tx, x)?;
+    }
+    Ok(())
+}
+
+/// Has one lane drop what it has to for these rows, and counts it.
+fn trim<S: Alter>(
+    tx: &mut Transaction<'_, S>,
+    lanes: &PlainLanes,
+    number: usize,
+    rows: &[LaneRow],
+) -> Result<(), Error>
+    requires inside { HasCleanDisk (state S.Store tx.old.conn.now) → IsTrue (state S.Store tx.old.conn.now).in_transaction }
+    requires number { number < limits.LANES }
+    requires sound { IsSound lanes.now }
+    requires after { IsSound (with_rows lanes.now rows.now) }
+    requires few { lanes.now.last_id + length rows.now ≤ 2 ^ 62 }
+    ensures same_reference { tx.new.conn.ghost_name ≡ tx.old.conn.ghost_name }
+    ensures inside { HasCleanDisk (state S.Store tx.new.conn.now) → OnOk result (IsTrue (state S.Store tx.new.conn.now).in_transaction) }
+    ensures trimmed { HasCleanDisk (state S.Store tx.new.conn.now) → OnOk result ((raised : Bool)
+        → IsTrimmed (state S.Store tx.old.conn.now).now lanes.now rows.now raised number → IsTrimmed (state S.Store tx.new.conn.now).now lanes.now rows.now raised (number + 1)) }
+    ensures kept { HasCleanDisk (state S.Store tx.new.conn.now) → KeepsCommit (state S.Store tx.old.conn.now) (state S.Store tx.new.conn.now) }
+    ensures survives { Survives (state S.Store tx.old.conn.now) (state S.Store tx.new.conn.now) (λ _. ⊥) }
+{
+    let over = lanes.drops_in(number, rows);
+    if over == 0 {
+        return Ok(());
+    }
+    let upto = lanes
+        .id_at(number, rows, over - 1)
+        .ok_or(Error::InvalidQuery)?;
+    let lost = lanes.lost_in(number) + over as u64;
+    take(tx, number, upto)?;
+    note(tx, number, lost, true)?;
+    Ok(())
+}
+
+/// Has each lane drop what it has to for these rows.
+fn trim_all<S: Alter>(
+    tx: &mut Transaction<'_, S>,
+    lanes: &PlainLanes,
+    rows: &[LaneRow],
+) -> Result<(), Error>
+    requires inside { HasCleanDisk (state S.Store tx.old.conn.now) → IsTrue (state S.Store tx.old.conn.now).in_transaction }
+    requires sound { IsSound lanes.now }
+    requires after { IsSound (with_rows lanes.now rows.now) }
+    requires few { lanes.now.last_id + length rows.now ≤ 2 ^ 62 }
+    ensures same_reference { tx.new.conn.ghost_name ≡ tx.old.conn.ghost_name }
+    ensures inside { HasCleanDisk (state S.Store tx.new.conn.now) → OnOk result (IsTrue (state S.Store tx.new.conn.now).in_transaction) }
+    ensures trimmed { HasCleanDisk (state S.Store tx.new.conn.now) → OnOk result ((raised : Bool)
+        → IsTrimmed (state S.Store tx.old.conn.now).now lanes.now rows.now raised 0 → IsTrimmed (state S.Store tx.new.conn.now).now lanes.now rows.now raised limits.LANES) }
+    ensures kept { HasCleanDisk (state S.Store tx.new.conn.now) → KeepsCommit (state S.Store tx.old.conn.now) (state S.Store tx.new.conn.now) }
+    ensures survives { Survives (state S.Store tx.old.conn.now) (state S.Store tx.new.conn.now) (λ _. ⊥) }
+{
+    for number in 0..LANES {
+        trim(tx, lanes, number, rows)?;
+    }
+    Ok(())
+}
+
+/// Writes what an append changes.
+pub(crate) fn write_append<S: Alter>(
+    conn: &mut Connection<S>,
+    lanes: &PlainLanes,
+    rows: &[LaneRow],
+) -> Result<(), Error>
+    requires idle { conn.old.in_transaction ≡ false }
+    requires carried { All IsCarried rows.now }
+    requires sound { IsSound lanes.now }
+    requires after { IsSound (with_rows lanes.now rows.now) }
+    requires few { lanes.now.last_id + length rows.now ≤ 2 ^ 62 }
+    ensures idle { conn.new.in_transaction ≡ false }
+    ensures ok { HasCleanDisk (state S.Store conn.new) → Stands (state S.Store conn.old) lanes.now → OnOk result (Stands (state S.Store conn.new) (with_rows lanes.now rows.now)) }
+    ensures err { HasCleanDisk (state S.Store conn.new) → IsTrue (state S.Store conn.new).is_open → OnErr result (IsTrue (state S.Store conn.old).is_open × ((state S.Store conn.new).committed ≡ (state S.Store conn.old).committed)) }
+    ensures survives { Survives (state S.Store conn.old) (state S.Store conn.new) (λ db. Stands (state S.Store conn.old) lanes.now → HoldsStock db (with_rows lanes.now rows.now)) }
+{
+    prove!(conn.is_autocommit());
+    let mut tx = conn.transaction();
+    insert_all(&mut tx, rows)?;
+    trim_all(&mut tx, lanes, rows)?;
+    tx.commit()
+}

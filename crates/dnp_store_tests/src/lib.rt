@@ -1,0 +1,5 @@
+//! Tests of the stores in SQL databases, apart from `dnp_store`, since a crate with tests is proved twice.
+#![tactic(auto)]
+
+#[cfg(test)]
+mod queues;
