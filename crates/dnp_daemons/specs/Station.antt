@@ -4,6 +4,7 @@ use Rattle.std.specs.Prelude.{◌≡◌, ℕ, true, false, List, [], ◌∷◌, 
 use Rattle.dnp_linkframe.specs.declared.frame.Frame.{Frame}
 use Rattle.dnp_linkstation.specs.Station.{Ends, answer}
 use Rattle.dnp_transport.specs.Series.{IsWhole}
+use Rattle.dnp_objects.specs.declared.limits.TheConstants.{LANES}
 use Rattle.dnp_pointdb.specs.Plan.{plan_of}
 use Rattle.dnp_pointdb.specs.Database.{new_database}
 use Rattle.dnp_pointdb.specs.declared.times.Times.{Times}
@@ -24,7 +25,7 @@ times = record { confirm_ms = 5000; response_ms = 10000; select_ms = 5000; retri
 
 -- as it stands when the frame comes
 abbrev pub opened_station : State
-opened_station = (opened_of (state_of (new_core (new_database (plan_of [] [] [])) times) (empty_stock (replicate 9 1)) no_panel) 0).state
+opened_station = (opened_of (state_of (new_core (new_database (plan_of [] [] [])) times) (empty_stock (replicate LANES 1)) no_panel) 0).state
 
 -- the fragments that it sends for a fragment that comes (IEEE Std 1815-2012, application layer)
 abbrev pub responses : List ℕ → List (List ℕ)

@@ -210,13 +210,13 @@ impl Session {
     )
         requires response { writer.old.builder.function ≡ function.Response }
         requires bits { answer.now.bits < 8 }
+        ensures discarded { actions_of actions.new ≡ record nothing { send = (actions_of actions.new).send; discarded = discarded } }
+        ensures room { HasRoom actions.new }
         ensures same { lanes.new ≡ lanes.old }
         ensures sends { L.honest lanes.new → (s : State) (now : ℕ) → s.lanes ≡ L.contents lanes.new → s.core.restart ≡ answer.now.switches.restart
             → s.core.session ≡ self.old → ends ≡ deadline now s.core.times.confirm_ms
             → responds_further s now answer.now.stood seq (content_by writer.old answer.now)
             ≡ record { state = with_session s self.new; does = record nothing { send = (actions_of actions.new).send } } }
-        ensures discarded { actions_of actions.new ≡ record nothing { send = (actions_of actions.new).send; discarded = discarded } }
-        ensures room { HasRoom actions.new }
         ensures unsolicited { self.new.unsolicited ≡ self.old.unsolicited }
         ensures whole { All (λ fragment. 4 ≤ length fragment) (actions_of actions.new).send }
         ensures keeps { KeepsWhole self.old → KeepsWhole self.new }

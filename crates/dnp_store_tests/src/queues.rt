@@ -1,8 +1,5 @@
 //! Event lanes in a database in memory, step by step, for each lane and so for each kind of row.
 
-ghost use Rattle.std.specs.Prelude.{◌≡◌, true, All};
-ghost use Rattle.dnp_eventbuf.specs.Carried.{IsCarried};
-
 use dnp_eventbuf::{Lane, LaneRow, Lanes, StoreFault, is_carried};
 use dnp_objects::Row;
 use dnp_store::{OpenFault, Queue};
@@ -11,8 +8,13 @@ use sqlite_trees::memory::MemStore;
 use std::alloc::Global;
 use std::test::Fail;
 
-/// An event with this index for this lane.
-fn event(lane: Lane, index: u16) -> LaneRow {
+/// Appends an event with this index: the indices of the rows that are dropped, or none.
+fn append<L: Lanes>(
+    lanes: &mut L,
+    alloc: Global,
+    lane: Lane,
+    index: u16,
+) -> Result<Option<u16>, StoreFault> {
     let row = Row {
         kind: lane.kind,
         index,
@@ -20,28 +22,11 @@ fn event(lane: Lane, index: u16) -> LaneRow {
         value: 1,
         time: Some(1_000),
     };
-    LaneRow { lane, row }
-}
-
-/// Whether each row may be appended.
-fn all_carried(rows: &[LaneRow]) -> bool
-    ensures { result ≡ true → All IsCarried rows.now }
-{
-    rows.iter().all(|row| is_carried(row))
-}
-
-/// Appends a row with this index: the indices of the rows that are dropped, or none.
-fn append<L: Lanes>(
-    lanes: &mut L,
-    alloc: Global,
-    lane: Lane,
-    index: u16,
-) -> Result<Option<u16>, StoreFault> {
-    let rows = [event(lane, index)];
-    if !all_carried(&rows) {
+    let event = LaneRow { lane, row };
+    if !is_carried(&event) {
         return Err(StoreFault::Device);
     }
-    let dropped = lanes.append(alloc, &rows)?;
+    let dropped = lanes.append(alloc, &[event])?;
     Ok(dropped.first().map(|row| row.index))
 }
 

@@ -3,6 +3,7 @@ use Rattle.std.proofs.Common.{◌≡◌, ℕ, zero, suc, ◌+◌, ◌*◌, ◌^�
 use Rattle.std.specs.Prelude.{slice_index_or, Option, Some, option_to_list}
 use Rattle.std.specs.List.{flat_map, range_with_len, slice_get}
 use Rattle.std.proofs.lemmas.List.{take_all, length-map}
+use Rattle.dnp_objects.specs.declared.limits.TheConstants.{LANES}
 use Rattle.dnp_objects.specs.declared.row.Row.{Row}
 use Rattle.dnp_appfragment.specs.Headers.{Head}
 use Rattle.dnp_appfragment.specs.Meaning.{response_at}
@@ -34,7 +35,7 @@ pub record IsCounting {L : Type 0} (honest : L → Type 0) (contents : L → Sto
   pub sound : honest lanes → 0 < number → IsSound (contents lanes)
 
 pub one_counted : {L : Type 0} (honest : L → Type 0) (contents : L → Stock) (start lanes : L) (count number lane_number more : ℕ)
-    → IsCounting honest contents start lanes count number → number < 9 → lane_number ≡ number → more < 2 ^ 32
+    → IsCounting honest contents start lanes count number → number < LANES → lane_number ≡ number → more < 2 ^ 32
     → (honest lanes → IsSound (contents lanes)) → (honest lanes → more ≡ length (lane_at (contents lanes) lane_number).rows)
     → IsCounting honest contents start lanes (count + more) (number + 1)
 one_counted honest contents start lanes count number lane_number more i low its few sound value =
@@ -42,7 +43,7 @@ one_counted honest contents start lanes count number lane_number more i low its 
       same = i.same;
       few = omega (arith, i.few, few);
       counted = λ h.
-          let long : length (contents lanes).lanes ≡ 9 = (sound h).nine in
+          let long : length (contents lanes).lanes ≡ LANES = (sound h).nine in
           let next : number + 1 ≡ suc number = omega arith in
           let before : count ≡ length (lane_rows (take number (contents lanes).lanes)) = i.counted h in
           let here : more ≡ length (lane_at (contents lanes) number).rows =
@@ -55,9 +56,9 @@ one_counted honest contents start lanes count number lane_number more i low its 
     }
 
 pub all_counted : {L : Type 0} (honest : L → Type 0) (contents : L → Stock) (start lanes : L) (count number : ℕ)
-    → IsCounting honest contents start lanes count number → 9 ≤ number → honest lanes → count ≡ length (rows_in (contents lanes))
+    → IsCounting honest contents start lanes count number → LANES ≤ number → honest lanes → count ≡ length (rows_in (contents lanes))
 all_counted honest contents start lanes count number i high h =
-    let long : length (contents lanes).lanes ≡ 9 = (i.sound h (omega (arith, high))).nine in
+    let long : length (contents lanes).lanes ≡ LANES = (i.sound h (omega (arith, high))).nine in
     i.counted h ∙ ap (λ (ls : List LaneState). length (lane_rows ls)) (take_all number (contents lanes).lanes (omega (arith, long, high)))
 
 -- ---- rows of headers

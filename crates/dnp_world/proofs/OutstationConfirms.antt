@@ -123,7 +123,7 @@ confirmed_sees laws s w l sees nine =
 
 -- a response that goes on at a place of which all but what was confirmed has left
 record IsPlace (t : State) (left : Option Place) : Type 0 where
-  tidy : (place : Place) → left ≡ Some place → IsTidy t.lanes place.given × (length place.given ≡ 9)
+  tidy : (place : Place) → left ≡ Some place → IsTidy t.lanes place.given × (length place.given ≡ LANES)
 
 goes_on_goes : AnswerLaws → FurtherLaws → (t : State) (o : Panel) (now seq : ℕ) (last : Option LastRequest) (l : Link) (rest : List Down) → ShowOctets o
     → Sees t l → t.core.session.last ≡ last → IfSome last (λ x. IsPlace t x.left) → l.down ≡ Confirms (seq_of l.current) ∷ rest
@@ -141,7 +141,7 @@ goes_on_goes answers laws t o now seq (Some last) l rest shown sees last_is plac
         of_request (Err fault) there = rw there (stays_on t l sees)
         of_request (Ok r) there =
             let c : Content = read_content t o last.stood place r.headers in
-            let tidy : IsTidy t.lanes place.given × (length place.given ≡ 9) = places.tidy place is in
+            let tidy : IsTidy t.lanes place.given × (length place.given ≡ LANES) = places.tidy place is in
             let writable : AreWritable (source_of t o) = answers.writable (source_of t o) sees.points shown.outputs shown.status sees.indexes in
             let a : link.LastRequest = last_seen t.core.session last in
             let seen : l.outstation.last ≡ Some a =
@@ -156,7 +156,7 @@ goes_on_goes answers laws t o now seq (Some last) l rest shown sees last_is plac
             rw there on
 
 marked_places : (s : State) (w : Awaited) (last : Option LastRequest)
-    → ((x : LastRequest) (place : Place) → last ≡ Some x → x.left ≡ Some place → IsTidy (without s.lanes w.upto) place.given × (length place.given ≡ 9))
+    → ((x : LastRequest) (place : Place) → last ≡ Some x → x.left ≡ Some place → IsTidy (without s.lanes w.upto) place.given × (length place.given ≡ LANES))
     → IfSome (option_map marked last) (λ x. IsPlace (confirmed_state s w) x.left)
 marked_places s w None tidy = tt
 marked_places s w (Some last) tidy = record { tidy = λ place is. tidy last place refl is }

@@ -61,9 +61,9 @@ pub record ReleaseLaws : Type 0 where
 -- of a response that goes on behind a confirm
 pub record FurtherLaws : Type 0 where
   pub tidy : (s : State) (w : Awaited) (last : LastRequest) (place : Place) → IsSound s.lanes → LeavesNothing s → s.core.session.awaited ≡ Some w
-      → s.core.session.last ≡ Some last → last.left ≡ Some place → IsTidy (without s.lanes w.upto) place.given × (length place.given ≡ 9)
+      → s.core.session.last ≡ Some last → last.left ≡ Some place → IsTidy (without s.lanes w.upto) place.given × (length place.given ≡ LANES)
   pub further : (s : State) (o : Panel) (stood : ℕ) (place : Place) (headers : List Head) (seq : ℕ) → IsSound s.lanes → AreWritable (source_of s o)
-      → IsTidy s.lanes place.given → length place.given ≡ 9 → seq < 16
+      → IsTidy s.lanes place.given → length place.given ≡ LANES → seq < 16
       → (let content : Content = read_content s o stood place headers in
       Reports s.lanes (fragment_of s false seq content) (control_for false seq content) content.upto)
   pub ids : (s : State) (o : Panel) (stood : ℕ) (place : Place) (headers : List Head) → length (read_content s o stood place headers).upto ≡ LANES

@@ -100,7 +100,7 @@ goes_report_confirm ends answers releases laws s o now octets w l rest shown see
     t = unsolicited_confirmed s w
 
     nine : length w.upto ≡ LANES
-    nine = subst (λ (x : Option Unsolicited). IfSome x (λ y. length y.upto ≡ 9)) waits tidy.unsolicited
+    nine = subst (λ (x : Option Unsolicited). IfSome x (λ y. length y.upto ≡ LANES)) waits tidy.unsolicited
 
     first : Grown l (confirmed_link s w l) [] [] (all_up_to s.lanes w.upto) [] []
     first =

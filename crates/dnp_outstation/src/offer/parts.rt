@@ -124,15 +124,7 @@ pub(crate) fn put_parts<L: Lanes, O: Outputs>(
     ensures offered { L.honest lanes.new → IfOk result (λ is_last. (place : PlaceValue) → writer.old ≡ empty_from place → ended is_last writer.new
         ≡ offered (record { points = points.now; panel = O.panel outputs.now; lanes = after_release (L.contents lanes.old) released.now }) stood place headers.entry.headers) }
     ensures response { writer.new.builder.function ≡ writer.old.builder.function }
-
-    ensures held { L.honest lanes.new → L.honest lanes.old }
-    ensures same { L.honest lanes.new → L.contents lanes.new ≡ L.contents lanes.old }
-    ensures beside { L.honest lanes.new → L.beside lanes.new ≡ L.beside lanes.old }
-    ensures stopped { IsTrue (L.is_stopped lanes.old) → IsTrue (L.is_stopped lanes.new) }
-    ensures device { IfErr result (λ e. e ≡ StoreFault.Device → IsTrue (L.is_stopped lanes.new)) }
-    ensures runs_on { result ≢ Err StoreFault.Device → L.is_stopped lanes.new ≡ L.is_stopped lanes.old }
-    ensures memory { L.honest lanes.new → result ≡ Err StoreFault.Memory → L.asks_memory ≡ false → rows_in (L.contents lanes.old) ≢ [] }
-    ensures named { IfErr result (λ e. e ≢ StoreFault.Exhausted) }
+    ensures look { IsLook L.honest L.is_stopped L.contents L.beside L.asks_memory lanes.old lanes.new result }
 {
     let from = Stand {
         points,

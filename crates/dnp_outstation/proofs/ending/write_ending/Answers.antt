@@ -7,7 +7,7 @@ use Rattle.dnp_outstation.proofs.ending.write_ending.Goals as goal
 
 pub returns-clause-ends : goal.returns-clause-ends
 returns-clause-ends g c = λ honest now step lanes_is enabled_is due_is.
-    let before = c.in_ok-_is_last.ensures.held honest in
+    let before = c.in_ok-_is_last.ensures.look.held honest in
     let here : step.state.lanes ≡ after_release (g.L.Lanes.contents c.has_enabled_rows.new.lanes) c.args.released.now =
     lanes_is ∙ ap (λ l. after_release (g.L.Lanes.contents l) c.args.released.now) (sym c.has_enabled_rows.ensures.same) in
     let due : true ≡ c.args.is_due = search rules in

@@ -37,7 +37,7 @@ returns-clause-done g c = λ honest.
     let received : step ≡ record { state = state; does = does } = c.in_ok-actions.ensures.received honest tt in
     let discarded : List Row = c.as_slice.result.now in
     let listed : discarded ≡ does.discarded = c.as_slice.ensures in
-    let waits : c.rows_waiting-waiting.result ≡ length (rows_in before.lanes) = c.rows_waiting-waiting.ensures.count (c.receive.ensures.held honest) in
+    let waits : c.rows_waiting-waiting.result ≡ length (rows_in before.lanes) = c.rows_waiting-waiting.ensures.count (c.receive.ensures.lanes.held honest) in
     let few : length discarded ≤ length (rows_in before.lanes) =
     subst (λ (rows : List Row). length rows ≤ length (rows_in before.lanes)) (sym (listed ∙ ap (λ (x : Step). x.does.discarded) (sym received)))
     (few_released laws before old.now fragment) in
