@@ -3,13 +3,12 @@ use Rattle.std.proofs.Common.{◌≡◌, ◌≢◌, inl, inr, ℕ, zero, suc, �
 use Rattle.std.proofs.lemmas.Bool.{cases_eq}
 use Rattle.std.proofs.lemmas.Bool.Decides.{Decides-ltb}
 use Rattle.dnp_eventbuf.specs.Sound.{IsSound}
-use Rattle.dnp_eventbuf.proofs.LatestRows.{append_keeps_latest}
 use Rattle.std.proofs.lemmas.List.{get_or-set_same, get_or-set_other}
 use Rattle.dnp_objects.specs.declared.limits.TheConstants.{LANES}
 use Rattle.dnp_objects.specs.Lanes.{lane_number}
 use Rattle.dnp_objects.specs.declared.lane.LaneRow.{LaneRow}
 use Rattle.dnp_eventbuf.specs.declared.numbered.Numbered.{Numbered}
-use Rattle.dnp_eventbuf.specs.Latest.{numbered_for}
+use Rattle.dnp_eventbuf.specs.Latest.{numbered_for, KeepsLatest}
 use Rattle.dnp_eventbuf.specs.Stock.{LaneState, Stock, lane_at, no_lane, is_full, put_in, with_row, with_rows, added_in}
 use Rattle.dnp_store.specs.Steps.{added, all_added, over, any_over}
 use Rattle.dnp_store.proofs.Tests.{is_same, is_other}
@@ -167,10 +166,15 @@ overflow_after s (x ∷ xs) nine low = go (is_full (lane_at s (lane_number x.lan
         ] in
         rest ∙ ap₂ ◌||◌ is (any_same s (with_row s x) t LANES same)
 
+-- what the law of an append says of each lane
+abbrev pub KeepsRows : Type 0
+KeepsRows = (s : Stock) (rows : List LaneRow) (number : ℕ) → IsSound s → number < LANES
+    → KeepsLatest (lane_at s number) (numbered_for number s.last_id rows) (lane_at (with_rows s rows) number)
+
 -- the mark stands after an append where it stood, or a lane dropped a row
-pub overflow_is : (s : Stock) (xs : List LaneRow) → IsSound s → ((x : LaneRow) → lane_number x.lane < LANES)
+pub overflow_is : KeepsRows → (s : Stock) (xs : List LaneRow) → IsSound s → ((x : LaneRow) → lane_number x.lane < LANES)
     → (with_rows s xs).overflow ≡ (s.overflow || any_over s xs LANES)
-overflow_is s xs sound low = overflow_after s xs sound.nine low ∙ ap (λ b. s.overflow || b) (go LANES (omega arith))
+overflow_is keeps s xs sound low = overflow_after s xs sound.nine low ∙ ap (λ b. s.overflow || b) (go LANES (omega arith))
   where
     grows : (m k : ℕ) → nat_lt m (m + k) ≡ nat_lt 0 k
     grows m k = grind arith
@@ -178,7 +182,7 @@ overflow_is s xs sound low = overflow_after s xs sound.nine low ∙ ap (λ b. s.
     go : (n : ℕ) → n ≤ LANES → any_lost s (with_rows s xs) n ≡ any_over s xs n
     go zero few = refl
     go (suc n) few =
-        let kept = append_keeps_latest s xs n sound (omega arith) in
+        let kept = keeps s xs n sound (omega arith) in
         let lost : (lane_at (with_rows s xs) n).lost ≡ (lane_at s n).lost + over s xs n =
         kept.lost ∙ ap (λ (k : ℕ). (lane_at s n).lost + (k - (lane_at s n).capacity)) (length-append (lane_at s n).rows (numbered_for n s.last_id xs)) in
         ap₂ ◌||◌ (go n (omega arith)) (ap (λ (k : ℕ). nat_lt (lane_at s n).lost k) lost ∙ grows (lane_at s n).lost (over s xs n))

@@ -11,8 +11,7 @@ use Rattle.sqlite.specs.Tree.{Trees}
 use Rattle.dnp_objects.specs.declared.limits.TheConstants.{LANES, MAX_ID}
 use Rattle.dnp_eventbuf.specs.declared.numbered.Numbered.{Numbered}
 use Rattle.dnp_eventbuf.specs.Sound.{IsSound}
-use Rattle.dnp_eventbuf.specs.Stock.{LaneState, Stock, lane_at, no_lane, above, emptied, without_all}
-use Rattle.dnp_eventbuf.proofs.Soundness.{get_or-lanes_above, length-lanes_above}
+use Rattle.dnp_eventbuf.specs.Stock.{LaneState, Stock, lane_at, no_lane, above, emptied, without, without_all, lanes_above}
 use Rattle.dnp_store.specs.QueueTables.{Figures, no_figures, HoldsQueue, HoldsStock, IsQueue, is_raised}
 use Rattle.dnp_store.specs.Steps.{mixed, cut, counted, noted, left, released}
 use Rattle.dnp_store.proofs.Standing.{on_trees}
@@ -44,14 +43,24 @@ weaker : (m n : ℕ) (xs : List Numbered) → m ≤ n → AllByRecursion (λ x. 
 weaker m n [] low all = tt
 weaker m n (x ∷ xs) low all = let first = all.0 in (omega arith, weaker m n xs low all.1)
 
+-- what the law of a release says of each lane
+abbrev pub LaneByLane : Type 0
+LaneByLane = (s : Stock) (upto : List ℕ) (number : ℕ) → length upto ≡ length s.lanes → number < length s.lanes
+    → lane_at (without s upto) number ≡ above (slice_index_or upto number 0) (lane_at s number)
+
+as_many_left : (lanes : List LaneState) (upto : List ℕ) → length (lanes_above lanes upto) ≡ length lanes
+as_many_left [] upto = refl
+as_many_left (lane ∷ lanes) [] = refl
+as_many_left (lane ∷ lanes) (u ∷ us) = ap suc (as_many_left lanes us)
+
 pub nine_left : (s : Stock) (upto : List ℕ) → length s.lanes ≡ LANES → length (left s upto).lanes ≡ LANES
-nine_left s upto nine = length-lanes_above s.lanes upto ∙ nine
+nine_left s upto nine = as_many_left s.lanes upto ∙ nine
 
 -- one lane more has lost its rows
-pub cut_step : (db : Database) (s : Stock) (upto : List ℕ) (fs : List Figures) (number u : ℕ) → IsSound s → length upto ≡ LANES → number < LANES
+pub cut_step : LaneByLane → (db : Database) (s : Stock) (upto : List ℕ) (fs : List Figures) (number u : ℕ) → IsSound s → length upto ≡ LANES → number < LANES
     → u ≡ min (get_or upto number 0) MAX_ID
     → HoldsQueue db (cut (mixed number s (left s upto)) number u) fs → HoldsQueue db (mixed (suc number) s (left s upto)) fs
-cut_step db s upto fs number u sound nine_u low u_is h =
+cut_step by_lane db s upto fs number u sound nine_u low u_is h =
     let b = left s upto in
     let m = mixed number s b in
     let nine_b = nine_left s upto sound.nine in
@@ -65,7 +74,7 @@ cut_step db s upto fs number u sound nine_u low u_is h =
     ∙ ap (λ (n : ℕ). above n (lane_at s number)) u_is
     ∙ ap (λ (rows : List Numbered). record { capacity = (lane_at s number).capacity; rows = rows; lost = (lane_at s number).lost })
     (same_above (get_or upto number 0) MAX_ID (lane_at s number).rows ids)
-    ∙ sym (get_or-lanes_above s.lanes upto number (omega (arith, sound.nine)) (omega (arith, sound.nine))) in
+    ∙ sym (by_lane s upto number (omega (arith, sound.nine)) (omega (arith, sound.nine))) in
     same_queue db (cut m number u) (mixed (suc number) s b) fs h
     (mixed_step number s b (cut m number u) sound.nine nine_b low
     (λ k k_low other. get_or-set_other m.lanes number k (above u (lane_at m number)) no_lane other) there) refl
@@ -105,9 +114,9 @@ and_true : (a : Bool) → (a && true) ≡ a
 and_true true = refl
 and_true false = refl
 
-pub lost_left : (s : Stock) (upto : List ℕ) → length s.lanes ≡ LANES → length upto ≡ LANES → (k : ℕ) → k < LANES
+pub lost_left : LaneByLane → (s : Stock) (upto : List ℕ) → length s.lanes ≡ LANES → length upto ≡ LANES → (k : ℕ) → k < LANES
     → (lane_at (left s upto) k).lost ≡ (lane_at s k).lost
-lost_left s upto nine nine_u k low = ap (λ (l : LaneState). l.lost) (get_or-lanes_above s.lanes upto k (omega arith) (omega arith))
+lost_left by_lane s upto nine nine_u k low = ap (λ (l : LaneState). l.lost) (by_lane s upto k (omega arith) (omega arith))
 
 pub kept_mark : (db : Database) (s : Stock) (upto : List ℕ) (h : IsQueue db s) (now : Database) → HoldsQueue now (left s upto) h.holds.figures
     → IsQueue now (released s upto false)
@@ -132,24 +141,24 @@ not_both : (b : Bool) → (b && not b) ≡ false
 not_both true = refl
 not_both false = refl
 
-pub all_left : (db : Database) (s : Stock) (upto : List ℕ) → IsSound s → length upto ≡ LANES → ((k : ℕ) → k < LANES → get_or upto k 0 ≡ MAX_ID)
+pub all_left : LaneByLane → (db : Database) (s : Stock) (upto : List ℕ) → IsSound s → length upto ≡ LANES → ((k : ℕ) → k < LANES → get_or upto k 0 ≡ MAX_ID)
     → IsQueue db (released s upto s.overflow) → IsQueue db (without_all s)
-all_left db s upto sound nine all h =
+all_left by_lane db s upto sound nine all h =
     let lanes : (k : ℕ) → k < LANES → lane_at (without_all s) k ≡ lane_at (released s upto s.overflow) k = λ k low.
     let lane = sound.each k low in
     let ids = weaker s.last_id MAX_ID (lane_at s k).rows sound.last_id_at_most
     (recursion_from_All (λ (x : Numbered). x.id ≤ s.last_id) (lane_at s k).rows lane.up_to_last) in
     get_or-map emptied s.lanes k no_lane
-    ∙ sym (get_or-lanes_above s.lanes upto k (omega (arith, sound.nine)) (omega (arith, sound.nine)) ∙ ap (λ (n : ℕ). above n (lane_at s k)) (all k low)
+    ∙ sym (by_lane s upto k (omega (arith, sound.nine)) (omega (arith, sound.nine)) ∙ ap (λ (n : ℕ). above n (lane_at s k)) (all k low)
     ∙ ap (λ (rows : List Numbered). record { capacity = (lane_at s k).capacity; rows = rows; lost = (lane_at s k).lost })
     (none_above MAX_ID (lane_at s k).rows ids)) in
     as_queue db (without_all s) h.holds.figures (same_queue db (released s upto s.overflow) (without_all s) h.holds.figures
     (of_queue db (released s upto s.overflow) h) lanes refl)
     (sym (not_both s.overflow) ∙ h.holds.overflow)
 
-pub all_left_in : (db : Trees) (s : Stock) (upto : List ℕ) → IsSound s → length upto ≡ LANES → ((k : ℕ) → k < LANES → get_or upto k 0 ≡ MAX_ID)
+pub all_left_in : LaneByLane → (db : Trees) (s : Stock) (upto : List ℕ) → IsSound s → length upto ≡ LANES → ((k : ℕ) → k < LANES → get_or upto k 0 ≡ MAX_ID)
     → HoldsStock db (released s upto s.overflow) → HoldsStock db (without_all s)
-all_left_in db s upto sound nine all = on_trees (released s upto s.overflow) (without_all s) (λ d h. all_left d s upto sound nine all h) db
+all_left_in by_lane db s upto sound nine all = on_trees (released s upto s.overflow) (without_all s) (λ d h. all_left by_lane d s upto sound nine all h) db
 
 abbrev pub nine_most : List ℕ
 nine_most = MAX_ID ∷ MAX_ID ∷ MAX_ID ∷ MAX_ID ∷ MAX_ID ∷ MAX_ID ∷ MAX_ID ∷ MAX_ID ∷ MAX_ID ∷ []

@@ -9,18 +9,19 @@ use Rattle.std.proofs.lemmas.Grind.{elements}
 use Rattle.std.proofs.lemmas.List.{get_or-set_same, get_or-set_other}
 use Rattle.sqlite.specs.Tree.{IsAscending}
 use Rattle.sqlite.specs.Effect.{Database}
-use Rattle.dnp_objects.specs.declared.limits.TheConstants.{LANES, MAX_ID}
-use Rattle.dnp_objects.specs.Lanes.{lane_number}
+use Rattle.dnp_objects.specs.declared.limits.TheConstants.{KINDS, LANES, MAX_ID}
+use Rattle.dnp_objects.specs.Lanes.{lane_number, kind_number}
+use Rattle.dnp_objects.specs.declared.row.Kind.{Kind}
+use Rattle.dnp_objects.specs.declared.row.Kind.TheVariants.{Binary, Counter, Analog}
+use Rattle.dnp_objects.specs.declared.lane.Lane.{Lane}
 use Rattle.dnp_objects.specs.declared.lane.LaneRow.{LaneRow}
 use Rattle.dnp_eventbuf.specs.declared.numbered.Numbered.{Numbered}
 use Rattle.dnp_eventbuf.specs.Latest.{numbered_for}
 use Rattle.dnp_eventbuf.specs.Sound.{IsSound}
 use Rattle.dnp_eventbuf.specs.Stock.{LaneState, Stock, lane_at, no_lane, with_row, with_rows, above}
-use Rattle.dnp_eventbuf.proofs.LatestRows.{append_keeps_latest}
-use Rattle.dnp_eventbuf.proofs.LaneNumbers.{lane_number-low}
 use Rattle.dnp_store.specs.QueueTables.{Queued, event_of, in_lane, Figures, HoldsQueue, is_raised, IsQueue}
 use Rattle.dnp_store.specs.Steps.{all_added, mixed, over, any_over, cut, counted, noted, IsTrimmed}
-use Rattle.dnp_store.proofs.Appending.{behind, lane_added, nine_added, last_added, overflow_is}
+use Rattle.dnp_store.proofs.Appending.{KeepsRows, behind, lane_added, nine_added, last_added, overflow_is}
 use Rattle.dnp_store.proofs.Holding.{same_stock}
 
 -- ---- rows above an id
@@ -114,7 +115,7 @@ raised_set (g ∷ fs) (suc k) f low is = ap (λ b. g.raised || b) (raised_set fs
 
 -- ---- one lane more has dropped what it had to
 
-module _ (s : Stock) (rows : List LaneRow) (number : ℕ) (sound : IsSound s) (low : number < LANES) (nine : length (with_rows s rows).lanes ≡ LANES) where
+module _ (keeps : KeepsRows) (s : Stock) (rows : List LaneRow) (number : ℕ) (sound : IsSound s) (low : number < LANES) (nine : length (with_rows s rows).lanes ≡ LANES) where
   abbrev a : Stock
   a = all_added s rows
 
@@ -141,7 +142,7 @@ module _ (s : Stock) (rows : List LaneRow) (number : ℕ) (sound : IsSound s) (l
         rows number;
   }
   lane_b =
-      let kept = append_keeps_latest s rows number sound low in
+      let kept = keeps s rows number sound low in
       let parts : (l : LaneState) (c : ℕ) (r : List Numbered) (n : ℕ) → l.capacity ≡ c → l.rows ≡ r → l.lost ≡ n
       → l ≡ record { capacity = c; rows = r; lost = n } = λ l c r n p q t. rw (← p, ← q, ← t) refl in
       parts (lane_at b number) _ _ _ kept.capacity (kept.rows ∙ ap (λ (n : ℕ). drop n here) over_is)
@@ -210,10 +211,10 @@ module _ (s : Stock) (rows : List LaneRow) (number : ℕ) (sound : IsSound s) (l
 
 -- ---- numbers that a statement takes
 
-pub lost_low : (s : Stock) (rows : List LaneRow) (number : ℕ) → IsSound s → number < LANES → IsSound (with_rows s rows)
+pub lost_low : KeepsRows → (s : Stock) (rows : List LaneRow) (number : ℕ) → IsSound s → number < LANES → IsSound (with_rows s rows)
     → (lane_at s number).lost + over s rows number ≤ MAX_ID
-lost_low s rows number sound low after =
-    let lane = lane_b s rows number sound low after.nine in
+lost_low keeps s rows number sound low after =
+    let lane = lane_b keeps s rows number sound low after.nine in
     let most = (after.each number low).lost_at_most in
     omega (arith, most, ap (λ (l : LaneState). l.lost) lane)
 
@@ -280,15 +281,23 @@ of_queue db s h = record {
   lanes = h.holds.lanes;
 }
 
+low_kind : (kind : Kind) → kind_number kind < KINDS
+low_kind Binary = omega arith
+low_kind Counter = omega arith
+low_kind Analog = omega arith
+
+low_number : (lane : Lane) → lane_number lane < LANES
+low_number lane = omega (arith, low_kind lane.kind, lane.at_most_3)
+
 -- the rows are put in, and then the lanes drop what they have to
-pub appended : (old mid new : Database) (s : Stock) (rows : List LaneRow) → IsSound s → IsSound (with_rows s rows) → IsQueue old s
+pub appended : KeepsRows → (old mid new : Database) (s : Stock) (rows : List LaneRow) → IsSound s → IsSound (with_rows s rows) → IsQueue old s
     → ((t : Stock) (fs : List Figures) → length t.lanes ≡ LANES → HoldsQueue old t fs → HoldsQueue mid (all_added t rows) fs)
     → ((raised : Bool) → IsTrimmed mid s rows raised 0 → IsTrimmed new s rows raised LANES) → IsQueue new (with_rows s rows)
-appended old mid new s rows sound after h puts trims =
+appended keeps old mid new s rows sound after h puts trims =
     let fs = h.holds.figures in
     let b = with_rows s rows in
     let held = puts s fs sound.nine (of_queue old s h) in
     let end = trims s.overflow (begun mid s rows fs sound.nine after.nine (last_rows s rows ∙ sym (last_added s rows)) h.holds.overflow held) in
     let all = same_queue new (mixed LANES (all_added s rows) b) b end.0 end.1
     (λ k low. sym (mixed_low LANES k (all_added s rows) b (nine_added s rows ∙ sound.nine) after.nine (omega arith) low)) refl in
-    as_queue new b end.0 all (overflow_is s rows sound (λ x. lane_number-low x.lane) ∙ sym end.2)
+    as_queue new b end.0 all (overflow_is keeps s rows sound (λ x. low_number x.lane) ∙ sym end.2)

@@ -11,6 +11,7 @@ ghost use Rattle.dnp_store.specs.Kept.{IsHonest, Leaves, LeavesEither};
 use crate::fault::{fault, is_lost, memory};
 use crate::queue_release::{lowers, write_release};
 use crate::queue_writing::write_append;
+use dnp_eventbuf::laws::{a_release_is_lane_by_lane, lanes_stay_sound};
 use dnp_eventbuf::{Lane, LaneRow, Lanes, Numbered, PlainLanes, StoreFault, Upto};
 use dnp_objects::{LANES, MAX_ID, Row};
 use sqlite::{Alter, Connection};
@@ -72,6 +73,8 @@ impl<S: Alter> Lanes for Queue<S> {
         if self.stopped {
             return Err(StoreFault::Device);
         }
+        // (a law, for the proof: it does nothing)
+        lanes_stay_sound();
         let count = self.lanes.drops(rows).ok_or(StoreFault::Exhausted)?;
         let mut dropped = Vec::with_capacity(alloc, count).map_err(memory)?;
         if let Err(error) = write_append(&mut self.conn, &self.lanes, rows) {
@@ -135,6 +138,8 @@ impl<S: Alter> Lanes for Queue<S> {
         if self.stopped {
             return Err(StoreFault::Device);
         }
+        // (a law, for the proof: it does nothing)
+        a_release_is_lane_by_lane();
         let taken = self.lanes.all_rows(alloc).map_err(memory)?;
         let lower = self.lanes.has_overflow();
         if let Err(error) = write_release(&mut self.conn, &self.lanes, &[MAX_ID; LANES], lower) {

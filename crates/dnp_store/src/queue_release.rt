@@ -11,6 +11,7 @@ ghost use Rattle.dnp_store.specs.QueueTables.{Figures, HoldsQueue, HoldsStock, I
 ghost use Rattle.dnp_store.specs.Steps.{left, released};
 
 use crate::queue_statements::{note, take};
+use dnp_eventbuf::laws::a_release_is_lane_by_lane;
 use dnp_eventbuf::{PlainLanes, Upto};
 use dnp_objects::{LANES, MAX_ID};
 use sqlite::{Alter, Connection, Error, Transaction};
@@ -25,6 +26,8 @@ fn take_all<S: Alter>(tx: &mut Transaction<'_, S>, upto: &Upto) -> Result<(), Er
     ensures kept { HasCleanDisk (state S.Store tx.new.conn.now) → KeepsCommit (state S.Store tx.old.conn.now) (state S.Store tx.new.conn.now) }
     ensures survives { Survives (state S.Store tx.old.conn.now) (state S.Store tx.new.conn.now) (λ _. ⊥) }
 {
+    // (a law, for the proof: it does nothing)
+    a_release_is_lane_by_lane();
     for number in 0..LANES {
         take(tx, number, upto[number].min(MAX_ID))?;
     }
@@ -66,6 +69,8 @@ fn release_in<S: Alter>(
 {
     take_all(tx, upto)?;
     if lower {
+        // (a law, for the proof: it does nothing)
+        a_release_is_lane_by_lane();
         lower_all(tx, lanes)?;
     }
     Ok(())

@@ -12,6 +12,7 @@ ghost use Rattle.dnp_store.specs.QueueTables.{Figures, HoldsQueue, HoldsStock};
 ghost use Rattle.dnp_store.specs.Steps.{IsTrimmed, all_added};
 
 use crate::queue_statements::{insert, note, take};
+use dnp_eventbuf::laws::a_lane_keeps_its_latest_rows;
 use dnp_eventbuf::{LaneRow, PlainLanes};
 use dnp_objects::LANES;
 use sqlite::{Alter, Connection, Error, Transaction};
@@ -52,6 +53,8 @@ fn trim<S: Alter>(
     ensures kept { HasCleanDisk (state S.Store tx.new.conn.now) → KeepsCommit (state S.Store tx.old.conn.now) (state S.Store tx.new.conn.now) }
     ensures survives { Survives (state S.Store tx.old.conn.now) (state S.Store tx.new.conn.now) (λ _. ⊥) }
 {
+    // (a law, for the proof: it does nothing)
+    a_lane_keeps_its_latest_rows();
     let over = lanes.drops_in(number, rows);
     if over == 0 {
         return Ok(());
@@ -108,5 +111,7 @@ pub(crate) fn write_append<S: Alter>(
     let mut tx = conn.transaction();
     insert_all(&mut tx, rows)?;
     trim_all(&mut tx, lanes, rows)?;
+    // (a law, for the proof: it does nothing)
+    a_lane_keeps_its_latest_rows();
     tx.commit()
 }

@@ -20,7 +20,7 @@ returns-in_ok-lower_all-clause-released g c clean held =
     let is : c.args.lower ≡ true = search rules in
     let took = c.in_ok-take_all.ensures.taken early s held.holds.figures c.requires.sound (of_queue old.now s held) in
     let low = c.in_ok-lower_all.ensures.lowered clean (left s upto) held.holds.figures (nine_left s upto c.requires.sound.nine)
-    (lost_left s upto c.requires.sound.nine nine_u) took in
+    (lost_left c.a_release_is_lane_by_lane.ensures s upto c.requires.sound.nine nine_u) took in
     subst (λ b. IsQueue new.now (released s upto b)) (sym is) (lowered_mark s upto new.now low.0 low.1 low.2)
 
 pub returns-else-lower-clause-released : goal.returns-else-lower-clause-released

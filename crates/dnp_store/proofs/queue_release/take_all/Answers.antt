@@ -32,6 +32,6 @@ loop-number-preserved g c =
                 (omega arith) in
                 let did = c.in_ok-take.ensures.cut clean (mixed number s (left s upto)) figures nine (was.2 s figures sound held) in
                 subst (λ n. HoldsQueue new.now (mixed n s (left s upto)) figures) (sym (add-one number))
-                (cut_step new.now s upto figures number c.min.result sound nine_u low u_is did),
+                (cut_step c.a_release_is_lane_by_lane.ensures new.now s upto figures number c.min.result sound nine_u low u_is did),
           ),
     )

@@ -15,16 +15,16 @@ returns-then-over-eq0-clause-trimmed g c clean raised h =
     let db = (state g.S.Store c.args.tx.now.conn.now).now in
     let none : over s rows c.args.number ≡ 0 = search rules in
     subst (λ n. IsTrimmed db s rows raised n) (sym (add-one c.args.number))
-    (trimmed_none s rows c.args.number c.requires.sound c.requires.number c.requires.after.nine db raised none h)
+    (trimmed_none c.a_lane_keeps_its_latest_rows.ensures s rows c.args.number c.requires.sound c.requires.number c.requires.after.nine db raised none h)
 
 pub overflow_add-lost : goal.overflow_add-lost
 overflow_add-lost g c =
-    let most = lost_low c.args.lanes.now c.args.rows.now c.args.number c.requires.sound c.requires.number c.requires.after in
+    let most = lost_low c.a_lane_keeps_its_latest_rows.ensures c.args.lanes.now c.args.rows.now c.args.number c.requires.sound c.requires.number c.requires.after in
     omega (arith, most, c.lost_in.ensures, c.drops_in-over.ensures)
 
 pub note-requires-clause-lost : goal.note-requires-clause-lost
 note-requires-clause-lost g c =
-    let most = lost_low c.args.lanes.now c.args.rows.now c.args.number c.requires.sound c.requires.number c.requires.after in
+    let most = lost_low c.a_lane_keeps_its_latest_rows.ensures c.args.lanes.now c.args.rows.now c.args.number c.requires.sound c.requires.number c.requires.after in
     omega (arith, most, c.lost_in.ensures, c.drops_in-over.ensures)
 
 pub take-requires-clause-upto : goal.take-requires-clause-upto
@@ -51,6 +51,6 @@ returns-clause-trimmed g c clean raised h =
     (sym c.drops_in-over.ensures) ∙ sym c.id_at.ensures ∙ at in
     let sum : lost ≡ (lane_at s number).lost + over s rows number = omega (arith, c.lost_in.ensures, c.drops_in-over.ensures) in
     subst (λ n. IsTrimmed new.now s rows raised n) (sym (add-one number))
-    (trimmed_some s rows number c.requires.sound c.requires.number c.requires.after.nine old.now new.now raised upto lost some there sum
+    (trimmed_some c.a_lane_keeps_its_latest_rows.ensures s rows number c.requires.sound c.requires.number c.requires.after.nine old.now new.now raised upto lost some there sum
     (λ t fs nine held. c.in_ok-note.ensures.noted clean (cut t number upto) fs (length-set t.lanes number (above upto (lane_at t number)) ∙ nine)
     (c.in_ok-take.ensures.cut early t fs nine held)) h)

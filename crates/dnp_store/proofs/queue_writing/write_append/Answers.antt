@@ -24,7 +24,7 @@ done g c clean stood =
     let idle : IsTrue c.is_autocommit.result = c.is_autocommit.ensures.value ∙ ap not c.requires.idle in
     let same : begun.now ≡ old.committed = ap (λ h. (state g.S.Store h).now) c.transaction-tx.ensures.begun
     ∙ c.is_autocommit.ensures.settled idle stood.is_open in
-    appended begun.now mid.now new.now c.args.lanes.now c.args.rows.now c.requires.sound c.requires.after
+    appended c.a_lane_keeps_its_latest_rows.ensures begun.now mid.now new.now c.args.lanes.now c.args.rows.now c.requires.sound c.requires.after
     (subst (λ d. IsQueue d c.args.lanes.now) (sym same) stood.holds)
     (c.in_ok-insert_all.ensures.added early) (c.in_ok-trim_all.ensures.trimmed clean)
 

@@ -17,7 +17,7 @@ stood g c clean serves own =
     let s = c.self.inside.lanes in
     let early : HasCleanDisk (state g.S.Store c.self.inside.conn) = omega (arith, clean, c.write_release.ensures.survives.clean) in
     let did = c.in_default.ensures.ok clean (c.self.invariant.stands serves own early) in
-    let all = all_left new.committed s nine_most c.self.invariant.sound refl all_most
+    let all = all_left c.a_release_is_lane_by_lane.ensures new.committed s nine_most c.self.invariant.sound refl all_most
     (subst (λ b. IsQueue new.committed (released s nine_most b)) c.has_overflow-lower.ensures did.holds) in
     record { is_open = did.is_open; holds = all }
 
@@ -43,7 +43,7 @@ returns-in-Err-clause-either g c clean =
     (c.self.invariant.stands serves own first) c.write_release.ensures.survives c.is_lost-lost.ensures.survives db may in
     elim either [
       | inl before ↦ inl before
-      | inr after ↦ inr (all_left_in db s nine_most c.self.invariant.sound refl all_most
+      | inr after ↦ inr (all_left_in c.a_release_is_lane_by_lane.ensures db s nine_most c.self.invariant.sound refl all_most
           (subst (λ x. HoldsStock db (released s nine_most x)) c.has_overflow-lower.ensures after))
     ])
 
