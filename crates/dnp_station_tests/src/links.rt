@@ -1,0 +1,190 @@
+//! A link by itself, over runs of events.
+
+use crate::plans::{Alike, plan_of};
+use End::{Master, Outstation};
+use LinkEvent::{Ask, Change, Deliver, HangUp, Lose, Open, Pass, Repeat, Restart, Tick};
+use Way::{Down, Up};
+use dnp_eventbuf::{Lanes, PlainJournal, PlainLanes};
+use dnp_master::{Classes, Task};
+use dnp_objects::{Kind, Lane};
+use dnp_pointdb::{Reading, Times};
+use dnp_world::{End, LinkEvent, OneLink, Way};
+use std::alloc::Global;
+use std::test::Fail;
+
+/// A link over plain lanes and a plain journal.
+type PlainLink = OneLink<PlainLanes, PlainJournal>;
+
+/// What a link shows: how many events were taken, released and left, and how many wait.
+type Shown = (usize, usize, usize, u32);
+
+/// What happens on a link.
+#[derive(Clone, Copy)]
+enum Run {
+    Opens,
+    HangsUp(End),
+    /// The analog 2 reads this.
+    Reads(i64),
+    /// Events of class 1 are polled.
+    Polls,
+    /// So many units of a way come to its end.
+    Delivers(Way, usize),
+    Repeats(Way),
+    Loses(Way),
+    /// So many milliseconds pass, and the master looks at its timer.
+    Waits(u64),
+    Restarts(End),
+}
+
+/// A link with four analogs of class 1 and lanes of 200 rows or of 2, whose unsolicited responses are off.
+fn link_of(alloc: Global, wide: bool) -> Option<PlainLink> {
+    let points = Alike {
+        kind: Kind::Analog,
+        base: 0,
+        count: 4,
+        class: 1,
+        deadband: 0,
+    };
+    let Ok(Ok(plan)) = plan_of(alloc, &[points]) else {
+        return None;
+    };
+    let times = Times {
+        confirm_ms: 5_000,
+        response_ms: 10_000,
+        select_ms: 5_000,
+        retries: 0,
+        unsolicited: false,
+    };
+    let lanes = if wide {
+        PlainLanes::new(alloc, [200; 9])
+    } else {
+        PlainLanes::new(alloc, [2; 9])
+    };
+    let lanes = lanes.ok()?;
+    OneLink::new(alloc, plan, lanes, PlainJournal::new(alloc), times).ok()
+}
+
+/// The analog 2 reads this.
+fn reads(value: i64) -> LinkEvent {
+    Change {
+        kind: Kind::Analog,
+        index: 2,
+        reading: Reading {
+            value,
+            flags: 1,
+            time: Some(1_000),
+        },
+    }
+}
+
+/// Whether one event is done.
+fn is_done(link: &mut PlainLink, alloc: Global, event: LinkEvent) -> bool {
+    link.run(alloc, &[event]).is_ok()
+}
+
+/// Whether so many units of a way come to its end.
+fn delivers(link: &mut PlainLink, alloc: Global, way: Way, units: usize) -> bool {
+    for _ in 0..units {
+        if !is_done(link, alloc, Deliver(way)) {
+            return false;
+        }
+    }
+    true
+}
+
+/// Whether this is done.
+fn does(link: &mut PlainLink, alloc: Global, run: Run) -> bool {
+    match run {
+        Run::Opens => is_done(link, alloc, Open),
+        Run::HangsUp(end) => is_done(link, alloc, HangUp(end)),
+        Run::Reads(value) => is_done(link, alloc, reads(value)),
+        Run::Polls => is_done(
+            link,
+            alloc,
+            Ask(Task::Poll(Classes([false, true, false, false]))),
+        ),
+        Run::Delivers(way, units) => delivers(link, alloc, way, units),
+        Run::Repeats(way) => is_done(link, alloc, Repeat(way)),
+        Run::Loses(way) => is_done(link, alloc, Lose(way)),
+        Run::Waits(ms) => link.run(alloc, &[Pass(ms), Tick(Master)]).is_ok(),
+        Run::Restarts(end) => is_done(link, alloc, Restart(end)),
+    }
+}
+
+/// Whether these are done, one after the other, so many times.
+fn repeats(link: &mut PlainLink, alloc: Global, times: usize, runs: &[Run]) -> bool {
+    for _ in 0..times {
+        for run in runs {
+            if !does(link, alloc, *run) {
+                return false;
+            }
+        }
+    }
+    true
+}
+
+/// What a link shows.
+fn shown(link: &mut PlainLink) -> Option<Shown> {
+    let lane = Lane::new(1, Kind::Analog)?;
+    let waiting = link.lanes().len(lane);
+    Some((
+        link.taken().len(),
+        link.released().len(),
+        link.left().len(),
+        waiting,
+    ))
+}
+
+/// Whether a link shows behind each row what the row says.
+fn goes(link: &mut PlainLink, alloc: Global, rows: &[(usize, &[Run], Shown)]) -> bool {
+    for (times, runs, wanted) in rows {
+        if !repeats(link, alloc, *times, runs) || shown(link) != Some(*wanted) {
+            return false;
+        }
+    }
+    true
+}
+
+#[test]
+fn a_link_loses_no_event(rt: HostRuntime) -> Result<(), Fail> {
+    use Run::{Delivers, HangsUp, Loses, Opens, Polls, Reads, Repeats, Restarts, Waits};
+
+    let alloc = rt.alloc();
+    let mut link = link_of(alloc, false).expect(&rt, "a link");
+    #[rattlefmt::skip]
+    let rows: [(usize, &[Run], Shown); 6] = [
+        (1, &[Opens, Reads(1)], (0, 0, 0, 1)),
+        // Seventeen polls with every confirm lost: each gives the event again.
+        (17, &[Polls, Delivers(Down, 1), Delivers(Up, 1), Loses(Down)], (17, 0, 0, 1)),
+        // A repeat asks nothing again, and a confirm that comes releases.
+        (1, &[Polls, Repeats(Down), Delivers(Down, 1), Delivers(Up, 2), Delivers(Down, 1)], (18, 1, 0, 0)),
+        // A full lane drops its oldest, and a restart empties the others.
+        (1, &[Reads(0), Reads(1), Reads(0), Restarts(Outstation)], (18, 1, 3, 0)),
+        // A poll whose response is lost: behind its timer the master asks nothing more.
+        (1, &[Opens, Reads(1), Polls, Delivers(Down, 1), Loses(Up), Waits(10_000), Polls], (18, 1, 3, 1)),
+        (1, &[Delivers(Down, 1), Delivers(Up, 1), HangsUp(Master)], (18, 1, 3, 1)),
+    ];
+    assert!(rt; goes(&mut link, alloc, &rows));
+    Ok(())
+}
+
+/// 157 analog events with times come by one poll, in two fragments, and each confirm releases those of its fragment.
+#[test]
+fn a_poll_of_157_events(rt: HostRuntime) -> Result<(), Fail> {
+    use Run::{Delivers, Opens, Polls, Reads};
+
+    let alloc = rt.alloc();
+    let mut link = link_of(alloc, true).expect(&rt, "a link");
+    #[rattlefmt::skip]
+    let rows: [(usize, &[Run], Shown); 6] = [
+        (1, &[Opens, Reads(1)], (0, 0, 0, 1)),
+        (78, &[Reads(0), Reads(1)], (0, 0, 0, 157)),
+        // 2,037 octets, in nine units.
+        (1, &[Polls, Delivers(Down, 1), Delivers(Up, 9)], (156, 0, 0, 157)),
+        (1, &[Delivers(Down, 1)], (156, 156, 0, 1)),
+        (1, &[Delivers(Up, 1)], (157, 156, 0, 1)),
+        (1, &[Delivers(Down, 1)], (157, 157, 0, 0)),
+    ];
+    assert!(rt; goes(&mut link, alloc, &rows));
+    Ok(())
+}
