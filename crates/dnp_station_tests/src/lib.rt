@@ -16,6 +16,8 @@ mod journals;
 #[cfg(test)]
 mod lanes;
 #[cfg(test)]
+mod link_runs;
+#[cfg(test)]
 mod links;
 #[cfg(test)]
 mod masters;

@@ -1,19 +1,20 @@
-//! A link by itself, over runs of events.
+//! A link by itself, over runs of events, and its two stations hand in hand.
 
 use crate::plans::{Alike, plan_of};
-use End::{Master, Outstation};
 use LinkEvent::{Ask, Change, Deliver, HangUp, Lose, Open, Pass, Repeat, Restart, Tick};
 use Way::{Down, Up};
+use dnp_controls::NoOutputs;
 use dnp_eventbuf::{Lanes, PlainJournal, PlainLanes};
-use dnp_master::{Classes, Task};
-use dnp_objects::{Kind, Lane};
-use dnp_pointdb::{Reading, Times};
+use dnp_master::{Classes, Master, Task};
+use dnp_objects::{Kind, Lane, Row};
+use dnp_outstation::Outstation;
+use dnp_pointdb::{PointDb, PointPlan, Reading, Times};
 use dnp_world::{End, LinkEvent, OneLink, Way};
 use std::alloc::Global;
 use std::test::Fail;
 
 /// A link over plain lanes and a plain journal.
-type PlainLink = OneLink<PlainLanes, PlainJournal>;
+pub(crate) type PlainLink = OneLink<PlainLanes, PlainJournal>;
 
 /// What a link shows: how many events were taken, released and left, and how many wait.
 type Shown = (usize, usize, usize, u32);
@@ -36,8 +37,11 @@ enum Run {
     Restarts(End),
 }
 
-/// A link with four analogs of class 1 and lanes of 200 rows or of 2, whose unsolicited responses are off.
-fn link_of(alloc: Global, wide: bool) -> Option<PlainLink> {
+/// A poll of class 1.
+const POLL: Task = Task::Poll(Classes([false, true, false, false]));
+
+/// Four analogs of class 1.
+fn four_analogs(alloc: Global) -> Option<PointPlan> {
     let points = Alike {
         kind: Kind::Analog,
         base: 0,
@@ -45,35 +49,68 @@ fn link_of(alloc: Global, wide: bool) -> Option<PlainLink> {
         class: 1,
         deadband: 0,
     };
-    let Ok(Ok(plan)) = plan_of(alloc, &[points]) else {
-        return None;
-    };
-    let times = Times {
+    match plan_of(alloc, &[points]) {
+        Ok(Ok(plan)) => Some(plan),
+        _ => None,
+    }
+}
+
+/// A confirm has five seconds and a response ten.
+fn times_of(unsolicited: bool) -> Times {
+    Times {
         confirm_ms: 5_000,
         response_ms: 10_000,
         select_ms: 5_000,
         retries: 0,
-        unsolicited: false,
-    };
+        unsolicited,
+    }
+}
+
+/// A link with four analogs of class 1 and lanes of 200 rows or of 2, with or without unsolicited responses.
+pub(crate) fn link_of(alloc: Global, wide: bool, unsolicited: bool) -> Option<PlainLink> {
+    let plan = four_analogs(alloc)?;
     let lanes = if wide {
         PlainLanes::new(alloc, [200; 9])
     } else {
         PlainLanes::new(alloc, [2; 9])
     };
     let lanes = lanes.ok()?;
-    OneLink::new(alloc, plan, lanes, PlainJournal::new(alloc), times).ok()
+    OneLink::new(
+        alloc,
+        plan,
+        lanes,
+        PlainJournal::new(alloc),
+        times_of(unsolicited),
+    )
+    .ok()
+}
+
+/// A reading at 1,000 with flags 01.
+fn reading(value: i64) -> Reading {
+    Reading {
+        value,
+        flags: 1,
+        time: Some(1_000),
+    }
 }
 
 /// The analog 2 reads this.
-fn reads(value: i64) -> LinkEvent {
+pub(crate) fn reads(value: i64) -> LinkEvent {
     Change {
         kind: Kind::Analog,
         index: 2,
-        reading: Reading {
-            value,
-            flags: 1,
-            time: Some(1_000),
-        },
+        reading: reading(value),
+    }
+}
+
+/// The event of the analog 2 that reads this.
+pub(crate) fn event_of(value: i64) -> Row {
+    Row {
+        kind: Kind::Analog,
+        index: 2,
+        flags: 1,
+        value,
+        time: Some(1_000),
     }
 }
 
@@ -98,15 +135,11 @@ fn does(link: &mut PlainLink, alloc: Global, run: Run) -> bool {
         Run::Opens => is_done(link, alloc, Open),
         Run::HangsUp(end) => is_done(link, alloc, HangUp(end)),
         Run::Reads(value) => is_done(link, alloc, reads(value)),
-        Run::Polls => is_done(
-            link,
-            alloc,
-            Ask(Task::Poll(Classes([false, true, false, false]))),
-        ),
+        Run::Polls => is_done(link, alloc, Ask(POLL)),
         Run::Delivers(way, units) => delivers(link, alloc, way, units),
         Run::Repeats(way) => is_done(link, alloc, Repeat(way)),
         Run::Loses(way) => is_done(link, alloc, Lose(way)),
-        Run::Waits(ms) => link.run(alloc, &[Pass(ms), Tick(Master)]).is_ok(),
+        Run::Waits(ms) => link.run(alloc, &[Pass(ms), Tick(End::Master)]).is_ok(),
         Run::Restarts(end) => is_done(link, alloc, Restart(end)),
     }
 }
@@ -150,7 +183,7 @@ fn a_link_loses_no_event(rt: HostRuntime) -> Result<(), Fail> {
     use Run::{Delivers, HangsUp, Loses, Opens, Polls, Reads, Repeats, Restarts, Waits};
 
     let alloc = rt.alloc();
-    let mut link = link_of(alloc, false).expect(&rt, "a link");
+    let mut link = link_of(alloc, false, false).expect(&rt, "a link");
     #[rattlefmt::skip]
     let rows: [(usize, &[Run], Shown); 6] = [
         (1, &[Opens, Reads(1)], (0, 0, 0, 1)),
@@ -159,12 +192,14 @@ fn a_link_loses_no_event(rt: HostRuntime) -> Result<(), Fail> {
         // A repeat asks nothing again, and a confirm that comes releases.
         (1, &[Polls, Repeats(Down), Delivers(Down, 1), Delivers(Up, 2), Delivers(Down, 1)], (18, 1, 0, 0)),
         // A full lane drops its oldest, and a restart empties the others.
-        (1, &[Reads(0), Reads(1), Reads(0), Restarts(Outstation)], (18, 1, 3, 0)),
+        (1, &[Reads(0), Reads(1), Reads(0), Restarts(End::Outstation)], (18, 1, 3, 0)),
         // A poll whose response is lost: behind its timer the master asks nothing more.
         (1, &[Opens, Reads(1), Polls, Delivers(Down, 1), Loses(Up), Waits(10_000), Polls], (18, 1, 3, 1)),
-        (1, &[Delivers(Down, 1), Delivers(Up, 1), HangsUp(Master)], (18, 1, 3, 1)),
+        (1, &[Delivers(Down, 1), Delivers(Up, 1), HangsUp(End::Master)], (18, 1, 3, 1)),
     ];
     assert!(rt; goes(&mut link, alloc, &rows));
+    // What was taken is that one event, each time.
+    assert!(rt; link.taken().iter().all(|row| *row == event_of(1)));
     Ok(())
 }
 
@@ -174,7 +209,7 @@ fn a_poll_of_157_events(rt: HostRuntime) -> Result<(), Fail> {
     use Run::{Delivers, Opens, Polls, Reads};
 
     let alloc = rt.alloc();
-    let mut link = link_of(alloc, true).expect(&rt, "a link");
+    let mut link = link_of(alloc, true, false).expect(&rt, "a link");
     #[rattlefmt::skip]
     let rows: [(usize, &[Run], Shown); 6] = [
         (1, &[Opens, Reads(1)], (0, 0, 0, 1)),
@@ -186,5 +221,55 @@ fn a_poll_of_157_events(rt: HostRuntime) -> Result<(), Fail> {
         (1, &[Delivers(Down, 1)], (157, 157, 0, 0)),
     ];
     assert!(rt; goes(&mut link, alloc, &rows));
+    Ok(())
+}
+
+/// What a master confirms of what an outstation answers to these octets.
+fn confirm_of(
+    station: &mut Outstation<PlainLanes, NoOutputs>,
+    master: &mut Master,
+    alloc: Global,
+    octets: &[u8],
+) -> Option<[u8; 2]> {
+    let actions = station.receive(alloc, 0, octets).ok()?;
+    let Some(fragment) = &actions.send[0] else {
+        return None;
+    };
+    let mut journal = PlainJournal::new(alloc);
+    master
+        .receive(alloc, 0, fragment.as_slice(), &mut journal)
+        .ok()?
+        .send
+}
+
+/// An outstation of which 157 events wait, and its master, on a new connection.
+fn stations_of(alloc: Global) -> Option<(Outstation<PlainLanes, NoOutputs>, Master)> {
+    let plan = four_analogs(alloc)?;
+    let points = PointDb::new(alloc, plan.try_clone(alloc).ok()?).ok()?;
+    let lanes = PlainLanes::new(alloc, [200; 9]).ok()?;
+    let mut station = Outstation::new(points, lanes, NoOutputs, times_of(false));
+    let mut master = Master::new(plan, times_of(false));
+    let _ = station.opened(alloc, 0).ok()?;
+    master.opened();
+    for value in 1..=157 {
+        let _ = station
+            .change(alloc, 0, Kind::Analog, 2, reading(value))
+            .ok()?;
+    }
+    Some((station, master))
+}
+
+/// A response in two fragments takes two numbers, and the next request has the one behind them.
+#[test]
+fn the_request_behind_two_fragments(rt: HostRuntime) -> Result<(), Fail> {
+    let alloc = rt.alloc();
+    let (mut station, mut master) = stations_of(alloc).expect(&rt, "stations");
+    let request = master.ask(0, POLL).expect(&rt, "a request");
+    let first = confirm_of(&mut station, &mut master, alloc, request.as_slice());
+    assert!(rt; first == Some([0xC0, 0x00]));
+    let second = confirm_of(&mut station, &mut master, alloc, &[0xC0, 0x00]);
+    assert!(rt; second == Some([0xC1, 0x00]));
+    let next = master.ask(0, POLL).expect(&rt, "a request");
+    assert!(rt; next.as_slice() == [0xC2, 0x01, 0x3C, 0x02, 0x06].as_slice());
     Ok(())
 }
