@@ -34,7 +34,7 @@ lanes_text =
     codes "CREATE TABLE lanes (lane INTEGER PRIMARY KEY CHECK (lane BETWEEN 0 AND 8), cap INTEGER NOT NULL CHECK (cap BETWEEN 1 AND 4096), "
     ++ codes "lost INTEGER NOT NULL CHECK (lost BETWEEN 0 AND 4611686018427387904), raised INTEGER NOT NULL CHECK (raised BETWEEN 0 AND 1))"
 
-abbrev table_of_text : Result Table CompileError → Table
+abbrev pub table_of_text : Result Table CompileError → Table
 table_of_text (Ok t) = t
 table_of_text (Err e) = no_table
 
@@ -75,7 +75,7 @@ lanes_plain f q = (refl, refl)
 -- ---- the statements
 
 -- the table is made, and then that of the counts, if it is wanted and not there
-makes : (old new : State) (sql : List ℕ) (schema : Schema) (count : ℕ) → old.now.schema ≡ schema → (command_of (understood schema sql) ≡ CreateTable)
+pub makes : (old new : State) (sql : List ℕ) (schema : Schema) (count : ℕ) → old.now.schema ≡ schema → (command_of (understood schema sql) ≡ CreateTable)
     × (statement_of sql (understood schema sql) ≡ sql)
     → IsPlain (understood schema sql) → Executes sql [] old new (Ok count)
     → (mid : Database) × MakesTable sql (record { schema = schema; trees = old.now.trees }) (Ok mid) × MakesSequence mid (Ok new.now)

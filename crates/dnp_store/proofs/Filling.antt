@@ -66,7 +66,7 @@ abbrev pub lane_params : ℕ → ℕ → Row
 lane_params number capacity = Int (pos number) ∷ Int (pos capacity) ∷ []
 
 -- one table has one row more, and no other changes
-record PutsIn (tree : ℕ) (row : Row) (db now : Trees) : Type 0 where
+pub record PutsIn (tree : ℕ) (row : Row) (db now : Trees) : Type 0 where
   pub table : now tree ≡ put_row row (db tree)
   pub others : (t : ℕ) → t ≢ tree → now t ≡ db t
 

@@ -19,3 +19,8 @@ pub mod Opening
 pub mod Rows
 pub mod Reading
 pub mod Restoring
+pub mod JournalStatements
+pub mod JournalHolding
+pub mod JournalReading
+pub mod JournalStanding
+pub mod JournalOpening

@@ -76,13 +76,13 @@ count_query = codes "SELECT rowid, name, seq FROM sqlite_sequence ORDER BY rowid
 abbrev pub queue_query : List ℕ
 queue_query = codes "SELECT id, lane, point, flags, value, time FROM queue ORDER BY id"
 
-abbrev form_terms : List Term
+abbrev pub form_terms : List Term
 form_terms = col 1 0 ∷ col 1 1 ∷ []
 
 abbrev lanes_terms : List Term
 lanes_terms = col 1 0 ∷ col 1 2 ∷ col 1 3 ∷ col 1 4 ∷ []
 
-abbrev count_terms : List Term
+abbrev pub count_terms : List Term
 count_terms = col 1 0 ∷ col 1 1 ∷ col 1 2 ∷ []
 
 abbrev pub queue_terms : List Term
@@ -141,7 +141,7 @@ one_row (r ∷ []) d long = refl
 one_row (r ∷ s ∷ rs) d long = absurd (omega arith)
 
 -- the rows of a table, of which one is shown, are that one
-alone : (f : Row → Row) (db rs : List Row) (rows : List Row) → IsPermutation db rs → rows ≡ map f rs → length rows ≡ 1
+pub alone : (f : Row → Row) (db rs : List Row) (rows : List Row) → IsPermutation db rs → rows ≡ map f rs → length rows ≡ 1
     → (r : Row) × (db ≡ r ∷ []) × (get_or rows 0 [] ≡ f r)
 alone f db rs rows perm is long =
     let many : length rs ≡ 1 = sym (length-map rs f) ∙ ap length (sym is) ∙ long in
@@ -152,7 +152,7 @@ alone f db rs rows perm is long =
       ap (λ xs. get_or xs 0 []) (is ∙ ap (map f) only),
     )
 
-none_left : (db rs : List Row) → IsPermutation db rs → length rs ≡ 0 → db ≡ []
+pub none_left : (db rs : List Row) → IsPermutation db rs → length rs ≡ 0 → db ≡ []
 none_left [] rs perm none = refl
 none_left (r ∷ db) rs perm none = absurd (let h = length_permutation (r ∷ db) rs perm in omega arith)
 
@@ -187,13 +187,13 @@ module _ (old new : State) (rows : List Row) where
       zero-first : (k : ℕ) → k ≡ 0 + k
       zero-first k = omega arith
 
-  pub reads_counts : Shown count_query [] old new rows → Reads old new (λ db. (n : ℕ) → ShowsCount rows n → IsCounted (codes "queue") (db 2) n)
+  pub reads_counts : Shown count_query [] old new rows → Reads old new (λ db. (n : ℕ) → ShowsCount (codes "queue") rows n → IsCounted (codes "queue") (db 2) n)
   reads_counts shown f q l sound has =
       let read = reads_as count_query [] old new (queue_schema f q l) has _ (count_is f q l).0 (count_plain f q l) (count_is f q l).1 rows shown in
       let got = listed 2 count_terms old.now.trees rows refl (read.answer Null) in
       (unchanged count_query old new (queue_schema f q l) rows has (count_plain f q l) shown, λ n shows. go got n shows)
     where
-      go : ((rs : List Row) × IsPermutation (old.now.trees 2) rs × (rows ≡ map (shown_by count_terms) rs)) → (n : ℕ) → ShowsCount rows n
+      go : ((rs : List Row) × IsPermutation (old.now.trees 2) rs × (rows ≡ map (shown_by count_terms) rs)) → (n : ℕ) → ShowsCount (codes "queue") rows n
           → IsCounted (codes "queue") (old.now.trees 2) n
       go got n (inl none) =
           inl (none_left (old.now.trees 2) got.0 got.1 (sym (length-map got.0 (shown_by count_terms)) ∙ ap length (sym got.2) ∙ none.0), none.1)
@@ -212,6 +212,6 @@ module _ {E : Type 0} (old new : State) (rows : List Row) where
   lanes_if (Err e) shown nine shows = tt
 
 pub counts_if : {E : Type 0} (old new : State) (r : Result (Vec (List Value) Global) E) → IfOk r (λ rows. Shown count_query [] old new rows.items)
-    → IfOk r (λ rows. Reads old new (λ db. (n : ℕ) → ShowsCount rows.items n → IsCounted (codes "queue") (db 2) n))
+    → IfOk r (λ rows. Reads old new (λ db. (n : ℕ) → ShowsCount (codes "queue") rows.items n → IsCounted (codes "queue") (db 2) n))
 counts_if old new (Ok rows) shown = reads_counts old new rows.items shown
 counts_if old new (Err e) shown = tt

@@ -32,7 +32,7 @@ pub listed : (f q l : List Term) → counters_of (queue_schema f q l) ≡ Some s
 unfolding everything
 listed f q l = refl
 
-cast_time : (t : Option ℕ) → Rattle.sqlite.specs.Cast.cast Rattle.sqlite.specs.Kind.TheVariants.Integer (or_null t) ≡ or_null t
+pub cast_time : (t : Option ℕ) → Rattle.sqlite.specs.Cast.cast Rattle.sqlite.specs.Kind.TheVariants.Integer (or_null t) ≡ or_null t
 cast_time None = cast_null
 cast_time (Some n) = cast_int (pos n)
 

@@ -55,7 +55,7 @@ pub update_bound : (a b c : Value) (number lost : ℕ) (raised : Bool) → a ≡
     → (bound_value a ∷ bound_value b ∷ bound_value c ∷ []) ≡ update_params number lost raised
 update_bound a b c number lost raised p q r = rw (p, q, r) refl
 
-bound_time : (t : Option ℕ) → bound_value (values.or_null Int (option_map pos t)) ≡ or_null t
+pub bound_time : (t : Option ℕ) → bound_value (values.or_null Int (option_map pos t)) ≡ or_null t
 bound_time None = refl
 bound_time (Some n) = refl
 

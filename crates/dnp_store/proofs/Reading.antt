@@ -31,7 +31,7 @@ shown_goes_on sql ps old new rows inside h = go h.0.returning h.2
       };
     }
 
-failed_keeps : (old new : State) (sql : List ℕ) (ps : Row) (e : Error) → FailsToQuery sql ps old new e ⊎ IsTooLate sql ps old new e → KeepsCommit old new
+pub failed_keeps : (old new : State) (sql : List ℕ) (ps : Row) (e : Error) → FailsToQuery sql ps old new e ⊎ IsTooLate sql ps old new e → KeepsCommit old new
 unfolding FailsToQuery IsNotRun
 failed_keeps old new sql ps e (inl (inl (inl refused))) = unchanged_keeps old new (inl refused.1)
 failed_keeps old new sql ps e (inl (inl (inr fails))) = unchanged_keeps old new (inr fails.3)

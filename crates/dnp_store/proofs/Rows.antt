@@ -48,7 +48,7 @@ at_most key at (c ∷ cs) [] h = omega arith
 at_most key at (c ∷ cs) (v ∷ vs) h =
     let rest = at_most key (at + 1) cs vs (and_right (if is_key key at then is_null v else suits c v) (are_typed key (at + 1) cs vs) h) in omega arith
 
-typed : (key : Option ℕ) (columns : List Column) (other : Row → Bool) (rows : List Row)
+pub typed : (key : Option ℕ) (columns : List Column) (other : Row → Bool) (rows : List Row)
     → AllByRecursion (λ r. (are_typed key 0 columns (drop 1 r) && other r) ≡ true) rows → AllByRecursion (IsTyped key columns) rows
 typed key columns other [] h = tt
 typed key columns other (r ∷ rows) h = (and_left _ _ h.0, typed key columns other rows h.1)

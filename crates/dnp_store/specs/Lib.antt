@@ -2,7 +2,10 @@
 pub mod Tables
 pub mod QueueTables
 pub mod Kept
+pub mod JournalTables
+pub mod JournalKept
 -- Words of private steps.
 pub mod Steps
 pub mod Making
 pub mod Shown
+pub mod JournalShown

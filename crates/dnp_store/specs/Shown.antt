@@ -1,5 +1,5 @@
 -- Words of private steps: what queries show of a queue's tables, and the lanes that are put together from it.
-use Rattle.std.specs.Prelude.{◌≡◌, ◌⊎◌, ℕ, ◌<◌, ◌≤◌, ℤ, pos, true, if◌then◌else◌, List, [], ◌∷◌, map, length, codes, slice_index_or}
+use Rattle.std.specs.Prelude.{◌≡◌, ◌⊎◌, ℕ, ◌<◌, ◌≤◌, ℤ, pos, true, if◌then◌else◌, List, [], ◌∷◌, map, length, slice_index_or}
 use Rattle.std.specs.List.{AllByRecursion}
 use Rattle.std.specs.List.Sorted.{IsPermutation}
 use Rattle.sqlite.specs.declared.types.Value.TheVariants.{Int, Text}
@@ -63,15 +63,16 @@ pub record IsBegun (s : Stock) (figures : List Figures) (last : ℕ) : Type 0 wh
 
 -- ---- `sqlite_sequence`
 
-pub record ShowsCountOf (row : SqlRow) (id n : ℕ) : Type 0 where
+pub record ShowsCountOf (table : List ℕ) (row : SqlRow) (id n : ℕ) : Type 0 where
   pub id_is : column row 0 ≡ Int (pos id)
-  pub name : column row 1 ≡ Text (codes "queue")
+  pub name : column row 1 ≡ Text table
   pub count : column row 2 ≡ Int (pos n)
 
-abbrev pub ShowsCount : List SqlRow → ℕ → Type 0
-ShowsCount rows n =
+-- for the table of this name
+abbrev pub ShowsCount : List ℕ → List SqlRow → ℕ → Type 0
+ShowsCount table rows n =
     ((length rows ≡ 0) × (n ≡ 0))
-    ⊎ ((id : ℕ) × (length rows ≡ 1) × ShowsCountOf (slice_index_or rows 0 []) id n)
+    ⊎ ((id : ℕ) × (length rows ≡ 1) × ShowsCountOf table (slice_index_or rows 0 []) id n)
 
 -- ---- `queue`
 

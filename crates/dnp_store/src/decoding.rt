@@ -18,14 +18,14 @@ use sqlite_value::value::ValueRef;
 use std::alloc::{AllocError, Global};
 
 /// The number in this column, if it is one from 0 on.
-fn whole(row: &Shown, at: usize) -> Option<u64>
+pub(crate) fn whole(row: &Shown, at: usize) -> Option<u64>
     ensures { IfSome result (λ n. column row.now at ≡ Int (pos n)) }
 {
     row.get::<u64>(at).ok()
 }
 
 /// The number in this column, if it is in range.
-fn small(row: &Shown, at: usize) -> Option<u32>
+pub(crate) fn small(row: &Shown, at: usize) -> Option<u32>
     ensures { IfSome result (λ n. column row.now at ≡ Int (pos n)) }
 {
     row.get::<u32>(at).ok()
@@ -92,12 +92,12 @@ pub(crate) fn all_figures(alloc: Global, rows: &[Shown]) -> Result<Vec<Figures>,
     Ok(figures)
 }
 
-/// The rowid of a row that counts for `queue`, and the number that it notes.
-fn count_in(row: &Shown) -> Option<(u64, u64)>
-    ensures { IfSome result (λ x. ShowsCountOf row.now x.0 x.1) }
+/// The rowid of a row that counts for this table, and the number that it notes.
+fn count_in(row: &Shown, table: &str) -> Option<(u64, u64)>
+    ensures { IfSome result (λ x. ShowsCountOf table.now row.now x.0 x.1) }
 {
     match row.get_ref(1).ok()? {
-        ValueRef::Text(name) if name == "queue".as_bytes() => {
+        ValueRef::Text(name) if name == table.as_bytes() => {
             let id = whole(row, 0)?;
             let n = whole(row, 2)?;
             Some((id, n))
@@ -107,8 +107,8 @@ fn count_in(row: &Shown) -> Option<(u64, u64)>
 }
 
 /// The last id used, if nothing else is noted.
-fn counted(rows: &[Shown]) -> Option<u64>
-    ensures { IfSome result (λ n. ShowsCount rows.now n) }
+fn counted(rows: &[Shown], table: &str) -> Option<u64>
+    ensures { IfSome result (λ n. ShowsCount table.now rows.now n) }
 {
     if rows.is_empty() {
         return Some(0);
@@ -116,31 +116,31 @@ fn counted(rows: &[Shown]) -> Option<u64>
     if rows.len() > 1 {
         return None;
     }
-    let (_id, n) = count_in(&rows[0])?;
+    let (_id, n) = count_in(&rows[0], table)?;
     Some(n)
 }
 
-/// The greatest number that is noted for `queue`, or 0.
-fn greatest(rows: &[Shown]) -> u64 {
+/// The greatest number that is noted for this table, or 0.
+fn greatest(rows: &[Shown], table: &str) -> u64 {
     let mut greatest = 0;
     for row in rows {
-        if let Some((_id, n)) = count_in(row) {
+        if let Some((_id, n)) = count_in(row, table) {
             greatest = greatest.max(n);
         }
     }
     greatest
 }
 
-/// The last id used, at most `MAX_ID`, and whether that alone is noted.
-pub(crate) fn last_used(counts: &[Shown], rows: &[Shown]) -> Option<(u64, bool)>
-    ensures { IfSome result (λ last. (last.0 ≤ limits.MAX_ID) × (IsTrue last.1 → ShowsCount counts.now last.0)) }
+/// The last id used in this table, at most `MAX_ID`, and whether that alone is noted.
+pub(crate) fn last_used(counts: &[Shown], rows: &[Shown], table: &str) -> Option<(u64, bool)>
+    ensures { IfSome result (λ last. (last.0 ≤ limits.MAX_ID) × (IsTrue last.1 → ShowsCount table.now counts.now last.0)) }
 {
     let top = match rows.last() {
         Some(row) => whole(row, 0)?,
         None => 0,
     };
-    let noted = counted(counts);
-    let last = noted.unwrap_or(greatest(counts)).max(top);
+    let noted = counted(counts, table);
+    let last = noted.unwrap_or(greatest(counts, table)).max(top);
     if last <= MAX_ID {
         Some((last, noted == Some(last)))
     } else {

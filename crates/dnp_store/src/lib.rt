@@ -1,9 +1,17 @@
-//! Event lanes that outlive a power cut: the stores of DNP3 stations in SQL databases.
+//! Event lanes and a journal that outlive a power cut: the stores of DNP3 stations in SQL databases.
 #![tactic(auto)]
 
 mod decoding;
 mod fault;
 mod figures;
+mod journal;
+mod journal_decoding;
+mod journal_form;
+mod journal_open;
+mod journal_opening;
+mod journal_reading;
+mod journal_tables;
+mod journal_writing;
 mod open;
 mod queue;
 mod queue_form;
@@ -14,5 +22,6 @@ mod queue_statements;
 mod queue_tables;
 mod queue_writing;
 
+pub use journal::Journal;
 pub use open::OpenFault;
 pub use queue::Queue;

@@ -33,7 +33,7 @@ pub enum OpenFault {
 }
 
 /// Whether the database has no table, index or view.
-fn is_bare<S: Alter>(conn: &Connection<S>) -> bool
+pub(crate) fn is_bare<S: Alter>(conn: &Connection<S>) -> bool
     ensures { IsTrue result ↔ ((state S.Store conn.now).now.schema ≡ no_schema) }
 {
     let schema = conn.schema();
@@ -42,7 +42,7 @@ fn is_bare<S: Alter>(conn: &Connection<S>) -> bool
 
 /// Why a store does not begin or open, by whether what stands there is wrong and whether the connection is
 /// lost.
-fn open_fault(is_wrong: bool, lost: bool) -> OpenFault
+pub(crate) fn open_fault(is_wrong: bool, lost: bool) -> OpenFault
     ensures { result ≡ OpenFault.WrongForm → IsTrue is_wrong }
 {
     if is_wrong {
@@ -55,7 +55,7 @@ fn open_fault(is_wrong: bool, lost: bool) -> OpenFault
 }
 
 /// Why a store does not open, where its tables could not be read.
-fn unread_fault<S: Alter>(conn: &mut Connection<S>, unread: &Unread) -> OpenFault
+pub(crate) fn unread_fault<S: Alter>(conn: &mut Connection<S>, unread: &Unread) -> OpenFault
     requires { conn.old.in_transaction ≡ false }
     ensures clean { HasCleanDisk (state S.Store conn.new) → HasCleanDisk (state S.Store conn.old) }
     ensures same { HasCleanDisk (state S.Store conn.new) → IsTrue (state S.Store conn.new).is_open

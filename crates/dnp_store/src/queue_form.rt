@@ -13,7 +13,7 @@ use sqlite_value::keys::Collation;
 use sqlite_value::value::Value;
 
 /// Whether the column has this name, type and NOT NULL, and nothing else.
-fn is_column(column: &Column, name: &str, kind: Kind, not_null: bool) -> bool
+pub(crate) fn is_column(column: &Column, name: &str, kind: Kind, not_null: bool) -> bool
     ensures { IsTrue result → column.now ≡ column_of name.now kind not_null }
 {
     column.name.as_slice() == name.as_bytes()
@@ -45,7 +45,7 @@ fn is_unstamped(stamps: &Stamps) -> bool
 
 /// Whether nothing but a name, columns, CHECKs and perhaps an INTEGER PRIMARY KEY in the first column makes
 /// the table.
-fn is_plain(table: &Table, name: &str, tree: u32, keyed: bool, counted: bool) -> bool
+pub(crate) fn is_plain(table: &Table, name: &str, tree: u32, keyed: bool, counted: bool) -> bool
     ensures { IsTrue result → table.now ≡ table_of name.now tree table.now.columns keyed counted table.now.checks }
 {
     table.name.as_slice() == name.as_bytes()
@@ -60,7 +60,7 @@ fn is_plain(table: &Table, name: &str, tree: u32, keyed: bool, counted: bool) ->
 }
 
 /// Whether the table is `form`.
-fn is_form(table: &Table) -> bool
+pub(crate) fn is_form(table: &Table) -> bool
     ensures { IsTrue result → table.now ≡ form_with table.now.checks }
 {
     let columns = table.columns.as_slice();
@@ -80,7 +80,7 @@ fn are_first(columns: &[Column]) -> bool
 }
 
 /// Whether the last three of six columns are those of `queue`.
-fn are_last(columns: &[Column]) -> bool
+pub(crate) fn are_last(columns: &[Column]) -> bool
     requires { length columns.now ≡ 6 }
     ensures { IsTrue result → drop 3 columns.now ≡ column_of (codes "flags") Integer true ∷ column_of (codes "value") Integer true ∷ column_of (codes "time") Integer false ∷ [] }
 {
@@ -101,7 +101,7 @@ fn is_queue(table: &Table) -> bool
 }
 
 /// Whether the table is that in which AUTOINCREMENT counts.
-fn is_sequence(table: &Table) -> bool
+pub(crate) fn is_sequence(table: &Table) -> bool
     ensures { IsTrue result → table.now ≡ sequence }
 {
     let columns = table.columns.as_slice();

@@ -33,7 +33,7 @@ fn read_all<S: Alter>(
     let figures = read_figures(tx, alloc)?;
     let counts = read_counts(tx)?;
     let rows = read_queued(tx)?;
-    let Some((last_id, counted)) = last_used(&counts, &rows) else {
+    let Some((last_id, counted)) = last_used(&counts, &rows, "queue") else {
         return Err(Unread::Form);
     };
     let Ok(mut lanes) = begun(alloc, &figures, last_id) else {
@@ -47,7 +47,7 @@ fn read_all<S: Alter>(
 }
 
 /// Whether both are so.
-fn both(one: bool, other: bool) -> bool
+pub(crate) fn both(one: bool, other: bool) -> bool
     ensures { IsTrue result → IsTrue one × IsTrue other }
 {
     one && other

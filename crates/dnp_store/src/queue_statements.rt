@@ -14,7 +14,7 @@ use dnp_eventbuf::LaneRow;
 use sqlite::{Alter, Error, Transaction, params};
 
 /// A time in milliseconds, as a column takes it.
-fn whole_time(time: Option<u64>) -> Option<i64>
+pub(crate) fn whole_time(time: Option<u64>) -> Option<i64>
     requires { IfSome time (λ time. time < 2 ^ 63) }
     ensures { result ≡ option_map pos time }
 {

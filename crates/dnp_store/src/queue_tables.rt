@@ -13,7 +13,7 @@ use dnp_objects::LANES;
 use sqlite::{Alter, Connection, Error, Transaction, params};
 
 /// Makes `form`.
-fn make_form<S: Alter>(tx: &mut Transaction<'_, S>) -> Result<(), Error>
+pub(crate) fn make_form<S: Alter>(tx: &mut Transaction<'_, S>) -> Result<(), Error>
     requires inside { HasCleanDisk (state S.Store tx.old.conn.now) → IsTrue (state S.Store tx.old.conn.now).in_transaction }
     ensures same_reference { tx.new.conn.ghost_name ≡ tx.old.conn.ghost_name }
     ensures inside { HasCleanDisk (state S.Store tx.new.conn.now) → OnOk result (IsTrue (state S.Store tx.new.conn.now).in_transaction) }

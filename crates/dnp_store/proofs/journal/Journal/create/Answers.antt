@@ -1,0 +1,30 @@
+use Rattle.std.proofs.Common.{rules, ◌≡◌, IsTrue, length, sym, ap, refl, arith}
+use Rattle.sqlite.specs.State.{HasCleanDisk}
+use Rattle.sqlite.specs.Held.{state}
+use Rattle.dnp_eventbuf.specs.Archive.{Archive}
+use Rattle.dnp_store.specs.JournalKept.{Stands}
+use Rattle.dnp_store.specs.JournalTables.{empty_archive}
+use Rattle.dnp_store.specs.Tables.{no_schema}
+use Rattle.dnp_store.proofs.JournalStanding.{told_is, told_stands}
+use Rattle.dnp_store.proofs.journal.Journal.create.Goals as goal
+
+stood : (g : _) (c : goal.In_default g) → HasCleanDisk (state g.S.Store c.write_tables.new.conn) → IsTrue c.is_bare-owned.result
+    → Stands (state g.S.Store c.write_tables.new.conn) empty_archive
+stood g c clean own =
+    let bare : (state g.S.Store c.args.conn).now.schema ≡ no_schema = search rules in
+    c.in_default.ensures.ok clean bare
+
+pub invariant_of-result : goal.invariant_of-result
+invariant_of-result g c = record {
+  idle = c.write_tables.ensures.idle;
+  last_in_range = omega arith;
+  count_in_range = omega arith;
+  stands = λ serves own clean. told_stands (state g.S.Store c.write_tables.new.conn) empty_archive 0 refl (stood g c clean own);
+  count_is = λ serves own clean. sym (ap (λ (a : Archive). length a.rows) (told_is (state g.S.Store c.write_tables.new.conn) empty_archive 0 refl (stood g c clean own)));
+}
+
+pub returns-clause-empty : goal.returns-clause-empty
+returns-clause-empty g c clean own = told_is (state g.S.Store c.write_tables.new.conn) empty_archive 0 refl (stood g c clean own)
+
+pub returns-clause-stands : goal.returns-clause-stands
+returns-clause-stands g c clean own = told_stands (state g.S.Store c.write_tables.new.conn) empty_archive 0 refl (stood g c clean own)

@@ -1,0 +1,67 @@
+use Rattle.std.proofs.Common.{◌≡◌, ◌+◌, false, IsTrue, length, arith, refl, sym, ap, subst, ◌∙◌}
+use Rattle.sqlite.specs.State.{HasCleanDisk}
+use Rattle.sqlite.specs.Held.{state}
+use Rattle.dnp_eventbuf.specs.Archive.{Archive, with_events}
+use Rattle.dnp_store.specs.JournalKept.{Kept, Stands, Leaves, LeavesEither, archive_of, held_archive}
+use Rattle.dnp_store.proofs.JournalHolding.{count_with}
+use Rattle.dnp_store.proofs.JournalStanding.{either_of, leaves_last, told_is, told_stands}
+use Rattle.dnp_store.proofs.journal.JournalSink.append.Goals as goal
+
+pub returns-in-Err-clause-either : goal.returns-in-Err-clause-either
+returns-in-Err-clause-either g c clean =
+    let events = c.args.events.now in
+    let old = state g.S.Store c.self.inside.conn in
+    let mid = state g.S.Store c.write_events.new.conn in
+    let new = state g.S.Store c.is_lost-lost.new.conn in
+    let a = archive_of g.S.Store c.self.inside.conn c.self.inside.last_id in
+    let P = λ (k : Kept _). k.stopped ≡ false → IsTrue k.owned → LeavesEither new (held_archive g.S.Store k) (with_events (held_archive g.S.Store k) events) in
+    subst P c.self.view_is (λ serves own db may.
+    let early : HasCleanDisk mid = omega (arith, c.is_lost-lost.ensures.survives.clean) in
+    let first : HasCleanDisk old = omega (arith, early, c.write_events.ensures.survives.clean) in
+    either_of old mid new a (λ b. with_events b events) clean early (g.met.S.Store.settled c.self.inside.conn.store)
+    (c.self.invariant.stands serves own first) c.write_events.ensures.survives c.is_lost-lost.ensures.survives db may)
+
+-- what was written holds the events too
+stood : (g : _) (c : goal.After-new g) → HasCleanDisk (state g.S.Store c.write_events.new.conn) → c.self.inside.stopped ≡ false → IsTrue c.self.inside.owned
+    → Stands (state g.S.Store c.write_events.new.conn) (with_events (archive_of g.S.Store c.self.inside.conn c.self.inside.last_id) c.args.events.now)
+stood g c clean serves own =
+    let early : HasCleanDisk (state g.S.Store c.self.inside.conn) = omega (arith, clean, c.write_events.ensures.survives.clean) in
+    let was = c.self.invariant.stands serves own early in
+    c.in_default.ensures.ok clean (archive_of g.S.Store c.self.inside.conn c.self.inside.last_id) was
+
+pub invariant_of-self-2 : goal.invariant_of-self-2
+invariant_of-self-2 g c =
+    let new = state g.S.Store c.write_events.new.conn in
+    let events = c.args.events.now in
+    let a = archive_of g.S.Store c.self.inside.conn c.self.inside.last_id in
+    record {
+      idle = c.write_events.ensures.idle;
+      last_in_range = omega (arith, c.if-count-self.false, c.self.invariant.last_in_range);
+      count_in_range = omega (arith, c.self.invariant.count_in_range);
+      stands = λ serves own clean. told_stands new (with_events a events) (c.self.inside.last_id + length events) refl (stood g c clean serves own);
+      count_is = λ serves own clean.
+          let early : HasCleanDisk (state g.S.Store c.self.inside.conn) = omega (arith, clean, c.write_events.ensures.survives.clean) in
+          ap (λ n. n + length events) (c.self.invariant.count_is serves own early) ∙ sym (count_with a events)
+          ∙ sym (ap (λ (b : Archive). length b.rows) (told_is new (with_events a events) (c.self.inside.last_id + length events) refl (stood g c clean serves own)));
+    }
+
+pub returns-clause-taken : goal.returns-clause-taken
+returns-clause-taken g c h =
+    let new = state g.S.Store c.write_events.new.conn in
+    let events = c.args.events.now in
+    let last = c.self.inside.last_id + length events in
+    let a = archive_of g.S.Store c.self.inside.conn c.self.inside.last_id in (
+      subst (λ (k : Kept _). archive_of g.S.Store c.write_events.new.conn last ≡ with_events (held_archive g.S.Store k) events) c.self.view_is
+          (told_is new (with_events a events) last refl (stood g c h.0 h.1 h.2)),
+      c.new.ensures.items,
+    )
+
+pub returns-clause-after : goal.returns-clause-after
+returns-clause-after g c clean =
+    let new = state g.S.Store c.write_events.new.conn in
+    let events = c.args.events.now in
+    let last = c.self.inside.last_id + length events in
+    let a = archive_of g.S.Store c.self.inside.conn c.self.inside.last_id in
+    let P = λ (k : Kept _). IsTrue k.owned → Leaves new (archive_of g.S.Store c.write_events.new.conn last) in
+    subst P c.self.view_is (λ own. leaves_last new (archive_of g.S.Store c.write_events.new.conn last) (g.met.S.Store.settled c.write_events.new.conn.store)
+    (told_stands new (with_events a events) last refl (stood g c clean c.if-self.false own)))

@@ -1,0 +1,32 @@
+use Rattle.std.proofs.Common.{not, IsTrue, ap, ◌∙◌, arith}
+use mir.Syntax.{w64}
+use Rattle.std.proofs.lemmas.Int.{to_z_pos}
+use Rattle.sqlite.specs.declared.types.Value.TheVariants.{Int}
+use Rattle.dnp_store.proofs.QueueSteps.{delete_bound}
+use Rattle.sqlite.specs.Held.{state}
+use Rattle.dnp_store.proofs.JournalReading.{read_if, open_if, same_if}
+use Rattle.dnp_store.proofs.journal_reading.query_over.Goals as goal
+
+idle : (g : _) (c : goal.After-query_all g) → IsTrue c.is_autocommit.result
+idle g c = c.is_autocommit.ensures.value ∙ ap not c.requires.idle
+
+pub returns-clause-read : goal.returns-clause-read
+returns-clause-read g c clean =
+    read_if (state g.S.Store c.args.conn.now) (state g.S.Store c.query_all.new.self) c.args.from c.args.most _
+    (delete_bound _ _ c.args.from c.args.most (c.params-to_sql.ensures ∙ ap Int (to_z_pos w64 c.args.from (omega (arith, c.requires.from))))
+    (c.params-to_sql-2.ensures ∙ ap Int (to_z_pos w64 c.args.most (omega (arith, c.requires.most)))))
+    (c.is_autocommit.ensures.settled (idle g c)) c.query_all.result (c.query_all.ensures.ok clean)
+
+pub returns-clause-open : goal.returns-clause-open
+returns-clause-open g c clean =
+    open_if (state g.S.Store c.args.conn.now) (state g.S.Store c.query_all.new.self) c.args.from c.args.most _
+    (delete_bound _ _ c.args.from c.args.most (c.params-to_sql.ensures ∙ ap Int (to_z_pos w64 c.args.from (omega (arith, c.requires.from))))
+    (c.params-to_sql-2.ensures ∙ ap Int (to_z_pos w64 c.args.most (omega (arith, c.requires.most)))))
+    (c.is_autocommit.ensures.settled (idle g c)) c.query_all.result (c.query_all.ensures.ok clean)
+
+pub returns-clause-same : goal.returns-clause-same
+returns-clause-same g c clean =
+    same_if (state g.S.Store c.args.conn.now) (state g.S.Store c.query_all.new.self) c.args.from c.args.most _
+    (delete_bound _ _ c.args.from c.args.most (c.params-to_sql.ensures ∙ ap Int (to_z_pos w64 c.args.from (omega (arith, c.requires.from))))
+    (c.params-to_sql-2.ensures ∙ ap Int (to_z_pos w64 c.args.most (omega (arith, c.requires.most)))))
+    (c.is_autocommit.ensures.settled (idle g c)) c.query_all.result (c.query_all.ensures.ok clean) (c.query_all.ensures.err clean)

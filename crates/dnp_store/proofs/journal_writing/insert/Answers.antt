@@ -1,0 +1,29 @@
+use Rattle.std.proofs.Common.{rules, pos, ap, ◌∙◌, Ok, arith, subst}
+use Rattle.std.proofs.lemmas.Int.{to_z-of_z}
+use mir.Val.{SFits}
+use mir.Syntax.{w64}
+use Rattle.sqlite.specs.declared.types.Value.TheVariants.{Int}
+use Rattle.sqlite.specs.Values.{or_null}
+use Rattle.sqlite.specs.Held.{state}
+use Rattle.sqlite.specs.State.{HasCleanDisk, Executes}
+use Rattle.dnp_store.proofs.JournalStatements.{insert_text}
+use Rattle.dnp_store.proofs.JournalHolding.{insert_holds, insert_bound}
+use Rattle.dnp_store.proofs.QueueSteps.{timed}
+use Rattle.dnp_store.proofs.journal_writing.insert.Goals as goal
+
+pub whole_time-time-requires : goal.whole_time-time-requires
+whole_time-time-requires g c = let row = c.args.event.now in timed row.kind row.index row.flags row.value row.time c.requires.event
+
+pub returns-clause-added : goal.returns-clause-added
+returns-clause-added g c clean a holds =
+    let old = state g.S.Store c.args.tx.now.conn.now in
+    let new = state g.S.Store c.execute.new.self.conn.now in
+    let early : HasCleanDisk old = omega (arith, c.execute.ensures.survives.clean) in
+    let x = c.args.event.now in
+    let ran = c.in_ok-execute.ensures.runs clean (c.requires.inside early) in
+    let fits : SFits w64 x.value = search rules in
+    let given = insert_bound x _ _ _ _ _ (c.params-to_sql.ensures ∙ ap (λ n. Int (pos n)) c.number-kind.ensures.value)
+    (c.params-to_sql-2.ensures ∙ ap (λ n. Int (pos n)) c.from-index.ensures) (c.params-to_sql-3.ensures ∙ ap (λ n. Int (pos n)) c.from-flags.ensures)
+    (c.params-to_sql-4.ensures ∙ ap Int (to_z-of_z w64 x.value fits)) (c.params-to_sql-5.ensures ∙ ap (or_null Int) c.whole_time-time.ensures) in
+    insert_holds old new a x c.in_ok-execute.field-0
+    (subst (λ ps. Executes insert_text ps old new (Ok c.in_ok-execute.field-0)) given ran.0) holds

@@ -1,0 +1,44 @@
+use Rattle.std.proofs.Common.{rules, ◌≡◌, not, IsTrue, arith, sym, ap, subst, ◌∙◌}
+use Rattle.std.specs.Prelude.{OnOk}
+use Rattle.sqlite.specs.State.{HasCleanDisk, Survives}
+use Rattle.sqlite.specs.Held.{state}
+use Rattle.sqlite.specs.Tree.{Trees}
+use Rattle.dnp_eventbuf.specs.Archive.{Archive, with_events}
+use Rattle.dnp_store.specs.JournalKept.{Stands}
+use Rattle.dnp_store.specs.JournalTables.{HoldsArchive, IsJournal}
+use Rattle.dnp_store.proofs.Statements.{finished, survives_commit}
+use Rattle.dnp_store.proofs.JournalStanding.{stands_if}
+use Rattle.dnp_store.proofs.journal_writing.write_events.Goals as goal
+
+done : (g : _) (c : goal.After-conn-2-1 g) (a : Archive) → HasCleanDisk (state g.S.Store c.insert_all.new.tx.conn.now)
+    → Stands (state g.S.Store c.args.conn.now) a → IsJournal (state g.S.Store c.insert_all.new.tx.conn.now).now (with_events a c.args.events.now)
+done g c a clean stood =
+    let old = state g.S.Store c.args.conn.now in
+    let begun = state g.S.Store c.transaction-tx.result.conn.now in
+    let idle : IsTrue c.is_autocommit.result = c.is_autocommit.ensures.value ∙ ap not c.requires.idle in
+    let same : begun.now ≡ old.committed = ap (λ h. (state g.S.Store h).now) c.transaction-tx.ensures.begun
+    ∙ c.is_autocommit.ensures.settled idle stood.is_open in
+    c.in_ok-insert_all.ensures.added clean a (subst (λ d. IsJournal d a) (sym same) stood.holds)
+
+pub returns-clause-ok : goal.returns-clause-ok
+returns-clause-ok g c clean a stood =
+    let mid = state g.S.Store c.insert_all.new.tx.conn.now in
+    let end = state g.S.Store c.commit.new.self.0 in
+    let b = with_events a c.args.events.now in
+    let same : c.commit.new.self.0 ≡ c.conn-2-1.given.0 = search rules in
+    let late : HasCleanDisk end = subst (λ h. HasCleanDisk (state g.S.Store h)) (sym same) clean in
+    let early : HasCleanDisk mid = omega (arith, late, c.commit.ensures.survives.clean) in
+    subst (λ h. OnOk c.commit.result (Stands (state g.S.Store h) b)) same
+    (stands_if end b c.commit.result (finished _ _ mid end (λ d. IsJournal d b) c.commit.result (done g c a early stood) (c.commit.ensures.ok late)))
+
+pub returns-clause-survives : goal.returns-clause-survives
+returns-clause-survives g c =
+    let mid = state g.S.Store c.insert_all.new.tx.conn.now in
+    let end = state g.S.Store c.commit.new.self.0 in
+    let old = c.args.conn.now in
+    let P = λ (db : Trees). (a : Archive) → Stands (state g.S.Store old) a → HoldsArchive db (with_events a c.args.events.now) in
+    let same : c.commit.new.self.0 ≡ c.conn-2-1.given.0 = search rules in
+    subst (λ h. Survives (state g.S.Store old) (state g.S.Store h) P) same
+    (survives_commit g.S.Store old c.transaction-tx.result.conn.now mid end P c.transaction-tx.ensures.begun
+    c.insert_all.ensures.survives c.commit.ensures.survives
+    (λ clean a stood. (let early : HasCleanDisk mid = omega (arith, clean, c.commit.ensures.survives.clean) in (done g c a early stood).holds)))

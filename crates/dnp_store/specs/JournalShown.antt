@@ -1,0 +1,69 @@
+-- Words of private steps: a journal's database while its tables are made, and what queries show of them.
+use Rattle.std.specs.Prelude.{◌≡◌, ℕ, ◌<◌, ◌≤◌, pos, List, [], ◌∷◌, map, length, slice_index_or, None}
+use Rattle.std.specs.List.{AllByRecursion}
+use Rattle.std.specs.List.Sorted.{IsPermutation}
+use Rattle.sqlite.specs.declared.types.Value.TheVariants.{Int}
+use Rattle.sqlite.specs.Order.{Row as SqlRow, column}
+use Rattle.sqlite.specs.Tree.{Trees, IsAscending}
+use Rattle.sqlite.specs.Term.{Term}
+use Rattle.sqlite.specs.Effect.{Database, IsDatabase}
+use Rattle.sqlite.specs.State.{State}
+use Rattle.dnp_objects.specs.declared.row.Kind.TheVariants.{Binary}
+use Rattle.dnp_objects.specs.Lanes.{kind_number}
+use Rattle.dnp_eventbuf.specs.declared.numbered.Numbered.{Numbered}
+use Rattle.dnp_eventbuf.specs.Archive.{Archive, rows_over}
+use Rattle.dnp_store.specs.Tables.{or_null}
+use Rattle.dnp_store.specs.JournalTables.{journal_schema, IsJournal, IsLogged}
+use Rattle.dnp_store.specs.QueueTables.{Queued, queued_row, event_of}
+
+-- the tables are there and have no row
+pub record HasTables (db : Database) : Type 0 where
+  pub form : List Term
+  pub journal : List Term
+  pub schema : db.schema ≡ journal_schema form journal
+  pub empty : (db.trees 0 ≡ []) × (db.trees 1 ≡ []) × (db.trees 2 ≡ [])
+
+-- a journal's database shows this of its trees, and stays as it was
+abbrev pub Reads : State → State → (Trees → Type 0) → Type 0
+Reads old new P = (f j : List Term) → IsDatabase old.now → old.now.schema ≡ journal_schema f j → (new.now ≡ old.now) × P old.now.trees
+
+-- a row that a query shows of `journal`
+pub record ShowsEvent (row : SqlRow) (e : Numbered) : Type 0 where
+  pub id_is : column row 0 ≡ Int (pos e.id)
+  pub kind : column row 1 ≡ Int (pos (kind_number e.row.kind))
+  pub index : column row 2 ≡ Int (pos e.row.index)
+  pub flags : column row 3 ≡ Int (pos e.row.flags)
+  pub value : column row 4 ≡ Int e.row.value
+  pub time : column row 5 ≡ or_null e.row.time
+
+abbrev pub no_event : Numbered
+no_event = record { id = 0; row = record { kind = Binary; index = 0; flags = 0; value = pos 0; time = None } }
+
+-- the rows show these events
+pub record ShowEvents (rows : List SqlRow) (events : List Numbered) : Type 0 where
+  pub long : length rows ≡ length events
+  pub each : (k : ℕ) → k < length events → ShowsEvent (slice_index_or rows k []) (slice_index_or events k no_event)
+
+-- rows that show only the events over an id
+abbrev pub ShowOver : List SqlRow → Archive → ℕ → ℕ → Type 0
+ShowOver rows a from most = (events : List Numbered) → ShowEvents rows events → events ≡ rows_over a from most
+
+-- the events stand under ids that rise from one on, up to the last
+abbrev pub AreInOrder : ℕ → ℕ → List Numbered → Type 0
+AreInOrder before last [] = Unit {0}
+AreInOrder before last (e ∷ es) = (before < e.id) × (e.id ≤ last) × AreInOrder e.id last es
+
+-- what an open finds: the tables hold so many events, and this is the last id used
+pub record Finds (db : Database) (last count : ℕ) : Type 0 where
+  pub archive : Archive
+  pub holds : IsJournal db archive
+  pub last_is : archive.last_id ≡ last
+  pub count_is : length archive.rows ≡ count
+
+-- `journal` holds these events, under ids up to the last
+pub record Logs (db : Trees) (events : List Numbered) (last : ℕ) : Type 0 where
+  pub logged : List Queued
+  pub logged_is : IsPermutation (map queued_row logged) (db 1)
+  pub rise : IsAscending (λ x y. x.id < y.id) logged
+  pub in_range : AllByRecursion (IsLogged last) logged
+  pub rows : events ≡ map event_of logged

@@ -1,0 +1,133 @@
+//! A journal in a SQL database.
+
+ghost use Rattle.std.specs.Prelude.{◌≡◌, ◌≢◌, false, true, IsTrue, [], All, IfOk, IfErr, OnOk};
+ghost use Rattle.sqlite.specs.Held.{state};
+ghost use Rattle.sqlite.specs.State.{HasCleanDisk};
+ghost use Rattle.dnp_objects.specs.Events.{IsEvent};
+ghost use Rattle.dnp_eventbuf.specs.Archive.{passes_limit, with_events};
+ghost use Rattle.dnp_eventbuf.specs.SinkCalls.{IsSinkCall};
+ghost use Rattle.dnp_store.specs.JournalKept.{IsHonest, Leaves, LeavesEither, held_archive};
+
+use crate::fault::{fault, is_lost};
+use crate::journal_reading::{is_lost_unread, read_over};
+use crate::journal_writing::write_events;
+use dnp_eventbuf::{JournalStore, Numbered, Sink, StoreFault};
+use dnp_objects::{MAX_ID, Row};
+use sqlite::{Alter, Connection};
+use std::alloc::Global;
+use std::marker::Model;
+
+/// A journal in a SQL database, which keeps how many rows it holds and the last id in memory too: its
+/// count asks no database.
+#[derive(Drop)]
+pub struct Journal<S: Alter> {
+    /// The connection to the database, which is the journal's own.
+    pub(crate) conn: Connection<S>,
+    /// The last id used.
+    pub(crate) last_id: u64,
+    /// How many rows the last commit holds.
+    pub(crate) count: u64,
+    /// Whether the journal has answered Device.
+    pub(crate) stopped: bool,
+    /// Whether the database had no other tables as the journal began: what a statement means is known for
+    /// no others.
+    pub(crate) owned: bool,
+}
+
+impl<S: Alter> Model for Journal<S> {
+    ghost use Rattle.dnp_store.specs.JournalKept.{Kept, kept_code, Keeps};
+
+    ghost Value = { Kept S };
+
+    ghost coded = { kept_code S.code };
+
+    ghost view = { λ j. record { conn = j.conn; last_id = j.last_id; count = j.count; stopped = j.stopped; owned = j.owned } };
+
+    ghost invariant = { λ j. Keeps S.Store j.conn j.last_id j.count j.stopped j.owned };
+}
+
+impl<S: Alter> Sink for Journal<S> {
+    ghost use Rattle.std.specs.Prelude.{refl};
+
+    ghost takes = { λ old events _ dropped new. (held_archive S.Store new ≡ with_events (held_archive S.Store old) events) × (dropped ≡ []) };
+
+    ghost keeps = { λ old new. held_archive S.Store new ≡ held_archive S.Store old };
+
+    ghost exhausts = { λ j events. passes_limit (held_archive S.Store j) events };
+
+    ghost honest = { IsHonest S.Store };
+
+    ghost is_stopped = { λ j. j.stopped };
+
+    ghost asks_memory = { true };
+
+    ghost keeps_itself = { λ s. refl };
+
+    /// What a crash leaves at any exit holds the rows before or after, and after Ok those after.
+    fn append(
+        &mut self,
+        alloc: Global,
+        events: &[Row],
+        _statics: &[Row],
+    ) -> Result<Vec<Row>, StoreFault>
+        requires { All IsEvent events.now }
+        ensures call { IsSinkCall (IsHonest S.Store) (λ j. j.stopped) (λ old new. held_archive S.Store new ≡ held_archive S.Store old) self.old self.new result }
+        ensures taken { IsHonest S.Store self.new → IfOk result (λ dropped. (held_archive S.Store self.new ≡ with_events (held_archive S.Store self.old) events.now) × (dropped.items ≡ [])) }
+        ensures not_exhausted { IsHonest S.Store self.new → OnOk result (passes_limit (held_archive S.Store self.old) events.now ≡ false) }
+        ensures exhausted { IsHonest S.Store self.new → IfErr result (λ e. e ≡ StoreFault.Exhausted → IsTrue (passes_limit (held_archive S.Store self.old) events.now)) }
+        ensures exhausted_first { IsHonest S.Store self.new → IfErr result (λ e. e ≡ StoreFault.Memory → passes_limit (held_archive S.Store self.old) events.now ≡ false) }
+        ensures memory { result ≡ Err StoreFault.Memory → true ≡ false → events.now ≢ [] }
+        ensures either { HasCleanDisk (state S.Store self.new.conn) → self.old.stopped ≡ false → IsTrue self.old.owned → LeavesEither (state S.Store self.new.conn) (held_archive S.Store self.old) (with_events (held_archive S.Store self.old) events.now) }
+        ensures after { HasCleanDisk (state S.Store self.new.conn) → IsTrue self.old.owned → OnOk result (Leaves (state S.Store self.new.conn) (held_archive S.Store self.new)) }
+        ensures untouched { IsTrue self.old.stopped → self.new.conn ≡ self.old.conn }
+    {
+        if self.stopped {
+            return Err(StoreFault::Device);
+        }
+        let count = events.len() as u64;
+        if count > MAX_ID - self.last_id {
+            return Err(StoreFault::Exhausted);
+        }
+        if let Err(error) = write_events(&mut self.conn, events) {
+            let lost = is_lost(&mut self.conn, &error);
+            self.stopped = lost;
+            return Err(fault(lost));
+        }
+        self.last_id += count;
+        self.count += count;
+        Ok(Vec::new(alloc))
+    }
+}
+
+impl<S: Alter> JournalStore for Journal<S> {
+    ghost use Rattle.std.specs.Prelude.{refl};
+
+    ghost archive = { held_archive S.Store };
+
+    ghost takes_events = { λ old events statics dropped new taken. taken };
+
+    ghost keeps_rows = { λ old new kept. kept };
+
+    ghost exhausts_ids = { λ s events. refl };
+
+    fn rows(&mut self, alloc: Global, from: u64, most: usize) -> Result<Vec<Numbered>, StoreFault> {
+        if self.stopped {
+            return Err(StoreFault::Device);
+        }
+        if from >= self.last_id {
+            return Ok(Vec::new(alloc));
+        }
+        let few = (most as u64).min(self.count);
+        let mut rows = Vec::new(alloc);
+        if let Err(unread) = read_over(&mut self.conn, alloc, from, few, &mut rows) {
+            let lost = is_lost_unread(&mut self.conn, &unread);
+            self.stopped = lost;
+            return Err(fault(lost));
+        }
+        Ok(rows)
+    }
+
+    fn count(&mut self) -> u64 {
+        self.count
+    }
+}

@@ -1,0 +1,115 @@
+//! How a journal in a SQL database begins, and what stands at its end.
+
+ghost use Rattle.std.specs.Prelude.{◌≡◌, ◌↔◌, false, not, IsTrue, IfOk, IfErr};
+ghost use Rattle.sqlite.specs.Held.{state};
+ghost use Rattle.sqlite.specs.State.{HasCleanDisk, Survives};
+ghost use Rattle.dnp_store.specs.JournalKept.{Leaves, Stands, held_archive};
+ghost use Rattle.dnp_store.specs.JournalTables.{HoldsArchive, IsJournal, empty_archive};
+ghost use Rattle.dnp_store.specs.Tables.{no_schema};
+
+use crate::fault::{is_lost, is_taken, serves};
+use crate::journal::Journal;
+use crate::journal_opening::read_journal;
+use crate::journal_tables::write_tables;
+use crate::open::{OpenFault, is_bare, open_fault, unread_fault};
+use sqlite::{Alter, Connection};
+use std::alloc::Global;
+
+impl<S: Alter> Journal<S> {
+    /// Makes a journal without rows in the database. Other tables are left alone, but the journal promises
+    /// to hold its rows only where there are none.
+    ///
+    /// WrongForm where a name of its tables is taken, or the connection is inside a transaction; else
+    /// Memory or Device. A refusal hands the connection back, with the database as it was.
+    pub fn create(conn: Connection<S>) -> Result<Journal<S>, (OpenFault, Connection<S>)>
+        ensures held { IfOk result (λ j. HasCleanDisk (state S.Store j.conn) → HasCleanDisk (state S.Store conn)) }
+        ensures serves { IfOk result (λ j. j.stopped ≡ false) }
+        ensures owned { IfOk result (λ j. IsTrue j.owned ↔ ((state S.Store conn).now.schema ≡ no_schema)) }
+        ensures empty { IfOk result (λ j. HasCleanDisk (state S.Store j.conn) → IsTrue j.owned → held_archive S.Store j ≡ empty_archive) }
+        ensures stands { IfOk result (λ j. HasCleanDisk (state S.Store j.conn) → IsTrue j.owned → Stands (state S.Store j.conn) (held_archive S.Store j)) }
+        ensures same { IfErr result (λ e. HasCleanDisk (state S.Store e.1) → IsTrue (state S.Store e.1).is_open → (state S.Store e.1).committed ≡ (state S.Store conn).committed) }
+        ensures made { IfOk result (λ j. Survives (state S.Store conn) (state S.Store j.conn) (λ db. (state S.Store conn).now.schema ≡ no_schema → HoldsArchive db empty_archive)) }
+    {
+        if !conn.is_autocommit() {
+            return Err((OpenFault::WrongForm, conn));
+        }
+        let owned = is_bare(&conn);
+        let mut conn = conn;
+        if let Err(error) = write_tables(&mut conn) {
+            let lost = is_lost(&mut conn, &error);
+            return Err((open_fault(is_taken(&error), lost), conn));
+        }
+        Ok(Journal {
+            conn,
+            last_id: 0,
+            count: 0,
+            stopped: false,
+            owned,
+        })
+    }
+
+    /// Opens the journal that the database holds. Nothing is written, and each row is looked at once.
+    ///
+    /// WrongForm where a table or a column of its is missing; where `form` isn't one row with the number 1;
+    /// where a value isn't a whole number in its column's range, or an id isn't in 1 to `MAX_ID`; or where
+    /// the connection is inside a transaction. Else Memory or Device. A refusal hands the connection back,
+    /// with the database as it was.
+    pub fn open(
+        alloc: Global,
+        conn: Connection<S>,
+    ) -> Result<Journal<S>, (OpenFault, Connection<S>)>
+        ensures held { IfOk result (λ j. HasCleanDisk (state S.Store j.conn) → HasCleanDisk (state S.Store conn)) }
+        ensures serves { IfOk result (λ j. j.stopped ≡ false) }
+        ensures found { IfOk result (λ j. HasCleanDisk (state S.Store j.conn) → IsTrue j.owned → IsJournal (state S.Store conn).committed (held_archive S.Store j)) }
+        ensures stands { IfOk result (λ j. HasCleanDisk (state S.Store j.conn) → IsTrue j.owned → Stands (state S.Store j.conn) (held_archive S.Store j)) }
+        ensures same { IfErr result (λ e. HasCleanDisk (state S.Store e.1) → IsTrue (state S.Store e.1).is_open → (state S.Store e.1).committed ≡ (state S.Store conn).committed) }
+        ensures unwritten { IfOk result (λ j. Survives (state S.Store conn) (state S.Store j.conn) (λ _. ⊥)) }
+    {
+        if !conn.is_autocommit() {
+            return Err((OpenFault::WrongForm, conn));
+        }
+        let mut conn = conn;
+        match read_journal(&mut conn, alloc) {
+            Ok((found, owned)) => {
+                if !serves(&mut conn) {
+                    return Err((OpenFault::Device, conn));
+                }
+                Ok(Journal {
+                    conn,
+                    last_id: found.last_id,
+                    count: found.count,
+                    stopped: false,
+                    owned,
+                })
+            }
+            Err(unread) => {
+                let fault = unread_fault(&mut conn, &unread);
+                Err((fault, conn))
+            }
+        }
+    }
+
+    /// Whether the journal has not answered Device. If so, whatever a crash at this moment leaves holds the
+    /// rows as they stand.
+    pub fn serves(&self) -> bool
+        ensures value { result ≡ not self.now.stopped }
+        ensures left { HasCleanDisk (state S.Store self.now.conn) → IsTrue result → IsTrue self.now.owned → Leaves (state S.Store self.now.conn) (held_archive S.Store self.now) }
+    {
+        !self.stopped
+    }
+
+    /// Whether the database had no tables but the journal's own as it began or opened. Where it had, the
+    /// journal works alike, and promises nothing of its rows.
+    pub fn owns_database(&self) -> bool
+        ensures { result ≡ self.now.owned }
+    {
+        self.owned
+    }
+
+    /// The connection to the database, as it stands.
+    pub fn into_connection(self) -> Connection<S>
+        ensures { result ≡ self.conn }
+    {
+        self.conn
+    }
+}

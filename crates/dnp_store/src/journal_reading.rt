@@ -1,0 +1,74 @@
+//! The events of a journal with ids over a number.
+
+ghost use Rattle.std.specs.Prelude.{◌≡◌, ◌≤◌, false, IsTrue, OnOk, IfOk};
+ghost use Rattle.sqlite.specs.Held.{state};
+ghost use Rattle.sqlite.specs.State.{HasCleanDisk};
+ghost use Rattle.dnp_objects.specs.declared.limits.TheConstants as limits;
+ghost use Rattle.dnp_eventbuf.specs.Archive.{Archive, rows_over};
+ghost use Rattle.dnp_store.specs.JournalKept.{Stands};
+ghost use Rattle.dnp_store.specs.JournalShown.{ShowOver};
+
+use crate::fault::{Unread, is_lost, serves};
+use crate::journal_decoding::events_in;
+use dnp_eventbuf::Numbered;
+use sqlite::{Alter, Connection, Error, Row, params};
+use std::alloc::Global;
+
+/// What the database shows of the first rows with ids over `from`, at most `most`.
+fn query_over<S: Alter>(conn: &mut Connection<S>, from: u64, most: u64) -> Result<Vec<Row>, Error>
+    requires idle { conn.old.in_transaction ≡ false }
+    requires from { from ≤ limits.MAX_ID }
+    requires most { most ≤ limits.MAX_ID }
+    ensures idle { conn.new.in_transaction ≡ false }
+    ensures held { HasCleanDisk (state S.Store conn.new) → HasCleanDisk (state S.Store conn.old) }
+    ensures read { HasCleanDisk (state S.Store conn.new) → IfOk result (λ rows. (a : Archive) → Stands (state S.Store conn.old) a → ShowOver rows.items a from most) }
+    ensures open { HasCleanDisk (state S.Store conn.new) → OnOk result ((a : Archive) → Stands (state S.Store conn.old) a → IsTrue (state S.Store conn.new).is_open) }
+    ensures same { HasCleanDisk (state S.Store conn.new) → (a : Archive) → Stands (state S.Store conn.old) a → IsTrue (state S.Store conn.new).is_open → (state S.Store conn.new).committed ≡ (state S.Store conn.old).committed }
+{
+    prove!(conn.is_autocommit());
+    let from = from as i64;
+    let most = most as i64;
+    conn.query_all(
+        "SELECT id, kind, point, flags, value, time FROM journal WHERE id > ?1 ORDER BY id LIMIT ?2",
+        params![from, most],
+    )
+}
+
+/// Reads the first events with ids over `from`, at most `most`.
+pub(crate) fn read_over<S: Alter>(
+    conn: &mut Connection<S>,
+    alloc: Global,
+    from: u64,
+    most: u64,
+    events: &mut Vec<Numbered>,
+) -> Result<(), Unread>
+    requires idle { conn.old.in_transaction ≡ false }
+    requires from { from ≤ limits.MAX_ID }
+    requires most { most ≤ limits.MAX_ID }
+    ensures idle { conn.new.in_transaction ≡ false }
+    ensures held { HasCleanDisk (state S.Store conn.new) → HasCleanDisk (state S.Store conn.old) }
+    ensures read { HasCleanDisk (state S.Store conn.new) → OnOk result ((a : Archive) → Stands (state S.Store conn.old) a → events.new.items ≡ rows_over a from most) }
+    ensures open { HasCleanDisk (state S.Store conn.new) → OnOk result ((a : Archive) → Stands (state S.Store conn.old) a → IsTrue (state S.Store conn.new).is_open) }
+    ensures same { HasCleanDisk (state S.Store conn.new) → (a : Archive) → Stands (state S.Store conn.old) a → IsTrue (state S.Store conn.new).is_open → (state S.Store conn.new).committed ≡ (state S.Store conn.old).committed }
+{
+    let rows = query_over(conn, from, most)?;
+    *events = events_in(alloc, &rows)?;
+    Ok(())
+}
+
+/// Whether a journal is to answer Device for what it could not read, and not Memory: memory ran out, and
+/// the connection still serves.
+pub(crate) fn is_lost_unread<S: Alter>(conn: &mut Connection<S>, unread: &Unread) -> bool
+    requires { conn.old.in_transaction ≡ false }
+    ensures idle { conn.new.in_transaction ≡ false }
+    ensures held { HasCleanDisk (state S.Store conn.new) → HasCleanDisk (state S.Store conn.old) }
+    ensures serves { HasCleanDisk (state S.Store conn.new) → result ≡ false → IsTrue (state S.Store conn.new).is_open }
+    ensures same { HasCleanDisk (state S.Store conn.new) → IsTrue (state S.Store conn.new).is_open
+        → IsTrue (state S.Store conn.old).is_open × ((state S.Store conn.new).committed ≡ (state S.Store conn.old).committed) }
+{
+    match unread {
+        Unread::Form => true,
+        Unread::Memory => !serves(conn),
+        Unread::Failed(error) => is_lost(conn, error),
+    }
+}
