@@ -1,0 +1,3 @@
+-- Definitions, by which contracts promise.
+pub mod Relayed
+pub mod Relaying
