@@ -1,3 +1,4 @@
 -- Definitions, by which contracts promise.
+pub mod Centre
 pub mod Relayed
 pub mod Relaying

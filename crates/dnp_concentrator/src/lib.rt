@@ -2,9 +2,11 @@
 //! substations and hands their events on, and a centre that polls it, keeps a journal and issues controls.
 #![tactic(auto)]
 
+mod centre;
 mod progress;
 mod receiving;
 mod relay;
 mod relayed;
 
+pub use centre::Centre;
 pub use relayed::Relayed;
