@@ -1,0 +1,3 @@
+pub mod Mapping
+pub mod Orders
+pub mod Refusals

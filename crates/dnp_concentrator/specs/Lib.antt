@@ -1,0 +1,6 @@
+-- Definitions, by which contracts promise.
+pub mod IndexKinds
+pub mod IndexMap
+pub mod Plan
+-- Words of private steps.
+pub mod Order
