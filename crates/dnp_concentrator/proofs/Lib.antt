@@ -1,1 +1,4 @@
 pub mod Ledgers
+pub mod Mapping
+pub mod Orders
+pub mod Refusals
