@@ -1,16 +1,21 @@
--- Definition: a centre: the master of its link with the control in progress there, a journal, and a book of controls,
--- whose one target is the station below. What its calls make of link, journal and book.
-use Rattle.std.specs.Prelude.{◌≡◌, ◌≢◌, Bool, IsTrue, Result, Err, OnErr}
+-- Definition: a centre: the master of its link with the control in progress there, a journal, a book of controls, whose
+-- one target is the station below, and the indices of the substations there. What its calls make of link, journal and book.
+use Rattle.std.specs.Prelude.{◌≡◌, ◌≢◌, Bool, IsTrue, List, Result, Err, OnErr}
 use Rattle.dnp_eventbuf.specs.Archive.{Archive}
 use Rattle.dnp_master.specs.declared.fault.MasterFault.{MasterFault}
 use Rattle.dnp_master.specs.declared.fault.MasterFault.TheVariants.{Device}
 use Rattle.dnp_concentrator.specs.declared.centre.Centre.{Centre}
+use Rattle.dnp_concentrator.specs.declared.span.Spans.{Spans}
 use Rattle.dnp_concentrator.specs.Relaying.{Relaying}
 
 -- ---- its parts, and what it is once one of them was written
 
 abbrev pub link_of : {J B : Type 0} → Centre J B → Relaying
 link_of c = c.relay
+
+-- where the indices of the substations stand above
+abbrev pub indices_of : {J B : Type 0} → Centre J B → List Spans
+indices_of c = c.map
 
 abbrev pub journal_of : {J B : Type 0} → Centre J B → J
 journal_of c = c.journal

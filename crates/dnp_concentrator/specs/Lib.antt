@@ -2,6 +2,7 @@
 pub mod Centre
 pub mod IndexKinds
 pub mod IndexMap
+pub mod Issuing
 pub mod Plan
 pub mod Relayed
 pub mod Relaying

@@ -4,8 +4,6 @@ use Rattle.std.specs.Option.{IsSomeAnd}
 use Rattle.dnp_objects.specs.declared.command.Command.{Command}
 use Rattle.dnp_appfragment.specs.Fragments.{request_octets}
 use Rattle.dnp_controls.specs.declared.book.Entry.{Entry}
-use Rattle.dnp_controls.specs.declared.book.BookFault.{BookFault}
-use Rattle.dnp_controls.specs.declared.book.BookFault.TheVariants.{Device}
 use Rattle.dnp_controls.specs.declared.book.State as entry
 use Rattle.dnp_controls.specs.declared.book.State.TheVariants.{Pending, Spent, Finished}
 use Rattle.dnp_controls.specs.Book.{Ledger, Has, entry_of, is_pending}
@@ -92,12 +90,12 @@ abbrev pub asks_book : Relaying → Bool
 asks_book r = is_idle r.master && asks_progress r.progress r.master.selected
 
 -- What a call of at most one writing call of the book leaves of it, by the book before and after it and the call's answer.
-pub record LeavesBook {Book Answer : Type 0} (honest : Book → Type 0) (is_stopped : Book → Bool) (contents : Book → Ledger)
-    (old new : Book) (answer : Result Answer BookFault) : Type 0 where
+pub record LeavesBook {Book Answer Fault : Type 0} (honest : Book → Type 0) (is_stopped : Book → Bool) (contents : Book → Ledger)
+    (device : Fault) (old new : Book) (answer : Result Answer Fault) : Type 0 where
   -- an honest book was honest before
   pub held : honest new → honest old
   -- a refusal changes nothing
   pub unchanged : honest new → IfErr answer (λ _. contents new ≡ contents old)
   -- Device stops it, and nothing else does
-  pub device_stops : answer ≡ Err Device → IsTrue (is_stopped new)
-  pub runs_on : answer ≢ Err Device → is_stopped new ≡ is_stopped old
+  pub device_stops : answer ≡ Err device → IsTrue (is_stopped new)
+  pub runs_on : answer ≢ Err device → is_stopped new ≡ is_stopped old

@@ -13,10 +13,11 @@ ghost use Rattle.dnp_master.specs.Requests.{request_for};
 ghost use Rattle.dnp_master.specs.Sinks.{IsSinkFault};
 ghost use Rattle.dnp_master.specs.State as master;
 ghost use Rattle.dnp_concentrator.specs.contracts.centre.Centre.{the_row};
-ghost use Rattle.dnp_concentrator.specs.Centre.{book_of, journal_of, link_of, with_book, with_journal, LeavesJournal};
+ghost use Rattle.dnp_concentrator.specs.Centre.{book_of, indices_of, journal_of, link_of, with_book, with_journal, LeavesJournal};
 ghost use Rattle.dnp_concentrator.specs.Relayed as says;
 ghost use Rattle.dnp_concentrator.specs.Relaying as spec;
 
+use crate::index_map::IndexMap;
 use crate::relay::Relay;
 use crate::relayed::Relayed;
 use dnp_controls::{Book, BookFault};
@@ -31,22 +32,26 @@ use std::alloc::Global;
 /// nothing. The moment of a call, `now`, is in milliseconds.
 #[derive(Drop)]
 pub struct Centre<J, B> {
-    relay: Relay,
-    journal: J,
-    book: B,
+    pub(crate) map: IndexMap,
+    pub(crate) relay: Relay,
+    pub(crate) journal: J,
+    pub(crate) book: B,
 }
 
 /// The target of all controls in a centre's book: the station below.
-const STATION: u8 = 0;
+pub(crate) const STATION: u8 = 0;
 
 impl<J: JournalStore, B: Book> Centre<J, B> {
-    /// A closed centre of a station with these points, over this journal and this book: what a restart leaves.
-    pub fn new(plan: PointPlan, times: Times, journal: J, book: B) -> Self
+    /// A closed centre over this journal and this book, as a restart leaves it. The station below has these
+    /// points, and the indices of its substations stand there as the map says.
+    pub fn new(plan: PointPlan, map: IndexMap, times: Times, journal: J, book: B) -> Self
         ensures link { link_of result ≡ spec.new_relaying plan times }
+        ensures indices { indices_of result ≡ map }
         ensures journal { journal_of result ≡ journal }
         ensures book { book_of result ≡ book }
     {
         Centre {
+            map,
             relay: Relay::new(plan, times),
             journal,
             book,
@@ -59,6 +64,7 @@ impl<J: JournalStore, B: Book> Centre<J, B> {
         ensures book { result.1 ≡ book_of self }
     {
         let Centre {
+            map: _,
             relay: _,
             journal,
             book,
@@ -101,6 +107,7 @@ impl<J: JournalStore, B: Book> Centre<J, B> {
         ensures link { link_of self.new ≡ spec.opened (link_of self.old) }
         ensures journal { journal_of self.new ≡ journal_of self.old }
         ensures book { book_of self.new ≡ book_of self.old }
+        ensures indices { indices_of self.new ≡ indices_of self.old }
     {
         self.relay.opened();
     }
@@ -110,6 +117,7 @@ impl<J: JournalStore, B: Book> Centre<J, B> {
         ensures link { link_of self.new ≡ spec.hung_up (link_of self.old) }
         ensures journal { journal_of self.new ≡ journal_of self.old }
         ensures book { book_of self.new ≡ book_of self.old }
+        ensures indices { indices_of self.new ≡ indices_of self.old }
     {
         self.relay.hung_up();
     }
@@ -119,6 +127,7 @@ impl<J: JournalStore, B: Book> Centre<J, B> {
         ensures link { link_of self.new ≡ spec.new_relaying (link_of self.old).master.plan (link_of self.old).master.times }
         ensures journal { journal_of self.new ≡ journal_of self.old }
         ensures book { book_of self.new ≡ book_of self.old }
+        ensures indices { indices_of self.new ≡ indices_of self.old }
     {
         self.relay.hung_up();
     }
@@ -129,6 +138,7 @@ impl<J: JournalStore, B: Book> Centre<J, B> {
         ensures link { link_of self.new ≡ spec.ticked (link_of self.old) now }
         ensures journal { journal_of self.new ≡ journal_of self.old }
         ensures book { book_of self.new ≡ book_of self.old }
+        ensures indices { indices_of self.new ≡ indices_of self.old }
     {
         self.relay.tick(now)
     }
@@ -144,6 +154,7 @@ impl<J: JournalStore, B: Book> Centre<J, B> {
         ensures link { link_of self.new ≡ spec.asking (link_of self.old) now task }
         ensures journal { journal_of self.new ≡ journal_of self.old }
         ensures book { book_of self.new ≡ book_of self.old }
+        ensures indices { indices_of self.new ≡ indices_of self.old }
     {
         self.relay.ask(now, task)
     }
@@ -178,6 +189,7 @@ impl<J: JournalStore, B: Book> Centre<J, B> {
         ensures exhausted { J.honest (journal_of self.new) → IfErr result (λ fault. fault ≡ MasterFault.Exhausted
             → IfOk (receive_of (link_of self.old).master now octets.now) (λ t. IsTrue (passes_limit (J.archive (journal_of self.old)) t.events))) }
         ensures book { book_of self.new ≡ book_of self.old }
+        ensures indices { indices_of self.new ≡ indices_of self.old }
     {
         self.relay.receive(alloc, now, octets, &mut self.journal)
     }
@@ -208,7 +220,7 @@ impl<J: JournalStore, B: Book> Centre<J, B> {
         ensures own { B.honest (book_of self.new) → says.IsOf (B.contents (book_of self.old)).entries 0 (link_of self.old).progress
             → OnOk result (says.IsOf (B.contents (book_of self.new)).entries 0 (link_of self.new).progress) }
         ensures unchanged { OnErr result (link_of self.new ≡ link_of self.old) }
-        ensures book { says.LeavesBook B.honest B.is_stopped B.contents (book_of self.old) (book_of self.new) result }
+        ensures book { says.LeavesBook B.honest B.is_stopped B.contents BookFault.Device (book_of self.old) (book_of self.new) result }
         ensures named { IfErr result (λ e. e ≢ BookFault.Exhausted) }
         ensures no_control { B.honest (book_of self.new) → result ≡ Err BookFault.NoControl
             → IsSomeAnd (link_of self.old).progress (λ p. entry_of (B.contents (book_of self.old)).entries p.id ≡ None) }
@@ -219,6 +231,7 @@ impl<J: JournalStore, B: Book> Centre<J, B> {
         ensures unasked { says.asks_book (link_of self.old) ≡ false → (book_of self.new ≡ book_of self.old) × IsOk result }
         ensures stopped { says.asks_book (link_of self.old) ≡ true → IsTrue (B.is_stopped (book_of self.old)) → result ≡ Err BookFault.Device }
         ensures journal { journal_of self.new ≡ journal_of self.old }
+        ensures indices { indices_of self.new ≡ indices_of self.old }
     {
         self.relay.relay(alloc, now, STATION, &mut self.book)
     }

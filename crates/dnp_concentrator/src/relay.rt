@@ -153,7 +153,7 @@ impl Relay {
     ) -> Result<Relayed, BookFault>
         requires idle { master.is_idle self.old.master ≡ true }
         requires none { self.old.progress ≡ None }
-        ensures book { says.LeavesBook B.honest B.is_stopped B.contents book.old book.new result }
+        ensures book { says.LeavesBook B.honest B.is_stopped B.contents BookFault.Device book.old book.new result }
         ensures unchanged { OnErr result (self.new ≡ self.old) }
         ensures memory { result ≡ Err BookFault.Memory → IsTrue B.asks_memory }
         ensures told { B.honest book.new → IfOk result (λ answer.
@@ -188,7 +188,7 @@ impl Relay {
     ) -> Result<Relayed, BookFault>
         requires idle { master.is_idle self.old.master ≡ true }
         requires is { self.old.progress ≡ Some progress }
-        ensures book { says.LeavesBook B.honest B.is_stopped B.contents book.old book.new result }
+        ensures book { says.LeavesBook B.honest B.is_stopped B.contents BookFault.Device book.old book.new result }
         ensures unchanged { OnErr result (self.new ≡ self.old) }
         ensures memory { result ≡ Err BookFault.Memory → IsTrue B.asks_memory }
         ensures told { IfOk result (λ answer.
@@ -242,7 +242,7 @@ impl Relay {
         target: u8,
         book: &mut B,
     ) -> Result<Relayed, BookFault>
-        ensures book { says.LeavesBook B.honest B.is_stopped B.contents book.old book.new result }
+        ensures book { says.LeavesBook B.honest B.is_stopped B.contents BookFault.Device book.old book.new result }
         ensures unchanged { OnErr result (self.new ≡ self.old) }
         ensures memory { result ≡ Err BookFault.Memory → IsTrue B.asks_memory }
         ensures told { B.honest book.new → IfOk result (λ answer.
