@@ -2,3 +2,4 @@ pub mod Ledgers
 pub mod Mapping
 pub mod Orders
 pub mod Refusals
+pub mod Sendings

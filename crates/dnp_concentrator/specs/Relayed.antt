@@ -1,5 +1,5 @@
 -- Definition: what a step of relaying answers, and what it leaves of the book that was lent to it.
-use Rattle.std.specs.Prelude.{◌≡◌, ◌≢◌, ℕ, Bool, true, false, ◌&&◌, IsTrue, List, [], ◌∷◌, Option, Some, None, IfSome, Result, Err, IfErr, ⊤}
+use Rattle.std.specs.Prelude.{◌≡◌, ◌≢◌, ℕ, ◌==◌, Bool, true, false, ◌&&◌, IsTrue, List, [], ◌∷◌, ◌++◌, Option, Some, None, IfSome, Result, Err, IfErr, ⊤}
 use Rattle.std.specs.Option.{IsSomeAnd}
 use Rattle.dnp_objects.specs.declared.command.Command.{Command}
 use Rattle.dnp_appfragment.specs.Fragments.{request_octets}
@@ -39,6 +39,18 @@ moves_of relayed.Nothing = []
 moves_of (relayed.Selecting id request) = []
 moves_of (relayed.Sent id request) = Spend id ∷ []
 moves_of (relayed.Finished id status) = Finish id status ∷ []
+
+-- the answer sends the OPERATE of this control
+abbrev pub is_sent_of : ℕ → Relayed → Bool
+is_sent_of id relayed.Nothing = false
+is_sent_of id (relayed.Selecting other request) = false
+is_sent_of id (relayed.Sent other request) = other == id
+is_sent_of id (relayed.Finished other status) = false
+
+-- the calls of the book over some steps of relaying, before each of which others may have called it
+abbrev pub moves_through : List (List Move × Relayed) → List Move
+moves_through [] = []
+moves_through (step ∷ steps) = step.0 ++ (moves_of step.1 ++ moves_through steps)
 
 -- of an OPERATE that is sent, by its control's id
 abbrev pub IfSent : Relayed → (ℕ → Type 0) → Type 0

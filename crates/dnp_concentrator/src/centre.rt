@@ -129,7 +129,7 @@ impl<J: JournalStore, B: Book> Centre<J, B> {
         ensures book { book_of self.new ≡ book_of self.old }
         ensures indices { indices_of self.new ≡ indices_of self.old }
     {
-        self.relay.hung_up();
+        self.hung_up();
     }
 
     /// The moment has come: where the response timer has ended, the centre closes. Whether it has closed now.

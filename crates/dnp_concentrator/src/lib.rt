@@ -16,6 +16,7 @@ mod plan;
 mod progress;
 mod receiving;
 mod relay;
+pub mod relay_laws;
 mod relayed;
 mod span;
 
