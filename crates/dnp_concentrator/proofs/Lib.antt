@@ -1,0 +1,5 @@
+pub mod Ledgers
+pub mod Mapping
+pub mod Orders
+pub mod Refusals
+pub mod Sendings

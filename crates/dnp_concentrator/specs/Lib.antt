@@ -1,0 +1,10 @@
+-- Definitions, by which contracts promise.
+pub mod Centre
+pub mod IndexKinds
+pub mod IndexMap
+pub mod Issuing
+pub mod Plan
+pub mod Relayed
+pub mod Relaying
+-- Words of private steps.
+pub mod Order

@@ -1,0 +1,32 @@
+//! The middle and the top of a path of DNP3 stations (IEEE Std 1815-2012): a concentrator that polls
+//! substations and hands their events on, and a centre that polls it, keeps a journal and issues controls;
+//! the plan of the whole system, and the index map between the substations and the station above them.
+#![tactic(auto)]
+
+mod centre;
+mod fault;
+mod index_kind;
+mod index_map;
+mod issue;
+pub mod laws;
+mod limits;
+mod listed;
+mod order;
+mod plan;
+mod progress;
+mod receiving;
+mod relay;
+pub mod relay_laws;
+mod relayed;
+mod span;
+
+pub use centre::Centre;
+pub use fault::MapFault;
+pub use index_kind::IndexKind;
+pub use index_map::IndexMap;
+pub use issue::IssueFault;
+pub use limits::{INDEX_KINDS, MAX_RETRIES, MAX_SUBSTATIONS, MAX_TIMER_MS};
+pub use listed::Listed;
+pub use plan::{Plan, SubPlan};
+pub use relayed::Relayed;
+pub use span::{Span, Spans};
