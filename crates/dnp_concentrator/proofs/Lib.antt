@@ -1,3 +1,4 @@
 pub mod Mapping
 pub mod Orders
+pub mod Queued
 pub mod Refusals

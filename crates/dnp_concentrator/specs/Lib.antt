@@ -1,6 +1,7 @@
 -- Definitions, by which contracts promise.
 pub mod IndexKinds
 pub mod IndexMap
+pub mod Mapped
 pub mod Plan
 -- Words of private steps.
 pub mod Order
