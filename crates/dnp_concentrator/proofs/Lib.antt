@@ -1,3 +1,5 @@
+pub mod Added
+pub mod MappedBack
 pub mod Mapping
 pub mod Orders
 pub mod Queued

@@ -37,7 +37,8 @@ lane_carries class row x (Some lane) is e event =
     subst IsCarried same carried
 
 state_carries : (row : Row) (x : LaneRow) (o : Option PointState)
-    → option_and_then (λ (state : PointState). option_map (λ (lane : Lane). let y : LaneRow = record { lane = lane; row = row } in y) (lane_of state.point.class row.kind)) o ≡ Some x
+    → option_and_then (λ (state : PointState). option_map (λ (lane : Lane). let y : LaneRow = record { lane = lane; row = row } in y)
+    (lane_of state.point.class row.kind)) o ≡ Some x
     → IsEvent row → IsCarried x
 state_carries row x None e event = absurd (grind (arith, e))
 state_carries row x (Some state) e event = lane_carries state.point.class row x (lane_of state.point.class row.kind) refl e event
@@ -60,7 +61,8 @@ queued_carried spans points station row (Some x) e event more all =
     all_more first all zero d lt = first
     all_more first all (suc i) d lt = all i d (omega arith)
 
-pub all_carried : (spans : List Spans) (points : Database) (station : ℕ) (rows : List Row) → All IsEvent rows → All IsCarried (queued_rows spans points station rows)
+pub all_carried : (spans : List Spans) (points : Database) (station : ℕ) (rows : List Row) → All IsEvent rows
+    → All IsCarried (queued_rows spans points station rows)
 all_carried spans points station [] events = λ i d lt. absurd (omega arith)
 all_carried spans points station (row ∷ rows) events =
     queued_carried spans points station row (queued_row spans points station row) refl (All-head IsEvent row rows events)

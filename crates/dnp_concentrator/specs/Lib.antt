@@ -1,4 +1,5 @@
 -- Definitions, by which contracts promise.
+pub mod BookOutputs
 pub mod IndexKinds
 pub mod IndexMap
 pub mod Mapped

@@ -2,6 +2,7 @@
 //! the substations and the station above them.
 #![tactic(auto)]
 
+mod book_outputs;
 mod fault;
 mod index_kind;
 mod index_map;
@@ -13,10 +14,11 @@ mod order;
 mod plan;
 mod span;
 
+pub use book_outputs::BookOutputs;
 pub use fault::MapFault;
 pub use index_kind::IndexKind;
 pub use index_map::IndexMap;
-pub use limits::{INDEX_KINDS, MAX_RETRIES, MAX_SUBSTATIONS, MAX_TIMER_MS};
+pub use limits::{COMMANDS_AT_ONCE, INDEX_KINDS, MAX_RETRIES, MAX_SUBSTATIONS, MAX_TIMER_MS};
 pub use listed::Listed;
 pub use mapped::queued_rows;
 pub use plan::{Plan, SubPlan};

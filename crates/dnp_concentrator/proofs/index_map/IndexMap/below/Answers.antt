@@ -23,4 +23,5 @@ pub returns-clause-station : goal.returns-clause-station
 returns-clause-station c =
     let o : IsOrder c.args.kind c.self.inside.spans.items c.of.result.now =
     subst (λ (order : List Place). IsOrder c.args.kind c.self.inside.spans.items order) (sym c.of.ensures) (c.self.invariant.2 c.args.kind) in
-    station_below c.self.inside.spans.items c.args.kind c.args.index c.find.result MAX_SUBSTATIONS (sym (c.find.ensures c.args.kind c.self.inside.spans.items o)) c.self.invariant.1
+    station_below c.self.inside.spans.items c.args.kind c.args.index c.find.result MAX_SUBSTATIONS
+    (sym (c.find.ensures c.args.kind c.self.inside.spans.items o)) c.self.invariant.1
