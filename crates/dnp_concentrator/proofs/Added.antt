@@ -18,7 +18,8 @@ one_command (x ∷ []) d some few = refl
 one_command (x ∷ y ∷ more) d some few = absurd (omega arith)
 
 -- a command that can be relayed is accepted, and no other
-accepts : (spans : List Spans) (command : Command) (b : Bool) → can_relay spans command ≡ b → accepted (relay_check spans) (command ∷ []) ≡ cond b (command ∷ []) []
+accepts : (spans : List Spans) (command : Command) (b : Bool) → can_relay spans command ≡ b
+    → accepted (relay_check spans) (command ∷ []) ≡ cond b (command ∷ []) []
 accepts spans command b is =
     ap (λ (c : Bool). cond (cond c status.success status.not_supported == status.success) (command ∷ []) []) is ∙ by b
   where
@@ -26,7 +27,8 @@ accepts spans command b is =
     by true = refl
     by false = refl
 
-added_ordered : (spans : List Spans) (book : Ledger) (command : Command) (o : Option (ℕ × Command)) → command_below spans command ≡ o → is_some o ≡ true
+added_ordered : (spans : List Spans) (book : Ledger) (command : Command) (o : Option (ℕ × Command)) → command_below spans command ≡ o
+    → is_some o ≡ true
     → map (ordered spans) (added_for book o).entries ≡ map (ordered spans) book.entries ++ command ∷ []
 added_ordered spans book command None is some = absurd (cc)
 added_ordered spans book command (Some p) is some =

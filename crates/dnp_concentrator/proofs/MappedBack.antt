@@ -44,7 +44,8 @@ command_redone spans command p e = by (index_below spans (kind_of_command comman
     back (Set32 index value) q is = ap (option_map (λ (i : ℕ). Set32 i value)) (down_and_up spans Setpoint q.0 q.1 index is)
 
     by : (o : Option (ℕ × ℕ)) → index_below spans (kind_of_command command) (index_of command) ≡ o
-        → option_map (λ (q : ℕ × ℕ). let r : ℕ × Command = (q.0, with_index command q.1) in r) o ≡ Some p → command_above spans p.0 p.1 ≡ Some command
+        → option_map (λ (q : ℕ × ℕ). let r : ℕ × Command = (q.0, with_index command q.1) in r) o ≡ Some p
+        → command_above spans p.0 p.1 ≡ Some command
     by None is e = absurd (grind (arith, e))
     by (Some q) is e =
         let r : ℕ × Command = (q.0, with_index command q.1) in
@@ -65,7 +66,8 @@ command_undone spans station command above m e = by (index_above spans station (
         ap (option_map (λ (q : ℕ × ℕ). let r : ℕ × Command = (q.0, Set32 q.1 value) in r)) (up_and_down spans Setpoint station index i m is)
 
     by : (o : Option ℕ) → index_above spans station (kind_of_command command) (index_of command) ≡ o
-        → option_map (λ (i : ℕ). with_index command i) o ≡ Some above → ◌≡◌ {A = Option (ℕ × Command)} (command_below spans above) (Some (station, command))
+        → option_map (λ (i : ℕ). with_index command i) o ≡ Some above
+        → ◌≡◌ {A = Option (ℕ × Command)} (command_below spans above) (Some (station, command))
     by None is e = absurd (grind (arith, e))
     by (Some i) is e =
         let same : with_index command i ≡ above = grind (arith, e) in
