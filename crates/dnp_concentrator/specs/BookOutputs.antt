@@ -1,6 +1,7 @@
 -- Definition: the outputs of a concentrator, which perform a command by adding it to the book of controls (IEEE Std
 -- 1815-2012, object library: groups 12 and 41).
-use Rattle.std.specs.Prelude.{◌≡◌, ℕ, Bool, true, false, ◌&&◌, if◌then◌else◌, is_some, unwrap_or, List, [], ◌∷◌, Option, Some, None, map}
+use Rattle.std.specs.Prelude.{◌≡◌, ℕ, ◌+◌, ◌<◌, Bool, true, false, ◌&&◌, if◌then◌else◌, is_some, unwrap_or, List, [], ◌∷◌, Option, Some, None, map, length}
+use Rattle.dnp_objects.specs.declared.limits.TheConstants.{MAX_ID}
 use Rattle.dnp_objects.specs.declared.command.Command.{Command}
 use Rattle.dnp_objects.specs.declared.command.Command.TheVariants.{Block, Set16, Set32}
 use Rattle.dnp_objects.specs.declared.store.StoreFault.{StoreFault}
@@ -84,3 +85,16 @@ book_panel spans ledger = record {
   check = relay_check spans;
   performed = map (ordered spans) ledger.entries;
 }
+
+abbrev pub panel_of : {B : Type 0} → (B → Ledger) → BookOutputs B → Panel
+panel_of contents outputs = book_panel (map_in outputs) (contents (book_in outputs))
+
+-- the second outputs come of the first by performing these commands: the book has them, and nothing else has changed
+abbrev pub Performs : {B : Type 0} → (B → Ledger) → BookOutputs B → List Command → BookOutputs B → Type 0
+Performs contents old commands new =
+    (map_in new ≡ map_in old) × (contents (book_in new) ≡ all_added (map_in old) (contents (book_in old)) commands)
+
+-- the book has not the numbers for them
+abbrev pub Exhausts : {B : Type 0} → (B → Ledger) → BookOutputs B → List Command → Type 0
+Exhausts contents outputs commands =
+    (0 < length commands) × (MAX_ID < (contents (book_in outputs)).last_id + length commands)

@@ -105,15 +105,14 @@ impl<B: Book> BookOutputs<B> {
 /// is obeyed, and any other NOT_SUPPORTED. What performs a command is the book's `add`, so that a fault of the book is
 /// the fault of the call. No output shows a status.
 impl<B: Book> Outputs for BookOutputs<B> {
-    ghost use Rattle.std.specs.Prelude.{◌≡◌, ◌<◌, ◌+◌, true, false, length};
-    ghost use Rattle.dnp_objects.specs.declared.limits.TheConstants.{MAX_ID};
-    ghost use Rattle.dnp_concentrator.specs.BookOutputs.{map_in, book_in, book_panel, all_added, IsWell};
+    ghost use Rattle.std.specs.Prelude.{true};
+    ghost use Rattle.dnp_concentrator.specs.BookOutputs.{book_in, panel_of, IsWell, Performs, Exhausts};
 
-    ghost panel = { λ o. book_panel (map_in o) (B.contents (book_in o)) };
+    ghost panel = { panel_of B.contents };
 
-    ghost performs = { λ old commands new. (map_in new ≡ map_in old) × (B.contents (book_in new) ≡ all_added (map_in old) (B.contents (book_in old)) commands) };
+    ghost performs = { Performs B.contents };
 
-    ghost exhausts = { λ o commands. (0 < length commands) × (MAX_ID < (B.contents (book_in o)).last_id + length commands) };
+    ghost exhausts = { Exhausts B.contents };
 
     ghost honest = { IsWell B.honest B.is_stopped };
 
