@@ -2,22 +2,62 @@
 
 use crate::plans::{Alike, plan_of};
 use LinkEvent::{Ask, Change, Deliver, HangUp, Lose, Open, Pass, Repeat, Restart, Tick};
+use Run::{Delivers, HangsUp, Loses, Opens, Polls, Reads, Repeats, Restarts, Stops, Waits};
 use Way::{Down, Up};
 use dnp_controls::NoOutputs;
-use dnp_eventbuf::{Lanes, PlainJournal, PlainLanes};
+use dnp_eventbuf::{Lanes, PlainJournal, PlainLanes, Sink, StoreFault};
 use dnp_master::{Classes, Master, Task};
 use dnp_objects::{Kind, Lane, Row};
 use dnp_outstation::Outstation;
 use dnp_pointdb::{PointDb, PointPlan, Reading, Times};
-use dnp_world::{End, LinkEvent, OneLink, Way};
+use dnp_world::{Cause, End, LinkEvent, OneLink, Stopped, Way};
 use std::alloc::Global;
 use std::test::Fail;
 
 /// A link over plain lanes and a plain journal.
 pub(crate) type PlainLink = OneLink<PlainLanes, PlainJournal>;
 
+/// A sink that drops nothing, and takes no event while it is out of memory.
+#[derive(Drop)]
+struct Narrow {
+    is_full: bool,
+}
+
+impl Sink for Narrow {
+    ghost use Rattle.std.specs.Prelude.{◌≡◌, ⊤, false, true, refl};
+
+    ghost takes = { λ _ _ _ _ _. ⊤ };
+
+    ghost keeps = { λ old new. new ≡ old };
+
+    ghost exhausts = { λ _ _. false };
+
+    ghost honest = { λ _. ⊤ };
+
+    ghost is_stopped = { λ _. false };
+
+    ghost asks_memory = { true };
+
+    ghost keeps_itself = { λ s. refl };
+
+    fn append(
+        &mut self,
+        alloc: Global,
+        _events: &[Row],
+        _statics: &[Row],
+    ) -> Result<Vec<Row>, StoreFault> {
+        if self.is_full {
+            return Err(StoreFault::Memory);
+        }
+        Ok(Vec::new(alloc))
+    }
+}
+
 /// What a link shows: how many events were taken, released and left, and how many wait.
 type Shown = (usize, usize, usize, u32);
+
+/// What happens on a link how many times, and what it shows then.
+type Rows = &'static [(usize, &'static [Run], Shown)];
 
 /// What happens on a link.
 #[derive(Clone, Copy)]
@@ -30,6 +70,8 @@ enum Run {
     Polls,
     /// So many units of a way come to its end.
     Delivers(Way, usize),
+    /// The front unit of a way comes to its end, and there the sink is out of memory.
+    Stops(Way),
     Repeats(Way),
     Loses(Way),
     /// So many milliseconds pass, and the master looks at its timer.
@@ -115,12 +157,17 @@ pub(crate) fn event_of(value: i64) -> Row {
 }
 
 /// Whether one event is done.
-fn is_done(link: &mut PlainLink, alloc: Global, event: LinkEvent) -> bool {
+fn is_done<S: Sink>(link: &mut OneLink<PlainLanes, S>, alloc: Global, event: LinkEvent) -> bool {
     link.run(alloc, &[event]).is_ok()
 }
 
 /// Whether so many units of a way come to its end.
-fn delivers(link: &mut PlainLink, alloc: Global, way: Way, units: usize) -> bool {
+fn delivers<S: Sink>(
+    link: &mut OneLink<PlainLanes, S>,
+    alloc: Global,
+    way: Way,
+    units: usize,
+) -> bool {
     for _ in 0..units {
         if !is_done(link, alloc, Deliver(way)) {
             return false;
@@ -129,23 +176,38 @@ fn delivers(link: &mut PlainLink, alloc: Global, way: Way, units: usize) -> bool
     true
 }
 
+/// Whether the sink is out of memory for what comes.
+fn stops<S: Sink>(link: &mut OneLink<PlainLanes, S>, alloc: Global, way: Way) -> bool {
+    let stopped = Stopped {
+        done: 0,
+        cause: Cause::Memory,
+    };
+    link.run(alloc, &[Deliver(way)]) == Err(stopped)
+}
+
 /// Whether this is done.
-fn does(link: &mut PlainLink, alloc: Global, run: Run) -> bool {
+fn does<S: Sink>(link: &mut OneLink<PlainLanes, S>, alloc: Global, run: Run) -> bool {
     match run {
-        Run::Opens => is_done(link, alloc, Open),
-        Run::HangsUp(end) => is_done(link, alloc, HangUp(end)),
-        Run::Reads(value) => is_done(link, alloc, reads(value)),
-        Run::Polls => is_done(link, alloc, Ask(POLL)),
-        Run::Delivers(way, units) => delivers(link, alloc, way, units),
-        Run::Repeats(way) => is_done(link, alloc, Repeat(way)),
-        Run::Loses(way) => is_done(link, alloc, Lose(way)),
-        Run::Waits(ms) => link.run(alloc, &[Pass(ms), Tick(End::Master)]).is_ok(),
-        Run::Restarts(end) => is_done(link, alloc, Restart(end)),
+        Opens => is_done(link, alloc, Open),
+        HangsUp(end) => is_done(link, alloc, HangUp(end)),
+        Reads(value) => is_done(link, alloc, reads(value)),
+        Polls => is_done(link, alloc, Ask(POLL)),
+        Delivers(way, units) => delivers(link, alloc, way, units),
+        Stops(way) => stops(link, alloc, way),
+        Repeats(way) => is_done(link, alloc, Repeat(way)),
+        Loses(way) => is_done(link, alloc, Lose(way)),
+        Waits(ms) => link.run(alloc, &[Pass(ms), Tick(End::Master)]).is_ok(),
+        Restarts(end) => is_done(link, alloc, Restart(end)),
     }
 }
 
 /// Whether these are done, one after the other, so many times.
-fn repeats(link: &mut PlainLink, alloc: Global, times: usize, runs: &[Run]) -> bool {
+fn repeats<S: Sink>(
+    link: &mut OneLink<PlainLanes, S>,
+    alloc: Global,
+    times: usize,
+    runs: &[Run],
+) -> bool {
     for _ in 0..times {
         for run in runs {
             if !does(link, alloc, *run) {
@@ -157,7 +219,7 @@ fn repeats(link: &mut PlainLink, alloc: Global, times: usize, runs: &[Run]) -> b
 }
 
 /// What a link shows.
-fn shown(link: &mut PlainLink) -> Option<Shown> {
+fn shown<S: Sink>(link: &mut OneLink<PlainLanes, S>) -> Option<Shown> {
     let lane = Lane::new(1, Kind::Analog)?;
     let waiting = link.lanes().len(lane);
     Some((
@@ -169,7 +231,7 @@ fn shown(link: &mut PlainLink) -> Option<Shown> {
 }
 
 /// Whether a link shows behind each row what the row says.
-fn goes(link: &mut PlainLink, alloc: Global, rows: &[(usize, &[Run], Shown)]) -> bool {
+fn goes<S: Sink>(link: &mut OneLink<PlainLanes, S>, alloc: Global, rows: Rows) -> bool {
     for (times, runs, wanted) in rows {
         if !repeats(link, alloc, *times, runs) || shown(link) != Some(*wanted) {
             return false;
@@ -178,49 +240,109 @@ fn goes(link: &mut PlainLink, alloc: Global, rows: &[(usize, &[Run], Shown)]) ->
     true
 }
 
+/// What is lost and comes twice, in lanes of two rows. What is taken is one event, each time.
+#[rattlefmt::skip]
+const LOSSES: Rows = &[
+    (1, &[Opens, Reads(1)], (0, 0, 0, 1)),
+    // Seventeen polls with every confirm lost: each gives the event again.
+    (17, &[Polls, Delivers(Down, 1), Delivers(Up, 1), Loses(Down)], (17, 0, 0, 1)),
+    // A repeat asks nothing again, and a confirm that comes releases.
+    (1, &[Polls, Repeats(Down), Delivers(Down, 1), Delivers(Up, 2), Delivers(Down, 1)], (18, 1, 0, 0)),
+    // A full lane drops its oldest, and a restart empties the others.
+    (1, &[Reads(0), Reads(1), Reads(0), Restarts(End::Outstation)], (18, 1, 3, 0)),
+    // A poll whose response is lost: behind its timer the master asks nothing more.
+    (1, &[Opens, Reads(1), Polls, Delivers(Down, 1), Loses(Up), Waits(10_000), Polls], (18, 1, 3, 1)),
+    (1, &[Delivers(Down, 1), Delivers(Up, 1), HangsUp(End::Master)], (18, 1, 3, 1)),
+];
+
+/// 157 analog events with times come by one poll, in two fragments, and each confirm releases those of its fragment.
+#[rattlefmt::skip]
+const TWO_FRAGMENTS: Rows = &[
+    (1, &[Opens, Reads(1)], (0, 0, 0, 1)),
+    (78, &[Reads(0), Reads(1)], (0, 0, 0, 157)),
+    // 2,037 octets, in nine units. The first of them isn't put before those of the next connection, whose own is lost.
+    (1, &[Polls, Delivers(Down, 1), Delivers(Up, 1), Opens, Polls, Delivers(Down, 1), Loses(Up), Delivers(Up, 8)], (0, 0, 0, 157)),
+    (1, &[Opens, Polls, Delivers(Down, 1), Delivers(Up, 9)], (156, 0, 0, 157)),
+    (1, &[Delivers(Down, 1)], (156, 156, 0, 1)),
+    (1, &[Delivers(Up, 1)], (157, 156, 0, 1)),
+    (1, &[Delivers(Down, 1)], (157, 157, 0, 0)),
+];
+
+/// A READ waits for the confirm of the empty report 0. That confirm comes twice, and doesn't confirm the response 0, which
+/// goes out between.
+#[rattlefmt::skip]
+const HELD: Rows = &[
+    (1, &[Opens, Polls, Delivers(Up, 1), Delivers(Down, 1), Reads(1)], (0, 0, 0, 1)),
+    (1, &[Repeats(Down), Delivers(Down, 1)], (0, 0, 0, 1)),
+    (1, &[Delivers(Up, 1)], (1, 0, 0, 1)),
+    (1, &[Delivers(Down, 1)], (1, 1, 0, 0)),
+];
+
+/// What the sink doesn't take isn't confirmed.
+const REFUSED: Rows = &[(
+    1,
+    &[
+        Opens,
+        Reads(1),
+        Polls,
+        Delivers(Down, 1),
+        Stops(Up),
+        Delivers(Down, 1),
+    ],
+    (0, 0, 0, 1),
+)];
+
+/// And what it takes is.
+const TAKEN: Rows = &[(
+    1,
+    &[
+        Opens,
+        Polls,
+        Delivers(Down, 1),
+        Delivers(Up, 1),
+        Delivers(Down, 1),
+    ],
+    (1, 1, 0, 0),
+)];
+
 #[test]
 fn a_link_loses_no_event(rt: HostRuntime) -> Result<(), Fail> {
-    use Run::{Delivers, HangsUp, Loses, Opens, Polls, Reads, Repeats, Restarts, Waits};
-
     let alloc = rt.alloc();
-    let mut link = link_of(alloc, false, false).expect(&rt, "a link");
-    #[rattlefmt::skip]
-    let rows: [(usize, &[Run], Shown); 6] = [
-        (1, &[Opens, Reads(1)], (0, 0, 0, 1)),
-        // Seventeen polls with every confirm lost: each gives the event again.
-        (17, &[Polls, Delivers(Down, 1), Delivers(Up, 1), Loses(Down)], (17, 0, 0, 1)),
-        // A repeat asks nothing again, and a confirm that comes releases.
-        (1, &[Polls, Repeats(Down), Delivers(Down, 1), Delivers(Up, 2), Delivers(Down, 1)], (18, 1, 0, 0)),
-        // A full lane drops its oldest, and a restart empties the others.
-        (1, &[Reads(0), Reads(1), Reads(0), Restarts(End::Outstation)], (18, 1, 3, 0)),
-        // A poll whose response is lost: behind its timer the master asks nothing more.
-        (1, &[Opens, Reads(1), Polls, Delivers(Down, 1), Loses(Up), Waits(10_000), Polls], (18, 1, 3, 1)),
-        (1, &[Delivers(Down, 1), Delivers(Up, 1), HangsUp(End::Master)], (18, 1, 3, 1)),
+    // Whether the lanes are wide, and whether there are unsolicited responses.
+    let cases = [
+        (false, false, LOSSES),
+        (true, false, TWO_FRAGMENTS),
+        (false, true, HELD),
     ];
-    assert!(rt; goes(&mut link, alloc, &rows));
-    // What was taken is that one event, each time.
-    assert!(rt; link.taken().iter().all(|row| *row == event_of(1)));
+    for (case, (wide, unsolicited, rows)) in cases.into_iter().enumerate() {
+        let mut link = link_of(alloc, wide, unsolicited).expect(&rt, "a link");
+        assert!(rt; goes(&mut link, alloc, rows), "case {case}");
+        assert!(rt; wide || link.taken().iter().all(|row| *row == event_of(1)));
+    }
     Ok(())
 }
 
-/// 157 analog events with times come by one poll, in two fragments, and each confirm releases those of its fragment.
-#[test]
-fn a_poll_of_157_events(rt: HostRuntime) -> Result<(), Fail> {
-    use Run::{Delivers, Opens, Polls, Reads};
+/// A link over a sink that is out of memory.
+fn narrow_link(alloc: Global) -> Option<OneLink<PlainLanes, Narrow>> {
+    let plan = four_analogs(alloc)?;
+    let lanes = PlainLanes::new(alloc, [2; 9]).ok()?;
+    OneLink::new(
+        alloc,
+        plan,
+        lanes,
+        Narrow { is_full: true },
+        times_of(false),
+    )
+    .ok()
+}
 
+#[test]
+fn a_sink_is_asked_before_a_confirm(rt: HostRuntime) -> Result<(), Fail> {
     let alloc = rt.alloc();
-    let mut link = link_of(alloc, true, false).expect(&rt, "a link");
-    #[rattlefmt::skip]
-    let rows: [(usize, &[Run], Shown); 6] = [
-        (1, &[Opens, Reads(1)], (0, 0, 0, 1)),
-        (78, &[Reads(0), Reads(1)], (0, 0, 0, 157)),
-        // 2,037 octets, in nine units.
-        (1, &[Polls, Delivers(Down, 1), Delivers(Up, 9)], (156, 0, 0, 157)),
-        (1, &[Delivers(Down, 1)], (156, 156, 0, 1)),
-        (1, &[Delivers(Up, 1)], (157, 156, 0, 1)),
-        (1, &[Delivers(Down, 1)], (157, 157, 0, 0)),
-    ];
-    assert!(rt; goes(&mut link, alloc, &rows));
+    let mut link = narrow_link(alloc).expect(&rt, "a link");
+    assert!(rt; goes(&mut link, alloc, REFUSED));
+    link.sink().is_full = false;
+    assert!(rt; goes(&mut link, alloc, TAKEN));
     Ok(())
 }
 
