@@ -1,5 +1,6 @@
 -- Definitions, by which contracts promise.
 pub mod BookOutputs
+pub mod Concentrator
 pub mod IndexKinds
 pub mod IndexMap
 pub mod Mapped

@@ -3,6 +3,7 @@
 #![tactic(auto)]
 
 mod book_outputs;
+mod concentrator;
 mod fault;
 mod index_kind;
 mod index_map;
@@ -15,6 +16,7 @@ mod plan;
 mod span;
 
 pub use book_outputs::BookOutputs;
+pub use concentrator::Concentrator;
 pub use fault::MapFault;
 pub use index_kind::IndexKind;
 pub use index_map::IndexMap;
