@@ -4,7 +4,7 @@ ghost use Rattle.std.specs.Prelude.{◌≡◌, ◌≢◌, ◌⊎◌, ◌≤◌, 
 ghost use Rattle.std.specs.Borrow.{Lends, sem};
 ghost use Rattle.dnp_eventbuf.specs.Stock.{rows_in};
 ghost use Rattle.dnp_outstation.specs.State.{is_quiet};
-ghost use Rattle.dnp_outstation.specs.Calls.{opened_of, tick_of, connection_after, performed_in};
+ghost use Rattle.dnp_outstation.specs.Calls.{opened_of, tick_of, connection_after, performed_in, restarted_core};
 ghost use Rattle.dnp_outstation.specs.Connection.{closed, is_looked_at};
 ghost use Rattle.dnp_outstation.specs.Putting.{IsLook};
 ghost use Rattle.dnp_outstation.specs.Station.{actions_of, new_core, MayAsk};
@@ -81,6 +81,18 @@ impl<Q: Lanes, B: Book> Concentrator<Q, B> {
         ensures { result ≡ is_quiet (core_of self.now) }
     {
         self.core.quiet()
+    }
+
+    /// A restart: the outstation above is closed, and its points are as new. The queue and the book stay, and nothing else
+    /// does, so that this is what `over` makes of new points.
+    pub fn restart(&mut self, alloc: Global)
+        ensures core { core_of self.new ≡ restarted_core (core_of self.old) }
+        ensures queue { Q.honest (queue_of self.new) → Q.contents (queue_of self.new) ≡ Q.contents (queue_of self.old) }
+        ensures held { Q.honest (queue_of self.new) → Q.honest (queue_of self.old) }
+        ensures runs_on { Q.is_stopped (queue_of self.new) ≡ Q.is_stopped (queue_of self.old) }
+        ensures outputs { outputs_of self.new ≡ outputs_of self.old }
+    {
+        let _ = self.core.restart(alloc, &mut self.queue, true);
     }
 
     /// The connection above ends: the outstation above is closed, and forgets what came.
