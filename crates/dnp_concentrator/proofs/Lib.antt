@@ -3,3 +3,4 @@ pub mod Mapping
 pub mod Orders
 pub mod Refusals
 pub mod Sendings
+pub mod SoundPoints

@@ -4,6 +4,7 @@ pub mod IndexKinds
 pub mod IndexMap
 pub mod Issuing
 pub mod Plan
+pub mod PointsAbove
 pub mod Relayed
 pub mod Relaying
 -- Words of private steps.

@@ -13,6 +13,7 @@ mod limits;
 mod listed;
 mod order;
 mod plan;
+mod points_above;
 mod progress;
 mod receiving;
 mod relay;
