@@ -1,6 +1,6 @@
 -- The index map: what stands above is undone to what stood below, and back.
-use Rattle.std.proofs.Common.{◌≡◌, ℕ, zero, suc, ◌+◌, ◌-◌, ◌<◌, Bool, true, false, cond, List, [], ◌∷◌, length, Option, Some, None, refl, sym, ◌∙◌, ap, subst, arith, inl, inr}
-use Rattle.std.specs.Prelude.{nat_lt}
+use Rattle.std.proofs.Common.{rules, ◌≡◌, ℕ, zero, suc, ◌+◌, ◌-◌, ◌<◌, ◌≤◌, Bool, true, false, cond, List, [], ◌∷◌, length, Option, Some, None, refl, sym, ◌∙◌, ap, subst, arith, inl, inr}
+use Rattle.std.specs.Prelude.{nat_lt, IfSome}
 use Rattle.std.specs.Option.{option_map}
 use Rattle.std.proofs.lemmas.Bool.{cases_lt}
 use Rattle.std.proofs.lemmas.Bool.Decides.{nat_tests}
@@ -150,3 +150,21 @@ in_range spans kind station index above m e =
           subst (λ (s : Spans). index < (span_of s kind).count) (get_or_past spans station no_spans past) stands.low in
           absurd (none_of kind index nobody)
     ]
+
+-- what a look-up finds is of a substation
+there_in : (spans : List Spans) (kind : IndexKind) (station index above : ℕ) → StandsAt (span_at spans station kind) index above → station < length spans
+there_in spans kind station index above stands = elim (cases_lt station (length spans)) [
+  | inl low ↦ low
+  | inr past ↦
+      let nobody : index < (span_of no_spans kind).count =
+      subst (λ (s : Spans). index < (span_of s kind).count) (get_or_past spans station no_spans past) stands.low in
+      absurd (none_of kind index nobody)
+]
+
+pub station_below : (spans : List Spans) (kind : IndexKind) (above : ℕ) (o : Option (ℕ × ℕ)) (most : ℕ) → index_below spans kind above ≡ o
+    → length spans ≤ most → IfSome o (λ p. p.0 < most)
+station_below spans kind above None most e few = search rules
+station_below spans kind above (Some p) most e few =
+    let there : p.0 < length spans = there_in spans kind p.0 p.1 above (below_stands spans kind p.0 p.1 above e) in
+    let low : p.0 < most = omega arith in
+    search rules

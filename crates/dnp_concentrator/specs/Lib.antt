@@ -1,8 +1,9 @@
 -- Definitions, by which contracts promise.
+pub mod BookOutputs
 pub mod Centre
 pub mod IndexKinds
 pub mod IndexMap
-pub mod Issuing
+pub mod Mapped
 pub mod Plan
 pub mod PointsAbove
 pub mod Relayed

@@ -1,6 +1,6 @@
 //! The index map between the substations and the station above them.
 
-ghost use Rattle.std.specs.Prelude.{◌≡◌, ◌↔◌, ◌≤◌, ◌<◌, ◌+◌, ℕ, IfOk, IsTrue, true, Any, Err, length, map};
+ghost use Rattle.std.specs.Prelude.{◌≡◌, ◌↔◌, ◌≤◌, ◌<◌, ◌+◌, ℕ, IfOk, IfSome, IsTrue, true, Any, Err, length, map};
 ghost use Rattle.dnp_concentrator.specs.IndexMap.{IsMap, IsWide, IsTooWide, Meet, ShareIndex, Overlaps, span_of, index_above, index_below};
 ghost use Rattle.dnp_concentrator.specs.Order.{AreOrders};
 ghost use Rattle.dnp_concentrator.specs.Plan.{map_of, spans_of, KeepsLimits};
@@ -194,10 +194,11 @@ impl IndexMap {
         }
     }
 
-    /// The number of the substation that an index above is of, and which index it is there. `None` where it is of no
-    /// substation.
+    /// The number of the substation that an index above is of, below 16, and which index it is there. `None` where it
+    /// is of no substation.
     pub fn below(&self, kind: IndexKind, index: u16) -> Option<(u8, u16)>
-        ensures { result ≡ index_below self.now kind index }
+        ensures value { result ≡ index_below self.now kind index }
+        ensures station { IfSome result (λ found. found.0 < MAX_SUBSTATIONS) }
     {
         find(self.orders.of(kind), index)
     }

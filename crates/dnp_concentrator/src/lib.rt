@@ -3,6 +3,7 @@
 //! the plan of the whole system, and the index map between the substations and the station above them.
 #![tactic(auto)]
 
+mod book_outputs;
 mod centre;
 mod fault;
 mod index_kind;
@@ -11,6 +12,7 @@ mod issue;
 pub mod laws;
 mod limits;
 mod listed;
+mod mapped;
 mod order;
 mod plan;
 mod points_above;
@@ -21,13 +23,15 @@ pub mod relay_laws;
 mod relayed;
 mod span;
 
+pub use book_outputs::BookOutputs;
 pub use centre::Centre;
 pub use fault::MapFault;
 pub use index_kind::IndexKind;
 pub use index_map::IndexMap;
 pub use issue::IssueFault;
-pub use limits::{INDEX_KINDS, MAX_RETRIES, MAX_SUBSTATIONS, MAX_TIMER_MS};
+pub use limits::{COMMANDS_AT_ONCE, INDEX_KINDS, MAX_RETRIES, MAX_SUBSTATIONS, MAX_TIMER_MS};
 pub use listed::Listed;
+pub use mapped::queued_rows;
 pub use plan::{Plan, SubPlan};
 pub use relayed::Relayed;
 pub use span::{Span, Spans};

@@ -7,6 +7,9 @@ pub const MAX_SUBSTATIONS: usize = 16;
 /// setpoints.
 pub const INDEX_KINDS: usize = 5;
 
+/// How many commands a request to a concentrator may have.
+pub const COMMANDS_AT_ONCE: usize = 1;
+
 /// The longest that a timer runs, in milliseconds: an hour.
 pub const MAX_TIMER_MS: u64 = 3_600_000;
 

@@ -23,5 +23,8 @@ loop-number-preserved c =
     grind (arith, h))
 
 pub returns : goal.returns
-returns c =
-    (λ no. grind (arith, no), λ shares. absurd (none_shared c.args.kind c.args.substations.now c.loop-number.number c.loop-number.invariant (omega (arith, c.loop-number-test.false)) shares))
+returns c = (
+  λ no. grind (arith, no),
+  λ shares. absurd (none_shared c.args.kind c.args.substations.now c.loop-number.number c.loop-number.invariant
+      (omega (arith, c.loop-number-test.false)) shares),
+)

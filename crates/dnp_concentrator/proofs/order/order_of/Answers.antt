@@ -13,7 +13,8 @@ loop-number-init c =
 pub loop-number-preserved : goal.loop-number-preserved
 loop-number-preserved c = elim c.if-span-gt0.branch [
   | then-span-gt0+in_ok-push w ↦
-      let items : c.if-span-gt0.order.items ≡ c.loop-number.order.items ++ _ ∷ [] = ap (λ (v : Vec Place Global). v.items) w.order-is ∙ w.in_ok-push.ensures.items in
+      let items : c.if-span-gt0.order.items ≡ c.loop-number.order.items ++ _ ∷ [] =
+      ap (λ (v : Vec Place Global). v.items) w.order-is ∙ w.in_ok-push.ensures.items in
       subst (λ (order : List Place). IsPlaced c.args.kind c.args.spans.now (c.loop-number.number + 1) order) (sym items)
       (place_pushed c.args.kind c.args.spans.now c.loop-number.number c.loop-number.order.items _ _ c.loop-number.invariant c.loop-number-test.true
       refl w.if-span-gt0.true (ap (λ (s : Span). s.base) c.of-span.ensures) (ap (λ (s : Span). s.count) c.of-span.ensures))

@@ -16,6 +16,12 @@ pub invariant_of-result : goal.invariant_of-result
 invariant_of-result c =
     let spans : c.in-Ok.spans.items ≡ map spans_of c.as_slice-substations.result.now = c.in-Ok.ensures in (
       subst (λ (s : List Spans). IsMap s) (sym spans) (is_map (map spans_of c.as_slice-substations.result.now) (search rules) (search rules)),
-      omega (arith, ap (λ (s : List Spans). length s) spans, length-map c.as_slice-substations.result.now spans_of, ap length c.as_slice-substations.ensures, c.requires.few),
+      omega (
+        arith,
+        ap (λ (s : List Spans). length s) spans,
+        length-map c.as_slice-substations.result.now spans_of,
+        ap length c.as_slice-substations.ensures,
+        c.requires.few,
+      ),
       subst (λ (s : List Spans). AreOrders s c.in-Ok-orders_of.orders) c.deref.ensures.value c.in-Ok-orders_of.ensures,
     )

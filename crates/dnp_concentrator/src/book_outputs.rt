@@ -1,0 +1,160 @@
+//! Outputs over a book.
+
+ghost use Rattle.std.specs.Prelude.{◌≡◌, ◌<◌, ◌≤◌, OnOk, IfErr, IsSome, ⊤};
+ghost use Rattle.std.specs.Borrow.{Lends, sem};
+ghost use Rattle.dnp_objects.specs.Stores.{IsStoreCall};
+ghost use Rattle.dnp_concentrator.specs.contracts.book_outputs.BookOutputs.{the_row};
+ghost use Rattle.dnp_concentrator.specs.BookOutputs.{map_in, book_in, with_book, obeys_code, can_relay, HoldsSame, IsWell, added_for, store_fault};
+ghost use Rattle.dnp_objects.specs.declared.limits.TheConstants.{MAX_ID};
+ghost use Rattle.dnp_concentrator.specs.Mapped.{command_below};
+
+use crate::index_map::IndexMap;
+use crate::limits::COMMANDS_AT_ONCE;
+use arrayvec::ArrayVec;
+use dnp_controls::{Book, BookFault, MAX_COMMANDS, Outputs, obeys_code_rule};
+use dnp_objects::{Command, Status, StoreFault};
+use std::alloc::Global;
+
+/// Outputs of a concentrator: a command is performed by being added to the book, for the substation that its index
+/// is of and with the substation's own index. They show no status.
+#[derive(Drop)]
+pub struct BookOutputs<B> {
+    map: IndexMap,
+    book: B,
+}
+
+/// Whether a block obeys the code rule; a setpoint command has none.
+fn obeys_code(command: &Command) -> bool
+    ensures { result ≡ obeys_code command.now }
+{
+    match *command {
+        Command::Block { code, count, .. } => obeys_code_rule(code, count),
+        Command::Set16 { .. } | Command::Set32 { .. } => true,
+    }
+}
+
+/// The fault of outputs whose book refuses to add a command. A book refuses that for want of numbers or of memory, or
+/// where its device failed.
+fn fault_of(fault: BookFault) -> StoreFault
+    ensures { result ≡ store_fault fault }
+{
+    match fault {
+        BookFault::Exhausted => StoreFault::Exhausted,
+        BookFault::Memory => StoreFault::Memory,
+        BookFault::NoControl | BookFault::NotPending | BookFault::Device => StoreFault::Device,
+    }
+}
+
+impl<B: Book> BookOutputs<B> {
+    /// Outputs over this book, by this index map.
+    pub fn new(map: IndexMap, book: B) -> Self
+        ensures map { map_in result ≡ map }
+        ensures book { book_in result ≡ book }
+    {
+        BookOutputs { map, book }
+    }
+
+    /// The book, as it stands.
+    pub fn into_book(self) -> B
+        ensures { result ≡ book_in self }
+    {
+        let BookOutputs { map: _, book } = self;
+        book
+    }
+
+    /// The index map.
+    pub fn map(&self) -> &IndexMap
+        ensures { result.now ≡ map_in self.now }
+    {
+        &self.map
+    }
+
+    /// The book, for writing.
+    pub fn book(&mut self) -> &mut B
+        ensures* writes_back { sem 𝓛 (Lends (the_row B.row) B.row self.entry result (with_book self.old)) }
+        ensures value { result.now ≡ book_in self.old }
+    {
+        &mut self.book
+    }
+
+    /// Whether the command's output is a substation's, and a block obeys the code rule.
+    fn can_relay(&self, command: &Command) -> bool
+        ensures { result ≡ can_relay (map_in self.now) command.now }
+    {
+        self.map.command_below(command).is_some() && obeys_code(command)
+    }
+
+    /// Adds the command to the book for its substation, with the substation's own index.
+    fn add(&mut self, alloc: Global, command: &Command) -> Result<(), StoreFault>
+        ensures map { map_in self.new ≡ map_in self.old }
+        ensures call { IsStoreCall (IsWell B.honest B.is_stopped) (λ o. B.is_stopped (book_in o)) (λ _. ⊤) (HoldsSame B.contents) (λ _ _. ⊤) StoreFault.Device (IsSome (command_below (map_in self.old) command.now)) self.old self.new result }
+        ensures added { IsWell B.honest B.is_stopped self.new → OnOk result (B.contents (book_in self.new) ≡ added_for (B.contents (book_in self.old)) (command_below (map_in self.old) command.now)) }
+        ensures not_exhausted { IsWell B.honest B.is_stopped self.new → IsSome (command_below (map_in self.old) command.now) → OnOk result ((B.contents (book_in self.old)).last_id < MAX_ID) }
+        ensures exhausted { IsWell B.honest B.is_stopped self.new → IfErr result (λ e. e ≡ StoreFault.Exhausted → MAX_ID ≤ (B.contents (book_in self.old)).last_id) }
+    {
+        if let Some((station, below)) = self.map.command_below(command) {
+            if let Err(fault) = self.book.add(alloc, station, &below) {
+                return Err(fault_of(fault));
+            }
+        }
+        Ok(())
+    }
+}
+
+/// One command at a time. A command is answered SUCCESS where its output is a substation's and, of a block, the code rule
+/// is obeyed, and any other NOT_SUPPORTED. What performs a command is the book's `add`, so that a fault of the book is
+/// the fault of the call. No output shows a status.
+impl<B: Book> Outputs for BookOutputs<B> {
+    ghost use Rattle.std.specs.Prelude.{true};
+    ghost use Rattle.dnp_concentrator.specs.BookOutputs.{book_in, panel_of, IsWell, Performs, Exhausts};
+
+    ghost panel = { panel_of B.contents };
+
+    ghost performs = { Performs B.contents };
+
+    ghost exhausts = { Exhausts B.contents };
+
+    ghost honest = { IsWell B.honest B.is_stopped };
+
+    ghost is_stopped = { λ o. B.is_stopped (book_in o) };
+
+    ghost may_fault = { λ _. true };
+
+    fn most(&self) -> usize {
+        COMMANDS_AT_ONCE
+    }
+
+    fn outputs(&self) -> u16 {
+        0
+    }
+
+    fn status(&self, _index: u16) -> u8 {
+        0
+    }
+
+    fn check(&self, command: &Command) -> Status {
+        if self.can_relay(command) {
+            Status::SUCCESS
+        } else {
+            Status::NOT_SUPPORTED
+        }
+    }
+
+    fn operate(
+        &mut self,
+        alloc: Global,
+        commands: &[Command],
+    ) -> Result<ArrayVec<Status, MAX_COMMANDS>, StoreFault> {
+        let mut statuses = ArrayVec::new();
+        let [command] = commands else {
+            return Ok(statuses);
+        };
+        if self.can_relay(command) {
+            self.add(alloc, command)?;
+            statuses.push(Status::SUCCESS);
+        } else {
+            statuses.push(Status::NOT_SUPPORTED);
+        }
+        Ok(statuses)
+    }
+}

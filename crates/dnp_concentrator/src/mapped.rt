@@ -1,0 +1,122 @@
+//! Rows and commands through the index map.
+
+ghost use Rattle.std.specs.Prelude.{◌≡◌, ◌<◌, IfSome, IfOk, All};
+ghost use Rattle.dnp_objects.specs.Events.{IsEvent};
+ghost use Rattle.dnp_eventbuf.specs.Carried.{IsCarried};
+ghost use Rattle.dnp_pointdb.specs.Events as events;
+ghost use Rattle.dnp_concentrator.specs.Mapped as spec;
+
+use crate::index_kind::IndexKind;
+use crate::index_map::IndexMap;
+use crate::limits::MAX_SUBSTATIONS;
+use dnp_objects::{Command, Kind, Lane, LaneRow, Row};
+use dnp_pointdb::PointDb;
+use std::alloc::{AllocError, Global};
+
+/// The same command to the output of another index.
+fn with_index(command: &Command, new: u16) -> Command
+    ensures { result ≡ spec.with_index command.now new }
+{
+    match *command {
+        Command::Block {
+            code,
+            count,
+            on_ms,
+            off_ms,
+            ..
+        } => Command::Block {
+            index: new,
+            code,
+            count,
+            on_ms,
+            off_ms,
+        },
+        Command::Set16 { value, .. } => Command::Set16 { index: new, value },
+        Command::Set32 { value, .. } => Command::Set32 { index: new, value },
+    }
+}
+
+impl IndexMap {
+    /// A substation's row as it stands above: under the index above, and else unchanged. `None` where the
+    /// substation has no such index.
+    pub fn row_above(&self, station: u8, row: &Row) -> Option<Row>
+        ensures { result ≡ spec.row_above self.now station row.now }
+    {
+        let index = self.above(station, IndexKind::of_points(row.kind), row.index)?;
+        Some(Row { index, ..*row })
+    }
+
+    /// The number of the substation that a row above is of, and the row as it stands there. `None` where its index is
+    /// of no substation.
+    pub fn row_below(&self, row: &Row) -> Option<(u8, Row)>
+        ensures { result ≡ spec.row_below self.now row.now }
+    {
+        let (station, index) = self.below(IndexKind::of_points(row.kind), row.index)?;
+        Some((station, Row { index, ..*row }))
+    }
+
+    /// A command to a substation's output as it stands above: under the index above, and else unchanged. `None` where the
+    /// substation has no such output or setpoint.
+    pub fn command_above(&self, station: u8, command: &Command) -> Option<Command>
+        ensures { result ≡ spec.command_above self.now station command.now }
+    {
+        let index = self.above(station, IndexKind::of_command(command), command.index())?;
+        Some(with_index(command, index))
+    }
+
+    /// The number of the substation that a command above is for, below 16, and the command as it goes there. `None`
+    /// where its index is of no substation.
+    pub fn command_below(&self, command: &Command) -> Option<(u8, Command)>
+        ensures value { result ≡ spec.command_below self.now command.now }
+        ensures station { IfSome result (λ found. found.0 < MAX_SUBSTATIONS) }
+    {
+        let (station, index) = self.below(IndexKind::of_command(command), command.index())?;
+        Some((station, with_index(command, index)))
+    }
+}
+
+/// The lane of a class and a kind; class 0 has none.
+fn lane_of(class: u8, kind: Kind) -> Option<Lane>
+    ensures { result ≡ events.lane_of class kind }
+{
+    Lane::new(class, kind)
+}
+
+/// A row above with the lane that it goes to: that of the class that the plan gives its point, and of its kind. `None`
+/// where there is no such point, or its class has no events.
+fn lane_row(points: &PointDb, row: Row) -> Option<LaneRow>
+    ensures { result ≡ spec.lane_row points.now row }
+{
+    let class = points.class_of(row.kind, row.index)?;
+    let lane = lane_of(class, row.kind)?;
+    Some(LaneRow { lane, row })
+}
+
+/// A substation's event as it is queued above: `points` are those above.
+fn queued_row(map: &IndexMap, points: &PointDb, station: u8, event: &Row) -> Option<LaneRow>
+    ensures { result ≡ spec.queued_row map.now points.now station event.now }
+{
+    lane_row(points, map.row_above(station, event)?)
+}
+
+/// A substation's events as they are queued above, in order: each under its index above and in the lane of the class
+/// that the plan gives its point there, and else unchanged. An event that is of no point with a class above is passed
+/// over. `points` are those above.
+pub fn queued_rows(
+    alloc: Global,
+    map: &IndexMap,
+    points: &PointDb,
+    station: u8,
+    events: &[Row],
+) -> Result<Vec<LaneRow>, AllocError>
+    ensures rows { IfOk result (λ rows. rows.items ≡ spec.queued_rows map.now points.now station events.now) }
+    ensures carried { All IsEvent events.now → IfOk result (λ rows. All IsCarried rows.items) }
+{
+    let mut rows = Vec::with_capacity(alloc, events.len())?;
+    for event in events {
+        if let Some(row) = queued_row(map, points, station, event) {
+            rows.push(row)?;
+        }
+    }
+    Ok(rows)
+}
