@@ -1,27 +1,39 @@
-//! A data concentrator of DNP3 (IEEE Std 1815-2012): the plan of a whole system, and the index map between
-//! the substations and the station above them.
+//! The middle and the top of a path of DNP3 stations (IEEE Std 1815-2012): a concentrator that polls
+//! substations and hands their events on, and a centre that polls it, keeps a journal and issues controls;
+//! the plan of the whole system, and the index map between the substations and the station above them.
 #![tactic(auto)]
 
 mod book_outputs;
+mod centre;
 mod concentrator;
 mod fault;
 mod index_kind;
 mod index_map;
+mod issue;
 pub mod laws;
 mod limits;
 mod listed;
 mod mapped;
 mod order;
 mod plan;
+mod points_above;
+mod progress;
+mod receiving;
+mod relay;
+pub mod relay_laws;
+mod relayed;
 mod span;
 
 pub use book_outputs::BookOutputs;
+pub use centre::Centre;
 pub use concentrator::Concentrator;
 pub use fault::MapFault;
 pub use index_kind::IndexKind;
 pub use index_map::IndexMap;
+pub use issue::IssueFault;
 pub use limits::{COMMANDS_AT_ONCE, INDEX_KINDS, MAX_RETRIES, MAX_SUBSTATIONS, MAX_TIMER_MS};
 pub use listed::Listed;
 pub use mapped::queued_rows;
 pub use plan::{Plan, SubPlan};
+pub use relayed::Relayed;
 pub use span::{Span, Spans};
