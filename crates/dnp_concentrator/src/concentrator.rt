@@ -1,6 +1,6 @@
 //! A data concentrator: the outstation that it is to the station above.
 
-ghost use Rattle.std.specs.Prelude.{◌≡◌, ◌≢◌, ◌⊎◌, ◌≤◌, [], true, false, All, IsErr, IsTrue, OnOk, OnErr, Err, length};
+ghost use Rattle.std.specs.Prelude.{◌≡◌, ◌≢◌, ◌⊎◌, ◌≤◌, [], true, false, All, IsErr, IsTrue, OnOk, OnErr, IfOk, Err, ◌↔◌, length};
 ghost use Rattle.std.specs.Borrow.{Lends, sem};
 ghost use Rattle.dnp_eventbuf.specs.Stock.{rows_in};
 ghost use Rattle.dnp_outstation.specs.State.{is_quiet};
@@ -9,11 +9,18 @@ ghost use Rattle.dnp_outstation.specs.Connection.{closed, is_looked_at};
 ghost use Rattle.dnp_outstation.specs.Putting.{IsLook};
 ghost use Rattle.dnp_outstation.specs.Station.{actions_of, new_core, MayAsk};
 ghost use Rattle.dnp_concentrator.specs.BookOutputs.{panel_of, Performs, Exhausts};
+ghost use Rattle.dnp_concentrator.specs.IndexMap.{IsTooWide, Overlaps};
+ghost use Rattle.dnp_concentrator.specs.Plan.{KeepsLimits, map_of};
+ghost use Rattle.dnp_concentrator.specs.PointsAbove.{points_above};
+ghost use Rattle.dnp_pointdb.specs.Database.{new_database};
 ghost use Rattle.dnp_concentrator.specs.contracts.concentrator.Concentrator.{the_row};
 ghost use Rattle.dnp_concentrator.specs.Concentrator.{core_of, queue_of, outputs_of, book_of, indices_of, with_queue, with_other_book, IsBookWell, above_of};
 
 use crate::book_outputs::BookOutputs;
+use crate::fault::MapFault;
 use crate::index_map::IndexMap;
+use crate::plan::Plan;
+use crate::points_above::points_above;
 use dnp_controls::Book;
 use dnp_eventbuf::{Lanes, StoreFault};
 use dnp_outstation::{Actions, OutstationCore};
@@ -30,6 +37,34 @@ pub struct Concentrator<Q, B> {
     core: OutstationCore,
     queue: Q,
     outputs: BookOutputs<B>,
+}
+
+impl<Q: Lanes + Drop, B: Book + Drop> Concentrator<Q, B> {
+    /// A concentrator of a plan that keeps its limits (`Plan::keeps_limits`), over this queue and this book. It is closed,
+    /// as after a restart.
+    ///
+    /// Refused is, first of all, an index above over 65,535 (`TooWide`), and then an index above of one kind that two
+    /// substations would share (`Overlap`). After these it may be out of memory (`Memory`). What is refused drops queue
+    /// and book.
+    pub fn new(alloc: Global, plan: &Plan, queue: Q, book: B) -> Result<Self, MapFault>
+        requires { KeepsLimits plan.now }
+        ensures core { IfOk result (λ c. core_of c ≡ new_core (new_database (points_above plan.now)) plan.now.times) }
+        ensures indices { IfOk result (λ c. indices_of c ≡ map_of plan.now) }
+        ensures queue { IfOk result (λ c. queue_of c ≡ queue) }
+        ensures book { IfOk result (λ c. book_of c ≡ book) }
+        ensures too_wide { (result ≡ Err MapFault.TooWide) ↔ IsTooWide (map_of plan.now) }
+        ensures overlap { (result ≡ Err MapFault.Overlap) ↔ (Overlaps (map_of plan.now) × (IsTooWide (map_of plan.now) → ⊥)) }
+    {
+        let map = IndexMap::new(alloc, plan)?;
+        let _mapped = map.substations();
+        let Ok(points) = points_above(alloc, plan) else {
+            return Err(MapFault::Memory);
+        };
+        let Ok(points) = PointDb::new(alloc, points) else {
+            return Err(MapFault::Memory);
+        };
+        Ok(Concentrator::over(points, map, plan.times, queue, book))
+    }
 }
 
 impl<Q: Lanes, B: Book> Concentrator<Q, B> {
