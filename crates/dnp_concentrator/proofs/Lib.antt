@@ -6,3 +6,4 @@ pub mod Orders
 pub mod Queued
 pub mod Refusals
 pub mod Sendings
+pub mod SoundPoints

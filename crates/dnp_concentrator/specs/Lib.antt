@@ -1,11 +1,12 @@
 -- Definitions, by which contracts promise.
 pub mod BookOutputs
 pub mod Centre
+pub mod Concentrator
 pub mod IndexKinds
 pub mod IndexMap
-pub mod Issuing
 pub mod Mapped
 pub mod Plan
+pub mod PointsAbove
 pub mod Relayed
 pub mod Relaying
 -- Words of private steps.

@@ -1,6 +1,6 @@
 //! A centre.
 
-ghost use Rattle.std.specs.Prelude.{◌≡◌, ◌≢◌, ◌⊎◌, ℕ, [], true, false, not, Ok, Err, IsTrue, IsOk, IfOk, IfErr, OnOk, OnErr, MatchResult, option_map};
+ghost use Rattle.std.specs.Prelude.{◌≡◌, ◌≢◌, ◌⊎◌, ◌↔◌, ℕ, [], true, false, not, Ok, Err, IsTrue, IsOk, IfOk, IfErr, OnOk, OnErr, MatchResult, option_map};
 ghost use Rattle.std.specs.Borrow.{Lends, sem};
 ghost use Rattle.std.specs.Option.{IsSomeAnd};
 ghost use Rattle.std.specs.Result.{IsOkAnd};
@@ -14,16 +14,21 @@ ghost use Rattle.dnp_master.specs.Sinks.{IsSinkFault};
 ghost use Rattle.dnp_master.specs.State as master;
 ghost use Rattle.dnp_concentrator.specs.contracts.centre.Centre.{the_row};
 ghost use Rattle.dnp_concentrator.specs.Centre.{book_of, indices_of, journal_of, link_of, with_book, with_journal, LeavesJournal};
+ghost use Rattle.dnp_concentrator.specs.IndexMap.{IsTooWide, Overlaps};
+ghost use Rattle.dnp_concentrator.specs.Plan.{KeepsLimits, map_of};
+ghost use Rattle.dnp_concentrator.specs.PointsAbove.{points_above};
 ghost use Rattle.dnp_concentrator.specs.Relayed as says;
 ghost use Rattle.dnp_concentrator.specs.Relaying as spec;
 
+use crate::fault::MapFault;
 use crate::index_map::IndexMap;
+use crate::plan::Plan;
+use crate::points_above::points_above;
 use crate::relay::Relay;
 use crate::relayed::Relayed;
 use dnp_controls::{Book, BookFault};
 use dnp_eventbuf::JournalStore;
 use dnp_master::{AskFault, Fragment, MasterActions, MasterFault, Task};
-use dnp_pointdb::{PointPlan, Times};
 use std::alloc::Global;
 
 /// A centre: a master with a journal of the events that came, and a book of the controls that were issued.
@@ -41,23 +46,37 @@ pub struct Centre<J, B> {
 /// The target of all controls in a centre's book: the station below.
 pub(crate) const STATION: u8 = 0;
 
-impl<J: JournalStore, B: Book> Centre<J, B> {
-    /// A closed centre over this journal and this book, as a restart leaves it. The station below has these
-    /// points, and the indices of its substations stand there as the map says.
-    pub fn new(plan: PointPlan, map: IndexMap, times: Times, journal: J, book: B) -> Self
-        ensures link { link_of result ≡ spec.new_relaying plan times }
-        ensures indices { indices_of result ≡ map }
-        ensures journal { journal_of result ≡ journal }
-        ensures book { book_of result ≡ book }
+impl<J: JournalStore + Drop, B: Book + Drop> Centre<J, B> {
+    /// A closed centre of a plan that keeps its limits (`Plan::keeps_limits`), over this journal and this book,
+    /// as a restart leaves it.
+    ///
+    /// Refused is, first of all, an index above over 65,535 (`TooWide`), and then an index above of one kind that
+    /// two substations would share (`Overlap`). After these it may be out of memory (`Memory`). What is refused
+    /// drops journal and book.
+    pub fn new(alloc: Global, plan: &Plan, journal: J, book: B) -> Result<Self, MapFault>
+        requires { KeepsLimits plan.now }
+        ensures link { IfOk result (λ c. link_of c ≡ spec.new_relaying (points_above plan.now) plan.now.times) }
+        ensures indices { IfOk result (λ c. indices_of c ≡ map_of plan.now) }
+        ensures journal { IfOk result (λ c. journal_of c ≡ journal) }
+        ensures book { IfOk result (λ c. book_of c ≡ book) }
+        ensures too_wide { (result ≡ Err MapFault.TooWide) ↔ IsTooWide (map_of plan.now) }
+        ensures overlap { (result ≡ Err MapFault.Overlap) ↔ (Overlaps (map_of plan.now) × (IsTooWide (map_of plan.now) → ⊥)) }
     {
-        Centre {
+        let map = IndexMap::new(alloc, plan)?;
+        let _mapped = map.substations();
+        let Ok(points) = points_above(alloc, plan) else {
+            return Err(MapFault::Memory);
+        };
+        Ok(Centre {
             map,
-            relay: Relay::new(plan, times),
+            relay: Relay::new(points, plan.times),
             journal,
             book,
-        }
+        })
     }
+}
 
+impl<J: JournalStore, B: Book> Centre<J, B> {
     /// The journal and the book, as they stand.
     pub fn into_stores(self) -> (J, B)
         ensures journal { result.0 ≡ journal_of self }

@@ -2,16 +2,12 @@
 
 ghost use Rattle.std.specs.Prelude.{◌≡◌, ◌≢◌, ◌+◌, ◌<◌, ◌≤◌, ◌↔◌, None, Err, IsTrue, IfOk, IfErr, IfSome, OnOk};
 ghost use Rattle.dnp_controls.specs.Book.{added};
-ghost use Rattle.dnp_objects.specs.Commands.{index_of};
 ghost use Rattle.dnp_objects.specs.declared.limits.TheConstants.{MAX_ID};
 ghost use Rattle.dnp_concentrator.specs.Centre.{book_of, indices_of, journal_of, link_of};
-ghost use Rattle.dnp_concentrator.specs.IndexKinds.{kind_of_command};
-ghost use Rattle.dnp_concentrator.specs.IndexMap.{index_above};
-ghost use Rattle.dnp_concentrator.specs.Issuing.{with_index};
+ghost use Rattle.dnp_concentrator.specs.Mapped.{command_above};
 ghost use Rattle.dnp_concentrator.specs.Relayed.{LeavesBook};
 
 use crate::centre::{Centre, STATION};
-use crate::index_kind::IndexKind;
 use dnp_controls::{Book, BookFault};
 use dnp_eventbuf::JournalStore;
 use dnp_objects::Command;
@@ -33,29 +29,6 @@ pub enum IssueFault {
     /// The device under the book failed.
     #[error("the book's device failed")]
     Device = 4,
-}
-
-/// The command to another output or setpoint, of this index.
-fn with_index(command: &Command, to: u16) -> Command
-    ensures { result ≡ with_index command.now to }
-{
-    match *command {
-        Command::Block {
-            index: _,
-            code,
-            count,
-            on_ms,
-            off_ms,
-        } => Command::Block {
-            index: to,
-            code,
-            count,
-            on_ms,
-            off_ms,
-        },
-        Command::Set16 { index: _, value } => Command::Set16 { index: to, value },
-        Command::Set32 { index: _, value } => Command::Set32 { index: to, value },
-    }
 }
 
 /// Adds a command to a book, for the station below.
@@ -91,10 +64,10 @@ impl<J: JournalStore, B: Book> Centre<J, B> {
         command: &Command,
     ) -> Result<u64, IssueFault>
         ensures no_output { (result ≡ Err IssueFault.NoOutput)
-            ↔ (index_above (indices_of self.old) station (kind_of_command command.now) (index_of command.now) ≡ None) }
+            ↔ (command_above (indices_of self.old) station command.now ≡ None) }
         ensures added { B.honest (book_of self.new) → OnOk result (
-            IfSome (index_above (indices_of self.old) station (kind_of_command command.now) (index_of command.now)) (λ above.
-            B.contents (book_of self.new) ≡ added (B.contents (book_of self.old)) 0 (with_index command.now above))) }
+            IfSome (command_above (indices_of self.old) station command.now) (λ above.
+            B.contents (book_of self.new) ≡ added (B.contents (book_of self.old)) 0 above)) }
         ensures id { B.honest (book_of self.new) → IfOk result (λ id. id ≡ (B.contents (book_of self.old)).last_id + 1) }
         ensures book { LeavesBook B.honest B.is_stopped B.contents IssueFault.Device (book_of self.old) (book_of self.new) result }
         // Where the substation has no such index, the book is not asked.
@@ -109,9 +82,8 @@ impl<J: JournalStore, B: Book> Centre<J, B> {
         ensures journal { journal_of self.new ≡ journal_of self.old }
         ensures indices { indices_of self.new ≡ indices_of self.old }
     {
-        let kind = IndexKind::of_command(command);
-        match self.map.above(station, kind, command.index()) {
-            Some(above) => add(alloc, &mut self.book, &with_index(command, above)),
+        match self.map.command_above(station, command) {
+            Some(above) => add(alloc, &mut self.book, &above),
             None => Err(IssueFault::NoOutput),
         }
     }

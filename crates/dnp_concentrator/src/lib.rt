@@ -5,6 +5,7 @@
 
 mod book_outputs;
 mod centre;
+mod concentrator;
 mod fault;
 mod index_kind;
 mod index_map;
@@ -15,6 +16,7 @@ mod listed;
 mod mapped;
 mod order;
 mod plan;
+mod points_above;
 mod progress;
 mod receiving;
 mod relay;
@@ -24,6 +26,7 @@ mod span;
 
 pub use book_outputs::BookOutputs;
 pub use centre::Centre;
+pub use concentrator::Concentrator;
 pub use fault::MapFault;
 pub use index_kind::IndexKind;
 pub use index_map::IndexMap;

@@ -1,0 +1,29 @@
+-- Definition: the points above: those of each substation, in a block of their own, with the classes of the plan, from the
+-- substation's base on.
+use Rattle.std.specs.Prelude.{ℕ, List, map, slice_index}
+use Rattle.dnp_objects.specs.declared.row.Kind.{Kind}
+use Rattle.dnp_objects.specs.declared.row.Kind.TheVariants.{Binary, Counter, Analog}
+use Rattle.dnp_pointdb.specs.declared.point.Block.{Block}
+use Rattle.dnp_pointdb.specs.declared.point.Point.{Point}
+use Rattle.dnp_pointdb.specs.Plan as points
+use Rattle.dnp_concentrator.specs.declared.plan.Plan.{Plan}
+use Rattle.dnp_concentrator.specs.declared.plan.SubPlan.{SubPlan}
+
+-- no deadband is needed where another station decides what is an event
+abbrev pub point_of : ℕ → Point
+point_of class = record { class = class; deadband = 0 }
+
+-- points of these classes
+abbrev pub block_of : ℕ → List ℕ → Block
+block_of base classes = record { base = base; points = map point_of classes }
+
+abbrev pub block_above : Kind → SubPlan → Block
+block_above Binary substation = block_of (slice_index substation.base 0) substation.binary
+block_above Counter substation = block_of (slice_index substation.base 1) substation.counter
+block_above Analog substation = block_of (slice_index substation.base 2) substation.analog
+
+-- the block's number is the substation's
+abbrev pub points_above : Plan → points.Plan
+points_above plan =
+    points.plan_of (map (block_above Binary) plan.substations) (map (block_above Counter) plan.substations)
+    (map (block_above Analog) plan.substations)

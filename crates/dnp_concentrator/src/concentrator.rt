@@ -1,0 +1,232 @@
+//! A data concentrator: the outstation that it is to the station above.
+
+ghost use Rattle.std.specs.Prelude.{◌≡◌, ◌≢◌, ◌⊎◌, ◌≤◌, [], true, false, All, IsErr, IsTrue, OnOk, OnErr, IfOk, Err, ◌↔◌, length};
+ghost use Rattle.std.specs.Borrow.{Lends, sem};
+ghost use Rattle.dnp_eventbuf.specs.Stock.{rows_in};
+ghost use Rattle.dnp_outstation.specs.State.{is_quiet};
+ghost use Rattle.dnp_outstation.specs.Calls.{opened_of, tick_of, connection_after, performed_in, restarted_core};
+ghost use Rattle.dnp_outstation.specs.Connection.{closed, is_looked_at};
+ghost use Rattle.dnp_outstation.specs.Putting.{IsLook};
+ghost use Rattle.dnp_outstation.specs.Station.{actions_of, new_core, MayAsk};
+ghost use Rattle.dnp_concentrator.specs.BookOutputs.{panel_of, Performs, Exhausts};
+ghost use Rattle.dnp_concentrator.specs.IndexMap.{IsTooWide, Overlaps};
+ghost use Rattle.dnp_concentrator.specs.Plan.{KeepsLimits, map_of};
+ghost use Rattle.dnp_concentrator.specs.PointsAbove.{points_above};
+ghost use Rattle.dnp_pointdb.specs.Database.{new_database};
+ghost use Rattle.dnp_concentrator.specs.contracts.concentrator.Concentrator.{the_row};
+ghost use Rattle.dnp_concentrator.specs.Concentrator.{core_of, queue_of, outputs_of, book_of, indices_of, with_queue, with_other_book, IsBookWell, above_of};
+
+use crate::book_outputs::BookOutputs;
+use crate::fault::MapFault;
+use crate::index_map::IndexMap;
+use crate::plan::Plan;
+use crate::points_above::points_above;
+use dnp_controls::Book;
+use dnp_eventbuf::{Lanes, StoreFault};
+use dnp_outstation::{Actions, OutstationCore};
+use dnp_pointdb::{PointDb, Times};
+use std::alloc::Global;
+
+/// A data concentrator (IEEE Std 1815-2012, application layer): an outstation to the station above, whose events are those
+/// of the queue, and whose outputs are the book's.
+///
+/// A call that ends in `_above` fills the caller's actions. A refused call changes nothing and sends nothing; only after
+/// Device the queue and the book promise nothing of what they hold. The moment of a call, `now`, is in milliseconds.
+#[derive(Drop)]
+pub struct Concentrator<Q, B> {
+    core: OutstationCore,
+    queue: Q,
+    outputs: BookOutputs<B>,
+}
+
+impl<Q: Lanes + Drop, B: Book + Drop> Concentrator<Q, B> {
+    /// A concentrator of a plan that keeps its limits (`Plan::keeps_limits`), over this queue and this book. It is closed,
+    /// as after a restart.
+    ///
+    /// Refused is, first of all, an index above over 65,535 (`TooWide`), and then an index above of one kind that two
+    /// substations would share (`Overlap`). After these it may be out of memory (`Memory`). What is refused drops queue
+    /// and book.
+    pub fn new(alloc: Global, plan: &Plan, queue: Q, book: B) -> Result<Self, MapFault>
+        requires { KeepsLimits plan.now }
+        ensures core { IfOk result (λ c. core_of c ≡ new_core (new_database (points_above plan.now)) plan.now.times) }
+        ensures indices { IfOk result (λ c. indices_of c ≡ map_of plan.now) }
+        ensures queue { IfOk result (λ c. queue_of c ≡ queue) }
+        ensures book { IfOk result (λ c. book_of c ≡ book) }
+        ensures too_wide { (result ≡ Err MapFault.TooWide) ↔ IsTooWide (map_of plan.now) }
+        ensures overlap { (result ≡ Err MapFault.Overlap) ↔ (Overlaps (map_of plan.now) × (IsTooWide (map_of plan.now) → ⊥)) }
+    {
+        let map = IndexMap::new(alloc, plan)?;
+        let _mapped = map.substations();
+        let Ok(points) = points_above(alloc, plan) else {
+            return Err(MapFault::Memory);
+        };
+        let Ok(points) = PointDb::new(alloc, points) else {
+            return Err(MapFault::Memory);
+        };
+        Ok(Concentrator::over(points, map, plan.times, queue, book))
+    }
+}
+
+impl<Q: Lanes, B: Book> Concentrator<Q, B> {
+    /// A concentrator over these points above, this index map, queue and book. It is closed, as after a restart.
+    pub fn over(points: PointDb, map: IndexMap, times: Times, queue: Q, book: B) -> Self
+        ensures core { core_of result ≡ new_core points times }
+        ensures map { indices_of result ≡ map }
+        ensures queue { queue_of result ≡ queue }
+        ensures book { book_of result ≡ book }
+    {
+        Concentrator {
+            core: OutstationCore::new(points, times),
+            queue,
+            outputs: BookOutputs::new(map, book),
+        }
+    }
+
+    /// The queue and the book, as they stand.
+    pub fn into_stores(self) -> (Q, B)
+        ensures queue { result.0 ≡ queue_of self }
+        ensures book { result.1 ≡ book_of self }
+    {
+        let Concentrator {
+            core: _,
+            queue,
+            outputs,
+        } = self;
+        (queue, outputs.into_book())
+    }
+
+    /// The queue, for writing.
+    pub fn queue(&mut self) -> &mut Q
+        ensures* writes_back { sem 𝓛 (Lends (the_row Q.row B.row) Q.row self.entry result (with_queue self.old)) }
+        ensures value { result.now ≡ queue_of self.old }
+    {
+        &mut self.queue
+    }
+
+    /// The book, for writing.
+    pub fn book(&mut self) -> &mut B
+        ensures* writes_back { sem 𝓛 (Lends (the_row Q.row B.row) B.row self.entry result (with_other_book self.old)) }
+        ensures value { result.now ≡ book_of self.old }
+    {
+        self.outputs.book()
+    }
+
+    /// Whether the outstation above is open, awaits no confirm and holds no READ.
+    pub fn quiet_above(&self) -> bool
+        ensures { result ≡ is_quiet (core_of self.now) }
+    {
+        self.core.quiet()
+    }
+
+    /// A restart: the outstation above is closed, and its points are as new. The queue and the book stay, and nothing else
+    /// does, so that this is what `over` makes of new points.
+    pub fn restart(&mut self, alloc: Global)
+        ensures core { core_of self.new ≡ restarted_core (core_of self.old) }
+        ensures queue { Q.honest (queue_of self.new) → Q.contents (queue_of self.new) ≡ Q.contents (queue_of self.old) }
+        ensures held { Q.honest (queue_of self.new) → Q.honest (queue_of self.old) }
+        ensures runs_on { Q.is_stopped (queue_of self.new) ≡ Q.is_stopped (queue_of self.old) }
+        ensures outputs { outputs_of self.new ≡ outputs_of self.old }
+    {
+        let _ = self.core.restart(alloc, &mut self.queue, true);
+    }
+
+    /// The connection above ends: the outstation above is closed, and forgets what came.
+    pub fn hung_up_above(&mut self)
+        ensures core { core_of self.new ≡ closed (core_of self.old) }
+        ensures queue { queue_of self.new ≡ queue_of self.old }
+        ensures outputs { outputs_of self.new ≡ outputs_of self.old }
+    {
+        self.core.hung_up();
+    }
+
+    /// A connection above begins. What is done is put into the actions, in place of what was there.
+    ///
+    /// Refused by the queue alone, where unsolicited responses are on, as Memory or Device: then the actions stay too.
+    pub fn opened_above(
+        &mut self,
+        actions: &mut Actions,
+        alloc: Global,
+        now: u64,
+    ) -> Result<(), StoreFault>
+        ensures look { IsLook Q.honest Q.is_stopped Q.contents Q.beside Q.asks_memory (queue_of self.old) (queue_of self.new) result }
+        ensures outputs { outputs_of self.new ≡ outputs_of self.old }
+        ensures opened { Q.honest (queue_of self.new) → OnOk result (opened_of (above_of Q.contents B.contents self.old) now
+            ≡ record { state = above_of Q.contents B.contents self.new; does = actions_of actions.new }) }
+        ensures whole { OnOk result (All (λ fragment. 4 ≤ length fragment) (actions_of actions.new).send) }
+        ensures unchanged { OnErr result (core_of self.new ≡ core_of self.old) }
+        ensures actions_unchanged { OnErr result (actions.new ≡ actions.old) }
+        ensures asks { IsErr result → (core_of self.old).times.unsolicited ≡ true }
+    {
+        self.core
+            .opened(actions, alloc, &mut self.queue, &mut self.outputs, now)
+    }
+
+    /// Time has passed. What is done is put into the actions, in place of what was there.
+    ///
+    /// Refused by the queue alone, where unsolicited responses are on, as Memory or Device: then the actions stay too.
+    pub fn tick_above(
+        &mut self,
+        actions: &mut Actions,
+        alloc: Global,
+        now: u64,
+    ) -> Result<(), StoreFault>
+        ensures look { IsLook Q.honest Q.is_stopped Q.contents Q.beside Q.asks_memory (queue_of self.old) (queue_of self.new) result }
+        ensures outputs { outputs_of self.new ≡ outputs_of self.old }
+        ensures ticked { Q.honest (queue_of self.new) → OnOk result (tick_of (above_of Q.contents B.contents self.old) now
+            ≡ record { state = above_of Q.contents B.contents self.new; does = actions_of actions.new }) }
+        ensures whole { OnOk result (All (λ fragment. 4 ≤ length fragment) (actions_of actions.new).send) }
+        ensures unchanged { OnErr result (core_of self.new ≡ core_of self.old) }
+        ensures actions_unchanged { OnErr result (actions.new ≡ actions.old) }
+        ensures asks { IsErr result → (core_of self.old).times.unsolicited ≡ true }
+    {
+        self.core
+            .tick(actions, alloc, &mut self.queue, &mut self.outputs, now)
+    }
+
+    /// A fragment came from the station above. What is done is put into the actions, in place of what was there. A
+    /// command that is performed is added to the book.
+    ///
+    /// Refused by the queue or the book, as Memory or Device, or by the book, as Exhausted: then the actions stay too.
+    pub fn receive_above(
+        &mut self,
+        actions: &mut Actions,
+        alloc: Global,
+        now: u64,
+        octets: &[u8],
+    ) -> Result<(), StoreFault>
+        ensures held { Q.honest (queue_of self.new) → Q.honest (queue_of self.old) }
+        ensures book_held { IsBookWell B.honest B.is_stopped self.new → IsBookWell B.honest B.is_stopped self.old }
+        ensures beside { Q.honest (queue_of self.new) → Q.beside (queue_of self.new) ≡ Q.beside (queue_of self.old) }
+        ensures received { Q.honest (queue_of self.new) → IsBookWell B.honest B.is_stopped self.new → OnOk result (
+            connection_after (above_of Q.contents B.contents self.old) (panel_of B.contents (outputs_of self.old)) now octets.now
+            ≡ record { state = above_of Q.contents B.contents self.new; does = actions_of actions.new }) }
+        ensures whole { OnOk result (All (λ fragment. 4 ≤ length fragment) (actions_of actions.new).send) }
+        ensures unchanged { OnErr result (core_of self.new ≡ core_of self.old) }
+        ensures actions_unchanged { OnErr result (actions.new ≡ actions.old) }
+        ensures queue_unchanged { Q.honest (queue_of self.new) → OnErr result (Q.contents (queue_of self.new) ≡ Q.contents (queue_of self.old)) }
+        ensures panel_unchanged { IsBookWell B.honest B.is_stopped self.new → OnErr result (panel_of B.contents (outputs_of self.new) ≡ panel_of B.contents (outputs_of self.old)) }
+        ensures idle { performed_in (core_of self.old) (panel_of B.contents (outputs_of self.old)) now octets.now ≡ [] → outputs_of self.new ≡ outputs_of self.old }
+        ensures performed { IsBookWell B.honest B.is_stopped self.new → OnOk result (performed_in (core_of self.old) (panel_of B.contents (outputs_of self.old)) now octets.now ≢ []
+            → Performs B.contents (outputs_of self.old) (performed_in (core_of self.old) (panel_of B.contents (outputs_of self.old)) now octets.now) (outputs_of self.new)) }
+        ensures device { result ≡ Err StoreFault.Device → IsTrue (Q.is_stopped (queue_of self.new)) ⊎ IsTrue (B.is_stopped (book_of self.new)) }
+        ensures runs_on { result ≢ Err StoreFault.Device → Q.is_stopped (queue_of self.new) ≡ Q.is_stopped (queue_of self.old) }
+        ensures book_runs_on { result ≢ Err StoreFault.Device → B.is_stopped (book_of self.new) ≡ B.is_stopped (book_of self.old) }
+        ensures memory { Q.honest (queue_of self.new) → result ≡ Err StoreFault.Memory → Q.asks_memory ≡ false
+            → (rows_in (Q.contents (queue_of self.old)) ≢ []) ⊎ (performed_in (core_of self.old) (panel_of B.contents (outputs_of self.old)) now octets.now ≢ []) }
+        ensures exhausted { IsBookWell B.honest B.is_stopped self.new → result ≡ Err StoreFault.Exhausted
+            → Exhausts B.contents (outputs_of self.old) (performed_in (core_of self.old) (panel_of B.contents (outputs_of self.old)) now octets.now) }
+        ensures not_exhausted { IsBookWell B.honest B.is_stopped self.new → OnOk result (performed_in (core_of self.old) (panel_of B.contents (outputs_of self.old)) now octets.now ≢ []
+            → Exhausts B.contents (outputs_of self.old) (performed_in (core_of self.old) (panel_of B.contents (outputs_of self.old)) now octets.now) → ⊥) }
+        ensures looked_at { IsErr result → is_looked_at (core_of self.old) octets.now ≡ true }
+        ensures asks { IsErr result → (core_of self.old).times.unsolicited ≡ false → MayAsk (core_of self.old) (panel_of B.contents (outputs_of self.old)) now octets.now }
+    {
+        self.core.receive(
+            actions,
+            alloc,
+            &mut self.queue,
+            &mut self.outputs,
+            now,
+            octets,
+        )
+    }
+}

@@ -1,0 +1,85 @@
+//! A concentrator towards the station above.
+
+use crate::plans::{SMALL, plan};
+use dnp_concentrator::Concentrator;
+use dnp_controls::{Book, Entry, PlainBook, State};
+use dnp_eventbuf::PlainLanes;
+use dnp_objects::Command;
+use dnp_outstation::Actions;
+use std::alloc::{AllocError, Global};
+use std::test::Fail;
+
+/// LATCH_ON of the output 200, once, as it is asked for and answered with the status 0.
+#[rattlefmt::skip]
+const LATCHES: [u8; 18] = [0x0C, 0x01, 0x28, 0x01, 0x00, 0xC8, 0x00, 0x03, 0x01, 0, 0, 0, 0, 0, 0, 0, 0, 0x00];
+
+/// LATCH_ON of the output 201, which is of no substation.
+#[rattlefmt::skip]
+const LATCHES_NONE: [u8; 18] = [0x0C, 0x01, 0x28, 0x01, 0x00, 0xC9, 0x00, 0x03, 0x01, 0, 0, 0, 0, 0, 0, 0, 0, 0x00];
+
+/// A fragment: what stands before the objects, the objects, and the octet in the place of their last one.
+fn fragment(
+    alloc: Global,
+    head: &[u8],
+    objects: &[u8; 18],
+    status: u8,
+) -> Result<Vec<u8>, AllocError> {
+    let mut octets = Vec::from_slice(alloc, head)?;
+    octets.extend_from_slice(&objects[..17])?;
+    octets.push(status)?;
+    Ok(octets)
+}
+
+#[test]
+fn a_command_above_is_put_into_the_book(rt: HostRuntime) -> Result<(), Fail> {
+    let alloc = rt.alloc();
+    let plan = plan(alloc, &[SMALL])?;
+    if !plan.keeps_limits() {
+        assert!(rt; false, "limits");
+        return Ok(());
+    }
+    let queue = PlainLanes::new(alloc, [100; 9])?;
+    let Ok(mut concentrator) = Concentrator::new(alloc, &plan, queue, PlainBook::new(alloc)) else {
+        assert!(rt; false, "no concentrator");
+        return Ok(());
+    };
+    let mut actions = Actions::none(alloc);
+    concentrator.opened_above(&mut actions, alloc, 0)?;
+    // A request's first octets, its objects, and the status that is answered.
+    let steps = [
+        ([0xC0, 0x03], LATCHES, 0x00),
+        ([0xC1, 0x04], LATCHES, 0x00),
+        ([0xC1, 0x04], LATCHES, 0x00),
+        ([0xC2, 0x03], LATCHES_NONE, 0x04),
+        ([0xC3, 0x05], LATCHES_NONE, 0x04),
+    ];
+    for (head, objects, status) in steps {
+        let asked = fragment(alloc, &head, &objects, 0x00)?;
+        let answered = fragment(alloc, &[head[0], 0x81, 0x80, 0x00], &objects, status)?;
+        concentrator.receive_above(&mut actions, alloc, 1_000, asked.as_slice())?;
+        let sent = match &actions.send[0] {
+            Some(sent) => sent.as_slice() == answered.as_slice(),
+            None => false,
+        };
+        assert!(rt; sent, "{head:?} {status}");
+    }
+    let entry = Entry {
+        id: 1,
+        target: 0,
+        command: Command::Block {
+            index: 0,
+            code: 3,
+            count: 1,
+            on_ms: 0,
+            off_ms: 0,
+        },
+        state: State::Pending,
+    };
+    assert!(rt; concentrator.book().rows(alloc, 0, 10)?.as_slice() == [entry].as_slice());
+    concentrator.hung_up_above();
+    assert!(rt; !concentrator.quiet_above());
+    concentrator.restart(alloc);
+    let (_queue, mut book) = concentrator.into_stores();
+    assert!(rt; book.rows(alloc, 0, 10)?.as_slice() == [entry].as_slice());
+    Ok(())
+}
