@@ -181,7 +181,8 @@ asking-awaits r now task own = by (calls.ask_answer r.master task) refl
     by : (answer : Result (List ℕ) AskFault) → calls.ask_answer r.master task ≡ answer
         → AwaitsOwn (record r { master = calls.asked_by r.master now task answer })
     by (Err fault) is = own
-    by (Ok octets) is = λ was_open. idle-awaits r.progress r.master.request (idle r.master.is_open r.master.request is) (own was_open) (calls.asking r.master now task).request
+    by (Ok octets) is = λ was_open.
+        idle-awaits r.progress r.master.request (idle r.master.is_open r.master.request is) (own was_open) (calls.asking r.master now task).request
       where
         idle : (o : Bool) (request : Option OpenRequest)
             → cond (not o) (Err AskFault.Closed) (cond (is_some request) (Err AskFault.Busy)
@@ -233,6 +234,7 @@ relayed-awaits r now entries target own = by r.master.is_open (is_some r.master.
   where
     by : (o busy : Bool) → r.master.is_open ≡ o → is_some r.master.request ≡ busy
         → AwaitsOwn (relaying.relaying_after r now (cond (o && not busy) (relaying.step_by r.progress r.master.selected entries target) Waits))
-    by true false was_open idle = stepped r now (relaying.step_by r.progress r.master.selected entries target) own was_open idle (fits-by r r.progress entries target)
+    by true false was_open idle =
+        stepped r now (relaying.step_by r.progress r.master.selected entries target) own was_open idle (fits-by r r.progress entries target)
     by true true was_open idle = own
     by false busy was_open idle = own
