@@ -113,7 +113,10 @@ found (x ∷ entries) entry rising (suc k, low, is) =
     (found entries entry (λ i j d before late. rising (suc i) (suc j) d (omega arith) (omega arith)) (k, omega arith, is))
   where
     above : x.id < entry.id
-    above = let h : x.id < (get_or entries k entry).id = rising zero (suc k) entry (omega arith) low in let P : Entry → Type 0 = λ e. x.id < e.id in subst P is h
+    above =
+        let h : x.id < (get_or entries k entry).id = rising zero (suc k) entry (omega arith) low in
+        let P : Entry → Type 0 = λ e. x.id < e.id in
+        subst P is h
 
     go : (b : Bool) → (b ≡ true → x.id ≡ entry.id) → entry_of entries entry.id ≡ Some entry
         → cond b (Some x) (entry_of entries entry.id) ≡ Some entry
@@ -121,8 +124,8 @@ found (x ∷ entries) entry rising (suc k, low, is) =
     go false same rest = rest
 
 -- the next entry as the control in progress is the book's
-pub of-next : (book : Ledger) (target : ℕ) (entry : Entry) (stage : Stage) → IsSound book → IsNext book.entries target entry
+pub next_is_of : (book : Ledger) (target : ℕ) (entry : Entry) (stage : Stage) → IsSound book → IsNext book.entries target entry
     → IsOf book.entries target (Some (record { id = entry.id; command = entry.command; stage = stage }))
-of-next book target entry stage sound next =
+next_is_of book target entry stage sound next =
     let P : Option Entry → Type 0 = λ o. IsSomeAnd o (λ e. (e.target ≡ target) × (e.command ≡ entry.command)) in
     subst P (sym (found book.entries entry sound.rising next.contained)) (next.target_is, refl)

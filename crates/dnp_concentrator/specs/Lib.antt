@@ -1,4 +1,5 @@
 -- Definitions, by which contracts promise.
+pub mod Awaiting
 pub mod BookOutputs
 pub mod Centre
 pub mod Concentrator

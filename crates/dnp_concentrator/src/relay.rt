@@ -144,6 +144,7 @@ impl Relay {
     }
 
     /// Selects the least pending control for the target, if there is one.
+    #[tactic(auto, using(crate::proofs::Ledgers::next_is_of))]
     fn begin<B: Book>(
         &mut self,
         alloc: Global,

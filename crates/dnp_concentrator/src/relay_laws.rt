@@ -1,10 +1,18 @@
 //! What holds of relaying. Each law is the contract of a function that does nothing.
 
-ghost use Rattle.std.specs.Prelude.{◌≡◌, ◌≤◌, ℕ, List, count_by};
+ghost use Rattle.std.specs.Prelude.{◌≡◌, ◌≤◌, ℕ, List, IfOk, count_by};
 ghost use Rattle.dnp_controls.specs.Book.{Ledger};
 ghost use Rattle.dnp_controls.specs.Moves.{AreGranted, Move as BookMove};
 ghost use Rattle.dnp_concentrator.specs.declared.relayed.Relayed.{Relayed as Answer};
+ghost use Rattle.dnp_controls.specs.declared.book.Entry.{Entry as EntryValue};
+ghost use Rattle.dnp_master.specs.declared.task.Task.{Task as TaskValue};
+ghost use Rattle.dnp_master.specs.Calls.{receive_of};
+ghost use Rattle.dnp_pointdb.specs.Plan.{Plan};
+ghost use Rattle.dnp_pointdb.specs.declared.times.Times.{Times as TimesValue};
+ghost use Rattle.dnp_concentrator.specs.Awaiting.{AwaitsOwn};
 ghost use Rattle.dnp_concentrator.specs.Relayed.{is_sent_of, moves_through};
+ghost use Rattle.dnp_concentrator.specs.Relaying as spec;
+ghost use Rattle.dnp_concentrator.specs.Relaying.{Relaying};
 
 use dnp_controls::laws::an_entry_is_spent_once;
 
@@ -17,3 +25,18 @@ pub fn no_control_is_sent_twice()
 {
     an_entry_is_spent_once();
 }
+
+/// Whose answer is awaited: while a link is open and the control in progress awaits the answer to its SELECT or its
+/// OPERATE, the open request is that very task, whatever was called. So an outcome that is heard then is the control's
+/// own, and on an idle link no control awaits one.
+pub fn a_control_awaits_its_own_answer()
+    ensures new { (plan : Plan) (times : TimesValue) → AwaitsOwn (spec.new_relaying plan times) }
+    ensures opened { (r : Relaying) → AwaitsOwn (spec.opened r) }
+    ensures hung_up { (r : Relaying) → AwaitsOwn (spec.hung_up r) }
+    ensures ticked { (r : Relaying) (now : ℕ) → AwaitsOwn r → AwaitsOwn (spec.ticked r now) }
+    ensures asked { (r : Relaying) (now : ℕ) (task : TaskValue) → AwaitsOwn r → AwaitsOwn (spec.asking r now task) }
+    ensures received { (r : Relaying) (now : ℕ) (octets : List ℕ) → AwaitsOwn r
+        → IfOk (receive_of r.master now octets) (λ t. AwaitsOwn (spec.received r t)) }
+    ensures relayed { (r : Relaying) (now : ℕ) (entries : List EntryValue) (target : ℕ) → AwaitsOwn r
+        → AwaitsOwn (spec.relaying_after r now (spec.step_of r entries target)) }
+{}
