@@ -49,7 +49,7 @@ listed_added spans book after commands command one can is =
     found true b e = refl
     found false b e = absurd (cc)
 
--- after one that can't nothing stands anew
+-- one that can't be relayed changes nothing
 pub listed_same : (spans : List Spans) (book : Ledger) (commands : List Command) (command : Command) → commands ≡ command ∷ []
     → can_relay spans command ≡ false
     → map (ordered spans) book.entries ≡ map (ordered spans) book.entries ++ accepted (relay_check spans) commands

@@ -69,18 +69,6 @@ pub spent_by : (old : Ledger) (id : ℕ) → Has old.entries id is_pending → I
 spent_by old id pending = record { was_pending = pending; is_spent = has-put old.entries id Spent is_pending is_spent refl pending }
 
 -- what is finished is pending no more
-pub finished-not_pending : (entries : List Entry) (id : ℕ) → Has entries id is_finished → Has entries id (λ state. not (is_pending state))
-finished-not_pending entries id has = go (entry_of entries id) has
-  where
-    of_state : (state : State) → is_finished state ≡ true → not (is_pending state) ≡ true
-    of_state Pending is = cc
-    of_state Spent is = refl
-    of_state (Finished status) is = refl
-
-    go : (o : Option Entry) → IsSomeAnd o (λ entry. IsTrue (is_finished entry.state)) → IsSomeAnd o (λ entry. IsTrue (not (is_pending entry.state)))
-    go None has = has
-    go (Some entry) has = of_state entry.state has
-
 -- a control in progress stays the book's when entries come into states
 pub of-in_state : (entries : List Entry) (target : ℕ) (progress : Option Progress) (other : ℕ) (state : State) → IsOf entries target progress
     → IsOf (in_state entries other state) target progress

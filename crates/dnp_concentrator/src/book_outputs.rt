@@ -33,8 +33,8 @@ fn obeys_code(command: &Command) -> bool
     }
 }
 
-/// The fault of outputs whose book refuses to add a command. A book refuses that for want of numbers or of memory, or
-/// where its device failed.
+/// The fault of outputs whose book refuses to add a command. A book refuses it where it has no number left, is out of
+/// memory, or its device has failed.
 fn fault_of(fault: BookFault) -> StoreFault
     ensures { result ≡ store_fault fault }
 {

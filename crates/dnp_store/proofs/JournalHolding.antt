@@ -127,12 +127,6 @@ with-push a rows row =
     more : (rows : List Event) → a.last_id + length rows + 1 ≡ a.last_id + length (rows ++ row ∷ [])
     more rows = let longer = length-append rows (row ∷ []) in omega (arith, longer)
 
-pub with-none : (a : Archive) → with_events a [] ≡ a
-with-none a = ap₂ (λ (xs : List Numbered) (n : ℕ). record { rows = xs; last_id = n }) (append-nil a.rows) (none a.last_id)
-  where
-    none : (n : ℕ) → n + 0 ≡ n
-    none n = omega arith
-
 -- ---- the archive that the trees hold is the one that they tell
 
 time_in : (x : Queued) → event_in (queued_row x) ≡ event_of x
@@ -229,13 +223,6 @@ few n (x ∷ xs) last rise over all low =
     let first = over.0 in
     let most = all.0.up_to_last in
     let rest = few x.id xs last rise.1 rise.0 all.1 (omega arith) in
-    omega arith
-
-pub count_low : (db : Trees) (a : Archive) → HoldsArchive db a → length a.rows ≤ a.last_id
-count_low db a h =
-    let all = few 0 h.logged a.last_id h.rise (all_weaker (IsLogged a.last_id) (λ (x : Queued). 0 < x.id) (λ x l. (let one = l.from_1 in omega arith)) h.logged h.in_range)
-    h.in_range (omega arith) in
-    let long : length a.rows ≡ length h.logged = ap length h.rows ∙ length-map h.logged event_of in
     omega arith
 
 pub count_with : (a : Archive) (rows : List Event) → length (with_events a rows).rows ≡ length a.rows + length rows

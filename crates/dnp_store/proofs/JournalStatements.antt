@@ -1,5 +1,5 @@
 -- What the statements of a journal make of its tables.
-use Rattle.std.proofs.Common.{◌≡◌, ℕ, ◌+◌, ◌≤◌, pos, true, List, [], ◌∷◌, codes, Option, Some, None, Ok, inl, refl, sym, ap, subst, ◌∙◌, arith}
+use Rattle.std.proofs.Common.{◌≡◌, ℕ, ◌+◌, ◌≤◌, pos, true, List, [], ◌∷◌, ◌++◌, codes, Option, Some, None, Ok, inl, refl, sym, ap, subst, ◌∙◌, arith}
 use Rattle.sqlite_tied.specs.Compute.{everything}
 use Rattle.sqlite_schema.specs.declared.schema.Keys.TheVariants.{Enforced}
 use Rattle.sqlite_resolve.specs.Compile.{table_defined_by}
@@ -89,7 +89,11 @@ inserts old new f j x n m count has counted next low h =
 -- ---- CREATE TABLE
 
 abbrev pub journal_text : List ℕ
-journal_text = codes "CREATE TABLE journal (id INTEGER PRIMARY KEY AUTOINCREMENT CHECK (id BETWEEN 1 AND 4611686018427387904), kind INTEGER NOT NULL CHECK (kind BETWEEN 0 AND 2), point INTEGER NOT NULL CHECK (point BETWEEN 0 AND 65535), flags INTEGER NOT NULL CHECK (flags BETWEEN 0 AND 255), value INTEGER NOT NULL, time INTEGER CHECK (time BETWEEN 0 AND 281474976710655))"
+journal_text =
+    codes "CREATE TABLE journal (id INTEGER PRIMARY KEY AUTOINCREMENT CHECK (id BETWEEN 1 AND 4611686018427387904), "
+    ++ codes "kind INTEGER NOT NULL CHECK (kind BETWEEN 0 AND 2), point INTEGER NOT NULL CHECK (point BETWEEN 0 AND 65535), "
+    ++ codes "flags INTEGER NOT NULL CHECK (flags BETWEEN 0 AND 255), value INTEGER NOT NULL, "
+    ++ codes "time INTEGER CHECK (time BETWEEN 0 AND 281474976710655))"
 
 journal_is : (f : List Term) → (command_of (understood (form_schema f) journal_text) ≡ CreateTable)
     × (statement_of journal_text (understood (form_schema f) journal_text) ≡ journal_text)
