@@ -1,12 +1,12 @@
 -- Entries of a book once one of them came into another state, and the entry that is found by its id.
-use Rattle.std.proofs.Common.{◌≡◌, ℕ, zero, suc, ◌<◌, Bool, true, false, not, List, [], ◌∷◌, get_or, refl, ap, sym, ◌∙◌, arith, subst}
+use Rattle.std.proofs.Common.{◌≡◌, ℕ, zero, suc, ◌<◌, Bool, true, false, List, [], ◌∷◌, get_or, refl, ap, sym, ◌∙◌, arith, subst}
 use Rattle.std.specs.Prelude.{Option, Some, None, eqb, cond, IsTrue, option_map, AllPairs, Contains, IfSome}
 use Rattle.std.specs.Option.{IsSomeAnd}
 use Rattle.std.proofs.lemmas.Bool.Decides.{Decides-eqb}
 use Rattle.dnp_controls.specs.declared.book.Entry.{Entry}
 use Rattle.dnp_controls.specs.declared.book.State.{State}
-use Rattle.dnp_controls.specs.declared.book.State.TheVariants.{Pending, Spent, Finished}
-use Rattle.dnp_controls.specs.Book.{Ledger, IsSound, Has, entry_of, in_state, spent, is_pending, is_finished}
+use Rattle.dnp_controls.specs.declared.book.State.TheVariants.{Spent}
+use Rattle.dnp_controls.specs.Book.{Ledger, IsSound, Has, entry_of, in_state, spent, is_pending}
 use Rattle.dnp_controls.specs.Moves.{IsNext}
 use Rattle.dnp_concentrator.specs.declared.progress.Progress.{Progress}
 use Rattle.dnp_concentrator.specs.declared.progress.Stage.{Stage}

@@ -8,8 +8,8 @@ use Rattle.std.proofs.lemmas.List.{get_or-map, length-map, map-append}
 use Rattle.std.proofs.lemmas.List.Sorted.{IsPermutation-map}
 use Rattle.dnp_pointdb.specs.declared.order.Place.{Place as BlockPlace}
 use Rattle.dnp_pointdb.specs.Order.{Extent, AreApart, covers, place_in}
+use Rattle.dnp_pointdb.specs.Order as blocks
 use Rattle.dnp_pointdb.proofs.Orders.{Placed, placed_push, placed_skip, placed_sorted}
-use Rattle.dnp_pointdb.proofs.Places.{found_at, missed_at, missed_before}
 use Rattle.dnp_concentrator.specs.declared.index_kind.IndexKind.{IndexKind}
 use Rattle.dnp_concentrator.specs.declared.order.Place.{Place}
 use Rattle.dnp_concentrator.specs.declared.span.Spans.{Spans}
@@ -113,43 +113,54 @@ begun_above order index n split k e le lt =
     let at : begins index (get_or order k e) ≡ false = split.1 k e le lt in
     grind (arith, nat_tests)
 
+-- what the law of orders of blocks says of looking an index up
+pub record FindsEach : Type 0 where
+  pub found : (es : List Extent) (order : List BlockPlace) (index m : ℕ) (d : BlockPlace) → blocks.IsOrder es order → m < length order
+      → (get_or order m d).first ≤ index → index < (get_or order m d).first + (get_or order m d).count
+      → place_in es index ≡ Some ((get_or order m d).block, index - (get_or order m d).first)
+  pub behind : (es : List Extent) (order : List BlockPlace) (index n m : ℕ) (d : BlockPlace) → blocks.IsOrder es order → n ≡ m + 1 → n ≤ length order
+      → ((k : ℕ) → n ≤ k → k < length order → index < (get_or order k d).first)
+      → (get_or order m d).first ≤ index → (get_or order m d).first + (get_or order m d).count ≤ index → place_in es index ≡ None
+  pub before : (es : List Extent) (order : List BlockPlace) (index : ℕ) (d : BlockPlace) → blocks.IsOrder es order
+      → ((k : ℕ) → k < length order → index < (get_or order k d).first) → place_in es index ≡ None
+
 -- the place at m has the index
-pub found_below : (kind : IndexKind) (spans : List Spans) (order : List Place) (index m : ℕ) (d : Place) → IsOrder kind spans order → m < length order
+pub found_below : FindsEach → (kind : IndexKind) (spans : List Spans) (order : List Place) (index m : ℕ) (d : Place) → IsOrder kind spans order → m < length order
     → (get_or order m d).first ≤ index → index < (get_or order m d).first + (get_or order m d).count
     → Some ((get_or order m d).station, index - (get_or order m d).first) ≡ index_below spans kind index
-found_below kind spans order index m d o lt low high =
+found_below law kind spans order index m d o lt low high =
     let e : BlockPlace = as_block d in
     let at : get_or (map as_block order) m e ≡ as_block (get_or order m d) = block_at order m d e lt in
     let first : (get_or (map as_block order) m e).first ≡ (get_or order m d).first = ap (λ (p : BlockPlace). p.first) at in
     let count : (get_or (map as_block order) m e).count ≡ (get_or order m d).count = ap (λ (p : BlockPlace). p.count) at in
     ap (λ (p : BlockPlace). Some (p.block, index - p.first)) (sym at)
-    ∙ sym (found_at (map (extent kind) spans) (map as_block order) index m e o (omega (arith, length-map order as_block)) (omega arith) (omega arith))
+    ∙ sym (law.found (map (extent kind) spans) (map as_block order) index m e o (omega (arith, length-map order as_block)) (omega arith) (omega arith))
     ∙ sym (below_is kind spans index)
 
 -- none has it if those that begin up to it, of which m is the last, end before it
-pub missed_below : (kind : IndexKind) (spans : List Spans) (order : List Place) (index n m : ℕ) (d : Place) → IsOrder kind spans order
+pub missed_below : FindsEach → (kind : IndexKind) (spans : List Spans) (order : List Place) (index n m : ℕ) (d : Place) → IsOrder kind spans order
     → n ≡ suc m → n ≤ length order → ((k : ℕ) → n ≤ k → k < length order → index < (get_or order k d).first)
     → (get_or order m d).first ≤ index → (get_or order m d).first + (get_or order m d).count ≤ index
     → None ≡ index_below spans kind index
-missed_below kind spans order index n m d o after within above low high =
+missed_below law kind spans order index n m d o after within above low high =
     let e : BlockPlace = as_block d in
     let as_many : length (map as_block order) ≡ length order = length-map order as_block in
     let at : get_or (map as_block order) m e ≡ as_block (get_or order m d) = block_at order m d e (omega arith) in
     let first : (get_or (map as_block order) m e).first ≡ (get_or order m d).first = ap (λ (p : BlockPlace). p.first) at in
     let count : (get_or (map as_block order) m e).count ≡ (get_or order m d).count = ap (λ (p : BlockPlace). p.count) at in
-    sym (missed_at (map (extent kind) spans) (map as_block order) index n m e o after (omega arith) (λ k le lt.
+    sym (law.behind (map (extent kind) spans) (map as_block order) index n m e o (omega (arith, after)) (omega arith) (λ k le lt.
     let inside : k < length order = omega arith in
     let there : (get_or (map as_block order) k e).first ≡ (get_or order k d).first = ap (λ (p : BlockPlace). p.first) (block_at order k d e inside) in
     omega (arith, above k le inside)) (omega arith) (omega arith))
     ∙ sym (below_is kind spans index)
 
 -- nor if none begins up to it
-pub missed_all : (kind : IndexKind) (spans : List Spans) (order : List Place) (index : ℕ) (d : Place) → IsOrder kind spans order
+pub missed_all : FindsEach → (kind : IndexKind) (spans : List Spans) (order : List Place) (index : ℕ) (d : Place) → IsOrder kind spans order
     → ((k : ℕ) → k < length order → index < (get_or order k d).first) → None ≡ index_below spans kind index
-missed_all kind spans order index d o above =
+missed_all law kind spans order index d o above =
     let e : BlockPlace = as_block d in
     let as_many : length (map as_block order) ≡ length order = length-map order as_block in
-    sym (missed_before (map (extent kind) spans) (map as_block order) index e o (λ k lt.
+    sym (law.before (map (extent kind) spans) (map as_block order) index e o (λ k lt.
     let inside : k < length order = omega arith in
     let there : (get_or (map as_block order) k e).first ≡ (get_or order k d).first = ap (λ (p : BlockPlace). p.first) (block_at order k d e inside) in
     omega (arith, above k inside)))

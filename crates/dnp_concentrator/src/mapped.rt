@@ -3,14 +3,13 @@
 ghost use Rattle.std.specs.Prelude.{◌≡◌, ◌<◌, IfSome, IfOk, All};
 ghost use Rattle.dnp_objects.specs.Events.{IsEvent};
 ghost use Rattle.dnp_eventbuf.specs.Carried.{IsCarried};
-ghost use Rattle.dnp_pointdb.specs.Events as events;
 ghost use Rattle.dnp_concentrator.specs.Mapped as spec;
 
 use crate::index_kind::IndexKind;
 use crate::index_map::IndexMap;
 use crate::limits::MAX_SUBSTATIONS;
 use dnp_objects::{Command, Kind, Lane, LaneRow, Row};
-use dnp_pointdb::PointDb;
+use dnp_pointdb::{PointDb, lane_of};
 use std::alloc::{AllocError, Global};
 
 /// The same command to the output of another index.
@@ -73,13 +72,6 @@ impl IndexMap {
         let (station, index) = self.below(IndexKind::of_command(command), command.index())?;
         Some((station, with_index(command, index)))
     }
-}
-
-/// The lane of a class and a kind; class 0 has none.
-fn lane_of(class: u8, kind: Kind) -> Option<Lane>
-    ensures { result ≡ events.lane_of class kind }
-{
-    Lane::new(class, kind)
 }
 
 /// A row above with the lane that it goes to: that of the class that the plan gives its point, and of its kind. `None`

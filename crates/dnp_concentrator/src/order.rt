@@ -10,6 +10,7 @@ ghost use Rattle.dnp_concentrator.specs.Order.{IsOrder, order_in};
 use crate::index_kind::IndexKind;
 use crate::limits::{INDEX_KINDS, MAX_SUBSTATIONS};
 use crate::span::Spans;
+use dnp_pointdb::laws::an_order_finds_each_index;
 use std::alloc::{AllocError, Global};
 
 /// Where a substation's indices of a kind stand above.
@@ -65,6 +66,8 @@ pub fn find(order: &[Place], index: u16) -> Option<(u8, u16)>
     requires { IsNonDecreasingBy (λ place. place.first) order.now }
     ensures { (kind : KindValue) (spans : List SpansValue) → IsOrder kind spans order.now → result ≡ index_below spans kind index }
 {
+    // (a law, for the proof: it does nothing)
+    an_order_finds_each_index();
     let last = order
         .partition_point(|place| place.first <= index)
         .checked_sub(1)?;

@@ -15,8 +15,8 @@ fn differs(point: Point, last: Report, reading: Reading) -> bool
     reading.flags != last.flags || reading.value.abs_diff(last.value) > u64::from(point.deadband)
 }
 
-/// The lane of a class and a kind; class 0 has none.
-fn lane_of(class: u8, kind: Kind) -> Option<Lane>
+/// The lane of a class and a kind; class 0 has none (IEEE Std 1815-2012, application layer: event classes).
+pub fn lane_of(class: u8, kind: Kind) -> Option<Lane>
     ensures { result ≡ spec.lane_of class kind }
 {
     Lane::new(class, kind)

@@ -1,6 +1,6 @@
 //! Laws of the words of `specs/`: each function does nothing, and its contract is a law.
 
-ghost use Rattle.std.specs.Prelude.{◌≡◌, ◌≢◌, ℕ, ◌≤◌, ◌<◌, ◌+◌, ◌-◌, ◌⊎◌, ◌↔◌, List, Bool, true, IsSome, IfSome, IfOk, IsTrue, IsNone, Contains, Any, length, slice_get};
+ghost use Rattle.std.specs.Prelude.{◌≡◌, ◌≢◌, ℕ, ◌≤◌, ◌<◌, ◌+◌, ◌-◌, ◌⊎◌, ◌↔◌, List, Bool, true, IsSome, IfSome, IfOk, IsTrue, IsNone, Contains, Any, length, slice_get, slice_index_or, Some, None};
 ghost use Rattle.std.specs.Option.{option_map, IsSomeAnd};
 ghost use Rattle.std.specs.Int.{bit_at};
 ghost use Rattle.dnp_objects.specs.declared.limits.TheConstants.{CLASSES};
@@ -21,6 +21,8 @@ ghost use Rattle.dnp_pointdb.specs.Events.{event_of, row_of, distance};
 ghost use Rattle.dnp_pointdb.specs.declared.state.BlockState.{BlockState as BlockStateValue};
 ghost use Rattle.dnp_pointdb.specs.Database as database_words;
 ghost use Rattle.dnp_pointdb.specs.Database.{Database, state_at, answer_of, new_database, changed_of, set_of, restarted, changed_state, set_state, restarted_state, lost_flags, lost_of};
+ghost use Rattle.dnp_pointdb.specs.Order.{Extent, IsOrder, place_in};
+ghost use Rattle.dnp_pointdb.specs.declared.order.Place.{Place as PlaceValue};
 ghost use Rattle.dnp_pointdb.specs.Ranges.{is_carried, is_in_range};
 ghost use Rattle.dnp_pointdb.specs.Runs.{Move, rows_of, rows_at, happened_at, happenings_of};
 
@@ -152,4 +154,18 @@ pub fn a_change_makes_what_its_lane_takes()
     ensures { (database : Database) (kind : KindValue) (index : ℕ) (reading : ReadingValue)
         → IfOk (answer_of database kind index reading)
         (λ made. IfSome made (λ x. (x.row.kind ≡ x.lane.kind) × IsEvent x.row)) }
+{}
+
+/// An order of blocks finds each index: where it stands in the extent of a place, that is the place that has it, and
+/// where it stands behind the last place that begins up to it, or before all, no block has it.
+pub fn an_order_finds_each_index()
+    ensures found { (es : List Extent) (order : List PlaceValue) (index m : ℕ) (d : PlaceValue) → IsOrder es order → m < length order
+        → (slice_index_or order m d).first ≤ index → index < (slice_index_or order m d).first + (slice_index_or order m d).count
+        → place_in es index ≡ Some ((slice_index_or order m d).block, index - (slice_index_or order m d).first) }
+    ensures behind { (es : List Extent) (order : List PlaceValue) (index n m : ℕ) (d : PlaceValue) → IsOrder es order → n ≡ m + 1 → n ≤ length order
+        → ((k : ℕ) → n ≤ k → k < length order → index < (slice_index_or order k d).first)
+        → (slice_index_or order m d).first ≤ index → (slice_index_or order m d).first + (slice_index_or order m d).count ≤ index
+        → place_in es index ≡ None }
+    ensures before { (es : List Extent) (order : List PlaceValue) (index : ℕ) (d : PlaceValue) → IsOrder es order
+        → ((k : ℕ) → k < length order → index < (slice_index_or order k d).first) → place_in es index ≡ None }
 {}

@@ -20,6 +20,7 @@ mod taken;
 mod times;
 
 pub use database::PointDb;
+pub use event::lane_of;
 pub use fault::{ChangeFault, PlanFault};
 pub use limits::{INDICES, MAX_POINTS};
 pub use place::PointPlace;

@@ -1,7 +1,7 @@
 use Rattle.std.proofs.Common.{rules, ℕ, ◌-◌, ◌<◌, ◌≤◌, get_or, arith, ◌∙◌}
 use Rattle.std.proofs.lemmas.List.Sorted.{IsPartitionedBy-leb, IsPartitionPoint-from_clause}
 use Rattle.dnp_concentrator.specs.declared.order.Place.{Place}
-use Rattle.dnp_concentrator.proofs.Orders.{begins, begun_below, begun_above, found_below, missed_below, missed_all}
+use Rattle.dnp_concentrator.proofs.Orders.{FindsEach, begins, begun_below, begun_above, found_below, missed_below, missed_all}
 use Rattle.dnp_concentrator.proofs.order.find.Goals as goal
 
 -- a place, where one is wanted past the end of a list
@@ -19,7 +19,8 @@ returns-in_err-last c = λ kind spans o.
     let split = IsPartitionPoint-from_clause (begins c.args.index) _ _ c.partition_point.ensures.partitioned
     (IsPartitionedBy-leb (λ (p : Place). p.first) c.args.order.now c.args.index c.requires) (λ a r q k. search rules) in
     let none : c.partition_point.result < 1 = omega (arith, c.in_err-last.ensures) in
-    c.from_residual.ensures ∙ missed_all kind spans c.args.order.now c.args.index no_place o
+    let law : FindsEach = record { found = c.an_order_finds_each_index.ensures.found; behind = c.an_order_finds_each_index.ensures.behind; before = c.an_order_finds_each_index.ensures.before } in
+    c.from_residual.ensures ∙ missed_all law kind spans c.args.order.now c.args.index no_place o
     (λ k lt. begun_above c.args.order.now c.args.index c.partition_point.result split k no_place (omega arith) lt)
 
 pub returns-then-from-place : goal.returns-then-from-place
@@ -31,7 +32,8 @@ returns-then-from-place c = λ kind spans o.
     begun_below c.args.order.now c.args.index c.partition_point.result split m no_place (omega (arith, c.in_ok-last.ensures)) in
     let short : c.args.index - (get_or c.args.order.now m no_place).first < (get_or c.args.order.now m no_place).count =
     omega (arith, c.if-from-place.true, c.from.ensures) in
-    found_below kind spans c.args.order.now c.args.index m no_place o (omega (arith, c.in_ok-last.ensures, c.partition_point.ensures.bound)) low (omega arith)
+    let law : FindsEach = record { found = c.an_order_finds_each_index.ensures.found; behind = c.an_order_finds_each_index.ensures.behind; before = c.an_order_finds_each_index.ensures.before } in
+    found_below law kind spans c.args.order.now c.args.index m no_place o (omega (arith, c.in_ok-last.ensures, c.partition_point.ensures.bound)) low (omega arith)
 
 pub returns-else-from-place : goal.returns-else-from-place
 returns-else-from-place c = λ kind spans o.
@@ -42,5 +44,6 @@ returns-else-from-place c = λ kind spans o.
     begun_below c.args.order.now c.args.index c.partition_point.result split m no_place (omega (arith, c.in_ok-last.ensures)) in
     let long : (get_or c.args.order.now m no_place).count ≤ c.args.index - (get_or c.args.order.now m no_place).first =
     omega (arith, c.if-from-place.false, c.from.ensures) in
-    missed_below kind spans c.args.order.now c.args.index c.partition_point.result m no_place o (omega (arith, c.in_ok-last.ensures))
+    let law : FindsEach = record { found = c.an_order_finds_each_index.ensures.found; behind = c.an_order_finds_each_index.ensures.behind; before = c.an_order_finds_each_index.ensures.before } in
+    missed_below law kind spans c.args.order.now c.args.index c.partition_point.result m no_place o (omega (arith, c.in_ok-last.ensures))
     c.partition_point.ensures.bound (λ k. begun_above c.args.order.now c.args.index c.partition_point.result split k no_place) low (omega arith)
