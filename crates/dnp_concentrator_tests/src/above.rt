@@ -30,6 +30,24 @@ fn fragment(
     Ok(octets)
 }
 
+/// Whether the request is answered with its own objects and this status.
+fn is_answered(
+    concentrator: &mut Concentrator<PlainLanes, PlainBook>,
+    actions: &mut Actions,
+    alloc: Global,
+    head: [u8; 2],
+    objects: &[u8; 18],
+    status: u8,
+) -> Result<bool, Fail> {
+    let asked = fragment(alloc, &head, objects, 0x00)?;
+    let answered = fragment(alloc, &[head[0], 0x81, 0x80, 0x00], objects, status)?;
+    concentrator.receive_above(actions, alloc, 1_000, asked.as_slice())?;
+    Ok(match &actions.send[0] {
+        Some(sent) => sent.as_slice() == answered.as_slice(),
+        None => false,
+    })
+}
+
 #[test]
 fn a_command_above_is_put_into_the_book(rt: HostRuntime) -> Result<(), Fail> {
     let alloc = rt.alloc();
@@ -54,14 +72,15 @@ fn a_command_above_is_put_into_the_book(rt: HostRuntime) -> Result<(), Fail> {
         ([0xC3, 0x05], LATCHES_NONE, 0x04),
     ];
     for (head, objects, status) in steps {
-        let asked = fragment(alloc, &head, &objects, 0x00)?;
-        let answered = fragment(alloc, &[head[0], 0x81, 0x80, 0x00], &objects, status)?;
-        concentrator.receive_above(&mut actions, alloc, 1_000, asked.as_slice())?;
-        let sent = match &actions.send[0] {
-            Some(sent) => sent.as_slice() == answered.as_slice(),
-            None => false,
-        };
-        assert!(rt; sent, "{head:?} {status}");
+        let is_right = is_answered(
+            &mut concentrator,
+            &mut actions,
+            alloc,
+            head,
+            &objects,
+            status,
+        )?;
+        assert!(rt; is_right, "{head:?} {status}");
     }
     let entry = Entry {
         id: 1,

@@ -28,7 +28,7 @@ use Rattle.dnp_store.specs.Tables.{form_with, sequence, IsCounted}
 use Rattle.dnp_store.specs.QueueTables.{queue_columns, Queued, queued_row, event_of, IsForm1}
 use Rattle.dnp_store.specs.Shown.{ShowsForm1, ShowsCount}
 use Rattle.dnp_store.specs.JournalTables.{journal_schema, journal_columns, journal_with, IsLogged}
-use Rattle.dnp_store.specs.JournalShown.{Reads, ShowsEvent, ShowEvents, AreInOrder, Logs, Finds}
+use Rattle.dnp_store.specs.JournalShown.{ReadsJournal, ShowsEvent, ShowEvents, AreInOrder, Logs, Finds}
 use Rattle.dnp_store.proofs.Rows.{IsTyped, typed, form_columns, form_row, count_row_is, queue_row, queued_of}
 use Rattle.dnp_store.proofs.Opening.{query, listed, shown_by, unchanged, alone, none_left, form_query, count_query, form_terms, count_terms, queue_terms}
 use Rattle.dnp_store.proofs.JournalHolding.{kind_is, kind_low}
@@ -157,7 +157,7 @@ few_in_order before last (e ∷ es) h low =
 -- ---- what the queries say of the trees
 
 module _ (old new : State) (rows : List Row) where
-  pub reads_form : (id : ℤ) → Shown form_query [] old new rows → ShowsForm1 rows id → Reads old new (λ db. IsForm1 (db 0))
+  pub reads_form : (id : ℤ) → Shown form_query [] old new rows → ShowsForm1 rows id → ReadsJournal old new (λ db. IsForm1 (db 0))
   reads_form id shows one f j sound has =
       let read = reads_as form_query [] old new (journal_schema f j) has _ (form_is f j).0 (form_plain f j) (form_is f j).1 rows shows in
       let got = listed 0 form_terms old.now.trees rows refl (read.answer Null) in
@@ -170,7 +170,7 @@ module _ (old new : State) (rows : List Row) where
       )
 
   pub reads_counts : Shown count_query [] old new rows
-      → Reads old new (λ db. (n : ℕ) → ShowsCount (codes "journal") rows n → IsCounted (codes "journal") (db 2) n)
+      → ReadsJournal old new (λ db. (n : ℕ) → ShowsCount (codes "journal") rows n → IsCounted (codes "journal") (db 2) n)
   reads_counts shows f j sound has =
       let read = reads_as count_query [] old new (journal_schema f j) has _ (count_is f j).0 (count_plain f j) (count_is f j).1 rows shows in
       let got = listed 2 count_terms old.now.trees rows refl (read.answer Null) in
@@ -189,7 +189,7 @@ module _ (old new : State) (rows : List Row) where
           inr (pos one.0, at.1 ∙ ap (λ r. r ∷ []) (count_row_is at.0 (pos one.0) (pos n) (codes "journal") types.0 id_is name count))
 
   pub reads_logged : Shown journal_query [] old new rows
-      → Reads old new (λ db. (events : List Numbered) (last : ℕ) → ShowEvents rows events → AreInOrder 0 last events → Logs db events last)
+      → ReadsJournal old new (λ db. (events : List Numbered) (last : ℕ) → ShowEvents rows events → AreInOrder 0 last events → Logs db events last)
   reads_logged shows f j sound has =
       let read = reads_as journal_query [] old new (journal_schema f j) has _ (journal_is f j).0 (journal_plain f j) (journal_is f j).1 rows shows in
       let got = listed 1 queue_terms old.now.trees rows refl (read.answer Null) in
@@ -209,12 +209,12 @@ module _ (old new : State) (rows : List Row) where
 
 module _ {E : Type 0} (old new : State) where
   pub counts_if : (r : Result (Vec (List Value) Global) E) → IfOk r (λ rows. Shown count_query [] old new rows.items)
-      → IfOk r (λ rows. Reads old new (λ db. (n : ℕ) → ShowsCount (codes "journal") rows.items n → IsCounted (codes "journal") (db 2) n))
+      → IfOk r (λ rows. ReadsJournal old new (λ db. (n : ℕ) → ShowsCount (codes "journal") rows.items n → IsCounted (codes "journal") (db 2) n))
   counts_if (Ok rows) shows = reads_counts old new rows.items shows
   counts_if (Err e) shows = tt
 
   pub logged_if : (r : Result (Vec (List Value) Global) E) → IfOk r (λ rows. Shown journal_query [] old new rows.items)
-      → IfOk r (λ rows. Reads old new (λ db. (events : List Numbered) (last : ℕ) → ShowEvents rows.items events → AreInOrder 0 last events → Logs db events last))
+      → IfOk r (λ rows. ReadsJournal old new (λ db. (events : List Numbered) (last : ℕ) → ShowEvents rows.items events → AreInOrder 0 last events → Logs db events last))
   logged_if (Ok rows) shows = reads_logged old new rows.items shows
   logged_if (Err e) shows = tt
 

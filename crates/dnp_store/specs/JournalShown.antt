@@ -24,8 +24,8 @@ pub record HasTables (db : Database) : Type 0 where
   pub empty : (db.trees 0 ≡ []) × (db.trees 1 ≡ []) × (db.trees 2 ≡ [])
 
 -- a journal's database shows this of its trees, and stays as it was
-abbrev pub Reads : State → State → (Trees → Type 0) → Type 0
-Reads old new P = (f j : List Term) → IsDatabase old.now → old.now.schema ≡ journal_schema f j → (new.now ≡ old.now) × P old.now.trees
+abbrev pub ReadsJournal : State → State → (Trees → Type 0) → Type 0
+ReadsJournal old new P = (f j : List Term) → IsDatabase old.now → old.now.schema ≡ journal_schema f j → (new.now ≡ old.now) × P old.now.trees
 
 -- a row that a query shows of `journal`
 pub record ShowsEvent (row : SqlRow) (e : Numbered) : Type 0 where

@@ -78,8 +78,8 @@ impl<S: Alter> Journal<S> {
                     conn,
                     last_id: found.last_id,
                     count: found.count,
-                    stopped: false,
                     owned,
+                    stopped: false,
                 })
             }
             Err(unread) => {
@@ -87,6 +87,13 @@ impl<S: Alter> Journal<S> {
                 Err((fault, conn))
             }
         }
+    }
+
+    /// The connection to the database, as it stands.
+    pub fn into_connection(self) -> Connection<S>
+        ensures { result ≡ self.conn }
+    {
+        self.conn
     }
 
     /// Whether the journal has not answered Device. If so, whatever a crash at this moment leaves holds the
@@ -104,12 +111,5 @@ impl<S: Alter> Journal<S> {
         ensures { result ≡ self.now.owned }
     {
         self.owned
-    }
-
-    /// The connection to the database, as it stands.
-    pub fn into_connection(self) -> Connection<S>
-        ensures { result ≡ self.conn }
-    {
-        self.conn
     }
 }
