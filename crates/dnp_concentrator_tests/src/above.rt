@@ -17,6 +17,29 @@ const LATCHES: [u8; 18] = [0x0C, 0x01, 0x28, 0x01, 0x00, 0xC8, 0x00, 0x03, 0x01,
 #[rattlefmt::skip]
 const LATCHES_NONE: [u8; 18] = [0x0C, 0x01, 0x28, 0x01, 0x00, 0xC9, 0x00, 0x03, 0x01, 0, 0, 0, 0, 0, 0, 0, 0, 0x00];
 
+/// A request's first octets, its objects, and the status that is answered.
+const STEPS: [([u8; 2], [u8; 18], u8); 5] = [
+    ([0xC0, 0x03], LATCHES, 0x00),
+    ([0xC1, 0x04], LATCHES, 0x00),
+    ([0xC1, 0x04], LATCHES, 0x00),
+    ([0xC2, 0x03], LATCHES_NONE, 0x04),
+    ([0xC3, 0x05], LATCHES_NONE, 0x04),
+];
+
+/// What the book has of it.
+const LATCHED: Entry = Entry {
+    id: 1,
+    target: 0,
+    command: Command::Block {
+        index: 0,
+        code: 3,
+        count: 1,
+        on_ms: 0,
+        off_ms: 0,
+    },
+    state: State::Pending,
+};
+
 /// A fragment: what stands before the objects, the objects, and the octet in the place of their last one.
 fn fragment(
     alloc: Global,
@@ -63,15 +86,7 @@ fn a_command_above_is_put_into_the_book(rt: HostRuntime) -> Result<(), Fail> {
     };
     let mut actions = Actions::none(alloc);
     concentrator.opened_above(&mut actions, alloc, 0)?;
-    // A request's first octets, its objects, and the status that is answered.
-    let steps = [
-        ([0xC0, 0x03], LATCHES, 0x00),
-        ([0xC1, 0x04], LATCHES, 0x00),
-        ([0xC1, 0x04], LATCHES, 0x00),
-        ([0xC2, 0x03], LATCHES_NONE, 0x04),
-        ([0xC3, 0x05], LATCHES_NONE, 0x04),
-    ];
-    for (head, objects, status) in steps {
+    for (head, objects, status) in STEPS {
         let is_right = is_answered(
             &mut concentrator,
             &mut actions,
@@ -82,23 +97,11 @@ fn a_command_above_is_put_into_the_book(rt: HostRuntime) -> Result<(), Fail> {
         )?;
         assert!(rt; is_right, "{head:?} {status}");
     }
-    let entry = Entry {
-        id: 1,
-        target: 0,
-        command: Command::Block {
-            index: 0,
-            code: 3,
-            count: 1,
-            on_ms: 0,
-            off_ms: 0,
-        },
-        state: State::Pending,
-    };
-    assert!(rt; concentrator.book().rows(alloc, 0, 10)?.as_slice() == [entry].as_slice());
+    assert!(rt; concentrator.book().rows(alloc, 0, 10)?.as_slice() == [LATCHED].as_slice());
     concentrator.hung_up_above();
     assert!(rt; !concentrator.quiet_above());
     concentrator.restart(alloc);
     let (_queue, mut book) = concentrator.into_stores();
-    assert!(rt; book.rows(alloc, 0, 10)?.as_slice() == [entry].as_slice());
+    assert!(rt; book.rows(alloc, 0, 10)?.as_slice() == [LATCHED].as_slice());
     Ok(())
 }
