@@ -24,3 +24,9 @@ pub mod JournalHolding
 pub mod JournalReading
 pub mod JournalStanding
 pub mod JournalOpening
+pub mod BookStatements
+pub mod BookUpdates
+pub mod BookHolding
+pub mod BookStanding
+pub mod BookPlaces
+pub mod BookTurning

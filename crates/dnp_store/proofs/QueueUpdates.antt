@@ -144,7 +144,7 @@ matched params db rows a =
 
 -- ---- rows in any order
 
-others_left : (n : ℤ) (rows : List Row) → AllByRecursion (λ r. has_rowid n r ≡ false) (without_rowid n rows)
+pub others_left : (n : ℤ) (rows : List Row) → AllByRecursion (λ r. has_rowid n r ≡ false) (without_rowid n rows)
 others_left n [] = tt
 others_left n (r ∷ rows) = go (has_rowid n r) refl (others_left n rows)
   where

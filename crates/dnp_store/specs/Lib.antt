@@ -4,8 +4,11 @@ pub mod QueueTables
 pub mod Kept
 pub mod JournalTables
 pub mod JournalKept
+pub mod BookTables
+pub mod BookKept
 -- Words of private steps.
 pub mod Steps
 pub mod Making
 pub mod Shown
 pub mod JournalShown
+pub mod BookMaking

@@ -1,6 +1,12 @@
 //! Event lanes and a journal that outlive a power cut: the stores of DNP3 stations in SQL databases.
 #![tactic(auto)]
 
+mod book;
+mod book_columns;
+mod book_entries;
+mod book_open;
+mod book_tables;
+mod book_writing;
 mod decoding;
 mod fault;
 mod figures;
@@ -22,6 +28,7 @@ mod queue_statements;
 mod queue_tables;
 mod queue_writing;
 
+pub use book::ControlBook;
 pub use journal::Journal;
 pub use open::OpenFault;
 pub use queue::Queue;

@@ -1,0 +1,77 @@
+use Rattle.std.proofs.Common.{rules, ◌≡◌, ◌∷◌, [], inr, false, IsTrue, arith, sym, ap, subst, ◌∙◌}
+use Rattle.std.specs.Prelude.{IsSome}
+use Rattle.sqlite.specs.State.{HasCleanDisk}
+use Rattle.sqlite.specs.Held.{state}
+use Rattle.dnp_controls.specs.declared.book.State.TheVariants.{Finished}
+use Rattle.dnp_controls.specs.Book.{Ledger, IsSound, entry_of, in_state, finished}
+use Rattle.dnp_controls.specs.Moves.{Finish}
+use Rattle.dnp_store.specs.BookKept.{Kept, Stands, LeavesEither}
+use Rattle.dnp_store.proofs.BookPlaces.{id_low, there_of}
+use Rattle.dnp_store.proofs.BookStanding.{either_of, leaves_last}
+use Rattle.dnp_store.proofs.BookTurning.{turned_is}
+use Rattle.dnp_store.proofs.book.ControlBookBook.finish.Goals as goal
+
+pub write_turned-requires-clause-id : goal.write_turned-requires-clause-id
+write_turned-requires-clause-id g c =
+    let book : Ledger = record { entries = c.self.inside.entries.items; last_id = c.self.inside.last_id } in
+    let there : IsSome (entry_of book.entries c.args.id) = there_of book.entries c.args.id c.state_of.result (search rules) (search rules) in
+    omega (arith, id_low book c.args.id c.self.invariant.sound there, c.self.invariant.last_in_range)
+
+pub returns-in-Err-clause-either : goal.returns-in-Err-clause-either
+returns-in-Err-clause-either g c clean =
+    let id = c.args.id in
+    let book : Ledger = record { entries = c.self.inside.entries.items; last_id = c.self.inside.last_id } in
+    let there : IsSome (entry_of book.entries id) = there_of book.entries id c.state_of.result (search rules) (search rules) in
+    let old = state g.S.Store c.self.inside.conn in
+    let mid = state g.S.Store c.write_turned.new.conn in
+    let new = state g.S.Store c.is_lost-lost.new.conn in
+    let P = λ (k : Kept _). k.stopped ≡ false → IsTrue k.owned → LeavesEither new k.ledger (finished k.ledger id c.args.status) in
+    subst P c.self.view_is (λ serves own db may.
+    let early : HasCleanDisk mid = omega (arith, c.is_lost-lost.ensures.survives.clean) in
+    let first : HasCleanDisk old = omega (arith, early, c.write_turned.ensures.survives.clean) in
+    let stands = c.self.invariant.stands serves own first in
+    either_of old mid new book (finished book id c.args.status) _ (λ db commits. commits book c.self.invariant.sound there stands) clean early
+    (g.met.S.Store.settled c.self.inside.conn.store) stands c.write_turned.ensures.survives c.is_lost-lost.ensures.survives db may)
+
+pub invariant_of-self-2 : goal.invariant_of-self-2
+invariant_of-self-2 g c =
+    let id = c.args.id in
+    let items = c.self.inside.entries.items in
+    let book : Ledger = record { entries = items; last_id = c.self.inside.last_id } in
+    let there : IsSome (entry_of items id) = there_of items id c.state_of.result (search rules) (search rules) in
+    let control = Finished c.args.status in
+    let is = turned_is c.set_state.new.entries items c.self.inside.entries.len c.self.inside.last_id id control (omega arith)
+    (c.set_state.ensures ∙ ap (λ es. in_state es id control) c.deref_mut.ensures.value) in
+    record {
+      idle = c.write_turned.ensures.idle;
+      sound = subst IsSound is (c.ids_go_on.ensures.sound book (Finish id c.args.status ∷ []) c.self.invariant.sound);
+      last_in_range = c.self.invariant.last_in_range;
+      stands = λ serves own clean. subst (Stands (state g.S.Store c.write_turned.new.conn)) is
+          (let early : HasCleanDisk (state g.S.Store c.self.inside.conn) = omega (arith, clean, c.write_turned.ensures.survives.clean) in
+          c.in_default.ensures.ok clean book c.self.invariant.sound there (c.self.invariant.stands serves own early));
+    }
+
+pub returns-clause-call : goal.returns-clause-call
+returns-clause-call g c =
+    let kept = invariant_of-self-2 g c in
+    let sound = kept.sound in
+    search (rules, sound)
+
+pub returns-clause-either : goal.returns-clause-either
+returns-clause-either g c clean =
+    let id = c.args.id in
+    let book : Ledger = record { entries = c.self.inside.entries.items; last_id = c.self.inside.last_id } in
+    let there : IsSome (entry_of book.entries id) = there_of book.entries id c.state_of.result (search rules) (search rules) in
+    let mid = state g.S.Store c.write_turned.new.conn in
+    let P = λ (k : Kept _). k.stopped ≡ false → IsTrue k.owned → LeavesEither mid k.ledger (finished k.ledger id c.args.status) in
+    subst P c.self.view_is (λ serves own db may.
+    let early : HasCleanDisk (state g.S.Store c.self.inside.conn) = omega (arith, clean, c.write_turned.ensures.survives.clean) in
+    let stood = c.in_default.ensures.ok clean book c.self.invariant.sound there (c.self.invariant.stands serves own early) in
+    inr (leaves_last mid (finished book id c.args.status) (g.met.S.Store.settled c.write_turned.new.conn.store) stood db may))
+
+pub returns-clause-after : goal.returns-clause-after
+returns-clause-after g c clean =
+    let mid = state g.S.Store c.write_turned.new.conn in
+    let kept = invariant_of-self-2 g c in
+    let owns : c.self.inside.owned ≡ c.args.self.now.owned = ap (λ (k : Kept _). k.owned) c.self.view_is in
+    λ own. leaves_last mid _ (g.met.S.Store.settled c.write_turned.new.conn.store) (kept.stands c.if-self.false (subst IsTrue (sym owns) own) clean)

@@ -1,0 +1,49 @@
+use Rattle.std.proofs.Common.{rules, ◌≡◌, ℕ, not, IsTrue, arith, sym, ap, subst, ◌∙◌}
+use Rattle.std.specs.Prelude.{OnOk}
+use Rattle.sqlite.specs.State.{HasCleanDisk, Survives}
+use Rattle.sqlite.specs.Held.{state}
+use Rattle.sqlite.specs.Tree.{Trees}
+use Rattle.dnp_controls.specs.Book.{IsSound, Ledger, entry_of, in_state}
+use Rattle.dnp_controls.specs.declared.book.State.{State as Control}
+use Rattle.std.specs.Prelude.{IsSome}
+use Rattle.dnp_store.specs.BookKept.{Stands}
+use Rattle.dnp_store.specs.BookTables.{HoldsBook, IsBook}
+use Rattle.dnp_store.proofs.Statements.{finished, survives_commit}
+use Rattle.dnp_store.proofs.BookStanding.{stands_if}
+use Rattle.dnp_store.proofs.book_writing.write_turned.Goals as goal
+
+abbrev turned : Ledger → ℕ → Control → Ledger
+turned a id s = record a { entries = in_state a.entries id s }
+
+done : (g : _) (c : goal.After-conn-2-1 g) (a : Ledger) → IsSound a → IsSome (entry_of a.entries c.args.id) → HasCleanDisk (state g.S.Store c.turn.new.tx.conn.now)
+    → Stands (state g.S.Store c.args.conn.now) a → IsBook (state g.S.Store c.turn.new.tx.conn.now).now (turned a c.args.id c.args.control)
+done g c a sound there clean stood =
+    let old = state g.S.Store c.args.conn.now in
+    let begun = state g.S.Store c.transaction-tx.result.conn.now in
+    let idle : IsTrue c.is_autocommit.result = c.is_autocommit.ensures.value ∙ ap not c.requires.idle in
+    let same : begun.now ≡ old.committed = ap (λ h. (state g.S.Store h).now) c.transaction-tx.ensures.begun
+    ∙ c.is_autocommit.ensures.settled idle stood.is_open in
+    c.in_ok-turn.ensures.turned clean a sound there (subst (λ d. IsBook d a) (sym same) stood.holds)
+
+pub returns-clause-ok : goal.returns-clause-ok
+returns-clause-ok g c clean a sound there stood =
+    let mid = state g.S.Store c.turn.new.tx.conn.now in
+    let end = state g.S.Store c.commit.new.self.0 in
+    let b = turned a c.args.id c.args.control in
+    let same : c.commit.new.self.0 ≡ c.conn-2-1.given.0 = search rules in
+    let late : HasCleanDisk end = subst (λ h. HasCleanDisk (state g.S.Store h)) (sym same) clean in
+    let early : HasCleanDisk mid = omega (arith, late, c.commit.ensures.survives.clean) in
+    subst (λ h. OnOk c.commit.result (Stands (state g.S.Store h) b)) same
+    (stands_if end b c.commit.result (finished _ _ mid end (λ d. IsBook d b) c.commit.result (done g c a sound there early stood) (c.commit.ensures.ok late)))
+
+pub returns-clause-survives : goal.returns-clause-survives
+returns-clause-survives g c =
+    let mid = state g.S.Store c.turn.new.tx.conn.now in
+    let end = state g.S.Store c.commit.new.self.0 in
+    let old = c.args.conn.now in
+    let P = λ (db : Trees). (a : Ledger) → IsSound a → IsSome (entry_of a.entries c.args.id) → Stands (state g.S.Store old) a → HoldsBook db (turned a c.args.id c.args.control) in
+    let same : c.commit.new.self.0 ≡ c.conn-2-1.given.0 = search rules in
+    subst (λ h. Survives (state g.S.Store old) (state g.S.Store h) P) same
+    (survives_commit g.S.Store old c.transaction-tx.result.conn.now mid end P c.transaction-tx.ensures.begun
+    c.turn.ensures.survives c.commit.ensures.survives
+    (λ clean a sound there stood. (let early : HasCleanDisk mid = omega (arith, clean, c.commit.ensures.survives.clean) in (done g c a sound there early stood).holds)))

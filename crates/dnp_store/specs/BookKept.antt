@@ -1,0 +1,51 @@
+-- Definition: a book of controls, whose entries stand in memory and in a database.
+use Rattle.std.specs.Prelude.{◌≡◌, ◌≤◌, ◌⊎◌, ℕ, List, Bool, false, IsTrue, refl}
+use Rattle.std.specs.Coded.{Coded, code_by, coded×, coded_bool, coded_ℕ}
+use Rattle.dnp_objects.specs.declared.limits.TheConstants.{MAX_ID}
+use Rattle.dnp_controls.specs.contracts.plain_book.PlainBook as plain
+use Rattle.dnp_controls.specs.declared.book.Entry.{Entry}
+use Rattle.dnp_controls.specs.Book.{Ledger, IsSound}
+use Rattle.sqlite_trees.specs.declared.store.Store.{Ghosts}
+use Rattle.sqlite.specs.Tree.{Trees}
+use Rattle.sqlite.specs.State.{State, HasCleanDisk}
+use Rattle.sqlite.specs.Held.{Held, held_code, state}
+use Rattle.dnp_store.specs.BookTables.{HoldsBook, IsBook}
+
+-- a book: its connection, what it holds, and whether it has answered Device
+pub record Kept (S : Type 0) : Type 0 where
+  pub conn : Held S
+  pub ledger : Ledger
+  pub stopped : Bool
+  -- the database had no other tables as the book began
+  pub owned : Bool
+
+abbrev pub kept_code : {S : Type 0} → Coded S → Coded (Kept S)
+kept_code {S} s =
+    code_by (Held S × (List Entry × (ℕ × (Bool × Bool)))) (coded× (held_code s) (coded× plain.the_row.coded (coded× coded_ℕ (coded× coded_bool coded_bool))))
+    (λ k. (k.conn, (k.ledger.entries, (k.ledger.last_id, (k.stopped, k.owned)))))
+    (λ p. record { conn = p.0; ledger = record { entries = p.1.0; last_id = p.1.1.0 }; stopped = p.1.1.1.0; owned = p.1.1.1.1 }) (λ _. refl)
+
+-- the connection serves, and the last commit holds these entries
+pub record Stands (s : State) (book : Ledger) : Type 0 where
+  pub is_open : IsTrue s.is_open
+  pub holds : IsBook s.committed book
+
+-- what is so of a book at all times
+pub record Keeps {S : Type 0} (g : Ghosts S) (conn : Held S) (ledger : Ledger) (stopped owned : Bool) : Type 0 where
+  pub idle : conn.in_transaction ≡ false
+  pub sound : IsSound ledger
+  pub last_in_range : ledger.last_id ≤ MAX_ID
+  pub stands : stopped ≡ false → IsTrue owned → HasCleanDisk (state g conn) → Stands (state g conn) ledger
+
+-- so far the disk has given back what was written, nobody else has written, the book has not answered Device, and the
+-- database had no other tables
+abbrev pub IsHonest : {S : Type 0} → Ghosts S → Kept S → Type 0
+IsHonest g b = HasCleanDisk (state g b.conn) × (b.stopped ≡ false) × IsTrue b.owned
+
+-- each database that a crash may leave holds the one ledger or the other
+abbrev pub LeavesEither : State → Ledger → Ledger → Type 0
+LeavesEither s before after = (db : Trees) → s.may_leave db → HoldsBook db before ⊎ HoldsBook db after
+
+-- each database that a crash may leave holds this ledger
+abbrev pub Leaves : State → Ledger → Type 0
+Leaves s book = (db : Trees) → s.may_leave db → HoldsBook db book

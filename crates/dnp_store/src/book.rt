@@ -1,0 +1,192 @@
+//! A book of controls in a SQL database.
+
+ghost use Rattle.std.specs.Prelude.{◌≡◌, ◌≢◌, ◌≤◌, ◌<◌, ◌+◌, true, false, not, IsTrue, IfOk, IfErr, OnOk};
+ghost use Rattle.sqlite.specs.Held.{state};
+ghost use Rattle.sqlite.specs.State.{HasCleanDisk};
+ghost use Rattle.dnp_controls.specs.Book.{Has, added, entry_of, finished, is_finished, is_pending, spent};
+ghost use Rattle.dnp_controls.specs.Calls.{IsBookCall};
+ghost use Rattle.dnp_store.specs.BookKept.{IsHonest, Leaves, LeavesEither};
+
+use crate::book_entries::{first_over, first_pending, set_state, state_of};
+use crate::book_writing::{write_added, write_turned};
+use crate::fault::is_lost;
+use dnp_controls::laws::ids_go_on;
+use dnp_controls::{Book, BookFault, Entry, State, TARGETS};
+use dnp_objects::{Command, MAX_ID, Status};
+use sqlite::{Alter, Connection};
+use std::alloc::Global;
+use std::marker::Model;
+
+/// A book of controls in a SQL database, which keeps its entries in memory too: only calls that write touch
+/// the database.
+#[derive(Drop)]
+pub struct ControlBook<S: Alter> {
+    /// The connection to the database, which is the book's own.
+    pub(crate) conn: Connection<S>,
+    /// The entries that the last commit holds, by their ids.
+    pub(crate) entries: Vec<Entry>,
+    /// The last id used.
+    pub(crate) last_id: u64,
+    /// Whether the book has answered Device.
+    pub(crate) stopped: bool,
+    /// Whether the database had no other tables as the book began: what a statement means is known for no
+    /// others.
+    pub(crate) owned: bool,
+}
+
+impl<S: Alter> Model for ControlBook<S> {
+    ghost use Rattle.dnp_store.specs.BookKept.{Kept, kept_code, Keeps};
+
+    ghost Value = { Kept S };
+
+    ghost coded = { kept_code S.code };
+
+    ghost view = { λ b. record { conn = b.conn; ledger = record { entries = b.entries.items; last_id = b.last_id }; stopped = b.stopped; owned = b.owned } };
+
+    ghost invariant = { λ b. Keeps S.Store b.conn (record { entries = b.entries.items; last_id = b.last_id }) b.stopped b.owned };
+}
+
+/// Device where the store is lost, else Memory.
+fn book_fault(lost: bool) -> BookFault
+    ensures stopped { IsTrue lost → result ≡ BookFault.Device }
+    ensures serves { lost ≡ false → result ≡ BookFault.Memory }
+{
+    if lost {
+        BookFault::Device
+    } else {
+        BookFault::Memory
+    }
+}
+
+impl<S: Alter> Book for ControlBook<S> {
+    ghost contents = { λ b. b.ledger };
+
+    ghost honest = { IsHonest S.Store };
+
+    ghost is_stopped = { λ b. b.stopped };
+
+    ghost asks_memory = { true };
+
+    /// What a crash leaves at any exit holds the entries before or after, and after Ok those after.
+    fn add(&mut self, alloc: Global, target: u8, command: &Command) -> Result<u64, BookFault>
+        requires { target < TARGETS }
+        ensures call { IsBookCall (IsHonest S.Store) (λ b. b.stopped) (λ b. b.ledger) self.old self.new result }
+        ensures added { IsHonest S.Store self.new → OnOk result (self.new.ledger ≡ added self.old.ledger target command.now) }
+        ensures id { IsHonest S.Store self.new → IfOk result (λ id. id ≡ self.old.ledger.last_id + 1) }
+        ensures not_exhausted { IsHonest S.Store self.new → OnOk result (self.old.ledger.last_id < MAX_ID) }
+        ensures exhausted { IsHonest S.Store self.new → IfErr result (λ e. e ≡ BookFault.Exhausted → MAX_ID ≤ self.old.ledger.last_id) }
+        ensures exhausted_first { IsHonest S.Store self.new → IfErr result (λ e. e ≡ BookFault.Memory → self.old.ledger.last_id < MAX_ID) }
+        ensures named { IfErr result (λ e. (e ≢ BookFault.NoControl) × (e ≢ BookFault.NotPending)) }
+        ensures either { HasCleanDisk (state S.Store self.new.conn) → self.old.stopped ≡ false → IsTrue self.old.owned → LeavesEither (state S.Store self.new.conn) self.old.ledger (added self.old.ledger target command.now) }
+        ensures after { HasCleanDisk (state S.Store self.new.conn) → IsTrue self.old.owned → OnOk result (Leaves (state S.Store self.new.conn) self.new.ledger) }
+        ensures untouched { IsTrue self.old.stopped → self.new.conn ≡ self.old.conn }
+    {
+        if self.stopped {
+            return Err(BookFault::Device);
+        }
+        // (a law, for the proof: it does nothing)
+        ids_go_on();
+        if self.last_id >= MAX_ID {
+            return Err(BookFault::Exhausted);
+        }
+        if self.entries.reserve(1).is_err() {
+            return Err(BookFault::Memory);
+        }
+        if let Err(error) = write_added(&mut self.conn, target, command) {
+            let lost = is_lost(&mut self.conn, &error);
+            self.stopped = lost;
+            return Err(book_fault(lost));
+        }
+        let id = self.last_id + 1;
+        let entry = Entry {
+            id,
+            target,
+            command: *command,
+            state: State::Pending,
+        };
+        let _room = self.entries.push(entry);
+        self.last_id = id;
+        Ok(id)
+    }
+
+    fn next(&mut self, _alloc: Global, target: u8) -> Result<Option<Entry>, BookFault> {
+        if self.stopped {
+            return Err(BookFault::Device);
+        }
+        Ok(first_pending(&self.entries, target))
+    }
+
+    /// What a crash leaves at any exit holds the entries before or after, and after Ok those after.
+    fn spend(&mut self, _alloc: Global, id: u64) -> Result<(), BookFault>
+        ensures call { IsBookCall (IsHonest S.Store) (λ b. b.stopped) (λ b. b.ledger) self.old self.new result }
+        ensures was_pending { IsHonest S.Store self.new → OnOk result (Has self.old.ledger.entries id is_pending) }
+        ensures spent { IsHonest S.Store self.new → OnOk result (self.new.ledger ≡ spent self.old.ledger id) }
+        ensures no_control { IsHonest S.Store self.new → IfErr result (λ e. e ≡ BookFault.NoControl → entry_of self.old.ledger.entries id ≡ None) }
+        ensures not_pending { IsHonest S.Store self.new → IfErr result (λ e. e ≡ BookFault.NotPending → Has self.old.ledger.entries id (λ control. not (is_pending control))) }
+        ensures named { IfErr result (λ e. e ≢ BookFault.Exhausted) }
+        ensures memory { result ≡ Err BookFault.Memory → IsTrue true }
+        ensures either { HasCleanDisk (state S.Store self.new.conn) → self.old.stopped ≡ false → IsTrue self.old.owned → LeavesEither (state S.Store self.new.conn) self.old.ledger (spent self.old.ledger id) }
+        ensures after { HasCleanDisk (state S.Store self.new.conn) → IsTrue self.old.owned → OnOk result (Leaves (state S.Store self.new.conn) self.new.ledger) }
+        ensures untouched { IsTrue self.old.stopped → self.new.conn ≡ self.old.conn }
+    {
+        if self.stopped {
+            return Err(BookFault::Device);
+        }
+        // (a law, for the proof: it does nothing)
+        ids_go_on();
+        match state_of(&self.entries, id) {
+            None => return Err(BookFault::NoControl),
+            Some(State::Pending) => {}
+            Some(State::Spent | State::Finished(_)) => return Err(BookFault::NotPending),
+        }
+        if let Err(error) = write_turned(&mut self.conn, id, State::Spent) {
+            let lost = is_lost(&mut self.conn, &error);
+            self.stopped = lost;
+            return Err(book_fault(lost));
+        }
+        set_state(&mut self.entries, id, State::Spent);
+        Ok(())
+    }
+
+    /// What a crash leaves at any exit holds the entries before or after, and after Ok those after.
+    fn finish(&mut self, _alloc: Global, id: u64, status: Status) -> Result<(), BookFault>
+        ensures call { IsBookCall (IsHonest S.Store) (λ b. b.stopped) (λ b. b.ledger) self.old self.new result }
+        ensures was_open { IsHonest S.Store self.new → OnOk result (Has self.old.ledger.entries id (λ control. not (is_finished control))) }
+        ensures finished { IsHonest S.Store self.new → OnOk result (self.new.ledger ≡ finished self.old.ledger id status) }
+        ensures no_control { IsHonest S.Store self.new → IfErr result (λ e. e ≡ BookFault.NoControl → entry_of self.old.ledger.entries id ≡ None) }
+        ensures was_finished { IsHonest S.Store self.new → IfErr result (λ e. e ≡ BookFault.NotPending → Has self.old.ledger.entries id is_finished) }
+        ensures named { IfErr result (λ e. e ≢ BookFault.Exhausted) }
+        ensures memory { result ≡ Err BookFault.Memory → IsTrue true }
+        ensures either { HasCleanDisk (state S.Store self.new.conn) → self.old.stopped ≡ false → IsTrue self.old.owned → LeavesEither (state S.Store self.new.conn) self.old.ledger (finished self.old.ledger id status) }
+        ensures after { HasCleanDisk (state S.Store self.new.conn) → IsTrue self.old.owned → OnOk result (Leaves (state S.Store self.new.conn) self.new.ledger) }
+        ensures untouched { IsTrue self.old.stopped → self.new.conn ≡ self.old.conn }
+    {
+        if self.stopped {
+            return Err(BookFault::Device);
+        }
+        // (a law, for the proof: it does nothing)
+        ids_go_on();
+        match state_of(&self.entries, id) {
+            None => return Err(BookFault::NoControl),
+            Some(State::Pending | State::Spent) => {}
+            Some(State::Finished(_)) => return Err(BookFault::NotPending),
+        }
+        if let Err(error) = write_turned(&mut self.conn, id, State::Finished(status)) {
+            let lost = is_lost(&mut self.conn, &error);
+            self.stopped = lost;
+            return Err(book_fault(lost));
+        }
+        set_state(&mut self.entries, id, State::Finished(status));
+        Ok(())
+    }
+
+    fn rows(&mut self, alloc: Global, from: u64, most: usize) -> Result<Vec<Entry>, BookFault> {
+        if self.stopped {
+            return Err(BookFault::Device);
+        }
+        let Ok(rows) = first_over(alloc, &self.entries, from, most) else {
+            return Err(BookFault::Memory);
+        };
+        Ok(rows)
+    }
+}

@@ -1,0 +1,76 @@
+//! How a book of controls in a SQL database begins, and what stands at its end.
+
+ghost use Rattle.std.specs.Prelude.{◌≡◌, ◌↔◌, false, not, IsTrue, IfOk, IfErr};
+ghost use Rattle.sqlite.specs.Held.{state};
+ghost use Rattle.sqlite.specs.State.{HasCleanDisk, Survives};
+ghost use Rattle.dnp_controls.specs.Book.{empty_ledger};
+ghost use Rattle.dnp_store.specs.BookKept.{Leaves, Stands};
+ghost use Rattle.dnp_store.specs.BookTables.{HoldsBook};
+ghost use Rattle.dnp_store.specs.Tables.{no_schema};
+
+use crate::book::ControlBook;
+use crate::book_tables::write_tables;
+use crate::fault::{is_lost, is_taken};
+use crate::open::{OpenFault, is_bare, open_fault};
+use sqlite::{Alter, Connection};
+use std::alloc::Global;
+
+impl<S: Alter> ControlBook<S> {
+    /// Makes a book without entries in the database. Other tables are left alone, but the book promises to
+    /// hold its entries only where there are none.
+    ///
+    /// WrongForm where a name of its tables is taken, or the connection is inside a transaction; else
+    /// Memory or Device. A refusal hands the connection back, with the database as it was.
+    pub fn create(
+        alloc: Global,
+        conn: Connection<S>,
+    ) -> Result<ControlBook<S>, (OpenFault, Connection<S>)>
+        ensures held { IfOk result (λ b. HasCleanDisk (state S.Store b.conn) → HasCleanDisk (state S.Store conn)) }
+        ensures empty { IfOk result (λ b. (b.ledger ≡ empty_ledger) × (b.stopped ≡ false)) }
+        ensures owned { IfOk result (λ b. IsTrue b.owned ↔ ((state S.Store conn).now.schema ≡ no_schema)) }
+        ensures stands { IfOk result (λ b. HasCleanDisk (state S.Store b.conn) → IsTrue b.owned → Stands (state S.Store b.conn) b.ledger) }
+        ensures same { IfErr result (λ e. HasCleanDisk (state S.Store e.1) → IsTrue (state S.Store e.1).is_open → (state S.Store e.1).committed ≡ (state S.Store conn).committed) }
+        ensures made { IfOk result (λ b. Survives (state S.Store conn) (state S.Store b.conn) (λ db. (state S.Store conn).now.schema ≡ no_schema → HoldsBook db empty_ledger)) }
+    {
+        if !conn.is_autocommit() {
+            return Err((OpenFault::WrongForm, conn));
+        }
+        let owned = is_bare(&conn);
+        let mut conn = conn;
+        if let Err(error) = write_tables(&mut conn) {
+            let lost = is_lost(&mut conn, &error);
+            return Err((open_fault(is_taken(&error), lost), conn));
+        }
+        Ok(ControlBook {
+            conn,
+            entries: Vec::new(alloc),
+            last_id: 0,
+            stopped: false,
+            owned,
+        })
+    }
+
+    /// The connection to the database, as it stands.
+    pub fn into_connection(self) -> Connection<S>
+        ensures { result ≡ self.conn }
+    {
+        self.conn
+    }
+
+    /// Whether the book has not answered Device. If so, whatever a crash at this moment leaves holds the
+    /// entries as they stand.
+    pub fn serves(&self) -> bool
+        ensures value { result ≡ not self.now.stopped }
+        ensures left { HasCleanDisk (state S.Store self.now.conn) → IsTrue result → IsTrue self.now.owned → Leaves (state S.Store self.now.conn) self.now.ledger }
+    {
+        !self.stopped
+    }
+
+    /// Whether the database had no tables but the book's own as it began. Where it had, the book works
+    /// alike, and promises nothing of its entries.
+    pub fn owns_database(&self) -> bool
+        ensures { result ≡ self.now.owned }
+    {
+        self.owned
+    }
+}

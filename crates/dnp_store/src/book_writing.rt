@@ -1,0 +1,98 @@
+//! What the calls of a book write, each in one transaction.
+
+ghost use Rattle.std.specs.Prelude.{◌≡◌, ◌<◌, ◌^◌, false, IsSome, IsTrue, OnOk, OnErr};
+ghost use Rattle.sqlite.specs.Held.{state};
+ghost use Rattle.sqlite.specs.State.{HasCleanDisk, KeepsCommit, Survives};
+ghost use Rattle.dnp_controls.specs.Book.{IsSound, Ledger, added, entry_of, in_state};
+ghost use Rattle.dnp_store.specs.BookKept.{Stands};
+ghost use Rattle.dnp_store.specs.BookTables.{HoldsBook, IsBook};
+
+use crate::book_columns::{columns_of, state_columns};
+use dnp_controls::State;
+use dnp_objects::Command;
+use sqlite::{Alter, Connection, Error, Transaction, params};
+
+/// Puts a pending entry into the table, under the next id.
+fn insert<S: Alter>(tx: &mut Transaction<'_, S>, target: u8, command: &Command) -> Result<(), Error>
+    requires inside { HasCleanDisk (state S.Store tx.old.conn.now) → IsTrue (state S.Store tx.old.conn.now).in_transaction }
+    ensures same_reference { tx.new.conn.ghost_name ≡ tx.old.conn.ghost_name }
+    ensures inside { HasCleanDisk (state S.Store tx.new.conn.now) → OnOk result (IsTrue (state S.Store tx.new.conn.now).in_transaction) }
+    ensures added { HasCleanDisk (state S.Store tx.new.conn.now) → OnOk result ((book : Ledger) → IsSound book → IsBook (state S.Store tx.old.conn.now).now book
+        → IsBook (state S.Store tx.new.conn.now).now (added book target command.now)) }
+    ensures kept { HasCleanDisk (state S.Store tx.new.conn.now) → KeepsCommit (state S.Store tx.old.conn.now) (state S.Store tx.new.conn.now) }
+    ensures survives { Survives (state S.Store tx.old.conn.now) (state S.Store tx.new.conn.now) (λ _. ⊥) }
+{
+    let target = u32::from(target);
+    let columns = columns_of(command);
+    let kind = columns.kind;
+    let point = columns.point;
+    let code = columns.code;
+    let count = columns.count;
+    let on_ms = columns.on_ms;
+    let off_ms = columns.off_ms;
+    let value = columns.value;
+    tx.execute(
+        "INSERT INTO control (target, kind, point, code, count, on_ms, off_ms, value, state, status) VALUES (?1, ?2, ?3, ?4, ?5, ?6, ?7, ?8, 0, 0)",
+        params![target, kind, point, code, count, on_ms, off_ms, value],
+    )?;
+    Ok(())
+}
+
+/// Brings an entry into a state.
+fn turn<S: Alter>(tx: &mut Transaction<'_, S>, id: u64, control: State) -> Result<(), Error>
+    requires inside { HasCleanDisk (state S.Store tx.old.conn.now) → IsTrue (state S.Store tx.old.conn.now).in_transaction }
+    requires id { id < 2 ^ 63 }
+    ensures same_reference { tx.new.conn.ghost_name ≡ tx.old.conn.ghost_name }
+    ensures inside { HasCleanDisk (state S.Store tx.new.conn.now) → OnOk result (IsTrue (state S.Store tx.new.conn.now).in_transaction) }
+    ensures turned { HasCleanDisk (state S.Store tx.new.conn.now) → OnOk result ((book : Ledger) → IsSound book → IsSome (entry_of book.entries id) → IsBook (state S.Store tx.old.conn.now).now book
+        → IsBook (state S.Store tx.new.conn.now).now (record book { entries = in_state book.entries id control })) }
+    ensures kept { HasCleanDisk (state S.Store tx.new.conn.now) → KeepsCommit (state S.Store tx.old.conn.now) (state S.Store tx.new.conn.now) }
+    ensures survives { Survives (state S.Store tx.old.conn.now) (state S.Store tx.new.conn.now) (λ _. ⊥) }
+{
+    let id = id as i64;
+    let (number, status) = state_columns(control);
+    tx.execute(
+        "UPDATE control SET state = ?2, status = ?3 WHERE id = ?1",
+        params![id, number, status],
+    )?;
+    Ok(())
+}
+
+/// Writes what an addition changes.
+pub(crate) fn write_added<S: Alter>(
+    conn: &mut Connection<S>,
+    target: u8,
+    command: &Command,
+) -> Result<(), Error>
+    requires idle { conn.old.in_transaction ≡ false }
+    ensures idle { conn.new.in_transaction ≡ false }
+    ensures ok { HasCleanDisk (state S.Store conn.new) → (book : Ledger) → IsSound book → Stands (state S.Store conn.old) book → OnOk result (Stands (state S.Store conn.new) (added book target command.now)) }
+    ensures err { HasCleanDisk (state S.Store conn.new) → IsTrue (state S.Store conn.new).is_open → OnErr result (IsTrue (state S.Store conn.old).is_open × ((state S.Store conn.new).committed ≡ (state S.Store conn.old).committed)) }
+    ensures survives { Survives (state S.Store conn.old) (state S.Store conn.new) (λ db. (book : Ledger) → IsSound book → Stands (state S.Store conn.old) book → HoldsBook db (added book target command.now)) }
+{
+    prove!(conn.is_autocommit());
+    let mut tx = conn.transaction();
+    insert(&mut tx, target, command)?;
+    tx.commit()
+}
+
+/// Writes that an entry, which is there, is in a state from now on.
+pub(crate) fn write_turned<S: Alter>(
+    conn: &mut Connection<S>,
+    id: u64,
+    control: State,
+) -> Result<(), Error>
+    requires idle { conn.old.in_transaction ≡ false }
+    requires id { id < 2 ^ 63 }
+    ensures idle { conn.new.in_transaction ≡ false }
+    ensures ok { HasCleanDisk (state S.Store conn.new) → (book : Ledger) → IsSound book → IsSome (entry_of book.entries id) → Stands (state S.Store conn.old) book
+        → OnOk result (Stands (state S.Store conn.new) (record book { entries = in_state book.entries id control })) }
+    ensures err { HasCleanDisk (state S.Store conn.new) → IsTrue (state S.Store conn.new).is_open → OnErr result (IsTrue (state S.Store conn.old).is_open × ((state S.Store conn.new).committed ≡ (state S.Store conn.old).committed)) }
+    ensures survives { Survives (state S.Store conn.old) (state S.Store conn.new) (λ db. (book : Ledger) → IsSound book → IsSome (entry_of book.entries id) → Stands (state S.Store conn.old) book
+        → HoldsBook db (record book { entries = in_state book.entries id control })) }
+{
+    prove!(conn.is_autocommit());
+    let mut tx = conn.transaction();
+    turn(&mut tx, id, control)?;
+    tx.commit()
+}
