@@ -1,5 +1,5 @@
 -- What the INSERTs and the making of a book's tables make of a database.
-use Rattle.std.proofs.Common.{◌≡◌, ℕ, ◌+◌, ◌≤◌, pos, true, List, [], ◌∷◌, codes, Option, Some, None, Ok, inl, refl, sym, ap, subst, ◌∙◌, arith}
+use Rattle.std.proofs.Common.{◌++◌, ◌≡◌, ℕ, ◌+◌, ◌≤◌, pos, true, List, [], ◌∷◌, codes, Option, Some, None, Ok, inl, refl, sym, ap, subst, ◌∙◌, arith}
 use Rattle.sqlite_tied.specs.Compute.{everything}
 use Rattle.sqlite_schema.specs.declared.schema.Keys.TheVariants.{Enforced}
 use Rattle.sqlite_resolve.specs.Compile.{table_defined_by}
@@ -114,7 +114,14 @@ inserts old new f j x n m count has counted next low h =
 -- ---- CREATE TABLE
 
 abbrev pub control_text : List ℕ
-control_text = codes "CREATE TABLE control (id INTEGER PRIMARY KEY AUTOINCREMENT CHECK (id BETWEEN 1 AND 4611686018427387904), target INTEGER NOT NULL CHECK (target BETWEEN 0 AND 15), kind INTEGER NOT NULL CHECK (kind BETWEEN 0 AND 2), point INTEGER NOT NULL CHECK (point BETWEEN 0 AND 65535), code INTEGER NOT NULL CHECK (code BETWEEN 0 AND 255), count INTEGER NOT NULL CHECK (count BETWEEN 0 AND 255), on_ms INTEGER NOT NULL CHECK (on_ms BETWEEN 0 AND 4294967295), off_ms INTEGER NOT NULL CHECK (off_ms BETWEEN 0 AND 4294967295), value INTEGER NOT NULL CHECK (value BETWEEN -2147483648 AND 2147483647), state INTEGER NOT NULL CHECK (state BETWEEN 0 AND 2), status INTEGER NOT NULL CHECK (status BETWEEN 0 AND 127))"
+control_text =
+    codes "CREATE TABLE control (id INTEGER PRIMARY KEY AUTOINCREMENT CHECK (id BETWEEN 1 AND 4611686018427387904), "
+    ++ codes "target INTEGER NOT NULL CHECK (target BETWEEN 0 AND 15), kind INTEGER NOT NULL CHECK (kind BETWEEN 0 AND 2), "
+    ++ codes "point INTEGER NOT NULL CHECK (point BETWEEN 0 AND 65535), code INTEGER NOT NULL CHECK (code BETWEEN 0 AND 255), "
+    ++ codes "count INTEGER NOT NULL CHECK (count BETWEEN 0 AND 255), on_ms INTEGER NOT NULL CHECK (on_ms BETWEEN 0 AND 4294967295), "
+    ++ codes "off_ms INTEGER NOT NULL CHECK (off_ms BETWEEN 0 AND 4294967295), "
+    ++ codes "value INTEGER NOT NULL CHECK (value BETWEEN -2147483648 AND 2147483647), "
+    ++ codes "state INTEGER NOT NULL CHECK (state BETWEEN 0 AND 2), status INTEGER NOT NULL CHECK (status BETWEEN 0 AND 127))"
 
 control_is : (f : List Term) → (command_of (understood (form_schema f) control_text) ≡ CreateTable)
     × (statement_of control_text (understood (form_schema f) control_text) ≡ control_text)

@@ -13,6 +13,19 @@ ghost use Rattle.dnp_store.specs.Tables.{no_schema};
 use crate::queue_tables::make_form;
 use sqlite::{Alter, Connection, Error, Transaction};
 
+/// Puts the number of the form into `form`.
+fn put_number<S: Alter>(tx: &mut Transaction<'_, S>) -> Result<(), Error>
+    requires inside { HasCleanDisk (state S.Store tx.old.conn.now) → IsTrue (state S.Store tx.old.conn.now).in_transaction }
+    ensures same_reference { tx.new.conn.ghost_name ≡ tx.old.conn.ghost_name }
+    ensures inside { HasCleanDisk (state S.Store tx.new.conn.now) → OnOk result (IsTrue (state S.Store tx.new.conn.now).in_transaction) }
+    ensures made { HasCleanDisk (state S.Store tx.new.conn.now) → OnOk result (HasTables (state S.Store tx.old.conn.now).now → IsBook (state S.Store tx.new.conn.now).now empty_ledger) }
+    ensures kept { HasCleanDisk (state S.Store tx.new.conn.now) → KeepsCommit (state S.Store tx.old.conn.now) (state S.Store tx.new.conn.now) }
+    ensures survives { Survives (state S.Store tx.old.conn.now) (state S.Store tx.new.conn.now) (λ _. ⊥) }
+{
+    tx.execute("INSERT INTO form VALUES (1)", &[])?;
+    Ok(())
+}
+
 /// Makes `control`.
 fn make_control<S: Alter>(tx: &mut Transaction<'_, S>) -> Result<(), Error>
     requires inside { HasCleanDisk (state S.Store tx.old.conn.now) → IsTrue (state S.Store tx.old.conn.now).in_transaction }
@@ -26,19 +39,6 @@ fn make_control<S: Alter>(tx: &mut Transaction<'_, S>) -> Result<(), Error>
         "CREATE TABLE control (id INTEGER PRIMARY KEY AUTOINCREMENT CHECK (id BETWEEN 1 AND 4611686018427387904), target INTEGER NOT NULL CHECK (target BETWEEN 0 AND 15), kind INTEGER NOT NULL CHECK (kind BETWEEN 0 AND 2), point INTEGER NOT NULL CHECK (point BETWEEN 0 AND 65535), code INTEGER NOT NULL CHECK (code BETWEEN 0 AND 255), count INTEGER NOT NULL CHECK (count BETWEEN 0 AND 255), on_ms INTEGER NOT NULL CHECK (on_ms BETWEEN 0 AND 4294967295), off_ms INTEGER NOT NULL CHECK (off_ms BETWEEN 0 AND 4294967295), value INTEGER NOT NULL CHECK (value BETWEEN -2147483648 AND 2147483647), state INTEGER NOT NULL CHECK (state BETWEEN 0 AND 2), status INTEGER NOT NULL CHECK (status BETWEEN 0 AND 127))",
         &[],
     )?;
-    Ok(())
-}
-
-/// Puts the number of the form into `form`.
-fn put_number<S: Alter>(tx: &mut Transaction<'_, S>) -> Result<(), Error>
-    requires inside { HasCleanDisk (state S.Store tx.old.conn.now) → IsTrue (state S.Store tx.old.conn.now).in_transaction }
-    ensures same_reference { tx.new.conn.ghost_name ≡ tx.old.conn.ghost_name }
-    ensures inside { HasCleanDisk (state S.Store tx.new.conn.now) → OnOk result (IsTrue (state S.Store tx.new.conn.now).in_transaction) }
-    ensures made { HasCleanDisk (state S.Store tx.new.conn.now) → OnOk result (HasTables (state S.Store tx.old.conn.now).now → IsBook (state S.Store tx.new.conn.now).now empty_ledger) }
-    ensures kept { HasCleanDisk (state S.Store tx.new.conn.now) → KeepsCommit (state S.Store tx.old.conn.now) (state S.Store tx.new.conn.now) }
-    ensures survives { Survives (state S.Store tx.old.conn.now) (state S.Store tx.new.conn.now) (λ _. ⊥) }
-{
-    tx.execute("INSERT INTO form VALUES (1)", &[])?;
     Ok(())
 }
 
