@@ -30,3 +30,4 @@ pub mod BookHolding
 pub mod BookStanding
 pub mod BookPlaces
 pub mod BookTurning
+pub mod BookOpening

@@ -18,7 +18,7 @@ use Rattle.dnp_store.specs.Tables.{or_null, column_of, sequence, form_with}
 use Rattle.dnp_store.specs.QueueTables.{queue_schema, queue_columns, lanes_columns, Queued, queued_row, Figures, no_figures, figures_rows, figures_cells}
 use Rattle.dnp_store.specs.Shown.{ShowsFigures}
 
-and_left : (a b : Bool) → (a && b) ≡ true → a ≡ true
+pub and_left : (a b : Bool) → (a && b) ≡ true → a ≡ true
 and_left true b h = refl
 and_left false b h = absurd cc
 
@@ -26,7 +26,7 @@ and_right : (a b : Bool) → (a && b) ≡ true → b ≡ true
 and_right true b h = h
 and_right false b h = absurd cc
 
-null_is : (v : Value) → is_null v ≡ true → v ≡ Null
+pub null_is : (v : Value) → is_null v ≡ true → v ≡ Null
 null_is Null h = refl
 null_is (Int n) h = absurd cc
 null_is (Real x) h = absurd cc
@@ -41,7 +41,7 @@ abbrev pub IsTyped : Option ℕ → List Column → Row → Type 0
 IsTyped key columns r = are_typed key 0 columns (drop 1 r) ≡ true
 
 -- no row is longer than the table's columns
-at_most : (key : Option ℕ) (at : ℕ) (cs : List Column) (vs : Row) → are_typed key at cs vs ≡ true → length vs ≤ length cs
+pub at_most : (key : Option ℕ) (at : ℕ) (cs : List Column) (vs : Row) → are_typed key at cs vs ≡ true → length vs ≤ length cs
 at_most key at [] [] h = omega arith
 at_most key at [] (v ∷ vs) h = absurd cc
 at_most key at (c ∷ cs) [] h = omega arith

@@ -12,3 +12,4 @@ pub mod Making
 pub mod Shown
 pub mod JournalShown
 pub mod BookMaking
+pub mod BookShown

@@ -5,13 +5,14 @@ ghost use Rattle.sqlite.specs.Held.{state};
 ghost use Rattle.sqlite.specs.State.{HasCleanDisk, Survives};
 ghost use Rattle.dnp_controls.specs.Book.{empty_ledger};
 ghost use Rattle.dnp_store.specs.BookKept.{Leaves, Stands};
-ghost use Rattle.dnp_store.specs.BookTables.{HoldsBook};
+ghost use Rattle.dnp_store.specs.BookTables.{HoldsBook, IsBook};
 ghost use Rattle.dnp_store.specs.Tables.{no_schema};
 
 use crate::book::ControlBook;
+use crate::book_opening::read_book;
 use crate::book_tables::write_tables;
-use crate::fault::{is_lost, is_taken};
-use crate::open::{OpenFault, is_bare, open_fault};
+use crate::fault::{is_lost, is_taken, serves};
+use crate::open::{OpenFault, is_bare, open_fault, unread_fault};
 use sqlite::{Alter, Connection};
 use std::alloc::Global;
 
@@ -50,6 +51,49 @@ impl<S: Alter> ControlBook<S> {
         })
     }
 
+    /// Opens the book that the database holds. Nothing is written, and each row is looked at once.
+    ///
+    /// WrongForm where a table or a column of its is missing; where `form` isn't one row with the number 1;
+    /// where a value isn't a whole number in its column's range, or a field that the entry's kind or state
+    /// doesn't have isn't 0, or an id isn't in 1 to `MAX_ID`; or where the connection is inside a
+    /// transaction. Else Memory or Device. A refusal hands the connection back, with the database as it
+    /// was.
+    pub fn open(
+        alloc: Global,
+        conn: Connection<S>,
+    ) -> Result<ControlBook<S>, (OpenFault, Connection<S>)>
+        ensures held { IfOk result (λ b. HasCleanDisk (state S.Store b.conn) → HasCleanDisk (state S.Store conn)) }
+        ensures serves { IfOk result (λ b. b.stopped ≡ false) }
+        ensures found { IfOk result (λ b. HasCleanDisk (state S.Store b.conn) → IsTrue b.owned → IsBook (state S.Store conn).committed b.ledger) }
+        ensures stands { IfOk result (λ b. HasCleanDisk (state S.Store b.conn) → IsTrue b.owned → Stands (state S.Store b.conn) b.ledger) }
+        ensures same { IfErr result (λ e. HasCleanDisk (state S.Store e.1) → IsTrue (state S.Store e.1).is_open → (state S.Store e.1).committed ≡ (state S.Store conn).committed) }
+        ensures unwritten { IfOk result (λ b. Survives (state S.Store conn) (state S.Store b.conn) (λ _. ⊥)) }
+    {
+        if !conn.is_autocommit() {
+            return Err((OpenFault::WrongForm, conn));
+        }
+        let mut conn = conn;
+        let mut entries = Vec::new(alloc);
+        match read_book(&mut conn, &mut entries) {
+            Ok((found, owned)) => {
+                if !serves(&mut conn) {
+                    return Err((OpenFault::Device, conn));
+                }
+                Ok(ControlBook {
+                    conn,
+                    entries,
+                    last_id: found.last_id,
+                    owned,
+                    stopped: false,
+                })
+            }
+            Err(unread) => {
+                let fault = unread_fault(&mut conn, &unread);
+                Err((fault, conn))
+            }
+        }
+    }
+
     /// The connection to the database, as it stands.
     pub fn into_connection(self) -> Connection<S>
         ensures { result ≡ self.conn }
@@ -66,7 +110,7 @@ impl<S: Alter> ControlBook<S> {
         !self.stopped
     }
 
-    /// Whether the database had no tables but the book's own as it began. Where it had, the book works
+    /// Whether the database had no tables but the book's own as it began or opened. Where it had, the book works
     /// alike, and promises nothing of its entries.
     pub fn owns_database(&self) -> bool
         ensures { result ≡ self.now.owned }

@@ -1,10 +1,13 @@
-//! Event lanes and a journal that outlive a power cut: the stores of DNP3 stations in SQL databases.
+//! Event lanes, a journal and a book of controls that outlive a power cut: stores in SQL databases.
 #![tactic(auto)]
 
 mod book;
 mod book_columns;
+mod book_decoding;
 mod book_entries;
+mod book_form;
 mod book_open;
+mod book_opening;
 mod book_tables;
 mod book_writing;
 mod decoding;

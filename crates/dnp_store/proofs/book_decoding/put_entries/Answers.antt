@@ -1,0 +1,27 @@
+use Rattle.std.proofs.Common.{◌≡◌, ◌+◌, ◌<◌, [], ◌∷◌, ℕ, List, length, length-append, get_or, sym, ap, subst, ◌∙◌}
+use Rattle.std.proofs.lemmas.List.{get_or_default}
+use Rattle.sqlite.specs.Order.{Row}
+use Rattle.dnp_controls.specs.declared.book.Entry.{Entry}
+use Rattle.dnp_store.specs.BookShown.{ShowsEntry, no_entry}
+use Rattle.dnp_store.proofs.Pushing.{pushed_each}
+use Rattle.dnp_store.proofs.book_decoding.put_entries.Goals as goal
+
+pub loop-number-preserved : goal.loop-number-preserved
+loop-number-preserved c =
+    let n = c.loop-number.number in
+    let rows = c.args.rows.now in
+    let before = c.loop-number.entries.items in
+    let did = c.in_ok-put_entry.ensures in
+    let entry = did.0 in
+    let long = c.loop-number.invariant.long in
+    let items = did.2 in
+    let row = c.index-rows-number.result in
+    let low : n < length rows = c.loop-number-test.true in
+    let here : row ≡ get_or rows n [] = c.index-rows-number.is ∙ get_or_default rows n row [] low in
+    let shown : ShowsEntry row entry = did.1 in
+    let shows : ShowsEntry (get_or rows n []) entry = subst (λ (r : Row). ShowsEntry r entry) here shown in
+    record {
+      long = ap length items ∙ length-append before (entry ∷ []) ∙ ap (λ (k : ℕ). k + 1) long;
+      shown = λ k low. subst (λ (xs : List Entry). ShowsEntry (get_or rows k []) (get_or xs k no_entry)) (sym items)
+          (pushed_each (λ (k : ℕ) (e : Entry). ShowsEntry (get_or rows k []) e) before entry no_entry n long c.loop-number.invariant.shown shows k low);
+    }

@@ -1,0 +1,25 @@
+use Rattle.std.proofs.Common.{rules, ◌≡◌, not, IsTrue, arith, sym, ap, subst, ◌∙◌}
+use Rattle.sqlite.specs.State.{HasCleanDisk}
+use Rattle.sqlite.specs.Held.{state}
+use Rattle.sqlite.specs.Effect.{Database, IsDatabase}
+use Rattle.dnp_store.specs.BookShown.{FindsBook}
+use Rattle.dnp_store.proofs.book_opening.read_book.Goals as goal
+
+pub returns-clause-read : goal.returns-clause-read
+returns-clause-read g c clean ours =
+    let old = state g.S.Store c.args.conn.now in
+    let begun = state g.S.Store c.transaction-tx.result.conn.now in
+    let mid = state g.S.Store c.read_all.new.tx.conn.now in
+    let end = state g.S.Store c.rollback.new.self.0 in
+    let same : c.rollback.new.self.0 ≡ c.conn-2-1.given.0 = search rules in
+    let late : HasCleanDisk end = subst (λ h. HasCleanDisk (state g.S.Store h)) (sym same) clean in
+    let early : HasCleanDisk mid = omega (arith, late, c.rollback.ensures.survives.clean) in
+    let parts = c.both-owned.ensures ours in
+    let now_is : begun.now ≡ old.now = ap (λ h. (state g.S.Store h).now) c.transaction-tx.ensures.begun in
+    let open_is : begun.is_open ≡ old.is_open = ap (λ h. (state g.S.Store h).is_open) c.transaction-tx.ensures.begun in
+    let is_open : IsTrue old.is_open = subst IsTrue open_is (c.in_ok-found.ensures.open early) in
+    let idle : IsTrue c.is_autocommit.result = c.is_autocommit.ensures.value ∙ ap not c.requires.idle in
+    let settled : old.now ≡ old.committed = c.is_autocommit.ensures.settled idle is_open in
+    let sound : IsDatabase begun.now = subst IsDatabase (sym now_is) (c.is_of_book-ours.ensures.live is_open).0 in
+    let schema = ap (λ (d : Database). d.schema) now_is ∙ c.is_of_book-ours.ensures.schema parts.0 in
+    subst (λ (d : Database). FindsBook d c.read_all.new.entries.items c.in_ok-found.found.last_id) (now_is ∙ settled) (c.in_ok-found.ensures.read early parts.1 _ _ sound schema)

@@ -1,0 +1,11 @@
+use Rattle.std.proofs.Common.{rules}
+use Rattle.sqlite.specs.Held.{state}
+use Rattle.dnp_store.specs.Shown.{ShowsForm1}
+use Rattle.dnp_store.proofs.BookOpening.{reads_form}
+use Rattle.dnp_store.proofs.book_opening.read_form.Goals as goal
+
+pub returns-in-Some-clause-read : goal.returns-in-Some-clause-read
+returns-in-Some-clause-read g c clean =
+    let shows : ShowsForm1 c.in_ok-rows.rows.items c.in-Some._id = search rules in
+    reads_form (state g.S.Store c.args.tx.now.conn.now) (state g.S.Store c.list.new.tx.conn.now) c.in_ok-rows.rows.items c.in-Some._id
+    (c.in_ok-rows.ensures.shown clean) shows

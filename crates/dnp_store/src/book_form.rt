@@ -1,0 +1,81 @@
+//! Whether a database has the tables of a book.
+
+ghost use Rattle.std.specs.Prelude.{◌≡◌, IsTrue, true, false, [], ◌∷◌, codes, length, take, drop};
+ghost use Rattle.sqlite.specs.Held.{state};
+ghost use Rattle.sqlite.specs.Kind.TheVariants.{Integer};
+ghost use Rattle.sqlite.specs.State.{IsLive};
+ghost use Rattle.dnp_store.specs.BookTables.{book_schema, book_with};
+ghost use Rattle.dnp_store.specs.Tables.{column_of, form_with, sequence, checks_at};
+
+use crate::queue_form::{is_column, is_form, is_plain, is_sequence};
+use sqlite::{Alter, Connection};
+use sqlite_schema::schema::{Column, Kind, Table};
+
+/// Whether the first five of eleven columns are those of `control`.
+fn are_first(columns: &[Column]) -> bool
+    requires { length columns.now ≡ 11 }
+    ensures { IsTrue result → take 5 columns.now ≡ column_of (codes "id") Integer false ∷ column_of (codes "target") Integer true ∷ column_of (codes "kind") Integer true ∷ column_of (codes "point") Integer true ∷ column_of (codes "code") Integer true ∷ [] }
+{
+    is_column(&columns[0], "id", Kind::Integer, false)
+        && is_column(&columns[1], "target", Kind::Integer, true)
+        && is_column(&columns[2], "kind", Kind::Integer, true)
+        && is_column(&columns[3], "point", Kind::Integer, true)
+        && is_column(&columns[4], "code", Kind::Integer, true)
+}
+
+/// Whether the first three of six columns are a block's numbers.
+fn are_block(columns: &[Column]) -> bool
+    requires { length columns.now ≡ 6 }
+    ensures { IsTrue result → take 3 columns.now ≡ column_of (codes "count") Integer true ∷ column_of (codes "on_ms") Integer true ∷ column_of (codes "off_ms") Integer true ∷ [] }
+{
+    is_column(&columns[0], "count", Kind::Integer, true)
+        && is_column(&columns[1], "on_ms", Kind::Integer, true)
+        && is_column(&columns[2], "off_ms", Kind::Integer, true)
+}
+
+/// Whether the last three of six columns are the value, the state and the status.
+fn are_ends(columns: &[Column]) -> bool
+    requires { length columns.now ≡ 6 }
+    ensures { IsTrue result → drop 3 columns.now ≡ column_of (codes "value") Integer true ∷ column_of (codes "state") Integer true ∷ column_of (codes "status") Integer true ∷ [] }
+{
+    is_column(&columns[3], "value", Kind::Integer, true)
+        && is_column(&columns[4], "state", Kind::Integer, true)
+        && is_column(&columns[5], "status", Kind::Integer, true)
+}
+
+/// Whether the last six of eleven columns are those of `control`.
+fn are_last(columns: &[Column]) -> bool
+    requires { length columns.now ≡ 11 }
+    ensures { IsTrue result → drop 5 columns.now ≡ column_of (codes "count") Integer true ∷ column_of (codes "on_ms") Integer true ∷ column_of (codes "off_ms") Integer true ∷ column_of (codes "value") Integer true ∷ column_of (codes "state") Integer true ∷ column_of (codes "status") Integer true ∷ [] }
+{
+    let rest = columns.split_at(5).1;
+    are_block(rest) && are_ends(rest)
+}
+
+/// Whether the table is `control`.
+fn is_control(table: &Table) -> bool
+    ensures { IsTrue result → table.now ≡ book_with table.now.checks }
+{
+    let columns = table.columns.as_slice();
+    columns.len() == 11
+        && are_first(columns)
+        && are_last(columns)
+        && is_plain(table, "control", 1, true, true)
+}
+
+/// Whether the tables are those of a book.
+fn are_tables(tables: &[Table]) -> bool
+    ensures { IsTrue result → tables.now ≡ form_with (checks_at tables.now 0) ∷ book_with (checks_at tables.now 1) ∷ sequence ∷ [] }
+{
+    tables.len() == 3 && is_form(&tables[0]) && is_control(&tables[1]) && is_sequence(&tables[2])
+}
+
+/// Whether the database has the tables of a book, and no others.
+pub(crate) fn is_of_book<S: Alter>(conn: &Connection<S>) -> bool
+    ensures live { IsLive (state S.Store conn.now) }
+    ensures schema { IsTrue result → (state S.Store conn.now).now.schema ≡ book_schema (checks_at (state S.Store conn.now).now.schema.tables 0)
+        (checks_at (state S.Store conn.now).now.schema.tables 1) }
+{
+    let schema = conn.schema();
+    are_tables(schema.tables.as_slice()) && schema.indexes.is_empty() && schema.views.is_empty()
+}

@@ -1,0 +1,138 @@
+//! The entries of a book that a database holds.
+
+ghost use Rattle.std.specs.Prelude.{◌≡◌, ◌≤◌, ℕ, false, IsTrue, OnOk, IfOk, List, [], codes};
+ghost use Rattle.sqlite.specs.Effect.{IsDatabase};
+ghost use Rattle.sqlite.specs.Held.{state};
+ghost use Rattle.sqlite.specs.State.{HasCleanDisk, KeepsCommit, Survives};
+ghost use Rattle.sqlite.specs.Term.{Term};
+ghost use Rattle.dnp_objects.specs.declared.limits.TheConstants as limits;
+ghost use Rattle.dnp_controls.specs.declared.book.Entry.{Entry};
+ghost use Rattle.dnp_controls.specs.Book.{IsSound};
+ghost use Rattle.dnp_store.specs.BookShown.{FindsBook, HoldsEntries, ReadsBook, ShowEntries};
+ghost use Rattle.dnp_store.specs.BookTables.{book_schema};
+ghost use Rattle.dnp_store.specs.QueueTables.{IsForm1};
+ghost use Rattle.dnp_store.specs.Shown.{ShowsCount};
+ghost use Rattle.dnp_store.specs.Tables.{IsCounted};
+
+use crate::book_decoding::{are_in_order, put_entries};
+use crate::book_form::is_of_book;
+use crate::decoding::{form1, last_used};
+use crate::fault::Unread;
+use crate::queue_opening::both;
+use crate::queue_reading::list;
+use dnp_controls::Entry;
+use sqlite::{Alter, Connection, Error, Row, Transaction};
+
+/// What an open finds of a book.
+#[derive(Clone, Copy)]
+pub(crate) struct FoundBook {
+    /// The last id used.
+    pub(crate) last_id: u64,
+    /// Whether `sqlite_sequence` counts for the book alone.
+    pub(crate) counted: bool,
+}
+
+/// Looks whether `form` is one row with the number 1.
+fn read_form<S: Alter>(tx: &mut Transaction<'_, S>) -> Result<(), Unread>
+    requires inside { HasCleanDisk (state S.Store tx.old.conn.now) → IsTrue (state S.Store tx.old.conn.now).in_transaction }
+    ensures same_reference { tx.new.conn.ghost_name ≡ tx.old.conn.ghost_name }
+    ensures inside { HasCleanDisk (state S.Store tx.new.conn.now) → OnOk result (IsTrue (state S.Store tx.new.conn.now).in_transaction) }
+    ensures open { HasCleanDisk (state S.Store tx.new.conn.now) → OnOk result (IsTrue (state S.Store tx.old.conn.now).is_open) }
+    ensures read { HasCleanDisk (state S.Store tx.new.conn.now) → OnOk result (ReadsBook (state S.Store tx.old.conn.now) (state S.Store tx.new.conn.now) (λ db. IsForm1 (db 0))) }
+    ensures kept { HasCleanDisk (state S.Store tx.new.conn.now) → KeepsCommit (state S.Store tx.old.conn.now) (state S.Store tx.new.conn.now) }
+    ensures survives { Survives (state S.Store tx.old.conn.now) (state S.Store tx.new.conn.now) (λ _. ⊥) }
+{
+    let rows = list(tx, "SELECT rowid, number FROM form ORDER BY rowid")?;
+    match form1(&rows) {
+        Some(_id) => Ok(()),
+        None => Err(Unread::Form),
+    }
+}
+
+/// The rows of `sqlite_sequence`: the table and the last id used.
+fn read_counts<S: Alter>(tx: &mut Transaction<'_, S>) -> Result<Vec<Row>, Error>
+    requires inside { HasCleanDisk (state S.Store tx.old.conn.now) → IsTrue (state S.Store tx.old.conn.now).in_transaction }
+    ensures same_reference { tx.new.conn.ghost_name ≡ tx.old.conn.ghost_name }
+    ensures inside { HasCleanDisk (state S.Store tx.new.conn.now) → OnOk result (IsTrue (state S.Store tx.new.conn.now).in_transaction) }
+    ensures open { HasCleanDisk (state S.Store tx.new.conn.now) → OnOk result (IsTrue (state S.Store tx.old.conn.now).is_open) }
+    ensures read { HasCleanDisk (state S.Store tx.new.conn.now) → IfOk result (λ rows. ReadsBook (state S.Store tx.old.conn.now) (state S.Store tx.new.conn.now) (λ db. (n : ℕ) → ShowsCount (codes "control") rows.items n → IsCounted (codes "control") (db 2) n)) }
+    ensures kept { HasCleanDisk (state S.Store tx.new.conn.now) → KeepsCommit (state S.Store tx.old.conn.now) (state S.Store tx.new.conn.now) }
+    ensures survives { Survives (state S.Store tx.old.conn.now) (state S.Store tx.new.conn.now) (λ _. ⊥) }
+{
+    list(
+        tx,
+        "SELECT rowid, name, seq FROM sqlite_sequence ORDER BY rowid",
+    )
+}
+
+/// The rows of `control`, by their ids.
+fn read_controls<S: Alter>(tx: &mut Transaction<'_, S>) -> Result<Vec<Row>, Error>
+    requires inside { HasCleanDisk (state S.Store tx.old.conn.now) → IsTrue (state S.Store tx.old.conn.now).in_transaction }
+    ensures same_reference { tx.new.conn.ghost_name ≡ tx.old.conn.ghost_name }
+    ensures inside { HasCleanDisk (state S.Store tx.new.conn.now) → OnOk result (IsTrue (state S.Store tx.new.conn.now).in_transaction) }
+    ensures open { HasCleanDisk (state S.Store tx.new.conn.now) → OnOk result (IsTrue (state S.Store tx.old.conn.now).is_open) }
+    ensures read { HasCleanDisk (state S.Store tx.new.conn.now) → IfOk result (λ rows. ReadsBook (state S.Store tx.old.conn.now) (state S.Store tx.new.conn.now) (λ db. (entries : List Entry)
+        → ShowEntries rows.items entries → HoldsEntries db entries)) }
+    ensures kept { HasCleanDisk (state S.Store tx.new.conn.now) → KeepsCommit (state S.Store tx.old.conn.now) (state S.Store tx.new.conn.now) }
+    ensures survives { Survives (state S.Store tx.old.conn.now) (state S.Store tx.new.conn.now) (λ _. ⊥) }
+{
+    list(
+        tx,
+        "SELECT id, target, kind, point, code, count, on_ms, off_ms, value, state, status FROM control ORDER BY id",
+    )
+}
+
+/// What the tables hold, where they are a book's. The entries come into a list, which is empty.
+fn read_all<S: Alter>(
+    tx: &mut Transaction<'_, S>,
+    entries: &mut Vec<Entry>,
+) -> Result<FoundBook, Unread>
+    requires inside { HasCleanDisk (state S.Store tx.old.conn.now) → IsTrue (state S.Store tx.old.conn.now).in_transaction }
+    requires empty { entries.old.items ≡ [] }
+    ensures same_reference { tx.new.conn.ghost_name ≡ tx.old.conn.ghost_name }
+    ensures inside { HasCleanDisk (state S.Store tx.new.conn.now) → OnOk result (IsTrue (state S.Store tx.new.conn.now).in_transaction) }
+    ensures open { HasCleanDisk (state S.Store tx.new.conn.now) → OnOk result (IsTrue (state S.Store tx.old.conn.now).is_open) }
+    ensures range { IfOk result (λ found. found.last_id ≤ limits.MAX_ID) }
+    ensures sound { IfOk result (λ found. IsSound (record { entries = entries.new.items; last_id = found.last_id })) }
+    ensures read { HasCleanDisk (state S.Store tx.new.conn.now) → IfOk result (λ found. IsTrue found.counted → (f c : List Term) → IsDatabase (state S.Store tx.old.conn.now).now
+        → (state S.Store tx.old.conn.now).now.schema ≡ book_schema f c → FindsBook (state S.Store tx.old.conn.now).now entries.new.items found.last_id) }
+    ensures kept { HasCleanDisk (state S.Store tx.new.conn.now) → KeepsCommit (state S.Store tx.old.conn.now) (state S.Store tx.new.conn.now) }
+    ensures survives { Survives (state S.Store tx.old.conn.now) (state S.Store tx.new.conn.now) (λ _. ⊥) }
+{
+    read_form(tx)?;
+    let counts = read_counts(tx)?;
+    let rows = read_controls(tx)?;
+    let Some((last_id, counted)) = last_used(&counts, &rows, "control") else {
+        return Err(Unread::Form);
+    };
+    put_entries(entries, &rows)?;
+    if !are_in_order(entries, last_id) {
+        return Err(Unread::Form);
+    }
+    Ok(FoundBook { last_id, counted })
+}
+
+/// What the tables hold, and whether the database has the tables of a book and nothing else. The entries come
+/// into a list, which is empty.
+pub(crate) fn read_book<S: Alter>(
+    conn: &mut Connection<S>,
+    entries: &mut Vec<Entry>,
+) -> Result<(FoundBook, bool), Unread>
+    requires idle { conn.old.in_transaction ≡ false }
+    requires empty { entries.old.items ≡ [] }
+    ensures idle { conn.new.in_transaction ≡ false }
+    ensures range { IfOk result (λ found. found.0.last_id ≤ limits.MAX_ID) }
+    ensures sound { IfOk result (λ found. IsSound (record { entries = entries.new.items; last_id = found.0.last_id })) }
+    ensures read { HasCleanDisk (state S.Store conn.new) → IfOk result (λ found. IsTrue found.1 → FindsBook (state S.Store conn.old).committed entries.new.items found.0.last_id) }
+    ensures same { HasCleanDisk (state S.Store conn.new) → IsTrue (state S.Store conn.new).is_open
+        → IsTrue (state S.Store conn.old).is_open × ((state S.Store conn.new).committed ≡ (state S.Store conn.old).committed) }
+    ensures survives { Survives (state S.Store conn.old) (state S.Store conn.new) (λ _. ⊥) }
+{
+    prove!(conn.is_autocommit());
+    let ours = is_of_book(conn);
+    let mut tx = conn.transaction();
+    let found = read_all(&mut tx, entries)?;
+    tx.rollback();
+    let owned = both(ours, found.counted);
+    Ok((found, owned))
+}
