@@ -81,10 +81,10 @@ impl<S: Alter> ControlBook<S> {
                 }
                 Ok(ControlBook {
                     conn,
-                    entries,
-                    last_id: found.last_id,
-                    owned,
                     stopped: false,
+                    owned,
+                    last_id: found.last_id,
+                    entries,
                 })
             }
             Err(unread) => {
@@ -94,11 +94,12 @@ impl<S: Alter> ControlBook<S> {
         }
     }
 
-    /// The connection to the database, as it stands.
-    pub fn into_connection(self) -> Connection<S>
-        ensures { result ≡ self.conn }
+    /// Whether the database had no tables but the book's own as it began or opened. Where it had, the book works
+    /// alike, and promises nothing of its entries.
+    pub fn owns_database(&self) -> bool
+        ensures { result ≡ self.now.owned }
     {
-        self.conn
+        self.owned
     }
 
     /// Whether the book has not answered Device. If so, whatever a crash at this moment leaves holds the
@@ -110,11 +111,10 @@ impl<S: Alter> ControlBook<S> {
         !self.stopped
     }
 
-    /// Whether the database had no tables but the book's own as it began or opened. Where it had, the book works
-    /// alike, and promises nothing of its entries.
-    pub fn owns_database(&self) -> bool
-        ensures { result ≡ self.now.owned }
+    /// The connection to the database, as it stands.
+    pub fn into_connection(self) -> Connection<S>
+        ensures { result ≡ self.conn }
     {
-        self.owned
+        self.conn
     }
 }
