@@ -6,6 +6,7 @@ use Rattle.std.proofs.lemmas.Bool.{both_ways}
 use Rattle.std.proofs.lemmas.List.{map-append, drop_all}
 use Rattle.std.proofs.lemmas.List.Elements.{All-nil}
 use Rattle.dnp_objects.specs.declared.row.Row.{Row}
+use Rattle.dnp_controls.specs.Panel.{Panel}
 use Rattle.dnp_eventbuf.specs.Buffered.{Buffered, buffered_row}
 use Rattle.dnp_eventbuf.specs.Stock.{arriving}
 use Rattle.dnp_line.specs.Lines.{LineState, cleared_on, delivered_on, repeated_on, lost_on}
@@ -22,7 +23,7 @@ use Rattle.dnp_world.specs.Joined.{Carries, Joined, Follows, point_moves}
 use Rattle.dnp_world.specs.Link.{Link}
 use Rattle.dnp_world.specs.Moves.{LoseDown, Open, lost_down, opened}
 use Rattle.dnp_world.specs.OneLinkEvents.{LinkState, Steps, ComesDown, ComesUp, HappensOn, opening, outstation_gone, outstation_restarted}
-use Rattle.dnp_world.specs.OutstationSeen.{octets_of, Simulates}
+use Rattle.dnp_world.specs.OutstationSeen.{octets_of, ShowOctets, Simulates}
 use Rattle.dnp_world.specs.Standing.{Stands}
 use Rattle.dnp_world.proofs.JoinedChanges.{change_follows}
 use Rattle.dnp_world.proofs.JoinedLaws.{Laws}
@@ -34,16 +35,16 @@ use Rattle.dnp_world.proofs.OutstationSteps.{moves_after, one_move}
 
 -- ---- the front unit of a line
 
-comes_down : {Sink : Type 0} → Laws → (others : List Row) (s new : LinkState Sink) (l : Link) → Stands l → Joined others s l
-    → ComesDown (delivered_on s.down) s new → Follows others [] l new
-comes_down laws others s new l stands j h =
-    came_down laws others s new l (delivered_on s.down) h.port h.given stands j (heard_port _ s.outstation_port h.port [] h.given h.heard)
+comes_down : {Sink : Type 0} → Laws → (panel : Panel) → ShowOctets panel → (others : List Row) (s new : LinkState Sink) (l : Link)
+    → Stands l → Joined others s l → ComesDown panel (delivered_on s.down) s new → Follows others [] l new
+comes_down laws panel shown others s new l stands j h =
+    came_down laws panel shown others s new l (delivered_on s.down) h.port h.given stands j (heard_port _ s.outstation_port h.port [] h.given h.heard)
     (carries_delivered laws.line s.down s.master_port s.outstation_port h.port s.master.is_open j.going_down h.given h.heard j.down) h.came
 
-comes_down_again : {Sink : Type 0} → Laws → (others : List Row) (s new : LinkState Sink) (l : Link) → Stands l → Joined others s l
-    → ComesDown (repeated_on s.down) s new → Follows others [] l new
-comes_down_again laws others s new l stands j h =
-    came_down laws others s new l (repeated_on s.down) h.port h.given stands j (heard_port _ s.outstation_port h.port [] h.given h.heard)
+comes_down_again : {Sink : Type 0} → Laws → (panel : Panel) → ShowOctets panel → (others : List Row) (s new : LinkState Sink) (l : Link)
+    → Stands l → Joined others s l → ComesDown panel (repeated_on s.down) s new → Follows others [] l new
+comes_down_again laws panel shown others s new l stands j h =
+    came_down laws panel shown others s new l (repeated_on s.down) h.port h.given stands j (heard_port _ s.outstation_port h.port [] h.given h.heard)
     (carries_repeated laws.line s.down s.master_port s.outstation_port h.port s.master.is_open j.going_down h.given h.heard j.down) h.came
 
 comes_up : {Sink : Type 0} → Laws → (takes : Sink → List Row → List Row → List Row → Sink → Type 0) (others : List Row)
@@ -172,40 +173,40 @@ opens {Sink = Sink} laws others s new l stands j h =
 
 -- ---- each event
 
-pub event_follows : {Sink : Type 0} → Laws → (takes : Sink → List Row → List Row → List Row → Sink → Type 0) (others : List Row)
-    → (s new : LinkState Sink) (l : Link) (e : LinkEvent)
-    → Stands l → Joined others s l → HappensOn takes s e new
+pub event_follows : {Sink : Type 0} → Laws → (takes : Sink → List Row → List Row → List Row → Sink → Type 0) (panel : Panel)
+    → ShowOctets panel → (others : List Row) (s new : LinkState Sink) (l : Link) (e : LinkEvent)
+    → Stands l → Joined others s l → HappensOn takes panel s e new
     → Follows others (arriving (rows_of s.outstation.core.points (point_moves e))) l new
-event_follows laws takes others s new l event.Open stands j h = opens laws others s new l stands j h
-event_follows laws takes others s new l (event.HangUp end.Master) stands j h = master_goes laws others s new l j h
-event_follows laws takes others s new l (event.HangUp end.Outstation) stands j h = hangs_up laws others s new l j h
-event_follows laws takes others s new l (event.Deliver way.Down) stands j h = comes_down laws others s new l stands j h
-event_follows laws takes others s new l (event.Deliver way.Up) stands j h = comes_up laws takes others s new l stands j h
-event_follows laws takes others s new l (event.Repeat way.Down) stands j h = comes_down_again laws others s new l stands j h
-event_follows laws takes others s new l (event.Repeat way.Up) stands j h = comes_up_again laws takes others s new l stands j h
-event_follows {Sink = Sink} laws takes others s new l (event.Lose way.Down) stands j h =
+event_follows laws takes panel shown others s new l event.Open stands j h = opens laws others s new l stands j h
+event_follows laws takes panel shown others s new l (event.HangUp end.Master) stands j h = master_goes laws others s new l j h
+event_follows laws takes panel shown others s new l (event.HangUp end.Outstation) stands j h = hangs_up laws others s new l j h
+event_follows laws takes panel shown others s new l (event.Deliver way.Down) stands j h = comes_down laws panel shown others s new l stands j h
+event_follows laws takes panel shown others s new l (event.Deliver way.Up) stands j h = comes_up laws takes others s new l stands j h
+event_follows laws takes panel shown others s new l (event.Repeat way.Down) stands j h = comes_down_again laws panel shown others s new l stands j h
+event_follows laws takes panel shown others s new l (event.Repeat way.Up) stands j h = comes_up_again laws takes others s new l stands j h
+event_follows {Sink = Sink} laws takes panel shown others s new l (event.Lose way.Down) stands j h =
     stays_as others l new (record s { down = lost_on s.down }) h
     (with_lines others s l (lost_on s.down) s.up s.now j (carries_lost laws.line s.down s.master_port s.outstation_port s.master.is_open j.going_down j.down) j.up)
-event_follows laws takes others s new l (event.Lose way.Up) stands j h =
+event_follows laws takes panel shown others s new l (event.Lose way.Up) stands j h =
     stays_as others l new (record s { up = lost_on s.up }) h
     (with_lines others s l s.down (lost_on s.up) s.now j j.down
     (carries_lost laws.line s.up s.outstation_port s.master_port s.outstation.core.is_open (map octets_of l.up) j.up))
-event_follows laws takes others s new l (event.Damage way.Down octets) stands j h =
+event_follows laws takes panel shown others s new l (event.Damage way.Down octets) stands j h =
     stays_as others l new (record s { down = h.damaged }) h.is
     (with_lines others s l h.damaged s.up s.now j
     (carries_damaged laws.line s.down h.damaged s.master_port s.outstation_port s.master.is_open j.going_down octets.items h.damages j.down) j.up)
-event_follows laws takes others s new l (event.Damage way.Up octets) stands j h =
+event_follows laws takes panel shown others s new l (event.Damage way.Up octets) stands j h =
     stays_as others l new (record s { up = h.damaged }) h.is
     (with_lines others s l s.down h.damaged s.now j j.down
     (carries_damaged laws.line s.up h.damaged s.outstation_port s.master_port s.outstation.core.is_open (map octets_of l.up) octets.items h.damages j.up))
-event_follows laws takes others s new l (event.Change kind index reading) stands j h =
+event_follows laws takes panel shown others s new l (event.Change kind index reading) stands j h =
     subst (λ rows. Follows others (arriving rows) l new) (sym (append-nil _)) (change_follows laws others s new l kind index reading stands j h)
-event_follows laws takes others s new l (event.Ask task) stands j h = asks_follow laws others s new l task j h
-event_follows laws takes others s new l (event.Pass ms) stands j h =
+event_follows laws takes panel shown others s new l (event.Ask task) stands j h = asks_follow laws others s new l task j h
+event_follows laws takes panel shown others s new l (event.Pass ms) stands j h =
     stays_as others l new _ h (with_lines others s l s.down s.up _ j j.down j.up)
-event_follows laws takes others s new l (event.Tick end.Master) stands j h = tick_follows laws others s new l j h
-event_follows laws takes others s new l (event.Tick end.Outstation) stands j h =
+event_follows laws takes panel shown others s new l (event.Tick end.Master) stands j h = tick_follows laws others s new l j h
+event_follows laws takes panel shown others s new l (event.Tick end.Outstation) stands j h =
     plain_step laws.line others s new l (tick_of s.outstation s.now) (ticked_leaves s.outstation s.now).none (laws.outstation.silent_ticked s.outstation s.now) j
     (laws.outstation.ticks s.outstation s.now l j.outstation stands) h
-event_follows laws takes others s new l (event.Restart end.Master) stands j h = master_goes laws others s new l j h
-event_follows laws takes others s new l (event.Restart end.Outstation) stands j h = restarts laws others s new l j h
+event_follows laws takes panel shown others s new l (event.Restart end.Master) stands j h = master_goes laws others s new l j h
+event_follows laws takes panel shown others s new l (event.Restart end.Outstation) stands j h = restarts laws others s new l j h

@@ -7,7 +7,7 @@ use Rattle.dnp_objects.specs.declared.lane.LaneRow.{LaneRow}
 use Rattle.dnp_objects.specs.declared.row.Kind.{Kind}
 use Rattle.dnp_objects.specs.declared.row.Row.{Row}
 use Rattle.dnp_objects.specs.Lanes.{kind_number}
-use Rattle.dnp_controls.specs.Latches.{no_panel}
+use Rattle.dnp_controls.specs.Panel.{Panel}
 use Rattle.dnp_eventbuf.specs.Stock.{arriving, with_rows, dropped_by}
 use Rattle.dnp_pointdb.specs.Database.{Database, blocks_of, with_blocks, has_index, state_in, checked, made_from, answer_of, changed_of, changed_in, changed_state, updated, updated_in}
 use Rattle.dnp_pointdb.specs.Ranges.{is_carried, is_in_time, is_in_range}
@@ -118,11 +118,11 @@ step_points {Sink = Sink} points s new step leaves h = ap (λ (x : LinkState Sin
 same_points : {Sink : Type 0} (new after : LinkState Sink) → new ≡ after → new.outstation.core.points ≡ after.outstation.core.points
 same_points {Sink = Sink} new after e = ap (λ (x : LinkState Sink). x.outstation.core.points) e
 
-down_points : {Sink : Type 0} → PointLaws → (s new : LinkState Sink) (given : List (List ℕ)) → ComeDown given s new
+down_points : {Sink : Type 0} → PointLaws → (panel : Panel) (s new : LinkState Sink) (given : List (List ℕ)) → ComeDown panel given s new
     → new.outstation.core.points ≡ s.outstation.core.points
-down_points laws s new [] h = same_points new s h
-down_points laws s new (fragment ∷ others) h =
-    step_points s.outstation.core.points s new (connection_after s.outstation no_panel s.now fragment) (received_leaves laws s.outstation no_panel s.now fragment) h
+down_points laws panel s new [] h = same_points new s h
+down_points laws panel s new (fragment ∷ others) h =
+    step_points s.outstation.core.points s new (connection_after s.outstation panel s.now fragment) (received_leaves laws s.outstation panel s.now fragment) h
 
 receives_points : {Sink : Type 0} (takes : Sink → List Row → List Row → List Row → Sink → Type 0) (s new : LinkState Sink)
     → (r : Result Taking MasterFault) → Receives takes r s new
@@ -159,24 +159,24 @@ changes_points s new kind index reading (Ok made) answer h =
     same_points new _ h.1.after ∙ end_points after s.now first refl
 changes_points s new kind index reading (Err fault) answer h = same_points new s h ∙ sym (refused_change s.outstation.core.points kind index reading fault answer)
 
-pub event_points : {Sink : Type 0} → PointLaws → (takes : Sink → List Row → List Row → List Row → Sink → Type 0) (s new : LinkState Sink)
-    → (e : LinkEvent) → HappensOn takes s e new
+pub event_points : {Sink : Type 0} → PointLaws → (takes : Sink → List Row → List Row → List Row → Sink → Type 0) (panel : Panel) (s new : LinkState Sink)
+    → (e : LinkEvent) → HappensOn takes panel s e new
     → new.outstation.core.points ≡ moved_all s.outstation.core.points (point_moves e)
-event_points laws takes s new event.Open h = step_points s.outstation.core.points (opening s) new (opened_of s.outstation s.now) (opened_leaves s.outstation s.now) h
-event_points laws takes s new (event.HangUp end.Master) h = same_points new _ h
-event_points laws takes s new (event.HangUp end.Outstation) h = same_points new _ h
-event_points laws takes s new (event.Deliver way.Down) h = down_points laws _ new h.given h.came
-event_points laws takes s new (event.Deliver way.Up) h = up_points takes _ new h.given h.came
-event_points laws takes s new (event.Repeat way.Down) h = down_points laws _ new h.given h.came
-event_points laws takes s new (event.Repeat way.Up) h = up_points takes _ new h.given h.came
-event_points laws takes s new (event.Lose way.Down) h = same_points new _ h
-event_points laws takes s new (event.Lose way.Up) h = same_points new _ h
-event_points laws takes s new (event.Damage way.Down octets) h = same_points new _ h.is
-event_points laws takes s new (event.Damage way.Up octets) h = same_points new _ h.is
-event_points laws takes s new (event.Change kind index reading) h = changes_points s new kind index reading (answer_of s.outstation.core.points kind index reading) refl h
-event_points laws takes s new (event.Ask task) h = asks_if_points s new task (is_own task) h
-event_points laws takes s new (event.Pass ms) h = same_points new _ h
-event_points laws takes s new (event.Tick end.Master) h = same_points new _ h
-event_points laws takes s new (event.Tick end.Outstation) h = step_points s.outstation.core.points s new (tick_of s.outstation s.now) (ticked_leaves s.outstation s.now) h
-event_points laws takes s new (event.Restart end.Master) h = same_points new _ h
-event_points laws takes s new (event.Restart end.Outstation) h = same_points new _ h
+event_points laws takes panel s new event.Open h = step_points s.outstation.core.points (opening s) new (opened_of s.outstation s.now) (opened_leaves s.outstation s.now) h
+event_points laws takes panel s new (event.HangUp end.Master) h = same_points new _ h
+event_points laws takes panel s new (event.HangUp end.Outstation) h = same_points new _ h
+event_points laws takes panel s new (event.Deliver way.Down) h = down_points laws panel _ new h.given h.came
+event_points laws takes panel s new (event.Deliver way.Up) h = up_points takes _ new h.given h.came
+event_points laws takes panel s new (event.Repeat way.Down) h = down_points laws panel _ new h.given h.came
+event_points laws takes panel s new (event.Repeat way.Up) h = up_points takes _ new h.given h.came
+event_points laws takes panel s new (event.Lose way.Down) h = same_points new _ h
+event_points laws takes panel s new (event.Lose way.Up) h = same_points new _ h
+event_points laws takes panel s new (event.Damage way.Down octets) h = same_points new _ h.is
+event_points laws takes panel s new (event.Damage way.Up octets) h = same_points new _ h.is
+event_points laws takes panel s new (event.Change kind index reading) h = changes_points s new kind index reading (answer_of s.outstation.core.points kind index reading) refl h
+event_points laws takes panel s new (event.Ask task) h = asks_if_points s new task (is_own task) h
+event_points laws takes panel s new (event.Pass ms) h = same_points new _ h
+event_points laws takes panel s new (event.Tick end.Master) h = same_points new _ h
+event_points laws takes panel s new (event.Tick end.Outstation) h = step_points s.outstation.core.points s new (tick_of s.outstation s.now) (ticked_leaves s.outstation s.now) h
+event_points laws takes panel s new (event.Restart end.Master) h = same_points new _ h
+event_points laws takes panel s new (event.Restart end.Outstation) h = same_points new _ h

@@ -8,6 +8,8 @@ use Rattle.std.proofs.lemmas.List.Sorted.{IsPermutation-refl, IsPermutation-tran
 use Rattle.dnp_objects.specs.declared.lane.LaneRow.{LaneRow}
 use Rattle.dnp_objects.specs.declared.command.Command.{Command}
 use Rattle.dnp_objects.specs.declared.row.Row.{Row}
+use Rattle.dnp_controls.specs.Latches.{no_panel}
+use Rattle.dnp_controls.specs.Panel.{Panel}
 use Rattle.dnp_eventbuf.specs.Buffered.{Buffered, buffered_row}
 use Rattle.dnp_eventbuf.specs.Stock.{Stock, arriving, with_rows, dropped_by}
 use Rattle.dnp_line.specs.Flows.{Flows}
@@ -15,7 +17,7 @@ use Rattle.dnp_line.specs.Ways.{new_way}
 use Rattle.dnp_pointdb.specs.Database.{Database, new_database}
 use Rattle.dnp_pointdb.specs.Plan.{Plan}
 use Rattle.dnp_pointdb.specs.declared.times.Times.{Times}
-use Rattle.dnp_pointdb.specs.Runs.{rows_of}
+use Rattle.dnp_pointdb.specs.Runs.{Move, rows_of}
 use Rattle.dnp_outstation.specs.State as outstation
 use Rattle.dnp_outstation.specs.Station.{new_core}
 use Rattle.dnp_outstation.specs.State.{Step, nothing}
@@ -26,7 +28,7 @@ use Rattle.dnp_world.specs.Joined.{Carries, Joined, Follows, point_moves, rows_m
 use Rattle.dnp_world.specs.Link.{Link}
 use Rattle.dnp_world.specs.Lanes.{fresh_link}
 use Rattle.dnp_world.specs.OneLinkEvents.{LinkState, HappensOn, RunsTo, CountsFor, StopsAt, StopsAfter}
-use Rattle.dnp_world.specs.OutstationSeen.{octets_of, Shows, Simulates}
+use Rattle.dnp_world.specs.OutstationSeen.{octets_of, ShowOctets, Shows, Simulates}
 use Rattle.dnp_world.specs.Standing.{Stands}
 use Rattle.dnp_world.proofs.JoinedEvents.{event_follows, with_sink}
 use Rattle.dnp_world.proofs.JoinedHappenings.{made_behind, event_points}
@@ -46,32 +48,39 @@ follows_both others first second l next new f g = record {
   stood = g.stood ∙ ap (λ (xs : List Row). xs ++ second) f.stood ∙ append_assoc (map buffered_row l.stood) first second;
 }
 
+-- no outputs show no octets
+no_octets : ShowOctets no_panel
+no_octets = record { outputs = omega arith; status = λ index low. omega arith }
+
 pub run_follows : {Sink : Type 0} → Laws → (takes : Sink → List Row → List Row → List Row → Sink → Type 0) (others : List Row)
     → (s new : LinkState Sink) (l : Link) (events : List LinkEvent)
     → Stands l → Joined others s l → RunsTo takes s events new → Follows others (rows_made_by s.outstation.core.points events) l new
 run_follows laws takes others s new l [] stands j h = stays_as others l new s h j
 run_follows laws takes others s new l (e ∷ events) stands j (next, first, later) =
-    let f : Follows others (arriving (rows_of s.outstation.core.points (point_moves e))) l next = event_follows laws takes others s next l e stands j first in
+    let f : Follows others (arriving (rows_of s.outstation.core.points (point_moves e))) l next = event_follows laws takes no_panel no_octets others s next l e stands j first in
     let g : Follows others (rows_made_by next.outstation.core.points events) f.link new =
     run_follows laws takes others next new f.link events (moves_stand l f.link f.moves stands) f.joined later in
     let rows : arriving (rows_of s.outstation.core.points (point_moves e)) ++ rows_made_by next.outstation.core.points events ≡ rows_made_by s.outstation.core.points (e ∷ events) =
-    ap (λ (d : Database). arriving (rows_of s.outstation.core.points (point_moves e)) ++ rows_made_by d events) (event_points laws.points takes s next e first)
+    ap (λ (d : Database). arriving (rows_of s.outstation.core.points (point_moves e)) ++ rows_made_by d events) (event_points laws.points takes no_panel s next e first)
     ∙ made_behind s.outstation.core.points e events in
     subst (λ (rows : List Row). Follows others rows l new) rows
     (follows_both others (arriving (rows_of s.outstation.core.points (point_moves e))) (rows_made_by next.outstation.core.points events) l next new f g)
 
-pub one_follows : {Sink : Type 0} → Laws → (takes : Sink → List Row → List Row → List Row → Sink → Type 0) (others : List Row)
-    → (s new : LinkState Sink) (l : Link) (e : LinkEvent)
-    → Stands l → Joined others s l → HappensOn takes s e new → Follows others (rows_made_by s.outstation.core.points (e ∷ [])) l new
-one_follows laws takes others s new l e stands j h = run_follows laws takes others s new l (e ∷ []) stands j (new, h, refl)
+-- one event, whatever the outputs
+pub one_follows : {Sink : Type 0} → Laws → (takes : Sink → List Row → List Row → List Row → Sink → Type 0) (panel : Panel) → ShowOctets panel
+    → (others : List Row) (s new : LinkState Sink) (l : Link) (e : LinkEvent)
+    → Stands l → Joined others s l → HappensOn takes panel s e new → Follows others (rows_made_by s.outstation.core.points (e ∷ [])) l new
+one_follows laws takes panel shown others s new l e stands j h =
+    subst (λ (moves : List Move). Follows others (arriving (rows_of s.outstation.core.points moves)) l new) (sym (append-nil (point_moves e)))
+    (event_follows laws takes panel shown others s new l e stands j h)
 
 -- ---- a list that stops
 
 counts_follows : {Sink : Type 0} → Laws → (takes : Sink → List Row → List Row → List Row → Sink → Type 0) (others : List Row)
     → (s new : LinkState Sink) (l : Link) (e : LinkEvent)
     → Stands l → Joined others s l → CountsFor takes s e new → Follows others [] l new
-counts_follows laws takes others s new l (event.Deliver way.Down) stands j h = event_follows laws takes others s new l (event.Lose way.Down) stands j h
-counts_follows laws takes others s new l (event.Deliver way.Up) stands j h = event_follows laws takes others s new l (event.Lose way.Up) stands j h
+counts_follows laws takes others s new l (event.Deliver way.Down) stands j h = event_follows laws takes no_panel no_octets others s new l (event.Lose way.Down) stands j h
+counts_follows laws takes others s new l (event.Deliver way.Up) stands j h = event_follows laws takes no_panel no_octets others s new l (event.Lose way.Up) stands j h
 counts_follows laws takes others s new l event.Open stands j h = stays_as others l new s h j
 counts_follows laws takes others s new l (event.HangUp end) stands j h = stays_as others l new s h j
 counts_follows laws takes others s new l (event.Repeat way) stands j h = stays_as others l new s h j

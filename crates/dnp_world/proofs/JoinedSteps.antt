@@ -1,5 +1,5 @@
 -- The steps of an outstation, over a link of real stations.
-use Rattle.std.proofs.Common.{◌≡◌, ℕ, suc, zero, ◌<◌, ◌^◌, Bool, false, List, [], ◌∷◌, ◌++◌, drop, map, Some, refl, sym, ap, ◌∙◌, subst, append_assoc, append-nil, arith}
+use Rattle.std.proofs.Common.{◌≡◌, ℕ, suc, zero, ◌<◌, ◌^◌, Bool, false, List, [], ◌∷◌, ◌++◌, drop, map, Some, refl, sym, ap, ◌∙◌, subst, append_assoc, append-nil}
 use Rattle.std.specs.Prelude.{slice_get}
 use Rattle.std.specs.List.{All}
 use Rattle.std.specs.List.Sorted.{IsPermutation}
@@ -8,7 +8,7 @@ use Rattle.std.proofs.lemmas.List.Elements.{All-drop, All-head}
 use Rattle.std.proofs.lemmas.List.Sorted.{IsPermutation-trans, IsPermutation-append_left, IsPermutation-append_right, IsPermutation-append_comm}
 use Rattle.std.proofs.lemmas.Option.{none-some, same_Some}
 use Rattle.dnp_objects.specs.declared.row.Row.{Row}
-use Rattle.dnp_controls.specs.Latches.{no_panel}
+use Rattle.dnp_controls.specs.Panel.{Panel}
 use Rattle.dnp_eventbuf.specs.Buffered.{Buffered, buffered_row}
 use Rattle.dnp_line.specs.Flows.{MayGive, Nothing, One}
 use Rattle.dnp_line.specs.Lines.{LineState}
@@ -144,10 +144,6 @@ left_at zero (y ∷ xs) x e = let same : y ≡ x = same_Some y x e in ap (λ z. 
 left_at (suc n) [] x e = absurd (none-some x e)
 left_at (suc n) (y ∷ xs) x e = left_at n xs x e
 
--- no outputs show no octets
-no_octets : ShowOctets no_panel
-no_octets = record { outputs = omega arith; status = λ index low. omega arith }
-
 -- a closed outstation does nothing
 still_sends : (s : outstation.State) (step : Step) → step ≡ still s → step.does.send ≡ []
 still_sends s step e = ap (λ (x : Step). x.does.send) e
@@ -166,22 +162,22 @@ plain_step line others s new l step none quiet j sim steps =
     (beside_of others s l j) sim steps
 
 -- what the port gives comes to the outstation
-come_down : {Sink : Type 0} → Laws → (others : List Row) (s new : LinkState Sink) (l : Link) (fragment : List ℕ) (rest : List Down)
-    → Stands l → Joined others s l
+come_down : {Sink : Type 0} → Laws → (panel : Panel) → ShowOctets panel → (others : List Row) (s new : LinkState Sink) (l : Link)
+    → (fragment : List ℕ) (rest : List Down) → Stands l → Joined others s l
     → All (λ octet. octet < 2 ^ 8) fragment → l.down ≡ down_of fragment ∷ rest
-    → Steps (connection_after s.outstation no_panel s.now fragment) s new → Follows others [] l new
-come_down laws others s new l fragment rest stands j small down_is steps =
-    plain_step laws.line others s new l (connection_after s.outstation no_panel s.now fragment)
-    (received_leaves laws.points s.outstation no_panel s.now fragment).none
-    (laws.outstation.silent_received s.outstation no_panel s.now fragment) j
-    (laws.outstation.comes s.outstation no_panel s.now fragment l rest no_octets small j.outstation stands down_is) steps
+    → Steps (connection_after s.outstation panel s.now fragment) s new → Follows others [] l new
+come_down laws panel shown others s new l fragment rest stands j small down_is steps =
+    plain_step laws.line others s new l (connection_after s.outstation panel s.now fragment)
+    (received_leaves laws.points s.outstation panel s.now fragment).none
+    (laws.outstation.silent_received s.outstation panel s.now fragment) j
+    (laws.outstation.comes s.outstation panel s.now fragment l rest shown small j.outstation stands down_is) steps
 
-pub came_down : {Sink : Type 0} → Laws → (others : List Row) (s new : LinkState Sink) (l : Link) (line : LineState) (port : PortState)
+pub came_down : {Sink : Type 0} → Laws → (panel : Panel) → ShowOctets panel → (others : List Row) (s new : LinkState Sink) (l : Link) (line : LineState) (port : PortState)
     → (given : List (List ℕ))
     → Stands l → (j : Joined others s l) → IsSamePort s.outstation_port port
     → Came line s.master_port port s.master.is_open j.going_down given
-    → ComeDown given (record s { down = line; outstation_port = port }) new → Follows others [] l new
-came_down {Sink = Sink} laws others s new l line port given stands j same came h = by came.gives
+    → ComeDown panel given (record s { down = line; outstation_port = port }) new → Follows others [] l new
+came_down {Sink = Sink} laws panel shown others s new l line port given stands j same came h = by came.gives
   where
     base : LinkState Sink
     base = record s { down = line; outstation_port = port }
@@ -192,7 +188,7 @@ came_down {Sink = Sink} laws others s new l line port given stands j same came h
     by : MayGive j.going_down [] came.left given → Follows others [] l new
     by (Nothing left_is none) =
         stays others l new
-        (subst (λ (x : LinkState Sink). Joined others x l) (sym (subst (λ (fs : List (List ℕ)). ComeDown fs base new) none h))
+        (subst (λ (x : LinkState Sink). Joined others x l) (sym (subst (λ (fs : List (List ℕ)). ComeDown panel fs base new) none h))
         (record {
           outstation = j.outstation;
           master = j.master;
@@ -229,6 +225,6 @@ came_down {Sink = Sink} laws others s new l line port given stands j same came h
         let head : first.down ≡ down_of fragment ∷ map down_of (drop (suc n) j.going_down) =
         ap (drop n) j.down_is ∙ drop-map down_of n j.going_down ∙ ap (map down_of) there in
         moves_before others [] l first new (one_move l first (LoseDown n refl)) refl
-        (come_down laws others base new first fragment (map down_of (drop (suc n) j.going_down)) stands_first joined
+        (come_down laws panel shown others base new first fragment (map down_of (drop (suc n) j.going_down)) stands_first joined
         (All-head (All (λ octet. octet < 2 ^ 8)) fragment (drop (suc n) j.going_down) small) head
-        (subst (λ (fs : List (List ℕ)). ComeDown fs base new) one h))
+        (subst (λ (fs : List (List ℕ)). ComeDown panel fs base new) one h))

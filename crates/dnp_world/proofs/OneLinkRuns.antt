@@ -3,6 +3,7 @@ use Rattle.std.proofs.Common.{◌≡◌, ℕ, zero, suc, ◌+◌, ◌<◌, ◌�
 use Rattle.std.specs.Prelude.{OnErr, slice_get}
 use Rattle.std.proofs.lemmas.List.{take_all}
 use Rattle.dnp_objects.specs.declared.row.Row.{Row}
+use Rattle.dnp_controls.specs.Latches.{no_panel}
 use Rattle.dnp_world.specs.declared.link_event.LinkEvent.{LinkEvent}
 use Rattle.dnp_world.specs.OneLinkEvents.{LinkState, HappensOn, RunsTo, CountsFor, StopsAt, StopsAfter, may_stop}
 
@@ -22,9 +23,9 @@ stopped_at {S} takes keeps itself old new event its is counts =
 -- ---- a list
 
 runs_more : {S : Type 0} (takes : S → List Row → List Row → List Row → S → Type 0) (old mid new : LinkState S) (events : List LinkEvent) (event : LinkEvent)
-    → RunsTo takes old events mid → HappensOn takes mid event new → RunsTo takes old (events ++ event ∷ []) new
+    → RunsTo takes old events mid → HappensOn takes no_panel mid event new → RunsTo takes old (events ++ event ∷ []) new
 runs_more takes old mid new [] event ran h =
-    (new, subst (λ (x : LinkState _). HappensOn takes x event new) ran h, refl)
+    (new, subst (λ (x : LinkState _). HappensOn takes no_panel x event new) ran h, refl)
 runs_more takes old mid new (first ∷ events) event ran h =
     (ran.0, ran.1, runs_more takes ran.0 mid new events event ran.2 h)
 
@@ -35,7 +36,7 @@ take_more (x ∷ xs) (suc k) d low = ap (λ (ys : List _). x ∷ ys) (take_more 
 
 -- one event more was done
 pub one_done : {S : Type 0} (takes : S → List Row → List Row → List Row → S → Type 0) (old mid new : LinkState S) (events : List LinkEvent) (k : ℕ)
-    (event : LinkEvent) → k < length events → event ≡ get_or events k event → RunsTo takes old (take k events) mid → HappensOn takes mid event new
+    (event : LinkEvent) → k < length events → event ≡ get_or events k event → RunsTo takes old (take k events) mid → HappensOn takes no_panel mid event new
     → RunsTo takes old (take (k + 1) events) new
 one_done takes old mid new events k event low is ran h =
     let next : k + 1 ≡ suc k = omega arith in

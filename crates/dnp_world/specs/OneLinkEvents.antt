@@ -8,6 +8,7 @@ use Rattle.dnp_pointdb.specs.declared.reading.Reading.{Reading}
 use Rattle.dnp_pointdb.specs.declared.fault.ChangeFault.{ChangeFault}
 use Rattle.dnp_pointdb.specs.Database.{answer_of}
 use Rattle.dnp_controls.specs.Latches.{no_panel}
+use Rattle.dnp_controls.specs.Panel.{Panel}
 use Rattle.dnp_eventbuf.specs.Stock.{exhausts}
 use Rattle.dnp_transport.specs.Cuts.{cut_count, cuts}
 use Rattle.dnp_transport.specs.declared.limits.TheConstants.{MAX_FRAGMENT}
@@ -76,10 +77,10 @@ pub record Steps {Sink : Type 0} (step : Step) (old new : LinkState Sink) : Type
     released = old.released ++ step.does.discarded;
   }
 
--- these fragments, one or none, come to the outstation
-abbrev pub ComeDown : {Sink : Type 0} → List (List ℕ) → LinkState Sink → LinkState Sink → Type 0
-ComeDown [] old new = new ≡ old
-ComeDown (fragment ∷ others) old new = Steps (connection_after old.outstation no_panel old.now fragment) old new
+-- these fragments, one or none, come to the outstation, whose outputs are these
+abbrev pub ComeDown : {Sink : Type 0} → Panel → List (List ℕ) → LinkState Sink → LinkState Sink → Type 0
+ComeDown panel [] old new = new ≡ old
+ComeDown panel (fragment ∷ others) old new = Steps (connection_after old.outstation panel old.now fragment) old new
 
 -- ---- the master's calls
 
@@ -111,11 +112,11 @@ ComeUp takes (fragment ∷ others) old new = Receives takes (receive_of old.mast
 -- ---- the front unit of a line
 
 -- it comes to the port, which gives these fragments, one or none; the line is left so
-pub record ComesDown {Sink : Type 0} (line : LineState) (old new : LinkState Sink) : Type 0 where
+pub record ComesDown {Sink : Type 0} (panel : Panel) (line : LineState) (old new : LinkState Sink) : Type 0 where
   pub port : PortState
   pub given : List (List ℕ)
   pub heard : HearsIfAny (front_of old.down) old.outstation_port port [] given
-  pub came : ComeDown given (record old { down = line; outstation_port = port }) new
+  pub came : ComeDown panel given (record old { down = line; outstation_port = port }) new
 
 pub record ComesUp {Sink : Type 0} (takes : Sink → List Row → List Row → List Row → Sink → Type 0) (line : LineState)
     (old new : LinkState Sink) : Type 0 where
@@ -193,41 +194,42 @@ AsksIfOwn false task old new = new ≡ old
 
 -- ---- the events
 
--- the event makes `new` of `old`, where `takes` says what an append makes of the sink
-abbrev pub HappensOn : {Sink : Type 0} → (Sink → List Row → List Row → List Row → Sink → Type 0)
+-- the event makes `new` of `old`, where `takes` says what an append makes of the sink, and `panel` what the outstation's
+-- outputs are before it
+abbrev pub HappensOn : {Sink : Type 0} → (Sink → List Row → List Row → List Row → Sink → Type 0) → Panel
     → LinkState Sink → LinkEvent → LinkState Sink → Type 0
-HappensOn takes old event.Open new = Steps (opened_of old.outstation old.now) (opening old) new
-HappensOn takes old (event.HangUp end.Master) new = new ≡ master_gone old
-HappensOn takes old (event.HangUp end.Outstation) new = new ≡ outstation_gone old
-HappensOn takes old (event.Deliver way.Down) new = ComesDown (delivered_on old.down) old new
-HappensOn takes old (event.Deliver way.Up) new = ComesUp takes (delivered_on old.up) old new
-HappensOn takes old (event.Repeat way.Down) new = ComesDown (repeated_on old.down) old new
-HappensOn takes old (event.Repeat way.Up) new = ComesUp takes (repeated_on old.up) old new
-HappensOn takes old (event.Lose way.Down) new = new ≡ record old { down = lost_on old.down }
-HappensOn takes old (event.Lose way.Up) new = new ≡ record old { up = lost_on old.up }
-HappensOn takes old (event.Damage way.Down octets) new = IsDamaged octets.items old.down (λ line. record old { down = line }) new
-HappensOn takes old (event.Damage way.Up octets) new = IsDamaged octets.items old.up (λ line. record old { up = line }) new
-HappensOn takes old (event.Change kind index reading) new =
+HappensOn takes panel old event.Open new = Steps (opened_of old.outstation old.now) (opening old) new
+HappensOn takes panel old (event.HangUp end.Master) new = new ≡ master_gone old
+HappensOn takes panel old (event.HangUp end.Outstation) new = new ≡ outstation_gone old
+HappensOn takes panel old (event.Deliver way.Down) new = ComesDown panel (delivered_on old.down) old new
+HappensOn takes panel old (event.Deliver way.Up) new = ComesUp takes (delivered_on old.up) old new
+HappensOn takes panel old (event.Repeat way.Down) new = ComesDown panel (repeated_on old.down) old new
+HappensOn takes panel old (event.Repeat way.Up) new = ComesUp takes (repeated_on old.up) old new
+HappensOn takes panel old (event.Lose way.Down) new = new ≡ record old { down = lost_on old.down }
+HappensOn takes panel old (event.Lose way.Up) new = new ≡ record old { up = lost_on old.up }
+HappensOn takes panel old (event.Damage way.Down octets) new = IsDamaged octets.items old.down (λ line. record old { down = line }) new
+HappensOn takes panel old (event.Damage way.Up octets) new = IsDamaged octets.items old.up (λ line. record old { up = line }) new
+HappensOn takes panel old (event.Change kind index reading) new =
     Changes (answer_of old.outstation.core.points kind index reading) kind index reading old new
-HappensOn takes old (event.Ask task) new = AsksIfOwn (is_own task) task old new
-HappensOn takes old (event.Pass ms) new = new ≡ record old { now = min (old.now + ms) (2 ^ 64 - 1) }
-HappensOn takes old (event.Tick end.Master) new = new ≡ record old { master = master.ticked old.master old.now }
-HappensOn takes old (event.Tick end.Outstation) new = Steps (tick_of old.outstation old.now) old new
-HappensOn takes old (event.Restart end.Master) new = new ≡ master_gone old
-HappensOn takes old (event.Restart end.Outstation) new = new ≡ outstation_restarted old
+HappensOn takes panel old (event.Ask task) new = AsksIfOwn (is_own task) task old new
+HappensOn takes panel old (event.Pass ms) new = new ≡ record old { now = min (old.now + ms) (2 ^ 64 - 1) }
+HappensOn takes panel old (event.Tick end.Master) new = new ≡ record old { master = master.ticked old.master old.now }
+HappensOn takes panel old (event.Tick end.Outstation) new = Steps (tick_of old.outstation old.now) old new
+HappensOn takes panel old (event.Restart end.Master) new = new ≡ master_gone old
+HappensOn takes panel old (event.Restart end.Outstation) new = new ≡ outstation_restarted old
 
 -- ---- lists of events
 
--- they happen one after the other
+-- they happen one after the other, on a link whose outstation has no outputs
 abbrev pub RunsTo : {Sink : Type 0} → (Sink → List Row → List Row → List Row → Sink → Type 0)
     → LinkState Sink → List LinkEvent → LinkState Sink → Type 0
 RunsTo takes old [] new = new ≡ old
-RunsTo takes old (event ∷ events) new = (next : LinkState _) × HappensOn takes old event next × RunsTo takes next events new
+RunsTo takes old (event ∷ events) new = (next : LinkState _) × HappensOn takes no_panel old event next × RunsTo takes next events new
 
 -- an event at which a list stops is lost if it is a delivery, and else left out
 abbrev pub CountsFor : {Sink : Type 0} → (Sink → List Row → List Row → List Row → Sink → Type 0)
     → LinkState Sink → LinkEvent → LinkState Sink → Type 0
-CountsFor takes old (event.Deliver way) new = HappensOn takes old (event.Lose way) new
+CountsFor takes old (event.Deliver way) new = HappensOn takes no_panel old (event.Lose way) new
 CountsFor takes old event new = new ≡ old
 
 -- nothing has changed; the sink, which may have refused, holds what it did

@@ -10,6 +10,7 @@ ghost use Rattle.std.specs.List.Sorted.{IsPermutation};
 ghost use Rattle.dnp_objects.specs.declared.command.Command.{Command};
 ghost use Rattle.dnp_objects.specs.declared.lane.LaneRow.{LaneRow};
 ghost use Rattle.dnp_objects.specs.declared.row.Row.{Row};
+ghost use Rattle.dnp_controls.specs.Panel.{Panel};
 ghost use Rattle.dnp_eventbuf.specs.Carried.{IsCarried};
 ghost use Rattle.dnp_eventbuf.specs.Sound.{IsSound};
 ghost use Rattle.dnp_eventbuf.specs.Stock.{Stock, arriving, dropped_by, exhausts};
@@ -23,6 +24,7 @@ ghost use Rattle.dnp_world.specs.Joined.{Joined, Follows, IsJoined, KeepsLaw, St
 ghost use Rattle.dnp_world.specs.Joined.{with_others_rows, rows_made_by, stood_in};
 ghost use Rattle.dnp_world.specs.Link.{Link};
 ghost use Rattle.dnp_world.specs.OneLinkEvents.{LinkState, HappensOn, RunsTo, StopsAt, StopsAfter};
+ghost use Rattle.dnp_world.specs.OutstationSeen.{ShowOctets};
 ghost use Rattle.dnp_world.specs.Standing.{Stands};
 
 use crate::laws::{lanes_are_moved, link_law};
@@ -42,11 +44,12 @@ use dnp_outstation::link_laws::{
 };
 use dnp_pointdb::laws::a_change_makes_what_its_lane_takes;
 
-/// Each event of a link is some moves of the link of its law, and so is a list of them, also one that stops. The rows
+/// Each event of a link is some moves of the link of its law, whatever its outputs show, and so is a list of them, also
+/// one that stops, where there are no outputs. The rows
 /// that come to the lanes meanwhile are those that the changes of the list make of the points.
 pub fn events_are_moves<S: Sink>()
-    ensures event { (others : List Row) (s new : LinkState S) (event : LinkEvent) (l : Link) → Stands l
-        → Joined others s l → HappensOn S.takes s event new
+    ensures event { (panel : Panel) (others : List Row) (s new : LinkState S) (event : LinkEvent) (l : Link) → ShowOctets panel
+        → Stands l → Joined others s l → HappensOn S.takes panel s event new
         → Follows others (rows_made_by s.outstation.core.points (event ∷ [])) l new }
     ensures stopped { (others : List Row) (s new : LinkState S) (event : LinkEvent) (l : Link) → Stands l
         → Joined others s l → StopsAt S.takes S.keeps s event new → Follows others [] l new }

@@ -4,6 +4,7 @@ ghost use Rattle.std.specs.Prelude.{◌≡◌, true, All, Contains, IfErr, IfOk,
 ghost use Rattle.std.specs.Borrow.{Lends, sem};
 ghost use Rattle.dnp_objects.specs.Counts.{IsCoveredBy};
 ghost use Rattle.dnp_objects.specs.declared.row.Row.{Row as RowValue};
+ghost use Rattle.dnp_controls.specs.Latches.{no_panel};
 ghost use Rattle.dnp_eventbuf.specs.Sound.{IsSound};
 ghost use Rattle.dnp_outstation.specs.Said.{HaveIndexes};
 ghost use Rattle.dnp_world.specs.Joined.{IsJoined, StoodGrows, rows_made_by, stood_in};
@@ -132,7 +133,7 @@ impl<L: Lanes, S: Sink> OneLink<L, S> {
         ensures held { L.honest (lanes_of self.new) → L.honest (lanes_of self.old) }
         ensures sink_held { S.honest (sink_of self.new) → S.honest (sink_of self.old) }
         ensures done { L.honest (lanes_of self.new) → S.honest (sink_of self.new)
-            → OnOk result (HappensOn S.takes (link_of L.contents self.old) event.now (link_of L.contents self.new)) }
+            → OnOk result (HappensOn S.takes no_panel (link_of L.contents self.old) event.now (link_of L.contents self.new)) }
         ensures stopped { L.honest (lanes_of self.new) → S.honest (sink_of self.new)
             → OnErr result (StopsAt S.takes S.keeps (link_of L.contents self.old) event.now (link_of L.contents self.new)) }
         ensures named { OnErr result (may_stop event.now ≡ true) }

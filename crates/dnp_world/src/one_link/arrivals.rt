@@ -98,7 +98,7 @@ impl<L: Lanes, S: Sink> OneLink<L, S> {
     fn come_down(&mut self, alloc: Global) -> Result<(), Cause>
         ensures held { L.honest (lanes_of self.new) → L.honest (lanes_of self.old) }
         ensures sink { sink_of self.new ≡ sink_of self.old }
-        ensures done { L.honest (lanes_of self.new) → OnOk result (ComesDown (link_of L.contents self.old).down (link_of L.contents self.old) (link_of L.contents self.new)) }
+        ensures done { L.honest (lanes_of self.new) → OnOk result (ComesDown no_panel (link_of L.contents self.old).down (link_of L.contents self.old) (link_of L.contents self.new)) }
         ensures stopped { L.honest (lanes_of self.new) → OnErr result (link_of L.contents self.new ≡ link_of L.contents self.old) }
     {
         let kept = self.outstation_port.copy();
@@ -142,7 +142,7 @@ impl<L: Lanes, S: Sink> OneLink<L, S> {
     pub(crate) fn deliver_down(&mut self, alloc: Global) -> Result<(), Cause>
         ensures held { L.honest (lanes_of self.new) → L.honest (lanes_of self.old) }
         ensures sink { sink_of self.new ≡ sink_of self.old }
-        ensures done { L.honest (lanes_of self.new) → OnOk result (HappensOn S.takes (link_of L.contents self.old) (event.Deliver way.Down) (link_of L.contents self.new)) }
+        ensures done { L.honest (lanes_of self.new) → OnOk result (HappensOn S.takes no_panel (link_of L.contents self.old) (event.Deliver way.Down) (link_of L.contents self.new)) }
         ensures stopped { L.honest (lanes_of self.new) → OnErr result (StopsAt S.takes S.keeps (link_of L.contents self.old) (event.Deliver way.Down) (link_of L.contents self.new)) }
     {
         if let Err(cause) = self.come_down(alloc) {
@@ -157,7 +157,7 @@ impl<L: Lanes, S: Sink> OneLink<L, S> {
     pub(crate) fn deliver_up(&mut self, alloc: Global) -> Result<(), Cause>
         ensures lanes { lanes_of self.new ≡ lanes_of self.old }
         ensures sink_held { S.honest (sink_of self.new) → S.honest (sink_of self.old) }
-        ensures done { S.honest (sink_of self.new) → OnOk result (HappensOn S.takes (link_of L.contents self.old) (event.Deliver way.Up) (link_of L.contents self.new)) }
+        ensures done { S.honest (sink_of self.new) → OnOk result (HappensOn S.takes no_panel (link_of L.contents self.old) (event.Deliver way.Up) (link_of L.contents self.new)) }
         ensures stopped { S.honest (sink_of self.new) → OnErr result (StopsAt S.takes S.keeps (link_of L.contents self.old) (event.Deliver way.Up) (link_of L.contents self.new)) }
     {
         if let Err(cause) = self.come_up(alloc) {
@@ -172,7 +172,7 @@ impl<L: Lanes, S: Sink> OneLink<L, S> {
     pub(crate) fn repeat_down(&mut self, alloc: Global) -> Result<(), Cause>
         ensures held { L.honest (lanes_of self.new) → L.honest (lanes_of self.old) }
         ensures sink { sink_of self.new ≡ sink_of self.old }
-        ensures done { L.honest (lanes_of self.new) → OnOk result (HappensOn S.takes (link_of L.contents self.old) (event.Repeat way.Down) (link_of L.contents self.new)) }
+        ensures done { L.honest (lanes_of self.new) → OnOk result (HappensOn S.takes no_panel (link_of L.contents self.old) (event.Repeat way.Down) (link_of L.contents self.new)) }
         ensures stopped { L.honest (lanes_of self.new) → OnErr result (StopsAt S.takes S.keeps (link_of L.contents self.old) (event.Repeat way.Down) (link_of L.contents self.new)) }
     {
         self.come_down(alloc)?;
@@ -184,7 +184,7 @@ impl<L: Lanes, S: Sink> OneLink<L, S> {
     pub(crate) fn repeat_up(&mut self, alloc: Global) -> Result<(), Cause>
         ensures lanes { lanes_of self.new ≡ lanes_of self.old }
         ensures sink_held { S.honest (sink_of self.new) → S.honest (sink_of self.old) }
-        ensures done { S.honest (sink_of self.new) → OnOk result (HappensOn S.takes (link_of L.contents self.old) (event.Repeat way.Up) (link_of L.contents self.new)) }
+        ensures done { S.honest (sink_of self.new) → OnOk result (HappensOn S.takes no_panel (link_of L.contents self.old) (event.Repeat way.Up) (link_of L.contents self.new)) }
         ensures stopped { S.honest (sink_of self.new) → OnErr result (StopsAt S.takes S.keeps (link_of L.contents self.old) (event.Repeat way.Up) (link_of L.contents self.new)) }
     {
         self.come_up(alloc)?;
@@ -196,7 +196,7 @@ impl<L: Lanes, S: Sink> OneLink<L, S> {
     pub(crate) fn lose(&mut self, on: Way)
         ensures lanes { lanes_of self.new ≡ lanes_of self.old }
         ensures sink { sink_of self.new ≡ sink_of self.old }
-        ensures done { HappensOn S.takes (link_of L.contents self.old) (event.Lose on) (link_of L.contents self.new) }
+        ensures done { HappensOn S.takes no_panel (link_of L.contents self.old) (event.Lose on) (link_of L.contents self.new) }
     {
         match on {
             Way::Down => self.down.lose(),
@@ -208,7 +208,7 @@ impl<L: Lanes, S: Sink> OneLink<L, S> {
     pub(crate) fn damage(&mut self, on: Way, octets: &ArrayVec<u8, MAX_UNIT>)
         ensures lanes { lanes_of self.new ≡ lanes_of self.old }
         ensures sink { sink_of self.new ≡ sink_of self.old }
-        ensures done { HappensOn S.takes (link_of L.contents self.old) (event.Damage on octets.now) (link_of L.contents self.new) }
+        ensures done { HappensOn S.takes no_panel (link_of L.contents self.old) (event.Damage on octets.now) (link_of L.contents self.new) }
     {
         match on {
             Way::Down => self.down.damage(octets.as_slice()),

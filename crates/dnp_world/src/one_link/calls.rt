@@ -1,6 +1,7 @@
 //! The events of a link that are calls of a station, and what clears its lines.
 
 ghost use Rattle.std.specs.Prelude.{◌≡◌, OnErr, OnOk};
+ghost use Rattle.dnp_controls.specs.Latches.{no_panel};
 ghost use Rattle.dnp_line.specs.Lines.{quiet_line};
 ghost use Rattle.dnp_line.specs.Ports.{reset_of};
 ghost use Rattle.dnp_world.specs.OneLinkEvents.{HappensOn};
@@ -49,7 +50,7 @@ impl<L: Lanes, S: Sink> OneLink<L, S> {
     pub(crate) fn open(&mut self, alloc: Global) -> Result<(), Cause>
         ensures held { L.honest (lanes_of self.new) → L.honest (lanes_of self.old) }
         ensures sink { sink_of self.new ≡ sink_of self.old }
-        ensures done { L.honest (lanes_of self.new) → OnOk result (HappensOn S.takes (link_of L.contents self.old) event.Open (link_of L.contents self.new)) }
+        ensures done { L.honest (lanes_of self.new) → OnOk result (HappensOn S.takes no_panel (link_of L.contents self.old) event.Open (link_of L.contents self.new)) }
         ensures stopped { L.honest (lanes_of self.new) → OnErr result (link_of L.contents self.new ≡ link_of L.contents self.old) }
     {
         self.up.reserve(2 * FRAGMENT_UNITS)?;
@@ -64,7 +65,7 @@ impl<L: Lanes, S: Sink> OneLink<L, S> {
     pub(crate) fn hang_up(&mut self, end: End)
         ensures lanes { lanes_of self.new ≡ lanes_of self.old }
         ensures sink { sink_of self.new ≡ sink_of self.old }
-        ensures done { HappensOn S.takes (link_of L.contents self.old) (event.HangUp end) (link_of L.contents self.new) }
+        ensures done { HappensOn S.takes no_panel (link_of L.contents self.old) (event.HangUp end) (link_of L.contents self.new) }
     {
         match end {
             End::Master => {
@@ -90,7 +91,7 @@ impl<L: Lanes, S: Sink> OneLink<L, S> {
     ) -> Result<(), Cause>
         ensures held { L.honest (lanes_of self.new) → L.honest (lanes_of self.old) }
         ensures sink { sink_of self.new ≡ sink_of self.old }
-        ensures done { L.honest (lanes_of self.new) → OnOk result (HappensOn S.takes (link_of L.contents self.old) (event.Change kind index reading) (link_of L.contents self.new)) }
+        ensures done { L.honest (lanes_of self.new) → OnOk result (HappensOn S.takes no_panel (link_of L.contents self.old) (event.Change kind index reading) (link_of L.contents self.new)) }
         ensures stopped { L.honest (lanes_of self.new) → OnErr result (link_of L.contents self.new ≡ link_of L.contents self.old) }
     {
         a_confirm_releases_what_its_fragment_reported();
@@ -114,7 +115,7 @@ impl<L: Lanes, S: Sink> OneLink<L, S> {
     pub(crate) fn ask(&mut self, task: Task) -> Result<(), Cause>
         ensures lanes { lanes_of self.new ≡ lanes_of self.old }
         ensures sink { sink_of self.new ≡ sink_of self.old }
-        ensures done { OnOk result (HappensOn S.takes (link_of L.contents self.old) (event.Ask task) (link_of L.contents self.new)) }
+        ensures done { OnOk result (HappensOn S.takes no_panel (link_of L.contents self.old) (event.Ask task) (link_of L.contents self.new)) }
         ensures stopped { OnErr result (link_of L.contents self.new ≡ link_of L.contents self.old) }
     {
         if matches!(task, Task::Select(_) | Task::Operate(_)) {
@@ -131,7 +132,7 @@ impl<L: Lanes, S: Sink> OneLink<L, S> {
     pub(crate) fn pass(&mut self, ms: u64)
         ensures lanes { lanes_of self.new ≡ lanes_of self.old }
         ensures sink { sink_of self.new ≡ sink_of self.old }
-        ensures done { HappensOn S.takes (link_of L.contents self.old) (event.Pass ms) (link_of L.contents self.new) }
+        ensures done { HappensOn S.takes no_panel (link_of L.contents self.old) (event.Pass ms) (link_of L.contents self.new) }
     {
         self.moment = self.moment.saturating_add(ms);
     }
@@ -140,7 +141,7 @@ impl<L: Lanes, S: Sink> OneLink<L, S> {
     pub(crate) fn tick_master(&mut self)
         ensures lanes { lanes_of self.new ≡ lanes_of self.old }
         ensures sink { sink_of self.new ≡ sink_of self.old }
-        ensures done { HappensOn S.takes (link_of L.contents self.old) (event.Tick end.Master) (link_of L.contents self.new) }
+        ensures done { HappensOn S.takes no_panel (link_of L.contents self.old) (event.Tick end.Master) (link_of L.contents self.new) }
     {
         self.master.tick(self.moment);
     }
@@ -149,7 +150,7 @@ impl<L: Lanes, S: Sink> OneLink<L, S> {
     pub(crate) fn tick_outstation(&mut self, alloc: Global) -> Result<(), Cause>
         ensures held { L.honest (lanes_of self.new) → L.honest (lanes_of self.old) }
         ensures sink { sink_of self.new ≡ sink_of self.old }
-        ensures done { L.honest (lanes_of self.new) → OnOk result (HappensOn S.takes (link_of L.contents self.old) (event.Tick end.Outstation) (link_of L.contents self.new)) }
+        ensures done { L.honest (lanes_of self.new) → OnOk result (HappensOn S.takes no_panel (link_of L.contents self.old) (event.Tick end.Outstation) (link_of L.contents self.new)) }
         ensures stopped { L.honest (lanes_of self.new) → OnErr result (link_of L.contents self.new ≡ link_of L.contents self.old) }
     {
         a_confirm_releases_what_its_fragment_reported();
@@ -163,7 +164,7 @@ impl<L: Lanes, S: Sink> OneLink<L, S> {
     pub(crate) fn restart_outstation(&mut self, alloc: Global) -> Result<(), Cause>
         ensures held { L.honest (lanes_of self.new) → L.honest (lanes_of self.old) }
         ensures sink { sink_of self.new ≡ sink_of self.old }
-        ensures done { L.honest (lanes_of self.new) → OnOk result (HappensOn S.takes (link_of L.contents self.old) (event.Restart end.Outstation) (link_of L.contents self.new)) }
+        ensures done { L.honest (lanes_of self.new) → OnOk result (HappensOn S.takes no_panel (link_of L.contents self.old) (event.Restart end.Outstation) (link_of L.contents self.new)) }
         ensures stopped { L.honest (lanes_of self.new) → OnErr result (link_of L.contents self.new ≡ link_of L.contents self.old) }
     {
         let waiting = rows_waiting(self.outstation.lanes());

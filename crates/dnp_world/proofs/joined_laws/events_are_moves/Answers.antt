@@ -36,7 +36,8 @@ laws_of g c = record {
 }
 
 pub returns-clause-event : goal.returns-clause-event
-returns-clause-event g c = λ others s new event l stands j h. one_follows (laws_of g c) g.S.Sink.takes others s new l event stands j h
+returns-clause-event g c =
+    λ panel others s new event l shown stands j h. one_follows (laws_of g c) g.S.Sink.takes panel shown others s new l event stands j h
 
 pub returns-clause-stopped : goal.returns-clause-stopped
 returns-clause-stopped g c = λ others s new event l stands j h. stop_follows (laws_of g c) g.S.Sink.takes g.S.Sink.keeps others s new l event stands j h
