@@ -29,6 +29,7 @@ pub mod MasterAsks
 pub mod OneLinkSending
 pub mod OneLinkLists
 pub mod OneLinkSteps
+pub mod OneLinkComing
 pub mod OneLinkArrivals
 pub mod OneLinkRuns
 pub mod JoinedWays

@@ -9,4 +9,5 @@ pub mod OutstationSeen
 pub mod MasterSeen
 pub mod OneLinkEvents
 pub mod OneLinkParts
+pub mod Channels
 pub mod Joined

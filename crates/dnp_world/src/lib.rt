@@ -4,6 +4,8 @@
 //! [`joined_laws`].
 #![tactic(auto)]
 
+mod channel;
+mod ends;
 pub mod joined_laws;
 pub mod laws;
 mod link_event;

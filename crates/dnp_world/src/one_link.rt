@@ -12,15 +12,15 @@ ghost use Rattle.dnp_world.specs.contracts.one_link.OneLink.{the_row};
 ghost use Rattle.dnp_world.specs.OneLinkEvents.{HappensOn, RunsTo, StopsAt, StopsAfter, may_stop};
 ghost use Rattle.dnp_world.specs.OneLinkParts.{link_of, lanes_of, sink_of, with_lanes, with_sink, new_link};
 
+use crate::channel::Channel;
 use crate::joined_laws::{a_new_link_is_joined, the_law_of_one_link};
 use crate::link_event::{End, LinkEvent, Way};
 use crate::stopped::{Cause, Stopped};
 use dnp_controls::NoOutputs;
 use dnp_eventbuf::{Lanes, Sink};
-use dnp_line::{Line, Port};
 use dnp_master::Master;
 use dnp_objects::Row;
-use dnp_outstation::Outstation;
+use dnp_outstation::{Actions, Outstation};
 use dnp_pointdb::{PointDb, PointPlan, Times};
 use std::alloc::{AllocError, Global};
 
@@ -41,12 +41,9 @@ pub struct OneLink<L, S> {
     outstation: Outstation<L, NoOutputs>,
     master: Master,
     sink: S,
-    /// The line to the outstation.
-    down: Line,
-    /// The line to the master.
-    up: Line,
-    outstation_port: Port,
-    master_port: Port,
+    channel: Channel,
+    /// What the outstation did last.
+    actions: Actions,
     /// The moment, in milliseconds.
     moment: u64,
     /// The events that the sink took.
@@ -78,10 +75,8 @@ impl<L: Lanes + Drop, S: Sink + Drop> OneLink<L, S> {
             outstation: Outstation::new(points, lanes, NoOutputs, times),
             master: Master::new(plan, times),
             sink,
-            down: Line::new(alloc),
-            up: Line::new(alloc),
-            outstation_port: Port::new(OUTSTATION_ADDRESS, MASTER_ADDRESS, false),
-            master_port: Port::new(MASTER_ADDRESS, OUTSTATION_ADDRESS, true),
+            channel: Channel::new(alloc, OUTSTATION_ADDRESS, MASTER_ADDRESS),
+            actions: Actions::none(alloc),
             moment: 0,
             taken: Vec::new(alloc),
             released: Vec::new(alloc),

@@ -40,29 +40,6 @@ fn cause_of(fault: MasterFault) -> Option<Cause>
 }
 
 impl<L: Lanes, S: Sink> OneLink<L, S> {
-    /// The outstation answers the fragment that its port shows.
-    fn answer(&mut self, alloc: Global) -> Result<(), Cause>
-        ensures held { L.honest (lanes_of self.new) → L.honest (lanes_of self.old) }
-        ensures sink { sink_of self.new ≡ sink_of self.old }
-        ensures done { L.honest (lanes_of self.new) → OnOk result ((fragment : List ℕ) × IsShown (link_of L.contents self.old).outstation_port fragment
-            × Steps (connection_after (link_of L.contents self.old).outstation no_panel (link_of L.contents self.old).now fragment)
-            (link_of L.contents self.old) (link_of L.contents self.new)) }
-        ensures stopped { L.honest (lanes_of self.new) → OnErr result (link_of L.contents self.new ≡ link_of L.contents self.old) }
-    {
-        each_case_says_what_came();
-        a_confirm_releases_what_its_fragment_reported();
-        self.up.reserve(2 * FRAGMENT_UNITS)?;
-        let waiting = rows_waiting(self.outstation.lanes());
-        self.released.reserve(waiting)?;
-        let fragment = self.outstation_port.fragment();
-        let actions = self.outstation.receive(alloc, self.moment, fragment)?;
-        send_all(&mut self.up, &mut self.outstation_port, &actions.send);
-        let _ = self
-            .released
-            .extend_from_slice(actions.discarded.as_slice());
-        Ok(())
-    }
-
     /// The master takes in the fragment that its port shows.
     fn take(&mut self, alloc: Global) -> Result<(), Cause>
         ensures lanes { lanes_of self.new ≡ lanes_of self.old }
@@ -73,16 +50,20 @@ impl<L: Lanes, S: Sink> OneLink<L, S> {
         ensures stopped { S.honest (sink_of self.new) → OnErr result (IsStopped S.keeps (link_of L.contents self.old) (link_of L.contents self.new)) }
     {
         what_comes_is_taken_or_passed_over();
-        let fragment = self.master_port.fragment();
+        let fragment = self.channel.master_port.fragment();
         let events = events_of(alloc, fragment)?;
         self.taken.reserve(events.len())?;
-        self.down.reserve(FRAGMENT_UNITS)?;
+        self.channel.down.reserve(FRAGMENT_UNITS)?;
         match self
             .master
             .receive(alloc, self.moment, fragment, &mut self.sink)
         {
             Ok(actions) => {
-                send_confirm(&mut self.down, &mut self.master_port, actions.send);
+                send_confirm(
+                    &mut self.channel.down,
+                    &mut self.channel.master_port,
+                    actions.send,
+                );
                 let taken = first_of(events.as_slice(), actions.taken);
                 let _ = self.taken.extend_from_slice(taken);
                 Ok(())
@@ -101,17 +82,20 @@ impl<L: Lanes, S: Sink> OneLink<L, S> {
         ensures done { L.honest (lanes_of self.new) → OnOk result (ComesDown no_panel (link_of L.contents self.old).down (link_of L.contents self.old) (link_of L.contents self.new)) }
         ensures stopped { L.honest (lanes_of self.new) → OnErr result (link_of L.contents self.new ≡ link_of L.contents self.old) }
     {
-        let kept = self.outstation_port.copy();
-        let Some(unit) = self.down.front() else {
-            return Ok(());
-        };
-        let whole = hear(&mut self.outstation_port, unit);
-        shows(&self.outstation_port);
-        if whole {
-            if let Err(cause) = self.answer(alloc) {
-                self.outstation_port = kept;
-                return Err(cause);
-            }
+        each_case_says_what_came();
+        a_confirm_releases_what_its_fragment_reported();
+        let waiting = rows_waiting(self.outstation.lanes());
+        self.released.reserve(waiting)?;
+        let answered = self.channel.come_down(
+            &mut self.actions,
+            alloc,
+            self.moment,
+            &mut self.outstation,
+        )?;
+        if answered {
+            let _ = self
+                .released
+                .extend_from_slice(self.actions.discarded.as_slice());
         }
         Ok(())
     }
@@ -123,15 +107,15 @@ impl<L: Lanes, S: Sink> OneLink<L, S> {
         ensures done { S.honest (sink_of self.new) → OnOk result (ComesUp S.takes (link_of L.contents self.old).up (link_of L.contents self.old) (link_of L.contents self.new)) }
         ensures stopped { S.honest (sink_of self.new) → OnErr result (IsStopped S.keeps (link_of L.contents self.old) (link_of L.contents self.new)) }
     {
-        let kept = self.master_port.copy();
-        let Some(unit) = self.up.front() else {
+        let kept = self.channel.master_port.copy();
+        let Some(unit) = self.channel.up.front() else {
             return Ok(());
         };
-        let whole = hear(&mut self.master_port, unit);
-        shows(&self.master_port);
+        let whole = hear(&mut self.channel.master_port, unit);
+        shows(&self.channel.master_port);
         if whole {
             if let Err(cause) = self.take(alloc) {
-                self.master_port = kept;
+                self.channel.master_port = kept;
                 return Err(cause);
             }
         }
@@ -146,10 +130,10 @@ impl<L: Lanes, S: Sink> OneLink<L, S> {
         ensures stopped { L.honest (lanes_of self.new) → OnErr result (StopsAt S.takes S.keeps (link_of L.contents self.old) (event.Deliver way.Down) (link_of L.contents self.new)) }
     {
         if let Err(cause) = self.come_down(alloc) {
-            self.down.lose();
+            self.channel.down.lose();
             return Err(cause);
         }
-        let _ = self.down.deliver();
+        let _ = self.channel.down.deliver();
         Ok(())
     }
 
@@ -161,10 +145,10 @@ impl<L: Lanes, S: Sink> OneLink<L, S> {
         ensures stopped { S.honest (sink_of self.new) → OnErr result (StopsAt S.takes S.keeps (link_of L.contents self.old) (event.Deliver way.Up) (link_of L.contents self.new)) }
     {
         if let Err(cause) = self.come_up(alloc) {
-            self.up.lose();
+            self.channel.up.lose();
             return Err(cause);
         }
-        let _ = self.up.deliver();
+        let _ = self.channel.up.deliver();
         Ok(())
     }
 
@@ -176,7 +160,7 @@ impl<L: Lanes, S: Sink> OneLink<L, S> {
         ensures stopped { L.honest (lanes_of self.new) → OnErr result (StopsAt S.takes S.keeps (link_of L.contents self.old) (event.Repeat way.Down) (link_of L.contents self.new)) }
     {
         self.come_down(alloc)?;
-        let _ = self.down.repeat();
+        let _ = self.channel.down.repeat();
         Ok(())
     }
 
@@ -188,7 +172,7 @@ impl<L: Lanes, S: Sink> OneLink<L, S> {
         ensures stopped { S.honest (sink_of self.new) → OnErr result (StopsAt S.takes S.keeps (link_of L.contents self.old) (event.Repeat way.Up) (link_of L.contents self.new)) }
     {
         self.come_up(alloc)?;
-        let _ = self.up.repeat();
+        let _ = self.channel.up.repeat();
         Ok(())
     }
 
@@ -199,8 +183,8 @@ impl<L: Lanes, S: Sink> OneLink<L, S> {
         ensures done { HappensOn S.takes no_panel (link_of L.contents self.old) (event.Lose on) (link_of L.contents self.new) }
     {
         match on {
-            Way::Down => self.down.lose(),
-            Way::Up => self.up.lose(),
+            Way::Down => self.channel.down.lose(),
+            Way::Up => self.channel.up.lose(),
         }
     }
 
@@ -211,8 +195,8 @@ impl<L: Lanes, S: Sink> OneLink<L, S> {
         ensures done { HappensOn S.takes no_panel (link_of L.contents self.old) (event.Damage on octets.now) (link_of L.contents self.new) }
     {
         match on {
-            Way::Down => self.down.damage(octets.as_slice()),
-            Way::Up => self.up.damage(octets.as_slice()),
+            Way::Down => self.channel.down.damage(octets.as_slice()),
+            Way::Up => self.channel.up.damage(octets.as_slice()),
         }
     }
 }

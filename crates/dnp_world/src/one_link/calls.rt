@@ -2,8 +2,6 @@
 
 ghost use Rattle.std.specs.Prelude.{◌≡◌, OnErr, OnOk};
 ghost use Rattle.dnp_controls.specs.Latches.{no_panel};
-ghost use Rattle.dnp_line.specs.Lines.{quiet_line};
-ghost use Rattle.dnp_line.specs.Ports.{reset_of};
 ghost use Rattle.dnp_world.specs.OneLinkEvents.{HappensOn};
 ghost use Rattle.dnp_world.specs.OneLinkParts.{link_of, lanes_of, sink_of};
 ghost use Rattle.dnp_world.specs.declared.link_event.End.TheVariants as end;
@@ -23,28 +21,6 @@ use dnp_pointdb::Reading;
 use std::alloc::Global;
 
 impl<L: Lanes, S: Sink> OneLink<L, S> {
-    /// Clears both lines, and resets both ports.
-    fn clear(&mut self)
-        ensures { self.new ≡ record self.old {
-          down = record self.old.down { state = quiet_line };
-          up = record self.old.up { state = quiet_line };
-          outstation_port = reset_of self.old.outstation_port;
-          master_port = reset_of self.old.master_port;
-        } }
-    {
-        let OneLink {
-            down,
-            up,
-            outstation_port,
-            master_port,
-            ..
-        } = self;
-        down.clear();
-        up.clear();
-        outstation_port.reset();
-        master_port.reset();
-    }
-
     /// Both lines are cleared, both ports are reset, and both ends are opened. The outstation is asked first, since its
     /// lanes may refuse.
     pub(crate) fn open(&mut self, alloc: Global) -> Result<(), Cause>
@@ -53,11 +29,8 @@ impl<L: Lanes, S: Sink> OneLink<L, S> {
         ensures done { L.honest (lanes_of self.new) → OnOk result (HappensOn S.takes no_panel (link_of L.contents self.old) event.Open (link_of L.contents self.new)) }
         ensures stopped { L.honest (lanes_of self.new) → OnErr result (link_of L.contents self.new ≡ link_of L.contents self.old) }
     {
-        self.up.reserve(2 * FRAGMENT_UNITS)?;
-        let actions = self.outstation.opened(alloc, self.moment)?;
+        self.channel.open(&mut self.actions, alloc, self.moment, &mut self.outstation)?;
         self.master.opened();
-        self.clear();
-        send_all(&mut self.up, &mut self.outstation_port, &actions.send);
         Ok(())
     }
 
@@ -68,17 +41,10 @@ impl<L: Lanes, S: Sink> OneLink<L, S> {
         ensures done { HappensOn S.takes no_panel (link_of L.contents self.old) (event.HangUp end) (link_of L.contents self.new) }
     {
         match end {
-            End::Master => {
-                self.master.hung_up();
-                self.up.clear();
-                self.master_port.reset();
-            }
-            End::Outstation => {
-                self.outstation.hung_up();
-                self.down.clear();
-                self.outstation_port.reset();
-            }
+            End::Master => self.master.hung_up(),
+            End::Outstation => self.outstation.hung_up(),
         }
+        self.channel.hang_up(end);
     }
 
     /// The outstation reads a point. A reading that its points refuse does nothing.
@@ -95,14 +61,18 @@ impl<L: Lanes, S: Sink> OneLink<L, S> {
         ensures stopped { L.honest (lanes_of self.new) → OnErr result (link_of L.contents self.new ≡ link_of L.contents self.old) }
     {
         a_confirm_releases_what_its_fragment_reported();
-        self.up.reserve(2 * FRAGMENT_UNITS)?;
+        self.channel.up.reserve(2 * FRAGMENT_UNITS)?;
         self.left.reserve(1)?;
         match self
             .outstation
             .change(alloc, self.moment, kind, index, reading)
         {
             Ok(actions) => {
-                send_all(&mut self.up, &mut self.outstation_port, &actions.send);
+                send_all(
+                    &mut self.channel.up,
+                    &mut self.channel.outstation_port,
+                    &actions.send,
+                );
                 let _ = self.left.extend_from_slice(actions.overwritten.as_slice());
                 Ok(())
             }
@@ -121,9 +91,13 @@ impl<L: Lanes, S: Sink> OneLink<L, S> {
         if matches!(task, Task::Select(_) | Task::Operate(_)) {
             return Ok(());
         }
-        self.down.reserve(FRAGMENT_UNITS)?;
+        self.channel.down.reserve(FRAGMENT_UNITS)?;
         if let Ok(request) = self.master.ask(self.moment, task) {
-            send(&mut self.down, &mut self.master_port, request.as_slice());
+            send(
+                &mut self.channel.down,
+                &mut self.channel.master_port,
+                request.as_slice(),
+            );
         }
         Ok(())
     }
@@ -154,9 +128,7 @@ impl<L: Lanes, S: Sink> OneLink<L, S> {
         ensures stopped { L.honest (lanes_of self.new) → OnErr result (link_of L.contents self.new ≡ link_of L.contents self.old) }
     {
         a_confirm_releases_what_its_fragment_reported();
-        self.up.reserve(2 * FRAGMENT_UNITS)?;
-        let actions = self.outstation.tick(alloc, self.moment)?;
-        send_all(&mut self.up, &mut self.outstation_port, &actions.send);
+        self.channel.tick(&mut self.actions, alloc, self.moment, &mut self.outstation)?;
         Ok(())
     }
 
@@ -170,8 +142,7 @@ impl<L: Lanes, S: Sink> OneLink<L, S> {
         let waiting = rows_waiting(self.outstation.lanes());
         self.left.reserve(waiting)?;
         let rows = self.outstation.restart(alloc, false)?;
-        self.down.clear();
-        self.outstation_port.reset();
+        self.channel.hang_up(End::Outstation);
         let _ = self.left.extend_from_slice(rows.as_slice());
         Ok(())
     }

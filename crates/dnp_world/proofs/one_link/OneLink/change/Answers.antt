@@ -27,7 +27,7 @@ returns-in-Ok-clause-done g c = λ honest.
     c.change.ensures.refused c.in-Ok.is (c.in-Ok.ensures.changed honest)
     (λ made. c.a_confirm_releases_what_its_fragment_reported.ensures.changed old.outstation old.now kind index reading made)
     (c.in-Ok.ensures.not_exhausted honest)
-    (subst (λ (line : LineState). AreSent (actions_of c.in-Ok.actions).send line c.args.self.now.outstation_port c.send_all.new.line.state c.send_all.new.port)
+    (subst (λ (line : LineState). AreSent (actions_of c.in-Ok.actions).send line c.args.self.now.channel.outstation_port c.send_all.new.line.state c.send_all.new.port)
     (ap (λ (line : HeldLine). line.state) c.in_ok-reserve.ensures.ok) c.send_all.ensures)
     (λ few.
     let room : length overwritten ≤ 1 = subst (λ (rows : List Row). length rows ≤ 1) (sym same) few in

@@ -1,28 +1,51 @@
--- The front unit is heard, and what it completes is answered.
-use Rattle.std.proofs.Common.{refl, [], ◌∷◌}
+-- No more rows are released than waited.
+use Rattle.std.proofs.Common.{◌≡◌, ◌≤◌, ◌++◌, ◌∙◌, List, length, ap, subst, sym, arith}
+use Rattle.std.specs.Prelude.{is_ok}
+use Rattle.std.proofs.lemmas.Bool.{false≢true}
+use Rattle.dnp_objects.specs.declared.row.Row.{Row}
+use Rattle.dnp_controls.specs.Latches.{no_panel}
+use Rattle.dnp_eventbuf.specs.Stock.{rows_in}
+use Rattle.dnp_outstation.specs.Parts.{whole_of, with_lanes}
+use Rattle.dnp_outstation.specs.State.{State, Actions}
+use Rattle.dnp_outstation.specs.Station.{actions_of}
+use Rattle.dnp_world.specs.Channels.{ChannelState, state_of, ComesToOutstation}
 use Rattle.dnp_world.specs.OneLinkParts.{link_of}
-use Rattle.dnp_world.proofs.OneLinkArrivals.{heard_whole, heard_part}
+use Rattle.dnp_world.proofs.OneLinkComing.{comes, few_came}
+use Rattle.dnp_world.proofs.OneLinkLists.{extended}
+use Rattle.dnp_world.proofs.OneLinkSteps.{Laws}
 use Rattle.dnp_world.proofs.one_link.OneLink.come_down.Goals as goal
 
-pub returns-in_default-answer-clause-done : goal.returns-in_default-answer-clause-done
-returns-in_default-answer-clause-done g c = λ honest.
-    let old = link_of g.L.Lanes.contents c.args.self.now in
-    let done = c.in_default-answer.ensures.done honest in
-    record {
-      port = c.hear-whole.new.port;
-      given = done.0 ∷ [];
-      heard = heard_whole old.down c.in-Some.unit.now old.outstation_port c.hear-whole.new.port c.hear-whole.result done.0 c.in-Some.ensures
-          c.hear-whole.ensures done.1 c.if-whole.true;
-      came = done.2;
-    }
-
-pub returns-else-whole-clause-done : goal.returns-else-whole-clause-done
-returns-else-whole-clause-done g c = λ honest.
-    let old = link_of g.L.Lanes.contents c.args.self.now in
-    record {
-      port = c.hear-whole.new.port;
-      given = [];
-      heard = heard_part old.down c.in-Some.unit.now old.outstation_port c.hear-whole.new.port c.hear-whole.result c.shows.ensures.0 c.in-Some.ensures
-          c.hear-whole.ensures c.shows.ensures.1 c.if-whole.false;
-      came = refl;
-    }
+pub returns-then-answered-clause-done : goal.returns-then-answered-clause-done
+returns-then-answered-clause-done g c = λ honest.
+    let contents = g.L.Lanes.contents in
+    let old = link_of contents c.args.self.now in
+    let laws : Laws = record {
+      says = c.each_case_says_what_came.ensures;
+      solicited = λ s now octets w. c.a_confirm_releases_what_its_fragment_reported.ensures.solicited s no_panel now octets w;
+      unsolicited = λ s now octets w. c.a_confirm_releases_what_its_fragment_reported.ensures.unsolicited s no_panel now octets w;
+      others = λ s now octets. c.a_confirm_releases_what_its_fragment_reported.ensures.others s no_panel now octets;
+    } in
+    let counted = with_lanes c.args.self.now.outstation c.rows_waiting-waiting.new.lanes in
+    let before : State = whole_of contents (λ _. no_panel) counted in
+    let same : before ≡ old.outstation =
+    ap (λ lanes. whole_of contents (λ _. no_panel) (with_lanes c.args.self.now.outstation lanes))
+    (c.rows_waiting-waiting.ensures.same ∙ c.lanes.ensures.value) in
+    let state : State = whole_of contents (λ _. no_panel) c.come_down.new.end in
+    let does : Actions = actions_of c.come_down.new.actions in
+    let first : ChannelState = state_of c.args.self.now.channel in
+    let last : ChannelState = state_of c.come_down.new.self in
+    let answered = c.in_ok-answered.answered in
+    let came : ComesToOutstation no_panel old.now before state does answered first last = c.in_ok-answered.ensures.came (honest, tt) in
+    let discarded : List Row = c.as_slice.result.now in
+    let waits : c.rows_waiting-waiting.result ≡ length (rows_in before.lanes) = c.rows_waiting-waiting.ensures.count (c.come_down.ensures.held (honest, tt)).0 in
+    let few : length discarded ≤ length (rows_in before.lanes) =
+    subst (λ (rows : List Row). length rows ≤ length (rows_in before.lanes)) (sym c.as_slice.ensures)
+    (few_came laws old.now before state does answered first last came c.if-answered.true) in
+    let released : List Row = c.extend_from_slice.new.self.items in
+    let lists : released ≡ old.released ++ does.discarded =
+    extended (is_ok c.extend_from_slice.result) c.reserve.new.self.items discarded released c.extend_from_slice.ensures.items
+    (c.extend_from_slice.ensures.succeeds (omega (arith, few, waits, c.in_ok-reserve.ensures.ok)))
+    ∙ ap (λ (rows : List Row). rows ++ discarded) c.in_ok-reserve.ensures.items ∙ ap (λ (rows : List Row). old.released ++ rows) c.as_slice.ensures in
+    comes old state does answered last released
+    (subst (λ (s : State). ComesToOutstation no_panel old.now s state does answered first last) same came)
+    (λ _. lists) (λ none. absurd (false≢true (sym none ∙ c.if-answered.true)))

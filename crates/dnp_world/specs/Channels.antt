@@ -1,0 +1,69 @@
+-- Definition: the two lines between the stations of a link, with the ports at their ends, and what comes to the outstation there
+-- (IEEE Std 1815-2012: application layer, transport function and data link layer together).
+use Rattle.std.specs.Prelude.{◌≡◌, ℕ, ◌≤◌, Bool, true, false, List, [], ◌∷◌, length, All, Result, OnOk, OnErr}
+use Rattle.dnp_controls.specs.Panel.{Panel}
+use Rattle.dnp_line.specs.Lines.{LineState, cleared_on, front_of}
+use Rattle.dnp_line.specs.Ports.{PortState, reset_of}
+use Rattle.dnp_line.specs.Ways.{HearsIfAny}
+use Rattle.dnp_outstation.specs.Calls.{connection_after}
+use Rattle.dnp_outstation.specs.State.{State, Step, Actions}
+use Rattle.dnp_world.specs.declared.channel.Channel.{Channel}
+use Rattle.dnp_world.specs.declared.link_event.End.{End}
+use Rattle.dnp_world.specs.declared.link_event.End.TheVariants.{Master, Outstation}
+use Rattle.dnp_world.specs.OneLinkEvents.{AreSent}
+
+-- the lines to the outstation and to the master, and the ports at their ends
+pub record ChannelState : Type 0 where
+  pub down : LineState
+  pub up : LineState
+  pub outstation_port : PortState
+  pub master_port : PortState
+
+-- what it is, whatever it has room for
+abbrev pub state_of : Channel → ChannelState
+state_of c = record { down = c.down.state; up = c.up.state; outstation_port = c.outstation_port; master_port = c.master_port }
+
+-- both lines are cleared, and both ports reset
+abbrev pub cleared : ChannelState → ChannelState
+cleared c = record {
+  down = cleared_on c.down;
+  up = cleared_on c.up;
+  outstation_port = reset_of c.outstation_port;
+  master_port = reset_of c.master_port;
+}
+
+-- an end hangs up: the line towards it is cleared, and its port reset
+abbrev pub hung_up_at : End → ChannelState → ChannelState
+hung_up_at Master c = record c { up = cleared_on c.up; master_port = reset_of c.master_port }
+hung_up_at Outstation c = record c { down = cleared_on c.down; outstation_port = reset_of c.outstation_port }
+
+-- ---- the outstation's end
+
+-- A call of the station at the outstation's end, by the station before and after it, what it does and its answer: it takes
+-- this step, and none where its stores refuse.
+pub record TakesStep {Station Answer Fault : Type 0} (honest : Station → Type 0) (state : Station → State) (step : Step)
+    (old new : Station) (does : Actions) (answer : Result Answer Fault) : Type 0 where
+  pub held : honest new → honest old
+  pub taken : honest new → OnOk answer (step ≡ record { state = state new; does = does })
+  pub whole : OnOk answer (All (λ fragment. 4 ≤ length fragment) does.send)
+  pub unchanged : honest new → OnErr answer (state new ≡ state old)
+
+-- these fragments go up
+pub record GoUp (fragments : List (List ℕ)) (old new : ChannelState) : Type 0 where
+  pub sent : AreSent fragments old.up old.outstation_port new.up new.outstation_port
+  pub after : new ≡ record old { up = new.up; outstation_port = new.outstation_port }
+
+-- what the port gives, one fragment or none, is answered
+abbrev pub AnswersTo : List (List ℕ) → Panel → ℕ → State → State → Actions → Bool → ChannelState → ChannelState → Type 0
+AnswersTo [] panel now before after does answered old new = (answered ≡ false) × (after ≡ before) × (new ≡ old)
+AnswersTo (fragment ∷ others) panel now before after does answered old new =
+    (answered ≡ true) × (connection_after before panel now fragment ≡ record { state = after; does = does }) × GoUp does.send old new
+
+-- The front unit comes to the outstation's end, whose outputs are these: it is heard at the port, and what it completes is
+-- answered. The line stays as it is.
+pub record ComesToOutstation (panel : Panel) (now : ℕ) (before after : State) (does : Actions) (answered : Bool)
+    (old new : ChannelState) : Type 0 where
+  pub port : PortState
+  pub given : List (List ℕ)
+  pub heard : HearsIfAny (front_of old.down) old.outstation_port port [] given
+  pub came : AnswersTo given panel now before after does answered (record old { outstation_port = port }) new
