@@ -1,4 +1,5 @@
--- Private steps: what a fragment makes of a master, in the parts in which it is worked out.
+-- Definition: what a fragment that came makes of a master, worked out before anything changes (IEEE Std 1815-2012,
+-- application layer: the master's side of a transaction).
 use Rattle.std.specs.Prelude.{◌≡◌, ◌≢◌, ◌≤◌, true, List, take, drop, All, vec_len, ◌<◌, ◌⊎◌, Result, Ok, Err, IfOk, IfErr}
 use Rattle.std.specs.Result.{IsOkAnd}
 use Rattle.dnp_objects.specs.Events.{IsEvent}
@@ -21,12 +22,19 @@ events_of g = take g.events g.rows.items
 abbrev pub statics_of : Gathered → List Row
 statics_of g = drop g.events g.rows.items
 
--- what the code has worked out
+-- the rows that were found in a fragment
+abbrev pub events_taken : Taken → List Row
+events_taken t = events_of t.gathered
+
+abbrev pub statics_taken : Taken → List Row
+statics_taken t = statics_of t.gathered
+
+-- what was worked out, for this master
 abbrev pub taking_of : State → Taken → Taking
 taking_of s t = record {
   state = with_next s t.next;
-  events = events_of t.gathered;
-  statics = statics_of t.gathered;
+  events = events_taken t;
+  statics = statics_taken t;
   confirm = t.send;
   outcome = t.next.outcome;
   restart = t.restart;
@@ -36,9 +44,9 @@ taking_of s t = record {
 pub record IsFit (t : Taken) : Type 0 where
   pub seq : t.next.seq < 16
   pub within : t.gathered.events ≤ vec_len t.gathered.rows
-  pub carried : All IsEvent (events_of t.gathered)
+  pub carried : All IsEvent (events_taken t)
 
--- the code's answer is what is wanted, or the rows found no memory
+-- what was found is what is wanted, or the rows found no memory
 pub record WorksOut (s : State) (wanted : Result Taking MasterFault) (answer : Result Taken MasterFault) : Type 0 where
   pub taken : IfOk answer (λ t. wanted ≡ Ok (taking_of s t))
   pub fit : IfOk answer IsFit

@@ -20,4 +20,5 @@ pub use fault::{AskFault, MasterFault};
 pub use master::Master;
 pub use outcome::Outcome;
 pub use requesting::Fragment;
+pub use taking::Taken;
 pub use task::{Classes, Task};

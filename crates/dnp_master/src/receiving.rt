@@ -5,10 +5,12 @@ ghost use Rattle.std.specs.Result.{IsOkAnd};
 ghost use Rattle.dnp_objects.specs.Events.{IsEvent};
 ghost use Rattle.dnp_master.specs.Calls.{actions_of, has_rows, receive_of};
 ghost use Rattle.dnp_master.specs.Sinks.{IsSinkFault, LeavesSink};
+ghost use Rattle.dnp_master.specs.Taking.{IsFit, WorksOut, taking_of};
 
 use crate::actions::MasterActions;
 use crate::fault::MasterFault;
 use crate::master::Master;
+use crate::taking::Taken;
 use dnp_eventbuf::{Rows, Sink};
 use dnp_objects::Row;
 use std::alloc::Global;
@@ -45,6 +47,41 @@ impl Master {
     {
         if self.is_open {
             self.plan.prepare(alloc);
+        }
+    }
+
+    /// Looks at octets that came at this moment, in milliseconds: what they hold, and what they make of the master
+    /// once they are settled. Nothing changes, and nothing is sent, before `settle`: for callers who store the
+    /// rows themselves in between.
+    ///
+    /// Refused is, first of all, what is no response (`Malformed`), then an event of a point that the plan lacks,
+    /// or that has no class (`Stranger`), and then being out of memory for the rows (`Memory`).
+    pub fn look(&mut self, alloc: Global, now: u64, octets: &[u8]) -> Result<Taken, MasterFault>
+        ensures same { self.new ≡ self.old }
+        ensures looked { WorksOut self.old (receive_of self.old now octets.now) result }
+    {
+        self.prepare(alloc);
+        self.take(alloc, now, octets)
+    }
+
+    /// Settles what `look` has found, its rows being stored: the master goes on, and its confirm may be sent. Told
+    /// are the rows that the store dropped for them.
+    pub fn settle(&mut self, taken: Taken, dropped: Rows) -> MasterActions
+        requires { IsFit taken }
+        ensures after { self.new ≡ (taking_of self.old taken).state }
+        ensures actions { result ≡ actions_of (taking_of self.old taken) dropped }
+    {
+        let count = taken.events().len();
+        let next = taken.next;
+        self.seq = next.seq;
+        self.request = next.request;
+        self.selected = next.selected;
+        MasterActions {
+            send: taken.send,
+            taken: count,
+            dropped,
+            outcome: next.outcome,
+            restart: taken.restart,
         }
     }
 
@@ -90,22 +127,8 @@ impl Master {
         ensures exhausted { S.honest sink.new → IfErr result (λ fault. fault ≡ MasterFault.Exhausted
             → IfOk (receive_of self.old now octets.now) (λ t. IsTrue (S.exhausts sink.old t.events))) }
     {
-        self.prepare(alloc);
-        let taken = self.take(alloc, now, octets)?;
-        let events = taken.gathered.events();
-        let statics = taken.gathered.statics();
-        let dropped = give(sink, alloc, events, statics)?;
-        let count = events.len();
-        let next = taken.next;
-        self.seq = next.seq;
-        self.request = next.request;
-        self.selected = next.selected;
-        Ok(MasterActions {
-            send: taken.send,
-            taken: count,
-            dropped,
-            outcome: next.outcome,
-            restart: taken.restart,
-        })
+        let taken = self.look(alloc, now, octets)?;
+        let dropped = give(sink, alloc, taken.events(), taken.statics())?;
+        Ok(self.settle(taken, dropped))
     }
 }

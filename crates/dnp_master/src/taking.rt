@@ -1,11 +1,12 @@
 //! What a response makes of the master, before the sink is asked.
 
-ghost use Rattle.std.specs.Prelude.{◌≡◌, ◌<◌, true, None, Some};
+ghost use Rattle.std.specs.Prelude.{◌≡◌, ◌<◌, true, None, Some, All};
+ghost use Rattle.dnp_objects.specs.Events.{IsEvent};
 ghost use Rattle.dnp_appfragment.specs.Whole.{response as answered};
 ghost use Rattle.dnp_master.specs.Calls as spec;
 ghost use Rattle.dnp_master.specs.Outcomes as outcomes;
 ghost use Rattle.dnp_master.specs.State.{after, deadline as deadline_of};
-ghost use Rattle.dnp_master.specs.Taking.{IsFit, WorksOut, taking_of, with_next};
+ghost use Rattle.dnp_master.specs.Taking.{IsFit, WorksOut, events_taken, statics_taken, taking_of, with_next};
 
 use crate::fault::MasterFault;
 use crate::gathering::Gathered;
@@ -14,7 +15,7 @@ use crate::outcome::{Echo, Outcome};
 use crate::request::{Case, OpenRequest};
 use crate::task::Task;
 use dnp_appfragment::{Control, Function, Iin, Response, confirm, read_response};
-use dnp_objects::Command;
+use dnp_objects::{Command, Row};
 use std::alloc::Global;
 
 /// What changes of the master's connection, and the outcome of its task.
@@ -26,13 +27,33 @@ pub(crate) struct Next {
     pub outcome: Option<Outcome>,
 }
 
-/// What a fragment makes of the master, where the sink takes its rows.
+/// What a fragment holds, and what it makes of the master once its rows are stored: what `Master::look` finds and
+/// `Master::settle` settles.
 #[derive(Drop)]
-pub(crate) struct Taken {
-    pub next: Next,
-    pub gathered: Gathered,
-    pub send: Option<[u8; 2]>,
-    pub restart: bool,
+pub struct Taken {
+    pub(crate) next: Next,
+    pub(crate) gathered: Gathered,
+    pub(crate) send: Option<[u8; 2]>,
+    pub(crate) restart: bool,
+}
+
+impl Taken {
+    /// The events, in order. Each can be reported as one.
+    pub fn events(&self) -> &[Row]
+        requires { IsFit self.now }
+        ensures value { result.now ≡ events_taken self.now }
+        ensures carried { All IsEvent result.now }
+    {
+        self.gathered.events()
+    }
+
+    /// The present values, in order.
+    pub fn statics(&self) -> &[Row]
+        requires { IsFit self.now }
+        ensures { result.now ≡ statics_taken self.now }
+    {
+        self.gathered.statics()
+    }
 }
 
 /// Whether it is a response that nobody asked for, whole in one fragment.
