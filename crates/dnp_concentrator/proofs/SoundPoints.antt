@@ -18,7 +18,7 @@ use Rattle.dnp_concentrator.specs.declared.span.Spans.{Spans}
 use Rattle.dnp_concentrator.specs.IndexKinds.{kind_of_points}
 use Rattle.dnp_concentrator.specs.IndexMap.{IsMap, is_in, no_spans, span_of}
 use Rattle.dnp_concentrator.specs.Plan.{IsClass, KeepsLimits, KeepsSubLimits, map_of, spans_of}
-use Rattle.dnp_concentrator.specs.PointsAbove.{block_above, point_of, points_above}
+use Rattle.dnp_concentrator.specs.PointsAbove.{block_above, block_of, point_of, points_above, points_below}
 
 -- ---- lists
 
@@ -135,3 +135,41 @@ sound_above plan keeps is TooWide (kind, wide) =
     (subst (λ (blocks : List Block). Any station.IsTooWide blocks) (blocks-above kind plan) wide))
 sound_above plan keeps is Overlap (kind, shared) =
     no-shared kind plan.substations is (subst (λ (blocks : List Block). ShareIndex blocks) (blocks-above kind plan) shared)
+
+-- ---- the points of one substation
+
+only : {X : Type 0} (P : X → Type 0) (x : X) → Any P (x ∷ []) → P x
+only P x (zero, y, lt, at, p) = subst P (sym at) p
+only P x (suc k, y, lt, at, p) = absurd (omega (arith, lt))
+
+class-below : (kind : Kind) (s : SubPlan) → KeepsSubLimits s → Any (station.HasWrongPoint kind) (station.blocks_of (points_below s) kind) → ⊥
+class-below points.Binary s keeps wrong =
+    good-points points.Binary s.binary keeps.binary (only (station.HasWrongPoint points.Binary) (block_of 0 s.binary) wrong)
+class-below points.Counter s keeps wrong =
+    good-points points.Counter s.counter keeps.counter (only (station.HasWrongPoint points.Counter) (block_of 0 s.counter) wrong)
+class-below points.Analog s keeps wrong =
+    good-points points.Analog s.analog keeps.analog (only (station.HasWrongPoint points.Analog) (block_of 0 s.analog) wrong)
+
+few-in : (classes : List ℕ) → length classes ≤ MAX_POINTS → length (block_of 0 classes).points ≤ MAX_POINTS
+few-in classes few = omega (arith, length-map classes point_of, few)
+
+few-below : (kind : Kind) (s : SubPlan) → KeepsSubLimits s → (P : Block → Type 0) → Any P (station.blocks_of (points_below s) kind)
+    → (block : Block) × (block.base ≡ 0) × (length block.points ≤ MAX_POINTS) × P block
+few-below points.Binary s keeps P any = (block_of 0 s.binary, refl, few-in s.binary keeps.few_binary, only P (block_of 0 s.binary) any)
+few-below points.Counter s keeps P any = (block_of 0 s.counter, refl, few-in s.counter keeps.few_counter, only P (block_of 0 s.counter) any)
+few-below points.Analog s keeps P any = (block_of 0 s.analog, refl, few-in s.analog keeps.few_analog, only P (block_of 0 s.analog) any)
+
+one-below : (kind : Kind) (s : SubPlan) → length (station.blocks_of (points_below s) kind) ≡ 1
+one-below points.Binary s = refl
+one-below points.Counter s = refl
+one-below points.Analog s = refl
+
+pub sound_below : (s : SubPlan) → KeepsSubLimits s → station.IsSound (points_below s)
+sound_below s keeps Class (kind, wrong) = class-below kind s keeps wrong
+sound_below s keeps TooMany (kind, many) =
+    let found = few-below kind s keeps station.HasTooMany many in
+    omega (arith, found.2, found.3)
+sound_below s keeps TooWide (kind, wide) =
+    let found = few-below kind s keeps station.IsTooWide wide in
+    omega (arith, found.1, found.2, found.3)
+sound_below s keeps Overlap (kind, shared) = omega (arith, shared.in_order, shared.in_list, one-below kind s)

@@ -1,13 +1,18 @@
 -- Definition: a concentrator's parts: an outstation towards the station above, to which the queue and the book are lent,
--- and what the concentrator is once one of them was written.
-use Rattle.std.specs.Prelude.{Bool, List}
+-- and a link to each substation; what the concentrator is once one of them was written, and what a call leaves of them.
+use Rattle.std.specs.Prelude.{◌≡◌, ◌≢◌, ℕ, Bool, IsTrue, List, Result, Err, IfErr, slice_set}
 use Rattle.dnp_controls.specs.Book.{Ledger}
 use Rattle.dnp_eventbuf.specs.Stock.{Stock}
 use Rattle.dnp_outstation.specs.State.{Core, State}
-use Rattle.dnp_outstation.specs.Station.{state_of}
+use Rattle.dnp_master.specs.declared.fault.MasterFault.{MasterFault}
+use Rattle.dnp_master.specs.declared.fault.MasterFault.TheVariants.{Device}
+use Rattle.dnp_outstation.specs.Station.{state_of, with_points}
+use Rattle.dnp_pointdb.specs.Database.{Database, lost_of}
+use Rattle.dnp_concentrator.specs.Below.{link_in}
 use Rattle.dnp_concentrator.specs.declared.book_outputs.BookOutputs.{BookOutputs}
 use Rattle.dnp_concentrator.specs.declared.concentrator.Concentrator.{Concentrator}
 use Rattle.dnp_concentrator.specs.declared.span.Spans.{Spans}
+use Rattle.dnp_concentrator.specs.Relaying.{Relaying}
 use Rattle.dnp_concentrator.specs.BookOutputs.{IsWell, book_in, map_in, panel_of, with_book}
 
 -- the outstation towards the station above
@@ -27,6 +32,17 @@ book_of c = book_in (outputs_of c)
 abbrev pub indices_of : {Q B : Type 0} → Concentrator Q B → List Spans
 indices_of c = map_in (outputs_of c)
 
+-- the links to the substations, by their numbers
+abbrev pub links_of : {Q B : Type 0} → Concentrator Q B → List Relaying
+links_of c = c.links.items
+
+abbrev pub link_at : {Q B : Type 0} → Concentrator Q B → ℕ → Relaying
+link_at c link = link_in (links_of c) link
+
+-- the readings above
+abbrev pub points_of : {Q B : Type 0} → Concentrator Q B → Database
+points_of c = (core_of c).points
+
 abbrev pub with_queue : {Q B : Type 0} → Concentrator Q B → Q → Concentrator Q B
 with_queue c queue = record c { queue = queue }
 
@@ -40,3 +56,30 @@ IsBookWell honest is_stopped c = IsWell honest is_stopped (outputs_of c)
 -- the state of the outstation above, by what queue and book say of themselves
 abbrev pub above_of : {Q B : Type 0} → (Q → Stock) → (B → Ledger) → Concentrator Q B → State
 above_of contents ledger c = state_of (core_of c) (contents (queue_of c)) (panel_of ledger (outputs_of c))
+
+-- ---- what a call leaves
+
+-- of this link it makes that one, and no other changes
+abbrev pub SetsLink : {Q B : Type 0} → Concentrator Q B → ℕ → Relaying → Concentrator Q B → Type 0
+SetsLink old link r new = links_of new ≡ slice_set (links_of old) link r
+
+-- queue, book and index map are as they were
+pub record KeepsStores {Q B : Type 0} (old new : Concentrator Q B) : Type 0 where
+  pub queue : queue_of new ≡ queue_of old
+  pub outputs : outputs_of new ≡ outputs_of old
+
+-- the outstation above where a substation can't be reached any more
+abbrev pub without_link : Core → ℕ → Core
+without_link core link = with_points core (lost_of core.points link)
+
+-- What a call of at most one append leaves of the queue, by the queue before and after it and the call's answer.
+pub record LeavesQueue {Queue Answer : Type 0} (honest : Queue → Type 0) (is_stopped : Queue → Bool) (contents : Queue → Stock)
+    (others : Queue → List Stock) (old new : Queue) (answer : Result Answer MasterFault) : Type 0 where
+  -- an honest queue was honest before
+  pub held : honest new → honest old
+  -- a refusal changes nothing, and what is beside the lanes stays
+  pub unchanged : honest new → IfErr answer (λ _. contents new ≡ contents old)
+  pub beside : honest new → others new ≡ others old
+  -- Device stops it, and nothing else does
+  pub device_stops : answer ≡ Err Device → IsTrue (is_stopped new)
+  pub runs_on : answer ≢ Err Device → is_stopped new ≡ is_stopped old

@@ -1,5 +1,6 @@
 -- Definitions, by which contracts promise.
 pub mod Awaiting
+pub mod Below
 pub mod BookOutputs
 pub mod Centre
 pub mod Concentrator

@@ -1,6 +1,6 @@
 -- Definition: the points above: those of each substation, in a block of their own, with the classes of the plan, from the
--- substation's base on.
-use Rattle.std.specs.Prelude.{ℕ, List, map, slice_index}
+-- substation's base on; and a substation's own points, as its master below needs them.
+use Rattle.std.specs.Prelude.{ℕ, List, [], ◌∷◌, map, slice_index}
 use Rattle.dnp_objects.specs.declared.row.Kind.{Kind}
 use Rattle.dnp_objects.specs.declared.row.Kind.TheVariants.{Binary, Counter, Analog}
 use Rattle.dnp_pointdb.specs.declared.point.Block.{Block}
@@ -27,3 +27,8 @@ abbrev pub points_above : Plan → points.Plan
 points_above plan =
     points.plan_of (map (block_above Binary) plan.substations) (map (block_above Counter) plan.substations)
     (map (block_above Analog) plan.substations)
+
+-- those of one substation, whose indices begin with 0
+abbrev pub points_below : SubPlan → points.Plan
+points_below substation =
+    points.plan_of (block_of 0 substation.binary ∷ []) (block_of 0 substation.counter ∷ []) (block_of 0 substation.analog ∷ [])

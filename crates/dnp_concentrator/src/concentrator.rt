@@ -1,6 +1,6 @@
-//! A data concentrator: the outstation that it is to the station above.
+//! A data concentrator, and the outstation that it is to the station above.
 
-ghost use Rattle.std.specs.Prelude.{◌≡◌, ◌≢◌, ◌⊎◌, ◌≤◌, [], true, false, All, IsErr, IsTrue, OnOk, OnErr, IfOk, Err, ◌↔◌, length};
+ghost use Rattle.std.specs.Prelude.{◌≡◌, ◌≢◌, ◌⊎◌, ◌≤◌, [], true, false, All, IsErr, IsTrue, OnOk, OnErr, IfOk, Err, ◌↔◌, length, map};
 ghost use Rattle.std.specs.Borrow.{Lends, sem};
 ghost use Rattle.dnp_eventbuf.specs.Stock.{rows_in};
 ghost use Rattle.dnp_outstation.specs.State.{is_quiet};
@@ -12,15 +12,19 @@ ghost use Rattle.dnp_concentrator.specs.BookOutputs.{panel_of, Performs, Exhaust
 ghost use Rattle.dnp_concentrator.specs.IndexMap.{IsTooWide, Overlaps};
 ghost use Rattle.dnp_concentrator.specs.Plan.{KeepsLimits, map_of};
 ghost use Rattle.dnp_concentrator.specs.PointsAbove.{points_above};
+ghost use Rattle.dnp_concentrator.specs.Below.{new_links};
+ghost use Rattle.dnp_concentrator.specs.Relaying as link;
 ghost use Rattle.dnp_pointdb.specs.Database.{new_database};
 ghost use Rattle.dnp_concentrator.specs.contracts.concentrator.Concentrator.{the_row};
-ghost use Rattle.dnp_concentrator.specs.Concentrator.{core_of, queue_of, outputs_of, book_of, indices_of, with_queue, with_other_book, IsBookWell, above_of};
+ghost use Rattle.dnp_concentrator.specs.Concentrator.{core_of, queue_of, outputs_of, book_of, indices_of, links_of, with_queue, with_other_book, IsBookWell, above_of};
 
 use crate::book_outputs::BookOutputs;
 use crate::fault::MapFault;
 use crate::index_map::IndexMap;
+use crate::links::{hang_up_all, new_links};
 use crate::plan::Plan;
 use crate::points_above::points_above;
+use crate::relay::Relay;
 use dnp_controls::Book;
 use dnp_eventbuf::{Lanes, StoreFault};
 use dnp_outstation::{Actions, OutstationCore};
@@ -28,15 +32,19 @@ use dnp_pointdb::{PointDb, Times};
 use std::alloc::Global;
 
 /// A data concentrator (IEEE Std 1815-2012, application layer): an outstation to the station above, whose events are those
-/// of the queue, and whose outputs are the book's.
+/// of the queue, and whose outputs are the book's; and the master of each substation below, whose events go to the queue,
+/// and to which it relays the book's controls.
 ///
-/// A call that ends in `_above` fills the caller's actions. A refused call changes nothing and sends nothing; only after
-/// Device the queue and the book promise nothing of what they hold. The moment of a call, `now`, is in milliseconds.
+/// A call that ends in `_above` fills the caller's actions. One of a link below wants the number of a substation of the
+/// plan, and doesn't drive the link above. A refused call changes nothing and sends nothing; only after Device the queue
+/// and the book promise nothing of what they hold. The moment of a call, `now`, is in milliseconds.
 #[derive(Drop)]
 pub struct Concentrator<Q, B> {
-    core: OutstationCore,
-    queue: Q,
-    outputs: BookOutputs<B>,
+    pub(crate) core: OutstationCore,
+    pub(crate) queue: Q,
+    pub(crate) outputs: BookOutputs<B>,
+    /// The links to the substations, by their numbers.
+    pub(crate) links: Vec<Relay>,
 }
 
 impl<Q: Lanes + Drop, B: Book + Drop> Concentrator<Q, B> {
@@ -50,6 +58,7 @@ impl<Q: Lanes + Drop, B: Book + Drop> Concentrator<Q, B> {
         requires { KeepsLimits plan.now }
         ensures core { IfOk result (λ c. core_of c ≡ new_core (new_database (points_above plan.now)) plan.now.times) }
         ensures indices { IfOk result (λ c. indices_of c ≡ map_of plan.now) }
+        ensures links { IfOk result (λ c. links_of c ≡ new_links plan.now) }
         ensures queue { IfOk result (λ c. queue_of c ≡ queue) }
         ensures book { IfOk result (λ c. book_of c ≡ book) }
         ensures too_wide { (result ≡ Err MapFault.TooWide) ↔ IsTooWide (map_of plan.now) }
@@ -63,25 +72,19 @@ impl<Q: Lanes + Drop, B: Book + Drop> Concentrator<Q, B> {
         let Ok(points) = PointDb::new(alloc, points) else {
             return Err(MapFault::Memory);
         };
-        Ok(Concentrator::over(points, map, plan.times, queue, book))
+        let Ok(links) = new_links(alloc, plan) else {
+            return Err(MapFault::Memory);
+        };
+        Ok(Concentrator {
+            core: OutstationCore::new(points, plan.times),
+            queue,
+            outputs: BookOutputs::new(map, book),
+            links,
+        })
     }
 }
 
 impl<Q: Lanes, B: Book> Concentrator<Q, B> {
-    /// A concentrator over these points above, this index map, queue and book. It is closed, as after a restart.
-    pub fn over(points: PointDb, map: IndexMap, times: Times, queue: Q, book: B) -> Self
-        ensures core { core_of result ≡ new_core points times }
-        ensures map { indices_of result ≡ map }
-        ensures queue { queue_of result ≡ queue }
-        ensures book { book_of result ≡ book }
-    {
-        Concentrator {
-            core: OutstationCore::new(points, times),
-            queue,
-            outputs: BookOutputs::new(map, book),
-        }
-    }
-
     /// The queue and the book, as they stand.
     pub fn into_stores(self) -> (Q, B)
         ensures queue { result.0 ≡ queue_of self }
@@ -91,6 +94,7 @@ impl<Q: Lanes, B: Book> Concentrator<Q, B> {
             core: _,
             queue,
             outputs,
+            links: _,
         } = self;
         (queue, outputs.into_book())
     }
@@ -118,16 +122,18 @@ impl<Q: Lanes, B: Book> Concentrator<Q, B> {
         self.core.quiet()
     }
 
-    /// A restart: the outstation above is closed, and its points are as new. The queue and the book stay, and nothing else
-    /// does, so that this is what `over` makes of new points.
+    /// A restart: the outstation above is closed, and its points are as new; each link below is closed, and no control is
+    /// in progress there. The queue and the book stay, and nothing else does.
     pub fn restart(&mut self, alloc: Global)
         ensures core { core_of self.new ≡ restarted_core (core_of self.old) }
         ensures queue { Q.honest (queue_of self.new) → Q.contents (queue_of self.new) ≡ Q.contents (queue_of self.old) }
         ensures held { Q.honest (queue_of self.new) → Q.honest (queue_of self.old) }
         ensures runs_on { Q.is_stopped (queue_of self.new) ≡ Q.is_stopped (queue_of self.old) }
         ensures outputs { outputs_of self.new ≡ outputs_of self.old }
+        ensures links { links_of self.new ≡ map link.hung_up (links_of self.old) }
     {
         let _ = self.core.restart(alloc, &mut self.queue, true);
+        hang_up_all(&mut self.links);
     }
 
     /// The connection above ends: the outstation above is closed, and forgets what came.
@@ -135,6 +141,7 @@ impl<Q: Lanes, B: Book> Concentrator<Q, B> {
         ensures core { core_of self.new ≡ closed (core_of self.old) }
         ensures queue { queue_of self.new ≡ queue_of self.old }
         ensures outputs { outputs_of self.new ≡ outputs_of self.old }
+        ensures links { links_of self.new ≡ links_of self.old }
     {
         self.core.hung_up();
     }
@@ -156,6 +163,7 @@ impl<Q: Lanes, B: Book> Concentrator<Q, B> {
         ensures unchanged { OnErr result (core_of self.new ≡ core_of self.old) }
         ensures actions_unchanged { OnErr result (actions.new ≡ actions.old) }
         ensures asks { IsErr result → (core_of self.old).times.unsolicited ≡ true }
+        ensures links { links_of self.new ≡ links_of self.old }
     {
         self.core
             .opened(actions, alloc, &mut self.queue, &mut self.outputs, now)
@@ -178,6 +186,7 @@ impl<Q: Lanes, B: Book> Concentrator<Q, B> {
         ensures unchanged { OnErr result (core_of self.new ≡ core_of self.old) }
         ensures actions_unchanged { OnErr result (actions.new ≡ actions.old) }
         ensures asks { IsErr result → (core_of self.old).times.unsolicited ≡ true }
+        ensures links { links_of self.new ≡ links_of self.old }
     {
         self.core
             .tick(actions, alloc, &mut self.queue, &mut self.outputs, now)
@@ -219,6 +228,7 @@ impl<Q: Lanes, B: Book> Concentrator<Q, B> {
             → Exhausts B.contents (outputs_of self.old) (performed_in (core_of self.old) (panel_of B.contents (outputs_of self.old)) now octets.now) → ⊥) }
         ensures looked_at { IsErr result → is_looked_at (core_of self.old) octets.now ≡ true }
         ensures asks { IsErr result → (core_of self.old).times.unsolicited ≡ false → MayAsk (core_of self.old) (panel_of B.contents (outputs_of self.old)) now octets.now }
+        ensures links { links_of self.new ≡ links_of self.old }
     {
         self.core.receive(
             actions,

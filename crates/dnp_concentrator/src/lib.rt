@@ -3,6 +3,7 @@
 //! the plan of the whole system, and the index map between the substations and the station above them.
 #![tactic(auto)]
 
+mod below;
 mod book_outputs;
 mod centre;
 mod concentrator;
@@ -12,16 +13,20 @@ mod index_map;
 mod issue;
 pub mod laws;
 mod limits;
+mod links;
 mod listed;
 mod mapped;
 mod order;
 mod plan;
 mod points_above;
 mod progress;
+mod readings;
 mod receiving;
+mod receiving_below;
 mod relay;
 pub mod relay_laws;
 mod relayed;
+mod relaying_below;
 mod span;
 
 pub use book_outputs::BookOutputs;

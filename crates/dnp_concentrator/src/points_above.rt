@@ -25,7 +25,7 @@ fn points_of(alloc: Global, classes: &[u8]) -> Result<Vec<Point>, AllocError>
 }
 
 /// Points of these classes, without deadbands, with the indices from `base` on.
-fn block_of(alloc: Global, base: u16, classes: &[u8]) -> Result<Block, AllocError>
+pub(crate) fn block_of(alloc: Global, base: u16, classes: &[u8]) -> Result<Block, AllocError>
     ensures { IfOk result (λ block. block ≡ spec.block_of base classes.now) }
 {
     Ok(Block {

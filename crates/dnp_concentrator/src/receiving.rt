@@ -4,12 +4,13 @@ ghost use Rattle.std.specs.Prelude.{◌≡◌, ◌⊎◌, true, false, [], Ok, E
 ghost use Rattle.std.specs.Result.{IsOkAnd};
 ghost use Rattle.dnp_master.specs.Calls.{actions_of, has_rows, receive_of};
 ghost use Rattle.dnp_master.specs.Sinks.{IsSinkFault, LeavesSink};
+ghost use Rattle.dnp_master.specs.Taking.{IsFit, WorksOut, taking_of};
 ghost use Rattle.dnp_concentrator.specs.Relaying as spec;
 
 use crate::progress::Progress;
 use crate::relay::Relay;
 use dnp_eventbuf::Sink;
-use dnp_master::{MasterActions, MasterFault, Outcome};
+use dnp_master::{MasterActions, MasterFault, Outcome, Rows, Taken};
 use std::alloc::Global;
 
 /// What an outcome of the master's task makes of the control in progress.
@@ -25,6 +26,26 @@ fn heard(progress: Option<Progress>, outcome: &Option<Outcome>) -> Option<Progre
 }
 
 impl Relay {
+    /// Looks at octets that came at this moment, in milliseconds, as the master does, with the same refusals.
+    pub fn look(&mut self, alloc: Global, now: u64, octets: &[u8]) -> Result<Taken, MasterFault>
+        ensures same { self.new ≡ self.old }
+        ensures looked { WorksOut self.old.master (receive_of self.old.master now octets.now) result }
+    {
+        self.master.look(alloc, now, octets)
+    }
+
+    /// Settles what `look` has found, as the master does; where the response to a request of the control in progress
+    /// came to its end, the outcome is the control's.
+    pub fn settle(&mut self, taken: Taken, dropped: Rows) -> MasterActions
+        requires { IsFit taken }
+        ensures after { self.new ≡ spec.received self.old (taking_of self.old.master taken) }
+        ensures actions { result ≡ actions_of (taking_of self.old.master taken) dropped }
+    {
+        let actions = self.master.settle(taken, dropped);
+        self.progress = heard(self.progress, &actions.outcome);
+        actions
+    }
+
     /// Takes in octets that came at this moment, in milliseconds, as the master does, with the same refusals;
     /// where the response to a request of the control in progress came to its end, the outcome is the
     /// control's.
