@@ -6,6 +6,7 @@
 
 mod channel;
 mod ends;
+mod event;
 pub mod joined_laws;
 pub mod laws;
 mod link_event;
@@ -13,9 +14,12 @@ mod listing;
 pub mod master_laws;
 mod one_link;
 pub mod outstation_laws;
+mod report;
 mod sending;
 mod stopped;
 
+pub use event::{Damaged, Event, Link, Place};
 pub use link_event::{End, LinkEvent, Way};
 pub use one_link::OneLink;
+pub use report::Report;
 pub use stopped::{Cause, Stopped};
