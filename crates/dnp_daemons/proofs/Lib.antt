@@ -2,6 +2,7 @@ mod Heard
 mod Lines
 mod OctetText
 mod OneAnswer
+mod ReportLists
 mod Opened
 mod Said
 mod Spaced

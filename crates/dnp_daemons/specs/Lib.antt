@@ -5,4 +5,5 @@ pub mod TextFaults
 pub mod Units
 pub mod Station
 pub mod AnswerLine
+pub mod ReportText
 pub mod steps

@@ -57,7 +57,7 @@ fn first_octet(part: &[u8]) -> Option<u8>
 }
 
 /// The capital hexadecimal digit of a number below 16.
-fn digit_of(number: u8) -> u8
+pub(crate) fn digit_of(number: u8) -> u8
     requires { number < 16 }
     ensures { result ≡ digit number }
 {
