@@ -6,10 +6,14 @@ ghost use Rattle.dnp_outstation.specs.Calls.{opened_of, connection_after, tick_o
 ghost use Rattle.dnp_outstation.specs.Parts.{lanes_of, outputs_of, whole_of};
 ghost use Rattle.dnp_outstation.specs.State.{State};
 ghost use Rattle.dnp_outstation.specs.Station.{actions_of};
+ghost use Rattle.dnp_concentrator.specs.BookOutputs.{panel_of};
+ghost use Rattle.dnp_concentrator.specs.Concentrator as concentrator;
+ghost use Rattle.dnp_concentrator.specs.Concentrator.{above_of, queue_of, IsBookWell};
 ghost use Rattle.dnp_world.specs.Channels.{TakesStep};
 
 use crate::stopped::Cause;
-use dnp_controls::Outputs;
+use dnp_concentrator::Concentrator;
+use dnp_controls::{Book, Outputs};
 use dnp_eventbuf::Lanes;
 use dnp_outstation::{Actions, Outstation};
 use std::alloc::Global;
@@ -76,6 +80,35 @@ impl<L: Lanes, O: Outputs> OutstationEnd for Outstation<L, O> {
 
     fn tick(&mut self, actions: &mut Actions, alloc: Global, now: u64) -> Result<(), Cause> {
         self.tick_into(actions, alloc, now)?;
+        Ok(())
+    }
+}
+
+impl<Q: Lanes, B: Book> OutstationEnd for Concentrator<Q, B> {
+    ghost state = { above_of Q.contents B.contents };
+
+    ghost panel = { λ c. panel_of B.contents (concentrator.outputs_of c) };
+
+    ghost honest = { λ c. Q.honest (queue_of c) × IsBookWell B.honest B.is_stopped c };
+
+    fn opened(&mut self, actions: &mut Actions, alloc: Global, now: u64) -> Result<(), Cause> {
+        self.opened_above(actions, alloc, now)?;
+        Ok(())
+    }
+
+    fn receive(
+        &mut self,
+        actions: &mut Actions,
+        alloc: Global,
+        now: u64,
+        octets: &[u8],
+    ) -> Result<(), Cause> {
+        self.receive_above(actions, alloc, now, octets)?;
+        Ok(())
+    }
+
+    fn tick(&mut self, actions: &mut Actions, alloc: Global, now: u64) -> Result<(), Cause> {
+        self.tick_above(actions, alloc, now)?;
         Ok(())
     }
 }

@@ -1,5 +1,6 @@
 //! Why a list of events is not done to its end.
 
+use dnp_objects::StoreFault;
 use dnp_outstation::Fault;
 use std::alloc::AllocError;
 use thiserror::Error;
@@ -42,6 +43,17 @@ impl From<Fault> for Cause {
             Fault::Exhausted => Cause::Exhausted,
             Fault::Device => Cause::Device,
             Fault::NoPoint | Fault::ValueRange | Fault::TimeRange | Fault::Memory => Cause::Memory,
+        }
+    }
+}
+
+/// What a store refuses is a cause.
+impl From<StoreFault> for Cause {
+    fn from(fault: StoreFault) -> Cause {
+        match fault {
+            StoreFault::Exhausted => Cause::Exhausted,
+            StoreFault::Memory => Cause::Memory,
+            StoreFault::Device => Cause::Device,
         }
     }
 }
