@@ -11,7 +11,7 @@ use Rattle.dnp_objects.specs.Lanes.{lane_number}
 use Rattle.dnp_pointdb.specs.Database.{changed_of}
 use Rattle.dnp_pointdb.specs.declared.reading.Reading.{Reading}
 use Rattle.dnp_pointdb.specs.declared.fault.ChangeFault.{ChangeFault}
-use Rattle.dnp_controls.specs.Latches.{no_panel}
+use Rattle.dnp_controls.specs.Panel.{Panel}
 use Rattle.dnp_eventbuf.specs.declared.numbered.Numbered.{Numbered}
 use Rattle.dnp_eventbuf.specs.Stock.{Stock, exhausts, with_rows, LaneState, lane_at, is_full, row_of, dropped_from, dropped_by, up_to, lanes_up_to, lane_rows, rows_in}
 use Rattle.dnp_line.specs.Lines.{LineState}
@@ -79,12 +79,12 @@ released_length (lane ∷ lanes) (u ∷ us) =
 -- what `dnp_outstation` promises of what comes
 pub record Laws : Type 0 where
   pub says : (c : _) (octets : List ℕ) → CaseSays c octets (case_of c octets)
-  pub solicited : (s : State) (now : ℕ) (octets : List ℕ) (w : Awaited) → case_of s.core octets ≡ Confirms → s.core.session.awaited ≡ Some w
-      → Releases s w.upto (connection_after s no_panel now octets)
-  pub unsolicited : (s : State) (now : ℕ) (octets : List ℕ) (w : Unsolicited) → case_of s.core octets ≡ ConfirmsUnsolicited
-      → s.core.session.unsolicited ≡ Some w → Releases s w.upto (connection_after s no_panel now octets)
-  pub others : (s : State) (now : ℕ) (octets : List ℕ) → case_of s.core octets ≢ Confirms → case_of s.core octets ≢ ConfirmsUnsolicited
-      → ReleasesNone s (connection_after s no_panel now octets)
+  pub solicited : (s : State) (panel : Panel) (now : ℕ) (octets : List ℕ) (w : Awaited) → case_of s.core octets ≡ Confirms → s.core.session.awaited ≡ Some w
+      → Releases s w.upto (connection_after s panel now octets)
+  pub unsolicited : (s : State) (panel : Panel) (now : ℕ) (octets : List ℕ) (w : Unsolicited) → case_of s.core octets ≡ ConfirmsUnsolicited
+      → s.core.session.unsolicited ≡ Some w → Releases s w.upto (connection_after s panel now octets)
+  pub others : (s : State) (panel : Panel) (now : ℕ) (octets : List ℕ) → case_of s.core octets ≢ Confirms → case_of s.core octets ≢ ConfirmsUnsolicited
+      → ReleasesNone s (connection_after s panel now octets)
 
 mapped_some : {A B : Type 0} (f : A → B) (o : Option A) (y : B) → option_map f o ≡ Some y → (x : A) × (o ≡ Some x)
 mapped_some f None y e = absurd (none-some y e)
@@ -98,25 +98,25 @@ few_none : (s : State) (step : Step) → ReleasesNone s step → length step.doe
 few_none s step r = subst (λ (rows : List Row). length rows ≤ length (rows_in s.lanes)) (sym r.discarded) (omega arith)
 
 -- no more rows leave than wait
-pub few_released : Laws → (s : State) (now : ℕ) (octets : List ℕ)
-    → length (connection_after s no_panel now octets).does.discarded ≤ length (rows_in s.lanes)
-few_released laws s now octets = by_case (case_of s.core octets) refl
+pub few_released : Laws → (s : State) (panel : Panel) (now : ℕ) (octets : List ℕ)
+    → length (connection_after s panel now octets).does.discarded ≤ length (rows_in s.lanes)
+few_released laws s panel now octets = by_case (case_of s.core octets) refl
   where
     step : Step
-    step = connection_after s no_panel now octets
+    step = connection_after s panel now octets
 
     none : (k : Case) → case_of s.core octets ≡ k → k ≢ Confirms → k ≢ ConfirmsUnsolicited → length step.does.discarded ≤ length (rows_in s.lanes)
-    none k e first second = few_none s step (laws.others s now octets (λ f. first (sym e ∙ f)) (λ f. second (sym e ∙ f)))
+    none k e first second = few_none s step (laws.others s panel now octets (λ f. first (sym e ∙ f)) (λ f. second (sym e ∙ f)))
 
     by_case : (k : Case) → case_of s.core octets ≡ k → length step.does.discarded ≤ length (rows_in s.lanes)
     by_case Confirms e =
         let says = subst (λ (k : Case). CaseSays s.core octets k) e (laws.says s.core octets) in
         let w = mapped_some (λ (w : Awaited). w.seq) s.core.session.awaited _ says.number in
-        few_by s w.0.upto step (laws.solicited s now octets w.0 e w.1)
+        few_by s w.0.upto step (laws.solicited s panel now octets w.0 e w.1)
     by_case ConfirmsUnsolicited e =
         let says = subst (λ (k : Case). CaseSays s.core octets k) e (laws.says s.core octets) in
         let w = mapped_some (λ (w : Unsolicited). w.seq) s.core.session.unsolicited _ says.number in
-        few_by s w.0.upto step (laws.unsolicited s now octets w.0 e w.1)
+        few_by s w.0.upto step (laws.unsolicited s panel now octets w.0 e w.1)
     by_case PassedOver e = none PassedOver e (λ f. absurd (cc)) (λ f. absurd (cc))
     by_case Stray e = none Stray e (λ f. absurd (cc)) (λ f. absurd (cc))
     by_case Again e = none Again e (λ f. absurd (cc)) (λ f. absurd (cc))

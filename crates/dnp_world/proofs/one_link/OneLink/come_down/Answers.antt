@@ -21,9 +21,9 @@ returns-then-answered-clause-done g c = λ honest.
     let old = link_of contents c.args.self.now in
     let laws : Laws = record {
       says = c.each_case_says_what_came.ensures;
-      solicited = λ s now octets w. c.a_confirm_releases_what_its_fragment_reported.ensures.solicited s no_panel now octets w;
-      unsolicited = λ s now octets w. c.a_confirm_releases_what_its_fragment_reported.ensures.unsolicited s no_panel now octets w;
-      others = λ s now octets. c.a_confirm_releases_what_its_fragment_reported.ensures.others s no_panel now octets;
+      solicited = c.a_confirm_releases_what_its_fragment_reported.ensures.solicited;
+      unsolicited = c.a_confirm_releases_what_its_fragment_reported.ensures.unsolicited;
+      others = c.a_confirm_releases_what_its_fragment_reported.ensures.others;
     } in
     let counted = with_lanes c.args.self.now.outstation c.rows_waiting-waiting.new.lanes in
     let before : State = whole_of contents (λ _. no_panel) counted in
@@ -40,12 +40,12 @@ returns-then-answered-clause-done g c = λ honest.
     let waits : c.rows_waiting-waiting.result ≡ length (rows_in before.lanes) = c.rows_waiting-waiting.ensures.count (c.come_down.ensures.held (honest, tt)).0 in
     let few : length discarded ≤ length (rows_in before.lanes) =
     subst (λ (rows : List Row). length rows ≤ length (rows_in before.lanes)) (sym c.as_slice.ensures)
-    (few_came laws old.now before state does answered first last came c.if-answered.true) in
+    (few_came laws no_panel old.now before state does answered first last came c.if-answered.true) in
     let released : List Row = c.extend_from_slice.new.self.items in
     let lists : released ≡ old.released ++ does.discarded =
     extended (is_ok c.extend_from_slice.result) c.reserve.new.self.items discarded released c.extend_from_slice.ensures.items
     (c.extend_from_slice.ensures.succeeds (omega (arith, few, waits, c.in_ok-reserve.ensures.ok)))
     ∙ ap (λ (rows : List Row). rows ++ discarded) c.in_ok-reserve.ensures.items ∙ ap (λ (rows : List Row). old.released ++ rows) c.as_slice.ensures in
-    comes old state does answered last released
+    comes no_panel old state does answered last released
     (subst (λ (s : State). ComesToOutstation no_panel old.now s state does answered first last) same came)
     (λ _. lists) (λ none. absurd (false≢true (sym none ∙ c.if-answered.true)))
