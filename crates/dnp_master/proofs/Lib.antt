@@ -2,3 +2,4 @@ pub mod RequestHeaders
 pub mod Gatherings
 pub mod Walks
 pub mod LinkSteps
+pub mod Reported

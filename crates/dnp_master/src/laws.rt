@@ -1,9 +1,10 @@
 //! Laws of a master: each function does nothing, and its contract is a law.
-ghost use Rattle.std.specs.Prelude.{◌≡◌, ◌⊎◌, ◌<◌, ℕ, Bool, true, false, List, IfOk, Ok, Err};
+ghost use Rattle.std.specs.Prelude.{◌≡◌, ◌⊎◌, ◌<◌, ℕ, Bool, true, false, List, All, IfOk, Ok, Err};
 ghost use Rattle.dnp_appfragment.specs.Fragments.{confirmation, request_octets};
 ghost use Rattle.dnp_appfragment.specs.Meaning.{request_at};
 ghost use Rattle.dnp_master.specs.declared.task.Task.{Task as TaskValue};
 ghost use Rattle.dnp_master.specs.Calls.{ask_answer, asked, receive_of, unheeded};
+ghost use Rattle.dnp_master.specs.Rows.{is_reported};
 ghost use Rattle.dnp_master.specs.State.{State, closed, is_timed_out, ticked};
 ghost use Rattle.dnp_master.specs.Steps.{Asks, PassesOver, TakesReport, TakesResponse};
 
@@ -16,6 +17,12 @@ use dnp_appfragment::laws::{octets_say_a_request, what_is_spelled_is_a_fragment}
 pub fn what_comes_is_taken_or_passed_over()
     ensures { (s : State) (now : ℕ) (octets : List ℕ) → IfOk (receive_of s now octets) (λ t.
         PassesOver s t ⊎ (TakesResponse s octets t ⊎ TakesReport s octets t)) }
+{}
+
+/// Each event that is taken is of a point of the plan with a class from 1 on.
+pub fn events_taken_are_of_the_plan()
+    ensures { (s : State) (now : ℕ) (octets : List ℕ) → IfOk (receive_of s now octets) (λ t.
+        All (λ event. is_reported s.plan event ≡ true) t.events) }
 {}
 
 /// A master asks while it is open and idle alone, with its own number, and is busy then.
