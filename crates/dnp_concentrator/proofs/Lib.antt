@@ -4,6 +4,7 @@ pub mod Ledgers
 pub mod MappedBack
 pub mod Mapping
 pub mod Orders
+pub mod Passing
 pub mod Queued
 pub mod Refusals
 pub mod Sendings

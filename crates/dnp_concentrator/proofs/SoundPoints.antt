@@ -55,12 +55,12 @@ no-class points.Counter s keeps wrong = good-points points.Counter s.counter kee
 no-class points.Analog s keeps wrong = good-points points.Analog s.analog keeps.analog wrong
 
 -- it has as many points as the span above has indices, from its base on
-base-above : (kind : Kind) (s : SubPlan) → (block_above kind s).base ≡ (span_of (spans_of s) (kind_of_points kind)).base
+pub base-above : (kind : Kind) (s : SubPlan) → (block_above kind s).base ≡ (span_of (spans_of s) (kind_of_points kind)).base
 base-above points.Binary s = refl
 base-above points.Counter s = refl
 base-above points.Analog s = refl
 
-count-above : (kind : Kind) (s : SubPlan) → length (block_above kind s).points ≡ (span_of (spans_of s) (kind_of_points kind)).count
+pub count-above : (kind : Kind) (s : SubPlan) → length (block_above kind s).points ≡ (span_of (spans_of s) (kind_of_points kind)).count
 count-above points.Binary s = length-map s.binary point_of
 count-above points.Counter s = length-map s.counter point_of
 count-above points.Analog s = length-map s.analog point_of
@@ -111,7 +111,7 @@ no-shared kind subs is shared =
     omega (arith, same, shared.in_order)
 
 -- the blocks of a kind
-blocks-above : (kind : Kind) (plan : Plan) → station.blocks_of (points_above plan) kind ≡ map (block_above kind) plan.substations
+pub blocks-above : (kind : Kind) (plan : Plan) → station.blocks_of (points_above plan) kind ≡ map (block_above kind) plan.substations
 blocks-above points.Binary plan = refl
 blocks-above points.Counter plan = refl
 blocks-above points.Analog plan = refl

@@ -4,14 +4,18 @@ use Rattle.std.specs.Prelude.{◌≡◌, ◌≢◌, ℕ, Bool, IsTrue, List, Res
 use Rattle.dnp_controls.specs.Book.{Ledger}
 use Rattle.dnp_eventbuf.specs.Stock.{Stock}
 use Rattle.dnp_outstation.specs.State.{Core, State}
+use Rattle.dnp_objects.specs.declared.lane.LaneRow.{LaneRow}
+use Rattle.dnp_objects.specs.declared.row.Row.{Row}
+use Rattle.dnp_master.specs.Calls.{Taking, receive_of}
 use Rattle.dnp_master.specs.declared.fault.MasterFault.{MasterFault}
 use Rattle.dnp_master.specs.declared.fault.MasterFault.TheVariants.{Device}
 use Rattle.dnp_outstation.specs.Station.{state_of, with_points}
 use Rattle.dnp_pointdb.specs.Database.{Database, lost_of}
-use Rattle.dnp_concentrator.specs.Below.{link_in}
+use Rattle.dnp_concentrator.specs.Below.{link_in, readings_set}
 use Rattle.dnp_concentrator.specs.declared.book_outputs.BookOutputs.{BookOutputs}
 use Rattle.dnp_concentrator.specs.declared.concentrator.Concentrator.{Concentrator}
 use Rattle.dnp_concentrator.specs.declared.span.Spans.{Spans}
+use Rattle.dnp_concentrator.specs.Mapped.{queued_rows}
 use Rattle.dnp_concentrator.specs.Relaying.{Relaying}
 use Rattle.dnp_concentrator.specs.BookOutputs.{IsWell, book_in, map_in, panel_of, with_book}
 
@@ -56,6 +60,21 @@ IsBookWell honest is_stopped c = IsWell honest is_stopped (outputs_of c)
 -- the state of the outstation above, by what queue and book say of themselves
 abbrev pub above_of : {Q B : Type 0} → (Q → Stock) → (B → Ledger) → Concentrator Q B → State
 above_of contents ledger c = state_of (core_of c) (contents (queue_of c)) (panel_of ledger (outputs_of c))
+
+-- ---- what comes on a link below
+
+-- what the link's master makes of octets that come, or why it refuses them
+abbrev pub taking_at : {Q B : Type 0} → Concentrator Q B → ℕ → ℕ → List ℕ → Result Taking MasterFault
+taking_at c link now octets = receive_of (link_at c link).master now octets
+
+-- the substation's events as they are queued above
+abbrev pub queued_at : {Q B : Type 0} → Concentrator Q B → ℕ → List Row → List LaneRow
+queued_at c link events = queued_rows (indices_of c) (points_of c) link events
+
+-- the outstation above with the readings that the substation's rows set: events first, and then present values
+abbrev pub with_readings : {Q B : Type 0} → Concentrator Q B → ℕ → List Row → List Row → Core
+with_readings c link events statics =
+    with_points (core_of c) (readings_set (indices_of c) link (readings_set (indices_of c) link (points_of c) events) statics)
 
 -- ---- what a call leaves
 

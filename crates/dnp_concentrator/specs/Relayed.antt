@@ -7,7 +7,7 @@ use Rattle.dnp_controls.specs.declared.book.Entry.{Entry}
 use Rattle.dnp_controls.specs.declared.book.State as entry
 use Rattle.dnp_controls.specs.declared.book.State.TheVariants.{Pending, Spent, Finished}
 use Rattle.dnp_controls.specs.Book.{Ledger, Has, entry_of, is_pending}
-use Rattle.dnp_controls.specs.Moves.{Move, Spend, Finish, IsNext}
+use Rattle.dnp_controls.specs.Moves.{AreGranted, Move, Spend, Finish, IsNext, after}
 use Rattle.dnp_master.specs.declared.task.Task.{Task}
 use Rattle.dnp_master.specs.declared.task.Task.TheVariants.{Select, Operate}
 use Rattle.dnp_master.specs.Calls.{is_selected}
@@ -51,6 +51,12 @@ is_sent_of id (relayed.Finished other status) = false
 abbrev pub moves_through : List (List Move × Relayed) → List Move
 moves_through [] = []
 moves_through (step ∷ steps) = step.0 ++ (moves_of step.1 ++ moves_through steps)
+
+-- each of the steps, and each call before it, was granted by the book as it stood then
+abbrev pub IsRun : Ledger → List (List Move × Relayed) → Type 0
+IsRun book [] = Unit {0}
+IsRun book (step ∷ steps) =
+    AreGranted book step.0 × AreGranted (after book step.0) (moves_of step.1) × IsRun (after (after book step.0) (moves_of step.1)) steps
 
 -- of an OPERATE that is sent, by its control's id
 abbrev pub IfSent : Relayed → (ℕ → Type 0) → Type 0

@@ -14,6 +14,13 @@ use dnp_eventbuf::Lanes;
 use dnp_master::{AskFault, Fragment, Task};
 
 impl<Q: Lanes, B: Book> Concentrator<Q, B> {
+    /// How many substations there are: the numbers below it are those of links below.
+    pub fn substations(&self) -> usize
+        ensures { result ≡ length (links_of self.now) }
+    {
+        self.links.len()
+    }
+
     /// Whether the substation's master is open and awaits no response.
     pub fn idle_below(&self, link: u8) -> bool
         requires { link < length (links_of self.now) }

@@ -1,13 +1,24 @@
-//! What holds of the index map. Each law is the contract of a function that does nothing.
+//! What holds of the index map, and of events that go through it. Each law is the contract of a function that does nothing.
 
-ghost use Rattle.std.specs.Prelude.{◌≡◌, ℕ, ◌<◌, List};
+ghost use Rattle.std.specs.Prelude.{◌≡◌, ℕ, ◌<◌, List, All, IfOk, IsSome, true, length, slice_get};
 ghost use Rattle.dnp_pointdb.specs.declared.limits.TheConstants.{INDICES};
 ghost use Rattle.dnp_concentrator.specs.declared.index_kind.IndexKind.{IndexKind};
 ghost use Rattle.dnp_concentrator.specs.declared.span.Spans.{Spans};
 ghost use Rattle.dnp_concentrator.specs.IndexMap.{IsMap, index_above, index_below};
-ghost use Rattle.dnp_concentrator.specs.Mapped.{row_above, row_below, command_above, command_below};
+ghost use Rattle.dnp_concentrator.specs.Mapped.{row_above, row_below, command_above, command_below, queued_row, queued_rows};
+ghost use Rattle.dnp_concentrator.specs.declared.plan.Plan.{Plan as PlanValue};
+ghost use Rattle.dnp_concentrator.specs.declared.plan.SubPlan.{SubPlan as SubPlanValue};
+ghost use Rattle.dnp_concentrator.specs.Plan.{KeepsLimits, map_of};
+ghost use Rattle.dnp_concentrator.specs.PointsAbove.{HasClassesOf, points_above, points_below};
+ghost use Rattle.dnp_master.specs.Calls.{receive_of};
+ghost use Rattle.dnp_master.specs.Rows.{is_reported};
+ghost use Rattle.dnp_master.specs.State.{State};
+ghost use Rattle.dnp_pointdb.specs.Database.{Database, new_database};
 ghost use Rattle.dnp_objects.specs.declared.row.Row.{Row};
 ghost use Rattle.dnp_objects.specs.declared.command.Command.{Command};
+
+use dnp_master::laws::events_taken_are_of_the_plan;
+use dnp_pointdb::laws::points_are_those_of_the_plan;
 
 /// What stands above is found again below, and what is found below stands there above.
 pub fn each_direction_undoes_the_other()
@@ -42,3 +53,23 @@ pub fn commands_are_undone()
     ensures up_and_down { (spans : List Spans) (station : ℕ) (command above : Command) → IsMap spans
         → command_above spans station command ≡ Some above → command_below spans above ≡ Some (station, command) }
 {}
+
+/// No event is passed over: each event that a substation's master takes is of a point of its plan with a class, and is
+/// queued above, whatever was read of the points there. `points` have the plan's classes from the beginning.
+pub fn no_event_is_passed_over()
+    ensures one { (plan : PlanValue) (points : Database) (station : ℕ) (substation : SubPlanValue) (event : Row)
+        → KeepsLimits plan → IsMap (map_of plan) → HasClassesOf plan points → slice_get plan.substations station ≡ Some substation
+        → is_reported (points_below substation) event ≡ true → IsSome (queued_row (map_of plan) points station event) }
+    ensures all { (plan : PlanValue) (points : Database) (station : ℕ) (substation : SubPlanValue) (events : List Row)
+        → KeepsLimits plan → IsMap (map_of plan) → HasClassesOf plan points → slice_get plan.substations station ≡ Some substation
+        → All (λ event. is_reported (points_below substation) event ≡ true) events
+        → length (queued_rows (map_of plan) points station events) ≡ length events }
+    ensures taken { (plan : PlanValue) (points : Database) (station : ℕ) (substation : SubPlanValue) (master : State) (now : ℕ) (octets : List ℕ)
+        → KeepsLimits plan → IsMap (map_of plan) → HasClassesOf plan points → slice_get plan.substations station ≡ Some substation
+        → master.plan ≡ points_below substation
+        → IfOk (receive_of master now octets) (λ t. length (queued_rows (map_of plan) points station t.events) ≡ length t.events) }
+    ensures at_first { (plan : PlanValue) → HasClassesOf plan (new_database (points_above plan)) }
+{
+    points_are_those_of_the_plan();
+    events_taken_are_of_the_plan();
+}

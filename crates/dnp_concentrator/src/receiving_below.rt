@@ -3,13 +3,10 @@
 ghost use Rattle.std.specs.Prelude.{◌≡◌, ◌≢◌, ◌<◌, ◌⊎◌, true, false, [], All, Ok, Err, IsTrue, IfOk, IfErr, OnOk, OnErr, length};
 ghost use Rattle.std.specs.Result.{IsOkAnd};
 ghost use Rattle.dnp_eventbuf.specs.Stock.{with_rows, dropped_by, exhausts};
-ghost use Rattle.dnp_master.specs.Calls.{actions_of, has_rows, receive_of};
+ghost use Rattle.dnp_master.specs.Calls.{actions_of, has_rows};
 ghost use Rattle.dnp_master.specs.Sinks.{IsSinkFault};
 ghost use Rattle.dnp_objects.specs.Events.{IsEvent};
-ghost use Rattle.dnp_outstation.specs.Station.{with_points};
-ghost use Rattle.dnp_concentrator.specs.Below.{readings_set};
-ghost use Rattle.dnp_concentrator.specs.Concentrator.{core_of, indices_of, link_at, links_of, outputs_of, points_of, queue_of, LeavesQueue, SetsLink};
-ghost use Rattle.dnp_concentrator.specs.Mapped.{queued_rows};
+ghost use Rattle.dnp_concentrator.specs.Concentrator.{core_of, link_at, links_of, outputs_of, queued_at, queue_of, taking_at, with_readings, LeavesQueue, SetsLink};
 ghost use Rattle.dnp_concentrator.specs.Relaying as spec;
 
 use crate::concentrator::Concentrator;
@@ -31,14 +28,14 @@ impl<Q: Lanes, B: Book> Concentrator<Q, B> {
         ensures queue { LeavesQueue Q.honest Q.is_stopped Q.contents Q.beside (queue_of self.old) (queue_of self.new) result }
         ensures spared { events.now ≡ [] → (queue_of self.new ≡ queue_of self.old) × IsOkAnd result (λ dropped. dropped ≡ []) }
         ensures queued { Q.honest (queue_of self.new) → OnOk result (Q.contents (queue_of self.new)
-            ≡ with_rows (Q.contents (queue_of self.old)) (queued_rows (indices_of self.old) (points_of self.old) link events.now)) }
+            ≡ with_rows (Q.contents (queue_of self.old)) (queued_at self.old link events.now)) }
         ensures dropped { Q.honest (queue_of self.new) → IfOk result (λ dropped. dropped
-            ≡ dropped_by (Q.contents (queue_of self.old)) (queued_rows (indices_of self.old) (points_of self.old) link events.now)) }
+            ≡ dropped_by (Q.contents (queue_of self.old)) (queued_at self.old link events.now)) }
         ensures stopped { IsTrue (Q.is_stopped (queue_of self.old)) → OnOk result (events.now ≡ []) }
         ensures not_exhausted { Q.honest (queue_of self.new) → OnOk result (events.now ≢ []
-            → exhausts (Q.contents (queue_of self.old)) (queued_rows (indices_of self.old) (points_of self.old) link events.now) ≡ false) }
+            → exhausts (Q.contents (queue_of self.old)) (queued_at self.old link events.now) ≡ false) }
         ensures exhausted { Q.honest (queue_of self.new) → IfErr result (λ fault. fault ≡ MasterFault.Exhausted → IsTrue (
-            exhausts (Q.contents (queue_of self.old)) (queued_rows (indices_of self.old) (points_of self.old) link events.now))) }
+            exhausts (Q.contents (queue_of self.old)) (queued_at self.old link events.now))) }
         ensures named { IfErr result IsSinkFault }
     {
         if events.is_empty() {
@@ -55,8 +52,7 @@ impl<Q: Lanes, B: Book> Concentrator<Q, B> {
     /// Sets the readings above by a substation's events, and then by its present values.
     fn set_above(&mut self, link: u8, events: &[Row], statics: &[Row])
         ensures links { links_of self.new ≡ links_of self.old }
-        ensures core { core_of self.new ≡ with_points (core_of self.old) (
-            readings_set (indices_of self.old) link (readings_set (indices_of self.old) link (points_of self.old) events.now) statics.now) }
+        ensures core { core_of self.new ≡ with_readings self.old link events.now statics.now }
         ensures queue { queue_of self.new ≡ queue_of self.old }
         ensures outputs { outputs_of self.new ≡ outputs_of self.old }
     {
@@ -84,38 +80,38 @@ impl<Q: Lanes, B: Book> Concentrator<Q, B> {
     ) -> Result<MasterActions, MasterFault>
         requires { link < length (links_of self.old) }
         // What is refused for itself, whatever the queue.
-        ensures refused { IfErr (receive_of (link_at self.old link).master now octets.now) (λ fault. result ≡ Err fault) }
+        ensures refused { IfErr (taking_at self.old link now octets.now) (λ fault. result ≡ Err fault) }
         // All else is refused out of memory or by the queue, and only where there are rows.
-        ensures named { IfErr result (λ fault. (receive_of (link_at self.old link).master now octets.now ≡ Err fault)
-            ⊎ (IsSinkFault fault × IsOkAnd (receive_of (link_at self.old link).master now octets.now) (λ t. IsTrue (has_rows t)))) }
+        ensures named { IfErr result (λ fault. (taking_at self.old link now octets.now ≡ Err fault)
+            ⊎ (IsSinkFault fault × IsOkAnd (taking_at self.old link now octets.now) (λ t. IsTrue (has_rows t)))) }
         ensures links_unchanged { OnErr result (links_of self.new ≡ links_of self.old) }
         ensures unchanged { OnErr result (core_of self.new ≡ core_of self.old) }
-        ensures link { OnOk result (IfOk (receive_of (link_at self.old link).master now octets.now) (λ t.
+        ensures link { OnOk result (IfOk (taking_at self.old link now octets.now) (λ t.
             SetsLink self.old link (spec.received (link_at self.old link) t) self.new)) }
-        ensures actions { IfOk result (λ a. IfOk (receive_of (link_at self.old link).master now octets.now) (λ t. a ≡ actions_of t a.dropped)) }
+        ensures actions { IfOk result (λ a. IfOk (taking_at self.old link now octets.now) (λ t. a ≡ actions_of t a.dropped)) }
         // The events are queued by one append.
-        ensures queued { Q.honest (queue_of self.new) → OnOk result (IfOk (receive_of (link_at self.old link).master now octets.now) (λ t.
+        ensures queued { Q.honest (queue_of self.new) → OnOk result (IfOk (taking_at self.old link now octets.now) (λ t.
             Q.contents (queue_of self.new)
-            ≡ with_rows (Q.contents (queue_of self.old)) (queued_rows (indices_of self.old) (points_of self.old) link t.events))) }
-        ensures dropped { Q.honest (queue_of self.new) → IfOk result (λ a. IfOk (receive_of (link_at self.old link).master now octets.now) (λ t.
-            a.dropped ≡ dropped_by (Q.contents (queue_of self.old)) (queued_rows (indices_of self.old) (points_of self.old) link t.events))) }
+            ≡ with_rows (Q.contents (queue_of self.old)) (queued_at self.old link t.events))) }
+        ensures dropped { Q.honest (queue_of self.new) → IfOk result (λ a. IfOk (taking_at self.old link now octets.now) (λ t.
+            a.dropped ≡ dropped_by (Q.contents (queue_of self.old)) (queued_at self.old link t.events))) }
         // Readings above are set by events and present values.
-        ensures readings { OnOk result (IfOk (receive_of (link_at self.old link).master now octets.now) (λ t.
-            core_of self.new ≡ with_points (core_of self.old) (
-            readings_set (indices_of self.old) link (readings_set (indices_of self.old) link (points_of self.old) t.events) t.statics))) }
+        ensures readings { OnOk result (IfOk (taking_at self.old link now octets.now) (λ t.
+            core_of self.new ≡ with_readings self.old link t.events t.statics)) }
         ensures outputs { outputs_of self.new ≡ outputs_of self.old }
         ensures queue { LeavesQueue Q.honest Q.is_stopped Q.contents Q.beside (queue_of self.old) (queue_of self.new) result }
-        // Where there are no events, nothing is asked of the queue.
-        ensures spared { IfOk (receive_of (link_at self.old link).master now octets.now) (λ t. t.events ≡ [] → queue_of self.new ≡ queue_of self.old) }
-        ensures unasked { OnErr (receive_of (link_at self.old link).master now octets.now) (queue_of self.new ≡ queue_of self.old) }
+        // Where there are no events, nothing is asked of the queue, and nothing refused but out of memory for present values.
+        ensures spared { IfOk (taking_at self.old link now octets.now) (λ t. t.events ≡ []
+            → (queue_of self.new ≡ queue_of self.old) × IfErr result (λ fault. fault ≡ MasterFault.Memory)) }
+        ensures unasked { OnErr (taking_at self.old link now octets.now) (queue_of self.new ≡ queue_of self.old) }
         // Once the queue's device has failed, no events are taken.
         ensures stopped { IsTrue (Q.is_stopped (queue_of self.old))
-            → OnOk result (IfOk (receive_of (link_at self.old link).master now octets.now) (λ t. t.events ≡ [])) }
-        ensures not_exhausted { Q.honest (queue_of self.new) → OnOk result (IfOk (receive_of (link_at self.old link).master now octets.now) (λ t.
-            t.events ≢ [] → exhausts (Q.contents (queue_of self.old)) (queued_rows (indices_of self.old) (points_of self.old) link t.events) ≡ false)) }
+            → OnOk result (IfOk (taking_at self.old link now octets.now) (λ t. t.events ≡ [])) }
+        ensures not_exhausted { Q.honest (queue_of self.new) → OnOk result (IfOk (taking_at self.old link now octets.now) (λ t.
+            t.events ≢ [] → exhausts (Q.contents (queue_of self.old)) (queued_at self.old link t.events) ≡ false)) }
         ensures exhausted { Q.honest (queue_of self.new) → IfErr result (λ fault. fault ≡ MasterFault.Exhausted
-            → IfOk (receive_of (link_at self.old link).master now octets.now) (λ t.
-            IsTrue (exhausts (Q.contents (queue_of self.old)) (queued_rows (indices_of self.old) (points_of self.old) link t.events)))) }
+            → IfOk (taking_at self.old link now octets.now) (λ t.
+            IsTrue (exhausts (Q.contents (queue_of self.old)) (queued_at self.old link t.events)))) }
     {
         let taken = self.links[usize::from(link)].look(alloc, now, octets)?;
         let dropped = self.queue_events(alloc, link, taken.events())?;

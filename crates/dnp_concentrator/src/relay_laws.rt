@@ -10,7 +10,7 @@ ghost use Rattle.dnp_master.specs.Calls.{receive_of};
 ghost use Rattle.dnp_pointdb.specs.Plan.{Plan};
 ghost use Rattle.dnp_pointdb.specs.declared.times.Times.{Times as TimesValue};
 ghost use Rattle.dnp_concentrator.specs.Awaiting.{AwaitsOwn};
-ghost use Rattle.dnp_concentrator.specs.Relayed.{is_sent_of, moves_through};
+ghost use Rattle.dnp_concentrator.specs.Relayed.{IsRun, is_sent_of, moves_through};
 ghost use Rattle.dnp_concentrator.specs.Relaying as spec;
 ghost use Rattle.dnp_concentrator.specs.Relaying.{Relaying};
 
@@ -24,6 +24,16 @@ pub fn no_control_is_sent_twice()
         → count_by (λ step. is_sent_of id step.1) steps ≤ 1 }
 {
     an_entry_is_spent_once();
+}
+
+/// The OPERATE of a control is sent at most once over a whole run of steps of relaying from one book: whatever link
+/// each of them is over, and whatever else the book granted in between. That each step is granted what it tells is
+/// what `relay` promises of it.
+pub fn a_run_sends_no_control_twice()
+    ensures { (book : Ledger) (steps : List (List BookMove × Answer)) (id : ℕ) → IsRun book steps
+        → count_by (λ step. is_sent_of id step.1) steps ≤ 1 }
+{
+    no_control_is_sent_twice();
 }
 
 /// Whose answer is awaited: while a link is open and the control in progress awaits the answer to its SELECT or its

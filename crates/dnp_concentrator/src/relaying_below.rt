@@ -42,6 +42,8 @@ impl<Q: Lanes, B: Book> Concentrator<Q, B> {
         ensures own { B.honest (book_of self.new) → says.IsOf (B.contents (book_of self.old)).entries link (link_at self.old link).progress
             → OnOk result (says.IsOf (B.contents (book_of self.new)).entries link (link_at self.new link).progress) }
         ensures unchanged { OnErr result (links_of self.new ≡ links_of self.old) }
+        // No other link changes, whatever the book is.
+        ensures others { SetsLink self.old link (link_at self.new link) self.new }
         ensures book { says.LeavesBook B.honest B.is_stopped B.contents BookFault.Device (book_of self.old) (book_of self.new) result }
         ensures named { IfErr result (λ e. e ≢ BookFault.Exhausted) }
         ensures no_control { B.honest (book_of self.new) → result ≡ Err BookFault.NoControl
