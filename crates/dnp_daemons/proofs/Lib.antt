@@ -1,11 +1,15 @@
 mod Heard
 mod Lines
 mod OctetText
+mod OctetDigits
 mod OneAnswer
 mod ReportLists
+mod Numbers
 mod Opened
 mod Said
+mod Scripts
 mod Spaced
 mod SpacedPieces
 mod SpacedWriting
+mod Splitting
 mod TextPlaces

@@ -6,4 +6,8 @@ pub mod Units
 pub mod Station
 pub mod AnswerLine
 pub mod ReportText
+pub mod Words
+pub mod Numbers
+pub mod Names
+pub mod ScriptLines
 pub mod steps

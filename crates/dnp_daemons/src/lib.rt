@@ -1,4 +1,5 @@
-//! What the program `dnp` does, as calls over values: `answer_line` answers one line of octets.
+//! What the program `dnp` does, as calls over values: `answer_line` answers one line of octets, `read_script` reads a
+//! script for a plan, and `print_report` prints what became of every event and command.
 #![tactic(auto)]
 
 mod address;
@@ -7,6 +8,7 @@ mod input;
 pub mod laws;
 mod octets;
 mod report_text;
+mod script;
 mod station;
 mod text;
 mod units;
@@ -17,4 +19,5 @@ pub use answer::{AnswerFault, answer_line};
 pub use input::{MAX_INPUT, read_text};
 pub use octets::MAX_CHARACTERS;
 pub use report_text::{PrintFault, print_report};
+pub use script::{ScriptFault, ScriptLine, read_script};
 pub use text::{TextFault, text_fault};

@@ -1,9 +1,10 @@
 //! Lines of hexadecimal octets: two digits for each octet, and one space between each two octets.
 
-ghost use Rattle.std.specs.Prelude.{ℕ, ◌≡◌, ◌<◌, ◌≤◌, List, [], ◌∷◌, length, IfSome, IfNone};
-ghost use Rattle.std.specs.Char.{to_ascii_uppercase};
+ghost use Rattle.std.specs.Prelude.{ℕ, ◌≡◌, ◌<◌, ◌≤◌, List, [], ◌∷◌, length, nat_lt, if◌then◌else◌, IfSome, IfNone};
+ghost use Rattle.std.specs.Char.{digit_value, to_ascii_uppercase};
 ghost use Rattle.std.specs.Str.{str_to_ascii_uppercase};
 ghost use Rattle.dnp_daemons.specs.OctetLines.{digit, octet_text, line_of, without_line_feed, IsLineOf};
+ghost use Rattle.dnp_daemons.specs.Names.{octet_named};
 ghost use Rattle.dnp_daemons.specs.steps.Pieces.{BeginsWith};
 
 use arrayvec::ArrayVec;
@@ -24,6 +25,7 @@ pub(crate) fn digit_value(character: u8) -> Option<u8>
     ensures found { IfSome result (λ value. value < 16) }
     ensures same { IfSome result (λ value. to_ascii_uppercase character ≡ digit value) }
     ensures none { IfNone result ((value : ℕ) → value < 16 → to_ascii_uppercase character ≡ digit value → ⊥) }
+    ensures named { result ≡ (if nat_lt (digit_value character) 16 then Some (digit_value character) else None) }
 {
     match character {
         b'0'..=b'9' => Some(character - b'0'),
@@ -34,7 +36,8 @@ pub(crate) fn digit_value(character: u8) -> Option<u8>
 }
 
 /// The octet of two hexadecimal digits of either case.
-fn octet_of(high: u8, low: u8) -> Option<u8>
+pub(crate) fn octet_of(high: u8, low: u8) -> Option<u8>
+    ensures named { result ≡ octet_named high low }
     ensures found { IfSome result (λ octet. str_to_ascii_uppercase (high ∷ low ∷ []) ≡ octet_text octet) }
     ensures none { IfNone result ((octet : ℕ) → octet < 256
         → str_to_ascii_uppercase (high ∷ low ∷ []) ≡ octet_text octet → ⊥) }
