@@ -1,10 +1,10 @@
 -- The port is new, so its link layer answers as one that has heard nothing, and what it joins is the frame's user data
 -- alone.
-use Rattle.std.proofs.Common.{◌≡◌, ℕ, Bool, true, false, inl, inr, List, [], ◌∷◌, ◌++◌, Option, Some, None, sym, ap, ◌∙◌, subst, refl}
+use Rattle.std.proofs.Common.{◌≡◌, ℕ, Bool, true, false, inl, inr, List, [], ◌∷◌, ◌++◌, Option, sym, ap, ◌∙◌, subst, refl}
 use Rattle.std.specs.Prelude.{option_to_list}
 use Rattle.std.proofs.lemmas.Bool.{cases_Bool, both_ways, and_from, and_parts}
 use Rattle.dnp_linkframe.specs.declared.frame.Frame.{Frame}
-use Rattle.dnp_linkstation.specs.Station.{Ends, ends, answer, sent, Stands as Answers}
+use Rattle.dnp_linkstation.specs.Station.{Ends, ends, answer, Stands as Answers}
 use Rattle.dnp_transport.specs.Assembly.{Stands}
 use Rattle.dnp_transport.specs.Series.{is_left_out, kept, IsWhole}
 use Rattle.dnp_line.specs.Ports.{PortState, new_port, has_data, is_joined, Joins, TakesAfter, Takes, IsShown}

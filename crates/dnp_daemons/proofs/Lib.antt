@@ -12,4 +12,5 @@ mod Spaced
 mod SpacedPieces
 mod SpacedWriting
 mod Splitting
+mod streams
 mod TextPlaces

@@ -1,5 +1,5 @@
 -- The station that was made, opened and asked is the one of the definitions.
-use Rattle.std.proofs.Common.{◌≡◌, ℕ, List, [], ◌∷◌, refl, sym, ap, ◌∙◌}
+use Rattle.std.proofs.Common.{◌≡◌, ℕ, List, [], sym, ap, ◌∙◌}
 use Rattle.std.specs.Prelude.{replicate}
 use Rattle.dnp_objects.specs.declared.limits.TheConstants.{LANES}
 use Rattle.dnp_pointdb.specs.Plan.{Plan, plan_of}

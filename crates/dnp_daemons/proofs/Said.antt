@@ -7,7 +7,7 @@ use Rattle.dnp_linkframe.specs.Frames.{Spells}
 use Rattle.dnp_daemons.specs.OctetLines.{IsLineOf, line_of}
 use Rattle.dnp_daemons.specs.Units.{AreLinesOf}
 use Rattle.dnp_daemons.specs.Station.{AreSentBack}
-use Rattle.dnp_daemons.specs.AnswerLine.{IsFrameLine, IsAnswered, AreSent}
+use Rattle.dnp_daemons.specs.AnswerLine.{IsAnswered, AreSent}
 
 -- the frames that are sent back, and their lines
 abbrev pub AreBack : ℕ → ℕ → Frame → List ℕ → Type 0

@@ -7,7 +7,7 @@ use Rattle.dnp_linkframe.specs.declared.frame.FrameFault.TheVariants.{Short, Sta
 use Rattle.dnp_linkframe.specs.Frames.{Spells, IsFirstFault}
 use Rattle.dnp_daemons.specs.declared.answer.Answer.{Answer}
 use Rattle.dnp_daemons.specs.declared.answer.Answer.TheVariants.{Unreadable, Refused, Silent, Sent}
-use Rattle.dnp_daemons.specs.OctetLines.{IsLineOf, line_of}
+use Rattle.dnp_daemons.specs.OctetLines.{IsLineOf}
 use Rattle.dnp_daemons.specs.Station.{AreSentBack}
 use Rattle.dnp_daemons.specs.Units.{AreLinesOf}
 

@@ -10,4 +10,5 @@ pub mod Words
 pub mod Numbers
 pub mod Names
 pub mod ScriptLines
+pub mod streams
 pub mod steps

@@ -1,6 +1,6 @@
 -- Definition: the station behind `dnp answer`: an outstation without points and outputs, opened at the moment 0, that
 -- has heard nothing before.
-use Rattle.std.specs.Prelude.{◌≡◌, ℕ, true, false, List, [], ◌∷◌, ◌++◌, replicate, Option, option_to_list}
+use Rattle.std.specs.Prelude.{◌≡◌, ℕ, true, false, List, [], ◌∷◌, ◌++◌, replicate, option_to_list}
 use Rattle.dnp_linkframe.specs.declared.frame.Frame.{Frame}
 use Rattle.dnp_linkstation.specs.Station.{Ends, answer}
 use Rattle.dnp_transport.specs.Series.{IsWhole}

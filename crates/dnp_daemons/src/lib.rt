@@ -10,6 +10,7 @@ mod octets;
 mod report_text;
 mod script;
 mod station;
+mod stream;
 mod text;
 mod units;
 mod writing;
@@ -20,4 +21,7 @@ pub use input::{MAX_INPUT, read_text};
 pub use octets::MAX_CHARACTERS;
 pub use report_text::{PrintFault, print_report};
 pub use script::{ScriptFault, ScriptLine, read_script};
+pub use stream::{
+    Answer, Log, ServeFault, Served, Station, StationFault, serve_noted, serve_stream,
+};
 pub use text::{TextFault, text_fault};

@@ -1,6 +1,6 @@
 use Rattle.std.proofs.Common.{◌≡◌, IfOk, List, [], ◌∙◌, ap, subst}
 use Rattle.dnp_controls.specs.Latches.{no_panel}
-use Rattle.dnp_pointdb.specs.Plan.{Plan, plan_of}
+use Rattle.dnp_pointdb.specs.Plan.{plan_of}
 use Rattle.dnp_pointdb.specs.declared.point.Block.{Block}
 use Rattle.dnp_outstation.specs.Station.{state_of, actions_of}
 use Rattle.dnp_daemons.proofs.Opened.{sends}

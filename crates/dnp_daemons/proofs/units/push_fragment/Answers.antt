@@ -1,8 +1,7 @@
-use Rattle.std.proofs.Common.{◌≡◌, ℕ, ◌≤◌, List, [], ◌∷◌, ◌++◌, length, map, sym, ap, ◌∙◌, subst, arith}
+use Rattle.std.proofs.Common.{◌≡◌, ℕ, List, map, sym, subst, arith}
 use Rattle.dnp_linkframe.specs.Frames.{Spells}
 use Rattle.dnp_linkstation.specs.Station.{ends, sent}
-use Rattle.dnp_transport.specs.Cuts.{cut_count, cut, cuts}
-use Rattle.dnp_daemons.specs.OctetLines.{line_of}
+use Rattle.dnp_transport.specs.Cuts.{cut, cuts}
 use Rattle.dnp_daemons.proofs.Lines.{begun_more, all_begun}
 use Rattle.dnp_daemons.proofs.units.push_fragment.Goals as goal
 

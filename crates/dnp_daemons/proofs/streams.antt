@@ -1,0 +1,4 @@
+pub mod Going
+pub mod Hearing
+pub mod Putting
+pub mod Spelling

@@ -1,0 +1,8 @@
+-- Definitions of stations on streams.
+pub mod Stations
+pub mod Logs
+pub mod Spelled
+pub mod Exchanges
+pub mod Counts
+pub mod Serving
+pub mod Outstations

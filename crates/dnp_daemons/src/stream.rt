@@ -1,0 +1,14 @@
+//! Stations on streams of octets: what comes is read to its end, and what the station answers is written.
+
+mod log;
+mod outgoing;
+mod outstation;
+mod serve;
+mod served;
+mod station;
+mod step;
+
+pub use log::Log;
+pub use serve::{ServeFault, serve_noted, serve_stream};
+pub use served::Served;
+pub use station::{Answer, Station, StationFault};
