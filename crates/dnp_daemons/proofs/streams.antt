@@ -1,4 +1,6 @@
 pub mod Going
 pub mod Hearing
+pub mod OneOutput
+pub mod OutstationsOneWay
 pub mod Putting
 pub mod Spelling

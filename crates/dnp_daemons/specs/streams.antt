@@ -5,4 +5,5 @@ pub mod Spelled
 pub mod Exchanges
 pub mod Counts
 pub mod Serving
+pub mod OneWay
 pub mod Outstations
