@@ -8,4 +8,6 @@
 #[cfg(test)]
 mod above;
 #[cfg(test)]
+mod below;
+#[cfg(test)]
 mod plans;

@@ -1,0 +1,275 @@
+//! A centre, a concentrator and a substation, by direct calls.
+
+use crate::plans::{SMALL, plan};
+use dnp_concentrator::{Centre, Concentrator, Plan, Relayed};
+use dnp_controls::{Book, Entry, PlainBook, PlainOutputs, State};
+use dnp_eventbuf::{Lane, Lanes, Numbered, PlainJournal, PlainLanes};
+use dnp_master::{Classes, MasterActions, Task};
+use dnp_objects::{Command, Kind, Row, Status};
+use dnp_outstation::{Actions, Outstation};
+use dnp_pointdb::{Block, Point, PointDb, PointPlan, Points, Reading};
+use std::alloc::Global;
+use std::test::Fail;
+
+/// When all calls are made, in milliseconds.
+const NOW: u64 = 1_000;
+
+type Top = Centre<PlainJournal, PlainBook>;
+
+type Middle = Concentrator<PlainLanes, PlainBook>;
+
+type Bottom = Outstation<PlainLanes, PlainOutputs>;
+
+/// The three stations one above the other.
+#[derive(Drop)]
+struct Path {
+    centre: Top,
+    concentrator: Middle,
+    substation: Bottom,
+}
+
+/// LATCH_ON of the substation's output 0.
+const LATCH: Command = Command::Block {
+    index: 0,
+    code: 3,
+    count: 1,
+    on_ms: 0,
+    off_ms: 0,
+};
+
+/// What the concentrator's book has of it in the end.
+const DONE: Entry = Entry {
+    id: 1,
+    target: 0,
+    command: LATCH,
+    state: State::Finished(Status::SUCCESS),
+};
+
+/// The stations of a plan of one substation with one binary input of class 1, over empty stores, with open connections;
+/// the concentrator's queue takes one row a lane. `None` where the plan isn't one.
+fn path_of(alloc: Global, plan: &Plan) -> Result<Option<Path>, Fail> {
+    if !plan.keeps_limits() {
+        return Ok(None);
+    }
+    let queue = PlainLanes::new(alloc, [1; 9])?;
+    let Ok(mut concentrator) = Concentrator::new(alloc, plan, queue, PlainBook::new(alloc)) else {
+        return Ok(None);
+    };
+    let Ok(mut centre) = Centre::new(alloc, plan, PlainJournal::new(alloc), PlainBook::new(alloc))
+    else {
+        return Ok(None);
+    };
+    let inputs = Block {
+        base: 0,
+        points: Points::new(vec![in alloc; Point {
+            class: 1,
+            deadband: 0
+        }; 1]?),
+    };
+    let Ok(points) = PointPlan::new(vec![in alloc; inputs]?, Vec::new(alloc), Vec::new(alloc))
+    else {
+        return Ok(None);
+    };
+    let mut substation = Outstation::new(
+        PointDb::new(alloc, points)?,
+        PlainLanes::new(alloc, [100; 9])?,
+        PlainOutputs::new(alloc, 1, 0),
+        plan.times,
+    );
+    centre.opened();
+    concentrator.opened_above(&mut Actions::none(alloc), alloc, NOW)?;
+    if concentrator.substations() > 0 {
+        concentrator.opened_below(0);
+    }
+    let _ = substation.opened(alloc, NOW)?;
+    Ok(Some(Path {
+        centre,
+        concentrator,
+        substation,
+    }))
+}
+
+/// What a step of relaying sends, if it sends something.
+fn request_of(relayed: &Relayed) -> &[u8] {
+    match relayed {
+        Relayed::Selecting(_, request) => request.as_slice(),
+        Relayed::Sent(_, request) => request.as_slice(),
+        Relayed::Nothing | Relayed::Finished(_, _) => &[],
+    }
+}
+
+/// One step of relaying at the centre, and what comes of it there and back again. The actions are those of the concentrator
+/// towards the centre.
+fn relay_above(
+    centre: &mut Top,
+    concentrator: &mut Middle,
+    actions: &mut Actions,
+    alloc: Global,
+) -> Result<Relayed, Fail> {
+    let relayed = centre.relay(alloc, NOW)?;
+    concentrator.receive_above(actions, alloc, NOW, request_of(&relayed))?;
+    if let Some(answer) = &actions.send[0] {
+        let _ = centre.receive(alloc, NOW, answer.as_slice())?;
+    }
+    Ok(relayed)
+}
+
+/// What comes of a request to the substation: what the concentrator does with its answer.
+fn answer_below(
+    concentrator: &mut Middle,
+    substation: &mut Bottom,
+    alloc: Global,
+    request: &[u8],
+) -> Result<Option<MasterActions>, Fail> {
+    let actions = substation.receive(alloc, NOW, request)?;
+    match &actions.send[0] {
+        Some(answer) if concentrator.substations() > 0 => {
+            let taken = concentrator.receive_below(alloc, 0, NOW, answer.as_slice())?;
+            Ok(Some(taken))
+        }
+        _ => Ok(None),
+    }
+}
+
+/// One step of relaying at the concentrator, and what comes of it there and back again.
+fn relay_below(
+    concentrator: &mut Middle,
+    substation: &mut Bottom,
+    alloc: Global,
+) -> Result<Relayed, Fail> {
+    if concentrator.substations() == 0 {
+        return Ok(Relayed::Nothing);
+    }
+    let relayed = concentrator.relay(alloc, 0, NOW)?;
+    let _ = answer_below(concentrator, substation, alloc, request_of(&relayed))?;
+    Ok(relayed)
+}
+
+/// A step of relaying by its place in the list of what steps do, with its control's id, and its status where it is
+/// finished.
+fn told(relayed: &Relayed) -> (u8, u64, Option<Status>) {
+    match relayed {
+        Relayed::Nothing => (0, 0, None),
+        Relayed::Selecting(id, _) => (1, *id, None),
+        Relayed::Sent(id, _) => (2, *id, None),
+        Relayed::Finished(id, status) => (3, *id, Some(*status)),
+    }
+}
+
+/// What the steps of relaying a control tell.
+const STEPS: [(u8, u64, Option<Status>); 4] = [
+    (1, 1, None),
+    (2, 1, None),
+    (3, 1, Some(Status::SUCCESS)),
+    (0, 0, None),
+];
+
+#[test]
+fn a_control_goes_down_through_both_books(rt: HostRuntime) -> Result<(), Fail> {
+    let alloc = rt.alloc();
+    let Some(path) = path_of(alloc, &plan(alloc, &[SMALL])?)? else {
+        assert!(rt; false, "no path");
+        return Ok(());
+    };
+    let Path {
+        mut centre,
+        mut concentrator,
+        mut substation,
+    } = path;
+    let mut actions = Actions::none(alloc);
+    assert!(rt; centre.issue(alloc, 0, &LATCH)? == 1);
+    for step in STEPS {
+        let relayed = relay_above(&mut centre, &mut concentrator, &mut actions, alloc)?;
+        assert!(rt; told(&relayed) == step, "above {step:?}");
+    }
+    assert!(rt; substation.outputs().operated().is_empty());
+    for step in STEPS {
+        let relayed = relay_below(&mut concentrator, &mut substation, alloc)?;
+        assert!(rt; told(&relayed) == step, "below {step:?}");
+    }
+    assert!(rt; substation.outputs().operated() == [LATCH].as_slice());
+    let entries = concentrator.book().rows(alloc, 0, 2)?;
+    assert!(rt; entries.as_slice() == [DONE].as_slice());
+    Ok(())
+}
+
+/// A reading of the binary input.
+fn reading(value: i64) -> Reading {
+    Reading {
+        value,
+        flags: 0x01,
+        time: Some(1_000),
+    }
+}
+
+/// The row of a reading, as it stands above.
+fn row(value: i64) -> Row {
+    Row {
+        kind: Kind::Binary,
+        index: 100,
+        flags: 0x01,
+        value,
+        time: Some(1_000),
+    }
+}
+
+/// Present values of the binary inputs above: index 100, on, flags 01.
+#[rattlefmt::skip]
+const PRESENT: [u8; 12] = [0xC0, 0x81, 0x82, 0x08, 0x01, 0x02, 0x01, 0x64, 0x00, 0x64, 0x00, 0x81];
+
+/// Whether the first fragment that is sent has these octets.
+fn sends(actions: &Actions, octets: &[u8]) -> bool {
+    match &actions.send[0] {
+        Some(sent) => sent.as_slice() == octets,
+        None => false,
+    }
+}
+
+/// The events of class 1 to 3 are polled of the substation.
+fn poll(
+    concentrator: &mut Middle,
+    substation: &mut Bottom,
+    alloc: Global,
+) -> Result<Option<MasterActions>, Fail> {
+    if concentrator.substations() == 0 {
+        return Ok(None);
+    }
+    let task = Task::Poll(Classes([false, true, true, true]));
+    let request = concentrator.ask_below(0, NOW, task)?;
+    answer_below(concentrator, substation, alloc, request.as_slice())
+}
+
+#[test]
+fn events_that_are_polled_are_queued(rt: HostRuntime) -> Result<(), Fail> {
+    let alloc = rt.alloc();
+    let Some(path) = path_of(alloc, &plan(alloc, &[SMALL])?)? else {
+        assert!(rt; false, "no path");
+        return Ok(());
+    };
+    let Path {
+        centre: _,
+        mut concentrator,
+        mut substation,
+    } = path;
+    for value in [0, 1] {
+        let _ = substation.change(alloc, NOW, Kind::Binary, 0, reading(value))?;
+    }
+    let Some(taken) = poll(&mut concentrator, &mut substation, alloc)? else {
+        assert!(rt; false, "no answer");
+        return Ok(());
+    };
+    assert!(rt; taken.taken == 2 && taken.send == Some([0xC0, 0x00]));
+    assert!(rt; taken.dropped.as_slice() == [row(0)].as_slice());
+    let Some(lane) = Lane::new(1, Kind::Binary) else {
+        assert!(rt; false, "no lane");
+        return Ok(());
+    };
+    assert!(rt; concentrator.queue().lost(lane) == 1);
+    let queued = concentrator.queue().offer(alloc, lane, 0, 9)?;
+    let later = Numbered { id: 2, row: row(1) };
+    assert!(rt; queued.as_slice() == [later].as_slice());
+    let mut actions = Actions::none(alloc);
+    concentrator.receive_above(&mut actions, alloc, NOW, &[0xC0, 0x01, 0x3C, 0x01, 0x06])?;
+    assert!(rt; sends(&actions, &PRESENT));
+    Ok(())
+}
