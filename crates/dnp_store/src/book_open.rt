@@ -1,6 +1,6 @@
 //! How a book of controls in a SQL database begins, and what stands at its end.
 
-ghost use Rattle.std.specs.Prelude.{◌≡◌, ◌↔◌, false, not, IsTrue, IfOk, IfErr};
+ghost use Rattle.std.specs.Prelude.{◌≡◌, ◌↔◌, false, not, IsTrue, IfOk, IfErr, IsErrAnd};
 ghost use Rattle.sqlite.specs.Held.{state};
 ghost use Rattle.sqlite.specs.State.{HasCleanDisk, Survives};
 ghost use Rattle.dnp_controls.specs.Book.{empty_ledger};
@@ -26,6 +26,7 @@ impl<S: Alter> ControlBook<S> {
         alloc: Global,
         conn: Connection<S>,
     ) -> Result<ControlBook<S>, (OpenFault, Connection<S>)>
+        ensures inside { IsTrue conn.in_transaction → IsErrAnd result (λ e. (e.0 ≡ OpenFault.WrongForm) × (e.1 ≡ conn)) }
         ensures held { IfOk result (λ b. HasCleanDisk (state S.Store b.conn) → HasCleanDisk (state S.Store conn)) }
         ensures empty { IfOk result (λ b. (b.ledger ≡ empty_ledger) × (b.stopped ≡ false)) }
         ensures owned { IfOk result (λ b. IsTrue b.owned ↔ ((state S.Store conn).now.schema ≡ no_schema)) }
@@ -62,6 +63,7 @@ impl<S: Alter> ControlBook<S> {
         alloc: Global,
         conn: Connection<S>,
     ) -> Result<ControlBook<S>, (OpenFault, Connection<S>)>
+        ensures inside { IsTrue conn.in_transaction → IsErrAnd result (λ e. (e.0 ≡ OpenFault.WrongForm) × (e.1 ≡ conn)) }
         ensures held { IfOk result (λ b. HasCleanDisk (state S.Store b.conn) → HasCleanDisk (state S.Store conn)) }
         ensures serves { IfOk result (λ b. b.stopped ≡ false) }
         ensures found { IfOk result (λ b. HasCleanDisk (state S.Store b.conn) → IsTrue b.owned → IsBook (state S.Store conn).committed b.ledger) }

@@ -1,6 +1,6 @@
 //! How a journal in a SQL database begins, and what stands at its end.
 
-ghost use Rattle.std.specs.Prelude.{◌≡◌, ◌↔◌, false, not, IsTrue, IfOk, IfErr};
+ghost use Rattle.std.specs.Prelude.{◌≡◌, ◌↔◌, false, not, IsTrue, IfOk, IfErr, IsErrAnd};
 ghost use Rattle.sqlite.specs.Held.{state};
 ghost use Rattle.sqlite.specs.State.{HasCleanDisk, Survives};
 ghost use Rattle.dnp_store.specs.JournalKept.{Leaves, Stands, held_archive};
@@ -22,6 +22,7 @@ impl<S: Alter> Journal<S> {
     /// WrongForm where a name of its tables is taken, or the connection is inside a transaction; else
     /// Memory or Device. A refusal hands the connection back, with the database as it was.
     pub fn create(conn: Connection<S>) -> Result<Journal<S>, (OpenFault, Connection<S>)>
+        ensures inside { IsTrue conn.in_transaction → IsErrAnd result (λ e. (e.0 ≡ OpenFault.WrongForm) × (e.1 ≡ conn)) }
         ensures held { IfOk result (λ j. HasCleanDisk (state S.Store j.conn) → HasCleanDisk (state S.Store conn)) }
         ensures serves { IfOk result (λ j. j.stopped ≡ false) }
         ensures owned { IfOk result (λ j. IsTrue j.owned ↔ ((state S.Store conn).now.schema ≡ no_schema)) }
@@ -58,6 +59,7 @@ impl<S: Alter> Journal<S> {
         alloc: Global,
         conn: Connection<S>,
     ) -> Result<Journal<S>, (OpenFault, Connection<S>)>
+        ensures inside { IsTrue conn.in_transaction → IsErrAnd result (λ e. (e.0 ≡ OpenFault.WrongForm) × (e.1 ≡ conn)) }
         ensures held { IfOk result (λ j. HasCleanDisk (state S.Store j.conn) → HasCleanDisk (state S.Store conn)) }
         ensures serves { IfOk result (λ j. j.stopped ≡ false) }
         ensures found { IfOk result (λ j. HasCleanDisk (state S.Store j.conn) → IsTrue j.owned → IsJournal (state S.Store conn).committed (held_archive S.Store j)) }

@@ -1,6 +1,6 @@
 //! Stores on databases: how they begin.
 
-ghost use Rattle.std.specs.Prelude.{◌≡◌, ◌≢◌, ◌↔◌, ◌≤◌, true, false, not, All, IsTrue, IfOk, IfErr};
+ghost use Rattle.std.specs.Prelude.{◌≡◌, ◌≢◌, ◌↔◌, ◌≤◌, true, false, not, All, IsTrue, IfOk, IfErr, IsErrAnd};
 ghost use Rattle.sqlite.specs.Held.{state};
 ghost use Rattle.sqlite.specs.State.{HasCleanDisk, Survives};
 ghost use Rattle.dnp_eventbuf.specs.Stock.{empty_stock};
@@ -83,6 +83,7 @@ impl<S: Alter> Queue<S> {
         capacities: [u32; LANES],
     ) -> Result<Queue<S>, (OpenFault, Connection<S>)>
         requires { All (λ capacity. (1 ≤ capacity) × (capacity ≤ MAX_CAPACITY)) capacities }
+        ensures inside { IsTrue conn.in_transaction → IsErrAnd result (λ e. (e.0 ≡ OpenFault.WrongForm) × (e.1 ≡ conn)) }
         ensures held { IfOk result (λ q. HasCleanDisk (state S.Store q.conn) → HasCleanDisk (state S.Store conn)) }
         ensures empty { IfOk result (λ q. (q.stock ≡ empty_stock capacities) × (q.stopped ≡ false)) }
         ensures owned { IfOk result (λ q. IsTrue q.owned ↔ ((state S.Store conn).now.schema ≡ no_schema)) }
@@ -118,6 +119,7 @@ impl<S: Alter> Queue<S> {
     /// can't carry; or where the connection is inside a transaction. Else Memory or Device. A refusal hands
     /// the connection back, with the database as it was.
     pub fn open(alloc: Global, conn: Connection<S>) -> Result<Queue<S>, (OpenFault, Connection<S>)>
+        ensures inside { IsTrue conn.in_transaction → IsErrAnd result (λ e. (e.0 ≡ OpenFault.WrongForm) × (e.1 ≡ conn)) }
         ensures held { IfOk result (λ q. HasCleanDisk (state S.Store q.conn) → HasCleanDisk (state S.Store conn)) }
         ensures serves { IfOk result (λ q. q.stopped ≡ false) }
         ensures found { IfOk result (λ q. HasCleanDisk (state S.Store q.conn) → IsTrue q.owned → IsQueue (state S.Store conn).committed q.stock) }

@@ -120,33 +120,24 @@ CREATE TABLE journal (id INTEGER PRIMARY KEY AUTOINCREMENT, kind INTEGER NOT NUL
 INSERT INTO form VALUES (1);
 INSERT INTO journal VALUES (1, 0, 7, 1, 1, 1000);";
 
-/// The journal that opens after a change of the tables, or what is refused, or `None` where the change
-/// fails.
-fn opened_after(alloc: Global, change: &str) -> Option<Result<Journal<MemStore>, OpenFault>> {
+/// The journal that opens after a change of the tables.
+fn opened_after(alloc: Global, change: &str) -> Option<Journal<MemStore>> {
     let mut conn = Connection::open_in_memory(alloc).ok()?;
     conn.execute_batch(TABLES).ok()?;
     conn.execute_batch(change).ok()?;
-    match Journal::open(alloc, conn) {
-        Ok(journal) => Some(Ok(journal)),
-        Err((fault, _)) => Some(Err(fault)),
-    }
+    Journal::open(alloc, conn).ok()
 }
 
 /// How many rows the journal holds after a change of the tables, and whether it owns its database.
 fn opens_after(alloc: Global, change: &str) -> Option<(u64, bool)> {
-    let mut journal = opened_after(alloc, change)?.ok()?;
+    let mut journal = opened_after(alloc, change)?;
     Some((journal.count(), journal.owns_database()))
-}
-
-/// What opening the tables is refused for after a change of them.
-fn refused_after(alloc: Global, change: &str) -> Option<OpenFault> {
-    opened_after(alloc, change)?.err()
 }
 
 /// What an append answers where the last id was used.
 fn after_the_last_id(alloc: Global) -> Option<StoreFault> {
     let change = "UPDATE journal SET id = 4611686018427387904";
-    let mut journal = opened_after(alloc, change)?.ok()?;
+    let mut journal = opened_after(alloc, change)?;
     append(&mut journal, alloc, &events()).err()
 }
 
@@ -159,33 +150,5 @@ fn a_journal_walks(rt: HostRuntime) -> Result<(), Fail> {
     assert!(rt; opens_after(alloc, "DELETE FROM journal") == Some((0, true)));
     assert!(rt; opens_after(alloc, "CREATE TABLE more (x)") == Some((1, false)));
     assert!(rt; after_the_last_id(alloc) == Some(StoreFault::Exhausted));
-    Ok(())
-}
-
-#[test]
-fn a_journal_of_another_form_is_refused(rt: HostRuntime) -> Result<(), Fail> {
-    let alloc = rt.alloc();
-    for change in [
-        "DROP TABLE form",
-        "DROP TABLE journal",
-        "DELETE FROM form",
-        "INSERT INTO form VALUES (1)",
-        "UPDATE form SET number = 2",
-        "UPDATE journal SET id = 0",
-        "UPDATE journal SET id = 4611686018427387905",
-        "UPDATE journal SET kind = 3",
-        "UPDATE journal SET kind = -1",
-        "UPDATE journal SET point = 65536",
-        "UPDATE journal SET flags = 256",
-        "UPDATE journal SET value = 0.5",
-        "UPDATE journal SET time = -1",
-        "UPDATE journal SET time = 281474976710656",
-        "UPDATE journal SET time = 'noon'",
-    ] {
-        assert!(rt;
-            refused_after(alloc, change) == Some(OpenFault::WrongForm),
-            "{change}"
-        );
-    }
     Ok(())
 }

@@ -4,6 +4,10 @@
 #[cfg(test)]
 mod books;
 #[cfg(test)]
+mod forms;
+#[cfg(test)]
 mod journals;
 #[cfg(test)]
 mod queues;
+#[cfg(test)]
+mod spoilt;
