@@ -3,6 +3,8 @@ mod Lines
 mod OctetText
 mod OctetDigits
 mod OneAnswer
+mod PlanLists
+mod PlanNamed
 mod ReportLists
 mod Numbers
 mod Opened

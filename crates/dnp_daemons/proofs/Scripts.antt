@@ -1,9 +1,9 @@
 -- Scripts read line by line.
-use Rattle.std.proofs.Common.{◌≡◌, ℕ, ◌+◌, ◌<◌, true, not, nat_lt, List, [], ◌∷◌, ◌++◌, length, map, Option, Some, None, refl, sym, ◌∙◌, ap, arith, append_assoc, length-append}
+use Rattle.std.proofs.Common.{◌≡◌, ℕ, ◌+◌, ◌<◌, true, not, nat_lt, List, [], ◌∷◌, ◌++◌, length, map, Option, Some, None, refl, sym, ◌∙◌, ap, arith, length-append}
 use Rattle.std.specs.List.{position, position_or_len}
 use Rattle.std.specs.Option.{is_some, option_map}
 use Rattle.std.proofs.lemmas.Bool.Decides.{nat_tests}
-use Rattle.std.proofs.lemmas.List.{map-append, length-map}
+use Rattle.std.proofs.lemmas.List.{length-map}
 use Rattle.dnp_daemons.specs.declared.script.ScriptLine.{ScriptLine}
 use Rattle.dnp_daemons.specs.declared.script.words.TheConstants.{MAX_WORDS}
 use Rattle.dnp_daemons.specs.ScriptLines.{line_named}
@@ -20,15 +20,6 @@ too_many n (a ∷ b ∷ c ∷ d ∷ e ∷ f ∷ []) many = refl
 too_many n (a ∷ b ∷ c ∷ d ∷ e ∷ f ∷ g ∷ []) many = absurd (omega arith)
 too_many n (a ∷ b ∷ c ∷ d ∷ e ∷ f ∷ g ∷ h ∷ []) many = absurd (omega arith)
 too_many n (a ∷ b ∷ c ∷ d ∷ e ∷ f ∷ g ∷ h ∷ i ∷ more) many = refl
-
--- one line more is read
-pub read_more : (r : List ℕ → Option ScriptLine) (script : List ScriptLine) (line : List ℕ) (read : ScriptLine) (rest : List (List ℕ))
-    (whole : List (Option ScriptLine)) → r line ≡ Some read → map Some script ++ map r (line ∷ rest) ≡ whole →
-    map Some (script ++ read ∷ []) ++ map r rest ≡ whole
-read_more r script line read rest whole is before =
-    ap (λ (l : List (Option ScriptLine)). l ++ map r rest) (map-append Some script (read ∷ []))
-    ∙ append_assoc (map Some script) (Some read ∷ []) (map r rest)
-    ∙ ap (λ (o : Option ScriptLine). map Some script ++ (o ∷ map r rest)) (sym is) ∙ before
 
 head_is : {A : Type 0} (x y : A) (xs ys : List A) → x ∷ xs ≡ y ∷ ys → x ≡ y
 head_is x y xs ys e = cc

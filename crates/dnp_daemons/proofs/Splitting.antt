@@ -1,5 +1,5 @@
 -- Texts cut into lines, and lines into words.
-use Rattle.std.proofs.Common.{◌≡◌, ℕ, suc, ◌+◌, ◌<◌, ◌≤◌, Bool, true, false, cond, eqb, not, List, [], ◌∷◌, ◌++◌, length, map, refl, ◌∙◌, ap, arith, append_assoc, length-append, Bor}
+use Rattle.std.proofs.Common.{◌≡◌, ℕ, suc, ◌+◌, ◌<◌, ◌≤◌, Bool, true, false, cond, eqb, not, List, [], ◌∷◌, ◌++◌, length, map, refl, sym, ◌∙◌, ap, arith, append_assoc, length-append, Bor}
 use Rattle.std.specs.List.{slice_split, position_or_len, before_first, after_first, onto_first, prefix_len}
 use Rattle.std.proofs.lemmas.Bool.Decides.{nat_tests}
 use Rattle.std.proofs.lemmas.List.{map-append}
@@ -56,9 +56,12 @@ only_line text some none = ap without_empty_end (one_part (λ b. eqb b 10) text 
 pub last_word : (line : List ℕ) → position_or_len (λ b. eqb b 32) line ≡ length line → words_of line ≡ line ∷ []
 last_word line e = one_part (λ b. eqb b 32) line e
 
-pub first_word : (line word more : List ℕ) → word ≡ before_first (λ b. eqb b 32) line → more ≡ after_first (λ b. eqb b 32) line →
-    position_or_len (λ b. eqb b 32) line < length line → words_of line ≡ word ∷ words_of more
-first_word line word more is_word is_more within = first_part 32 line word more is_word is_more within
+-- the next word stands in front of the rest
+pub next_word : (words : List (List ℕ)) (line word more : List ℕ) (whole : List (List ℕ)) → word ≡ before_first (λ b. eqb b 32) line →
+    more ≡ after_first (λ b. eqb b 32) line → position_or_len (λ b. eqb b 32) line < length line →
+    words ++ words_of line ≡ whole → words ++ (word ∷ words_of more) ≡ whole
+next_word words line word more whole is_word is_more within before =
+    ap (λ (l : List (List ℕ)). words ++ l) (sym (first_part 32 line word more is_word is_more within)) ∙ before
 
 -- one word more
 pub pushed : (words : List (Bor (List ℕ))) (word : Bor (List ℕ)) (rest whole : List (List ℕ)) →

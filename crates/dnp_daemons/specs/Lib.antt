@@ -11,4 +11,7 @@ pub mod Numbers
 pub mod Names
 pub mod ScriptLines
 pub mod streams
+pub mod PlanFields
+pub mod PlanRanges
+pub mod PlanText
 pub mod steps

@@ -1,5 +1,5 @@
-//! What the program `dnp` does, as calls over values: `answer_line` answers one line of octets, `read_script` reads a
-//! script for a plan, and `print_report` prints what became of every event and command.
+//! What the program `dnp` does, as calls over values: `answer_line` answers one line of octets, `read_plan` reads a plan
+//! and `read_script` a script for it, and `print_report` prints what became of every event and command.
 #![tactic(auto)]
 
 mod address;
@@ -7,6 +7,7 @@ mod answer;
 mod input;
 pub mod laws;
 mod octets;
+mod plan_text;
 mod report_text;
 mod script;
 mod station;
@@ -19,6 +20,7 @@ pub use address::{MAX_ADDRESS, read_address};
 pub use answer::{AnswerFault, answer_line};
 pub use input::{MAX_INPUT, read_text};
 pub use octets::MAX_CHARACTERS;
+pub use plan_text::{PlanTextFault, read_plan};
 pub use report_text::{PrintFault, print_report};
 pub use script::{ScriptFault, ScriptLine, read_script};
 pub use stream::{
