@@ -108,7 +108,7 @@ fn serve<S: Station, R: Read, W: Write>(
         (W.contents out.old) (W.contents out.new) result (endpoint (S.state station.new) port.new) }
     ensures noted { IsNoted turns result log.new }
 {
-    let mut served = Served::new();
+    let mut served = Served::of(0, 0, false);
     match greet(alloc, station, port, now, out, &mut served, log) {
         Ok(()) => {}
         Err(_) => return Err(ServeFault::WriteFailed),

@@ -2,7 +2,7 @@
 
 ghost use Rattle.std.specs.Prelude.{◌≡◌};
 ghost use Rattle.dnp_daemons.specs.streams.Exchanges.{Output};
-ghost use Rattle.dnp_daemons.specs.streams.Counts.{Counts, none_served, served_of};
+ghost use Rattle.dnp_daemons.specs.streams.Counts.{Counts, served_of};
 
 /// What became of a stream.
 #[derive(Clone, Copy, Debug, PartialEq, Eq)]
@@ -16,14 +16,14 @@ pub struct Served {
 }
 
 impl Served {
-    /// Nothing was served yet.
-    pub(super) fn new() -> Served
-        ensures { result ≡ none_served }
+    /// These numbers of fragments and of faults, and whether the connection was closed.
+    pub(super) fn of(fragments: u64, faults: u64, closed: bool) -> Served
+        ensures { result ≡ record { fragments = fragments; faults = faults; closed = closed } }
     {
         Served {
-            fragments: 0,
-            faults: 0,
-            closed: false,
+            fragments,
+            faults,
+            closed,
         }
     }
 

@@ -27,17 +27,9 @@ pub(super) fn open<S: Station>(
     match station.opened(alloc, now) {
         Ok(answer) => {
             put_fragments(port, &answer.send, out);
-            Served {
-                fragments: 0,
-                faults: 0,
-                closed: answer.close,
-            }
+            Served::of(0, 0, answer.close)
         }
-        Err(_) => Served {
-            fragments: 0,
-            faults: 1,
-            closed: false,
-        },
+        Err(_) => Served::of(0, 1, false),
     }
 }
 
@@ -58,21 +50,13 @@ pub(super) fn hear<S: Station>(
     let taken = port.take(frame);
     put_reply(&taken, out);
     if !taken.whole {
-        return Served::new();
+        return Served::of(0, 0, false);
     }
     match station.receive(alloc, now, port.fragment()) {
         Ok(answer) => {
             put_fragments(port, &answer.send, out);
-            Served {
-                fragments: 1,
-                faults: 0,
-                closed: answer.close,
-            }
+            Served::of(1, 0, answer.close)
         }
-        Err(_) => Served {
-            fragments: 1,
-            faults: 1,
-            closed: false,
-        },
+        Err(_) => Served::of(1, 1, false),
     }
 }

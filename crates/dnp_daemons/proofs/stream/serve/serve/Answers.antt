@@ -3,21 +3,24 @@ use Rattle.std.proofs.lemmas.List.{length-take}
 use Rattle.std.specs.Io.KnownBytes.{Consumes}
 use Rattle.std.proofs.KnownBytes.{Consumes-kept, Consumes-nil}
 use Rattle.dnp_linkframe.specs.declared.frame.Frame.{Frame}
-use Rattle.dnp_linkframe.specs.Stream.{Gives}
 use Rattle.dnp_daemons.specs.declared.stream.log.Log.{Log}
 use Rattle.dnp_daemons.proofs.streams.Going.{greets_first, going_first, closed_first, failed_first}
 use Rattle.dnp_daemons.proofs.streams.Going.{going_open, going_ends, going_closes, going_write_fails, going_on}
 use Rattle.dnp_daemons.proofs.stream.serve.serve.Goals as goal
 
+-- frames that were put behind none
+given_to : (out none frames : List Frame) → frames ≡ out → none ≡ [] → out ≡ none ++ frames
+given_to out none frames same empty = sym same ∙ sym (ap (λ (fs : List Frame). fs ++ frames) empty)
+
 pub returns-in-Err-clause-serves : goal.returns-in-Err-clause-serves
 returns-in-Err-clause-serves g c honest =
     let (greets, written) = c.in-Err.ensures.greeted honest in
-    failed_first _ _ _ _ _ _ _ _ _ _ (greets_first _ _ _ _ c.new-served.result _ c.new-served.ensures greets) written
+    failed_first _ _ _ _ _ _ _ _ _ _ (greets_first _ _ _ _ c.of-served.result _ c.of-served.ensures greets) written
 
 pub returns-then-served-clause-serves : goal.returns-then-served-clause-serves
 returns-then-served-clause-serves g c honest =
     let (greets, written) = c.in-Ok.ensures.greeted honest in
-    closed_first _ _ _ _ _ _ _ _ _ _ (greets_first _ _ _ _ c.new-served.result _ c.new-served.ensures greets) written c.if-served.true
+    closed_first _ _ _ _ _ _ _ _ _ _ (greets_first _ _ _ _ c.of-served.result _ c.of-served.ensures greets) written c.if-served.true
 
 pub loop-init : goal.loop-init
 loop-init g c = (
@@ -26,7 +29,7 @@ loop-init g c = (
   c.greet.ensures.held,
   λ honest.
       let (greets, written) = c.in-Ok.ensures.greeted honest in
-      going_first _ _ _ _ _ _ _ _ c.new-stream.result _ (greets_first _ _ _ _ c.new-served.result _ c.new-served.ensures greets)
+      going_first _ _ _ _ _ _ _ _ c.new-stream.result _ (greets_first _ _ _ _ c.of-served.result _ c.of-served.ensures greets)
       written c.new-stream.ensures.gives,
 )
 
@@ -63,9 +66,7 @@ returns-in-Err-hear_all-clause-serves g c honest =
     let i = c.loop.invariant.3 (c.hear_all.ensures.held honest) in
     let piece = take c.in-Ok-read_noted.count c.read_noted.new.piece in
     let frames = c.deref.result.now in
-    let behind : c.feed.new.out.items ≡ c.clear.new.self.items ++ frames =
-    sym c.deref.ensures.value ∙ sym (ap (λ (fs : List Frame). fs ++ frames) c.clear.ensures.items) in
-    let gives : Gives (i.octets ++ piece) (i.frames ++ frames) c.feed.new.self = c.in-Ok-feed.ensures.carried i.octets i.frames frames i.gives behind in
+    let gives = c.in-Ok-feed.ensures.carried i.octets i.frames frames i.gives (given_to _ _ _ c.deref.ensures.value c.clear.ensures.items) in
     let (some, written) = c.in-Err-hear_all.ensures.heard honest in
     going_write_fails _ _ _ _ _ _ _ _ _ _ _ _ _ _ _ c.feed.new.self piece frames _ _ i c.loop.invariant.0 c.in-Ok-read_noted.ensures.octets.0 gives some written
 
@@ -74,9 +75,7 @@ returns-then-served-2-clause-serves g c honest =
     let i = c.loop.invariant.3 (c.hear_all.ensures.held honest) in
     let piece = take c.in-Ok-read_noted.count c.read_noted.new.piece in
     let frames = c.deref.result.now in
-    let behind : c.feed.new.out.items ≡ c.clear.new.self.items ++ frames =
-    sym c.deref.ensures.value ∙ sym (ap (λ (fs : List Frame). fs ++ frames) c.clear.ensures.items) in
-    let gives : Gives (i.octets ++ piece) (i.frames ++ frames) c.feed.new.self = c.in-Ok-feed.ensures.carried i.octets i.frames frames i.gives behind in
+    let gives = c.in-Ok-feed.ensures.carried i.octets i.frames frames i.gives (given_to _ _ _ c.deref.ensures.value c.clear.ensures.items) in
     let (some, both) = c.in-Ok-hear_all.ensures.heard honest in
     going_closes _ _ _ _ _ _ _ _ _ _ _ _ _ _ _ c.feed.new.self piece frames _ _ i c.loop.invariant.0 c.in-Ok-read_noted.ensures.octets.0
     gives some both.0 c.if-served-2.true
@@ -91,9 +90,7 @@ loop-preserved g c = (
       let i = c.loop.invariant.3 (c.hear_all.ensures.held honest) in
       let piece = take c.in-Ok-read_noted.count c.read_noted.new.piece in
       let frames = c.deref.result.now in
-      let behind : c.feed.new.out.items ≡ c.clear.new.self.items ++ frames =
-      sym c.deref.ensures.value ∙ sym (ap (λ (fs : List Frame). fs ++ frames) c.clear.ensures.items) in
-      let gives : Gives (i.octets ++ piece) (i.frames ++ frames) c.feed.new.self = c.in-Ok-feed.ensures.carried i.octets i.frames frames i.gives behind in
+      let gives = c.in-Ok-feed.ensures.carried i.octets i.frames frames i.gives (given_to _ _ _ c.deref.ensures.value c.clear.ensures.items) in
       let (some, both) = c.in-Ok-hear_all.ensures.heard honest in
       let size = length-take c.in-Ok-read_noted.count c.read_noted.new.piece in
       let long : 0 < length piece = search rules in

@@ -12,7 +12,7 @@ returns-then-not-taken-clause-heard g c honest =
     record {
       output = record no_output { frames = frames };
       hearing = Unfinished c.take-taken.result c.take-taken.ensures.takes c.if-not-taken.true refl refl;
-      counted = c.new.ensures;
+      counted = c.of.ensures;
       spelled = put_alone frames c.put_reply.new.out.items c.put_reply.ensures.put;
     }
 
@@ -29,7 +29,7 @@ returns-in-Ok-clause-heard g c honest =
       hearing =
           Answered taken heard c.fragment.result.now c.take-taken.ensures.takes c.if-not-taken.false c.fragment.ensures.shown
           answer (c.in-Ok.ensures.answered honest) refl c.put_fragments.ensures.moved;
-      counted = refl;
+      counted = c.of-in-Ok.ensures;
       spelled =
           put_alone (replied ++ frames) octets
           (put_more [] c.put_reply.new.out.items octets replied frames c.put_reply.ensures.put c.put_fragments.ensures.put);
@@ -42,6 +42,6 @@ returns-in-Err-clause-heard g c honest =
     record {
       output = record { frames = frames; fragments = 1; faults = 1; closed = false };
       hearing = Refused taken c.take-taken.ensures.takes c.if-not-taken.false refl (c.in-Err.ensures.unchanged honest);
-      counted = refl;
+      counted = c.of-in-Err.ensures;
       spelled = put_alone frames c.put_reply.new.out.items c.put_reply.ensures.put;
     }

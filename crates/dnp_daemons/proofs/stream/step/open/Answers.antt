@@ -13,7 +13,7 @@ returns-in-Ok-clause-opened g c honest =
     record {
       output = record { frames = frames; fragments = 0; faults = 0; closed = answer.close };
       opening = Opened answer (c.in-Ok.ensures.answered honest) refl c.put_fragments.ensures.moved;
-      counted = refl;
+      counted = c.of.ensures;
       spelled =
           put_alone frames c.put_fragments.new.out.items
           (subst (λ (t : List ℕ). ArePut t frames c.put_fragments.new.out.items) c.clear.ensures c.put_fragments.ensures.put);
@@ -25,6 +25,6 @@ returns-in-Err-clause-opened g c honest = record {
   opening =
       Unopened refl
       (ap (λ (s : g.S.Station.State). record { station = s; port = c.args.port.now }) (c.in-Err.ensures.unchanged honest));
-  counted = refl;
+  counted = c.of-in-Err.ensures;
   spelled = subst (λ (t : List ℕ). AreSpelled [] t) (sym c.clear.ensures) spelled_none;
 }

@@ -1,0 +1,195 @@
+//! What comes from a stream, and what is written to it.
+
+use crate::ends::{Giving, Taking};
+use crate::stations::Echo;
+use dnp_controls::NoOutputs;
+use dnp_daemons::{Log, ServeFault, Served, Station, serve_noted, serve_stream};
+use dnp_eventbuf::PlainLanes;
+use dnp_line::Port;
+use dnp_objects::LANES;
+use dnp_outstation::Outstation;
+use dnp_pointdb::{PointDb, PointPlan, Times};
+use std::alloc::Global;
+use std::process::Abort;
+
+/// A READ of classes 1, 2, 3 and 0 from master 1 to outstation 10.
+const READ: [u8; 27] = [
+    0x05, 0x64, 0x14, 0xC4, 0x0A, 0x00, 0x01, 0x00, 0x8F, 0xED, 0xC0, 0xC0, 0x01, 0x3C, 0x02, 0x06,
+    0x3C, 0x03, 0x06, 0x3C, 0x04, 0x06, 0x3C, 0x01, 0x06, 0x8A, 0x51,
+];
+
+/// The response: a station that has restarted, and no object.
+const RESPONSE: [u8; 17] = [
+    0x05, 0x64, 0x0A, 0x44, 0x01, 0x00, 0x0A, 0x00, 0x6E, 0x25, 0xC0, 0xC0, 0x81, 0x80, 0x00, 0xB3,
+    0xF3,
+];
+
+/// An octet of noise, REQUEST_LINK_STATUS, RESET_LINK_STATES, and the same READ as CONFIRMED_USER_DATA.
+const CONFIRMED: [u8; 48] = [
+    0x05, 0x05, 0x64, 0x05, 0xC9, 0x0A, 0x00, 0x01, 0x00, 0xFE, 0xDA, 0x05, 0x64, 0x05, 0xC0, 0x0A,
+    0x00, 0x01, 0x00, 0xB1, 0xAC, 0x05, 0x64, 0x14, 0xF3, 0x0A, 0x00, 0x01, 0x00, 0x52, 0xB6, 0xC0,
+    0xC0, 0x01, 0x3C, 0x02, 0x06, 0x3C, 0x03, 0x06, 0x3C, 0x04, 0x06, 0x3C, 0x01, 0x06, 0x8A, 0x51,
+];
+
+/// LINK_STATUS, ACK, and ACK again before the response.
+const ACKNOWLEDGED: [u8; 47] = [
+    0x05, 0x64, 0x05, 0x0B, 0x01, 0x00, 0x0A, 0x00, 0x6D, 0xED, 0x05, 0x64, 0x05, 0x00, 0x01, 0x00,
+    0x0A, 0x00, 0x2E, 0xDD, 0x05, 0x64, 0x05, 0x00, 0x01, 0x00, 0x0A, 0x00, 0x2E, 0xDD, 0x05, 0x64,
+    0x0A, 0x44, 0x01, 0x00, 0x0A, 0x00, 0x6E, 0x25, 0xC0, 0xC0, 0x81, 0x80, 0x00, 0xB3, 0xF3,
+];
+
+/// Fragments of two, five and one octets, the last of them 0, and the first again.
+const FRAGMENTS: [u8; 62] = [
+    0x05, 0x64, 0x08, 0xC4, 0x0A, 0x00, 0x01, 0x00, 0xFC, 0x42, 0xC0, 0x07, 0x09, 0x81, 0x68, 0x05,
+    0x64, 0x0B, 0xC4, 0x0A, 0x00, 0x01, 0x00, 0xAC, 0xD1, 0xC0, 0x01, 0x02, 0x03, 0x04, 0x05, 0x8A,
+    0x59, 0x05, 0x64, 0x07, 0xC4, 0x0A, 0x00, 0x01, 0x00, 0x1E, 0x06, 0xC0, 0x00, 0xFB, 0x4F, 0x05,
+    0x64, 0x08, 0xC4, 0x0A, 0x00, 0x01, 0x00, 0xFC, 0x42, 0xC0, 0x07, 0x09, 0x81, 0x68,
+];
+
+/// The first and the third of them, sent back.
+const SENT_BACK: [u8; 29] = [
+    0x05, 0x64, 0x08, 0x44, 0x01, 0x00, 0x0A, 0x00, 0xD9, 0x03, 0xC0, 0x07, 0x09, 0x81, 0x68, 0x05,
+    0x64, 0x07, 0x44, 0x01, 0x00, 0x0A, 0x00, 0x3B, 0x47, 0xC1, 0x00, 0xB5, 0xE4,
+];
+
+/// The READ came, and nothing was refused.
+const ONE: Result<Served, ServeFault> = Ok(Served {
+    fragments: 1,
+    faults: 0,
+    closed: false,
+});
+
+/// Nothing came.
+const NONE: Result<Served, ServeFault> = Ok(Served {
+    fragments: 0,
+    faults: 0,
+    closed: false,
+});
+
+/// What comes, how many octets at a read, how many reads, how many octets are taken: what is answered, how many octets
+/// of which are written, and how many reads there were.
+#[rattlefmt::skip]
+const STREAMS: [(&[u8], usize, u64, usize, Result<Served, ServeFault>, &[u8], usize, u64); 9] = [
+    (&READ, 1, 28, 128, ONE, &RESPONSE, 17, 28),
+    (&READ, 1, 27, 128, Err(ServeFault::TurnsSpent), &RESPONSE, 17, 27),
+    (&READ, 1, 26, 128, Err(ServeFault::TurnsSpent), &RESPONSE, 0, 26),
+    (&READ, 300, 2, 128, ONE, &RESPONSE, 17, 2),
+    (&READ, 10, 100, 5, Err(ServeFault::WriteFailed), &RESPONSE, 5, 3),
+    (&CONFIRMED, 7, 100, 128, ONE, &ACKNOWLEDGED, 47, 8),
+    (&CONFIRMED, 7, 100, 24, Err(ServeFault::WriteFailed), &ACKNOWLEDGED, 24, 7),
+    (&[], 1, 1, 128, NONE, &RESPONSE, 0, 1),
+    (&READ, 1, 0, 128, Err(ServeFault::TurnsSpent), &RESPONSE, 0, 0),
+];
+
+/// An outstation without points and outputs, as after a restart.
+fn outstation(alloc: Global) -> Option<Outstation<PlainLanes, NoOutputs>> {
+    let plan = PointPlan::new(Vec::new(alloc), Vec::new(alloc), Vec::new(alloc)).ok()?;
+    let points = PointDb::new(alloc, plan).ok()?;
+    let lanes = PlainLanes::new(alloc, [1; LANES]).ok()?;
+    let times = Times {
+        confirm_ms: 5_000,
+        response_ms: 10_000,
+        select_ms: 5_000,
+        retries: 0,
+        unsolicited: false,
+    };
+    Some(Outstation::new(points, lanes, NoOutputs, times))
+}
+
+/// Streams to an outstation, in pieces of many sizes; after a fault the outstation is hung up.
+#[test]
+fn streams_to_an_outstation(rt: HostRuntime) {
+    let alloc = rt.alloc();
+    let mut station = outstation(alloc).expect(&rt, "an outstation");
+    for (case, (octets, most, turns, room, result, wanted, count, reads)) in STREAMS
+        .iter()
+        .enumerate()
+    {
+        let mut port = Port::new(10, 1, false);
+        let mut reader = Giving {
+            octets,
+            most: *most,
+            fails: false,
+        };
+        let mut writer = Taking::new(*room);
+        let mut log = Log::new();
+        let served = serve_noted(
+            alloc,
+            &mut station,
+            &mut port,
+            0,
+            &mut reader,
+            &mut writer,
+            *turns,
+            &mut log,
+        );
+        assert!(rt; served == *result, "case {case}");
+        assert!(rt;
+            writer.taken.as_slice() == &wanted[..*count],
+            "octets of case {case}"
+        );
+        assert!(rt;
+            log.reads == *reads && station.quiet() == served.is_ok(),
+            "log of case {case}"
+        );
+    }
+}
+
+/// A station that closes the connection hears nothing behind that; what it refuses is counted.
+#[test]
+fn a_station_that_refuses_and_closes(rt: HostRuntime) {
+    let mut station = Echo { hang_ups: 0 };
+    let mut port = Port::new(10, 1, false);
+    let mut reader = Giving {
+        octets: &FRAGMENTS,
+        most: 300,
+        fails: true,
+    };
+    let mut writer = Taking::new(128);
+    let served = serve_stream(
+        rt.alloc(),
+        &mut station,
+        &mut port,
+        0,
+        &mut reader,
+        &mut writer,
+        9,
+    );
+    let closed = Ok(Served {
+        fragments: 3,
+        faults: 1,
+        closed: true,
+    });
+    assert!(rt;
+        served == closed && writer.taken.as_slice() == SENT_BACK.as_slice() && station.hang_ups == 0
+    );
+}
+
+/// Where the reader fails, what was read before is answered, and the station is hung up.
+#[test]
+fn a_reader_that_fails(rt: HostRuntime) {
+    let mut station = Echo { hang_ups: 0 };
+    for (octets, count) in [(0, 0), (14, 0), (15, 15), (16, 15)] {
+        let mut port = Port::new(10, 1, false);
+        let mut reader = Giving {
+            octets: &FRAGMENTS[..octets],
+            most: 300,
+            fails: true,
+        };
+        let mut writer = Taking::new(128);
+        let served = serve_stream(
+            rt.alloc(),
+            &mut station,
+            &mut port,
+            0,
+            &mut reader,
+            &mut writer,
+            9,
+        );
+        assert!(rt;
+            served == Err(ServeFault::ReadFailed) && writer.taken.as_slice() == &SENT_BACK[..count],
+            "at {octets}"
+        );
+    }
+    assert_eq!(rt; station.hang_ups, 4);
+}

@@ -1,0 +1,9 @@
+//! Tests of stations on streams: what no clause says, and values that come from outside.
+#![tactic(auto)]
+
+#[cfg(test)]
+mod ends;
+#[cfg(test)]
+mod exchanges;
+#[cfg(test)]
+mod stations;
