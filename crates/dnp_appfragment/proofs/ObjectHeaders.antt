@@ -1,5 +1,5 @@
 -- Rows and commands that are put are headers of their function, each with one object.
-use Rattle.std.proofs.Common.{◌≡◌, Bool, true, false, IsTrue, refl, sym, ◌∙◌, ap, subst, ℕ, ◌+◌, ◌-◌, ◌*◌, ◌^◌, ◌<◌, ◌==◌, ◌||◌, List, [], ◌∷◌, length, arith, Option, Some, None, IsSome, ◌⊎◌, inl, inr, eqb-true}
+use Rattle.std.proofs.Common.{◌≡◌, Bool, true, false, IsTrue, refl, sym, ◌∙◌, ap, ap₂, subst, ℕ, ◌+◌, ◌-◌, ◌*◌, ◌^◌, ◌<◌, ◌==◌, ◌||◌, List, [], ◌∷◌, length, arith, Option, Some, None, IsSome, ◌⊎◌, inl, inr, eqb-true}
 use Rattle.dnp_objects.specs.Objects.{objects, content_of, object_size}
 use Rattle.dnp_objects.specs.Rows.{written}
 use Rattle.dnp_objects.specs.Commands.{object_of, index_of, command_octets}
@@ -161,14 +161,15 @@ command_header f c octets carries sized = go (command_form (form_of f) carries)
 
 -- ---- the same of what a call has found: the object, and its octets as they are shown
 
-pub event_put : RowsFill → (f : Function) (row : Row) (object : ℕ × ℕ) (items shown : List ℕ) → object ≡ event_object row.kind row.time
-    → items ≡ written (event_object row.kind row.time).0 (event_object row.kind row.time).1 row → shown ≡ items → IsTrue (is_response f) → IsEvent row
-    → IsHeader (form_of f) (indexed object.0 object.1 row.index shown)
-event_put law f row object items shown same own seen response fits =
-    let o = event_object row.kind row.time in
-    let sized : IsSized o.0 o.1 shown = subst (λ (t : List ℕ). IsSized o.0 o.1 t) (sym (seen ∙ own)) (row_sized law o.0 o.1 row fits) in
-    subst (λ (p : ℕ × ℕ). IsHeader (form_of f) (indexed p.0 p.1 row.index shown)) (sym same)
-    (event_header f row.kind row.time row.index shown response sized)
+pub event_put : RowsFill → (f : Function) (row : Row) (kind : Kind) (time : Option ℕ) → row.kind ≡ kind → row.time ≡ time
+    → IsTrue (is_response f) → IsEvent row
+    → IsHeader (form_of f) (indexed (event_object kind time).0 (event_object kind time).1 row.index
+    (written (event_object kind time).0 (event_object kind time).1 row))
+event_put law f row kind time of_kind at_time response fits =
+    let same : event_object row.kind row.time ≡ event_object kind time = ap₂ event_object of_kind at_time in
+    subst (λ (o : ℕ × ℕ). IsHeader (form_of f) (indexed o.0 o.1 row.index (written o.0 o.1 row))) same
+    (event_header f row.kind row.time row.index _ response
+    (row_sized law (event_object row.kind row.time).0 (event_object row.kind row.time).1 row fits))
 
 pub point_put : RowsFill → (f : Function) (g v : ℕ) (row : Row) (items shown : List ℕ) → v ≡ point_variation g
     → items ≡ written g v row → shown ≡ items → IsTrue (is_response f) → FitsPoint g row → row.index < 2 ^ 16

@@ -12,7 +12,7 @@ use crate::table::{Form, form_of};
 use crate::written::{Event, Indexed, Object, Point};
 use arrayvec::ArrayVec;
 use dnp_objects::laws::a_written_row_fills_its_object;
-use dnp_objects::{Command, MAX_FRAGMENT, Row, Status, write_command};
+use dnp_objects::{Command, Kind, MAX_FRAGMENT, Row, Status, write_command};
 use std::marker::Model;
 use thiserror::Error;
 
@@ -195,7 +195,14 @@ impl Builder {
     {
         // (a law, for the proof: it does nothing)
         a_written_row_fills_its_object();
-        self.put(&Event { row })
+        match (row.kind, row.time) {
+            (Kind::Binary, Some(_)) => self.put(&Event::<2, 2> { row }),
+            (Kind::Binary, None) => self.put(&Event::<2, 1> { row }),
+            (Kind::Counter, Some(_)) => self.put(&Event::<22, 5> { row }),
+            (Kind::Counter, None) => self.put(&Event::<22, 1> { row }),
+            (Kind::Analog, Some(_)) => self.put(&Event::<32, 3> { row }),
+            (Kind::Analog, None) => self.put(&Event::<32, 1> { row }),
+        }
     }
 
     /// Puts a row into a response as a present value of this group: 1.2, 10.2, 20.1 or 30.1, in a

@@ -1,8 +1,7 @@
 //! What rows are written as in a fragment.
 ghost use Rattle.std.specs.Prelude.{◌≡◌, ◌+◌, ◌≤◌, ◌↔◌, ◌++◌, IsTrue, length, true};
 ghost use Rattle.arrayvec.specs.ArrayVec.{array_vec_len};
-ghost use Rattle.dnp_objects.specs.Events.{IsEvent};
-ghost use Rattle.dnp_objects.specs.Rows.{written};
+ghost use Rattle.dnp_objects.specs.Rows.{Fits, written};
 ghost use Rattle.dnp_appfragment.specs.declared.header.Range.TheVariants as range;
 ghost use Rattle.dnp_appfragment.specs.Headers.{Head, NumbersFit};
 ghost use Rattle.dnp_appfragment.specs.Building.{run_head};
@@ -13,10 +12,7 @@ use crate::putting::push_number;
 use crate::run::Run;
 use arrayvec::ArrayVec;
 use dnp_objects::laws::a_written_row_fills_its_object;
-use dnp_objects::{
-    MAX_FRAGMENT, Row, append_event, append_object, event_object, event_size, fits_object,
-    object_size,
-};
+use dnp_objects::{MAX_FRAGMENT, Row, append_object, fits_object, object_size};
 
 /// The range of one object after its index: qualifier 28.
 const BEHIND_INDEX: Range = Range::Indexed { wide: true, n: 1 };
@@ -75,30 +71,32 @@ pub(crate) trait Object {
         ensures { octets.new.items ≡ octets.old.items ++ (head self.now).octets };
 }
 
-/// A row as an event, after its index: qualifier 28.
+/// A row as this object, after its index: qualifier 28. The object stands in the type, so that the compiler knows
+/// how many octets each part has.
 #[derive(Clone, Copy)]
-pub(crate) struct Event<'a> {
+pub(crate) struct Event<'a, const GROUP: u8, const VARIATION: u8> {
     pub row: &'a Row,
 }
 
-impl<'a> Object for Event<'a> {
-    ghost can_put = { λ e. IsEvent e.row.now };
+impl<'a, const GROUP: u8, const VARIATION: u8> Object for Event<'a, GROUP, VARIATION> {
+    ghost can_put = { λ e. Fits GROUP VARIATION e.row.now };
 
-    ghost head = { λ e. spec.event e.row.now };
+    ghost head = { λ e. spec.indexed GROUP VARIATION e.row.now.index (written GROUP VARIATION e.row.now) };
 
     #[inline]
     fn run(&self) -> Run {
-        let (group, variation) = event_object(self.row);
         Run {
-            group,
-            variation,
+            group: GROUP,
+            variation: VARIATION,
             range: BEHIND_INDEX,
         }
     }
 
     #[inline]
     fn size(&self) -> usize {
-        2 + event_size(self.row)
+        // (a law, for the proof: it does nothing)
+        a_written_row_fills_its_object();
+        2 + object_size(GROUP, VARIATION).unwrap()
     }
 
     #[inline]
@@ -106,7 +104,7 @@ impl<'a> Object for Event<'a> {
         // (all of the row is read before anything is written)
         let (index, row) = (self.row.index, *self.row);
         push_number(octets, true, index);
-        append_event(&row, octets);
+        append_object(GROUP, VARIATION, &row, octets);
     }
 }
 
