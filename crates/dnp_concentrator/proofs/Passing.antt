@@ -157,7 +157,8 @@ mapped_some : {X Y : Type 0} (f : X → Y) (o : Option X) → IsSome o → IsSom
 mapped_some f None h = absurd (search (rules, h))
 mapped_some f (Some x) h = search rules
 
-lane_some : (row : Row) (o : Option PointState) (class : ℕ) → option_map (λ (state : PointState). state.point.class) o ≡ Some class → 0 < class → class ≤ CLASSES
+lane_some : (row : Row) (o : Option PointState) (class : ℕ) → option_map (λ (state : PointState). state.point.class) o ≡ Some class
+    → 0 < class → class ≤ CLASSES
     → IsSome (option_and_then (λ (state : PointState). option_map (λ (lane : Lane). let y : LaneRow = record { lane = lane; row = row } in y)
     (lane_of state.point.class row.kind)) o)
 lane_some row None class e some few = absurd (cc)
@@ -187,7 +188,8 @@ stands plan kind number s at index inside =
     subst (λ (x : Span). cond (nat_lt index x.count) (Some (x.base + index)) None ≡ Some ((block_above kind s).base + index)) (sym span)
     (in_span (span_of (spans_of s) (kind_of_points kind)) index (block_above kind s).base within_span (base-above kind s))
   where
-    in_span : (x : Span) (index base : ℕ) → index < x.count → base ≡ x.base → cond (nat_lt index x.count) (Some (x.base + index)) None ≡ Some (base + index)
+    in_span : (x : Span) (index base : ℕ) → index < x.count → base ≡ x.base
+        → cond (nat_lt index x.count) (Some (x.base + index)) None ≡ Some (base + index)
     in_span x index base lt same = grind (arith, nat_tests, lt, same)
 
 pub event_queued : IsThere → HasItsClass → (plan : Plan) (points : Database) (number : ℕ) (s : SubPlan) (event : Row) → KeepsLimits plan

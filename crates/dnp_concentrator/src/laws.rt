@@ -13,12 +13,15 @@ ghost use Rattle.dnp_concentrator.specs.PointsAbove.{HasClassesOf, points_above,
 ghost use Rattle.dnp_master.specs.Calls.{receive_of};
 ghost use Rattle.dnp_master.specs.Rows.{is_reported};
 ghost use Rattle.dnp_master.specs.State.{State};
-ghost use Rattle.dnp_pointdb.specs.Database.{Database, new_database};
+ghost use Rattle.dnp_pointdb.specs.Database.{Database, lost_of, new_database, restarted};
+ghost use Rattle.dnp_concentrator.specs.Below.{readings_set};
 ghost use Rattle.dnp_objects.specs.declared.row.Row.{Row};
 ghost use Rattle.dnp_objects.specs.declared.command.Command.{Command};
 
 use dnp_master::laws::events_taken_are_of_the_plan;
-use dnp_pointdb::laws::points_are_those_of_the_plan;
+use dnp_pointdb::laws::{
+    a_change_is_of_one_point, lost_communication_is_no_report, points_are_those_of_the_plan,
+};
 
 /// What stands above is found again below, and what is found below stands there above.
 pub fn each_direction_undoes_the_other()
@@ -72,4 +75,16 @@ pub fn no_event_is_passed_over()
 {
     points_are_those_of_the_plan();
     events_taken_are_of_the_plan();
+}
+
+/// The classes above stay the plan's, whatever a substation's rows set there, and where points are marked lost or start
+/// again.
+pub fn classes_above_stay()
+    ensures set { (plan : PlanValue) (points : Database) (spans : List Spans) (station : ℕ) (rows : List Row)
+        → HasClassesOf plan points → HasClassesOf plan (readings_set spans station points rows) }
+    ensures lost { (plan : PlanValue) (points : Database) (number : ℕ) → HasClassesOf plan points → HasClassesOf plan (lost_of points number) }
+    ensures restarted { (plan : PlanValue) (points : Database) → HasClassesOf plan points → HasClassesOf plan (restarted points) }
+{
+    a_change_is_of_one_point();
+    lost_communication_is_no_report();
 }
