@@ -1,6 +1,6 @@
 //! What lanes are, however they are kept.
 
-ghost use Rattle.std.specs.Prelude.{◌≡◌, ◌≢◌, Bool, false, IsTrue, OnOk, IfOk, IfErr, List, [], length, All};
+ghost use Rattle.std.specs.Prelude.{◌≡◌, ◌≢◌, Bool, false, IsTrue, OnOk, OnErr, IfOk, IfErr, List, [], length, All};
 ghost use Rattle.dnp_objects.specs.Events.{IsEvent};
 ghost use Rattle.dnp_objects.specs.Lanes.{lane_number};
 ghost use Rattle.dnp_eventbuf.specs.Calls.{IsLanesCall};
@@ -9,6 +9,7 @@ ghost use Rattle.dnp_eventbuf.specs.Sound.{IsSound};
 ghost use Rattle.dnp_eventbuf.specs.Stock.{Stock, lane_at, with_rows, dropped_by, exhausts, offered, without, all_up_to, without_all, rows_in, last_of};
 
 use crate::numbered::{Numbered, Upto};
+use crate::rows::Rows;
 use dnp_objects::{Lane, LaneRow, Row, StoreFault};
 use std::alloc::Global;
 
@@ -51,6 +52,30 @@ pub trait Lanes {
         ensures exhausted { honest self.new → IfErr result (λ e. e ≡ StoreFault.Exhausted → IsTrue (exhausts (contents self.old) rows.now)) }
         ensures exhausted_first { honest self.new → IfErr result (λ e. e ≡ StoreFault.Memory → exhausts (contents self.old) rows.now ≡ false) }
         ensures memory { result ≡ Err StoreFault.Memory → asks_memory ≡ false → dropped_by (contents self.old) rows.now ≢ [] };
+
+    /// As `append`, but the rows that full lanes dropped come into the caller's `dropped`, in place of what
+    /// was there. A refusal leaves those too. So a caller that keeps them asks for memory only where more are
+    /// dropped than ever before.
+    fn append_into(
+        &mut self,
+        alloc: Global,
+        rows: &[LaneRow],
+        dropped: &mut Rows,
+    ) -> Result<(), StoreFault>
+        requires { All IsCarried rows.now }
+        ensures call { IsLanesCall honest is_stopped contents beside self.old self.new result }
+
+        ensures appended { honest self.new → OnOk result (contents self.new ≡ with_rows (contents self.old) rows.now) }
+        ensures dropped { honest self.new → OnOk result (dropped.new ≡ dropped_by (contents self.old) rows.now) }
+        ensures kept { OnErr result (dropped.new ≡ dropped.old) }
+        ensures not_exhausted { honest self.new → OnOk result (exhausts (contents self.old) rows.now ≡ false) }
+        ensures exhausted { honest self.new → IfErr result (λ e. e ≡ StoreFault.Exhausted → IsTrue (exhausts (contents self.old) rows.now)) }
+        ensures exhausted_first { honest self.new → IfErr result (λ e. e ≡ StoreFault.Memory → exhausts (contents self.old) rows.now ≡ false) }
+        ensures memory { result ≡ Err StoreFault.Memory → asks_memory ≡ false → dropped_by (contents self.old) rows.now ≢ [] }
+    {
+        *dropped = Rows::of(self.append(alloc, rows)?);
+        Ok(())
+    }
 
     /// The first rows of the lane with an id over `after`, at most `most`; `after` 0 begins at the
     /// oldest. Each is an event. Memory, though in memory not where there is no such row, or Device.

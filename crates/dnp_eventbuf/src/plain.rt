@@ -2,7 +2,6 @@
 
 ghost use Rattle.std.specs.Prelude.{◌≡◌, ◌≢◌, ◌^◌, ◌<◌, ◌≤◌, ◌+◌, ◌-◌, slice_get, option_map, Bool, true, false, IfOk, IfErr, IfSome, IfNone, OnOk, OnErr, IsTrue, All, List, length, map, [], ◌∷◌, ◌++◌, vec_len, vec_capacity, ⊤};
 ghost use Rattle.std.specs.List.{list_any};
-ghost use Rattle.std.specs.Option.{option_to_list};
 ghost use Rattle.dnp_objects.specs.Lanes.{lane_number};
 ghost use Rattle.dnp_eventbuf.specs.Carried.{IsCarried};
 ghost use Rattle.dnp_eventbuf.specs.Latest.{numbered_for};
@@ -16,6 +15,7 @@ use crate::arriving::{count_for, id_for};
 use crate::lanes::Lanes;
 use crate::numbered::{Numbered, Upto};
 use crate::plain_lane::PlainLane;
+use crate::rows::{Rows, empty_for};
 use crate::tally::{Tally, drops};
 use dnp_objects::{LANES, Lane, LaneRow, MAX_ID, Row, StoreFault};
 use std::alloc::{AllocError, Global};
@@ -130,20 +130,24 @@ impl PlainLanes {
         self.overflow && any_full_above(&self.lanes, upto)
     }
 
-    /// Puts one row into its lane, under the next id.
-    fn put(&mut self, x: LaneRow) -> Option<Row>
+    /// Puts one row into its lane, under the next id, and adds the one that a full lane drops for it to those
+    /// that were dropped, which have room for it. It stands in its callers, as what it calls.
+    #[inline(always)]
+    fn put(&mut self, x: LaneRow, dropped: &mut Vec<Row>)
         requires carried { IsCarried x }
         requires fits { is_past (with_row self.old x) ≡ false }
+        requires room { vec_len dropped.old + length (dropped_from (lane_at self.old (lane_number x.lane))) ≤ vec_capacity dropped.old }
         ensures with { self.new ≡ with_row self.old x }
-        ensures dropped { option_to_list result ≡ dropped_from (lane_at self.old (lane_number x.lane)) }
+        ensures dropped { dropped.new.items ≡ dropped.old.items ++ dropped_from (lane_at self.old (lane_number x.lane)) }
+        ensures len { vec_len dropped.new ≡ vec_len dropped.old + length (dropped_from (lane_at self.old (lane_number x.lane))) }
+        ensures capacity { vec_capacity dropped.old ≤ vec_capacity dropped.new }
     {
         let id = self.last_id + 1;
         let lane = &mut self.lanes[x.lane.number()];
         let was_full = lane.is_full();
-        let dropped = lane.put(Numbered { id, row: x.row });
+        lane.put(Numbered { id, row: x.row }, dropped);
         self.overflow |= was_full;
         self.last_id = id;
-        dropped
     }
 
     /// Puts the rows one by one. There is room for those that are dropped.
@@ -157,9 +161,7 @@ impl PlainLanes {
         ensures dropped { dropped.new.items ≡ dropped.old.items ++ dropped_by self.old rows.now }
     {
         for x in rows {
-            if let Some(row) = self.put(*x) {
-                let _ = dropped.push(row);
-            }
+            self.put(*x, dropped);
         }
         // To read the last id is to know that the lanes are sound.
         prove!(self.last_id <= MAX_ID);
@@ -331,6 +333,19 @@ impl Lanes for PlainLanes {
         let mut dropped = Vec::with_capacity(alloc, count).map_err(memory)?;
         self.put_all(rows, &mut dropped);
         Ok(dropped)
+    }
+
+    #[inline(always)]
+    fn append_into(
+        &mut self,
+        alloc: Global,
+        rows: &[LaneRow],
+        dropped: &mut Rows,
+    ) -> Result<(), StoreFault> {
+        let count = self.drops(rows).ok_or(StoreFault::Exhausted)?;
+        empty_for(alloc, &mut dropped.items, count).map_err(memory)?;
+        self.put_all(rows, &mut dropped.items);
+        Ok(())
     }
 
     fn offer(

@@ -1,8 +1,7 @@
 //! One lane in memory.
 
-ghost use Rattle.std.specs.Prelude.{not, ◌&&◌, ◌≡◌, ◌≢◌, ◌^◌, ◌+◌, ◌-◌, ◌<◌, ◌≤◌, ◌++◌, slice_get, option_map, IfOk, OnOk, OnErr, [], length, map, nat_le, nat_lt, vec_len, vec_capacity, filter, take};
+ghost use Rattle.std.specs.Prelude.{not, ◌&&◌, false, ◌≡◌, ◌≢◌, ◌^◌, ◌+◌, ◌-◌, ◌<◌, ◌≤◌, ◌++◌, slice_get, option_map, IfOk, OnOk, OnErr, [], length, map, nat_le, nat_lt, vec_len, vec_capacity, filter, take};
 ghost use Rattle.std.specs.List.{list_any};
-ghost use Rattle.std.specs.Option.{option_to_list};
 ghost use Rattle.std.specs.VecDeque.{deque_len, deque_capacity};
 ghost use Rattle.dnp_eventbuf.specs.Stock.{is_full, put_in, dropped_from, empty_lane, emptied, above, up_to, last_of, row_of};
 ghost use Rattle.dnp_eventbuf.specs.Tallies.{tally_of};
@@ -57,20 +56,33 @@ impl PlainLane {
         self.rows.len() >= self.capacity as usize
     }
 
-    /// Takes a row at the end. A full lane drops its oldest first, counts it, and gives it back.
-    pub fn put(&mut self, x: Numbered) -> Option<Row>
+    /// Takes a row at the end, for which there is room.
+    pub fn push(&mut self, x: Numbered)
+        requires { is_full self.old ≡ false }
+        ensures { self.new ≡ put_in self.old x }
+    {
+        self.rows.push_back_reserved(x);
+    }
+
+    /// Takes a row at the end. A full lane drops its oldest first, counts it, and adds it to those that were
+    /// dropped, which have room for it. It stands in its callers, so that neither row is moved to it or from it.
+    #[inline(always)]
+    pub fn put(&mut self, x: Numbered, dropped: &mut Vec<Row>)
         requires takes_one { 1 ≤ self.old.capacity }
         requires counted { self.old.lost ≤ MAX_ID }
+        requires room { vec_len dropped.old + length (dropped_from self.old) ≤ vec_capacity dropped.old }
         ensures lane { self.new ≡ put_in self.old x }
-        ensures dropped { option_to_list result ≡ dropped_from self.old }
+        ensures dropped { dropped.new.items ≡ dropped.old.items ++ dropped_from self.old }
+        ensures len { vec_len dropped.new ≡ vec_len dropped.old + length (dropped_from self.old) }
+        ensures capacity { vec_capacity dropped.old ≤ vec_capacity dropped.new }
     {
-        let mut dropped = None;
         if self.rows.len() >= self.capacity as usize {
             self.lost += 1;
-            dropped = self.rows.pop_front().map(|x| x.row);
+            if let Some(oldest) = self.rows.pop_front() {
+                let _ = dropped.push(oldest.row);
+            }
         }
         self.rows.push_back_reserved(x);
-        dropped
     }
 
     /// The first rows with an id over `after`, at most `most`.
@@ -124,7 +136,11 @@ impl PlainLane {
     pub fn cut(&mut self, upto: u64)
         ensures { self.new ≡ above upto self.old }
     {
-        keep_above(&mut self.rows, upto);
+        if self.has_over(upto) {
+            keep_above(&mut self.rows, upto);
+        } else {
+            self.clear();
+        }
     }
 
     /// Takes all rows out; the count of lost rows stays.

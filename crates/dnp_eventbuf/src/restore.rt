@@ -42,7 +42,7 @@ impl PlainLanes {
         if !lane.takes(id) || last_id < id {
             return false;
         }
-        let _ = lane.put(Numbered { id, row: x.row });
+        lane.push(Numbered { id, row: x.row });
         true
     }
 }

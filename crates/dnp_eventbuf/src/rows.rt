@@ -1,13 +1,15 @@
 //! Rows that left the lanes, or that a sink dropped.
 
+ghost use Rattle.std.specs.Prelude.{◌≡◌, ◌≤◌, [], OnOk, OnErr, vec_capacity, vec_len};
+
 use dnp_objects::Row;
-use std::alloc::Global;
+use std::alloc::{AllocError, Global};
 use std::marker::Model;
 
 /// Rows, in order. A clause sees them as their list.
 #[derive(Debug, Drop)]
 pub struct Rows {
-    items: Vec<Row>,
+    pub(crate) items: Vec<Row>,
 }
 
 impl Model for Rows {
@@ -38,10 +40,34 @@ impl Rows {
         Rows { items }
     }
 
+    /// Lets all rows go. The memory that they took is kept for others.
+    pub fn clear(&mut self)
+        ensures { self.new ≡ [] }
+    {
+        self.items.clear();
+    }
+
     /// The rows, in order.
     pub fn as_slice(&self) -> &[Row]
         ensures { result.now ≡ self.now }
     {
         self.items.as_slice()
     }
+}
+
+/// Empties the rows, with room for so many. Memory is asked for only where that room is missing, and the rows stay
+/// where it is refused.
+pub(crate) fn empty_for(alloc: Global, rows: &mut Vec<Row>, count: usize) -> Result<(), AllocError>
+    ensures empty { OnOk result (rows.new.items ≡ []) }
+    ensures len { OnOk result (vec_len rows.new ≡ 0) }
+    ensures room { OnOk result (count ≤ vec_capacity rows.new) }
+    ensures kept { OnErr result (rows.new.items ≡ rows.old.items) }
+    ensures asks { OnErr result (1 ≤ count) }
+{
+    if rows.capacity() < count {
+        *rows = Vec::with_capacity(alloc, count)?;
+    } else {
+        rows.clear();
+    }
+    Ok(())
 }

@@ -2,13 +2,15 @@
 use Rattle.std.proofs.Common.{◌≡◌, ℕ, ◌<◌, Bool, true, false, cond, ◌&&◌, List, [], length, get_or, set, Option, Some, None, Result, Ok, Err, refl, sym, ◌∙◌, ap, subst}
 use Rattle.std.specs.Option.{unwrap_or}
 use Rattle.dnp_objects.specs.declared.row.Kind.{Kind}
+use Rattle.dnp_objects.specs.declared.lane.LaneRow.{LaneRow}
 use Rattle.dnp_pointdb.specs.declared.reading.Reading.{Reading}
 use Rattle.dnp_pointdb.specs.declared.state.PointState.{PointState}
 use Rattle.dnp_pointdb.specs.declared.state.BlockState.{BlockState}
 use Rattle.dnp_pointdb.specs.declared.fault.ChangeFault.{ChangeFault}
 use Rattle.dnp_pointdb.specs.declared.fault.ChangeFault.TheVariants.{ValueRange, TimeRange}
 use Rattle.dnp_pointdb.specs.Ranges.{is_carried, is_in_time, is_in_range}
-use Rattle.dnp_pointdb.specs.Database.{state_in, updated_in, checked, new_state}
+use Rattle.dnp_pointdb.specs.Database.{state_in, updated_in, checked, made_from, answer_in, new_state}
+use Rattle.dnp_pointdb.specs.Events.{event_of}
 use Rattle.dnp_pointdb.specs.Order.{extents, place_in}
 use Rattle.dnp_pointdb.proofs.Lookups.{lookup_found, lookup_lacks}
 
@@ -22,6 +24,20 @@ out_of_range : (s : PointState) (fault : ChangeFault) (carried timely : Bool) �
 out_of_range s fault true true is = absurd (cc)
 out_of_range s fault true false is = refl
 out_of_range s fault false timely is = refl
+
+-- the row that is made of a point that can have the reading
+made_of : (s : PointState) (kind : Kind) (index : ℕ) (reading : Reading) (made : Option LaneRow) (carried timely : Bool) → carried && timely ≡ true
+    → made_from kind index reading (tested s carried timely) ≡ Ok made → made ≡ event_of kind index s.point s.reported reading
+made_of s kind index reading made true true can is = cc
+made_of s kind index reading made true false can is = absurd (cc)
+made_of s kind index reading made false timely can is = absurd (cc)
+
+pub event_made : (blocks : List BlockState) (kind : Kind) (index : ℕ) (reading : Reading) (s : PointState) (made : Option LaneRow)
+    → state_in blocks index ≡ Some s → is_in_range kind reading ≡ true → answer_in blocks kind index reading ≡ Ok made
+    → made ≡ event_of kind index s.point s.reported reading
+event_made blocks kind index reading s made there can is =
+    made_of s kind index reading made (is_carried kind reading) (is_in_time reading.time) can
+    (ap (λ (o : Option PointState). made_from kind index reading (checked o kind reading)) (sym there) ∙ is)
 
 -- ---- the point in its place
 

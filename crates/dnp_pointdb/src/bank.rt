@@ -146,14 +146,22 @@ impl Bank {
         self.state_at(index, at).event(kind, index, reading)
     }
 
-    /// Changes the point that stands there.
-    pub fn change_at(&mut self, at: PointPlace, kind: Kind, index: u16, reading: Reading)
+    /// Changes the point that stands there, for which `event_at` has answered this.
+    pub fn change_at(
+        &mut self,
+        at: PointPlace,
+        kind: Kind,
+        index: u16,
+        reading: Reading,
+        made: &Option<LaneRow>,
+    )
         requires place { IsPlaceIn self.old index at }
         requires in_range { is_in_range kind reading ≡ true }
+        requires made { spec.answer_in self.old kind index reading ≡ Ok made.now }
         ensures { self.new ≡ spec.changed_in self.old kind index reading }
     {
         let state = self.state_at(index, at);
-        self.put(at.block, at.place, state.changed(kind, index, reading));
+        self.put(at.block, at.place, state.changed(reading, made.is_some()));
     }
 
     /// What a change answers.
@@ -182,7 +190,7 @@ impl Bank {
     {
         let at = self.check(kind, index, reading)?;
         let made = self.event_at(at, kind, index, reading);
-        self.change_at(at, kind, index, reading);
+        self.change_at(at, kind, index, reading, &made);
         Ok(made)
     }
 

@@ -150,14 +150,22 @@ impl PointDb {
         self.bank(kind).event_at(at, kind, index, reading)
     }
 
-    /// Changes the point that `check` has found, as `change` does.
-    pub fn change_at(&mut self, at: PointPlace, kind: Kind, index: u16, reading: Reading)
+    /// Changes the point that `check` has found, as `change` does; `made` is what `event_at` answers for it.
+    pub fn change_at(
+        &mut self,
+        at: PointPlace,
+        kind: Kind,
+        index: u16,
+        reading: Reading,
+        made: &Option<LaneRow>,
+    )
         requires place { IsPlace self.old kind index at }
         requires in_range { is_in_range kind reading ≡ true }
+        requires made { spec.answer_of self.old kind index reading ≡ Ok made.now }
         ensures after { self.new ≡ spec.changed_of self.old kind index reading }
         ensures sound { IsSound self.new }
     {
-        self.banks[kind.number()].change_at(at, kind, index, reading);
+        self.banks[kind.number()].change_at(at, kind, index, reading, made);
     }
 
     /// Takes in a new reading of a point, and answers the event that it is, with its lane, or none.

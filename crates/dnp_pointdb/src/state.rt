@@ -21,6 +21,8 @@ pub struct PointState {
 }
 
 impl PointState {
+    ghost use Rattle.std.specs.Prelude.{◌≡◌, ℕ, is_some};
+    ghost use Rattle.dnp_objects.specs.declared.row.Kind.{Kind as KindValue};
     ghost use Rattle.dnp_pointdb.specs.Database as spec;
     ghost use Rattle.dnp_pointdb.specs.Events as event;
 
@@ -42,12 +44,13 @@ impl PointState {
         event_of(kind, index, self.point, self.reported, reading)
     }
 
-    /// The point after a change.
-    pub(crate) fn changed(self, kind: Kind, index: u16, reading: Reading) -> Self
-        ensures { result ≡ spec.changed_state kind index reading self }
+    /// The point after a change, which made a row or made none.
+    pub(crate) fn changed(self, reading: Reading, is_event: bool) -> Self
+        ensures { (kind : KindValue) (index : ℕ) → is_event ≡ is_some (event.event_of kind index self.point self.reported reading)
+            → result ≡ spec.changed_state kind index reading self }
     {
         // (the two fields apart: a report that is moved as a whole takes its padding along)
-        let (value, flags) = if self.event(kind, index, reading).is_some() {
+        let (value, flags) = if is_event {
             (reading.value, reading.flags)
         } else {
             (self.reported.value, self.reported.flags)
