@@ -16,11 +16,11 @@ use Rattle.dnp_outstation.proofs.Faults.{memory_from}
 use Rattle.dnp_outstation.proofs.NoRows.{none_dropped}
 use Rattle.dnp_outstation.proofs.outstation_core.OutstationCore.change.Goals as goal
 
-pub returns-in_err-dropped-clause-memory : goal.returns-in_err-dropped-clause-memory
-returns-in_err-dropped-clause-memory g c = λ honest is asks none.
-    let memory : c.in_err-dropped.field-0.0 ≡ store.Memory =
-    memory_from c.in_err-dropped.field-0.0 c.from_residual-in_err-dropped.result c.from_residual-in_err-dropped.ensures.1 is in
-    c.in_err-dropped.ensures.memory (ap Err memory) asks (none_dropped (g.L.Lanes.contents c.args.lanes.now) c.made-made.result none)
+pub returns-in_err-append_made-clause-memory : goal.returns-in_err-append_made-clause-memory
+returns-in_err-append_made-clause-memory g c = λ honest is asks none.
+    let memory : c.in_err-append_made.field-0.0 ≡ store.Memory =
+    memory_from c.in_err-append_made.field-0.0 c.from_residual-in_err-append_made.result c.from_residual-in_err-append_made.ensures.1 is in
+    c.in_err-append_made.ensures.memory (ap Err memory) asks (none_dropped (g.L.Lanes.contents c.args.lanes.now) c.made-made.result none)
 
 pub returns-then-is_ready-clause-changed : goal.returns-then-is_ready-clause-changed
 returns-then-is_ready-clause-changed g c = λ honest.
@@ -59,13 +59,13 @@ returns-clause-changed g c = λ honest.
     let last : Step = record { state = state_of changed new panel; does = actions_of c.set_overwriting.new.self } in
     let does_is : actions_of c.set_overwriting.new.self ≡ does =
     c.set_overwriting.ensures.value
-    ∙ ap (λ (rows : List Row). let d : Actions = record nothing { overwritten = rows } in d) (c.of.ensures ∙ c.in_ok-dropped.ensures.dropped honest) in
+    ∙ ap (λ (rows : List Row). let d : Actions = record nothing { overwritten = rows } in d) (c.in_ok-append_made.ensures.dropped honest) in
     let is : change_of (state_of c.args.self.now old panel) now kind index reading made ≡ last =
     ap (λ (k : Core). change_of (state_of k old panel) now kind index reading made) (sym c.self.view_is)
     ∙ nothing_at_end now step unready
     ∙ ap (λ (points : Database). let x : Step = record { state = state_of (record core { points = points }) (with_rows old (option_to_list made)) panel; does = does } in x)
     (sym c.change_at.ensures.after)
-    ∙ ap (λ (l : Stock). let x : Step = record { state = state_of changed l panel; does = does } in x) (sym (c.in_ok-dropped.ensures.appended honest))
+    ∙ ap (λ (l : Stock). let x : Step = record { state = state_of changed l panel; does = does } in x) (sym (c.in_ok-append_made.ensures.appended honest))
     ∙ ap (λ (d : Actions). let x : Step = record { state = state_of changed new panel; does = d } in x) (sym does_is) in
     let answer_is : Ok made ≡ answer_of c.args.self.now.points kind index reading =
     sym c.made-made.ensures.answer ∙ ap (λ (k : Core). answer_of k.points kind index reading) c.self.view_is in

@@ -12,14 +12,14 @@ use Rattle.dnp_outstation.proofs.Cores.{core_in}
 use Rattle.dnp_outstation.proofs.NoRows.{none_dropped}
 use Rattle.dnp_outstation.proofs.outstation_core.OutstationCore.change_reported.Goals as goal
 
-pub returns-in_err-dropped-clause-memory : goal.returns-in_err-dropped-clause-memory
-returns-in_err-dropped-clause-memory g c = λ honest is asks none.
+pub returns-in_err-append_made-clause-memory : goal.returns-in_err-append_made-clause-memory
+returns-in_err-append_made-clause-memory g c = λ honest is asks none.
     let mid = g.L.Lanes.contents c.held_rows.new.lanes in
-    let mid_is : mid ≡ g.L.Lanes.contents c.args.lanes.now = c.in_ok-held.ensures.look.same (c.in_err-dropped.ensures.held honest) in
-    let told : result_err c.from_residual-in_err-dropped.result ≡ Some c.in_err-dropped.field-0.0 = search rules in
-    let memory_is : Some c.in_err-dropped.field-0.0 ≡ Some store.Memory = sym told ∙ ap result_err is in
-    let memory : Err c.in_err-dropped.field-0.0 ≡ Err store.Memory = cc in
-    c.in_err-dropped.ensures.memory memory asks (none_dropped mid c.args.made.now (ap rows_in mid_is ∙ none))
+    let mid_is : mid ≡ g.L.Lanes.contents c.args.lanes.now = c.in_ok-held.ensures.look.same (c.in_err-append_made.ensures.held honest) in
+    let told : result_err c.from_residual-in_err-append_made.result ≡ Some c.in_err-append_made.field-0.0 = search rules in
+    let memory_is : Some c.in_err-append_made.field-0.0 ≡ Some store.Memory = sym told ∙ ap result_err is in
+    let memory : Err c.in_err-append_made.field-0.0 ≡ Err store.Memory = cc in
+    c.in_err-append_made.ensures.memory memory asks (none_dropped mid c.args.made.now (ap rows_in mid_is ∙ none))
 
 pub returns-clause-changed : goal.returns-clause-changed
 returns-clause-changed g c = λ honest panel.
@@ -35,12 +35,12 @@ returns-clause-changed g c = λ honest panel.
     let changed : Core = record core { points = c.change_at.new.self } in
     let written = subst (λ l. g.L.Lanes.honest l) c.end_call.ensures.same honest in
     let appended = subst (λ l. g.L.Lanes.honest l) c.write_changed-starts.ensures.same written in
-    let looked = c.in_ok-dropped.ensures.held appended in
+    let looked = c.in_ok-append_made.ensures.held appended in
     let mid_is : mid ≡ old = c.in_ok-held.ensures.look.same looked in
     let rows_are : g.L.Lanes.contents c.append_made.new.lanes ≡ with_rows old (option_to_list made) =
-    c.in_ok-dropped.ensures.appended appended ∙ ap (λ (l : Stock). with_rows l (option_to_list made)) mid_is in
-    let dropped_is : c.in_ok-dropped.dropped.items ≡ dropped_by old (option_to_list made) =
-    c.in_ok-dropped.ensures.dropped appended ∙ ap (λ (l : Stock). dropped_by l (option_to_list made)) mid_is in
+    c.in_ok-append_made.ensures.appended appended ∙ ap (λ (l : Stock). with_rows l (option_to_list made)) mid_is in
+    let dropped_is : c.append_made.new.dropped ≡ dropped_by old (option_to_list made) =
+    c.in_ok-append_made.ensures.dropped appended ∙ ap (λ (l : Stock). dropped_by l (option_to_list made)) mid_is in
     let written_are : g.L.Lanes.contents c.write_changed-starts.new.lanes ≡ with_rows old (option_to_list made) =
     ap g.L.Lanes.contents c.write_changed-starts.ensures.same ∙ rows_are in
     let lanes_are : new ≡ with_rows old (option_to_list made) = ap g.L.Lanes.contents c.end_call.ensures.same ∙ written_are in
@@ -51,10 +51,10 @@ returns-clause-changed g c = λ honest panel.
     let step : Step = record { state = state_of after (with_rows old (option_to_list made)) panel; does = does } in
     let ready : true ≡ is_ready after = sym c.requires.ready ∙ ap is_ready (sym c.self.view_is) in
     let does_is : actions_of c.set_overwriting.new.self ≡ does =
-    c.set_overwriting.ensures.value ∙ ap (λ (rows : List Row). let d : Actions = record nothing { overwritten = rows } in d) (c.of.ensures ∙ dropped_is) in
+    c.set_overwriting.ensures.value ∙ ap (λ (rows : List Row). let d : Actions = record nothing { overwritten = rows } in d) dropped_is in
     let s : State = state_of changed new panel in
     ap (λ (k : Core). change_of (state_of k old panel) now kind index reading made) (sym c.self.view_is)
-    ∙ c.write_changed-starts.ensures.ends written old now step (c.in_ok-held.ensures.rows looked) written_are (c.as_slice.ensures.value ∙ dropped_is) refl refl ready
+    ∙ c.write_changed-starts.ensures.ends written old now step (c.in_ok-held.ensures.rows looked) written_are (c.as_slice.ensures ∙ dropped_is) refl refl ready
     ∙ ap (λ (points : Database). let k : Core = record core { points = points } in
     let y : Step = record { state = state_of k (with_rows old (option_to_list made)) panel; does = does } in ended_by w starts now y) (sym c.change_at.ensures.after)
     ∙ ap (λ (l : Stock). let y : Step = record { state = state_of changed l panel; does = does } in ended_by w starts now y) (sym lanes_are)
