@@ -17,6 +17,10 @@ use dnp_appfragment::{Header, Headers};
 use dnp_controls::Outputs;
 use dnp_objects::{Command, MAX_FRAGMENT, Status};
 
+/// How many octets the objects of a header have at most where they are copied through room that costs nothing to
+/// clear: most requests have one command, whose object has 13 octets with its index.
+const FEW: usize = 64;
+
 /// What the commands of a request are answered.
 #[derive(Clone, Copy)]
 pub(crate) enum Told {
@@ -49,9 +53,9 @@ impl Told {
 }
 
 /// Appends an object with this status in its last octet, if it is given one.
-fn push_object(octets: &mut ArrayVec<u8, MAX_FRAGMENT>, object: &[u8], code: Option<u8>)
+fn push_object<const N: usize>(octets: &mut ArrayVec<u8, N>, object: &[u8], code: Option<u8>)
     requires some { 1 ≤ length object.now }
-    requires room { array_vec_len octets.old + length object.now ≤ MAX_FRAGMENT }
+    requires room { array_vec_len octets.old + length object.now ≤ N }
     ensures { octets.new.items ≡ octets.old.items ++ with_status object.now code }
 {
     match code {
@@ -66,15 +70,15 @@ fn push_object(octets: &mut ArrayVec<u8, MAX_FRAGMENT>, object: &[u8], code: Opt
 }
 
 /// Fills in the objects of a header, each with the status of its command.
-fn fill<O: Outputs>(
-    octets: &mut ArrayVec<u8, MAX_FRAGMENT>,
+fn fill<const N: usize, O: Outputs>(
+    octets: &mut ArrayVec<u8, N>,
     outputs: &O,
     told: &Told,
     header: &Header<'_>,
 )
     requires empty { octets.old.items ≡ [] }
     requires whole { IsHeader form.Command (head header.now) }
-    requires room { length header.now.octets.now ≤ MAX_FRAGMENT }
+    requires room { length header.now.octets.now ≤ N }
     ensures { octets.new.items ≡ (answered_head (code_by (O.panel outputs.now) told.now) (head header.now)).octets }
 {
     let count = header.count();
@@ -91,8 +95,49 @@ fn fill<O: Outputs>(
 }
 
 impl Writer {
-    /// Puts a header of commands, each with its status. The copy of its objects is needed here alone.
+    /// Puts a header of commands, each with its status, whose objects are copied into `octets` first.
+    fn put_copied<const N: usize, O: Outputs>(
+        &mut self,
+        octets: &mut ArrayVec<u8, N>,
+        outputs: &O,
+        told: &Told,
+        header: &Header<'_>,
+    )
+        requires empty { octets.old.items ≡ [] }
+        requires few { length header.now.octets.now ≤ N }
+        requires whole { IsHeader form.Command (head header.now) }
+        requires response { self.old.builder.function ≡ function.Response }
+        requires room { size self.old.builder + length (header_octets (head header.now)) ≤ MAX_FRAGMENT }
+        ensures { self.new ≡ record self.old {
+          builder = with_header self.old.builder (answered_head (code_by (O.panel outputs.now) told.now) (head header.now));
+        } }
+    {
+        fill(octets, outputs, told, header);
+        let answered = Header {
+            group: header.group,
+            variation: header.variation,
+            range: header.range,
+            octets: octets.as_slice(),
+        };
+        let _put = self.builder.header(&answered);
+    }
+
+    /// The same where the objects may have as many octets as a fragment. It stands apart, since room for so many is
+    /// cleared first.
     #[inline(never)]
+    fn put_many<O: Outputs>(&mut self, outputs: &O, told: &Told, header: &Header<'_>)
+        requires whole { IsHeader form.Command (head header.now) }
+        requires response { self.old.builder.function ≡ function.Response }
+        requires room { size self.old.builder + length (header_octets (head header.now)) ≤ MAX_FRAGMENT }
+        ensures { self.new ≡ record self.old {
+          builder = with_header self.old.builder (answered_head (code_by (O.panel outputs.now) told.now) (head header.now));
+        } }
+    {
+        let mut octets = ArrayVec::<u8, MAX_FRAGMENT>::new();
+        self.put_copied(&mut octets, outputs, told, header);
+    }
+
+    /// Puts a header of commands, each with its status.
     fn put_answered<O: Outputs>(&mut self, outputs: &O, told: &Told, header: &Header<'_>)
         requires whole { IsHeader form.Command (head header.now) }
         requires response { self.old.builder.function ≡ function.Response }
@@ -101,15 +146,12 @@ impl Writer {
           builder = with_header self.old.builder (answered_head (code_by (O.panel outputs.now) told.now) (head header.now));
         } }
     {
-        let mut octets = ArrayVec::new();
-        fill(&mut octets, outputs, told, header);
-        let answered = Header {
-            group: header.group,
-            variation: header.variation,
-            range: header.range,
-            octets: &octets,
-        };
-        let _put = self.builder.header(&answered);
+        if header.octets.len() <= FEW {
+            let mut octets = ArrayVec::<u8, FEW>::new();
+            self.put_copied(&mut octets, outputs, told, header);
+        } else {
+            self.put_many(outputs, told, header);
+        }
     }
 
     /// Puts the headers of a request, each command with its status.

@@ -1,13 +1,15 @@
-use Rattle.std.proofs.Common.{◌/◌, ℕ, length}
+use Rattle.std.proofs.Common.{◌/◌, ◌≤◌, ℕ, length, rules}
 use Rattle.dnp_appfragment.specs.Seen.{head}
 use Rattle.dnp_outstation.specs.Deciding.{code_by}
 use Rattle.dnp_outstation.proofs.ControlHeaders.{piece_is, piece_some, object_put, longer_by, cut_again}
 use Rattle.dnp_outstation.proofs.controls.told.fill.Goals as goal
 
-pub push_object-requires-clause-some : goal.push_object-requires-clause-some
-push_object-requires-clause-some g c =
+pub push_object-requires : goal.push_object-requires
+push_object-requires g c =
+    let some : 1 ≤ length c.split_at.result.0.now =
     rw c.split_at.ensures.front_len
-    (piece_some (head c.args.header.now) c.loop-k.k c.count-count.result c.count-count.ensures.value c.loop-k-test.true c.requires.whole)
+    (piece_some (head c.args.header.now) c.loop-k.k c.count-count.result c.count-count.ensures.value c.loop-k-test.true c.requires.whole) in
+    search rules
 
 pub loop-k-preserved : goal.loop-k-preserved
 loop-k-preserved g c =

@@ -10,33 +10,33 @@ use Rattle.dnp_outstation.specs.Controls.{answered_head}
 use Rattle.dnp_outstation.specs.Deciding.{code_by}
 use Rattle.dnp_outstation.specs.declared.offer.writer.Writer.{Writer}
 use Rattle.dnp_outstation.proofs.ControlHeaders.{answered_header, header_length, size_with, put_there}
-use Rattle.dnp_outstation.proofs.offer.writer.Writer.put_answered.Goals as goal
+use Rattle.dnp_outstation.proofs.offer.writer.Writer.put_copied.Goals as goal
 
 pub header-put-requires : goal.header-put-requires
 header-put-requires g c =
     let h = head c.args.header.now in
     let code = code_by (g.O.Outputs.panel c.args.outputs.now) c.args.told.now in
-    let same : c.deref.result.now ≡ (answered_head code h).octets = c.deref.ensures.0 ∙ c.fill.ensures in
+    let same : c.as_slice.result.now ≡ (answered_head code h).octets = c.as_slice.ensures.value ∙ c.fill.ensures in
     let there : IsHeader form.Response (answered_head code h) = answered_header code h c.requires.whole in
-    subst (λ (f : Function). IsHeader (form_of f) (record h { octets = c.deref.result.now })) (sym c.requires.response)
+    subst (λ (f : Function). IsHeader (form_of f) (record h { octets = c.as_slice.result.now })) (sym c.requires.response)
     (subst (λ (octets : List ℕ). IsHeader form.Response (record h { octets = octets })) (sym same) there)
 
 pub returns : goal.returns
 returns g c =
     let h = head c.args.header.now in
     let code = code_by (g.O.Outputs.panel c.args.outputs.now) c.args.told.now in
-    let same : c.deref.result.now ≡ (answered_head code h).octets = c.deref.ensures.0 ∙ c.fill.ensures in
+    let same : c.as_slice.result.now ≡ (answered_head code h).octets = c.as_slice.ensures.value ∙ c.fill.ensures in
     let long = size_with c.args.self.now.builder (answered_head code h) in
     let less = header_length code h c.requires.whole in
-    let head_is : (let x : Head = record h { octets = c.deref.result.now } in x) ≡ answered_head code h =
+    let head_is : (let x : Head = record h { octets = c.as_slice.result.now } in x) ≡ answered_head code h =
     ap (λ (octets : List ℕ). let x : Head = record h { octets = octets } in x) same in
     let never : IsErr c.header-put.result → ⊥ = λ err.
-    let more : MAX_FRAGMENT < size (with_header c.args.self.now.builder (record h { octets = c.deref.result.now })) =
+    let more : MAX_FRAGMENT < size (with_header c.args.self.now.builder (record h { octets = c.as_slice.result.now })) =
     c.header-put.ensures.full.0 err in
     let more = rw head_is at more in
     let room = c.requires.room in
     absurd (omega (arith, more, long, less, room)) in
-    let put : c.header-put.new.self ≡ with_header c.args.self.now.builder (record h { octets = c.deref.result.now }) =
+    let put : c.header-put.new.self ≡ with_header c.args.self.now.builder (record h { octets = c.as_slice.result.now }) =
     put_there c.header-put.result never c.header-put.ensures.ok in
     ap (λ (b : Built). let w : Writer = record c.args.self.now { builder = b } in w)
     (put ∙ ap (λ (x : Head). with_header c.args.self.now.builder x) head_is)
