@@ -136,6 +136,9 @@ impl PlainLane {
     pub fn cut(&mut self, upto: u64)
         ensures { self.new ≡ above upto self.old }
     {
+        if self.len() == 0 {
+            return;
+        }
         if self.has_over(upto) {
             keep_above(&mut self.rows, upto);
         } else {
