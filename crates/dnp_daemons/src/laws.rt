@@ -1,6 +1,9 @@
 //! Laws of the words of `specs/`: each function does nothing, and its contract is a law.
-ghost use Rattle.std.specs.Prelude.{◌≡◌, ℕ, Bool, List};
+ghost use Rattle.std.specs.Prelude.{◌≡◌, ℕ, Bool, List, []};
+ghost use Rattle.dnp_linkframe.specs.declared.frame.Frame.{Frame as FrameValue};
+ghost use Rattle.dnp_linkframe.specs.Stream.{Gives};
 ghost use Rattle.dnp_daemons.specs.AnswerLine.{IsPrinted};
+ghost use Rattle.dnp_daemons.specs.streams.Spelled.{AreSpelled};
 ghost use Rattle.dnp_daemons.specs.streams.OneWay.{OpensOneWay, ReceivesOneWay, OneOutput};
 ghost use Rattle.dnp_daemons.specs.streams.Outstations.{IsOpened, Receives, ShowOneWay};
 
@@ -30,6 +33,13 @@ pub fn one_output<S: Station>()
     lines::a_port_takes_in_one_way();
     frames::a_stream_gives_one_answer();
     frames::a_frame_has_one_spelling();
+}
+
+/// The octets in which frames are written to a stream give its peer these frames, and nothing waits.
+pub fn what_is_written_is_read()
+    ensures { (frames : List FrameValue) (octets : List ℕ) → AreSpelled frames octets → Gives octets frames [] }
+{
+    frames::joined_spellings_give_their_frames();
 }
 
 /// The steps of an outstation come out in one way, where what its outputs show does.

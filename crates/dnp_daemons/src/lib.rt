@@ -1,5 +1,6 @@
-//! What the program `dnp` does, as calls over values: `answer_line` answers one line of octets, `read_plan` reads a plan
-//! and `read_script` a script for it, and `print_report` prints what became of every event and command.
+//! What the program `dnp` does, as calls over values and streams: `answer_line` answers one line of octets,
+//! `serve_stream` serves a stream of octets by a station, `read_plan` reads a plan and `read_script` a script for it, and
+//! `print_report` prints what became of every event and command.
 #![tactic(auto)]
 
 mod address;
