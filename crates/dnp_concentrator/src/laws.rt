@@ -4,7 +4,7 @@ ghost use Rattle.std.specs.Prelude.{◌≡◌, ℕ, ◌<◌, List, All, IfOk, Is
 ghost use Rattle.dnp_pointdb.specs.declared.limits.TheConstants.{INDICES};
 ghost use Rattle.dnp_concentrator.specs.declared.index_kind.IndexKind.{IndexKind};
 ghost use Rattle.dnp_concentrator.specs.declared.span.Spans.{Spans};
-ghost use Rattle.dnp_concentrator.specs.IndexMap.{IsMap, index_above, index_below};
+ghost use Rattle.dnp_concentrator.specs.IndexMap.{IsMap, IsTooWide, Overlaps, index_above, index_below};
 ghost use Rattle.dnp_concentrator.specs.Mapped.{row_above, row_below, command_above, command_below, queued_row, queued_rows};
 ghost use Rattle.dnp_concentrator.specs.declared.plan.Plan.{Plan as PlanValue};
 ghost use Rattle.dnp_concentrator.specs.declared.plan.SubPlan.{SubPlan as SubPlanValue};
@@ -29,6 +29,11 @@ pub fn each_direction_undoes_the_other()
         → index_above spans station kind index ≡ Some above → index_below spans kind above ≡ Some (station, index) }
     ensures down_and_up { (spans : List Spans) (kind : IndexKind) (station index above : ℕ)
         → index_below spans kind above ≡ Some (station, index) → index_above spans station kind index ≡ Some above }
+{}
+
+/// Indices above that no cause refuses are a map: so the plan of each index map and each concentrator has one.
+pub fn what_no_cause_refuses_is_a_map()
+    ensures { (spans : List Spans) → (IsTooWide spans → ⊥) → (Overlaps spans → ⊥) → IsMap spans }
 {}
 
 /// Two indices of substations never stand above as one index of their kind.
