@@ -1,13 +1,11 @@
--- Lists of a plan's text, read one by one.
+-- Lists and keys of a plan's text.
 use Rattle.std.proofs.Common.{◌≡◌, ℕ, suc, ◌+◌, ◌<◌, List, [], ◌∷◌, ◌++◌, length, get_or, drop, Option, Some, None, String, Global, eqb, refl, sym, ap, ◌∙◌, append_assoc}
 use Rattle.std.specs.Option.{option_and_then, option_map}
-use Rattle.std.proofs.lemmas.List.{drop_more}
 use Rattle.toml.specs.Data.{Data, Items, Members}
 use Rattle.toml.specs.View.{items_view, members_view, view}
 use Rattle.toml.specs.declared.value.Value.{Value}
 use Rattle.toml.proofs.Views.{items_view-drop}
 use Rattle.dnp_daemons.specs.PlanFields.{all_of, keys_are, members_count}
-use Rattle.dnp_daemons.specs.PlanRanges.{each_of}
 
 -- one more in front of what is to come
 in_front : {A : Type 0} (done : List A) (x : A) (o : Option (List A)) →
@@ -28,40 +26,6 @@ pub item_more : {A : Type 0} (f : Data → Option A) (vs : List Value) (i : ℕ)
 item_more f vs i v done x whole within is before =
     before ∙ ap (λ (items : Items). option_map (λ more. done ++ more) (all_of f items)) (items_view-drop vs i v within)
     ∙ item_read f done (view (get_or vs i v)) (items_view (drop (i + 1) vs)) x is
-
-item_unread : {A : Type 0} (f : Data → Option A) (done : List A) (d : Data) (items : Items) → f d ≡ None →
-    option_map (λ more. done ++ more) (option_and_then (λ here. option_and_then (λ more. Some (here ∷ more)) (all_of f items)) (f d)) ≡ None
-item_unread f done d items is = rw is refl
-
-pub item_none : {A : Type 0} (f : Data → Option A) (vs : List Value) (i : ℕ) (v : Value) (done : List A) (whole : Option (List A)) →
-    i < length vs → f (view (get_or vs i v)) ≡ None → whole ≡ option_map (λ more. done ++ more) (all_of f (items_view (drop i vs))) → None ≡ whole
-item_none f vs i v done whole within is before =
-    sym (before ∙ ap (λ (items : Items). option_map (λ more. done ++ more) (all_of f items)) (items_view-drop vs i v within)
-    ∙ item_unread f done (view (get_or vs i v)) (items_view (drop (i + 1) vs)) is)
-
--- ---- lists
-
-each_read : {A B : Type 0} (f : A → Option B) (done : List B) (a : A) (rest : List A) (x : B) → f a ≡ Some x →
-    option_map (λ more. done ++ more) (option_and_then (λ here. option_and_then (λ more. Some (here ∷ more)) (each_of f rest)) (f a))
-    ≡ option_map (λ more. (done ++ x ∷ []) ++ more) (each_of f rest)
-each_read f done a rest x is = rw is (in_front done x (each_of f rest))
-
-pub each_more : {A B : Type 0} (f : A → Option B) (xs : List A) (i : ℕ) (a : A) (done : List B) (x : B) (whole : Option (List B)) →
-    i < length xs → f (get_or xs i a) ≡ Some x → whole ≡ option_map (λ more. done ++ more) (each_of f (drop i xs)) →
-    whole ≡ option_map (λ more. (done ++ x ∷ []) ++ more) (each_of f (drop (i + 1) xs))
-each_more {A} f xs i a done x whole within is before =
-    before ∙ ap (λ (l : List A). option_map (λ more. done ++ more) (each_of f l)) (drop_more xs i a within)
-    ∙ each_read f done (get_or xs i a) (drop (i + 1) xs) x is
-
-each_unread : {A B : Type 0} (f : A → Option B) (done : List B) (a : A) (rest : List A) → f a ≡ None →
-    option_map (λ more. done ++ more) (option_and_then (λ here. option_and_then (λ more. Some (here ∷ more)) (each_of f rest)) (f a)) ≡ None
-each_unread f done a rest is = rw is refl
-
-pub each_none : {A B : Type 0} (f : A → Option B) (xs : List A) (i : ℕ) (a : A) (done : List B) (whole : Option (List B)) →
-    i < length xs → f (get_or xs i a) ≡ None → whole ≡ option_map (λ more. done ++ more) (each_of f (drop i xs)) → None ≡ whole
-each_none {A} f xs i a done whole within is before =
-    sym (before ∙ ap (λ (l : List A). option_map (λ more. done ++ more) (each_of f l)) (drop_more xs i a within)
-    ∙ each_unread f done (get_or xs i a) (drop (i + 1) xs) is)
 
 -- ---- keys
 
