@@ -15,7 +15,8 @@ returns c =
     let s = c.state_at-state.result in
     let told : c.is_some.result ≡ is_some (event_of c.args.kind c.args.index s.point s.reported c.args.reading) =
     c.is_some.ensures
-    ∙ ap is_some (event_made c.args.self.now c.args.kind c.args.index c.args.reading s c.args.made.now c.state_at-state.ensures c.requires.in_range c.requires.made) in
+    ∙ ap is_some
+    (event_made c.args.self.now c.args.kind c.args.index c.args.reading s c.args.made.now c.state_at-state.ensures c.requires.in_range c.requires.made) in
     read_at (changed_state c.args.kind c.args.index c.args.reading) c.args.self.now c.put.new.self c.args.kind c.args.index c.args.reading
     c.args.at.block c.args.at.place c.state_at-state.result c.changed.result c.requires.place c.state_at-state.ensures c.requires.in_range
     (c.changed.ensures c.args.kind c.args.index told) c.put.ensures
