@@ -69,7 +69,7 @@ const TIME: Part =
     Whole(header!(50, 1, Range::Count { wide: false, n: 1 }, &[0xE8, 3, 0, 0, 0, 0]));
 
 /// Objects from the first index to the last.
-macro_rules! span {
+macro_rules! ranged {
     ($group:literal, $variation:literal, $first:literal, $last:literal, $octets:expr) => {
         Whole(Header {
             group: $group,
@@ -137,11 +137,11 @@ const BUILT: [(Function, u8, Iin, &[Part], &[u8]); 28] = [
         &[0xC0, 1, 0x3C, 2, 6, 0x3C, 3, 6, 0x3C, 4, 6]),
     (Read, 0xC1, Iin::NONE, &[CLASS_1], &[0xC1, 1, 0x3C, 2, 6]),
     (Read, 0xC1, Iin::NONE, &[CLASS_1, ONE_OF_CLASS_2], &[0xC1, 1, 0x3C, 2, 6, 0x3C, 3, 7, 1]),
-    (Read, 0xC0, Iin::NONE, &[span!(1, 0, 1, 2, &[])], &[0xC0, 1, 1, 0, 0, 1, 2]),
+    (Read, 0xC0, Iin::NONE, &[ranged!(1, 0, 1, 2, &[])], &[0xC0, 1, 1, 0, 0, 1, 2]),
     (EnableUnsolicited, 0xC0, Iin::NONE, &[CLASS_1], &[0xC0, 0x14, 0x3C, 2, 6]),
     // WRITEs of DEVICE_RESTART, of another indication, and of the time.
-    (Write, 0xC0, Iin::NONE, &[span!(80, 1, 7, 7, &[0])], &[0xC0, 2, 0x50, 1, 0, 7, 7, 0]),
-    (Write, 0xC1, Iin::NONE, &[span!(80, 1, 6, 6, &[0])], &[0xC1, 2, 0x50, 1, 0, 6, 6, 0]),
+    (Write, 0xC0, Iin::NONE, &[ranged!(80, 1, 7, 7, &[0])], &[0xC0, 2, 0x50, 1, 0, 7, 7, 0]),
+    (Write, 0xC1, Iin::NONE, &[ranged!(80, 1, 6, 6, &[0])], &[0xC1, 2, 0x50, 1, 0, 6, 6, 0]),
     (Write, 0xC2, Iin::NONE, &[TIME], &[0xC2, 2, 0x32, 1, 7, 1, 0xE8, 3, 0, 0, 0, 0]),
 ];
 
