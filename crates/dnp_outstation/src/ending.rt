@@ -9,7 +9,7 @@ ghost use Rattle.dnp_outstation.specs.Connection.{at_end};
 ghost use Rattle.dnp_outstation.specs.Filling.{after_release};
 ghost use Rattle.dnp_outstation.specs.Pushing.{is_ready, ended_by};
 ghost use Rattle.dnp_outstation.specs.Putting.{IsLook};
-ghost use Rattle.dnp_outstation.specs.State.{Core, State, Step, still, with_session, is_free};
+ghost use Rattle.dnp_outstation.specs.State.{Core, State, Step, nothing, still, with_session, is_free};
 ghost use Rattle.dnp_outstation.specs.Station.{state_of, actions_of, HasRoom};
 
 use crate::actions::Actions;
@@ -72,6 +72,34 @@ impl Session {
         if starts {
             self.start(writer, lanes, restart, ends);
             actions.push(self.unsolicited_response.octets());
+        }
+    }
+
+    /// The end of a change, for which full lanes dropped the rows that stand in the actions as dropped already: as
+    /// `end_call`.
+    pub(crate) fn end_change<L: Lanes>(
+        &mut self,
+        actions: &mut Actions,
+        writer: &mut Writer,
+        lanes: &mut L,
+        starts: bool,
+        restart: bool,
+        ends: u64,
+    )
+        requires response { IsTrue starts → writer.old.builder.function ≡ function.UnsolicitedResponse }
+        ensures same { lanes.new ≡ lanes.old }
+        ensures ended { L.honest lanes.new → (s : State) (now : ℕ) → s.lanes ≡ L.contents lanes.new → s.core.restart ≡ restart
+            → s.core.session ≡ self.old → ends ≡ deadline now s.core.times.confirm_ms
+            → ended_by writer.old starts now (record { state = s; does = record nothing { overwritten = actions.old.overwritten } })
+            ≡ record { state = with_session s self.new; does = actions_of actions.new } }
+        ensures whole { All (λ fragment. 4 ≤ length fragment) (actions_of actions.new).send }
+        ensures keeps { KeepsWhole self.old → KeepsWhole self.new }
+    {
+        if starts {
+            self.start(writer, lanes, restart, ends);
+            actions.set_reporting(self.unsolicited_response.octets());
+        } else {
+            actions.set_overwriting();
         }
     }
 }

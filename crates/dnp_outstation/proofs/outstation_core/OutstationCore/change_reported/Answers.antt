@@ -7,7 +7,7 @@ use Rattle.dnp_eventbuf.specs.Stock.{Stock, rows_in, with_rows, dropped_by}
 use Rattle.dnp_outstation.specs.Calls.{change_of}
 use Rattle.dnp_outstation.specs.Pushing.{is_ready, ended_by}
 use Rattle.dnp_outstation.specs.State.{Core, State, Step, Actions, nothing}
-use Rattle.dnp_outstation.specs.Station.{state_of, actions_of}
+use Rattle.dnp_outstation.specs.Station.{state_of}
 use Rattle.dnp_outstation.proofs.Cores.{core_in}
 use Rattle.dnp_outstation.proofs.NoRows.{none_dropped}
 use Rattle.dnp_outstation.proofs.outstation_core.OutstationCore.change_reported.Goals as goal
@@ -25,7 +25,7 @@ pub returns-clause-changed : goal.returns-clause-changed
 returns-clause-changed g c = λ honest panel.
     let old = g.L.Lanes.contents c.args.lanes.now in
     let mid = g.L.Lanes.contents c.held_rows.new.lanes in
-    let new = g.L.Lanes.contents c.end_call.new.lanes in
+    let new = g.L.Lanes.contents c.end_change.new.lanes in
     let now = c.args.now in
     let kind = c.args.kind in
     let index = c.args.index in
@@ -33,7 +33,7 @@ returns-clause-changed g c = λ honest panel.
     let made = c.args.made.now in
     let core : Core = core_in c.self.inside in
     let changed : Core = record core { points = c.change_at.new.self } in
-    let written = subst (λ l. g.L.Lanes.honest l) c.end_call.ensures.same honest in
+    let written = subst (λ l. g.L.Lanes.honest l) c.end_change.ensures.same honest in
     let appended = subst (λ l. g.L.Lanes.honest l) c.write_changed-starts.ensures.same written in
     let looked = c.in_ok-append_made.ensures.held appended in
     let mid_is : mid ≡ old = c.in_ok-held.ensures.look.same looked in
@@ -43,20 +43,18 @@ returns-clause-changed g c = λ honest panel.
     c.in_ok-append_made.ensures.dropped appended ∙ ap (λ (l : Stock). dropped_by l (option_to_list made)) mid_is in
     let written_are : g.L.Lanes.contents c.write_changed-starts.new.lanes ≡ with_rows old (option_to_list made) =
     ap g.L.Lanes.contents c.write_changed-starts.ensures.same ∙ rows_are in
-    let lanes_are : new ≡ with_rows old (option_to_list made) = ap g.L.Lanes.contents c.end_call.ensures.same ∙ written_are in
+    let lanes_are : new ≡ with_rows old (option_to_list made) = ap g.L.Lanes.contents c.end_change.ensures.same ∙ written_are in
     let w = c.write_changed-starts.new.writer in
     let starts = c.write_changed-starts.result in
     let after : Core = record core { points = changed_of core.points kind index reading } in
     let does : Actions = record nothing { overwritten = dropped_by old (option_to_list made) } in
     let step : Step = record { state = state_of after (with_rows old (option_to_list made)) panel; does = does } in
     let ready : true ≡ is_ready after = sym c.requires.ready ∙ ap is_ready (sym c.self.view_is) in
-    let does_is : actions_of c.set_overwriting.new.self ≡ does =
-    c.set_overwriting.ensures.value ∙ ap (λ (rows : List Row). let d : Actions = record nothing { overwritten = rows } in d) dropped_is in
     let s : State = state_of changed new panel in
     ap (λ (k : Core). change_of (state_of k old panel) now kind index reading made) (sym c.self.view_is)
     ∙ c.write_changed-starts.ensures.ends written old now step (c.in_ok-held.ensures.rows looked) written_are (c.as_slice.ensures ∙ dropped_is) refl refl ready
     ∙ ap (λ (points : Database). let k : Core = record core { points = points } in
     let y : Step = record { state = state_of k (with_rows old (option_to_list made)) panel; does = does } in ended_by w starts now y) (sym c.change_at.ensures.after)
     ∙ ap (λ (l : Stock). let y : Step = record { state = state_of changed l panel; does = does } in ended_by w starts now y) (sym lanes_are)
-    ∙ ap (λ (d : Actions). let y : Step = record { state = s; does = d } in ended_by w starts now y) (sym does_is)
-    ∙ c.end_call.ensures.ended honest s now refl refl refl c.deadline-ends.ensures
+    ∙ ap (λ (rows : List Row). let y : Step = record { state = s; does = record nothing { overwritten = rows } } in ended_by w starts now y) (sym dropped_is)
+    ∙ c.end_change.ensures.ended honest s now refl refl refl c.deadline-ends.ensures
