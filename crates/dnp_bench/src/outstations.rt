@@ -186,24 +186,26 @@ pub extern "C" fn dnp_bench_poll_values(alloc: Global, count: u64) -> u64 {
 }
 
 /// The analog changes once. Makes a number of the row that a full lane drops for it, or of the response
-/// that reports it and of how many rows its confirm discards.
+/// that reports it and of how many rows its confirm discards. What changes do is kept apart from what confirms
+/// do: the one place keeps a fragment and the other none, so that neither is emptied or filled anew.
 fn report(
-    actions: &mut Actions,
+    changed: &mut Actions,
+    confirmed: &mut Actions,
     alloc: Global,
     station: &mut Station,
     turn: u64,
     sum: u64,
 ) -> Option<u64> {
-    change(actions, alloc, station, turn, 1)?;
-    let lost = actions.overwritten.as_slice().len() as u64;
+    change(changed, alloc, station, turn, 1)?;
+    let lost = changed.overwritten.as_slice().len() as u64;
     let sum = sum.wrapping_mul(31).wrapping_add(lost);
-    let Some((number, Some(seq))) = taken(&actions.send) else {
+    let Some((number, Some(seq))) = taken(&changed.send) else {
         return Some(sum);
     };
     station
-        .receive_into(actions, alloc, 0, &[0xD0 | seq, 0])
+        .receive_into(confirmed, alloc, 0, &[0xD0 | seq, 0])
         .ok()?;
-    let discarded = actions.discarded.as_slice().len() as u64;
+    let discarded = confirmed.discarded.as_slice().len() as u64;
     let sum = sum.wrapping_mul(31).wrapping_add(number);
     Some(sum.wrapping_mul(31).wrapping_add(discarded))
 }
@@ -221,10 +223,12 @@ pub extern "C" fn dnp_bench_change(alloc: Global, count: u64, is_unsolicited: bo
     let Some(mut station) = station_of(alloc, [0, 0, 1], setup) else {
         return u64::MAX;
     };
-    let mut actions = Actions::none(alloc);
+    let mut changed = Actions::none(alloc);
+    let mut confirmed = Actions::none(alloc);
     let mut sum = 0u64;
     for turn in 0..count {
-        let Some(number) = report(&mut actions, alloc, &mut station, turn, sum) else {
+        let reported = report(&mut changed, &mut confirmed, alloc, &mut station, turn, sum);
+        let Some(number) = reported else {
             return u64::MAX;
         };
         sum = number;
