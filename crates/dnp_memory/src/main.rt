@@ -4,6 +4,7 @@
 //! is the same whichever request is refused, as `stdout` has it. Printing asks for no memory.
 #![tactic(auto)]
 
+mod concentrators;
 mod controls;
 mod frames;
 mod journals;
@@ -27,7 +28,8 @@ fn main(rt: HostRuntime) -> io::Result<()> {
     print(&rt, "book", controls::add_and_list(alloc))?;
     print(&rt, "outputs", controls::operate(alloc))?;
     print(&rt, "outstation", outstations::run(alloc, false))?;
-    print(&rt, "unsolicited", outstations::run(alloc, true))
+    print(&rt, "unsolicited", outstations::run(alloc, true))?;
+    print(&rt, "concentrator", concentrators::run(alloc))
 }
 
 /// Prints a case's name and its number, or that it took a wrong turn.

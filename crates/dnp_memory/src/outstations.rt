@@ -87,7 +87,7 @@ fn restart(alloc: Global, station: &mut Station) -> Option<u64> {
 }
 
 /// A number with `digits` behind it, which are two.
-fn with_digits(number: u64, digits: u64) -> u64 {
+pub(crate) fn with_digits(number: u64, digits: u64) -> u64 {
     number.wrapping_mul(100).wrapping_add(digits)
 }
 

@@ -1,0 +1,185 @@
+//! A centre and a concentrator: an event that comes from a substation, and a control that goes towards it.
+
+use crate::outstations::with_digits;
+use dnp_concentrator::{Centre, Concentrator, Listed, Plan, Relayed, SubPlan};
+use dnp_controls::PlainBook;
+use dnp_eventbuf::{PlainJournal, PlainLanes};
+use dnp_master::{Classes, Fragment, Task};
+use dnp_objects::Command;
+use dnp_outstation::Actions;
+use dnp_pointdb::Times;
+use std::alloc::Global;
+
+/// A concentrator of one substation, and its centre.
+#[derive(Drop)]
+struct Pair {
+    concentrator: Concentrator<PlainLanes, PlainBook>,
+    centre: Centre<PlainJournal, PlainBook>,
+    /// What the concentrator did last towards the centre.
+    actions: Actions,
+}
+
+/// A poll of class 1.
+const POLL: Task = Task::Poll(Classes([false, true, false, false]));
+
+/// Closes the substation's output.
+const CLOSE: Command = Command::Block {
+    index: 0,
+    code: 3,
+    count: 1,
+    on_ms: 0,
+    off_ms: 0,
+};
+
+/// A plan of one substation with a binary of class 1 and an output.
+fn plan(alloc: Global) -> Option<Plan> {
+    let mut substations = Vec::new(alloc);
+    let planned = SubPlan {
+        lanes: [2; 9],
+        binary: Listed::new(vec![in alloc; 1u8; 1].ok()?),
+        counter: Listed::new(Vec::new(alloc)),
+        analog: Listed::new(Vec::new(alloc)),
+        deadband: Listed::new(Vec::new(alloc)),
+        outputs: 1,
+        setpoints: 0,
+        base: [100, 0, 0, 200, 0],
+    };
+    substations.push(planned).ok()?;
+    Some(Plan {
+        times: Times {
+            confirm_ms: 5_000,
+            response_ms: 10_000,
+            select_ms: 5_000,
+            retries: 0,
+            unsolicited: false,
+        },
+        queue: [2; 9],
+        substations: Listed::new(substations),
+    })
+}
+
+/// Both, over stores in memory.
+fn begin(alloc: Global) -> Option<Pair> {
+    let plan = plan(alloc)?;
+    if !plan.keeps_limits() {
+        return None;
+    }
+    let queue = PlainLanes::new(alloc, [2; 9]).ok()?;
+    let journal = PlainJournal::new(alloc);
+    let orders = PlainBook::new(alloc);
+    let controls = PlainBook::new(alloc);
+    Some(Pair {
+        concentrator: Concentrator::new(alloc, &plan, queue, controls).ok()?,
+        centre: Centre::new(alloc, &plan, journal, orders).ok()?,
+        actions: Actions::none(alloc),
+    })
+}
+
+/// Octets come to the concentrator from the centre. How long its answer is, 0 where there is none.
+fn above(alloc: Global, pair: &mut Pair, octets: &[u8]) -> Option<u64> {
+    let concentrator = &mut pair.concentrator;
+    if concentrator
+        .receive_above(&mut pair.actions, alloc, 0, octets)
+        .is_err()
+    {
+        concentrator
+            .receive_above(&mut pair.actions, alloc, 0, octets)
+            .ok()?;
+    }
+    match &pair.actions.send[0] {
+        Some(fragment) => Some(fragment.len() as u64),
+        None => Some(0),
+    }
+}
+
+/// What the concentrator sent last comes to the centre. How many events it took.
+fn taken(
+    alloc: Global,
+    centre: &mut Centre<PlainJournal, PlainBook>,
+    actions: &Actions,
+) -> Option<u64> {
+    let Some(fragment) = &actions.send[0] else {
+        return None;
+    };
+    let octets = fragment.as_slice();
+    let taken = match centre.receive(alloc, 0, octets) {
+        Ok(actions) => actions.taken,
+        Err(_) => centre.receive(alloc, 0, octets).ok()?.taken,
+    };
+    Some(taken as u64)
+}
+
+/// Octets come to the concentrator from the substation. How many rows the queue drops for them.
+fn below(alloc: Global, pair: &mut Pair, octets: &[u8]) -> Option<u64> {
+    let concentrator = &mut pair.concentrator;
+    if concentrator.substations() != 1 {
+        return None;
+    }
+    concentrator.ask_below(0, 0, POLL).ok()?;
+    let dropped = match concentrator.receive_below(alloc, 0, 0, octets) {
+        Ok(actions) => actions.dropped,
+        Err(_) => concentrator
+            .receive_below(alloc, 0, 0, octets)
+            .ok()?
+            .dropped,
+    };
+    Some(dropped.as_slice().len() as u64)
+}
+
+/// The substation's binary comes to the concentrator as an event, and then nothing more, since what makes look-ups quick
+/// is asked for again by the next call alone. How many rows the queue drops for the event.
+fn event(alloc: Global, pair: &mut Pair) -> Option<u64> {
+    let octets = [
+        0xE0, 0x81, 0, 0, 0x02, 0x02, 0x28, 0x01, 0x00, 0, 0, 0x81, 0xE8, 0x03, 0, 0, 0, 0,
+    ];
+    if pair.concentrator.substations() == 1 {
+        pair.concentrator.opened_below(0);
+    }
+    let dropped = below(alloc, pair, &octets)?;
+    below(alloc, pair, &[0xC1, 0x81, 0, 0])?;
+    Some(dropped)
+}
+
+/// The next request of a control that the centre relays.
+fn relayed(alloc: Global, pair: &mut Pair) -> Option<Fragment> {
+    let step = match pair.centre.relay(alloc, 0) {
+        Ok(step) => step,
+        Err(_) => pair.centre.relay(alloc, 0).ok()?,
+    };
+    match step {
+        Relayed::Selecting(_, request) | Relayed::Sent(_, request) => Some(request),
+        Relayed::Nothing | Relayed::Finished(_, _) => None,
+    }
+}
+
+/// Queues an event, polls it, confirms it, and issues a control that comes to the concentrator's book.
+fn go(alloc: Global, pair: &mut Pair) -> Option<u64> {
+    let mut number = event(alloc, pair)?;
+    pair.concentrator
+        .opened_above(&mut pair.actions, alloc, 0)
+        .ok()?;
+    pair.centre.opened();
+    let request = pair.centre.ask(0, POLL).ok()?;
+    number = with_digits(number, above(alloc, pair, request.as_slice())?);
+    number = with_digits(number, taken(alloc, &mut pair.centre, &pair.actions)?);
+    above(alloc, pair, &[0xC0, 0x00])?;
+    if pair.centre.issue(alloc, 0, &CLOSE).is_err() {
+        pair.centre.issue(alloc, 0, &CLOSE).ok()?;
+    }
+    for _ in 0..2 {
+        let request = relayed(alloc, pair)?;
+        number = with_digits(number, above(alloc, pair, request.as_slice())?);
+        taken(alloc, &mut pair.centre, &pair.actions)?;
+    }
+    Some(number)
+}
+
+/// Lets an event go up and a control go down. The number has two digits for each: how many rows the queue drops, how long
+/// the response is, how many events the centre takes, how long the answers to its SELECT and OPERATE are.
+pub(crate) fn run(alloc: Global) -> Option<u64> {
+    let mut made = begin(alloc);
+    if made.is_none() {
+        made = begin(alloc);
+    }
+    go(alloc, made.as_mut()?)
+}
