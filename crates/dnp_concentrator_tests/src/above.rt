@@ -9,6 +9,9 @@ use dnp_outstation::Actions;
 use std::alloc::{AllocError, Global};
 use std::test::Fail;
 
+/// A concentrator over stores in memory.
+pub(crate) type Middle = Concentrator<PlainLanes, PlainBook>;
+
 /// LATCH_ON of the output 200, once, as it is asked for and answered with the status 0.
 #[rattlefmt::skip]
 const LATCHES: [u8; 18] = [0x0C, 0x01, 0x28, 0x01, 0x00, 0xC8, 0x00, 0x03, 0x01, 0, 0, 0, 0, 0, 0, 0, 0, 0x00];
@@ -53,9 +56,17 @@ fn fragment(
     Ok(octets)
 }
 
+/// Whether the first fragment that is sent has these octets.
+pub(crate) fn sends(actions: &Actions, octets: &[u8]) -> bool {
+    match &actions.send[0] {
+        Some(sent) => sent.as_slice() == octets,
+        None => false,
+    }
+}
+
 /// Whether the request is answered with its own objects and this status.
 fn is_answered(
-    concentrator: &mut Concentrator<PlainLanes, PlainBook>,
+    concentrator: &mut Middle,
     actions: &mut Actions,
     alloc: Global,
     head: [u8; 2],
@@ -65,22 +76,24 @@ fn is_answered(
     let asked = fragment(alloc, &head, objects, 0x00)?;
     let answered = fragment(alloc, &[head[0], 0x81, 0x80, 0x00], objects, status)?;
     concentrator.receive_above(actions, alloc, 1_000, asked.as_slice())?;
-    Ok(match &actions.send[0] {
-        Some(sent) => sent.as_slice() == answered.as_slice(),
-        None => false,
-    })
+    Ok(sends(actions, answered.as_slice()))
+}
+
+/// A new concentrator of a plan of one substation, with unsolicited responses or without. `None` where the plan isn't one.
+fn concentrator_of(alloc: Global, unsolicited: bool) -> Result<Option<Middle>, AllocError> {
+    let mut plan = plan(alloc, &[SMALL])?;
+    plan.times.unsolicited = unsolicited;
+    if !plan.keeps_limits() {
+        return Ok(None);
+    }
+    let queue = PlainLanes::new(alloc, [100; 9])?;
+    Ok(Concentrator::new(alloc, &plan, queue, PlainBook::new(alloc)).ok())
 }
 
 #[test]
 fn a_command_above_is_put_into_the_book(rt: HostRuntime) -> Result<(), Fail> {
     let alloc = rt.alloc();
-    let plan = plan(alloc, &[SMALL])?;
-    if !plan.keeps_limits() {
-        assert!(rt; false, "limits");
-        return Ok(());
-    }
-    let queue = PlainLanes::new(alloc, [100; 9])?;
-    let Ok(mut concentrator) = Concentrator::new(alloc, &plan, queue, PlainBook::new(alloc)) else {
+    let Some(mut concentrator) = concentrator_of(alloc, false)? else {
         assert!(rt; false, "no concentrator");
         return Ok(());
     };
@@ -103,5 +116,25 @@ fn a_command_above_is_put_into_the_book(rt: HostRuntime) -> Result<(), Fail> {
     concentrator.restart(alloc);
     let (_queue, mut book) = concentrator.into_stores();
     assert!(rt; book.rows(alloc, 0, 10)?.as_slice() == [LATCHED].as_slice());
+    Ok(())
+}
+
+#[test]
+fn a_report_above_awaits_its_confirm(rt: HostRuntime) -> Result<(), Fail> {
+    let alloc = rt.alloc();
+    let Some(mut concentrator) = concentrator_of(alloc, true)? else {
+        assert!(rt; false, "no concentrator");
+        return Ok(());
+    };
+    let mut actions = Actions::none(alloc);
+    concentrator.opened_above(&mut actions, alloc, 0)?;
+    assert!(rt; sends(&actions, &[0xF0, 0x82, 0x80, 0x00]));
+    for (now, closes) in [(4_999, false), (5_000, true)] {
+        concentrator.tick_above(&mut actions, alloc, now)?;
+        assert!(rt;
+            actions.send[0].is_none() && actions.close == closes,
+            "{now}"
+        );
+    }
     Ok(())
 }

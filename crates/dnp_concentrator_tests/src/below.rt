@@ -1,7 +1,8 @@
 //! A centre, a concentrator and a substation, by direct calls.
 
+use crate::above::{Middle, sends};
 use crate::plans::{SMALL, plan};
-use dnp_concentrator::{Centre, Concentrator, Plan, Relayed};
+use dnp_concentrator::{Centre, Concentrator, IssueFault, Plan, Relayed};
 use dnp_controls::{Book, Entry, PlainBook, PlainOutputs, State};
 use dnp_eventbuf::{Lane, Lanes, Numbered, PlainJournal, PlainLanes};
 use dnp_master::{Classes, MasterActions, Task};
@@ -16,8 +17,6 @@ const NOW: u64 = 1_000;
 
 type Top = Centre<PlainJournal, PlainBook>;
 
-type Middle = Concentrator<PlainLanes, PlainBook>;
-
 type Bottom = Outstation<PlainLanes, PlainOutputs>;
 
 /// The three stations one above the other.
@@ -31,6 +30,18 @@ struct Path {
 /// LATCH_ON of the substation's output 0.
 const LATCH: Command = Command::Block {
     index: 0,
+    code: 3,
+    count: 1,
+    on_ms: 0,
+    off_ms: 0,
+};
+
+/// A command to the setpoint 0, which the substation doesn't have.
+const SETPOINT: Command = Command::Set16 { index: 0, value: 1 };
+
+/// LATCH_ON of the output 1, which the substation doesn't have.
+const LATCH_NEXT: Command = Command::Block {
+    index: 1,
     code: 3,
     count: 1,
     on_ms: 0,
@@ -177,6 +188,13 @@ fn a_control_goes_down_through_both_books(rt: HostRuntime) -> Result<(), Fail> {
         mut substation,
     } = path;
     let mut actions = Actions::none(alloc);
+    for (station, command) in [(0, LATCH_NEXT), (0, SETPOINT), (1, LATCH)] {
+        let refused = centre.issue(alloc, station, &command).err();
+        assert!(rt;
+            refused == Some(IssueFault::NoOutput),
+            "{station} {command:?}"
+        );
+    }
     assert!(rt; centre.issue(alloc, 0, &LATCH)? == 1);
     for step in STEPS {
         let relayed = relay_above(&mut centre, &mut concentrator, &mut actions, alloc)?;
@@ -216,14 +234,6 @@ fn row(value: i64) -> Row {
 /// Present values of the binary inputs above: index 100, on, flags 01.
 #[rattlefmt::skip]
 const PRESENT: [u8; 12] = [0xC0, 0x81, 0x82, 0x08, 0x01, 0x02, 0x01, 0x64, 0x00, 0x64, 0x00, 0x81];
-
-/// Whether the first fragment that is sent has these octets.
-fn sends(actions: &Actions, octets: &[u8]) -> bool {
-    match &actions.send[0] {
-        Some(sent) => sent.as_slice() == octets,
-        None => false,
-    }
-}
 
 /// The events of class 1 to 3 are polled of the substation.
 fn poll(
