@@ -1,6 +1,8 @@
 //! Which databases each store opens on: its tables, column by column, and what else they may not be.
 
-use crate::spoilt::{Column, FORM, Opening, Role, Table, mistaken, number, refused_after};
+use crate::spoilt::{
+    Column, FORM, Opening, Role, Table, mistaken, number, overwritten, refused_after,
+};
 use dnp_store::{ControlBook, Journal, OpenFault, Queue};
 use sqlite::{Connection, Error};
 use sqlite_trees::memory::MemStore;
@@ -122,7 +124,7 @@ const OF_BOOK: [Table; 2] = [
     },
 ];
 
-/// Opens a queue.
+/// Opens or makes a queue.
 struct OfQueue;
 
 impl Opening for OfQueue {
@@ -133,9 +135,16 @@ impl Opening for OfQueue {
     fn refused(alloc: Global, conn: Connection<MemStore>) -> Option<OpenFault> {
         Some(Queue::open(alloc, conn).err()?.0)
     }
+
+    fn unmade(
+        alloc: Global,
+        conn: Connection<MemStore>,
+    ) -> Option<(OpenFault, Connection<MemStore>)> {
+        Queue::create(alloc, conn, [2u32; 9]).err()
+    }
 }
 
-/// Opens a journal.
+/// Opens or makes a journal.
 struct OfJournal;
 
 impl Opening for OfJournal {
@@ -146,9 +155,16 @@ impl Opening for OfJournal {
     fn refused(alloc: Global, conn: Connection<MemStore>) -> Option<OpenFault> {
         Some(Journal::open(alloc, conn).err()?.0)
     }
+
+    fn unmade(
+        _alloc: Global,
+        conn: Connection<MemStore>,
+    ) -> Option<(OpenFault, Connection<MemStore>)> {
+        Journal::create(conn).err()
+    }
 }
 
-/// Opens a book.
+/// Opens or makes a book.
 struct OfBook;
 
 impl Opening for OfBook {
@@ -158,6 +174,13 @@ impl Opening for OfBook {
 
     fn refused(alloc: Global, conn: Connection<MemStore>) -> Option<OpenFault> {
         Some(ControlBook::open(alloc, conn).err()?.0)
+    }
+
+    fn unmade(
+        alloc: Global,
+        conn: Connection<MemStore>,
+    ) -> Option<(OpenFault, Connection<MemStore>)> {
+        ControlBook::create(alloc, conn).err()
     }
 }
 
@@ -262,6 +285,18 @@ fn a_book_opens_on_tables_of_its_form(rt: HostRuntime) -> Result<(), Fail> {
     let wrong = mistaken_after::<OfBook>(alloc, &refused, true)?;
     assert!(rt; wrong.is_none(), "{wrong:?}");
     let wrong = mistaken_after::<OfBook>(alloc, &OTHER_FORMS, true)?;
+    assert!(rt; wrong.is_none(), "{wrong:?}");
+    Ok(())
+}
+
+#[test]
+fn no_store_is_made_over_a_table_of_its_names(rt: HostRuntime) -> Result<(), Fail> {
+    let alloc = rt.alloc();
+    let wrong = overwritten::<OfQueue>(alloc)?;
+    assert!(rt; wrong.is_none(), "{wrong:?}");
+    let wrong = overwritten::<OfJournal>(alloc)?;
+    assert!(rt; wrong.is_none(), "{wrong:?}");
+    let wrong = overwritten::<OfBook>(alloc)?;
     assert!(rt; wrong.is_none(), "{wrong:?}");
     Ok(())
 }

@@ -42,13 +42,19 @@ pub(crate) struct Table {
     pub(crate) rows: &'static [&'static str],
 }
 
-/// A kind of store that opens on a database.
+/// A kind of store that opens or is made on a database.
 pub(crate) trait Opening {
     /// The tables of its form.
     fn tables() -> &'static [Table];
 
     /// Opens the store: what is refused, or nothing.
     fn refused(alloc: Global, conn: Connection<MemStore>) -> Option<OpenFault>;
+
+    /// Makes the store: what is refused and what is handed back, or nothing.
+    fn unmade(
+        alloc: Global,
+        conn: Connection<MemStore>,
+    ) -> Option<(OpenFault, Connection<MemStore>)>;
 }
 
 /// A column of whole numbers: its name, what stands in it, the ends of its range, and numbers out of it.
@@ -259,6 +265,26 @@ pub(crate) fn mistaken<O: Opening>(alloc: Global) -> Result<Option<String>, Erro
             if mistaken.is_some() {
                 return Ok(mistaken);
             }
+        }
+    }
+    Ok(None)
+}
+
+/// The first table over whose name the store is made, or whose refusal is not of its form or changes the database; or
+/// none.
+pub(crate) fn overwritten<O: Opening>(alloc: Global) -> Result<Option<&'static str>, Error> {
+    for table in O::tables() {
+        let name = table.name;
+        let mut conn = Connection::open_in_memory(alloc)?;
+        conn.execute_batch(&format!(in alloc; "CREATE TABLE {name} (x)")?)?;
+        conn.execute_batch(&format!(in alloc; "INSERT INTO {name} VALUES (5)")?)?;
+        let Some((OpenFault::WrongForm, mut conn)) = O::unmade(alloc, conn) else {
+            return Ok(Some(name));
+        };
+        let shown = format!(in alloc; "SELECT x FROM {name}")?;
+        let kept = conn.query_row(&shown, &[])?.get::<i64>(0)?;
+        if kept != 5 || conn.schema().tables.len() != 1 || !conn.is_autocommit() {
+            return Ok(Some(name));
         }
     }
     Ok(None)
