@@ -1,6 +1,7 @@
 //! A book of controls, step by step, for each kind of command.
 
 use crate::Fault;
+use crate::stored::Stored;
 use dnp_controls::{Book, BookFault, State};
 use dnp_objects::{Command, Status};
 use dnp_store::{ControlBook, OpenFault};
@@ -8,12 +9,24 @@ use sqlite::{Alter, Connection};
 use std::alloc::Global;
 
 /// LATCH_ON of an output, once.
-const LATCH_ON: Command = Command::Block {
+pub(crate) const LATCH_ON: Command = Command::Block {
     index: 2,
     code: 3,
     count: 1,
     on_ms: 0,
     off_ms: 0,
+};
+
+/// A set point of 16 bits.
+const LOW: Command = Command::Set16 {
+    index: 5,
+    value: -7,
+};
+
+/// A set point of 32 bits.
+const WIDE: Command = Command::Set32 {
+    index: 6,
+    value: 70_000,
 };
 
 /// Whether three controls for a target, whose ids are these, are listed, the first is next, is spent once and
@@ -55,60 +68,45 @@ fn steps<B: Book>(
     )
 }
 
-/// A database without tables, if a book finds it to be of another form.
-fn refused<S: Alter + Drop>(alloc: Global, conn: Connection<S>) -> Option<Connection<S>> {
-    match ControlBook::open(alloc, conn) {
-        Err((OpenFault::WrongForm, conn)) => Some(conn),
-        _ => None,
+impl<S: Alter> Stored<Connection<S>> for ControlBook<S> {
+    fn create(
+        alloc: Global,
+        conn: Connection<S>,
+    ) -> Result<ControlBook<S>, (OpenFault, Connection<S>)> {
+        ControlBook::create(alloc, conn)
     }
-}
 
-/// Makes a book in a database without tables, walks it with each kind of command, and opens it again.
-pub(crate) fn walk<S: Alter + Drop>(alloc: Global, conn: Connection<S>) -> Option<Connection<S>> {
-    let mut book = ControlBook::create(alloc, refused(alloc, conn)?).ok()?;
-    let low = Command::Set16 {
-        index: 5,
-        value: -7,
-    };
-    let wide = Command::Set32 {
-        index: 6,
-        value: 70_000,
-    };
-    if !steps(&mut book, alloc, 0, &LATCH_ON, [1, 2, 3]).ok()?
-        || !steps(&mut book, alloc, 1, &low, [4, 5, 6]).ok()?
-        || !steps(&mut book, alloc, 15, &wide, [7, 8, 9]).ok()?
-    {
-        return None;
+    fn open(
+        alloc: Global,
+        conn: Connection<S>,
+    ) -> Result<ControlBook<S>, (OpenFault, Connection<S>)> {
+        ControlBook::open(alloc, conn)
     }
-    let again = ControlBook::open(alloc, book.into_connection()).ok()?;
-    if again.serves() && again.owns_database() {
-        Some(again.into_connection())
-    } else {
-        None
-    }
-}
 
-/// Adds a control and prints all entries.
-pub(crate) fn show<S: Alter + Drop>(
-    rt: &(impl Print + AllocGlobal),
-    conn: Connection<S>,
-) -> Result<Connection<S>, Fault> {
-    let alloc = rt.alloc();
-    let Ok(mut book) = ControlBook::open(alloc, conn) else {
-        return Err(Fault::Store);
-    };
-    if book.add(alloc, 3, &LATCH_ON).is_err() {
-        return Err(Fault::Store);
+    fn into_connection(self) -> Connection<S> {
+        self.into_connection()
     }
-    let Ok(rows) = book.rows(alloc, 0, 99) else {
-        return Err(Fault::Store);
-    };
-    for entry in &rows {
-        let id = entry.id;
-        let target = entry.target;
-        let command = entry.command;
-        let state = entry.state;
-        println!(rt; "control {id}: target {target} {command:?} {state:?}")?;
+
+    fn walk(&mut self, alloc: Global) -> bool {
+        matches!(steps(self, alloc, 0, &LATCH_ON, [1, 2, 3]), Ok(true))
+            && matches!(steps(self, alloc, 1, &LOW, [4, 5, 6]), Ok(true))
+            && matches!(steps(self, alloc, 15, &WIDE, [7, 8, 9]), Ok(true))
     }
-    Ok(book.into_connection())
+
+    fn is_walked(&mut self, _alloc: Global) -> bool {
+        self.serves() && self.owns_database()
+    }
+
+    fn show(&mut self, rt: &HostRuntime) -> Result<(), Fault> {
+        let alloc = rt.alloc();
+        self.add(alloc, 3, &LATCH_ON)?;
+        for entry in &self.rows(alloc, 0, 99)? {
+            let id = entry.id;
+            let target = entry.target;
+            let command = entry.command;
+            let state = entry.state;
+            println!(rt; "control {id}: target {target} {command:?} {state:?}")?;
+        }
+        Ok(())
+    }
 }

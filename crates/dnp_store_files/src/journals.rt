@@ -1,30 +1,44 @@
 //! A journal, step by step, for each kind of row.
 
+ghost use Rattle.std.specs.Prelude.{◌≡◌, true, All};
+ghost use Rattle.dnp_objects.specs.Events.{IsEvent};
+
 use crate::Fault;
+use crate::stored::Stored;
 use dnp_eventbuf::{JournalStore, Sink, StoreFault};
 use dnp_objects::{Kind, Row, is_event};
 use dnp_store::{Journal, OpenFault};
 use sqlite::{Alter, Connection};
 use std::alloc::Global;
 
-/// Appends an event of this kind and index in a call of its own.
-fn append<J: Sink>(
-    journal: &mut J,
-    alloc: Global,
-    kind: Kind,
-    index: u16,
-) -> Result<(), StoreFault> {
-    let row = Row {
+/// An event of this kind and index.
+pub(crate) fn event(kind: Kind, index: u16) -> Row {
+    Row {
         kind,
         index,
         flags: 1,
         value: 1,
         time: None,
-    };
-    if !is_event(&row) {
+    }
+}
+
+/// Whether the rows are events.
+fn are_events(rows: &[Row]) -> bool
+    ensures { result ≡ true → All IsEvent rows.now }
+{
+    rows.iter().all(|row| is_event(row))
+}
+
+/// Appends the events in one call.
+pub(crate) fn append<J: Sink>(
+    journal: &mut J,
+    alloc: Global,
+    rows: &[Row],
+) -> Result<(), StoreFault> {
+    if !are_events(rows) {
         return Err(StoreFault::Exhausted);
     }
-    let _dropped = journal.append(alloc, &[row], &[])?;
+    let _dropped = journal.append(alloc, rows, &[])?;
     Ok(())
 }
 
@@ -36,7 +50,7 @@ fn steps<J: JournalStore>(
     from: u64,
 ) -> Result<bool, StoreFault> {
     for index in 0..3u16 {
-        append(journal, alloc, kind, index)?;
+        append(journal, alloc, &[event(kind, index)])?;
     }
     let rows = journal.rows(alloc, from, 9)?;
     Ok(
@@ -46,59 +60,48 @@ fn steps<J: JournalStore>(
     )
 }
 
-/// A database without tables, if a journal finds it to be of another form.
-fn refused<S: Alter + Drop>(alloc: Global, conn: Connection<S>) -> Option<Connection<S>> {
-    match Journal::open(alloc, conn) {
-        Err((OpenFault::WrongForm, conn)) => Some(conn),
-        _ => None,
+impl<S: Alter> Stored<Connection<S>> for Journal<S> {
+    fn create(
+        _alloc: Global,
+        conn: Connection<S>,
+    ) -> Result<Journal<S>, (OpenFault, Connection<S>)> {
+        Journal::create(conn)
     }
-}
 
-/// Makes a journal in a database without tables, appends three events of each kind, and opens it again.
-pub(crate) fn walk<S: Alter + Drop>(alloc: Global, conn: Connection<S>) -> Option<Connection<S>> {
-    let mut journal = Journal::create(refused(alloc, conn)?).ok()?;
-    if !steps(&mut journal, alloc, Kind::Binary, 0).ok()?
-        || !steps(&mut journal, alloc, Kind::Counter, 3).ok()?
-        || !steps(&mut journal, alloc, Kind::Analog, 6).ok()?
-    {
-        return None;
+    fn open(alloc: Global, conn: Connection<S>) -> Result<Journal<S>, (OpenFault, Connection<S>)> {
+        Journal::open(alloc, conn)
     }
-    let mut again = Journal::open(alloc, journal.into_connection()).ok()?;
-    if again.count() == 9 && again.owns_database() {
-        Some(again.into_connection())
-    } else {
-        None
-    }
-}
 
-/// Appends an event and prints all rows.
-pub(crate) fn show<S: Alter + Drop>(
-    rt: &(impl Print + AllocGlobal),
-    conn: Connection<S>,
-) -> Result<Connection<S>, Fault> {
-    let alloc = rt.alloc();
-    let Ok(mut journal) = Journal::open(alloc, conn) else {
-        return Err(Fault::Store);
-    };
-    if append(&mut journal, alloc, Kind::Counter, 9).is_err() {
-        return Err(Fault::Store);
+    fn into_connection(self) -> Connection<S> {
+        self.into_connection()
     }
-    let Ok(rows) = journal.rows(alloc, 0, 99) else {
-        return Err(Fault::Store);
-    };
-    for x in &rows {
-        let Row {
-            kind,
-            index,
-            flags,
-            value,
-            time,
-        } = x.row;
-        let id = x.id;
-        let kind = kind.number();
-        println!(rt;
-            "journal {id}: kind {kind} point {index} flags {flags} value {value} time {time:?}"
-        )?;
+
+    fn walk(&mut self, alloc: Global) -> bool {
+        matches!(steps(self, alloc, Kind::Binary, 0), Ok(true))
+            && matches!(steps(self, alloc, Kind::Counter, 3), Ok(true))
+            && matches!(steps(self, alloc, Kind::Analog, 6), Ok(true))
     }
-    Ok(journal.into_connection())
+
+    fn is_walked(&mut self, _alloc: Global) -> bool {
+        self.count() == 9 && self.owns_database()
+    }
+
+    fn show(&mut self, rt: &HostRuntime) -> Result<(), Fault> {
+        append(self, rt.alloc(), &[event(Kind::Counter, 9)])?;
+        for x in &self.rows(rt.alloc(), 0, 99)? {
+            let Row {
+                kind,
+                index,
+                flags,
+                value,
+                time,
+            } = x.row;
+            let id = x.id;
+            let kind = kind.number();
+            println!(rt;
+                "journal {id}: kind {kind} point {index} flags {flags} value {value} time {time:?}"
+            )?;
+        }
+        Ok(())
+    }
 }

@@ -1,16 +1,27 @@
 //! The three stores over files. Without a word it walks each of them through its calls, in memory and in the files
-//! `queue.db`, `journal.db` and `book.db`, which it makes here; with the word `show` it opens these files, which
-//! others may have written, puts a row into each and prints what they hold; with `time FILE ROWS TURNS` it prints how
-//! long a queue in a new file takes. With any other number of words it does nothing.
+//! `queue.db`, `journal.db` and `book.db`, which it makes here, and stops each writing call at each call of its files;
+//! with the word `show` it opens these files, which others may have written, puts a row into each and prints what they
+//! hold; with `time FILE ROWS TURNS` it prints how long a queue in a new file takes. With any other number of words it
+//! does nothing.
 #![tactic(auto)]
 
 mod books;
 mod journals;
+mod place;
 mod queues;
+mod stops;
+mod stored;
 mod timing;
 
-use sqlite::{Connection, Error, File, FileStore, MemStore};
-use std::alloc::{AllocError, Global};
+use crate::place::{InFile, InMemory, Place};
+use crate::stops::files::Failing;
+use crate::stored::Stored;
+use dnp_controls::BookFault;
+use dnp_eventbuf::StoreFault;
+use dnp_store::{ControlBook, Journal, Queue};
+use sqlite::{Alter, Connection, Error, FileStore};
+use sqlite_disk::{Fuse, Memory};
+use std::alloc::AllocError;
 use std::{env, io};
 
 /// Why a line was not printed.
@@ -44,7 +55,19 @@ impl From<Error> for Fault {
     }
 }
 
-/// Walks the stores, shows them, or times one.
+impl From<StoreFault> for Fault {
+    fn from(_: StoreFault) -> Fault {
+        Fault::Store
+    }
+}
+
+impl From<BookFault> for Fault {
+    fn from(_: BookFault) -> Fault {
+        Fault::Store
+    }
+}
+
+/// Walks and stops the stores, shows them, or times one.
 fn main(rt: HostRuntime) -> io::Result<()> {
     match run(&rt) {
         Ok(()) => Ok(()),
@@ -57,8 +80,13 @@ fn main(rt: HostRuntime) -> io::Result<()> {
 fn run(rt: &HostRuntime) -> Result<(), Fault> {
     let words: Vec<String> = env::args(rt)?.collect(rt.alloc())?;
     match words.len() {
-        1 => walk(rt),
-        2 => show(rt),
+        1 => {
+            walk_all(rt, &InMemory)?;
+            walk_all(rt, &InFile)?;
+            stops::stop_all::<FileStore<Fuse<Memory>>, Failing>(rt)?;
+            Ok(())
+        }
+        2 => show_all(rt, &InFile),
         5 => time(rt, &words),
         _ => Ok(()),
     }
@@ -70,84 +98,52 @@ fn time(rt: &HostRuntime, words: &[String]) -> Result<(), Fault> {
         return Err(Fault::Store);
     }
     match (words[3].parse::<u16>(), words[4].parse::<u64>()) {
-        (Ok(count), Ok(turns)) => timing::time(rt, &words[2], count, turns),
+        (Ok(count), Ok(turns)) => timing::time(rt, &InFile, &words[2], count, turns),
         _ => Err(Fault::Store),
     }
 }
 
-/// Prints which store it is, and whether it did its steps.
-fn tell(rt: &impl Print, name: &str, is_good: bool) -> io::Result<()> {
+/// Walks a store and prints whether it did its steps.
+fn walk<C, P: Place<C>, T: Stored<C>>(
+    rt: &HostRuntime,
+    place: &P,
+    name: &str,
+    path: &str,
+) -> Result<(), Fault> {
+    let conn = place.open(rt, path)?;
+    let (is_good, conn) = stored::walk::<C, T>(rt.alloc(), conn);
+    place.close(conn)?;
+    let place = place.name();
     if is_good {
-        println!(rt; "{name}: as it has to be")
+        println!(rt; "{name} {place}: as it has to be")?;
     } else {
-        println!(rt; "{name}: WRONG")
+        println!(rt; "{name} {place}: WRONG")?;
     }
-}
-
-/// A database in memory.
-fn in_memory(alloc: Global) -> Result<Connection<MemStore>, Fault> {
-    Ok(Connection::open_in_memory(alloc)?)
-}
-
-/// A database in a file.
-fn in_file(rt: &HostRuntime, path: &str) -> Result<Connection<FileStore<File>>, Fault> {
-    Ok(Connection::open(rt, path)?)
-}
-
-/// Whether there is a connection, and its file closes.
-fn is_closed(conn: Option<Connection<FileStore<File>>>) -> bool {
-    match conn {
-        Some(conn) => conn.close().is_ok(),
-        None => false,
-    }
-}
-
-/// Walks each store in memory and in a file.
-fn walk(rt: &HostRuntime) -> Result<(), Fault> {
-    walk_queue(rt)?;
-    walk_journal(rt)?;
-    walk_book(rt)
-}
-
-/// Walks a queue.
-fn walk_queue(rt: &HostRuntime) -> Result<(), Fault> {
-    let alloc = rt.alloc();
-    let walked = queues::walk(alloc, in_memory(alloc)?);
-    tell(rt, "queue in memory", walked.is_some())?;
-    let walked = queues::walk(alloc, in_file(rt, "queue.db")?);
-    tell(rt, "queue in a file", is_closed(walked))?;
     Ok(())
 }
 
-/// Walks a journal.
-fn walk_journal(rt: &HostRuntime) -> Result<(), Fault> {
-    let alloc = rt.alloc();
-    let walked = journals::walk(alloc, in_memory(alloc)?);
-    tell(rt, "journal in memory", walked.is_some())?;
-    let walked = journals::walk(alloc, in_file(rt, "journal.db")?);
-    tell(rt, "journal in a file", is_closed(walked))?;
-    Ok(())
+/// Walks each store.
+fn walk_all<S: Alter, P: Place<Connection<S>>>(rt: &HostRuntime, place: &P) -> Result<(), Fault> {
+    walk::<Connection<S>, P, Queue<S>>(rt, place, "queue", "queue.db")?;
+    walk::<Connection<S>, P, Journal<S>>(rt, place, "journal", "journal.db")?;
+    walk::<Connection<S>, P, ControlBook<S>>(rt, place, "book", "book.db")
 }
 
-/// Walks a book.
-fn walk_book(rt: &HostRuntime) -> Result<(), Fault> {
-    let alloc = rt.alloc();
-    let walked = books::walk(alloc, in_memory(alloc)?);
-    tell(rt, "book in memory", walked.is_some())?;
-    let walked = books::walk(alloc, in_file(rt, "book.db")?);
-    tell(rt, "book in a file", is_closed(walked))?;
-    Ok(())
+/// Puts a row into a store and prints all rows.
+fn show<C, P: Place<C>, T: Stored<C>>(
+    rt: &HostRuntime,
+    place: &P,
+    path: &str,
+) -> Result<(), Fault> {
+    let conn = place.open(rt, path)?;
+    let (shown, conn) = stored::show::<C, T>(rt, conn);
+    place.close(conn)?;
+    shown
 }
 
-/// Closes a file in good order.
-fn close(conn: Connection<FileStore<File>>) -> Result<(), Fault> {
-    conn.close()?;
-    Ok(())
-}
-
-/// Puts a row into each file and prints all rows.
-fn show(rt: &HostRuntime) -> Result<(), Fault> {
-    close(queues::show(rt, in_file(rt, "queue.db")?)?)?;
-    close(journals::show(rt, in_file(rt, "journal.db")?)?)?;
-    close(books::show(rt, in_file(rt, "book.db")?)?)
+/// Puts a row into each store and prints all rows.
+fn show_all<S: Alter, P: Place<Connection<S>>>(rt: &HostRuntime, place: &P) -> Result<(), Fault> {
+    show::<Connection<S>, P, Queue<S>>(rt, place, "queue.db")?;
+    show::<Connection<S>, P, Journal<S>>(rt, place, "journal.db")?;
+    show::<Connection<S>, P, ControlBook<S>>(rt, place, "book.db")
 }

@@ -1,19 +1,18 @@
 //! A queue, step by step, for each lane and so for each kind of row.
 
+ghost use Rattle.std.specs.Prelude.{◌≡◌, true, All};
+ghost use Rattle.dnp_eventbuf.specs.Carried.{IsCarried};
+
 use crate::Fault;
+use crate::stored::Stored;
 use dnp_eventbuf::{Lane, LaneRow, Lanes, StoreFault, is_carried};
 use dnp_objects::Row;
 use dnp_store::{OpenFault, Queue};
 use sqlite::{Alter, Connection};
 use std::alloc::Global;
 
-/// Appends an event of this index in a call of its own.
-fn append<L: Lanes>(
-    lanes: &mut L,
-    alloc: Global,
-    lane: Lane,
-    index: u16,
-) -> Result<(), StoreFault> {
+/// An event of a lane with this index.
+pub(crate) fn event(lane: Lane, index: u16) -> LaneRow {
     let row = Row {
         kind: lane.kind,
         index,
@@ -21,11 +20,26 @@ fn append<L: Lanes>(
         value: 1,
         time: Some(1_000),
     };
-    let event = LaneRow { lane, row };
-    if !is_carried(&event) {
+    LaneRow { lane, row }
+}
+
+/// Whether the lanes of the events can carry them.
+fn are_carried(rows: &[LaneRow]) -> bool
+    ensures { result ≡ true → All IsCarried rows.now }
+{
+    rows.iter().all(|row| is_carried(row))
+}
+
+/// Appends the events in one call.
+pub(crate) fn append<L: Lanes>(
+    lanes: &mut L,
+    alloc: Global,
+    rows: &[LaneRow],
+) -> Result<(), StoreFault> {
+    if !are_carried(rows) {
         return Err(StoreFault::Exhausted);
     }
-    let _dropped = lanes.append(alloc, &[event])?;
+    let _dropped = lanes.append(alloc, rows)?;
     Ok(())
 }
 
@@ -37,7 +51,7 @@ fn steps<L: Lanes>(
     ids: [u64; 3],
 ) -> Result<bool, StoreFault> {
     for index in 0..3u16 {
-        append(lanes, alloc, lane, index)?;
+        append(lanes, alloc, &[event(lane, index)])?;
     }
     let offered = lanes.offer(alloc, lane, 0, 9)?;
     let is_offered = offered.iter().map(|x| (x.id, x.row.index)).eq(
@@ -61,68 +75,72 @@ fn steps<L: Lanes>(
     )
 }
 
-/// A database without tables, if a queue finds it to be of another form.
-fn refused<S: Alter + Drop>(alloc: Global, conn: Connection<S>) -> Option<Connection<S>> {
-    match Queue::open(alloc, conn) {
-        Err((OpenFault::WrongForm, conn)) => Some(conn),
-        _ => None,
+/// Prints the rows of a lane.
+fn show_lane<L: Lanes>(rt: &HostRuntime, lanes: &mut L, lane: Lane) -> Result<(), Fault> {
+    let number = lane.number();
+    for x in &lanes.offer(rt.alloc(), lane, 0, 9)? {
+        let Row {
+            index,
+            flags,
+            value,
+            time,
+            ..
+        } = x.row;
+        let id = x.id;
+        println!(rt;
+            "queue {id}: lane {number} point {index} flags {flags} value {value} time {time:?}"
+        )?;
     }
+    Ok(())
 }
 
-/// Makes a queue in a database without tables, walks each lane, opens it again and leaves the row of id 28 in the last
-/// lane: the ids go on, though every row had left.
-pub(crate) fn walk<S: Alter + Drop>(alloc: Global, conn: Connection<S>) -> Option<Connection<S>> {
-    let conn = refused(alloc, conn)?;
-    let mut lanes = Queue::create(alloc, conn, [4; 9]).ok()?;
-    for number in 0..9usize {
-        let first = 3 * number as u64 + 1;
-        let ids = [first, first + 1, first + 2];
-        if !steps(&mut lanes, alloc, Lane::numbered(number)?, ids).ok()? {
-            return None;
-        }
+impl<S: Alter> Stored<Connection<S>> for Queue<S> {
+    fn create(alloc: Global, conn: Connection<S>) -> Result<Queue<S>, (OpenFault, Connection<S>)> {
+        Queue::create(alloc, conn, [4; 9])
     }
-    let mut again = Queue::open(alloc, lanes.into_connection()).ok()?;
-    let lane = Lane::numbered(8)?;
-    append(&mut again, alloc, lane, 7).ok()?;
-    if again.last(lane) == 28 && again.owns_database() {
-        Some(again.into_connection())
-    } else {
-        None
-    }
-}
 
-/// Appends a row to the first lane and prints all rows.
-pub(crate) fn show<S: Alter + Drop>(
-    rt: &(impl Print + AllocGlobal),
-    conn: Connection<S>,
-) -> Result<Connection<S>, Fault> {
-    let alloc = rt.alloc();
-    let Ok(mut lanes) = Queue::open(alloc, conn) else {
-        return Err(Fault::Store);
-    };
-    for number in 0..9usize {
-        let Some(lane) = Lane::numbered(number) else {
-            return Err(Fault::Store);
-        };
-        if number == 0 && append(&mut lanes, alloc, lane, 9).is_err() {
-            return Err(Fault::Store);
-        }
-        let Ok(rows) = lanes.offer(alloc, lane, 0, 9) else {
-            return Err(Fault::Store);
-        };
-        for x in &rows {
-            let Row {
-                index,
-                flags,
-                value,
-                time,
-                ..
-            } = x.row;
-            let id = x.id;
-            println!(rt;
-                "queue {id}: lane {number} point {index} flags {flags} value {value} time {time:?}"
-            )?;
-        }
+    fn open(alloc: Global, conn: Connection<S>) -> Result<Queue<S>, (OpenFault, Connection<S>)> {
+        Queue::open(alloc, conn)
     }
-    Ok(lanes.into_connection())
+
+    fn into_connection(self) -> Connection<S> {
+        self.into_connection()
+    }
+
+    fn walk(&mut self, alloc: Global) -> bool {
+        for number in 0..9usize {
+            let Some(lane) = Lane::numbered(number) else {
+                return false;
+            };
+            let first = 3 * number as u64 + 1;
+            let ids = [first, first + 1, first + 2];
+            if !matches!(steps(self, alloc, lane, ids), Ok(true)) {
+                return false;
+            }
+        }
+        true
+    }
+
+    /// The ids go on, though every row had left: a row of the last lane has the id 28.
+    fn is_walked(&mut self, alloc: Global) -> bool {
+        let Some(lane) = Lane::numbered(8) else {
+            return false;
+        };
+        append(self, alloc, &[event(lane, 7)]).is_ok()
+            && self.last(lane) == 28
+            && self.owns_database()
+    }
+
+    fn show(&mut self, rt: &HostRuntime) -> Result<(), Fault> {
+        for number in 0..9usize {
+            let Some(lane) = Lane::numbered(number) else {
+                return Err(Fault::Store);
+            };
+            if number == 0 {
+                append(self, rt.alloc(), &[event(lane, 9)])?;
+            }
+            show_lane(rt, self, lane)?;
+        }
+        Ok(())
+    }
 }
