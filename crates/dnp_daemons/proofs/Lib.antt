@@ -5,6 +5,7 @@ mod OctetDigits
 mod OneAnswer
 mod PlanLists
 mod PlanNamed
+mod PlannedPoints
 mod ReportLists
 mod Numbers
 mod Opened

@@ -4,3 +4,5 @@ pub mod OneOutput
 pub mod OutstationsOneWay
 pub mod Putting
 pub mod Spelling
+pub mod Clocking
+pub mod Taken

@@ -14,4 +14,5 @@ pub mod streams
 pub mod PlanFields
 pub mod PlanRanges
 pub mod PlanText
+pub mod Planned
 pub mod steps

@@ -1,5 +1,6 @@
 -- Definitions of stations on streams.
 pub mod Stations
+pub mod Clocks
 pub mod Logs
 pub mod Spelled
 pub mod Exchanges
@@ -7,3 +8,6 @@ pub mod Counts
 pub mod Serving
 pub mod OneWay
 pub mod Outstations
+pub mod Masters
+pub mod Centres
+pub mod Concentrators

@@ -9,6 +9,7 @@ mod input;
 pub mod laws;
 mod octets;
 mod plan_text;
+mod planned;
 mod report_text;
 mod script;
 mod station;
@@ -22,9 +23,11 @@ pub use answer::{AnswerFault, answer_line};
 pub use input::{MAX_INPUT, read_text};
 pub use octets::MAX_CHARACTERS;
 pub use plan_text::{PlanTextFault, read_plan};
+pub use planned::{MASTER_BELOW, PlannedOutstation, outstation_address, planned_outstation};
 pub use report_text::{PrintFault, print_report};
-pub use script::{ScriptFault, ScriptLine, read_script};
+pub use script::{ScriptFault, ScriptLine, number_in, read_script};
 pub use stream::{
-    Answer, Log, ServeFault, Served, Station, StationFault, serve_noted, serve_stream,
+    Above, Answer, Below, Clocked, Log, ServeFault, Served, Station, StationFault, serve_noted,
+    serve_stream,
 };
 pub use text::{TextFault, text_fault};

@@ -16,6 +16,8 @@ mod names;
 mod numbers;
 mod words;
 
+pub use numbers::number_in;
+
 /// What a line of a script asks for.
 #[derive(Debug, Drop)]
 pub enum ScriptLine {

@@ -1,6 +1,11 @@
 //! Stations on streams of octets: what comes is read to its end, and what the station answers is written.
 
+mod above;
+mod below;
+mod centre;
+mod clocked;
 mod log;
+mod master;
 mod outgoing;
 mod outstation;
 mod serve;
@@ -8,6 +13,9 @@ mod served;
 mod station;
 mod step;
 
+pub use above::Above;
+pub use below::Below;
+pub use clocked::Clocked;
 pub use log::Log;
 pub use serve::{ServeFault, serve_noted, serve_stream};
 pub use served::Served;

@@ -4,7 +4,7 @@ ghost use Rattle.std.specs.Prelude.{◌≡◌, ◌^◌};
 ghost use Rattle.dnp_daemons.specs.Numbers.{number_below, integer_within};
 
 /// The number below 2^64 that the word writes.
-pub(crate) fn number_in(word: &str) -> Option<u64>
+pub fn number_in(word: &str) -> Option<u64>
     ensures { result ≡ number_below (2 ^ 64) word.now }
 {
     // The library's `parse` takes one plus sign before the digits.

@@ -14,7 +14,7 @@ use std::alloc::Global;
 
 /// What an outstation does, as an answer: its fragments, and whether it closed the connection. The rows that left its
 /// lanes, and a time that was written, are let go.
-fn answer_with(mut actions: Actions) -> Answer
+pub(super) fn answer_with(mut actions: Actions) -> Answer
     ensures { answer_of result ≡ answer_by (actions_of actions) }
 {
     let close = actions.close;

@@ -1,0 +1,8 @@
+-- A step at one moment is a step at some moment.
+use Rattle.std.specs.Prelude.{ℕ, Result, IfOk}
+use Rattle.std.proofs.lemmas.Result.{IfOk-weaker}
+
+pub at_some : {T E : Type 0} (result : Result T E) (Steps : ℕ → T → Type 0) (moment : ℕ) → IfOk result (λ answer. Steps moment answer)
+    → IfOk result (λ answer. (now : ℕ) × Steps now answer)
+at_some result Steps moment steps =
+    IfOk-weaker result (λ answer. Steps moment answer) (λ answer. (now : ℕ) × Steps now answer) (λ answer step. (moment, step)) steps

@@ -1,0 +1,66 @@
+//! The outstation of a concentrator, towards the station above, on a stream.
+
+use crate::stream::outstation::answer_with;
+use crate::stream::station::{Answer, Station, StationFault};
+use dnp_concentrator::Concentrator;
+use dnp_controls::Book;
+use dnp_eventbuf::Lanes;
+use dnp_outstation::Actions;
+use dnp_world::Cause;
+use std::alloc::Global;
+
+/// The outstation of a lent concentrator.
+#[derive(Drop)]
+pub struct Above<'a, Q, B> {
+    /// The concentrator.
+    concentrator: &'a mut Concentrator<Q, B>,
+}
+
+impl<'a, Q: Lanes, B: Book> Above<'a, Q, B> {
+    /// The outstation of the concentrator.
+    pub fn new(concentrator: &'a mut Concentrator<Q, B>) -> Self {
+        Above { concentrator }
+    }
+}
+
+impl<'a, Q: Lanes, B: Book> Station for Above<'a, Q, B> {
+    ghost use Rattle.dnp_concentrator.specs.BookOutputs.{Performs, panel_of};
+    ghost use Rattle.dnp_concentrator.specs.Concentrator.{IsBookWell, queue_of};
+    ghost use Rattle.dnp_daemons.specs.streams.Outstations.{Seen, IsOpened, Receives, hung_up_of};
+    ghost use Rattle.dnp_daemons.specs.streams.Concentrators.{above_seen};
+
+    ghost State = { Seen };
+
+    ghost state = { λ s. above_seen Q.contents B.contents s.concentrator.now };
+
+    ghost honest = { λ s. Q.honest (queue_of s.concentrator.now) × IsBookWell B.honest B.is_stopped s.concentrator.now };
+
+    ghost opens = { IsOpened };
+
+    ghost receives = { Receives (panel_of B.contents) (Performs B.contents) };
+
+    ghost hung_up_of = { hung_up_of };
+
+    fn opened(&mut self, alloc: Global, now: u64) -> Result<Answer, StationFault> {
+        let mut actions = Actions::none(alloc);
+        match self.concentrator.opened_above(&mut actions, alloc, now) {
+            Ok(()) => Ok(answer_with(actions)),
+            Err(fault) => Err(StationFault::Cause(Cause::from(fault))),
+        }
+    }
+
+    fn receive(&mut self, alloc: Global, now: u64, octets: &[u8]) -> Result<Answer, StationFault> {
+        let mut actions = Actions::none(alloc);
+        match self
+            .concentrator
+            .receive_above(&mut actions, alloc, now, octets)
+        {
+            Ok(()) => Ok(answer_with(actions)),
+            Err(fault) => Err(StationFault::Cause(Cause::from(fault))),
+        }
+    }
+
+    fn hung_up(&mut self) {
+        self.concentrator.hung_up_above();
+    }
+}

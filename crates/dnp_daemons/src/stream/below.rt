@@ -1,0 +1,78 @@
+//! One link of a concentrator to a substation, on a stream.
+
+ghost use Rattle.std.specs.Prelude.{◌≡◌, nat_lt, length};
+ghost use Rattle.dnp_concentrator.specs.Concentrator.{links_of};
+
+use crate::stream::master::{answer_taking, fault_of, nothing};
+use crate::stream::station::{Answer, Station, StationFault};
+use dnp_concentrator::Concentrator;
+use dnp_controls::Book;
+use dnp_eventbuf::Lanes;
+use std::alloc::Global;
+
+/// The link of a lent concentrator to the substation with this number. Where the concentrator's plan has no such
+/// substation, the station takes nothing and does nothing.
+#[derive(Drop)]
+pub struct Below<'a, Q, B> {
+    /// The concentrator.
+    concentrator: &'a mut Concentrator<Q, B>,
+    /// The substation's number.
+    link: u8,
+}
+
+impl<'a, Q: Lanes, B: Book> Below<'a, Q, B> {
+    /// The link of the concentrator to the substation with this number.
+    pub fn new(concentrator: &'a mut Concentrator<Q, B>, link: u8) -> Self {
+        Below { concentrator, link }
+    }
+
+    /// Whether the concentrator's plan has the substation.
+    fn is_there(&self) -> bool
+        ensures { result ≡ nat_lt self.now.link (length (links_of self.now.concentrator.now)) }
+    {
+        usize::from(self.link) < self.concentrator.substations()
+    }
+}
+
+impl<'a, Q: Lanes, B: Book> Station for Below<'a, Q, B> {
+    ghost use Rattle.dnp_concentrator.specs.Concentrator.{queue_of};
+    ghost use Rattle.dnp_daemons.specs.streams.Concentrators.{BelowSeen, OpensBelow, BelowReceives, below_hung_up, below_seen};
+
+    ghost State = { BelowSeen };
+
+    ghost state = { λ s. below_seen Q.contents s.concentrator.now s.link };
+
+    ghost honest = { λ s. Q.honest (queue_of s.concentrator.now) };
+
+    ghost opens = { OpensBelow };
+
+    ghost receives = { BelowReceives };
+
+    ghost hung_up_of = { below_hung_up };
+
+    fn opened(&mut self, _alloc: Global, _now: u64) -> Result<Answer, StationFault> {
+        if self.is_there() {
+            self.concentrator.opened_below(self.link);
+        }
+        Ok(nothing())
+    }
+
+    fn receive(&mut self, alloc: Global, now: u64, octets: &[u8]) -> Result<Answer, StationFault> {
+        if !self.is_there() {
+            return Ok(nothing());
+        }
+        match self
+            .concentrator
+            .receive_below(alloc, self.link, now, octets)
+        {
+            Ok(actions) => Ok(answer_taking(actions)),
+            Err(fault) => Err(fault_of(fault)),
+        }
+    }
+
+    fn hung_up(&mut self) {
+        if self.is_there() {
+            self.concentrator.hung_up_below(self.link);
+        }
+    }
+}

@@ -1,0 +1,81 @@
+//! A station whose steps are at the moments of a clock.
+
+ghost use Rattle.std.specs.Prelude.{◌≡◌};
+
+use crate::stream::station::{Answer, Station, StationFault};
+use std::alloc::Global;
+use std::rt::Clock;
+
+/// A station that is lent to a stream together with a clock. Each of its steps is at the moment that the clock shows
+/// then, and not at the one moment at which the stream is served: so its timers run while octets come.
+#[derive(Drop)]
+pub struct Clocked<'a, S, C> {
+    /// The station.
+    station: &'a mut S,
+    /// What tells the moments.
+    clock: &'a C,
+    /// The moment of the last step, in milliseconds. Where the clock fails or goes back, the next step is at this moment
+    /// too.
+    now: u64,
+    /// How many fragments the station was given. The count stops at the largest number.
+    fragments: u64,
+}
+
+impl<'a, S: Station, C: Clock> Clocked<'a, S, C> {
+    /// A station and a clock, of which nothing was asked yet.
+    pub fn new(station: &'a mut S, clock: &'a C) -> Self {
+        Clocked {
+            station,
+            clock,
+            now: 0,
+            fragments: 0,
+        }
+    }
+
+    /// How many fragments the station was given since. The count stops at the largest number.
+    pub fn fragments(&self) -> u64 {
+        self.fragments
+    }
+
+    /// The moment of a step that begins, in milliseconds.
+    fn moment(&mut self) -> u64
+        ensures { self.new ≡ record self.old { now = result } }
+    {
+        if let Ok(time) = self.clock.monotonic() {
+            let shown = u64::try_from(time.as_millis()).unwrap_or(u64::MAX);
+            self.now = self.now.max(shown);
+        }
+        self.now
+    }
+}
+
+impl<'a, S: Station, C: Clock> Station for Clocked<'a, S, C> {
+    ghost use Rattle.dnp_daemons.specs.streams.Clocks.{OpensSometime, ReceivesSometime};
+
+    ghost State = { S.State };
+
+    ghost state = { λ s. S.state s.station.now };
+
+    ghost honest = { λ s. S.honest s.station.now };
+
+    ghost opens = { OpensSometime S.opens };
+
+    ghost receives = { ReceivesSometime S.receives };
+
+    ghost hung_up_of = { S.hung_up_of };
+
+    fn opened(&mut self, alloc: Global, _now: u64) -> Result<Answer, StationFault> {
+        let now = self.moment();
+        self.station.opened(alloc, now)
+    }
+
+    fn receive(&mut self, alloc: Global, _now: u64, octets: &[u8]) -> Result<Answer, StationFault> {
+        let now = self.moment();
+        self.fragments = self.fragments.saturating_add(1);
+        self.station.receive(alloc, now, octets)
+    }
+
+    fn hung_up(&mut self) {
+        self.station.hung_up();
+    }
+}
