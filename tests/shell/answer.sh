@@ -167,11 +167,12 @@ expect takes-no-argument-that-is-no-text 2 '' "$asked$lf" answer --own $'\xff'
 expect takes-the-last-address 0 'no answer' "$asked$lf" answer --own 65519 --peer 65519
 
 # Help: what the program prints is what ./dnp prints where it is not built
-for words in '--help' 'answer --help' 'help' 'help answer' '--version'; do
+for words in '--help' 'answer --help' 'outstation --help' 'help' 'help answer' 'help outstation' '--version'; do
     got=0
     "$dnp" $words >out 2>err </dev/null || got=$?
     case $words in
     *answer*) file=answer ;;
+    *outstation*) file=outstation ;;
     *version*) file=version ;;
     *) file=dnp ;;
     esac
@@ -180,7 +181,7 @@ done
 mkdir -p unbuilt/crates/dnp
 cp "$dnp" unbuilt/dnp
 cp -r "$top/crates/dnp/help" unbuilt/crates/dnp/help
-for words in '--help:dnp' 'answer --help:answer' '--version:version'; do
+for words in '--help:dnp' 'answer --help:answer' 'outstation --help:outstation' '--version:version'; do
     got=0
     PATH=/usr/bin:/bin unbuilt/dnp ${words%:*} >out 2>err </dev/null || got=$?
     judge "helps-without-a-build:dnp ${words%:*}" 0 "$(cat "$top/crates/dnp/help/${words#*:}")" "$got"

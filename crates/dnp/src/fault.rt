@@ -2,7 +2,7 @@
 
 use crate::exit;
 use std::io;
-use std::io::Write;
+use std::io::{Read, Write};
 use std::process::ExitCode;
 
 /// Says on standard error which stream failed and why, and gives the exit status of a fault.
@@ -11,24 +11,40 @@ pub(crate) fn lost<R: Eprint>(rt: &R, stream: &str, cause: &io::Error) -> ExitCo
     ExitCode::from(exit::FAULT)
 }
 
-/// A writer that keeps the cause of its last failed write, for calls whose faults don't carry it.
+/// A reader or a writer that keeps the cause of its last failed call, for calls whose faults don't carry it.
 #[derive(Drop)]
-pub(crate) struct Noted<W> {
-    /// What is written to.
-    inner: W,
-    /// Why its last failed write failed.
+pub(crate) struct Noted<S> {
+    /// What is read from or written to.
+    inner: S,
+    /// Why its last failed call failed.
     cause: Option<io::Error>,
 }
 
-impl<W: Write> Noted<W> {
-    /// A writer over this one, which has not failed.
-    pub(crate) fn new(inner: W) -> Self {
+impl<S> Noted<S> {
+    /// A reader or a writer over this one, which has not failed.
+    pub(crate) fn new(inner: S) -> Self {
         Noted { inner, cause: None }
     }
 
-    /// Why the last failed write failed, if one did.
+    /// Why the last failed call failed, if one did.
     pub(crate) fn cause(&self) -> Option<&io::Error> {
         self.cause.as_ref()
+    }
+
+    /// Keeps why a call failed, and gives a fault of the same kind.
+    fn note(&mut self, error: io::Error) -> io::Error {
+        let kind = error.kind();
+        self.cause = Some(error);
+        kind.into()
+    }
+}
+
+impl<R: Read> Read for Noted<R> {
+    fn read(&mut self, buf: &mut [u8]) -> io::Result<usize> {
+        match self.inner.read(buf) {
+            Ok(count) => Ok(count),
+            Err(error) => Err(self.note(error)),
+        }
     }
 }
 
@@ -36,11 +52,7 @@ impl<W: Write> Write for Noted<W> {
     fn write(&mut self, buf: &[u8]) -> io::Result<usize> {
         match self.inner.write(buf) {
             Ok(count) => Ok(count),
-            Err(error) => {
-                let kind = error.kind();
-                self.cause = Some(error);
-                Err(kind.into())
-            }
+            Err(error) => Err(self.note(error)),
         }
     }
 

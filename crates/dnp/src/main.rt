@@ -6,13 +6,18 @@
 mod answer;
 mod exit;
 mod fault;
+mod numbers;
+mod outstation;
+mod plan_file;
+mod serving;
 
 use crate::fault::lost;
 use clap::error::ErrorKind;
 use clap::{ArgMatches, Command};
 use std::alloc::{AllocError, Global};
+use std::net::{Net, TcpListener, TcpStream};
 use std::process::ExitCode;
-use std::rt::Env;
+use std::rt::{Clock, Env, Files};
 use std::{env, io};
 
 /// What the program is, in a line.
@@ -40,7 +45,11 @@ fn main(rt: HostRuntime) -> ExitCode {
 }
 
 /// Reads the words of the command line, and does what they ask.
-fn run<R: Env + AllocGlobal + Input + Print + Eprint>(rt: &R) -> anyhow::Result<ExitCode> {
+fn run<R>(rt: &R) -> anyhow::Result<ExitCode>
+where
+    R: Env + AllocGlobal + Input + Print + Eprint + Files + Clock,
+    R: Net<Listener = TcpListener, Stream = TcpStream>,
+{
     let words = match env::args(rt) {
         Ok(words) => words,
         Err(fault) if fault.kind() == io::ErrorKind::InvalidData => {
@@ -65,16 +74,19 @@ fn command<'a>(alloc: Global) -> Result<Command<'a>, AllocError> {
         .version(VERSION)
         .subcommand_required(true)
         .arg_required_else_help(true)
-        .subcommand(answer::command(alloc)?)
+        .subcommand(answer::command(alloc)?)?
+        .subcommand(outstation::command(alloc)?)
 }
 
 /// Does what the subcommand asks.
-fn dispatch<R: AllocGlobal + Input + Print + Eprint>(
-    rt: &R,
-    matches: &ArgMatches<'_>,
-) -> anyhow::Result<ExitCode> {
+fn dispatch<R>(rt: &R, matches: &ArgMatches<'_>) -> anyhow::Result<ExitCode>
+where
+    R: AllocGlobal + Input + Print + Eprint + Files + Clock,
+    R: Net<Listener = TcpListener, Stream = TcpStream>,
+{
     match matches.subcommand() {
         Some((answer::NAME, given)) => answer::run(rt, given),
+        Some((outstation::NAME, given)) => outstation::run(rt, given),
         // `clap` refuses a missing or an unknown subcommand before this.
         _ => Ok(ExitCode::from(exit::USAGE)),
     }

@@ -1,0 +1,25 @@
+//! Numbers on the command line.
+
+use clap::ArgMatches;
+use dnp_daemons::number_in;
+
+/// The number that an option gives, from `least` to `most`. Where it gives none, what is wrong with it is printed.
+pub(crate) fn number_given<R: Eprint>(
+    rt: &R,
+    given: &ArgMatches<'_>,
+    option: &str,
+    name: &str,
+    least: u64,
+    most: u64,
+) -> Option<u64> {
+    let text = given.get_str(option).unwrap_or("");
+    match number_in(text) {
+        Some(number) if least <= number && number <= most => Some(number),
+        _ => {
+            let _ = eprintln!(rt;
+                "error: invalid value {text:?} for '--{option} <{name}>': not a decimal number from {least} to {most}"
+            );
+            None
+        }
+    }
+}

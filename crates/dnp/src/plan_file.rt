@@ -1,0 +1,42 @@
+//! The file of a plan.
+
+use crate::exit;
+use crate::fault::lost;
+use dnp_daemons::PlanTextFault;
+use std::fs;
+use std::io::Read;
+use std::process::ExitCode;
+use std::rt::Files;
+
+/// The most octets of a plan that are read: many times what the largest plan needs. So no file can fill the memory.
+const MAX_PLAN: u64 = 16 * 1_024 * 1_024;
+
+/// Reads the plan from its file. Where it can't be read, why is said on standard error, and the exit status is told.
+pub(crate) fn plan_text<R: AllocGlobal + Eprint + Files>(
+    rt: &R,
+    path: &str,
+) -> Result<Vec<u8>, ExitCode> {
+    let mut text = Vec::new(rt.alloc());
+    let read = match fs::open(rt, path) {
+        Ok(file) => file.take(MAX_PLAN).read_to_end(&mut text),
+        Err(cause) => Err(cause),
+    };
+    match read {
+        Ok(_) => Ok(text),
+        Err(cause) => Err(lost(rt, path, &cause)),
+    }
+}
+
+/// Prints that the plan is refused, or says on standard error that memory ran out, and gives the exit status.
+pub(crate) fn refused<R: Print + Eprint>(rt: &R, fault: PlanTextFault) -> ExitCode {
+    if fault == PlanTextFault::Memory {
+        let _ = eprintln!(rt; "dnp: {fault}");
+        return ExitCode::from(exit::FAULT);
+    }
+    let number = fault as u8;
+    if let Err(cause) = println!(rt; "refused plan {number}") {
+        return lost(rt, "standard output", &cause);
+    }
+    let _ = eprintln!(rt; "dnp: {fault}");
+    ExitCode::from(exit::REFUSED)
+}

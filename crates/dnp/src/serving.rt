@@ -1,0 +1,123 @@
+//! A station that serves connections over TCP.
+
+use crate::exit;
+use crate::fault::{Noted, lost};
+use dnp_daemons::{Clocked, MASTER_BELOW, ServeFault, Station, serve_stream};
+use dnp_line::Port;
+use std::io;
+use std::net::{IpAddr, Ipv4Addr, Net, SocketAddr, TcpListener, TcpStream};
+use std::process::ExitCode;
+use std::rt::Clock;
+use std::time::Duration;
+
+/// How long a connection may stand still, in seconds: nothing comes, or nothing can be sent.
+const SILENCE: u64 = 300;
+
+/// Where a station listens, and for how many connections.
+#[derive(Clone, Copy)]
+pub(crate) struct Listening {
+    /// The station's link address.
+    pub own: u16,
+    /// The TCP port.
+    pub port: u16,
+    /// How many connections it serves.
+    pub connections: u64,
+}
+
+/// Serves connections one by one, and prints of each how many fragments came whole.
+pub(crate) fn serve_connections<S, R>(
+    rt: &R,
+    station: &mut S,
+    listening: &Listening,
+) -> anyhow::Result<ExitCode>
+where
+    S: Station,
+    R: AllocGlobal + Print + Eprint + Clock + Net<Listener = TcpListener, Stream = TcpStream>,
+{
+    let place = SocketAddr::new(IpAddr::V4(Ipv4Addr::UNSPECIFIED), listening.port);
+    let listener = match TcpListener::bind(rt, place) {
+        Ok(listener) => listener,
+        Err(cause) => return Ok(no_port(rt, listening.port, &cause)),
+    };
+    for _ in 0..listening.connections {
+        let stream = match listener.accept() {
+            Ok((stream, _)) => stream,
+            Err(cause) => return Ok(no_port(rt, listening.port, &cause)),
+        };
+        let Some(fragments) = serve_connection(rt, station, listening.own, &stream) else {
+            return Ok(ExitCode::from(exit::FAULT));
+        };
+        if let Err(cause) = println!(rt; "served {fragments}") {
+            return Ok(lost(rt, "standard output", &cause));
+        }
+    }
+    Ok(ExitCode::from(exit::DONE))
+}
+
+/// Says on standard error why no connection can be had on the port, and gives the exit status of a fault.
+fn no_port<R: Eprint>(rt: &R, port: u16, cause: &io::Error) -> ExitCode {
+    let _ = eprintln!(rt; "dnp: port {port}: {cause}");
+    ExitCode::from(exit::FAULT)
+}
+
+/// Serves a connection to its end, hangs the station up, and tells how many fragments came whole; nothing where memory
+/// ran out. What goes wrong is said on standard error.
+fn serve_connection<S, R>(rt: &R, station: &mut S, own: u16, stream: &TcpStream) -> Option<u64>
+where
+    S: Station,
+    R: AllocGlobal + Eprint + Clock,
+{
+    if let Err(cause) = prepare(stream) {
+        let _ = eprintln!(rt; "dnp: a connection: {cause}");
+        return Some(0);
+    }
+    let mut port = Port::new(own, MASTER_BELOW, false);
+    let mut station = Clocked::new(station, rt);
+    let mut reader = Noted::new(stream);
+    let mut out = Noted::new(stream);
+    match serve_stream(
+        rt.alloc(),
+        &mut station,
+        &mut port,
+        0,
+        &mut reader,
+        &mut out,
+        u64::MAX,
+    ) {
+        Ok(served) => {
+            station.hung_up();
+            return Some(served.fragments);
+        }
+        Err(fault) => {
+            say(rt, fault, reader.cause(), out.cause());
+            if fault == ServeFault::Memory {
+                return None;
+            }
+        }
+    }
+    Some(station.fragments())
+}
+
+/// Sends what is written at once, and ends reads and writes that stand still.
+fn prepare(stream: &TcpStream) -> io::Result<()> {
+    let silence = Some(Duration::from_secs(SILENCE));
+    stream.set_nodelay(true)?;
+    stream.set_read_timeout(silence)?;
+    stream.set_write_timeout(silence)
+}
+
+/// Says on standard error why a connection was not served to its end.
+fn say<R: Eprint>(
+    rt: &R,
+    fault: ServeFault,
+    read: Option<&io::Error>,
+    written: Option<&io::Error>,
+) {
+    let _ = match read.or(written) {
+        Some(cause) if cause.kind() == io::ErrorKind::WouldBlock => {
+            eprintln!(rt; "dnp: a connection: {fault}: nothing for {SILENCE} seconds")
+        }
+        Some(cause) => eprintln!(rt; "dnp: a connection: {fault}: {cause}"),
+        None => eprintln!(rt; "dnp: a connection: {fault}"),
+    };
+}

@@ -1,0 +1,191 @@
+#!/bin/bash
+# `dnp outstation` from the shell, with a master that is not this program: master.py.
+. "$(dirname "${BASH_SOURCE[0]}")/../expect.bash"
+
+master=$top/tests/shell/master.py
+port=$(python3 -c 'import socket; s = socket.socket(); s.bind(("", 0)); print(s.getsockname()[1])')
+
+# plan FILE KEY=VALUE..: a plan of one substation with these values in place of those below
+plan() {
+    local file=$1 lanes='[2, 2, 2, 2, 2, 2, 2, 2, 2]' pair
+    local -A keys=([confirm_ms]=5000 [response_ms]=10000 [select_ms]=300 [retries]=0 [unsolicited]=false [queue]=$lanes)
+    local -A own=([lanes]=$lanes [binary]=[] [counter]=[] [analog]=[] [deadband]=[] [outputs]=6 [setpoints]=0 [base]='[0, 0, 0, 0, 0]')
+    shift
+    for pair; do
+        if [ -n "${keys[${pair%%=*}]+there}" ]; then keys[${pair%%=*}]=${pair#*=}; else own[${pair%%=*}]=${pair#*=}; fi
+    done
+    for pair in "${!keys[@]}"; do echo "$pair = ${keys[$pair]}"; done >"$file"
+    echo '[[substation]]' >>"$file"
+    for pair in "${!own[@]}"; do echo "$pair = ${own[$pair]}"; done >>"$file"
+}
+# serve ARGS..: begins to serve station 0 of plan.toml, for a minute at most
+serve() {
+    timeout 60 "$dnp" outstation --plan plan.toml --station 0 --port "$port" "$@" >out 2>err </dev/null &
+    served=$!
+}
+# talks NAME: the master does what standard input says, and all comes out so
+talks() {
+    if python3 "$master" "$port" >came 2>&1; then
+        echo "ok $1"
+        return
+    fi
+    echo "FAILED $1"
+    sed 's/^/    /' came
+}
+# ended NAME STDOUT: the program has served its connections
+ended() {
+    local got=0
+    wait "$served" || got=$?
+    judge "$1" 0 "$2" "$got"
+}
+
+# The link layer, polls, the restart bit, and what malformed requests are answered
+plan plan.toml
+serve --connections 2
+talks answers-a-master <<'LINES'
+link C9 0B
+link C0 00
+link F2 00
+> C0 01 3C 02 06 3C 03 06 3C 04 06 3C 01 06
+< C0 81 80 00 0A 02 01 00 00 05 00 01 01 01 01 01 01
+> C1 0D
+< C1 81 80 01
+> C2 01 6E 00 06
+< C2 81 80 02
+> C3 01 01 02 00 00 00
+< C3 81 80 04
+> C4 17
+< C4 81 80 00 34 02 07 01 00 00
+> C5 02 50 01 00 07 07 00
+< C5 81 00 00
+LINES
+# Select before operate, as the worked exchange has it
+talks operates-what-was-selected <<'LINES'
+> C3 03 0C 01 28 01 00 05 00 03 01 00 00 00 00 00 00 00 00 00
+< C3 81 00 00 0C 01 28 01 00 05 00 03 01 00 00 00 00 00 00 00 00 00
+> C4 04 0C 01 28 01 00 05 00 03 01 00 00 00 00 00 00 00 00 00
+< C4 81 00 00 0C 01 28 01 00 05 00 03 01 00 00 00 00 00 00 00 00 00
+> C4 04 0C 01 28 01 00 05 00 03 01 00 00 00 00 00 00 00 00 00
+< C4 81 00 00 0C 01 28 01 00 05 00 03 01 00 00 00 00 00 00 00 00 00
+> C5 01 0A 02 00 05 05
+< C5 81 00 00 0A 02 01 05 00 05 00 81
+> C5 04 0C 01 28 01 00 05 00 03 01 00 00 00 00 00 00 00 00 00
+< C5 81 00 00 0C 01 28 01 00 05 00 03 01 00 00 00 00 00 00 00 00 02
+> C4 04 0C 01 28 01 00 05 00 03 01 00 00 00 00 00 00 00 00 00
+< C4 81 00 00 0C 01 28 01 00 05 00 03 01 00 00 00 00 00 00 00 00 02
+> C6 03 0C 01 28 01 00 05 00 03 01 00 00 00 00 00 00 00 00 00
+< C6 81 00 00 0C 01 28 01 00 05 00 03 01 00 00 00 00 00 00 00 00 00
+wait 0.5
+> C7 04 0C 01 28 01 00 05 00 03 01 00 00 00 00 00 00 00 00 00
+< C7 81 00 00 0C 01 28 01 00 05 00 03 01 00 00 00 00 00 00 00 00 01
+> C8 06 0C 01 28 01 00 05 00 04 01 00 00 00 00 00 00 00 00 00
+nothing
+> C9 01 0A 02 00 05 05
+< C9 81 00 00 0A 02 01 05 00 05 00 01
+LINES
+ended counts-the-fragments "served 6
+served 10"
+
+# An unsolicited response first, which the master confirms; a READ waits for that
+plan plan.toml unsolicited=true
+serve
+talks reports-that-it-has-restarted <<'LINES'
+< F0 82 80 00
+> C0 00
+> C1 01 3C 02 06
+nothing
+> D0 00
+< C1 81 80 00
+LINES
+ended counts-confirms-too "served 3"
+
+# Noise, single octets, and masters that leave within a frame
+plan plan.toml
+serve --connections 32
+talks hears-through-noise <<'LINES'
+slow
+noise 00 05 64 05 64 05 C9 0A 00 02 00 00 00 FF
+link C9 0B
+> C0 17
+< C0 81 80 00 34 02 07 01 00 00
+reset
+LINES
+wanted='served 1'
+for count in {0..14}; do
+    for end in '' reset; do
+        printf 'cut %s C0 17\n%s\n' "$count" "$end" | talks "stands-when-left-after:$count $end"
+        wanted+=$'\nserved 0'
+    done
+done
+echo 'cut 15 C0 17' | talks stands-when-left-unanswered
+ended serves-on-after-each "$wanted"$'\nserved 1'
+
+# What keeps it from serving
+serve --connections 2
+echo | talks serves-nothing
+mv out first
+got=0
+"$dnp" outstation --plan plan.toml --station 0 --port "$port" >out 2>err </dev/null || got=$?
+judge stops-where-the-port-is-in-use 3 '' "$got"
+says tells-that-the-port-is-in-use "dnp: port $port: Address already in use (os error 98)"
+echo | talks serves-on-after-another-call
+mv first out
+ended serves-nothing-twice $'served 0\nserved 0'
+rules="--port $port --station 0"
+expect has-no-plan 3 '' '' outstation --plan none.toml $rules
+says tells-that-it-has-no-plan 'dnp: none.toml: No such file or directory (os error 2)'
+# refuses NAME NUMBER KEY=VALUE..
+refuses() {
+    local name=$1 number=$2
+    shift 2
+    plan wrong.toml "$@"
+    expect "$name" 1 "refused plan $number" '' outstation --plan wrong.toml $rules
+}
+refuses takes-no-text-that-is-no-toml 1 'binary=['
+refuses takes-no-unknown-key 2 'colour=3'
+refuses takes-no-fourth-retry 3 retries=4
+refuses takes-no-class-4 4 'binary=[4]'
+refuses takes-no-index-over-65535 5 'binary=[1, 1]' 'base=[65535, 0, 0, 0, 0]'
+{ cat plan.toml && sed -n '/substation/,$p' plan.toml; } >wrong.toml
+expect takes-no-shared-index 1 'refused plan 6' '' outstation --plan wrong.toml $rules
+printf '\xff' >wrong.toml
+expect takes-no-plan-that-is-no-text 1 'refused plan 1' '' outstation --plan wrong.toml $rules
+expect takes-no-station-of-another-plan 2 '' '' outstation --plan plan.toml --port "$port" --station 1
+expect refuses-the-plan-before-the-station 1 'refused plan 1' '' outstation --plan wrong.toml --port "$port" --station 1
+for words in '' '--station 0' "$rules" '--plan plan.toml --port 0 --station 0' '--plan none.toml --port 65536 --station 0' \
+    '--plan none.toml --port +1 --station 0' "--plan none.toml --port $port --station x" "--plan none.toml $rules --connections 0" \
+    "--plan none.toml $rules --connections 1000001" "--plan none.toml $rules --rounds 1"; do
+    expect "takes-no-words:outstation $words" 2 '' '' outstation $words
+done
+for name in concentrate centre; do
+    expect "is-not-there-yet:$name" 2 '' '' $name --plan plan.toml --port "$port"
+done
+
+# What Debian's tshark reads in a capture of what the station sends, where it is installed and may capture
+if tshark -D 2>/dev/null | grep -qw lo; then
+    serve
+    tshark -i lo -f "tcp port $port" -a duration:8 -w capture >/dev/null 2>watched &
+    watching=$!
+    for _ in {1..50}; do
+        grep -q Capturing watched && break
+        sleep 0.1
+    done
+    sleep 1
+    talks answers-under-a-capture <<'LINES'
+link C9 0B
+> C0 01 3C 02 06 3C 03 06 3C 04 06 3C 01 06
+< C0 81 80 00 0A 02 01 00 00 05 00 01 01 01 01 01 01
+> C1 02 50 01 00 07 07 00
+< C1 81 00 00
+> C2 05 0C 01 28 01 00 05 00 03 01 00 00 00 00 00 00 00 00 00
+< C2 81 00 00 0C 01 28 01 00 05 00 03 01 00 00 00 00 00 00 00 00 00
+LINES
+    ended counts-under-a-capture 'served 3'
+    wait "$watching"
+    # sent FILTER: how many packets of the station's the filter finds
+    sent() { tshark -r capture -d "tcp.port==$port,dnp3" -Y "tcp.srcport == $port and dnp3 and ($1)" 2>/dev/null | wc -l; }
+    echo "$(sent 'dnp3.al.func == 0x81 or dnp3.ctl.secfunc == 11') $(sent '_ws.malformed or _ws.expert.severity >= 0x600000')" >out
+    judge is-read-without-a-complaint 0 '4 0' 0
+else
+    echo "(no capture: there is no tshark, or it may not capture)"
+fi
