@@ -43,3 +43,24 @@ pub mod JoinedEvents
 pub mod JoinedHappenings
 pub mod JoinedRuns
 pub mod JoinedConclusions
+pub mod MasterTakes
+mod SystemPlaces
+mod SystemArrivals
+mod SystemTasks
+mod SystemComing
+mod SystemRuns
+mod SystemSteps
+mod SystemReadings
+mod SystemCounts
+mod ByStations
+mod Headline
+mod Turning
+mod SystemBeginning
+mod Books
+mod ListedAt
+mod SystemMapping
+mod BelowKeeps
+mod BelowEvents
+mod BelowSteps
+mod Issuing
+mod NewSubstations

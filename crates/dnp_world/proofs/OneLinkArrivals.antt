@@ -47,7 +47,7 @@ none_first : (rows events : List Row) → events ≡ [] → take (length events)
 none_first rows events e =
     ap (λ (xs : List Row). take (length xs) rows) e ∙ sym e
 
-events_first : (s : master.State) (octets : List ℕ) (t : Taking) → PassesOver s t ⊎ (TakesResponse s octets t ⊎ TakesReport s octets t)
+pub events_first : (s : master.State) (octets : List ℕ) (t : Taking) → PassesOver s t ⊎ (TakesResponse s octets t ⊎ TakesReport s octets t)
     → take (length t.events) (rows_in octets) ≡ t.events
 events_first s octets t h =
     elim h [

@@ -29,7 +29,7 @@ runs_more takes old mid new [] event ran h =
 runs_more takes old mid new (first ∷ events) event ran h =
     (ran.0, ran.1, runs_more takes ran.0 mid new events event ran.2 h)
 
-take_more : {A : Type 0} (xs : List A) (k : ℕ) (d : A) → k < length xs → take (suc k) xs ≡ take k xs ++ get_or xs k d ∷ []
+pub take_more : {A : Type 0} (xs : List A) (k : ℕ) (d : A) → k < length xs → take (suc k) xs ≡ take k xs ++ get_or xs k d ∷ []
 take_more [] k d low = absurd (omega arith)
 take_more (x ∷ xs) zero d low = refl
 take_more (x ∷ xs) (suc k) d low = ap (λ (ys : List _). x ∷ ys) (take_more xs k d (omega (arith, low)))
@@ -49,7 +49,7 @@ pub all_done : {S : Type 0} (takes : S → List Row → List Row → List Row �
 all_done takes old new events k high ran =
     subst (λ (es : List LinkEvent). RunsTo takes old es new) (take_all k events high) ran
 
-get_some : {A : Type 0} (xs : List A) (k : ℕ) (d : A) → k < length xs → slice_get xs k ≡ Some (get_or xs k d)
+pub get_some : {A : Type 0} (xs : List A) (k : ℕ) (d : A) → k < length xs → slice_get xs k ≡ Some (get_or xs k d)
 get_some [] k d low = absurd (omega arith)
 get_some (x ∷ xs) zero d low = refl
 get_some (x ∷ xs) (suc k) d low = get_some xs k d (omega (arith, low))

@@ -135,7 +135,7 @@ kept_at_end now step =
     kept_by (s.core.times.unsolicited && (s.core.announced && (s.core.is_open && (is_free s.core && has_enabled_rows s)))) step now
     (content_from (pushed s.lanes s.core.enabled))
 
-dropped_length : (b : Bool) (rows : List Numbered) → length (if b then map row_of (take 1 rows) else []) ≤ 1
+pub dropped_length : (b : Bool) (rows : List Numbered) → length (if b then map row_of (take 1 rows) else []) ≤ 1
 dropped_length true [] = omega arith
 dropped_length true (x ∷ rows) = omega arith
 dropped_length false rows = omega arith

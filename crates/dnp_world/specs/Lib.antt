@@ -10,4 +10,15 @@ pub mod MasterSeen
 pub mod OneLinkEvents
 pub mod OneLinkParts
 pub mod Channels
+pub mod MasterEnds
 pub mod Joined
+pub mod Stationed
+pub mod Systems
+pub mod Stations
+pub mod Reports
+pub mod Kept
+pub mod Behind
+pub mod SystemStanding
+pub mod SystemEvents
+pub mod SystemParts
+pub mod FreshSystems

@@ -1,20 +1,28 @@
 //! The lines between the two stations of a link.
 
-ghost use Rattle.std.specs.Prelude.{◌≡◌, ℕ, true, false, IfOk, OnErr, OnOk, List};
-ghost use Rattle.dnp_line.specs.Lines.{quiet_line};
+ghost use Rattle.std.specs.Prelude.{◌≡◌, ◌<◌, ◌≤◌, ℕ, true, false, if◌then◌else◌, IfOk, OnErr, OnOk, List, [], ◌∷◌, ◌++◌, length, option_to_list};
+ghost use Rattle.dnp_line.specs.Lines.{front_of, quiet_line, room_of};
 ghost use Rattle.dnp_line.specs.Ports.{IsShown, new_port, reset_of};
-ghost use Rattle.dnp_outstation.specs.Calls.{connection_after, opened_of, tick_of};
+ghost use Rattle.dnp_line.specs.Ways.{HearsIfAny};
+ghost use Rattle.dnp_master.specs.Calls.{receive_of};
+ghost use Rattle.dnp_outstation.specs.Calls.{connection_after, opened_of, performed_in, tick_of};
 ghost use Rattle.dnp_outstation.specs.Station.{actions_of};
-ghost use Rattle.dnp_world.specs.Channels.{state_of, cleared, hung_up_at, GoUp, ComesToOutstation};
+ghost use Rattle.dnp_world.specs.Channels.{state_of, cleared, hung_up_at, left_at, left_by, line_of, lost_at, DamagesAt, GoDown, GoUp, ComesToOutstation};
+ghost use Rattle.dnp_world.specs.MasterEnds.{ComesToMaster, TakesBy};
 
-use crate::ends::OutstationEnd;
+use crate::ends::{MasterEnd, OutstationEnd};
+use crate::event::Damaged;
 use crate::link_event::{End, Way};
-use crate::sending::{FRAGMENT_UNITS, hear, send_all, shows};
-use crate::stopped::Cause;
+use crate::listing::events_of;
+use crate::sending::{FRAGMENT_UNITS, hear, send, send_all, send_confirm, shows};
+use crate::stopped::{Cause, cause_of};
 use arrayvec::ArrayVec;
 use dnp_line::{Line, Port};
 use dnp_linkframe::MAX_UNIT;
+use dnp_master::laws::what_comes_is_taken_or_passed_over;
+use dnp_objects::Row;
 use dnp_outstation::Actions;
+use dnp_transport::MAX_FRAGMENT;
 use std::alloc::Global;
 
 /// The lines between an outstation and its master, one each way, and the ports at their ends.
@@ -83,6 +91,84 @@ impl Channel {
         }
     }
 
+    /// How many units stand on the line of this way.
+    pub fn standing(&self, way: Way) -> usize
+        ensures { result ≡ length (line_of way (state_of self.now)).units }
+    {
+        match way {
+            Way::Down => self.down.len(),
+            Way::Up => self.up.len(),
+        }
+    }
+
+    /// The front unit of this way is lost.
+    pub fn lose(&mut self, way: Way)
+        ensures { state_of self.new ≡ lost_at way (state_of self.old) }
+    {
+        match way {
+            Way::Down => self.down.lose(),
+            Way::Up => self.up.lose(),
+        }
+    }
+
+    /// The octets of the front unit of this way become these.
+    pub fn damage(&mut self, way: Way, octets: &Damaged)
+        ensures { DamagesAt way octets.now (state_of self.old) (state_of self.new) }
+    {
+        match way {
+            Way::Down => self.down.damage(octets.as_slice()),
+            Way::Up => self.up.damage(octets.as_slice()),
+        }
+    }
+
+    /// The line of this way has given its front unit, which stays on it where the unit is to be repeated.
+    pub fn settle(&mut self, way: Way, repeats: bool)
+        ensures { state_of self.new ≡ left_at way repeats (state_of self.old) }
+    {
+        match (way, repeats) {
+            (Way::Down, true) => {
+                let _ = self.down.repeat();
+            }
+            (Way::Down, false) => {
+                let _ = self.down.deliver();
+            }
+            (Way::Up, true) => {
+                let _ = self.up.repeat();
+            }
+            (Way::Up, false) => {
+                let _ = self.up.deliver();
+            }
+        }
+    }
+
+    /// Reserves room for one fragment more on the line down.
+    pub fn reserve_down(&mut self) -> Result<(), Cause>
+        ensures same { state_of self.new ≡ state_of self.old }
+        ensures room { OnOk result (FRAGMENT_UNITS ≤ room_of self.new.down) }
+    {
+        self.down.reserve(FRAGMENT_UNITS)?;
+        Ok(())
+    }
+
+    /// Sends a fragment down, where there is room for it. An empty one is not sent.
+    pub fn send_down(&mut self, fragment: &[u8])
+        requires fits { length fragment.now ≤ MAX_FRAGMENT }
+        requires room { FRAGMENT_UNITS ≤ room_of self.old.down }
+        ensures { 0 < length fragment.now → GoDown (fragment.now ∷ []) (state_of self.old) (state_of self.new) }
+    {
+        if !fragment.is_empty() {
+            send(&mut self.down, &mut self.master_port, fragment);
+        }
+    }
+
+    /// Sends a confirm down, if there is one, where there is room for it.
+    pub fn confirm(&mut self, confirm: Option<[u8; 2]>)
+        requires { FRAGMENT_UNITS ≤ room_of self.old.down }
+        ensures { GoDown (option_to_list confirm) (state_of self.old) (state_of self.new) }
+    {
+        send_confirm(&mut self.down, &mut self.master_port, confirm);
+    }
+
     /// Clears both lines and resets both ports, and then opens the outstation's end. What that does is put into the
     /// actions. Where it refuses, nothing is cleared.
     pub fn open<E: OutstationEnd>(
@@ -96,6 +182,7 @@ impl Channel {
         ensures opened { E.honest end.new → OnOk result (
             (opened_of (E.state end.old) now ≡ record { state = E.state end.new; does = actions_of actions.new })
             × GoUp (actions_of actions.new).send (cleared (state_of self.old)) (state_of self.new)) }
+        ensures beside { E.follows end.old [] end.new }
         ensures unchanged { E.honest end.new → OnErr result (E.state end.new ≡ E.state end.old) }
         ensures lines { OnErr result (state_of self.new ≡ state_of self.old) }
     {
@@ -119,6 +206,7 @@ impl Channel {
         ensures ticked { E.honest end.new → OnOk result (
             (tick_of (E.state end.old) now ≡ record { state = E.state end.new; does = actions_of actions.new })
             × GoUp (actions_of actions.new).send (state_of self.old) (state_of self.new)) }
+        ensures beside { E.follows end.old [] end.new }
         ensures unchanged { E.honest end.new → OnErr result (E.state end.new ≡ E.state end.old) }
         ensures lines { OnErr result (state_of self.new ≡ state_of self.old) }
     {
@@ -140,8 +228,10 @@ impl Channel {
         ensures held { E.honest end.new → E.honest end.old }
         ensures answered { E.honest end.new → OnOk result ((fragment : List ℕ) × IsShown self.old.outstation_port fragment
             × (connection_after (E.state end.old) (E.panel end.old) now fragment ≡ record { state = E.state end.new; does = actions_of actions.new })
-            × GoUp (actions_of actions.new).send (state_of self.old) (state_of self.new)) }
+            × GoUp (actions_of actions.new).send (state_of self.old) (state_of self.new)
+            × E.follows end.old (performed_in (E.state end.old).core (E.panel end.old) now fragment) end.new) }
         ensures unchanged { E.honest end.new → OnErr result (E.state end.new ≡ E.state end.old) }
+        ensures kept { E.honest end.new → OnErr result (E.keeps end.old end.new) }
         ensures lines { OnErr result (state_of self.new ≡ state_of self.old) }
     {
         self.up.reserve(2 * FRAGMENT_UNITS)?;
@@ -161,9 +251,10 @@ impl Channel {
         end: &mut E,
     ) -> Result<bool, Cause>
         ensures held { E.honest end.new → E.honest end.old }
-        ensures came { E.honest end.new → IfOk result (λ answered. ComesToOutstation (E.panel end.old) now (E.state end.old) (E.state end.new)
+        ensures came { E.honest end.new → IfOk result (λ answered. ComesToOutstation (λ commands. E.follows end.old commands end.new) (E.panel end.old) now (E.state end.old) (E.state end.new)
             (actions_of actions.new) answered (state_of self.old) (state_of self.new)) }
         ensures unchanged { E.honest end.new → OnErr result (E.state end.new ≡ E.state end.old) }
+        ensures kept { E.honest end.new → OnErr result (E.keeps end.old end.new) }
         ensures lines { OnErr result (state_of self.new ≡ state_of self.old) }
     {
         let kept = self.outstation_port.copy();
@@ -179,5 +270,90 @@ impl Channel {
             }
         }
         Ok(whole)
+    }
+
+    /// The front unit comes to the master's port, and stays on the line. Whether it completed a fragment, which the port
+    /// then shows.
+    fn hear_up(&mut self) -> bool
+        ensures heard { (fragment : List ℕ) → IsShown self.new.master_port fragment
+            → HearsIfAny (front_of (state_of self.old).up) (state_of self.old).master_port (state_of self.new).master_port [] (if result then fragment ∷ [] else []) }
+        ensures shown { (fragment : List ℕ) × IsShown self.new.master_port fragment }
+        ensures rest { state_of self.new ≡ record (state_of self.old) { master_port = self.new.master_port } }
+    {
+        let whole = match self.up.front() {
+            Some(unit) => hear(&mut self.master_port, unit),
+            None => false,
+        };
+        shows(&self.master_port);
+        whole
+    }
+
+    /// The master's end takes in the fragment that its port shows. What its stores drop for it is put behind the rows. Where
+    /// it refuses, the lines, the ports and the rows stay.
+    fn take_up<E: MasterEnd>(
+        &mut self,
+        alloc: Global,
+        link: u8,
+        now: u64,
+        end: &mut E,
+        dropped: &mut Vec<Row>,
+    ) -> Result<(), Cause>
+        requires { E.has end.old link }
+        ensures held { E.honest end.new → E.honest end.old }
+        ensures took { E.honest end.new → OnOk result ((fragment : List ℕ) × IsShown self.old.master_port fragment
+            × TakesBy (receive_of (E.master end.old link) now fragment)
+            (λ t. E.takes end.old link t end.new × (dropped.new.items ≡ dropped.old.items ++ E.drops end.old link t))
+            (E.keeps end.old end.new × (dropped.new.items ≡ dropped.old.items)) (state_of self.old) (state_of self.new)) }
+        ensures kept { E.honest end.new → OnErr result (E.keeps end.old end.new) }
+        ensures lines { OnErr result (state_of self.new ≡ state_of self.old) }
+        ensures unlisted { OnErr result (dropped.new.items ≡ dropped.old.items) }
+    {
+        what_comes_is_taken_or_passed_over();
+        let fragment = self.master_port.fragment();
+        let events = events_of(alloc, fragment)?;
+        dropped.reserve(events.len())?;
+        self.down.reserve(FRAGMENT_UNITS)?;
+        match end.take_in(alloc, link, now, fragment) {
+            Ok(actions) => {
+                self.confirm(actions.send);
+                let _ = dropped.extend_from_slice(actions.dropped.as_slice());
+                Ok(())
+            }
+            Err(fault) => match cause_of(fault) {
+                Some(cause) => Err(cause),
+                None => Ok(()),
+            },
+        }
+    }
+
+    /// The front unit comes to the master's end, and stays on the line where it is repeated. What the stores there drop for
+    /// what it brings is put behind the rows. Where they refuse, the lines, the ports and the rows stay.
+    pub fn come_up<E: MasterEnd>(
+        &mut self,
+        alloc: Global,
+        link: u8,
+        now: u64,
+        repeats: bool,
+        end: &mut E,
+        dropped: &mut Vec<Row>,
+    ) -> Result<(), Cause>
+        requires { E.has end.old link }
+        ensures held { E.honest end.new → E.honest end.old }
+        ensures came { E.honest end.new → OnOk result (ComesToMaster (left_by repeats) (E.master end.old link) now
+            (λ t. E.takes end.old link t end.new × (dropped.new.items ≡ dropped.old.items ++ E.drops end.old link t))
+            (E.keeps end.old end.new × (dropped.new.items ≡ dropped.old.items)) (state_of self.old) (state_of self.new)) }
+        ensures kept { E.honest end.new → OnErr result (E.keeps end.old end.new) }
+        ensures lines { OnErr result (state_of self.new ≡ state_of self.old) }
+        ensures unlisted { OnErr result (dropped.new.items ≡ dropped.old.items) }
+    {
+        let kept = self.master_port.copy();
+        if self.hear_up() {
+            if let Err(cause) = self.take_up(alloc, link, now, end, dropped) {
+                self.master_port = kept;
+                return Err(cause);
+            }
+        }
+        self.settle(Way::Up, repeats);
+        Ok(())
     }
 }

@@ -1,20 +1,26 @@
 //! The stations at the ends of a link.
 
-ghost use Rattle.std.specs.Prelude.{◌≡◌, ◌≤◌, All, OnOk, OnErr, length};
+ghost use Rattle.std.specs.Prelude.{◌≡◌, ◌≢◌, ◌<◌, ◌≤◌, All, List, [], OnOk, OnErr, false, length, refl, ⊤};
 ghost use Rattle.dnp_controls.specs.Panel.{Panel};
-ghost use Rattle.dnp_outstation.specs.Calls.{opened_of, connection_after, tick_of};
+ghost use Rattle.dnp_outstation.specs.Calls.{opened_of, connection_after, performed_in, tick_of};
 ghost use Rattle.dnp_outstation.specs.Parts.{lanes_of, outputs_of, whole_of};
 ghost use Rattle.dnp_outstation.specs.State.{State};
 ghost use Rattle.dnp_outstation.specs.Station.{actions_of};
-ghost use Rattle.dnp_concentrator.specs.BookOutputs.{panel_of};
+ghost use Rattle.dnp_concentrator.specs.BookOutputs.{panel_of, Performs};
+ghost use Rattle.dnp_concentrator.specs.Centre as centre;
 ghost use Rattle.dnp_concentrator.specs.Concentrator as concentrator;
-ghost use Rattle.dnp_concentrator.specs.Concentrator.{above_of, queue_of, IsBookWell};
-ghost use Rattle.dnp_world.specs.Channels.{TakesStep};
+ghost use Rattle.dnp_concentrator.specs.Concentrator.{above_of, links_of, queue_of, IsBookWell};
+ghost use Rattle.dnp_master.specs.Calls.{receive_of};
+ghost use Rattle.dnp_world.specs.Channels.{HavePerformed, TakesStep};
+ghost use Rattle.dnp_world.specs.MasterEnds.{TakesIn};
+ghost use Rattle.dnp_world.specs.SystemEvents.{centre_taken, concentrator_taken, dropped_for};
+ghost use Rattle.dnp_world.specs.SystemParts.{centre_of, concentrator_of};
 
 use crate::stopped::Cause;
-use dnp_concentrator::Concentrator;
+use dnp_concentrator::{Centre, Concentrator};
 use dnp_controls::{Book, Outputs};
-use dnp_eventbuf::Lanes;
+use dnp_eventbuf::{JournalStore, Lanes};
+use dnp_master::{MasterActions, MasterFault};
 use dnp_outstation::{Actions, Outstation};
 use std::alloc::Global;
 
@@ -24,6 +30,8 @@ use std::alloc::Global;
 /// What a call promises of the outstation's state holds where the stores under it are honest as the call ends. What it
 /// does is put into the actions, in place of what was there.
 pub trait OutstationEnd {
+    ghost use Rattle.std.specs.Prelude.{List, []};
+    ghost use Rattle.dnp_objects.specs.declared.command.Command.{Command};
     ghost use Rattle.dnp_outstation.specs.State.{State};
     ghost use Rattle.dnp_controls.specs.Panel.{Panel};
 
@@ -36,9 +44,17 @@ pub trait OutstationEnd {
     /// The stores under it are honest.
     ghost honest: { Self → Type 0 };
 
+    /// It comes of another by performing these commands, whatever its state became: what is no part of the state has
+    /// not changed otherwise.
+    ghost follows: { Self → List Command → Self → Type 0 };
+
+    /// What is no part of its state is what it was, as far as its outputs show it.
+    ghost keeps: { Self → Self → Type 0 };
+
     /// A connection begins, at this moment, in milliseconds.
     fn opened(&mut self, actions: &mut Actions, alloc: Global, now: u64) -> Result<(), Cause>
-        ensures { TakesStep honest state (opened_of (state self.old) now) self.old self.new (actions_of actions.new) result };
+        ensures beside { follows self.old [] self.new }
+        ensures step { TakesStep honest state follows keeps (opened_of (state self.old) now) [] self.old self.new (actions_of actions.new) result };
 
     /// A fragment came from the master.
     fn receive(
@@ -48,11 +64,18 @@ pub trait OutstationEnd {
         now: u64,
         octets: &[u8],
     ) -> Result<(), Cause>
-        ensures { TakesStep honest state (connection_after (state self.old) (panel self.old) now octets.now) self.old self.new (actions_of actions.new) result };
+        ensures { TakesStep honest state follows keeps (connection_after (state self.old) (panel self.old) now octets.now) (performed_in (state self.old).core (panel self.old) now octets.now) self.old self.new (actions_of actions.new) result };
 
     /// Time has passed.
     fn tick(&mut self, actions: &mut Actions, alloc: Global, now: u64) -> Result<(), Cause>
-        ensures { TakesStep honest state (tick_of (state self.old) now) self.old self.new (actions_of actions.new) result };
+        ensures beside { follows self.old [] self.new }
+        ensures step { TakesStep honest state follows keeps (tick_of (state self.old) now) [] self.old self.new (actions_of actions.new) result };
+
+    /// Where nothing was performed it follows itself.
+    ghost follows_itself: { (s : Self) → follows s [] s };
+
+    /// It keeps what it is.
+    ghost keeps_itself: { (s : Self) → keeps s s };
 }
 
 impl<L: Lanes, O: Outputs> OutstationEnd for Outstation<L, O> {
@@ -61,6 +84,14 @@ impl<L: Lanes, O: Outputs> OutstationEnd for Outstation<L, O> {
     ghost panel = { λ o. O.panel (outputs_of o) };
 
     ghost honest = { λ o. L.honest (lanes_of o) × O.honest (outputs_of o) };
+
+    ghost follows = { λ old commands new. HavePerformed O.performs commands (outputs_of old) (outputs_of new) };
+
+    ghost keeps = { λ old new. O.panel (outputs_of new) ≡ O.panel (outputs_of old) };
+
+    ghost follows_itself = { λ o. record { idle = λ _. refl; performed = λ some. absurd (some refl) } };
+
+    ghost keeps_itself = { λ o. refl };
 
     fn opened(&mut self, actions: &mut Actions, alloc: Global, now: u64) -> Result<(), Cause> {
         *actions = self.opened(alloc, now)?;
@@ -91,6 +122,14 @@ impl<Q: Lanes, B: Book> OutstationEnd for Concentrator<Q, B> {
 
     ghost honest = { λ c. Q.honest (queue_of c) × IsBookWell B.honest B.is_stopped c };
 
+    ghost follows = { λ old commands new. HavePerformed (Performs B.contents) commands (concentrator.outputs_of old) (concentrator.outputs_of new) × (links_of new ≡ links_of old) };
+
+    ghost keeps = { λ old new. (panel_of B.contents (concentrator.outputs_of new) ≡ panel_of B.contents (concentrator.outputs_of old)) × (links_of new ≡ links_of old) };
+
+    ghost follows_itself = { λ c. (record { idle = λ _. refl; performed = λ some. absurd (some refl) }, refl) };
+
+    ghost keeps_itself = { λ c. (refl, refl) };
+
     fn opened(&mut self, actions: &mut Actions, alloc: Global, now: u64) -> Result<(), Cause> {
         self.opened_above(actions, alloc, now)?;
         Ok(())
@@ -110,5 +149,100 @@ impl<Q: Lanes, B: Book> OutstationEnd for Concentrator<Q, B> {
     fn tick(&mut self, actions: &mut Actions, alloc: Global, now: u64) -> Result<(), Cause> {
         self.tick_above(actions, alloc, now)?;
         Ok(())
+    }
+}
+
+/// What stands at the master's end of a link: a station with a master, or one with several, each of a link of its own
+/// (IEEE Std 1815-2012, application layer).
+///
+/// What a call promises holds where the stores under the station are honest as the call ends.
+pub trait MasterEnd {
+    ghost use Rattle.std.specs.Prelude.{ℕ, List};
+    ghost use Rattle.dnp_objects.specs.declared.row.Row.{Row};
+    ghost use Rattle.dnp_master.specs.Calls.{Taking};
+    ghost use Rattle.dnp_master.specs.State.{State as MasterState};
+
+    /// It has a link of this number.
+    ghost has: { Self → ℕ → Type 0 };
+
+    /// The master of the link.
+    ghost master: { Self → ℕ → MasterState };
+
+    /// The stores under it are honest.
+    ghost honest: { Self → Type 0 };
+
+    /// It comes of another that took this on the link.
+    ghost takes: { Self → ℕ → Taking → Self → Type 0 };
+
+    /// The rows that its stores drop for what it takes on the link.
+    ghost drops: { Self → ℕ → Taking → List Row };
+
+    /// It is what it was.
+    ghost keeps: { Self → Self → Type 0 };
+
+    /// A fragment came on the link.
+    fn take_in(
+        &mut self,
+        alloc: Global,
+        link: u8,
+        now: u64,
+        octets: &[u8],
+    ) -> Result<MasterActions, MasterFault>
+        requires { has self.old link }
+        ensures { TakesIn honest (λ t. takes self.old link t self.new) (drops self.old link) (keeps self.old self.new) (receive_of (master self.old link) now octets.now) self.old self.new result };
+
+    /// It keeps what it is.
+    ghost keeps_itself: { (s : Self) → keeps s s };
+}
+
+impl<Q: Lanes, B: Book> MasterEnd for Concentrator<Q, B> {
+    ghost has = { λ c link. link < length (links_of c) };
+
+    ghost master = { λ c link. (concentrator.link_at c link).master };
+
+    ghost honest = { λ c. Q.honest (queue_of c) × IsBookWell B.honest B.is_stopped c };
+
+    ghost takes = { λ old link t new. concentrator_of Q.contents B.contents new ≡ concentrator_taken (concentrator_of Q.contents B.contents old) link t };
+
+    ghost drops = { λ c link t. dropped_for (concentrator_of Q.contents B.contents c) link t };
+
+    ghost keeps = { λ old new. concentrator_of Q.contents B.contents new ≡ concentrator_of Q.contents B.contents old };
+
+    ghost keeps_itself = { λ c. refl };
+
+    fn take_in(
+        &mut self,
+        alloc: Global,
+        link: u8,
+        now: u64,
+        octets: &[u8],
+    ) -> Result<MasterActions, MasterFault> {
+        self.receive_below(alloc, link, now, octets)
+    }
+}
+
+impl<J: JournalStore, B: Book> MasterEnd for Centre<J, B> {
+    ghost has = { λ c link. ⊤ };
+
+    ghost master = { λ c link. (centre.link_of c).master };
+
+    ghost honest = { λ c. J.honest (centre.journal_of c) × B.honest (centre.book_of c) × (B.is_stopped (centre.book_of c) ≡ false) };
+
+    ghost takes = { λ old link t new. centre_of J.archive B.contents new ≡ centre_taken (centre_of J.archive B.contents old) t };
+
+    ghost drops = { λ c link t. [] };
+
+    ghost keeps = { λ old new. centre_of J.archive B.contents new ≡ centre_of J.archive B.contents old };
+
+    ghost keeps_itself = { λ c. refl };
+
+    fn take_in(
+        &mut self,
+        alloc: Global,
+        _link: u8,
+        now: u64,
+        octets: &[u8],
+    ) -> Result<MasterActions, MasterFault> {
+        self.receive(alloc, now, octets)
     }
 }

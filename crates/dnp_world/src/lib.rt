@@ -7,19 +7,27 @@
 mod channel;
 mod ends;
 mod event;
+mod history;
 pub mod joined_laws;
 pub mod laws;
 mod link_event;
 mod listing;
 pub mod master_laws;
+mod new_substations;
 mod one_link;
 pub mod outstation_laws;
+mod parts;
 mod report;
 mod sending;
+mod station_list;
 mod stopped;
+mod substation;
+pub mod system_laws;
+mod world;
 
 pub use event::{Damaged, Event, Link, Place};
 pub use link_event::{End, LinkEvent, Way};
 pub use one_link::OneLink;
 pub use report::Report;
 pub use stopped::{Cause, Stopped};
+pub use world::World;

@@ -1,5 +1,9 @@
 //! Why a list of events is not done to its end.
 
+ghost use Rattle.std.specs.Prelude.{IfNone};
+ghost use Rattle.dnp_master.specs.Sinks.{IsSinkFault};
+
+use dnp_master::MasterFault;
 use dnp_objects::StoreFault;
 use dnp_outstation::Fault;
 use std::alloc::AllocError;
@@ -55,5 +59,18 @@ impl From<StoreFault> for Cause {
             StoreFault::Memory => Cause::Memory,
             StoreFault::Device => Cause::Device,
         }
+    }
+}
+
+/// The cause at which a list of events stops, where a store refused what a master took or memory ran out. What the master
+/// refuses for itself is none: the message is lost.
+pub(crate) fn cause_of(fault: MasterFault) -> Option<Cause>
+    ensures { IfNone result (IsSinkFault fault → ⊥) }
+{
+    match fault {
+        MasterFault::Malformed | MasterFault::Stranger => None,
+        MasterFault::Exhausted => Some(Cause::Exhausted),
+        MasterFault::Memory => Some(Cause::Memory),
+        MasterFault::Device => Some(Cause::Device),
     }
 }

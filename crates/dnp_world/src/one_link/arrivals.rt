@@ -1,10 +1,9 @@
 //! What comes over the lines of a link.
 
-ghost use Rattle.std.specs.Prelude.{◌≡◌, List, ℕ, IfNone, OnErr, OnOk};
+ghost use Rattle.std.specs.Prelude.{◌≡◌, List, ℕ, OnErr, OnOk};
 ghost use Rattle.dnp_controls.specs.Latches.{no_panel};
 ghost use Rattle.dnp_line.specs.Ports.{IsShown};
 ghost use Rattle.dnp_master.specs.Calls.{receive_of};
-ghost use Rattle.dnp_master.specs.Sinks.{IsSinkFault};
 ghost use Rattle.dnp_outstation.specs.Calls.{connection_after};
 ghost use Rattle.dnp_world.specs.OneLinkEvents.{Receives, Steps, ComesDown, ComesUp, HappensOn, IsStopped, StopsAt};
 ghost use Rattle.dnp_world.specs.OneLinkParts.{link_of, lanes_of, sink_of};
@@ -15,29 +14,15 @@ use super::OneLink;
 use crate::link_event::Way;
 use crate::listing::{events_of, first_of, rows_waiting};
 use crate::sending::{FRAGMENT_UNITS, hear, send_all, send_confirm, shows};
-use crate::stopped::Cause;
+use crate::stopped::{Cause, cause_of};
 use arrayvec::ArrayVec;
 use dnp_eventbuf::{Lanes, Sink};
 use dnp_linkframe::MAX_UNIT;
-use dnp_master::MasterFault;
 use dnp_master::laws::what_comes_is_taken_or_passed_over;
 use dnp_outstation::link_laws::{
     a_confirm_releases_what_its_fragment_reported, each_case_says_what_came,
 };
 use std::alloc::Global;
-
-/// The cause at which a list of events stops, where the sink refused or memory ran out. What the master refuses for
-/// itself is none: the message is lost.
-fn cause_of(fault: MasterFault) -> Option<Cause>
-    ensures { IfNone result (IsSinkFault fault → ⊥) }
-{
-    match fault {
-        MasterFault::Malformed | MasterFault::Stranger => None,
-        MasterFault::Exhausted => Some(Cause::Exhausted),
-        MasterFault::Memory => Some(Cause::Memory),
-        MasterFault::Device => Some(Cause::Device),
-    }
-}
 
 impl<L: Lanes, S: Sink> OneLink<L, S> {
     /// The master takes in the fragment that its port shows.

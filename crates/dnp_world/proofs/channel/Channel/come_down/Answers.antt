@@ -13,7 +13,7 @@ returns-in_default-answer-clause-came g c = λ honest.
       given = answered.0 ∷ [];
       heard = heard_whole old.down c.in-Some.unit.now old.outstation_port c.hear-whole.new.port c.hear-whole.result answered.0 c.in-Some.ensures
           c.hear-whole.ensures answered.1 c.if-whole.true;
-      came = (c.if-whole.true, answered.2, answered.3);
+      came = (c.if-whole.true, answered.2, answered.3, answered.4);
     }
 
 pub returns-else-whole-clause-came : goal.returns-else-whole-clause-came
@@ -24,5 +24,5 @@ returns-else-whole-clause-came g c = λ honest.
       given = [];
       heard = heard_part old.down c.in-Some.unit.now old.outstation_port c.hear-whole.new.port c.hear-whole.result c.shows.ensures.0 c.in-Some.ensures
           c.hear-whole.ensures c.shows.ensures.1 c.if-whole.false;
-      came = (c.if-whole.false, refl, refl);
+      came = (c.if-whole.false, refl, refl, g.met.E.OutstationEnd.follows_itself _);
     }

@@ -1,6 +1,6 @@
 -- No more rows are released than waited.
 use Rattle.std.proofs.Common.{◌≡◌, ◌≤◌, ◌++◌, ◌∙◌, List, length, ap, subst, sym, arith}
-use Rattle.std.specs.Prelude.{is_ok}
+use Rattle.std.specs.Prelude.{is_ok, ⊤}
 use Rattle.std.proofs.lemmas.Bool.{false≢true}
 use Rattle.dnp_objects.specs.declared.row.Row.{Row}
 use Rattle.dnp_controls.specs.Latches.{no_panel}
@@ -10,7 +10,7 @@ use Rattle.dnp_outstation.specs.State.{State, Actions}
 use Rattle.dnp_outstation.specs.Station.{actions_of}
 use Rattle.dnp_world.specs.Channels.{ChannelState, state_of, ComesToOutstation}
 use Rattle.dnp_world.specs.OneLinkParts.{link_of}
-use Rattle.dnp_world.proofs.OneLinkComing.{comes, few_came}
+use Rattle.dnp_world.proofs.OneLinkComing.{comes, few_came, unfollowed}
 use Rattle.dnp_world.proofs.OneLinkLists.{extended}
 use Rattle.dnp_world.proofs.OneLinkSteps.{Laws}
 use Rattle.dnp_world.proofs.one_link.OneLink.come_down.Goals as goal
@@ -35,17 +35,17 @@ returns-then-answered-clause-done g c = λ honest.
     let first : ChannelState = state_of c.args.self.now.channel in
     let last : ChannelState = state_of c.come_down.new.self in
     let answered = c.in_ok-answered.answered in
-    let came : ComesToOutstation no_panel old.now before state does answered first last = c.in_ok-answered.ensures.came (honest, tt) in
+    let came : ComesToOutstation (λ _. ⊤) no_panel old.now before state does answered first last = unfollowed _ _ _ _ _ _ _ _ _ (c.in_ok-answered.ensures.came (honest, tt)) in
     let discarded : List Row = c.as_slice.result.now in
     let waits : c.rows_waiting-waiting.result ≡ length (rows_in before.lanes) = c.rows_waiting-waiting.ensures.count (c.come_down.ensures.held (honest, tt)).0 in
     let few : length discarded ≤ length (rows_in before.lanes) =
     subst (λ (rows : List Row). length rows ≤ length (rows_in before.lanes)) (sym c.as_slice.ensures)
-    (few_came laws no_panel old.now before state does answered first last came c.if-answered.true) in
+    (few_came laws (λ _. ⊤) no_panel old.now before state does answered first last came c.if-answered.true) in
     let released : List Row = c.extend_from_slice.new.self.items in
     let lists : released ≡ old.released ++ does.discarded =
     extended (is_ok c.extend_from_slice.result) c.reserve.new.self.items discarded released c.extend_from_slice.ensures.items
     (c.extend_from_slice.ensures.succeeds (omega (arith, few, waits, c.in_ok-reserve.ensures.ok)))
     ∙ ap (λ (rows : List Row). rows ++ discarded) c.in_ok-reserve.ensures.items ∙ ap (λ (rows : List Row). old.released ++ rows) c.as_slice.ensures in
-    comes no_panel old state does answered last released
-    (subst (λ (s : State). ComesToOutstation no_panel old.now s state does answered first last) same came)
+    comes (λ _. ⊤) no_panel old state does answered last released
+    (subst (λ (s : State). ComesToOutstation (λ _. ⊤) no_panel old.now s state does answered first last) same came)
     (λ _. lists) (λ none. absurd (false≢true (sym none ∙ c.if-answered.true)))

@@ -1,0 +1,250 @@
+-- Events on the link to a substation, which keep what stands behind the system.
+use Rattle.std.proofs.Common.{◌≡◌, ℕ, ◌<◌, ◌≤◌, ◌^◌, if◌then◌else◌, Bool, true, false, List, [], ◌∷◌, ◌++◌, length, drop, Some, refl, sym, ap, ◌∙◌, subst, append-nil, arith}
+use Rattle.std.specs.Prelude.{slice_get, slice_set, ⊤}
+use Rattle.std.proofs.lemmas.List.{drop_all}
+use Rattle.dnp_objects.specs.declared.command.Command.{Command}
+use Rattle.dnp_objects.specs.declared.row.Row.{Row}
+use Rattle.dnp_controls.specs.Latches.{PlainState, plain_panel, is_latched}
+use Rattle.dnp_concentrator.specs.Below.{link_in}
+use Rattle.dnp_concentrator.specs.Relaying.{Relaying}
+use Rattle.dnp_line.specs.Lines.{LineState, delivered_on, repeated_on}
+use Rattle.dnp_controls.specs.Panel.{Panel}
+use Rattle.dnp_eventbuf.specs.Stock.{rows_in, without_all}
+use Rattle.dnp_outstation.specs.Calls.{connection_after, restarted_core}
+use Rattle.dnp_outstation.specs.Connection.{closed}
+use Rattle.dnp_outstation.specs.State.{Step}
+use Rattle.dnp_world.specs.declared.link_event.End.TheVariants as end
+use Rattle.dnp_world.specs.declared.link_event.LinkEvent.{LinkEvent}
+use Rattle.dnp_world.specs.declared.link_event.LinkEvent.TheVariants as event
+use Rattle.dnp_world.specs.declared.link_event.Way.{Way}
+use Rattle.dnp_world.specs.declared.link_event.Way.TheVariants as way
+use Rattle.dnp_world.specs.declared.event.Link.TheVariants.{Below}
+use Rattle.dnp_world.specs.Behind.{rows_of}
+use Rattle.dnp_world.specs.Channels.{ChannelState, lost_at, hung_up_at}
+use Rattle.dnp_world.specs.Joined.{rows_made_by}
+use Rattle.dnp_world.specs.Link.{Link}
+use Rattle.dnp_world.specs.OneLinkEvents.{LinkState, HappensOn, ComesDown, ComeDown, Steps}
+use Rattle.dnp_world.specs.OutstationSeen.{ShowOctets}
+use Rattle.dnp_world.specs.Systems.{SubstationState, System, at_station, in_state, panel_of, station_of}
+use Rattle.dnp_world.specs.SystemEvents.{HangsUpOn, LosesOn, SubstationAnswers, SubstationSteps, ComesDownBelow, SubstationRestarts, with_substation}
+use Rattle.dnp_world.specs.SystemStanding.{RowLists, lists_of, no_sink, seen_below, IsJoinedBelow, IsStanding, Keeps}
+use Rattle.dnp_world.proofs.BelowKeeps.{Grounds, Gone, IsListed, changed_below, performs, below_keeps, some_of}
+
+-- ---- outputs
+
+-- outputs in memory show octets, whatever was performed
+octets_shown : (outputs : PlainState) → outputs.outputs ≤ 2 ^ 16 → ShowOctets (plain_panel outputs)
+octets_shown outputs few = record { outputs = few; status = λ index low. by (is_latched outputs.performed index) }
+  where
+    by : (b : Bool) → (if b then 0x81 else 0x01) < 2 ^ 8
+    by true = omega arith
+    by false = omega arith
+
+-- ---- the lists after it
+
+lists_as : (station : ℕ) (was is : SubstationState) (relays : List Relaying) (gone : Gone) (old : System) (c o g : List (ℕ × Row)) (p : List (ℕ × Command))
+    → c ≡ old.history.confirmed ++ at_station station gone.confirmed → o ≡ old.history.overwritten ++ at_station station gone.overwritten
+    → g ≡ old.history.gone ++ at_station station gone.emptied → p ≡ old.history.operated ++ at_station station (performs was is)
+    → record old {
+      substations = slice_set old.substations station is;
+      concentrator = record old.concentrator { links = relays };
+      history = record old.history { confirmed = c; overwritten = o; gone = g; operated = p };
+    } ≡ changed_below station was is relays gone old
+lists_as station was is relays gone old c o g p ec eo eg ep =
+    let with_lists : List (ℕ × Row) → List (ℕ × Row) → List (ℕ × Row) → List (ℕ × Command) → System = λ a b d e. record old {
+      substations = slice_set old.substations station is;
+      concentrator = record old.concentrator { links = relays };
+      history = record old.history { confirmed = a; overwritten = b; gone = d; operated = e };
+    } in
+    let c' : List (ℕ × Row) = old.history.confirmed ++ at_station station gone.confirmed in
+    let o' : List (ℕ × Row) = old.history.overwritten ++ at_station station gone.overwritten in
+    let g' : List (ℕ × Row) = old.history.gone ++ at_station station gone.emptied in
+    ap (λ x. with_lists x o g p) ec ∙ ap (λ x. with_lists c' x g p) eo ∙ ap (λ x. with_lists c' o' x p) eg ∙ ap (λ x. with_lists c' o' g' x) ep
+
+pub none_behind : {A : Type 0} (xs : List A) → xs ≡ xs ++ []
+none_behind xs = sym (append-nil xs)
+
+abbrev nothing_gone : Gone
+nothing_gone = record { confirmed = []; overwritten = []; emptied = [] }
+
+nothing_listed : (l : Link) → IsListed l nothing_gone (lists_of l)
+nothing_listed l = record { taken = refl; released = none_behind (rows_of l.released); left = none_behind (rows_of l.left) }
+
+pub no_performs : (was is : SubstationState) → is.outputs.performed ≡ was.outputs.performed → performs was is ≡ []
+no_performs was is same =
+    ap (λ (xs : List Command). drop (length was.outputs.performed) xs) same ∙ drop_all (length was.outputs.performed) was.outputs.performed (omega arith)
+
+-- the outputs of a substation that stands
+few_outputs : (old : System) (h : IsStanding old) (station : ℕ) (was : SubstationState) → slice_get old.substations station ≡ Some was
+    → was.outputs.outputs ≤ 2 ^ 16
+few_outputs old h station was there =
+    let joined_to : SubstationState → Type 0 = IsJoinedBelow old.now (link_in old.concentrator.links station) (h.links.below station) in
+    (some_of joined_to (slice_get old.substations station) was there (h.below station)).shown.outputs
+
+shown_with : (was is : SubstationState) → was.outputs.outputs ≤ 2 ^ 16 → is.outputs.outputs ≡ was.outputs.outputs → ShowOctets (panel_of is)
+shown_with was is few same = octets_shown is.outputs (subst (λ (n : ℕ). n ≤ 2 ^ 16) (sym same) few)
+
+-- ---- events at which no row is released or leaves
+
+-- the substation of the link by itself
+abbrev pub seen_at : System → ℕ → SubstationState → RowLists → LinkState ⊤
+seen_at old station substation lists = seen_below old.now (link_in old.concentrator.links station) substation lists
+
+pub quiet : Grounds → (old new : System) (h : IsStanding old) (station : ℕ) (was is : SubstationState) (e : LinkEvent)
+    → slice_get old.substations station ≡ Some was → is.outputs ≡ was.outputs
+    → HappensOn no_sink (panel_of was) (seen_at old station was (lists_of (h.links.below station))) e (seen_at old station is (lists_of
+    (h.links.below station)))
+    → new ≡ with_substation old station is → Keeps station (rows_made_by was.core.points (e ∷ [])) old new
+quiet grounds old new h station was is e there same happens after =
+    below_keeps grounds old new h station was is old.concentrator.links nothing_gone (lists_of
+    (h.links.below station)) e there
+    (λ i other. refl) (shown_with was is (few_outputs old h station was there) (ap (λ (o : PlainState). o.outputs) same))
+    (nothing_listed (h.links.below station)) happens
+    (after ∙ lists_as station was is old.concentrator.links nothing_gone old old.history.confirmed old.history.overwritten old.history.gone old.history.operated
+    (none_behind old.history.confirmed) (none_behind old.history.overwritten) (none_behind old.history.gone)
+    (none_behind old.history.operated
+    ∙ ap (λ (xs : List Command). old.history.operated ++ at_station station xs) (sym (no_performs was is (ap (λ (o : PlainState). o.performed) same)))))
+
+-- a line loses its front unit
+pub loses : Grounds → (old new : System) (station : ℕ) (way : Way) → IsStanding old → LosesOn (Below station) way old new → Keeps station [] old new
+loses grounds old new station w h e =
+    quiet grounds old new h station e.was (record e.was { channel = lost_at w e.was.channel }) (event.Lose w) e.there refl (by w)
+    (e.after ∙ ap (λ (s : SubstationState). with_substation old station s) (e.changed.1 ∙ ap (λ (c : ChannelState). record e.was {
+      channel =
+          c;
+    }) e.changed.0))
+  where
+    by : (v : Way) → HappensOn no_sink (panel_of e.was) (seen_at old station e.was (lists_of (h.links.below station))) (event.Lose v)
+        (seen_at old station (record e.was { channel = lost_at v e.was.channel }) (lists_of (h.links.below station)))
+    by way.Down = refl
+    by way.Up = refl
+
+-- the outstation hangs up
+pub hangs_up : Grounds → (old new : System) (station : ℕ) → IsStanding old → HangsUpOn (Below station) end.Outstation old new → Keeps station [] old new
+hangs_up grounds old new station h e =
+    quiet grounds old new h station e.was (record e.was {
+      core = closed e.was.core;
+      channel =
+          hung_up_at end.Outstation e.was.channel;
+    }) (event.HangUp end.Outstation) e.there
+    refl refl (e.after ∙ ap (λ (s : SubstationState). with_substation old station s) e.changed)
+
+-- ---- it restarts, and its lanes are emptied
+
+pub restarts : Grounds → (old new : System) (station : ℕ) → IsStanding old → SubstationRestarts station old new → Keeps station [] old new
+restarts grounds old new station h e =
+    let was : SubstationState = e.was in
+    let is : SubstationState = record was {
+      core = restarted_core was.core;
+      lanes = without_all was.lanes;
+      channel =
+          hung_up_at end.Outstation was.channel;
+    } in
+    let l : Link = h.links.below station in
+    let gone : Gone = record { confirmed = []; overwritten = []; emptied = rows_in was.lanes } in
+    let after : SubstationState → System = λ s. record (with_substation old station s) {
+      history = record old.history { gone = old.history.gone ++ at_station station (rows_in was.lanes) };
+    } in
+    below_keeps grounds old new h station was is old.concentrator.links gone
+    (record (lists_of l) { left = rows_of l.left ++ rows_in was.lanes }) (event.Restart end.Outstation) e.there (λ i other. refl)
+    (shown_with was is (few_outputs old h station was e.there) refl)
+    (record { taken = refl; released = none_behind (rows_of l.released); left = refl }) refl
+    (e.after ∙ ap after e.changed
+    ∙ lists_as station was is old.concentrator.links gone old old.history.confirmed old.history.overwritten
+    (old.history.gone ++ at_station station (rows_in was.lanes)) old.history.operated
+    (none_behind old.history.confirmed) (none_behind old.history.overwritten) refl
+    (none_behind old.history.operated ∙ ap (λ (xs : List Command). old.history.operated ++ at_station station xs) (sym (no_performs was is refl))))
+
+-- ---- steps of its outstation
+
+-- these were released besides
+abbrev with_released : RowLists → List Row → RowLists
+with_released lists released = record lists { released = lists.released ++ released }
+
+-- a step of the substation is a step of the link by itself
+stepped : (old : System) (station : ℕ) (step : Step) (base is : SubstationState) (lists : RowLists) → SubstationSteps step base.channel base is
+    → Steps step (seen_at old station base lists) (seen_at old station is (with_released lists step.does.discarded))
+stepped old station step base is lists steps =
+    let lines : ChannelState = record base.channel { up = is.channel.up; outstation_port = is.channel.outstation_port } in
+    record {
+      sent = steps.sent.sent;
+      after = ap (λ (s : SubstationState). seen_at old station s (with_released lists step.does.discarded))
+          (steps.after ∙ ap (λ (c : ChannelState). record (in_state base step.state) { channel = c }) steps.sent.after);
+    }
+
+-- a step that releases nothing, and at which these rows are dropped
+pub step_keeps : Grounds → (old new : System) (h : IsStanding old) (station : ℕ) (was is : SubstationState) (e : LinkEvent) (step : Step) (dropped : List Row)
+    → slice_get old.substations station ≡ Some was → step.does.discarded ≡ [] → SubstationSteps step was.channel was is
+    → ((s' : LinkState ⊤)
+    → Steps step (seen_at old station was (record (lists_of (h.links.below station)) { left = rows_of (h.links.below station).left ++ dropped })) s'
+    → HappensOn no_sink (panel_of was) (seen_at old station was (lists_of (h.links.below station))) e s')
+    → new ≡ record (with_substation old station is) {
+      history = record old.history {
+        overwritten = old.history.overwritten ++ at_station station dropped;
+        operated =
+            old.history.operated ++ at_station station (performs was is);
+      };
+    }
+    → Keeps station (rows_made_by was.core.points (e ∷ [])) old new
+step_keeps grounds old new h station was is e step dropped there none steps as_event after =
+    let l : Link = h.links.below station in
+    let gone : Gone = record { confirmed = step.does.discarded; overwritten = dropped; emptied = [] } in
+    let lists : RowLists = record (lists_of l) { left = rows_of l.left ++ dropped } in
+    let is' : SubstationState = record (in_state was step.state) { channel = is.channel } in
+    below_keeps grounds old new h station was is old.concentrator.links gone (with_released lists step.does.discarded) e there (λ i other. refl)
+    (shown_with was is (few_outputs old h station was there) (ap (λ (s : SubstationState). s.outputs.outputs) steps.after))
+    (record { taken = refl; released = refl; left = ap (λ (xs : List Row). rows_of l.left ++ xs) (none_behind dropped) })
+    (as_event (seen_at old station is (with_released lists step.does.discarded)) (stepped old station step was is lists steps))
+    (after
+    ∙ lists_as station was is old.concentrator.links gone old old.history.confirmed (old.history.overwritten ++ at_station station dropped) old.history.gone
+    (old.history.operated ++ at_station station (performs was is))
+    (none_behind old.history.confirmed ∙ ap (λ (xs : List Row). old.history.confirmed ++ at_station station xs) (sym none)) refl
+    (none_behind old.history.gone) refl)
+
+-- ---- the front unit comes to it
+
+-- what a fragment, or none, makes of the substation is what it makes of the link by itself
+answered : (old : System) (station : ℕ) (l : Link) (base is : SubstationState) (given : List (List ℕ)) (released : List Row)
+    → SubstationAnswers given old.now released base is
+    → ComeDown (panel_of base) given (seen_at old station base (lists_of l)) (seen_at old station is (with_released (lists_of l) released))
+answered old station l base is [] released (none, stays) =
+    ap (λ (s : SubstationState). seen_at old station s (with_released (lists_of l) released)) stays
+    ∙ ap (λ (xs : List Row). seen_at old station base (with_released (lists_of l) xs)) none
+    ∙ ap (λ (xs : List Row). seen_at old station base (record (lists_of l) { released = xs })) (append-nil (rows_of l.released))
+answered old station l base is (fragment ∷ others) released (released_is, steps) =
+    let step : Step = connection_after (station_of base) (panel_of base) old.now fragment in
+    subst (λ (xs : List Row). Steps step (seen_at old station base (lists_of l)) (seen_at old station is (with_released (lists_of l) xs))) (sym released_is)
+    (stepped old station step base is (lists_of l) steps)
+
+outputs_stay : (given : List (List ℕ)) (now : ℕ) (released : List Row) (base is : SubstationState) → SubstationAnswers given now released base is
+    → is.outputs.outputs ≡ base.outputs.outputs
+outputs_stay [] now released base is (none, stays) = ap (λ (s : SubstationState). s.outputs.outputs) stays
+outputs_stay (fragment ∷ others) now released base is (released_is, steps) = ap (λ (s : SubstationState). s.outputs.outputs) steps.after
+
+comes : Grounds → (left : LineState → LineState) (e : LinkEvent)
+    → ((s s' : LinkState ⊤) (panel : Panel) → ComesDown panel (left s.down) s s' → HappensOn no_sink panel s e s')
+    → (old new : System) (station : ℕ) → IsStanding old → (c : ComesDownBelow left station old new)
+    → Keeps station (rows_made_by c.came.was.core.points (e ∷ [])) old new
+comes grounds left e as_event old new station h c =
+    let was : SubstationState = c.came.was in
+    let is : SubstationState = c.came.is in
+    let x = c.came.changed in
+    let l : Link = h.links.below station in
+    let base : SubstationState = record was { channel = record was.channel { down = left was.channel.down; outstation_port = x.port } } in
+    let gone : Gone = record { confirmed = c.released; overwritten = []; emptied = [] } in
+    let lists : RowLists = record (lists_of l) { released = rows_of l.released ++ c.released } in
+    below_keeps grounds old new h station was is old.concentrator.links gone lists e c.came.there (λ i other. refl)
+    (shown_with was is (few_outputs old h station was c.came.there) (outputs_stay x.given old.now c.released base is x.came))
+    (record { taken = refl; released = refl; left = none_behind (rows_of l.left) })
+    (as_event (seen_at old station was (lists_of l)) (seen_at old station is lists) (panel_of was)
+    (record { port = x.port; given = x.given; heard = x.heard; came = answered old station l base is x.given c.released x.came }))
+    (c.came.after
+    ∙ lists_as station was is old.concentrator.links gone old
+    (old.history.confirmed ++ at_station station c.released) old.history.overwritten old.history.gone
+    (old.history.operated ++ at_station station (performs was is)) refl (none_behind old.history.overwritten) (none_behind old.history.gone) refl)
+
+pub delivers : Grounds → (old new : System) (station : ℕ) → IsStanding old → ComesDownBelow delivered_on station old new → Keeps station [] old new
+delivers grounds old new station h c = comes grounds delivered_on (event.Deliver way.Down) (λ s s' panel come. come) old new station h c
+
+pub repeats : Grounds → (old new : System) (station : ℕ) → IsStanding old → ComesDownBelow repeated_on station old new → Keeps station [] old new
+repeats grounds old new station h c = comes grounds repeated_on (event.Repeat way.Down) (λ s s' panel come. come) old new station h c

@@ -1,0 +1,254 @@
+-- An event on the link to a substation, at which its master takes no rows, keeps what stands behind the system.
+use Rattle.std.proofs.Common.{◌≡◌, ◌≢◌, ℕ, List, [], ◌∷◌, ◌++◌, length, drop, map, Option, Some, refl, sym, ap, ◌∙◌, subst, append-nil, arith}
+use Rattle.std.specs.Prelude.{slice_get, slice_set, IfSome, ⊤}
+use Rattle.std.specs.List.Sorted.{IsPermutation}
+use Rattle.std.proofs.lemmas.List.{map-append}
+use Rattle.std.proofs.lemmas.List.Sorted.{IsPermutation-refl}
+use Rattle.dnp_objects.specs.Counts.{IsCoveredBy}
+use Rattle.dnp_objects.specs.declared.command.Command.{Command}
+use Rattle.dnp_objects.specs.declared.row.Row.{Row}
+use Rattle.dnp_eventbuf.specs.Stock.{rows_in}
+use Rattle.dnp_concentrator.specs.Below.{link_in}
+use Rattle.dnp_concentrator.specs.Relaying.{Relaying}
+use Rattle.dnp_concentrator.specs.declared.span.Spans.{Spans}
+use Rattle.dnp_world.specs.declared.link_event.LinkEvent.{LinkEvent}
+use Rattle.dnp_world.specs.Behind.{does_nothing, Grows, Links, with_links, IsBehind, Turn, made_at, rows_of}
+use Rattle.dnp_world.specs.Joined.{Joined, rows_made_by}
+use Rattle.dnp_world.specs.Kept.{Kept, kept_in, lane_rows_of, shown_of, used_orders, used_commands}
+use Rattle.dnp_world.specs.Link.{Link}
+use Rattle.dnp_world.specs.Moves.{Done}
+use Rattle.dnp_world.specs.OneLinkEvents.{LinkState, HappensOn}
+use Rattle.dnp_world.specs.OutstationSeen.{ShowOctets}
+use Rattle.dnp_world.specs.Reports.{IsFate}
+use Rattle.dnp_world.specs.Stations.{of_station, HasSameCounts}
+use Rattle.dnp_world.specs.Systems.{SubstationState, System, at_station, panel_of}
+use Rattle.dnp_world.specs.SystemStanding.{RowLists, lists_of, no_sink, seen_below, IsJoinedBelow, IsStanding, Keeps, GoesAs, LinkPromise}
+use Rattle.dnp_world.proofs.Counting.{count_by-append}
+use Rattle.dnp_world.proofs.ListedAt.{set_here, set_there, listed_here, listed_there}
+use Rattle.dnp_world.proofs.OutstationOpenings.{rows_from}
+use Rattle.dnp_world.proofs.SystemCounts.{same_refl, same_is, same_sym, same_permutation}
+use Rattle.dnp_world.proofs.Turning.{by_station}
+
+-- what a law of a system's lists says
+pub record TurnLaws : Type 0 where
+  pub kept : (indices : List Spans) (station : ℕ) (links : Links) (old new : Kept) → IsBehind indices links old
+      → (turn : Turn indices station links old new) → IsBehind indices (with_links links station turn.below turn.above) new
+  pub fate : (indices : List Spans) (station : ℕ) (links : Links) (old new : Kept) → IsBehind indices links old
+      → (turn : Turn indices station links old new)
+      → IsFate (made_at station turn.here.made) (shown_of indices old) (shown_of indices new)
+
+-- and what the law of one link is to promise
+pub record Grounds : Type 0 where
+  pub turns : TurnLaws
+  pub promise : LinkPromise
+
+-- ---- lists that get nothing
+
+pub none_more : {A : Type 0} (xs : List A) → HasSameCounts xs (xs ++ [])
+none_more xs = same_is xs (xs ++ []) (sym (append-nil xs))
+
+pub none_used : {A : Type 0} (xs : List A) → IsCoveredBy (xs ++ []) xs
+none_used xs = record { at_most = λ test. omega (arith, count_by-append test xs []) }
+
+pub stays_still : (l : Link) → Grows l l does_nothing
+stays_still l = record {
+  moves = Done;
+  stood = none_more (rows_of l.stood);
+  released = none_more (rows_of l.released);
+  left = none_more (rows_of l.left);
+  took = none_more (rows_of l.took);
+  asked = none_more l.asked;
+  performed = none_more l.performed;
+}
+
+-- ---- a link by itself, with the lists of its link, at any moment
+
+pub relisted : (s : LinkState ⊤) (l : Link) (now : ℕ) → Joined [] s l
+    → Joined [] (record s { now = now; taken = rows_of l.took; released = rows_of l.released; left = rows_of l.left }) l
+relisted s l now j = record {
+  outstation = j.outstation;
+  master = j.master;
+  number = j.number;
+  going_down = j.going_down;
+  down = j.down;
+  down_is = j.down_is;
+  octets = j.octets;
+  up = j.up;
+  taken = IsPermutation-refl (rows_of l.took);
+  released = refl;
+  left = subst (λ (xs : List Row). IsPermutation (rows_of l.left) xs) (sym (append-nil (rows_of l.left))) (IsPermutation-refl (rows_of l.left));
+}
+
+-- the rows in its lanes
+lane_rows : (s : LinkState ⊤) (l : Link) → Joined [] s l → rows_of l.lanes ≡ rows_in s.outstation.lanes
+lane_rows s l j = ap rows_of j.outstation.lanes.rows ∙ rows_from 0 s.outstation.lanes.lanes
+
+-- what the link did, by the lists of the link by itself
+pub grows_by : (came taken released left : List Row) (asked performed : List Command) (l : Link) (new : LinkState ⊤)
+    → new.taken ≡ rows_of l.took ++ taken → new.released ≡ rows_of l.released ++ released → new.left ≡ rows_of l.left ++ left
+    → (g : GoesAs came asked performed l new)
+    → Grows l g.follows.link (record { made = came; discarded = released; left = left; taken = taken; asked = asked; performed = performed })
+grows_by came taken released left asked performed l new takes releases leaves g =
+    let link : Link = g.follows.link in
+    let j : Joined [] new link = g.follows.joined in
+    record {
+      moves = g.follows.moves;
+      stood = same_is (rows_of link.stood) (rows_of l.stood ++ came) g.follows.stood;
+      released = same_is (rows_of link.released) (rows_of l.released ++ released) (j.released ∙ releases);
+      left = subst (λ (xs : List Row). HasSameCounts (rows_of link.left) xs) (append-nil new.left ∙ leaves)
+          (same_permutation (rows_of link.left) (new.left ++ []) j.left);
+      took = subst (λ (xs : List Row). HasSameCounts (rows_of link.took) xs) takes
+          (same_sym new.taken (rows_of link.took) (same_permutation new.taken (rows_of link.took) j.taken));
+      asked = same_is link.asked (l.asked ++ asked) g.asked_is;
+      performed = same_is link.performed (l.performed ++ performed) g.performed_is;
+    }
+
+-- ---- the system after it
+
+-- the rows that became of it: released, dropped by full lanes, and emptied by a restart
+pub record Gone : Type 0 where
+  pub confirmed : List Row
+  pub overwritten : List Row
+  pub emptied : List Row
+
+-- the commands that a substation performs besides
+abbrev pub performs : SubstationState → SubstationState → List Command
+performs was is = drop (length was.outputs.performed) is.outputs.performed
+
+-- the substation is another, and so are the links to substations, and the lists get what became of the rows and commands
+abbrev pub changed_below : ℕ → SubstationState → SubstationState → List Relaying → Gone → System → System
+changed_below station was is links gone s = record s {
+  substations = slice_set s.substations station is;
+  concentrator = record s.concentrator { links = links };
+  history = record s.history {
+    confirmed = s.history.confirmed ++ at_station station gone.confirmed;
+    overwritten = s.history.overwritten ++ at_station station gone.overwritten;
+    gone = s.history.gone ++ at_station station gone.emptied;
+    operated = s.history.operated ++ at_station station (performs was is);
+  };
+}
+
+-- the links to all other substations are as they were
+abbrev pub AreOthersSame : ℕ → List Relaying → System → Type 0
+AreOthersSame station links s = (i : ℕ) → i ≢ station → link_in links i ≡ link_in s.concentrator.links i
+
+left_more : (station : ℕ) (a b c d : List (ℕ × Row)) → HasSameCounts ((a ++ b) ++ (c ++ d)) ((a ++ c) ++ (b ++ d))
+left_more station a b c d = record {
+  same = λ test.
+      omega (
+        arith,
+        count_by-append test (a ++ b) (c ++ d),
+        count_by-append test a b,
+        count_by-append test c d,
+        count_by-append test (a ++ c) (b ++ d),
+        count_by-append test a c,
+        count_by-append test b d,
+      );
+}
+
+pub some_of : {S : Type 0} (P : S → Type 0) (o : Option S) (x : S) → o ≡ Some x → IfSome o P → P x
+some_of P o x e h = subst (λ o. IfSome o P) e h
+
+of_some : {S : Type 0} (P : S → Type 0) (o : Option S) (x : S) → o ≡ Some x → P x → IfSome o P
+of_some P o x e h = subst (λ o. IfSome o P) (sym e) h
+
+turn_below : (old : System) (links : Links) (station : ℕ) (was is : SubstationState) (relays : List Relaying) (gone : Gone) (came : List Row) (link : Link)
+    → IsBehind old.indices links (kept_in old) → slice_get old.substations station ≡ Some was
+    → Grows (links.below station) link
+    (record { made = came; discarded = gone.confirmed; left = gone.overwritten ++ gone.emptied; taken = []; asked = []; performed = performs was is })
+    → rows_of link.lanes ≡ rows_in is.lanes
+    → Turn old.indices station links (kept_in old) (kept_in (changed_below station was is relays gone old))
+turn_below old links station was is relays gone came link b there grows lanes =
+    let new : System = changed_below station was is relays gone old in
+    record {
+      below = link;
+      above = links.above;
+      here = record {
+        made = came;
+        discarded = gone.confirmed;
+        left = gone.overwritten ++ gone.emptied;
+        taken = [];
+        asked = [];
+        performed = performs was is;
+      };
+      there = does_nothing;
+      below_grows = grows;
+      above_grows = stays_still links.above;
+      joined = refl;
+      mapped = refl;
+      buffered = same_is (rows_of link.lanes) (of_station station (kept_in new).buffered)
+          (lanes ∙ sym (listed_here lane_rows_of old.substations station was is there));
+      others = λ i other. same_is (of_station i (kept_in new).buffered) (of_station i (kept_in old).buffered)
+          (listed_there lane_rows_of old.substations station i is other);
+      confirmed = same_refl new.history.confirmed;
+      left = subst (λ (xs : List (ℕ × Row)). HasSameCounts (new.history.overwritten ++ new.history.gone)
+          ((old.history.overwritten ++ old.history.gone) ++ xs))
+          (sym (map-append (λ row. (station, row)) gone.overwritten gone.emptied))
+          (left_more station old.history.overwritten (at_station station gone.overwritten) old.history.gone (at_station station gone.emptied));
+      queue = b.queue;
+      dropped = none_more old.history.dropped;
+      lost = omega arith;
+      journal = none_more (kept_in old).journal;
+      operated = same_refl new.history.operated;
+      used = none_used (used_orders (kept_in old).controls);
+      added = none_more (map (λ e. (e.target, e.command)) (kept_in old).controls);
+      used_above = none_used (used_commands (kept_in old).orders);
+      issues = [];
+      issued = none_more old.history.issued;
+      ordered = none_more _;
+    }
+
+-- what a link by itself lists after it
+pub record IsListed (l : Link) (gone : Gone) (lists : RowLists) : Type 0 where
+  pub taken : lists.taken ≡ rows_of l.took
+  pub released : lists.released ≡ rows_of l.released ++ gone.confirmed
+  pub left : lists.left ≡ rows_of l.left ++ (gone.overwritten ++ gone.emptied)
+
+-- the link to another substation is as it was
+other_stands : (old : System) (h : IsStanding old) (station : ℕ) (is : SubstationState) (relays : List Relaying) → AreOthersSame station relays old
+    → (i : ℕ) → i ≢ station
+    → IfSome (slice_get (slice_set old.substations station is) i) (IsJoinedBelow old.now (link_in relays i) (h.links.below i))
+other_stands old h station is relays others i other =
+    subst (λ (r : Relaying). IfSome (slice_get (slice_set old.substations station is) i) (IsJoinedBelow old.now r (h.links.below i))) (sym (others i other))
+    (subst (λ (o : Option SubstationState). IfSome o (IsJoinedBelow old.now (link_in old.concentrator.links i) (h.links.below i)))
+    (sym (set_there old.substations station i is other)) (h.below i))
+
+-- The event is one of the link by itself.
+pub below_keeps : Grounds → (old new : System) (h : IsStanding old) (station : ℕ)
+    → (was is : SubstationState) (relays : List Relaying) (gone : Gone) (lists : RowLists) (e : LinkEvent)
+    → slice_get old.substations station ≡ Some was → AreOthersSame station relays old → ShowOctets (panel_of is)
+    → IsListed (h.links.below station) gone lists
+    → HappensOn no_sink (panel_of was) (seen_below old.now (link_in old.concentrator.links station) was (lists_of (h.links.below station))) e
+    (seen_below old.now (link_in relays station) is lists)
+    → new ≡ changed_below station was is relays gone old → Keeps station (rows_made_by was.core.points (e ∷ [])) old new
+unfolding turn_below
+below_keeps grounds old new h station was is relays gone lists e there others shown listed happens after =
+    let l : Link = h.links.below station in
+    let next : System = changed_below station was is relays gone old in
+    let came : List Row = rows_made_by was.core.points (e ∷ []) in
+    let left : List Row = gone.overwritten ++ gone.emptied in
+    let r : Relaying = link_in old.concentrator.links station in
+    let before : IsJoinedBelow old.now r l was = some_of (IsJoinedBelow old.now r l) (slice_get old.substations station) was there (h.below station) in
+    let s : LinkState ⊤ = seen_below old.now r was (lists_of l) in
+    let s' : LinkState ⊤ = seen_below old.now (link_in relays station) is lists in
+    let g : GoesAs came [] (performs was is) l s' =
+    grounds.promise.happens (panel_of was) s s' e l before.shown (h.behind.below_stands station) before.joined happens in
+    let link : Link = g.follows.link in
+    let t : Turn old.indices station h.links (kept_in old) (kept_in next) =
+    turn_below old h.links station was is relays gone came link h.behind there
+    (grows_by came [] gone.confirmed left [] (performs was is) l s' (listed.taken ∙ sym (append-nil (rows_of l.took))) listed.released listed.left g)
+    (lane_rows s' link g.follows.joined) in
+    subst (λ (x : System). Keeps station came old x) (sym after)
+    (record {
+      standing = record {
+        links = with_links h.links station link h.links.above;
+        below = by_station (λ i x. IfSome (slice_get next.substations i) (IsJoinedBelow old.now (link_in relays i) x)) h.links station link h.links.above
+            (of_some (IsJoinedBelow old.now (link_in relays station) link) (slice_get next.substations station) is
+            (set_here old.substations station was is there)
+            (record { joined = relisted s' link old.now g.follows.joined; shown = shown }))
+            (other_stands old h station is relays others);
+        above = h.above;
+        behind = grounds.turns.kept old.indices station h.links (kept_in old) (kept_in next) h.behind t;
+      };
+      fate = grounds.turns.fate old.indices station h.links (kept_in old) (kept_in next) h.behind t;
+    })

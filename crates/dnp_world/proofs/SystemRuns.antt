@@ -1,0 +1,67 @@
+-- Lists of events of a system.
+use Rattle.std.proofs.Common.{◌≡◌, ℕ, suc, ◌+◌, ◌<◌, ◌≤◌, Bool, true, List, [], ◌∷◌, ◌++◌, length, take, get_or, Some, refl, sym, ap, ◌∙◌, subst, arith}
+use Rattle.std.proofs.lemmas.List.{take_all}
+use Rattle.dnp_world.specs.declared.event.Event.{Event}
+use Rattle.dnp_world.specs.SystemEvents.{CountsFor, Happens, IsKept, RunsTo, StopsAfter, may_stop}
+use Rattle.dnp_world.specs.SystemEvents.{with_middle}
+use Rattle.dnp_world.specs.SystemParts.{AreWell, controls_of, journal_of, orders_of, queue_of}
+use Rattle.dnp_world.specs.Systems.{System, middle_panel}
+use Rattle.dnp_world.specs.declared.parts.Parts.{Parts}
+use Rattle.dnp_world.proofs.OneLinkRuns.{take_more, get_some}
+
+pub runs_more : (old mid new : System) (events : List Event) (event : Event) → RunsTo old events mid → Happens mid event new → RunsTo old (events ++ event ∷ []) new
+runs_more old mid new [] event ran h = (new, subst (λ (s : System). Happens s event new) ran h, refl)
+runs_more old mid new (first ∷ events) event ran h = (ran.0, ran.1, runs_more ran.0 mid new events event ran.2 h)
+
+-- one event more was done
+pub one_done : (old mid new : System) (events : List Event) (k : ℕ) (event : Event) → k < length events → event ≡ get_or events k event
+    → RunsTo old (take k events) mid → Happens mid event new → RunsTo old (take (k + 1) events) new
+one_done old mid new events k event low is ran h =
+    let next : k + 1 ≡ suc k = omega arith in
+    subst (λ (es : List Event). RunsTo old es new)
+    (ap (λ (e : Event). take k events ++ e ∷ []) is ∙ sym (take_more events k event low) ∙ ap (λ (n : ℕ). take n events) (sym next))
+    (runs_more old mid new (take k events) event ran h)
+
+pub all_done : (old new : System) (events : List Event) (k : ℕ) → length events ≤ k → RunsTo old (take k events) new → RunsTo old events new
+all_done old new events k high ran = subst (λ (es : List Event). RunsTo old es new) (take_all k events high) ran
+
+pub stops_after : (old mid kept new : System) (events : List Event) (k : ℕ) (event : Event) → k < length events → event ≡ get_or events k event
+    → RunsTo old (take k events) mid → may_stop event ≡ true → IsKept mid kept → CountsFor kept event new → StopsAfter old events k new
+stops_after old mid kept new events k event low is ran may keeps counts = record {
+  before = mid;
+  ran = ran;
+  event = event;
+  next = get_some events k event low ∙ ap Some (sym is);
+  may = may;
+  after = kept;
+  kept = keeps;
+  counts = counts;
+}
+
+-- ---- what stays of a system that an event doesn't touch
+
+-- stores that are what they were are as well as they were
+pub well_before : {Q J A B : Type 0} (queue : Q → Type 0) (journal : J → Type 0) (controls : A → Type 0) (controls_stopped : A → Bool)
+    (orders : B → Type 0) (orders_stopped : B → Bool) (old new : Parts Q J A B) → queue_of new ≡ queue_of old → controls_of new ≡ controls_of old
+    → journal_of new ≡ journal_of old → orders_of new ≡ orders_of old
+    → AreWell queue journal controls controls_stopped orders orders_stopped new → AreWell queue journal controls controls_stopped orders orders_stopped old
+well_before queue journal controls controls_stopped orders orders_stopped old new queue_is controls_is journal_is orders_is well = record {
+  queue_is = subst queue queue_is well.queue_is;
+  journal_is = subst journal journal_is well.journal_is;
+  controls_is = subst controls controls_is well.controls_is;
+  controls_run = ap controls_stopped (sym controls_is) ∙ well.controls_run;
+  orders_is = subst orders orders_is well.orders_is;
+  orders_run = ap orders_stopped (sym orders_is) ∙ well.orders_run;
+}
+
+-- nothing has changed
+pub is_kept : (old new : System) → new ≡ old → IsKept old new
+is_kept old new is = record {
+  panel = ap (λ (s : System). middle_panel s.concentrator) is;
+  after = is ∙ ap (λ (s : System). with_middle old (record old.concentrator { indices = s.concentrator.indices; controls = s.concentrator.controls })) (sym is);
+}
+
+-- what stops an event other than a delivery
+pub left_out : (old new : System) (event its : Event) → event ≡ its → ((s : System) → CountsFor s its s) → new ≡ old
+    → (kept : System) × IsKept old kept × CountsFor kept event new
+left_out old new event its is counts same = (new, is_kept old new same, subst (λ (e : Event). CountsFor new e new) (sym is) (counts new))

@@ -1,0 +1,109 @@
+-- What is asked of the link goes down to the substation, as the step of its controls says.
+use Rattle.std.proofs.Common.{Err, refl, ap, subst}
+use Rattle.dnp_controls.specs.declared.book.BookFault.{BookFault}
+use Rattle.dnp_concentrator.specs.Relayed.{Tells}
+use Rattle.dnp_concentrator.specs.Relaying.{step_of}
+use Rattle.dnp_concentrator.specs.declared.relayed.Relayed.{Relayed}
+use Rattle.dnp_world.specs.Channels.{ChannelState, state_of}
+use Rattle.dnp_world.specs.SystemEvents.{Refuses, requests_of}
+use Rattle.dnp_world.specs.SystemParts.{system_of, substation_of}
+use Rattle.dnp_world.specs.Systems.{link_at}
+use Rattle.dnp_world.proofs.OneLinkRuns.{any_err}
+use Rattle.dnp_world.proofs.SystemPlaces.{unchanged_at}
+use Rattle.dnp_world.proofs.SystemTasks.{down_of, finished, none_down_of, refused_for, relays_below, selecting, sent, unmoved_below, waited}
+use Rattle.dnp_world.proofs.parts.Parts.relay_below.Goals as goal
+
+pub returns-in_err-reserve_down-clause-stopped : goal.returns-in_err-reserve_down-clause-stopped
+returns-in_err-reserve_down-clause-stopped g c = λ well.
+    let old = system_of g.Q.Lanes.contents g.J.JournalStore.archive g.A.Book.contents g.B.Book.contents c.args.self.now in
+    any_err c.from_residual.result _
+    (unchanged_at old c.args.self.now.substations.items c.args.station c.from.result c.index_mut.result.now
+    (record c.index_mut.result.now { channel = c.reserve_down.new.self }) refl c.from.ensures c.requires c.index_mut.ensures.value
+    (ap (λ (k : ChannelState). record (substation_of c.index_mut.result.now) { channel = k }) c.reserve_down.ensures.same))
+
+pub returns-in-Ok-Selecting-clause-done : goal.returns-in-Ok-Selecting-clause-done
+returns-in-Ok-Selecting-clause-done g c = λ well.
+    let stock = g.Q.Lanes.contents in
+    let ledger = g.A.Book.contents in
+    let old = system_of stock g.J.JournalStore.archive ledger g.B.Book.contents c.args.self.now in
+    let was = c.index_mut.result.now in
+    let link = link_at old.concentrator c.args.station in
+    let step = step_of link old.concentrator.controls.entries c.args.station in
+    let request = c.in-Ok-Selecting.request in
+    let both = selecting step link.master.seq _ request
+    (subst (λ (r : Relayed). Tells link.master.seq step r) c.in-Ok-Selecting.field-0-is (c.in-Ok-Selecting.ensures.told well.controls_is)) in
+    relays_below stock ledger old c.args.self.now.concentrator c.relay.new.self c.args.station c.from.result
+    c.args.self.now.substations.items was c.send_down.new.self c.from.ensures c.requires c.index_mut.ensures.value (c.in-Ok-Selecting.ensures.link well.controls_is)
+    (c.in-Ok-Selecting.ensures.ledger well.controls_is) c.relay.ensures.core c.relay.ensures.queue c.relay.ensures.indices
+    (down_of (requests_of step link.master.seq) request.items c.as_slice.result.now (state_of was.channel) (state_of c.reserve_down.new.self)
+    (state_of c.send_down.new.self) both.0 both.1 c.as_slice.ensures.value c.reserve_down.ensures.same c.send_down.ensures)
+
+pub returns-in-Ok-Sent-clause-done : goal.returns-in-Ok-Sent-clause-done
+returns-in-Ok-Sent-clause-done g c = λ well.
+    let stock = g.Q.Lanes.contents in
+    let ledger = g.A.Book.contents in
+    let old = system_of stock g.J.JournalStore.archive ledger g.B.Book.contents c.args.self.now in
+    let was = c.index_mut.result.now in
+    let link = link_at old.concentrator c.args.station in
+    let step = step_of link old.concentrator.controls.entries c.args.station in
+    let request = c.in-Ok-Sent.request in
+    let both = sent step link.master.seq _ request
+    (subst (λ (r : Relayed). Tells link.master.seq step r) c.in-Ok-Sent.field-0-is (c.in-Ok-Sent.ensures.told well.controls_is)) in
+    relays_below stock ledger old c.args.self.now.concentrator c.relay.new.self c.args.station c.from.result
+    c.args.self.now.substations.items was c.send_down-in-Ok-Sent.new.self c.from.ensures c.requires c.index_mut.ensures.value (c.in-Ok-Sent.ensures.link well.controls_is)
+    (c.in-Ok-Sent.ensures.ledger well.controls_is) c.relay.ensures.core c.relay.ensures.queue c.relay.ensures.indices
+    (down_of (requests_of step link.master.seq) request.items c.as_slice-in-Ok-Sent.result.now (state_of was.channel) (state_of c.reserve_down.new.self)
+    (state_of c.send_down-in-Ok-Sent.new.self) both.0 both.1 c.as_slice-in-Ok-Sent.ensures.value c.reserve_down.ensures.same c.send_down-in-Ok-Sent.ensures)
+
+pub returns-in-Ok-Nothing-clause-done : goal.returns-in-Ok-Nothing-clause-done
+returns-in-Ok-Nothing-clause-done g c = λ well.
+    let stock = g.Q.Lanes.contents in
+    let ledger = g.A.Book.contents in
+    let old = system_of stock g.J.JournalStore.archive ledger g.B.Book.contents c.args.self.now in
+    let was = c.index_mut.result.now in
+    let link = link_at old.concentrator c.args.station in
+    let step = step_of link old.concentrator.controls.entries c.args.station in
+    let none = waited step link.master.seq
+    (subst (λ (r : Relayed). Tells link.master.seq step r) c.in-Ok-Nothing.field-0-is (c.in-Ok-Nothing.ensures.told well.controls_is)) in
+    relays_below stock ledger old c.args.self.now.concentrator c.relay.new.self c.args.station c.from.result
+    c.args.self.now.substations.items was c.reserve_down.new.self c.from.ensures c.requires c.index_mut.ensures.value (c.in-Ok-Nothing.ensures.link well.controls_is)
+    (c.in-Ok-Nothing.ensures.ledger well.controls_is) c.relay.ensures.core c.relay.ensures.queue c.relay.ensures.indices
+    (none_down_of (requests_of step link.master.seq) (state_of was.channel) (state_of c.reserve_down.new.self) none c.reserve_down.ensures.same)
+
+pub returns-in-Ok-Finished-clause-done : goal.returns-in-Ok-Finished-clause-done
+returns-in-Ok-Finished-clause-done g c = λ well.
+    let stock = g.Q.Lanes.contents in
+    let ledger = g.A.Book.contents in
+    let old = system_of stock g.J.JournalStore.archive ledger g.B.Book.contents c.args.self.now in
+    let was = c.index_mut.result.now in
+    let link = link_at old.concentrator c.args.station in
+    let step = step_of link old.concentrator.controls.entries c.args.station in
+    let none = finished step link.master.seq _ _
+    (subst (λ (r : Relayed). Tells link.master.seq step r) c.in-Ok-Finished.field-0-is (c.in-Ok-Finished.ensures.told well.controls_is)) in
+    relays_below stock ledger old c.args.self.now.concentrator c.relay.new.self c.args.station c.from.result
+    c.args.self.now.substations.items was c.reserve_down.new.self c.from.ensures c.requires c.index_mut.ensures.value (c.in-Ok-Finished.ensures.link well.controls_is)
+    (c.in-Ok-Finished.ensures.ledger well.controls_is) c.relay.ensures.core c.relay.ensures.queue c.relay.ensures.indices
+    (none_down_of (requests_of step link.master.seq) (state_of was.channel) (state_of c.reserve_down.new.self) none c.reserve_down.ensures.same)
+
+pub returns-in-Some-clause-stopped : goal.returns-in-Some-clause-stopped
+returns-in-Some-clause-stopped g c = λ well.
+    let stock = g.Q.Lanes.contents in
+    let ledger = g.A.Book.contents in
+    let old = system_of stock g.J.JournalStore.archive ledger g.B.Book.contents c.args.self.now in
+    unmoved_below stock ledger old c.args.self.now.concentrator c.relay.new.self c.args.station c.from.result c.args.self.now.substations.items
+    c.index_mut.result.now c.reserve_down.new.self c.from.ensures c.requires c.index_mut.ensures.value c.in-Err.ensures.unchanged
+    (c.in-Err.ensures.book.unchanged well.controls_is) c.relay.ensures.core c.relay.ensures.queue c.relay.ensures.indices c.reserve_down.ensures.same
+
+pub returns-in-None-clause-done : goal.returns-in-None-clause-done
+returns-in-None-clause-done g c = λ well.
+    let stock = g.Q.Lanes.contents in
+    let ledger = g.A.Book.contents in
+    let old = system_of stock g.J.JournalStore.archive ledger g.B.Book.contents c.args.self.now in
+    let refused = c.in-Err.ensures in
+    Refuses
+    (refused_for (link_at old.concentrator c.args.station).progress old.concentrator.controls.entries c.in-Err.fault c.in-None.ensures
+    (λ is. refused.no_control well.controls_is (ap (λ (e : BookFault). Err e) is))
+    (λ is. refused.not_pending well.controls_is (ap (λ (e : BookFault). Err e) is)))
+    (unmoved_below stock ledger old c.args.self.now.concentrator c.relay.new.self c.args.station c.from.result c.args.self.now.substations.items
+    c.index_mut.result.now c.reserve_down.new.self c.from.ensures c.requires c.index_mut.ensures.value c.in-Err.ensures.unchanged
+    (c.in-Err.ensures.book.unchanged well.controls_is) c.relay.ensures.core c.relay.ensures.queue c.relay.ensures.indices c.reserve_down.ensures.same)

@@ -1,0 +1,430 @@
+-- Definition: what each event makes of a system: the stations by their functions, the lines and ports by those of `dnp_line`, the
+-- lists of what became of rows and commands by what the stations did, and nothing else (IEEE Std 1815-2012: application layer,
+-- transport function and data link layer together).
+use Rattle.std.specs.Prelude.{◌≡◌, ℕ, ◌+◌, ◌^◌, ◌-◌, ◌<◌, Bool, true, false, not, if◌then◌else◌, ◌⊎◌, List, [], ◌∷◌, ◌++◌, length, map, min, take, drop, slice_get, slice_set, Option, Some, None, IfSome, option_to_list, Result, Ok, Err}
+use Rattle.std.specs.Option.{IsSomeAnd}
+use Rattle.dnp_objects.specs.declared.row.Row.{Row}
+use Rattle.dnp_objects.specs.declared.row.Kind.{Kind}
+use Rattle.dnp_objects.specs.declared.command.Command.{Command}
+use Rattle.dnp_objects.specs.declared.lane.LaneRow.{LaneRow}
+use Rattle.dnp_objects.specs.declared.limits.TheConstants.{MAX_ID}
+use Rattle.dnp_pointdb.specs.declared.reading.Reading.{Reading}
+use Rattle.dnp_pointdb.specs.declared.fault.ChangeFault.{ChangeFault}
+use Rattle.dnp_pointdb.specs.Database.{answer_of}
+use Rattle.dnp_controls.specs.Book.{added, entry_of, Has, is_pending}
+use Rattle.dnp_controls.specs.declared.book.Entry.{Entry}
+use Rattle.dnp_concentrator.specs.declared.progress.Progress.{Progress}
+use Rattle.dnp_eventbuf.specs.Archive.{with_events}
+use Rattle.dnp_eventbuf.specs.Stock.{exhausts, with_rows, dropped_by, without_all, rows_in}
+use Rattle.dnp_line.specs.Lines.{LineState, front_of, delivered_on, repeated_on}
+use Rattle.dnp_line.specs.Ports.{PortState}
+use Rattle.dnp_line.specs.Ways.{HearsIfAny}
+use Rattle.dnp_master.specs.declared.fault.AskFault.{AskFault}
+use Rattle.dnp_master.specs.declared.fault.MasterFault.{MasterFault}
+use Rattle.dnp_master.specs.declared.task.Task.{Task}
+use Rattle.dnp_master.specs.declared.task.Task.TheVariants as task
+use Rattle.dnp_master.specs.State as master
+use Rattle.dnp_master.specs.Calls.{Taking, ask_answer, receive_of}
+use Rattle.dnp_outstation.specs.State.{Step}
+use Rattle.dnp_outstation.specs.Calls.{connection_after, tick_of, change_of, opened_of, performed_in, restarted_core}
+use Rattle.dnp_outstation.specs.Connection.{closed}
+use Rattle.dnp_outstation.specs.Station.{with_points}
+use Rattle.dnp_concentrator.specs.Below.{readings_set}
+use Rattle.dnp_concentrator.specs.BookOutputs.{all_added}
+use Rattle.dnp_concentrator.specs.Concentrator.{without_link}
+use Rattle.dnp_concentrator.specs.Mapped.{queued_rows, command_above}
+use Rattle.dnp_appfragment.specs.Fragments.{request_octets}
+use Rattle.dnp_master.specs.Requests.{request_for}
+use Rattle.dnp_concentrator.specs.Relaying as relaying
+use Rattle.dnp_concentrator.specs.Relaying.{Relaying}
+use Rattle.dnp_world.specs.Channels.{ChannelState, GoDown, GoUp, cleared, hung_up_at, lost_at, DamagesAt}
+use Rattle.dnp_world.specs.OneLinkEvents.{is_own}
+use Rattle.dnp_world.specs.Systems.{SubstationState, CentreState, ConcentratorState, System, station_of, panel_of, in_state, middle_of, middle_panel, link_at, at_station, has_station, has_link}
+use Rattle.dnp_world.specs.declared.event.Event.{Event}
+use Rattle.dnp_world.specs.declared.event.Event.TheVariants as event
+use Rattle.dnp_world.specs.declared.event.Link.{Link}
+use Rattle.dnp_world.specs.declared.event.Link.TheVariants.{Below, Above}
+use Rattle.dnp_world.specs.declared.event.Place.TheVariants as place
+use Rattle.dnp_world.specs.declared.link_event.End.{End}
+use Rattle.dnp_world.specs.declared.link_event.End.TheVariants as end
+use Rattle.dnp_world.specs.declared.link_event.Way.{Way}
+use Rattle.dnp_world.specs.declared.link_event.Way.TheVariants as way
+
+-- ---- parts that change
+
+abbrev pub with_substation : System → ℕ → SubstationState → System
+with_substation s station substation = record s { substations = slice_set s.substations station substation }
+
+abbrev pub with_middle : System → ConcentratorState → System
+with_middle s concentrator = record s { concentrator = concentrator }
+
+-- the concentrator's link to a substation
+abbrev pub with_link : System → ℕ → Relaying → System
+with_link s station link = with_middle s (record s.concentrator { links = slice_set s.concentrator.links station link })
+
+abbrev pub with_centre_link : System → Relaying → System
+with_centre_link s link = record s { centre = record s.centre { link = link } }
+
+-- the readings above of a substation that can't be reached any more
+abbrev pub with_lost : System → ℕ → System
+with_lost s station = with_middle s (record s.concentrator { core = without_link s.concentrator.core station })
+
+-- One substation changes so, and no other; by what it was and is, `rest` says what else becomes of the system.
+pub record ChangesAt (station : ℕ) (Change : SubstationState → SubstationState → Type 0)
+    (rest : SubstationState → SubstationState → System → System) (old new : System) : Type 0 where
+  pub was : SubstationState
+  pub is : SubstationState
+  pub there : slice_get old.substations station ≡ Some was
+  pub changed : Change was is
+  pub after : new ≡ rest was is (with_substation old station is)
+
+-- nothing else
+abbrev pub same_rest : SubstationState → SubstationState → System → System
+same_rest was is s = s
+
+-- the lines of a link change so, and nothing else
+abbrev pub LinesChange : Link → (ChannelState → ChannelState → Type 0) → System → System → Type 0
+LinesChange (Below station) Change old new =
+    ChangesAt station (λ was is. Change was.channel is.channel × (is ≡ record was { channel = is.channel })) same_rest old new
+LinesChange Above Change old new = Change old.above new.above × (new ≡ record old { above = new.above })
+
+-- the master of a link, with the control in progress there
+abbrev pub relaying_at : System → Link → Relaying
+relaying_at s (Below station) = link_at s.concentrator station
+relaying_at s Above = s.centre.link
+
+abbrev pub with_relaying : System → Link → Relaying → System
+with_relaying s (Below station) link = with_link s station link
+with_relaying s Above link = with_centre_link s link
+
+-- the master of a link becomes this, and these fragments go down
+abbrev pub SendsDown : Link → List (List ℕ) → Relaying → System → System → Type 0
+SendsDown on fragments link old new = LinesChange on (GoDown fragments) (with_relaying old on link) new
+
+-- ---- calls of the outstations
+
+-- the substation's outstation takes this step, and what it sends goes up from these lines
+pub record SubstationSteps (step : Step) (lines : ChannelState) (was is : SubstationState) : Type 0 where
+  pub sent : GoUp step.does.send lines is.channel
+  pub after : is ≡ record (in_state was step.state) { channel = is.channel }
+
+-- the concentrator's outstation takes this step, and what it sends goes up from these lines; the commands are added to the book
+pub record MiddleSteps (step : Step) (commands : List Command) (lines : ChannelState) (old new : System) : Type 0 where
+  pub sent : GoUp step.does.send lines new.above
+  pub after : new ≡ record old {
+    concentrator = record old.concentrator {
+      core = step.state.core;
+      queue = step.state.lanes;
+      controls = all_added old.concentrator.indices old.concentrator.controls commands;
+    };
+    above = new.above;
+  }
+
+-- ---- opening, hanging up and restarts
+
+abbrev pub OpensOn : Link → System → System → Type 0
+OpensOn (Below station) old new =
+    ChangesAt station (λ was is. SubstationSteps (opened_of (station_of was) old.now) (cleared was.channel) was is) same_rest
+    (with_link old station (relaying.opened (link_at old.concentrator station))) new
+OpensOn Above old new =
+    MiddleSteps (opened_of (middle_of old.concentrator) old.now) [] (cleared old.above)
+    (with_centre_link old (relaying.opened old.centre.link)) new
+
+-- a substation whose master hangs up
+abbrev pub master_gone : SubstationState → SubstationState
+master_gone s = record s { channel = hung_up_at end.Master s.channel }
+
+abbrev pub HangsUpOn : Link → End → System → System → Type 0
+HangsUpOn (Below station) end.Master old new =
+    ChangesAt station (λ was is. is ≡ master_gone was) same_rest
+    (with_lost (with_link old station (relaying.hung_up (link_at old.concentrator station))) station) new
+HangsUpOn (Below station) end.Outstation old new =
+    ChangesAt station (λ was is. is ≡ record was { core = closed was.core; channel = hung_up_at end.Outstation was.channel }) same_rest old new
+HangsUpOn Above end.Master old new =
+    new ≡ record (with_centre_link old (relaying.hung_up old.centre.link)) { above = hung_up_at end.Master old.above }
+HangsUpOn Above end.Outstation old new =
+    new ≡ record old {
+      concentrator = record old.concentrator { core = closed old.concentrator.core };
+      above = hung_up_at end.Outstation old.above;
+    }
+
+abbrev pub concentrator_restarted : System → System
+concentrator_restarted s = record s {
+  substations = map master_gone s.substations;
+  concentrator = record s.concentrator {
+    core = restarted_core s.concentrator.core;
+    links = map relaying.hung_up s.concentrator.links;
+  };
+  above = hung_up_at end.Outstation s.above;
+}
+
+-- its lanes are emptied, and what was in them is listed
+abbrev pub SubstationRestarts : ℕ → System → System → Type 0
+SubstationRestarts station old new =
+    ChangesAt station
+    (λ was is. is ≡ record was {
+      core = restarted_core was.core;
+      lanes = without_all was.lanes;
+      channel = hung_up_at end.Outstation was.channel;
+    })
+    (λ was is s. record s { history = record s.history { gone = s.history.gone ++ at_station station (rows_in was.lanes) } }) old new
+
+-- ---- what comes over the lines
+
+-- a fragment, if the port gives one, is answered by a substation; these rows are released
+abbrev pub SubstationAnswers : List (List ℕ) → ℕ → List Row → SubstationState → SubstationState → Type 0
+SubstationAnswers [] now released was is = (released ≡ []) × (is ≡ was)
+SubstationAnswers (fragment ∷ others) now released was is =
+    let step = connection_after (station_of was) (panel_of was) now fragment in
+    (released ≡ step.does.discarded) × SubstationSteps step was.channel was is
+
+-- the front unit comes to a substation, and the line is left so
+pub record ComesToSubstation (left : LineState → LineState) (now : ℕ) (released : List Row) (was is : SubstationState) : Type 0 where
+  pub port : PortState
+  pub given : List (List ℕ)
+  pub heard : HearsIfAny (front_of was.channel.down) was.channel.outstation_port port [] given
+  pub came : SubstationAnswers given now released
+      (record was { channel = record was.channel { down = left was.channel.down; outstation_port = port } }) is
+
+-- what is released is listed as confirmed, and what is performed as operated
+pub record ComesDownBelow (left : LineState → LineState) (station : ℕ) (old new : System) : Type 0 where
+  pub released : List Row
+  pub came : ChangesAt station (ComesToSubstation left old.now released)
+      (λ was is s. record s {
+        history = record s.history {
+          confirmed = s.history.confirmed ++ at_station station released;
+          operated = s.history.operated ++ at_station station (drop (length was.outputs.performed) is.outputs.performed);
+        };
+      }) old new
+
+abbrev pub MiddleAnswers : List (List ℕ) → System → System → Type 0
+MiddleAnswers [] old new = new ≡ old
+MiddleAnswers (fragment ∷ others) old new =
+    let c = old.concentrator in
+    MiddleSteps (connection_after (middle_of c) (middle_panel c) old.now fragment) (performed_in c.core (middle_panel c) old.now fragment)
+    old.above old new
+
+-- the front unit comes to the concentrator from above
+pub record ComesDownAbove (left : LineState → LineState) (old new : System) : Type 0 where
+  pub port : PortState
+  pub given : List (List ℕ)
+  pub heard : HearsIfAny (front_of old.above.down) old.above.outstation_port port [] given
+  pub came : MiddleAnswers given (record old { above = record old.above { down = left old.above.down; outstation_port = port } }) new
+
+-- a substation's rows are taken: its events are queued, readings above are set, and the link goes on
+abbrev pub concentrator_taken : ConcentratorState → ℕ → Taking → ConcentratorState
+concentrator_taken c station t = record c {
+  core = with_points c.core (readings_set c.indices station (readings_set c.indices station c.core.points t.events) t.statics);
+  queue = with_rows c.queue (queued_rows c.indices c.core.points station t.events);
+  links = slice_set c.links station (relaying.received (link_at c station) t);
+}
+
+-- the rows that full lanes of the queue drop for the events
+abbrev pub dropped_for : ConcentratorState → ℕ → Taking → List Row
+dropped_for c station t = dropped_by c.queue (queued_rows c.indices c.core.points station t.events)
+
+abbrev pub taken_below : System → ℕ → Taking → System
+taken_below s station t = record s {
+  concentrator = concentrator_taken s.concentrator station t;
+  history = record s.history { dropped = s.history.dropped ++ dropped_for s.concentrator station t };
+}
+
+-- the centre puts the events into its journal
+abbrev pub centre_taken : CentreState → Taking → CentreState
+centre_taken c t = record c { link = relaying.received c.link t; journal = with_events c.journal t.events }
+
+abbrev pub taken_above : System → Taking → System
+taken_above s t = record s { centre = centre_taken s.centre t }
+
+abbrev pub taken_on : System → Link → Taking → System
+taken_on s (Below station) t = taken_below s station t
+taken_on s Above t = taken_above s t
+
+-- the confirm goes down; what the master refuses for itself is lost
+abbrev pub MasterReceives : Link → Result Taking MasterFault → System → System → Type 0
+MasterReceives on (Ok t) old new = LinesChange on (GoDown (option_to_list t.confirm)) (taken_on old on t) new
+MasterReceives on (Err fault) old new = new ≡ old
+
+abbrev pub MasterTakes : Link → List (List ℕ) → System → System → Type 0
+MasterTakes on [] old new = new ≡ old
+MasterTakes on (fragment ∷ others) old new = MasterReceives on (receive_of (relaying_at old on).master old.now fragment) old new
+
+-- what the front unit of the line up is to the master's port
+pub record IsHeardUp (left : LineState → LineState) (given : List (List ℕ)) (old new : ChannelState) : Type 0 where
+  pub heard : HearsIfAny (front_of old.up) old.master_port new.master_port [] given
+  pub after : new ≡ record old { up = left old.up; master_port = new.master_port }
+
+-- the front unit comes to a master
+pub record ComesUp (left : LineState → LineState) (on : Link) (old new : System) : Type 0 where
+  pub given : List (List ℕ)
+  pub between : System
+  pub heard : LinesChange on (IsHeardUp left given) old between
+  pub came : MasterTakes on given between new
+
+abbrev pub ComesOn : (LineState → LineState) → Link → Way → System → System → Type 0
+ComesOn left (Below station) way.Down old new = ComesDownBelow left station old new
+ComesOn left Above way.Down old new = ComesDownAbove left old new
+ComesOn left on way.Up old new = ComesUp left on old new
+
+-- ---- losses
+
+abbrev pub LosesOn : Link → Way → System → System → Type 0
+LosesOn on way old new = LinesChange on (λ was is. is ≡ lost_at way was) old new
+
+-- ---- readings, tasks and commands
+
+-- what a full lane dropped for the row that the change makes is listed; a reading that the points refuse does nothing
+abbrev pub ReadsBy : Result (Option LaneRow) ChangeFault → ℕ → Kind → ℕ → Reading → SubstationState → System → System → Type 0
+ReadsBy (Ok made) station kind index reading was old new =
+    let step = change_of (station_of was) old.now kind index reading made in
+    IfSome made (λ row. exhausts was.lanes (row ∷ []) ≡ false)
+    × ChangesAt station (SubstationSteps step was.channel)
+    (λ was is s. record s { history = record s.history { overwritten = s.history.overwritten ++ at_station station step.does.overwritten } })
+    old new
+ReadsBy (Err fault) station kind index reading was old new = new ≡ old
+
+pub record Reads (station : ℕ) (kind : Kind) (index : ℕ) (reading : Reading) (old new : System) : Type 0 where
+  pub was : SubstationState
+  pub there : slice_get old.substations station ≡ Some was
+  pub reads : ReadsBy (answer_of was.core.points kind index reading) station kind index reading was old new
+
+abbrev pub request_of : Result (List ℕ) AskFault → List (List ℕ)
+request_of (Ok octets) = octets ∷ []
+request_of (Err fault) = []
+
+-- a task that the master refuses does nothing; a command is none of the events' own tasks
+abbrev pub AsksOn : Bool → Link → Task → System → System → Type 0
+AsksOn true on task old new =
+    SendsDown on (request_of (ask_answer (relaying_at old on).master task)) (relaying.asking (relaying_at old on) old.now task) old new
+AsksOn false on task old new = new ≡ old
+
+-- the request that a step of relaying sends, if it sends one
+abbrev pub requests_of : relaying.Step → ℕ → List (List ℕ)
+requests_of relaying.Waits seq = []
+requests_of (relaying.Selects id command) seq = request_octets (request_for seq (task.Select command)) ∷ []
+requests_of (relaying.Operates id command) seq = request_octets (request_for seq (task.Operate command)) ∷ []
+requests_of (relaying.Finishes id status) seq = []
+
+-- the step over a link by the book that keeps its controls: that of the concentrator below, and that of the centre above, whose
+-- one target is the station below
+abbrev pub step_on : System → Link → relaying.Step
+step_on s (Below station) = relaying.step_of (link_at s.concentrator station) s.concentrator.controls.entries station
+step_on s Above = relaying.step_of s.centre.link s.centre.orders.entries 0
+
+abbrev pub told : System → Link → relaying.Step → System
+told s (Below station) step =
+    with_middle s (record s.concentrator { controls = relaying.ledger_after s.concentrator.controls step })
+told s Above step = record s { centre = record s.centre { orders = relaying.ledger_after s.centre.orders step } }
+
+-- the entries of the book that keeps the link's controls
+abbrev pub entries_on : System → Link → List Entry
+entries_on s (Below station) = s.concentrator.controls.entries
+entries_on s Above = s.centre.orders.entries
+
+-- the book has not the control in progress, or not as pending
+abbrev pub IsRefused : List Entry → Progress → Type 0
+IsRefused entries p = (entry_of entries p.id ≡ None) ⊎ Has entries p.id (λ state. not (is_pending state))
+
+-- a step that the book refuses for its entry does nothing
+pub data RelaysOn (on : Link) (old new : System) : Type 0 where
+  Steps : SendsDown on (requests_of (step_on old on) (relaying_at old on).master.seq)
+      (relaying.relaying_after (relaying_at old on) old.now (step_on old on)) (told old on (step_on old on)) new → RelaysOn on old new
+  Refuses : IsSomeAnd (relaying_at old on).progress (IsRefused (entries_on old on)) → new ≡ old → RelaysOn on old new
+
+-- a command to no output does nothing
+abbrev pub IssuesBy : Option Command → ℕ → Command → System → System → Type 0
+IssuesBy None station command old new = new ≡ old
+IssuesBy (Some above) station command old new =
+    (old.centre.orders.last_id < MAX_ID)
+    × (new ≡ record old {
+      centre = record old.centre { orders = added old.centre.orders 0 above };
+      history = record old.history { issued = old.history.issued ++ (station, command) ∷ [] };
+    })
+
+-- ---- time
+
+abbrev pub MasterTicks : Link → System → System → Type 0
+MasterTicks (Below station) old new =
+    let link = link_at old.concentrator station in
+    let ticked = with_link old station (relaying.ticked link old.now) in
+    new ≡ (if master.is_timed_out link.master old.now then with_lost ticked station else ticked)
+MasterTicks Above old new = new ≡ with_centre_link old (relaying.ticked old.centre.link old.now)
+
+abbrev pub OutstationTicks : Link → System → System → Type 0
+OutstationTicks (Below station) old new =
+    ChangesAt station (λ was is. SubstationSteps (tick_of (station_of was) old.now) was.channel was is) same_rest old new
+OutstationTicks Above old new = MiddleSteps (tick_of (middle_of old.concentrator) old.now) [] old.above old new
+
+-- ---- the events
+
+-- an event of a link of the plan
+abbrev pub IfThere : Bool → (System → System → Type 0) → System → System → Type 0
+IfThere true Change old new = Change old new
+IfThere false Change old new = new ≡ old
+
+-- the event makes `new` of `old`; one that names nothing in the plan does nothing
+abbrev pub Happens : System → Event → System → Type 0
+Happens old (event.Open on) new = IfThere (has_link old on) (OpensOn on) old new
+Happens old (event.HangUp on end) new = IfThere (has_link old on) (HangsUpOn on end) old new
+Happens old (event.Deliver on way) new = IfThere (has_link old on) (ComesOn delivered_on on way) old new
+Happens old (event.Repeat on way) new = IfThere (has_link old on) (ComesOn repeated_on on way) old new
+Happens old (event.Lose on way) new = IfThere (has_link old on) (LosesOn on way) old new
+Happens old (event.Damage on way octets) new = IfThere (has_link old on) (LinesChange on (DamagesAt way octets)) old new
+Happens old (event.Change station kind index reading) new = IfThere (has_station old station) (Reads station kind index reading) old new
+Happens old (event.Ask on task) new = IfThere (has_link old on) (AsksOn (is_own task) on task) old new
+Happens old (event.Issue station command) new =
+    IssuesBy (command_above old.centre.indices station command) station command old new
+Happens old (event.Relay on) new = IfThere (has_link old on) (RelaysOn on) old new
+Happens old (event.Pass ms) new = new ≡ record old { now = min (old.now + ms) (2 ^ 64 - 1) }
+Happens old (event.Tick on end.Master) new = IfThere (has_link old on) (MasterTicks on) old new
+Happens old (event.Tick on end.Outstation) new = IfThere (has_link old on) (OutstationTicks on) old new
+Happens old (event.Restart place.Centre) new = HangsUpOn Above end.Master old new
+Happens old (event.Restart place.Concentrator) new = new ≡ concentrator_restarted old
+Happens old (event.Restart (place.Substation station)) new = IfThere (has_station old station) (SubstationRestarts station) old new
+
+-- ---- lists of events
+
+-- they happen one after the other
+abbrev pub RunsTo : System → List Event → System → Type 0
+RunsTo old [] new = new ≡ old
+RunsTo old (event ∷ events) new = (next : System) × Happens old event next × RunsTo next events new
+
+-- an event at which a list stops is lost if it is a delivery, and else left out
+abbrev pub CountsFor : System → Event → System → Type 0
+CountsFor old (event.Deliver on way) new = Happens old (event.Lose on way) new
+CountsFor old event new = new ≡ old
+
+-- the events at which a store, or a request for memory, is asked
+abbrev pub may_stop : Event → Bool
+may_stop (event.Open on) = true
+may_stop (event.HangUp on end) = false
+may_stop (event.Deliver on way) = true
+may_stop (event.Repeat on way) = true
+may_stop (event.Lose on way) = false
+may_stop (event.Damage on way octets) = false
+may_stop (event.Change station kind index reading) = true
+may_stop (event.Ask on task) = true
+may_stop (event.Issue station command) = true
+may_stop (event.Relay on) = true
+may_stop (event.Pass ms) = false
+may_stop (event.Tick on end.Master) = false
+may_stop (event.Tick on end.Outstation) = true
+may_stop (event.Restart place.Centre) = false
+may_stop (event.Restart place.Concentrator) = false
+may_stop (event.Restart (place.Substation station)) = true
+
+-- A refusal has changed nothing. Of the concentrator's book it is promised what its outputs show.
+pub record IsKept (old new : System) : Type 0 where
+  pub panel : middle_panel new.concentrator ≡ middle_panel old.concentrator
+  pub after : new ≡ with_middle old (record old.concentrator { indices = new.concentrator.indices; controls = new.concentrator.controls })
+
+-- so many events were done, and the list stopped at the one behind them
+pub record StopsAfter (old : System) (events : List Event) (done : ℕ) (new : System) : Type 0 where
+  pub before : System
+  pub ran : RunsTo old (take done events) before
+  pub event : Event
+  pub next : slice_get events done ≡ Some event
+  pub may : may_stop event ≡ true
+  pub after : System
+  pub kept : IsKept before after
+  pub counts : CountsFor after event new

@@ -1,0 +1,89 @@
+-- Definition: what a system is, by what its stores say of themselves.
+use Rattle.std.specs.Prelude.{◌≡◌, Bool, false, map}
+use Rattle.dnp_eventbuf.specs.Archive.{Archive}
+use Rattle.dnp_eventbuf.specs.Stock.{Stock}
+use Rattle.dnp_controls.specs.Book.{Ledger}
+use Rattle.dnp_concentrator.specs.Centre as centre
+use Rattle.dnp_concentrator.specs.Concentrator as concentrator
+use Rattle.dnp_concentrator.specs.declared.centre.Centre.{Centre}
+use Rattle.dnp_concentrator.specs.declared.concentrator.Concentrator.{Concentrator}
+use Rattle.dnp_outstation.specs.Parts as outstation
+use Rattle.dnp_world.specs.Channels.{state_of}
+use Rattle.dnp_world.specs.Systems.{SubstationState, ConcentratorState, CentreState, History, System}
+use Rattle.dnp_world.specs.declared.history.History as kept
+use Rattle.dnp_world.specs.declared.parts.Parts.{Parts}
+use Rattle.dnp_world.specs.declared.substation.Substation.{Substation}
+use Rattle.dnp_world.specs.declared.world.World.{World}
+
+abbrev pub substation_of : Substation → SubstationState
+substation_of s = record {
+  core = outstation.core_of s.outstation;
+  lanes = outstation.lanes_of s.outstation;
+  outputs = outstation.outputs_of s.outstation;
+  channel = state_of s.channel;
+}
+
+abbrev pub concentrator_of : {Q A : Type 0} → (Q → Stock) → (A → Ledger) → Concentrator Q A → ConcentratorState
+concentrator_of stock ledger c = record {
+  core = concentrator.core_of c;
+  queue = stock (concentrator.queue_of c);
+  indices = concentrator.indices_of c;
+  controls = ledger (concentrator.book_of c);
+  links = concentrator.links_of c;
+}
+
+abbrev pub centre_of : {J B : Type 0} → (J → Archive) → (B → Ledger) → Centre J B → CentreState
+centre_of archive ledger c = record {
+  indices = centre.indices_of c;
+  link = centre.link_of c;
+  journal = archive (centre.journal_of c);
+  orders = ledger (centre.book_of c);
+}
+
+abbrev pub history_of : kept.History → History
+history_of h = record {
+  confirmed = h.confirmed.items;
+  overwritten = h.overwritten.items;
+  gone = h.gone.items;
+  dropped = h.dropped.items;
+  issued = h.issued.items;
+  operated = h.operated.items;
+}
+
+abbrev pub system_of : {Q J A B : Type 0} → (Q → Stock) → (J → Archive) → (A → Ledger) → (B → Ledger) → Parts Q J A B → System
+system_of stock archive controls orders p = record {
+  indices = p.map;
+  substations = map substation_of p.substations.items;
+  concentrator = concentrator_of stock controls p.concentrator;
+  centre = centre_of archive orders p.centre;
+  above = state_of p.above;
+  now = p.moment;
+  history = history_of p.history;
+}
+
+abbrev pub parts_of : {Q J A B : Type 0} → World Q J A B → Parts Q J A B
+parts_of w = w.parts
+
+-- ---- the stores
+
+abbrev pub queue_of : {Q J A B : Type 0} → Parts Q J A B → Q
+queue_of p = concentrator.queue_of p.concentrator
+
+abbrev pub controls_of : {Q J A B : Type 0} → Parts Q J A B → A
+controls_of p = concentrator.book_of p.concentrator
+
+abbrev pub journal_of : {Q J A B : Type 0} → Parts Q J A B → J
+journal_of p = centre.journal_of p.centre
+
+abbrev pub orders_of : {Q J A B : Type 0} → Parts Q J A B → B
+orders_of p = centre.book_of p.centre
+
+-- the stores are honest, and no book has answered Device
+pub record AreWell {Q J A B : Type 0} (queue : Q → Type 0) (journal : J → Type 0) (controls : A → Type 0) (controls_stopped : A → Bool)
+    (orders : B → Type 0) (orders_stopped : B → Bool) (p : Parts Q J A B) : Type 0 where
+  pub queue_is : queue (queue_of p)
+  pub journal_is : journal (journal_of p)
+  pub controls_is : controls (controls_of p)
+  pub controls_run : controls_stopped (controls_of p) ≡ false
+  pub orders_is : orders (orders_of p)
+  pub orders_run : orders_stopped (orders_of p) ≡ false

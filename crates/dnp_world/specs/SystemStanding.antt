@@ -1,0 +1,89 @@
+-- Definition: what stands behind a whole system: a link of the law to each substation and one above, of these stations over these
+-- lines, that have the lists which the system keeps (own rule). No field holds them.
+use Rattle.std.specs.Prelude.{◌≡◌, ℕ, List, [], ◌∷◌, ◌++◌, length, drop, slice_get, IfSome, ⊤}
+use Rattle.dnp_objects.specs.declared.command.Command.{Command}
+use Rattle.dnp_objects.specs.declared.row.Row.{Row}
+use Rattle.dnp_controls.specs.Panel.{Panel}
+use Rattle.dnp_concentrator.specs.Relaying.{Relaying}
+use Rattle.dnp_master.specs.State as master
+use Rattle.dnp_outstation.specs.State.{State}
+use Rattle.dnp_world.specs.declared.link_event.LinkEvent.{LinkEvent}
+use Rattle.dnp_world.specs.Behind.{Links, IsBehind, made_at, rows_of}
+use Rattle.dnp_world.specs.Channels.{ChannelState}
+use Rattle.dnp_world.specs.Joined.{Joined, Follows, rows_made_by}
+use Rattle.dnp_world.specs.Kept.{kept_in, report_of}
+use Rattle.dnp_world.specs.Link.{Link}
+use Rattle.dnp_world.specs.OneLinkEvents.{LinkState, HappensOn}
+use Rattle.dnp_world.specs.OutstationSeen.{ShowOctets}
+use Rattle.dnp_world.specs.Reports.{IsFate}
+use Rattle.dnp_world.specs.Standing.{Stands}
+use Rattle.dnp_world.specs.Systems.{SubstationState, System, station_of, panel_of, middle_of, link_at}
+
+-- ---- a link of a system, as a link by itself
+
+-- the rows that a link by itself would list
+pub record RowLists : Type 0 where
+  pub taken : List Row
+  pub released : List Row
+  pub left : List Row
+
+abbrev pub lists_of : Link → RowLists
+lists_of l = record { taken = rows_of l.took; released = rows_of l.released; left = rows_of l.left }
+
+-- these stations over these lines; the master's rows go to no sink of the link's own
+abbrev pub seen : State → master.State → ChannelState → ℕ → RowLists → LinkState ⊤
+seen outstation master channel now lists = record {
+  outstation = outstation;
+  master = master;
+  sink = tt;
+  down = channel.down;
+  up = channel.up;
+  outstation_port = channel.outstation_port;
+  master_port = channel.master_port;
+  now = now;
+  taken = lists.taken;
+  released = lists.released;
+  left = lists.left;
+}
+
+abbrev pub no_sink : ⊤ → List Row → List Row → List Row → ⊤ → Type 0
+no_sink old events statics dropped new = ⊤
+
+-- the link to a substation, and the link between concentrator and centre
+abbrev pub seen_below : ℕ → Relaying → SubstationState → RowLists → LinkState ⊤
+seen_below now relaying substation lists = seen (station_of substation) relaying.master substation.channel now lists
+
+abbrev pub seen_above : System → RowLists → LinkState ⊤
+seen_above s lists = seen (middle_of s.concentrator) s.centre.link.master s.above s.now lists
+
+-- ---- what stands behind
+
+-- a substation's link is joined to a link of the law, and its outputs show octets
+pub record IsJoinedBelow (now : ℕ) (relaying : Relaying) (l : Link) (substation : SubstationState) : Type 0 where
+  pub joined : Joined [] (seen_below now relaying substation (lists_of l)) l
+  pub shown : ShowOctets (panel_of substation)
+
+pub record IsStanding (s : System) : Type 0 where
+  pub links : Links
+  pub below : (station : ℕ) → IfSome (slice_get s.substations station) (IsJoinedBelow s.now (link_at s.concentrator station) (links.below station))
+  pub above : Joined [] (seen_above s (lists_of links.above)) links.above
+  pub behind : IsBehind s.indices links (kept_in s)
+
+-- After an event something stands behind the system again, and what happened is what had happened and these rows of a substation.
+pub record Keeps (station : ℕ) (made : List Row) (old new : System) : Type 0 where
+  pub standing : IsStanding new
+  pub fate : IsFate (made_at station made) (report_of old) (report_of new)
+
+-- ---- what the law of one link is to promise
+
+-- it follows, where these rows came to its lanes, and its master asked for these commands and its outstation performed these
+pub record GoesAs (came : List Row) (asked performed : List Command) (l : Link) (new : LinkState ⊤) : Type 0 where
+  pub follows : Follows [] came l new
+  pub asked_is : follows.link.asked ≡ l.asked ++ asked
+  pub performed_is : follows.link.performed ≡ l.performed ++ performed
+
+-- an event of a link by itself asks for no command, and performs those that its outputs list besides
+pub record LinkPromise : Type 0 where
+  pub happens : (panel : Panel) (s new : LinkState ⊤) (event : LinkEvent) (l : Link) → ShowOctets panel → Stands l → Joined [] s l
+      → HappensOn no_sink panel s event new
+      → GoesAs (rows_made_by s.outstation.core.points (event ∷ [])) [] (drop (length s.outstation.performed) new.outstation.performed) l new

@@ -1,0 +1,41 @@
+//! What became of rows and commands, as far as no station keeps it.
+
+ghost use Rattle.std.specs.Prelude.{◌≡◌, []};
+ghost use Rattle.dnp_world.specs.SystemParts.{history_of};
+
+use crate::station_list::StationList;
+use dnp_objects::{Command, Row};
+use std::alloc::Global;
+
+/// Rows and commands beside the substations that they are of, each list in the order in which it happened.
+#[derive(Drop)]
+pub(crate) struct History {
+    /// The rows that confirms released.
+    pub confirmed: StationList<Row>,
+    /// The rows that full lanes of substations dropped.
+    pub overwritten: StationList<Row>,
+    /// The rows that restarts of substations emptied from their lanes.
+    pub gone: StationList<Row>,
+    /// The rows that full lanes of the queue dropped, as they stand above.
+    pub dropped: Vec<Row>,
+    /// The commands that were issued, as they stand at their substations.
+    pub issued: StationList<Command>,
+    /// The commands that were performed.
+    pub operated: StationList<Command>,
+}
+
+impl History {
+    /// Nothing has happened.
+    pub fn new(alloc: Global) -> History
+        ensures { history_of result ≡ record { confirmed = []; overwritten = []; gone = []; dropped = []; issued = []; operated = [] } }
+    {
+        History {
+            confirmed: StationList::new(alloc),
+            overwritten: StationList::new(alloc),
+            gone: StationList::new(alloc),
+            dropped: Vec::new(alloc),
+            issued: StationList::new(alloc),
+            operated: StationList::new(alloc),
+        }
+    }
+}

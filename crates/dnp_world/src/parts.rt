@@ -1,0 +1,178 @@
+//! The parts of a whole system, and the events that change lines, masters and the moment alone.
+
+ghost use Rattle.std.specs.Prelude.{◌≡◌, ◌+◌, ◌-◌, ◌^◌, true, min};
+ghost use Rattle.dnp_world.specs.Channels.{DamagesAt};
+ghost use Rattle.dnp_world.specs.SystemEvents.{HangsUpOn, LinesChange, LosesOn, MasterTicks, concentrator_restarted};
+ghost use Rattle.dnp_world.specs.SystemParts.{system_of, queue_of, controls_of, journal_of, orders_of};
+ghost use Rattle.dnp_world.specs.Systems.{has_link, standing_on};
+ghost use Rattle.dnp_world.specs.declared.event.Link.TheVariants as link;
+ghost use Rattle.dnp_world.specs.declared.link_event.End.TheVariants as end;
+
+use crate::channel::Channel;
+use crate::event::{Damaged, Link};
+use crate::history::History;
+use crate::link_event::{End, Way};
+use crate::substation::Substation;
+use dnp_concentrator::{Centre, Concentrator, IndexMap};
+use dnp_controls::Book;
+use dnp_eventbuf::{JournalStore, Lanes};
+use dnp_outstation::Actions;
+
+mod arrivals;
+mod calls;
+mod happening;
+mod report;
+mod tasks;
+
+/// Substations, a concentrator and a centre, with lines between them, and what became of every row and command.
+#[derive(Drop)]
+pub(crate) struct Parts<Q, J, A, B> {
+    /// Where the substations' indices stand above.
+    pub map: IndexMap,
+    pub substations: Vec<Substation>,
+    pub concentrator: Concentrator<Q, A>,
+    pub centre: Centre<J, B>,
+    /// The lines between concentrator and centre.
+    pub above: Channel,
+    /// The moment, in milliseconds.
+    pub moment: u64,
+    /// What a station at an outstation's end did last.
+    pub actions: Actions,
+    pub history: History,
+}
+
+impl<Q: Lanes, J: JournalStore, A: Book, B: Book> Parts<Q, J, A, B> {
+    /// Whether the plan has this link.
+    pub fn has(&self, on: Link) -> bool
+        ensures { result ≡ has_link (system_of Q.contents J.archive A.contents B.contents self.now) on }
+    {
+        match on {
+            Link::Below(station) => {
+                usize::from(station) < self.substations.len()
+                    && usize::from(station) < self.concentrator.substations()
+            }
+            Link::Above => true,
+        }
+    }
+
+    /// How many units stand on the line of this way of the link, 0 for a link outside the plan.
+    pub fn standing(&self, on: Link, way: Way) -> usize
+        ensures { result ≡ standing_on (system_of Q.contents J.archive A.contents B.contents self.now) on way }
+    {
+        if !self.has(on) {
+            return 0;
+        }
+        match on {
+            Link::Below(station) => self.substations[usize::from(station)].channel.standing(way),
+            Link::Above => self.above.standing(way),
+        }
+    }
+
+    /// This end hangs up: the line towards it is cleared, and its port is reset.
+    pub fn hang_up(&mut self, on: Link, end: End)
+        requires { has_link (system_of Q.contents J.archive A.contents B.contents self.old) on ≡ true }
+        ensures queue { queue_of self.new ≡ queue_of self.old }
+        ensures controls { controls_of self.new ≡ controls_of self.old }
+        ensures journal { journal_of self.new ≡ journal_of self.old }
+        ensures orders { orders_of self.new ≡ orders_of self.old }
+        ensures done { HangsUpOn on end (system_of Q.contents J.archive A.contents B.contents self.old) (system_of Q.contents J.archive A.contents B.contents self.new) }
+    {
+        match (on, end) {
+            (Link::Below(station), End::Master) => {
+                self.concentrator.hung_up_below(station);
+                self.substations[usize::from(station)]
+                    .channel
+                    .hang_up(End::Master);
+            }
+            (Link::Below(station), End::Outstation) => {
+                self.substations[usize::from(station)].hang_up();
+            }
+            (Link::Above, End::Master) => {
+                self.centre.hung_up();
+                self.above.hang_up(end);
+            }
+            (Link::Above, End::Outstation) => {
+                self.concentrator.hung_up_above();
+                self.above.hang_up(end);
+            }
+        }
+    }
+
+    /// The front unit of this way of the link is lost.
+    pub fn lose(&mut self, on: Link, way: Way)
+        requires { has_link (system_of Q.contents J.archive A.contents B.contents self.old) on ≡ true }
+        ensures queue { queue_of self.new ≡ queue_of self.old }
+        ensures controls { controls_of self.new ≡ controls_of self.old }
+        ensures journal { journal_of self.new ≡ journal_of self.old }
+        ensures orders { orders_of self.new ≡ orders_of self.old }
+        ensures done { LosesOn on way (system_of Q.contents J.archive A.contents B.contents self.old) (system_of Q.contents J.archive A.contents B.contents self.new) }
+    {
+        match on {
+            Link::Below(station) => self.substations[usize::from(station)].channel.lose(way),
+            Link::Above => self.above.lose(way),
+        }
+    }
+
+    /// The octets of the front unit of this way of the link become these.
+    pub fn damage(&mut self, on: Link, way: Way, octets: &Damaged)
+        requires { has_link (system_of Q.contents J.archive A.contents B.contents self.old) on ≡ true }
+        ensures queue { queue_of self.new ≡ queue_of self.old }
+        ensures controls { controls_of self.new ≡ controls_of self.old }
+        ensures journal { journal_of self.new ≡ journal_of self.old }
+        ensures orders { orders_of self.new ≡ orders_of self.old }
+        ensures done { LinesChange on (DamagesAt way octets.now) (system_of Q.contents J.archive A.contents B.contents self.old) (system_of Q.contents J.archive A.contents B.contents self.new) }
+    {
+        match on {
+            Link::Below(station) => {
+                self.substations[usize::from(station)]
+                    .channel
+                    .damage(way, octets)
+            }
+            Link::Above => self.above.damage(way, octets),
+        }
+    }
+
+    /// So many milliseconds pass.
+    pub fn pass(&mut self, ms: u64)
+        ensures queue { queue_of self.new ≡ queue_of self.old }
+        ensures controls { controls_of self.new ≡ controls_of self.old }
+        ensures journal { journal_of self.new ≡ journal_of self.old }
+        ensures orders { orders_of self.new ≡ orders_of self.old }
+        ensures done { system_of Q.contents J.archive A.contents B.contents self.new ≡ record (system_of Q.contents J.archive A.contents B.contents self.old) {
+          now = min ((system_of Q.contents J.archive A.contents B.contents self.old).now + ms) (2 ^ 64 - 1);
+        } }
+    {
+        self.moment = self.moment.saturating_add(ms);
+    }
+
+    /// The master of the link looks at its timer.
+    pub fn tick_master(&mut self, on: Link)
+        requires { has_link (system_of Q.contents J.archive A.contents B.contents self.old) on ≡ true }
+        ensures queue { queue_of self.new ≡ queue_of self.old }
+        ensures controls { controls_of self.new ≡ controls_of self.old }
+        ensures journal { journal_of self.new ≡ journal_of self.old }
+        ensures orders { orders_of self.new ≡ orders_of self.old }
+        ensures done { MasterTicks on (system_of Q.contents J.archive A.contents B.contents self.old) (system_of Q.contents J.archive A.contents B.contents self.new) }
+    {
+        match on {
+            Link::Below(station) => {
+                let _ = self.concentrator.tick_below(station, self.moment);
+            }
+            Link::Above => {
+                let _ = self.centre.tick(self.moment);
+            }
+        }
+    }
+
+    /// The centre's device starts again: the centre hangs up.
+    pub fn restart_centre(&mut self)
+        ensures queue { queue_of self.new ≡ queue_of self.old }
+        ensures controls { controls_of self.new ≡ controls_of self.old }
+        ensures journal { journal_of self.new ≡ journal_of self.old }
+        ensures orders { orders_of self.new ≡ orders_of self.old }
+        ensures done { HangsUpOn link.Above end.Master (system_of Q.contents J.archive A.contents B.contents self.old) (system_of Q.contents J.archive A.contents B.contents self.new) }
+    {
+        self.centre.restart();
+        self.above.hang_up(End::Master);
+    }
+}

@@ -1,0 +1,90 @@
+//! The events of a system that are calls of its stations.
+
+ghost use Rattle.std.specs.Prelude.{◌≡◌, true, OnErr, OnOk};
+ghost use Rattle.dnp_world.specs.SystemEvents.{OpensOn, OutstationTicks, SubstationRestarts, concentrator_restarted};
+ghost use Rattle.dnp_world.specs.SystemParts.{AreWell, system_of, journal_of, orders_of};
+ghost use Rattle.dnp_world.specs.Systems.{has_link, has_station};
+
+use super::Parts;
+use crate::event::Link;
+use crate::link_event::End;
+use crate::stopped::Cause;
+use crate::substation::hang_up_masters;
+use dnp_controls::Book;
+use dnp_eventbuf::{JournalStore, Lanes};
+use std::alloc::Global;
+
+impl<Q: Lanes, J: JournalStore, A: Book, B: Book> Parts<Q, J, A, B> {
+    /// Both lines of the link are cleared, both ports are reset, and both ends are opened. The outstation is asked first,
+    /// since its lanes may refuse.
+    pub(crate) fn open(&mut self, alloc: Global, on: Link) -> Result<(), Cause>
+        requires { has_link (system_of Q.contents J.archive A.contents B.contents self.old) on ≡ true }
+        ensures held { AreWell Q.honest J.honest A.honest A.is_stopped B.honest B.is_stopped self.new → AreWell Q.honest J.honest A.honest A.is_stopped B.honest B.is_stopped self.old }
+        ensures done { AreWell Q.honest J.honest A.honest A.is_stopped B.honest B.is_stopped self.new → OnOk result (OpensOn on (system_of Q.contents J.archive A.contents B.contents self.old) (system_of Q.contents J.archive A.contents B.contents self.new)) }
+        ensures stopped { AreWell Q.honest J.honest A.honest A.is_stopped B.honest B.is_stopped self.new → OnErr result ((system_of Q.contents J.archive A.contents B.contents self.new) ≡ (system_of Q.contents J.archive A.contents B.contents self.old)) }
+    {
+        match on {
+            Link::Below(station) => {
+                let substation = &mut self.substations[usize::from(station)];
+                substation.open(&mut self.actions, alloc, self.moment)?;
+                self.concentrator.opened_below(station);
+            }
+            Link::Above => {
+                self.above.open(
+                    &mut self.actions,
+                    alloc,
+                    self.moment,
+                    &mut self.concentrator,
+                )?;
+                self.centre.opened();
+            }
+        }
+        Ok(())
+    }
+
+    /// The outstation of the link looks at its timers.
+    pub(crate) fn tick_outstation(&mut self, alloc: Global, on: Link) -> Result<(), Cause>
+        requires { has_link (system_of Q.contents J.archive A.contents B.contents self.old) on ≡ true }
+        ensures held { AreWell Q.honest J.honest A.honest A.is_stopped B.honest B.is_stopped self.new → AreWell Q.honest J.honest A.honest A.is_stopped B.honest B.is_stopped self.old }
+        ensures done { AreWell Q.honest J.honest A.honest A.is_stopped B.honest B.is_stopped self.new → OnOk result (OutstationTicks on (system_of Q.contents J.archive A.contents B.contents self.old) (system_of Q.contents J.archive A.contents B.contents self.new)) }
+        ensures stopped { AreWell Q.honest J.honest A.honest A.is_stopped B.honest B.is_stopped self.new → OnErr result ((system_of Q.contents J.archive A.contents B.contents self.new) ≡ (system_of Q.contents J.archive A.contents B.contents self.old)) }
+    {
+        match on {
+            Link::Below(station) => {
+                let substation = &mut self.substations[usize::from(station)];
+                substation.tick(&mut self.actions, alloc, self.moment)?;
+            }
+            Link::Above => {
+                self.above.tick(
+                    &mut self.actions,
+                    alloc,
+                    self.moment,
+                    &mut self.concentrator,
+                )?;
+            }
+        }
+        Ok(())
+    }
+
+    /// The concentrator's device starts again: the concentrator hangs up all its ends.
+    pub(crate) fn restart_concentrator(&mut self, alloc: Global)
+        ensures held { AreWell Q.honest J.honest A.honest A.is_stopped B.honest B.is_stopped self.new → AreWell Q.honest J.honest A.honest A.is_stopped B.honest B.is_stopped self.old }
+        ensures done { AreWell Q.honest J.honest A.honest A.is_stopped B.honest B.is_stopped self.new → (system_of Q.contents J.archive A.contents B.contents self.new) ≡ concentrator_restarted (system_of Q.contents J.archive A.contents B.contents self.old) }
+    {
+        self.concentrator.restart(alloc);
+        hang_up_masters(&mut self.substations);
+        self.above.hang_up(End::Outstation);
+    }
+
+    /// A substation's device starts again: the substation hangs up, and its lanes are emptied.
+    pub(crate) fn restart_substation(&mut self, alloc: Global, station: u8) -> Result<(), Cause>
+        requires { has_station (system_of Q.contents J.archive A.contents B.contents self.old) station ≡ true }
+        ensures held { AreWell Q.honest J.honest A.honest A.is_stopped B.honest B.is_stopped self.new → AreWell Q.honest J.honest A.honest A.is_stopped B.honest B.is_stopped self.old }
+        ensures done { AreWell Q.honest J.honest A.honest A.is_stopped B.honest B.is_stopped self.new → OnOk result (SubstationRestarts station (system_of Q.contents J.archive A.contents B.contents self.old) (system_of Q.contents J.archive A.contents B.contents self.new)) }
+        ensures stopped { AreWell Q.honest J.honest A.honest A.is_stopped B.honest B.is_stopped self.new → OnErr result ((system_of Q.contents J.archive A.contents B.contents self.new) ≡ (system_of Q.contents J.archive A.contents B.contents self.old)) }
+    {
+        let substation = &mut self.substations[usize::from(station)];
+        substation.restart(alloc, station, &mut self.history.gone)?;
+        Ok(())
+    }
+}

@@ -1,0 +1,90 @@
+//! One event of a system after the other.
+
+ghost use Rattle.std.specs.Prelude.{◌≡◌, true, IfErr, OnErr, OnOk};
+ghost use Rattle.dnp_world.specs.SystemEvents.{ComesOn, CountsFor, Happens, IsKept, RunsTo, StopsAfter, may_stop};
+ghost use Rattle.dnp_world.specs.SystemParts.{AreWell, system_of};
+ghost use Rattle.dnp_world.specs.Systems.{System as Whole, has_link};
+ghost use Rattle.dnp_world.specs.declared.event.Event.TheVariants as event;
+ghost use Rattle.dnp_line.specs.Lines.{delivered_on};
+
+use super::Parts;
+use crate::event::{Event, Link, Place};
+use crate::link_event::{End, Way};
+use crate::stopped::{Cause, Stopped};
+use dnp_controls::Book;
+use dnp_eventbuf::{JournalStore, Lanes};
+use std::alloc::Global;
+
+impl<Q: Lanes, J: JournalStore, A: Book, B: Book> Parts<Q, J, A, B> {
+    /// The front unit of this way of the link comes to its end. Where that is refused, the unit is lost.
+    fn deliver(&mut self, alloc: Global, on: Link, way: Way) -> Result<(), Cause>
+        requires { has_link (system_of Q.contents J.archive A.contents B.contents self.old) on ≡ true }
+        ensures held { AreWell Q.honest J.honest A.honest A.is_stopped B.honest B.is_stopped self.new → AreWell Q.honest J.honest A.honest A.is_stopped B.honest B.is_stopped self.old }
+        ensures done { AreWell Q.honest J.honest A.honest A.is_stopped B.honest B.is_stopped self.new → OnOk result (ComesOn delivered_on on way (system_of Q.contents J.archive A.contents B.contents self.old) (system_of Q.contents J.archive A.contents B.contents self.new)) }
+        ensures stopped { AreWell Q.honest J.honest A.honest A.is_stopped B.honest B.is_stopped self.new → OnErr result ((kept : Whole) × IsKept (system_of Q.contents J.archive A.contents B.contents self.old) kept × CountsFor kept (event.Deliver on way) (system_of Q.contents J.archive A.contents B.contents self.new)) }
+    {
+        let Err(cause) = self.come(alloc, on, way, false) else {
+            return Ok(());
+        };
+        if self.has(on) {
+            self.lose(on, way);
+        }
+        Err(cause)
+    }
+
+    /// One event happens.
+    pub(crate) fn happen(&mut self, alloc: Global, event: &Event) -> Result<(), Cause>
+        ensures held { AreWell Q.honest J.honest A.honest A.is_stopped B.honest B.is_stopped self.new → AreWell Q.honest J.honest A.honest A.is_stopped B.honest B.is_stopped self.old }
+        ensures done { AreWell Q.honest J.honest A.honest A.is_stopped B.honest B.is_stopped self.new → OnOk result (Happens (system_of Q.contents J.archive A.contents B.contents self.old) event.now (system_of Q.contents J.archive A.contents B.contents self.new)) }
+        ensures stopped { AreWell Q.honest J.honest A.honest A.is_stopped B.honest B.is_stopped self.new → OnErr result ((kept : Whole) × IsKept (system_of Q.contents J.archive A.contents B.contents self.old) kept × CountsFor kept event.now (system_of Q.contents J.archive A.contents B.contents self.new)) }
+        ensures named { OnErr result (may_stop event.now ≡ true) }
+    {
+        match event {
+            Event::Open(on) if self.has(*on) => self.open(alloc, *on)?,
+            Event::HangUp(on, end) if self.has(*on) => self.hang_up(*on, *end),
+            Event::Deliver(on, way) if self.has(*on) => self.deliver(alloc, *on, *way)?,
+            Event::Repeat(on, way) if self.has(*on) => self.come(alloc, *on, *way, true)?,
+            Event::Lose(on, way) if self.has(*on) => self.lose(*on, *way),
+            Event::Damage(on, way, octets) if self.has(*on) => self.damage(*on, *way, octets),
+            Event::Ask(on, task) if self.has(*on) => self.ask(*on, *task)?,
+            Event::Relay(on) if self.has(*on) => self.relay(alloc, *on)?,
+            Event::Tick(on, End::Master) if self.has(*on) => self.tick_master(*on),
+            Event::Tick(on, End::Outstation) if self.has(*on) => self.tick_outstation(alloc, *on)?,
+            Event::Change {
+                substation,
+                kind,
+                index,
+                reading,
+            } if self.has(Link::Below(*substation)) => {
+                self.change(alloc, *substation, *kind, *index, *reading)?
+            }
+            Event::Issue {
+                substation,
+                command,
+            } => self.issue(alloc, *substation, command)?,
+            Event::Pass(ms) => self.pass(*ms),
+            Event::Restart(Place::Centre) => self.restart_centre(),
+            Event::Restart(Place::Concentrator) => self.restart_concentrator(alloc),
+            Event::Restart(Place::Substation(station)) if self.has(Link::Below(*station)) => {
+                self.restart_substation(alloc, *station)?
+            }
+            _ => {}
+        }
+        Ok(())
+    }
+
+    /// The events happen, one after the other, up to the first at which a store or a request for memory refuses. That one
+    /// counts as `Lose` if it is `Deliver`, and else it is left out.
+    pub(crate) fn run(&mut self, alloc: Global, events: &[Event]) -> Result<(), Stopped>
+        ensures held { AreWell Q.honest J.honest A.honest A.is_stopped B.honest B.is_stopped self.new → AreWell Q.honest J.honest A.honest A.is_stopped B.honest B.is_stopped self.old }
+        ensures done { AreWell Q.honest J.honest A.honest A.is_stopped B.honest B.is_stopped self.new → OnOk result (RunsTo (system_of Q.contents J.archive A.contents B.contents self.old) events.now (system_of Q.contents J.archive A.contents B.contents self.new)) }
+        ensures stopped { AreWell Q.honest J.honest A.honest A.is_stopped B.honest B.is_stopped self.new → IfErr result (λ stopped. StopsAfter (system_of Q.contents J.archive A.contents B.contents self.old) events.now stopped.done (system_of Q.contents J.archive A.contents B.contents self.new)) }
+    {
+        for (done, event) in events.iter().enumerate() {
+            if let Err(cause) = self.happen(alloc, event) {
+                return Err(Stopped { done, cause });
+            }
+        }
+        Ok(())
+    }
+}

@@ -1,0 +1,197 @@
+//! The events of a system that ask tasks, and the commands that are issued and relayed.
+
+ghost use Rattle.std.specs.Prelude.{◌≡◌, ◌⊎◌, true, IfNone, OnErr, OnOk};
+ghost use Rattle.dnp_concentrator.specs.Mapped.{command_above};
+ghost use Rattle.dnp_world.specs.OneLinkEvents.{is_own};
+ghost use Rattle.dnp_world.specs.SystemEvents.{AsksOn, IssuesBy, Reads, RelaysOn};
+ghost use Rattle.dnp_world.specs.SystemParts.{AreWell, system_of};
+ghost use Rattle.dnp_world.specs.Systems.{has_link, has_station};
+ghost use Rattle.dnp_world.specs.declared.event.Link.TheVariants as link;
+
+use super::Parts;
+use crate::event::Link;
+use crate::stopped::Cause;
+use dnp_concentrator::{IssueFault, Relayed};
+use dnp_controls::{Book, BookFault};
+use dnp_eventbuf::{JournalStore, Lanes};
+use dnp_master::Task;
+use dnp_objects::{Command, Kind};
+use dnp_pointdb::Reading;
+use std::alloc::Global;
+
+/// The cause at which a list of events stops. What a book refuses of one entry is none.
+fn cause_of(fault: BookFault) -> Option<Cause>
+    ensures { IfNone result ((fault ≡ BookFault.NoControl) ⊎ (fault ≡ BookFault.NotPending)) }
+{
+    match fault {
+        BookFault::NoControl | BookFault::NotPending => None,
+        BookFault::Exhausted => Some(Cause::Exhausted),
+        BookFault::Memory => Some(Cause::Memory),
+        BookFault::Device => Some(Cause::Device),
+    }
+}
+
+impl<Q: Lanes, J: JournalStore, A: Book, B: Book> Parts<Q, J, A, B> {
+    /// The concentrator's master of a substation asks a task of its own. What it refuses does nothing.
+    fn ask_below(&mut self, station: u8, task: Task) -> Result<(), Cause>
+        requires { has_station (system_of Q.contents J.archive A.contents B.contents self.old) station ≡ true }
+        ensures held { AreWell Q.honest J.honest A.honest A.is_stopped B.honest B.is_stopped self.new → AreWell Q.honest J.honest A.honest A.is_stopped B.honest B.is_stopped self.old }
+        ensures done { AreWell Q.honest J.honest A.honest A.is_stopped B.honest B.is_stopped self.new → OnOk result (AsksOn true (link.Below station) task (system_of Q.contents J.archive A.contents B.contents self.old) (system_of Q.contents J.archive A.contents B.contents self.new)) }
+        ensures stopped { AreWell Q.honest J.honest A.honest A.is_stopped B.honest B.is_stopped self.new → OnErr result ((system_of Q.contents J.archive A.contents B.contents self.new) ≡ (system_of Q.contents J.archive A.contents B.contents self.old)) }
+    {
+        let channel = &mut self.substations[usize::from(station)].channel;
+        channel.reserve_down()?;
+        if let Ok(request) = self.concentrator.ask_below(station, self.moment, task) {
+            channel.send_down(request.as_slice());
+        }
+        Ok(())
+    }
+
+    /// The centre asks a task of its own. What it refuses does nothing.
+    fn ask_above(&mut self, task: Task) -> Result<(), Cause>
+        ensures held { AreWell Q.honest J.honest A.honest A.is_stopped B.honest B.is_stopped self.new → AreWell Q.honest J.honest A.honest A.is_stopped B.honest B.is_stopped self.old }
+        ensures done { AreWell Q.honest J.honest A.honest A.is_stopped B.honest B.is_stopped self.new → OnOk result (AsksOn true link.Above task (system_of Q.contents J.archive A.contents B.contents self.old) (system_of Q.contents J.archive A.contents B.contents self.new)) }
+        ensures stopped { AreWell Q.honest J.honest A.honest A.is_stopped B.honest B.is_stopped self.new → OnErr result ((system_of Q.contents J.archive A.contents B.contents self.new) ≡ (system_of Q.contents J.archive A.contents B.contents self.old)) }
+    {
+        self.above.reserve_down()?;
+        if let Ok(request) = self.centre.ask(self.moment, task) {
+            self.above.send_down(request.as_slice());
+        }
+        Ok(())
+    }
+
+    /// The master of the link asks a task. What it refuses does nothing, as a command does.
+    pub(crate) fn ask(&mut self, on: Link, task: Task) -> Result<(), Cause>
+        requires { has_link (system_of Q.contents J.archive A.contents B.contents self.old) on ≡ true }
+        ensures held { AreWell Q.honest J.honest A.honest A.is_stopped B.honest B.is_stopped self.new → AreWell Q.honest J.honest A.honest A.is_stopped B.honest B.is_stopped self.old }
+        ensures done { AreWell Q.honest J.honest A.honest A.is_stopped B.honest B.is_stopped self.new → OnOk result (AsksOn (is_own task) on task (system_of Q.contents J.archive A.contents B.contents self.old) (system_of Q.contents J.archive A.contents B.contents self.new)) }
+        ensures stopped { AreWell Q.honest J.honest A.honest A.is_stopped B.honest B.is_stopped self.new → OnErr result ((system_of Q.contents J.archive A.contents B.contents self.new) ≡ (system_of Q.contents J.archive A.contents B.contents self.old)) }
+    {
+        if matches!(task, Task::Select(_) | Task::Operate(_)) {
+            return Ok(());
+        }
+        match on {
+            Link::Below(station) => self.ask_below(station, task)?,
+            Link::Above => self.ask_above(task)?,
+        }
+        Ok(())
+    }
+
+    /// A step of relaying the concentrator's controls to a substation.
+    fn relay_below(&mut self, alloc: Global, station: u8) -> Result<(), Cause>
+        requires { has_station (system_of Q.contents J.archive A.contents B.contents self.old) station ≡ true }
+        ensures held { AreWell Q.honest J.honest A.honest A.is_stopped B.honest B.is_stopped self.new → AreWell Q.honest J.honest A.honest A.is_stopped B.honest B.is_stopped self.old }
+        ensures done { AreWell Q.honest J.honest A.honest A.is_stopped B.honest B.is_stopped self.new → OnOk result (RelaysOn (link.Below station) (system_of Q.contents J.archive A.contents B.contents self.old) (system_of Q.contents J.archive A.contents B.contents self.new)) }
+        ensures stopped { AreWell Q.honest J.honest A.honest A.is_stopped B.honest B.is_stopped self.new → OnErr result ((system_of Q.contents J.archive A.contents B.contents self.new) ≡ (system_of Q.contents J.archive A.contents B.contents self.old)) }
+    {
+        let channel = &mut self.substations[usize::from(station)].channel;
+        channel.reserve_down()?;
+        match self.concentrator.relay(alloc, station, self.moment) {
+            Ok(Relayed::Selecting(_, request)) => {
+                channel.send_down(request.as_slice());
+                Ok(())
+            }
+            Ok(Relayed::Sent(_, request)) => {
+                channel.send_down(request.as_slice());
+                Ok(())
+            }
+            Ok(Relayed::Nothing) => Ok(()),
+            Ok(Relayed::Finished(_, _)) => Ok(()),
+            Err(fault) => match cause_of(fault) {
+                Some(cause) => Err(cause),
+                None => Ok(()),
+            },
+        }
+    }
+
+    /// A step of relaying the centre's controls to the concentrator.
+    fn relay_above(&mut self, alloc: Global) -> Result<(), Cause>
+        ensures held { AreWell Q.honest J.honest A.honest A.is_stopped B.honest B.is_stopped self.new → AreWell Q.honest J.honest A.honest A.is_stopped B.honest B.is_stopped self.old }
+        ensures done { AreWell Q.honest J.honest A.honest A.is_stopped B.honest B.is_stopped self.new → OnOk result (RelaysOn link.Above (system_of Q.contents J.archive A.contents B.contents self.old) (system_of Q.contents J.archive A.contents B.contents self.new)) }
+        ensures stopped { AreWell Q.honest J.honest A.honest A.is_stopped B.honest B.is_stopped self.new → OnErr result ((system_of Q.contents J.archive A.contents B.contents self.new) ≡ (system_of Q.contents J.archive A.contents B.contents self.old)) }
+    {
+        self.above.reserve_down()?;
+        match self.centre.relay(alloc, self.moment) {
+            Ok(Relayed::Selecting(_, request)) => {
+                self.above.send_down(request.as_slice());
+                Ok(())
+            }
+            Ok(Relayed::Sent(_, request)) => {
+                self.above.send_down(request.as_slice());
+                Ok(())
+            }
+            Ok(Relayed::Nothing) => Ok(()),
+            Ok(Relayed::Finished(_, _)) => Ok(()),
+            Err(fault) => match cause_of(fault) {
+                Some(cause) => Err(cause),
+                None => Ok(()),
+            },
+        }
+    }
+
+    /// A step of relaying over the link.
+    pub(crate) fn relay(&mut self, alloc: Global, on: Link) -> Result<(), Cause>
+        requires { has_link (system_of Q.contents J.archive A.contents B.contents self.old) on ≡ true }
+        ensures held { AreWell Q.honest J.honest A.honest A.is_stopped B.honest B.is_stopped self.new → AreWell Q.honest J.honest A.honest A.is_stopped B.honest B.is_stopped self.old }
+        ensures done { AreWell Q.honest J.honest A.honest A.is_stopped B.honest B.is_stopped self.new → OnOk result (RelaysOn on (system_of Q.contents J.archive A.contents B.contents self.old) (system_of Q.contents J.archive A.contents B.contents self.new)) }
+        ensures stopped { AreWell Q.honest J.honest A.honest A.is_stopped B.honest B.is_stopped self.new → OnErr result ((system_of Q.contents J.archive A.contents B.contents self.new) ≡ (system_of Q.contents J.archive A.contents B.contents self.old)) }
+    {
+        match on {
+            Link::Below(station) => self.relay_below(alloc, station)?,
+            Link::Above => self.relay_above(alloc)?,
+        }
+        Ok(())
+    }
+
+    /// A substation reads a point. A reading that its points refuse does nothing.
+    pub(crate) fn change(
+        &mut self,
+        alloc: Global,
+        station: u8,
+        kind: Kind,
+        index: u16,
+        reading: Reading,
+    ) -> Result<(), Cause>
+        requires { has_station (system_of Q.contents J.archive A.contents B.contents self.old) station ≡ true }
+        ensures held { AreWell Q.honest J.honest A.honest A.is_stopped B.honest B.is_stopped self.new → AreWell Q.honest J.honest A.honest A.is_stopped B.honest B.is_stopped self.old }
+        ensures done { AreWell Q.honest J.honest A.honest A.is_stopped B.honest B.is_stopped self.new → OnOk result (Reads station kind index reading (system_of Q.contents J.archive A.contents B.contents self.old) (system_of Q.contents J.archive A.contents B.contents self.new)) }
+        ensures stopped { AreWell Q.honest J.honest A.honest A.is_stopped B.honest B.is_stopped self.new → OnErr result ((system_of Q.contents J.archive A.contents B.contents self.new) ≡ (system_of Q.contents J.archive A.contents B.contents self.old)) }
+    {
+        let substation = &mut self.substations[usize::from(station)];
+        substation.change(
+            &mut self.actions,
+            alloc,
+            self.moment,
+            station,
+            kind,
+            index,
+            reading,
+            &mut self.history.overwritten,
+        )?;
+        Ok(())
+    }
+
+    /// A command is issued at the centre. One to no output does nothing.
+    pub(crate) fn issue(
+        &mut self,
+        alloc: Global,
+        station: u8,
+        command: &Command,
+    ) -> Result<(), Cause>
+        ensures held { AreWell Q.honest J.honest A.honest A.is_stopped B.honest B.is_stopped self.new → AreWell Q.honest J.honest A.honest A.is_stopped B.honest B.is_stopped self.old }
+        ensures done { AreWell Q.honest J.honest A.honest A.is_stopped B.honest B.is_stopped self.new → OnOk result (IssuesBy (command_above (system_of Q.contents J.archive A.contents B.contents self.old).centre.indices station command.now) station command.now (system_of Q.contents J.archive A.contents B.contents self.old) (system_of Q.contents J.archive A.contents B.contents self.new)) }
+        ensures stopped { AreWell Q.honest J.honest A.honest A.is_stopped B.honest B.is_stopped self.new → OnErr result ((system_of Q.contents J.archive A.contents B.contents self.new) ≡ (system_of Q.contents J.archive A.contents B.contents self.old)) }
+    {
+        self.history.issued.reserve(1)?;
+        match self.centre.issue(alloc, station, command) {
+            Ok(_) => {
+                self.history.issued.put(station, *command);
+                Ok(())
+            }
+            Err(IssueFault::NoOutput) => Ok(()),
+            Err(IssueFault::Exhausted) => Err(Cause::Exhausted),
+            Err(IssueFault::Memory) => Err(Cause::Memory),
+            Err(IssueFault::Device) => Err(Cause::Device),
+        }
+    }
+}

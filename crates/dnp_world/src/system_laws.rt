@@ -1,0 +1,124 @@
+//! Laws of the lists of a whole system. Each function does nothing, and its contract is a law.
+//!
+//! Behind the lists stand links of the law, which no field holds: one to each substation, and one between concentrator and
+//! centre. An event moves at most one of those below, and the one above.
+
+ghost use Rattle.std.specs.Prelude.{◌≡◌, ℕ, List, [], ◌∷◌, ◌++◌, Some, true, length};
+ghost use Rattle.std.specs.List.Sorted.{IsPermutation};
+ghost use Rattle.dnp_concentrator.specs.BookOutputs.{all_added};
+ghost use Rattle.dnp_concentrator.specs.IndexMap.{IsMap};
+ghost use Rattle.dnp_concentrator.specs.Mapped.{command_above, queued_rows};
+ghost use Rattle.dnp_concentrator.specs.declared.span.Spans.{Spans};
+ghost use Rattle.dnp_controls.specs.Book.{Ledger, entry_of, finished, is_pending, spent};
+ghost use Rattle.dnp_controls.specs.declared.book.Entry.{Entry};
+ghost use Rattle.dnp_eventbuf.specs.Stock.{arriving};
+ghost use Rattle.dnp_objects.specs.Counts.{IsCoveredBy};
+ghost use Rattle.dnp_objects.specs.declared.row.Row.{Row as RowValue};
+ghost use Rattle.dnp_pointdb.specs.Database.{Database};
+ghost use Rattle.dnp_objects.specs.declared.command.Command.{Command as CommandValue};
+ghost use Rattle.dnp_objects.specs.declared.row.Kind.{Kind};
+ghost use Rattle.dnp_pointdb.specs.declared.reading.Reading.{Reading};
+ghost use Rattle.dnp_line.specs.Lines.{delivered_on, repeated_on};
+ghost use Rattle.dnp_world.specs.declared.event.Link.TheVariants as link;
+ghost use Rattle.dnp_world.specs.declared.link_event.End.TheVariants as end;
+ghost use Rattle.dnp_world.specs.declared.link_event.LinkEvent.TheVariants as event;
+ghost use Rattle.dnp_world.specs.declared.link_event.Way.{Way};
+ghost use Rattle.dnp_world.specs.Behind.{IsBehind, IsUntouched, Links, Turn, made_at, with_links};
+ghost use Rattle.dnp_world.specs.Joined.{rows_made_by};
+ghost use Rattle.dnp_world.specs.Kept.{Kept, commands_below, nothing_kept, order_of, orders_in, report_of, rows_below, shown_of, used_orders};
+ghost use Rattle.dnp_world.specs.Reports.{Holds, IsFate, Report as ReportValue};
+ghost use Rattle.dnp_world.specs.SystemStanding.{IsStanding, Keeps, LinkPromise};
+ghost use Rattle.dnp_world.specs.SystemEvents.{ComesDownBelow, HangsUpOn, IssuesBy, LosesOn, OutstationTicks, Reads, SubstationRestarts};
+ghost use Rattle.dnp_world.specs.Systems.{System, at_station};
+
+use crate::laws::link_law;
+use dnp_concentrator::laws::{commands_are_undone, rows_above_are_undone};
+use dnp_objects::laws::{covered_is_by_counts, equality_is_decided};
+use dnp_objects::{Command, Row};
+use dnp_outstation::link_laws::{
+    a_confirm_releases_what_its_fragment_reported, commands_are_performed_as_they_are_asked,
+};
+
+/// What holds of a system's lists at every moment: they are those of links of the law before the first event, each event
+/// keeps them so, and then no row of the journal is invented, no confirmed row vanishes, what full lanes dropped was
+/// counted, and no command is performed more often than it was issued. What happened by several lists of events is what
+/// happened by one after the other, and in which order the queue is shown is no matter.
+pub fn lists_are_of_links()
+    ensures holds { (indices : List Spans) (links : Links) (k : Kept) → IsBehind indices links k → Holds (shown_of indices k) }
+    ensures at_first { (indices : List Spans) (links : Links) → ((i : ℕ) → IsUntouched (links.below i))
+        → IsUntouched links.above → IsBehind indices links nothing_kept }
+    ensures kept { (indices : List Spans) (station : ℕ) (links : Links) (old new : Kept) → IsBehind indices links old
+        → (turn : Turn indices station links old new) → IsBehind indices (with_links links station turn.below turn.above) new }
+    ensures fate { (indices : List Spans) (station : ℕ) (links : Links) (old new : Kept) → IsBehind indices links old
+        → (turn : Turn indices station links old new)
+        → IsFate (made_at station turn.here.made) (shown_of indices old) (shown_of indices new) }
+    ensures joined { (first second : ℕ → List RowValue) (a b c : ReportValue) → IsFate first a b → IsFate second b c
+        → IsFate (λ i. first i ++ second i) a c }
+    ensures reordered { (r : ReportValue) (queue : List (ℕ × RowValue)) → IsPermutation queue r.queue → Holds r → Holds (record r { queue = queue }) }
+{
+    link_law();
+    equality_is_decided::<u64, Row>();
+    equality_is_decided::<u64, Command>();
+    covered_is_by_counts::<(u64, Row)>();
+    covered_is_by_counts::<(u64, Command)>();
+}
+
+/// While links of the law stand behind a system, its report shows what holds at every moment.
+pub fn what_stands_is_shown()
+    ensures { (s : System) → ∥ IsStanding s ∥₁ → Holds (report_of s) }
+{
+    lists_are_of_links();
+}
+
+/// Events on the link to a substation at which its master takes no rows: something stands behind the system again, and at
+/// the substation happened what had happened, as far as the law of one link promises that the link follows.
+pub fn events_below_keep_what_stands()
+    ensures lost { (promise : LinkPromise) (old new : System) (station : ℕ) (way : Way) → IsStanding old
+        → LosesOn (link.Below station) way old new → Keeps station [] old new }
+    ensures hung_up { (promise : LinkPromise) (old new : System) (station : ℕ) → IsStanding old
+        → HangsUpOn (link.Below station) end.Outstation old new → Keeps station [] old new }
+    ensures restarted { (promise : LinkPromise) (old new : System) (station : ℕ) → IsStanding old
+        → SubstationRestarts station old new → Keeps station [] old new }
+    ensures delivered { (promise : LinkPromise) (old new : System) (station : ℕ) → IsStanding old
+        → ComesDownBelow delivered_on station old new → Keeps station [] old new }
+    ensures repeated { (promise : LinkPromise) (old new : System) (station : ℕ) → IsStanding old
+        → ComesDownBelow repeated_on station old new → Keeps station [] old new }
+    ensures ticked { (promise : LinkPromise) (old new : System) (station : ℕ) → IsStanding old
+        → OutstationTicks (link.Below station) old new → Keeps station [] old new }
+    ensures read { (promise : LinkPromise) (old new : System) (station : ℕ) (kind : Kind) (index : ℕ) (reading : Reading) → IsStanding old
+        → (reads : Reads station kind index reading old new)
+        → Keeps station (rows_made_by reads.was.core.points (event.Change kind index reading ∷ [])) old new }
+{
+    lists_are_of_links();
+    a_confirm_releases_what_its_fragment_reported();
+    commands_are_performed_as_they_are_asked();
+}
+
+/// Events at which no link moves keep what stands behind the system: a command is issued at the centre, of a system with one index
+/// map, and time passes.
+pub fn other_events_keep_what_stands()
+    ensures issued { (old new : System) (station : ℕ) (command : CommandValue) → IsMap old.indices → old.centre.indices ≡ old.indices
+        → IsStanding old → IssuesBy (command_above old.centre.indices station command) station command old new → Keeps station [] old new }
+    ensures passed { (old new : System) (now : ℕ) (station : ℕ) → IsStanding old → new ≡ record old { now = now } → Keeps station [] old new }
+{
+    lists_are_of_links();
+    commands_are_undone();
+}
+
+/// What calls make of the queue and of the books, as the lists of a system see them: rows that are queued stand below as they
+/// came, commands that are performed come into the book as they go down, unused, and one that was pending is used once it is spent.
+pub fn stores_show_what_moves()
+    ensures queued { (indices : List Spans) (points : Database) (station : ℕ) (rows : List RowValue) → IsMap indices
+        → length (queued_rows indices points station rows) ≡ length rows
+        → rows_below indices (arriving (queued_rows indices points station rows)) ≡ at_station station rows }
+    ensures added { (indices : List Spans) (book : Ledger) (commands : List CommandValue)
+        → (orders_in (all_added indices book commands).entries ≡ orders_in book.entries ++ commands_below indices commands)
+        × (used_orders (all_added indices book commands).entries ≡ used_orders book.entries) }
+    ensures spent { (book : Ledger) (id : ℕ) (entry : Entry) → entry_of book.entries id ≡ Some entry → is_pending entry.state ≡ true
+        → (orders_in (spent book id).entries ≡ orders_in book.entries)
+        × IsCoveredBy (used_orders book.entries ++ order_of entry ∷ []) (used_orders (spent book id).entries) }
+    ensures finished { (book : Ledger) (id status : ℕ) → (orders_in (finished book id status).entries ≡ orders_in book.entries)
+        × IsCoveredBy (used_orders book.entries) (used_orders (finished book id status).entries) }
+{
+    rows_above_are_undone();
+}

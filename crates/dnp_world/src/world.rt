@@ -1,0 +1,107 @@
+//! A whole system: substations, a concentrator and a centre, with lines between them.
+
+ghost use Rattle.std.specs.Prelude.{◌≡◌, ◌↔◌, Err, IfErr, IfOk, OnOk};
+ghost use Rattle.dnp_concentrator.specs.IndexMap.{IsTooWide, Overlaps};
+ghost use Rattle.dnp_concentrator.specs.Plan.{KeepsLimits, map_of};
+ghost use Rattle.dnp_world.specs.FreshSystems.{fresh_system};
+ghost use Rattle.dnp_world.specs.SystemEvents.{RunsTo, StopsAfter};
+ghost use Rattle.dnp_world.specs.SystemParts.{AreWell, controls_of, journal_of, orders_of, parts_of, queue_of, system_of};
+ghost use Rattle.dnp_world.specs.Systems.{standing_on};
+
+use crate::channel::Channel;
+use crate::event::{Event, Link};
+use crate::history::History;
+use crate::link_event::Way;
+use crate::new_substations::new_substations;
+use crate::parts::Parts;
+use crate::report::Report;
+use crate::stopped::{Cause, Stopped};
+use dnp_concentrator::{Centre, Concentrator, IndexMap, MapFault, Plan};
+use dnp_controls::Book;
+use dnp_eventbuf::{JournalStore, Lanes};
+use dnp_outstation::Actions;
+use std::alloc::Global;
+
+/// The link address of the centre.
+pub(crate) const CENTRE: u16 = 1;
+
+/// The link address of the concentrator's outstation.
+pub(crate) const CONCENTRATOR_ABOVE: u16 = 9;
+
+/// A whole system: substations, a concentrator and a centre, with lossy lines between them, and what became of every row
+/// and command.
+///
+/// What its events do holds where its stores are honest as a call ends, and no book has answered Device.
+#[derive(Drop)]
+pub struct World<Q, J, A, B> {
+    parts: Parts<Q, J, A, B>,
+}
+
+impl<Q: Lanes + Drop, J: JournalStore + Drop, A: Book + Drop, B: Book + Drop> World<Q, J, A, B> {
+    /// A system of a plan that keeps its limits (`Plan::keeps_limits`), all of it closed, at the moment 0, over empty stores:
+    /// the concentrator's queue, the centre's journal, and the books of concentrator and centre.
+    ///
+    /// Refused is, first of all, an index above over 65,535 (`TooWide`), and then an index above of one kind that two
+    /// substations would share (`Overlap`). After these it may be out of memory (`Memory`). What is refused drops the stores.
+    pub fn new(
+        alloc: Global,
+        plan: &Plan,
+        queue: Q,
+        journal: J,
+        controls: A,
+        orders: B,
+    ) -> Result<Self, MapFault>
+        requires { KeepsLimits plan.now }
+        ensures fresh { IfOk result (λ w. system_of Q.contents J.archive A.contents B.contents (parts_of w)
+            ≡ fresh_system plan.now (Q.contents queue) (J.archive journal) (A.contents controls) (B.contents orders)) }
+        ensures queue { IfOk result (λ w. queue_of (parts_of w) ≡ queue) }
+        ensures journal { IfOk result (λ w. journal_of (parts_of w) ≡ journal) }
+        ensures controls { IfOk result (λ w. controls_of (parts_of w) ≡ controls) }
+        ensures orders { IfOk result (λ w. orders_of (parts_of w) ≡ orders) }
+        ensures too_wide { (result ≡ Err MapFault.TooWide) ↔ IsTooWide (map_of plan.now) }
+        ensures overlap { (result ≡ Err MapFault.Overlap) ↔ (Overlaps (map_of plan.now) × (IsTooWide (map_of plan.now) → ⊥)) }
+    {
+        let map = IndexMap::new(alloc, plan)?;
+        let concentrator = Concentrator::new(alloc, plan, queue, controls)?;
+        let centre = Centre::new(alloc, plan, journal, orders)?;
+        let Ok(substations) = new_substations(alloc, plan) else {
+            return Err(MapFault::Memory);
+        };
+        Ok(World {
+            parts: Parts {
+                map,
+                substations,
+                concentrator,
+                centre,
+                above: Channel::new(alloc, CONCENTRATOR_ABOVE, CENTRE),
+                moment: 0,
+                actions: Actions::none(alloc),
+                history: History::new(alloc),
+            },
+        })
+    }
+}
+
+impl<Q: Lanes, J: JournalStore, A: Book, B: Book> World<Q, J, A, B> {
+    /// How many units stand on the line of this way of the link, 0 for a link outside the plan.
+    pub fn standing(&self, on: Link, way: Way) -> usize
+        ensures { result ≡ standing_on (system_of Q.contents J.archive A.contents B.contents (parts_of self.now)) on way }
+    {
+        self.parts.standing(on, way)
+    }
+
+    /// The events happen, one after the other, up to the first at which a store or a request for memory refuses. That one
+    /// counts as `Lose` if it is `Deliver`, and else it is left out.
+    pub fn run(&mut self, alloc: Global, events: &[Event]) -> Result<(), Stopped>
+        ensures held { AreWell Q.honest J.honest A.honest A.is_stopped B.honest B.is_stopped (parts_of self.new) → AreWell Q.honest J.honest A.honest A.is_stopped B.honest B.is_stopped (parts_of self.old) }
+        ensures done { AreWell Q.honest J.honest A.honest A.is_stopped B.honest B.is_stopped (parts_of self.new) → OnOk result (RunsTo (system_of Q.contents J.archive A.contents B.contents (parts_of self.old)) events.now (system_of Q.contents J.archive A.contents B.contents (parts_of self.new))) }
+        ensures stopped { AreWell Q.honest J.honest A.honest A.is_stopped B.honest B.is_stopped (parts_of self.new) → IfErr result (λ stopped. StopsAfter (system_of Q.contents J.archive A.contents B.contents (parts_of self.old)) events.now stopped.done (system_of Q.contents J.archive A.contents B.contents (parts_of self.new))) }
+    {
+        self.parts.run(alloc, events)
+    }
+
+    /// What became of all rows and commands so far.
+    pub fn report(&mut self, alloc: Global) -> Result<Report, Cause> {
+        self.parts.report(alloc)
+    }
+}
