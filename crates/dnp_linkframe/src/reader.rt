@@ -73,7 +73,7 @@ impl FrameReader {
         // What waits was checked when it came: until there are as many octets as are needed, it can't be told
         // what they are.
         if piece.len() < self.needed - (held - self.start) {
-            self.octets.try_extend_from_slice(piece).unwrap();
+            append(&mut self.octets, piece);
             return Ok(());
         }
         let before = out.len();
@@ -89,6 +89,18 @@ impl FrameReader {
                 Err(error)
             }
         }
+    }
+}
+
+/// Appends octets for which there is room. One alone is pushed: a copy of a length that isn't known before is a call.
+#[inline(always)]
+fn append(octets: &mut ArrayVec<u8, ROOM>, piece: &[u8])
+    requires { length octets.old.items + length piece.now ≤ ROOM }
+    ensures { octets.new.items ≡ octets.old.items ++ piece.now }
+{
+    match piece {
+        [octet] => octets.push(*octet),
+        _ => octets.try_extend_from_slice(piece).unwrap(),
     }
 }
 
@@ -130,7 +142,7 @@ fn read_on(
 {
     let held = octets.len() - start;
     let first = piece.len().min(MAX_UNIT);
-    octets.try_extend_from_slice(&piece[..first]).unwrap();
+    append(octets, &piece[..first]);
     let done = take_frames(&octets[start..], out)?;
     if piece.len() <= MAX_UNIT {
         // The whole piece was copied.

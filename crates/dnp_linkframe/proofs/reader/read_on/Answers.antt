@@ -40,13 +40,13 @@ returns-then-piece-le-MAX_UNIT-clause-given c =
     let done = c.in_ok-done.done in
     let all = c.deref.result.now in
     let seen = take (length all - start) (drop start all) in
-    let joint : c.try_extend_from_slice.new.self.items ≡ octets ++ take first piece = search rules in
+    let joint : c.append.new.octets.items ≡ octets ++ take first piece = search rules in
     let is : all ≡ octets ++ take first piece = c.deref.ensures.0 ∙ joint in
     let short : length piece ≤ MAX_UNIT = c.if-piece-le-MAX_UNIT.true in
     let whole : take first piece ≡ piece = take_all first piece (omega (arith, c.min-first.ensures)) in
     let looked : seen ≡ drop start octets ++ piece =
     looked_at octets piece all start first c.requires.begun is ∙ ap (λ (t : List ℕ). drop start octets ++ t) whole in
-    let left : drop done seen ≡ drop (start + done) c.try_extend_from_slice.new.self.items =
+    let left : drop done seen ≡ drop (start + done) c.append.new.octets.items =
     ap (λ (t : List ℕ). drop done t) (take_rest all start) ∙ drop-drop done start all
     ∙ ap (λ (t : List ℕ). drop (start + done) t) c.deref.ensures.0 in
     let g = c.in_ok-done.ensures.given in
@@ -67,9 +67,9 @@ returns-clause-given c =
     let seen = take (length all - start) (drop start all) in
     let before = c.len.result - start in
     let rest = take (length piece - (done - before)) (drop (done - before) piece) in
-    let joint : c.try_extend_from_slice.new.self.items ≡ octets ++ take first piece = search rules in
+    let joint : c.append.new.octets.items ≡ octets ++ take first piece = search rules in
     let looked : seen ≡ held ++ take first piece = looked_at octets piece all start first c.requires.begun (c.deref.ensures.0 ∙ joint) in
-    let left : c.try_extend_from_slice-2.new.self.items ≡ take (length rest - again) (drop again rest) = search rules in
+    let left : c.try_extend_from_slice.new.self.items ≡ take (length rest - again) (drop again rest) = search rules in
     let g = c.in_ok-done.ensures.given in
     let h = c.in_ok-done-2.ensures.given in
     let within : done ≤ length (held ++ take first piece) = subst (λ (t : List ℕ). done ≤ length t) looked c.in_ok-done.ensures.within in
@@ -80,14 +80,14 @@ returns-clause-given c =
     passed held piece first done c.min-first.ensures c.if-piece-le-MAX_UNIT.false fewer in
     let p : Gives (held ++ take first piece) g.0 (drop done (held ++ take first piece)) =
     subst (λ (t : List ℕ). Gives t g.0 (drop done t)) looked g.2 in
-    let waits : Gives rest h.0 c.try_extend_from_slice-2.new.self.items =
+    let waits : Gives rest h.0 c.try_extend_from_slice.new.self.items =
     subst (λ (t : List ℕ). Gives rest h.0 t) (sym (left ∙ take_rest rest again)) h.2 in
     let here : rest ≡ drop (done - length held) piece = rest_here held piece before done size in
-    let q : Gives (drop (done - length held) piece) h.0 c.try_extend_from_slice-2.new.self.items =
-    subst (λ (t : List ℕ). Gives t h.0 c.try_extend_from_slice-2.new.self.items) here waits in (
+    let q : Gives (drop (done - length held) piece) h.0 c.try_extend_from_slice.new.self.items =
+    subst (λ (t : List ℕ). Gives t h.0 c.try_extend_from_slice.new.self.items) here waits in (
       g.0 ++ h.0,
       h.1 ∙ ap (λ (x : List Frame). x ++ h.0) g.1 ∙ append_assoc c.args.out.now.items g.0 h.0,
-      gives_both held piece c.try_extend_from_slice-2.new.self.items first done g.0 h.0 past within p q,
+      gives_both held piece c.try_extend_from_slice.new.self.items first done g.0 h.0 past within p q,
     )
 
 pub returns-in_err-done-clause-full : goal.returns-in_err-done-clause-full
@@ -99,7 +99,7 @@ returns-in_err-done-clause-full c =
     let first = c.min-first.result in
     let all = c.deref.result.now in
     let seen = take (length all - start) (drop start all) in
-    let joint : c.try_extend_from_slice.new.self.items ≡ octets ++ take first piece = search rules in
+    let joint : c.append.new.octets.items ≡ octets ++ take first piece = search rules in
     let looked : seen ≡ held ++ take first piece = looked_at octets piece all start first c.requires.begun (c.deref.ensures.0 ∙ joint) in
     let whole : seen ++ drop first piece ≡ held ++ piece =
     ap (λ (t : List ℕ). t ++ drop first piece) looked ∙ append_assoc held (take first piece) (drop first piece)
@@ -119,7 +119,7 @@ returns-in_err-done-2-clause-full c =
     let seen = take (length all - start) (drop start all) in
     let before = c.len.result - start in
     let rest = take (length piece - (done - before)) (drop (done - before) piece) in
-    let joint : c.try_extend_from_slice.new.self.items ≡ octets ++ take first piece = search rules in
+    let joint : c.append.new.octets.items ≡ octets ++ take first piece = search rules in
     let looked : seen ≡ held ++ take first piece = looked_at octets piece all start first c.requires.begun (c.deref.ensures.0 ∙ joint) in
     let within : done ≤ length (held ++ take first piece) = subst (λ (t : List ℕ). done ≤ length t) looked c.in_ok-done.ensures.within in
     let size : before ≡ length held = omega (arith, c.len.ensures.value, length-drop start octets) in

@@ -19,7 +19,7 @@ pub returns-then-piece-self-clause-given : goal.returns-then-piece-self-clause-g
 returns-then-piece-self-clause-given c = (
   [],
   sym (append-nil c.args.out.now.items),
-  waits_longer c.args.self.now c.make_room-self-inside.new.octets.items c.args.piece.now c.try_extend_from_slice.new.self.items
+  waits_longer c.args.self.now c.make_room-self-inside.new.octets.items c.args.piece.now c.append.new.octets.items
       c.make_room-self-inside.result c.self.inside.needed c.make_room-self-inside.ensures.begun
       (c.make_room-self-inside.ensures.same ∙ c.self.view_is) (search rules)
       (subst (λ (t : List ℕ). Awaits t c.self.inside.needed) c.self.view_is c.self.invariant.1)
@@ -29,10 +29,10 @@ returns-then-piece-self-clause-given c = (
 pub returns-then-piece-self-clause-carried : goal.returns-then-piece-self-clause-carried
 returns-then-piece-self-clause-carried c = λ (stream : List ℕ) (before frames : List Frame) (held : Gives stream before c.args.self.now) is.
     let view : List ℕ = c.args.self.now in
-    let left : List ℕ = drop c.make_room-self-inside.result c.try_extend_from_slice.new.self.items in
+    let left : List ℕ = drop c.make_room-self-inside.result c.append.new.octets.items in
     let none : [] ≡ frames = append_cancel_left c.args.out.now.items [] frames (append-nil c.args.out.now.items ∙ is) in
     let here : Gives (view ++ c.args.piece.now) [] left =
-    waits_longer c.args.self.now c.make_room-self-inside.new.octets.items c.args.piece.now c.try_extend_from_slice.new.self.items
+    waits_longer c.args.self.now c.make_room-self-inside.new.octets.items c.args.piece.now c.append.new.octets.items
     c.make_room-self-inside.result c.self.inside.needed c.make_room-self-inside.ensures.begun
     (c.make_room-self-inside.ensures.same ∙ c.self.view_is) (search rules)
     (subst (λ (t : List ℕ). Awaits t c.self.inside.needed) c.self.view_is c.self.invariant.1)
