@@ -7,6 +7,7 @@ use dnp_eventbuf::PlainLanes;
 use dnp_objects::Command;
 use dnp_outstation::Actions;
 use std::alloc::{AllocError, Global};
+use std::process::Abort;
 use std::test::Fail;
 
 /// A concentrator over stores in memory.
@@ -90,42 +91,35 @@ fn concentrator_of(alloc: Global, unsolicited: bool) -> Result<Option<Middle>, A
     Ok(Concentrator::new(alloc, &plan, queue, PlainBook::new(alloc)).ok())
 }
 
-#[test]
-fn a_command_above_is_put_into_the_book(rt: HostRuntime) -> Result<(), Fail> {
-    let alloc = rt.alloc();
-    let Some(mut concentrator) = concentrator_of(alloc, false)? else {
-        assert!(rt; false, "no concentrator");
-        return Ok(());
-    };
+/// Commands from above come into the book, and those to an output that the plan lacks don't.
+fn commands_are_put(rt: &impl Abort, alloc: Global, concentrator: &mut Middle) -> Result<(), Fail> {
     let mut actions = Actions::none(alloc);
     concentrator.opened_above(&mut actions, alloc, 0)?;
     for (head, objects, status) in STEPS {
-        let is_right = is_answered(
-            &mut concentrator,
-            &mut actions,
-            alloc,
-            head,
-            &objects,
-            status,
-        )?;
+        let is_right = is_answered(concentrator, &mut actions, alloc, head, &objects, status)?;
         assert!(rt; is_right, "{head:?} {status}");
     }
     assert!(rt; concentrator.book().rows(alloc, 0, 10)?.as_slice() == [LATCHED].as_slice());
     concentrator.hung_up_above();
     assert!(rt; !concentrator.quiet_above());
     concentrator.restart(alloc);
+    Ok(())
+}
+
+#[test]
+fn a_command_above_is_put_into_the_book(rt: HostRuntime) -> Result<(), Fail> {
+    let alloc = rt.alloc();
+    let Some(mut concentrator) = concentrator_of(alloc, false)? else {
+        return Err(Fail::new("no concentrator"));
+    };
+    commands_are_put(&rt, alloc, &mut concentrator)?;
     let (_queue, mut book) = concentrator.into_stores();
     assert!(rt; book.rows(alloc, 0, 10)?.as_slice() == [LATCHED].as_slice());
     Ok(())
 }
 
-#[test]
-fn a_report_above_awaits_its_confirm(rt: HostRuntime) -> Result<(), Fail> {
-    let alloc = rt.alloc();
-    let Some(mut concentrator) = concentrator_of(alloc, true)? else {
-        assert!(rt; false, "no concentrator");
-        return Ok(());
-    };
+/// The first report above awaits its confirm, and the link closes when its time is over.
+fn report_closes(rt: &impl Abort, alloc: Global, concentrator: &mut Middle) -> Result<(), Fail> {
     let mut actions = Actions::none(alloc);
     concentrator.opened_above(&mut actions, alloc, 0)?;
     assert!(rt; sends(&actions, &[0xF0, 0x82, 0x80, 0x00]));
@@ -137,4 +131,12 @@ fn a_report_above_awaits_its_confirm(rt: HostRuntime) -> Result<(), Fail> {
         );
     }
     Ok(())
+}
+
+#[test]
+fn a_report_above_awaits_its_confirm(rt: HostRuntime) -> Result<(), Fail> {
+    match concentrator_of(rt.alloc(), true)? {
+        Some(mut concentrator) => report_closes(&rt, rt.alloc(), &mut concentrator),
+        None => Err(Fail::new("no concentrator")),
+    }
 }

@@ -1,5 +1,7 @@
 //! A centre, a concentrator and a substation, by direct calls.
 
+ghost use Rattle.dnp_concentrator.specs.Plan.{KeepsLimits};
+
 use crate::above::{Middle, sends};
 use crate::plans::{SMALL, plan};
 use dnp_concentrator::{Centre, Concentrator, IssueFault, Plan, Relayed};
@@ -8,8 +10,9 @@ use dnp_eventbuf::{Lane, Lanes, Numbered, PlainJournal, PlainLanes};
 use dnp_master::{Classes, MasterActions, Task};
 use dnp_objects::{Command, Kind, Row, Status};
 use dnp_outstation::{Actions, Outstation};
-use dnp_pointdb::{Block, Point, PointDb, PointPlan, Points, Reading};
+use dnp_pointdb::{Block, Point, PointDb, PointPlan, Points, Reading, Times};
 use std::alloc::Global;
+use std::process::Abort;
 use std::test::Fail;
 
 /// When all calls are made, in milliseconds.
@@ -56,20 +59,38 @@ const DONE: Entry = Entry {
     state: State::Finished(Status::SUCCESS),
 };
 
-/// The stations of a plan of one substation with one binary input of class 1, over empty stores, with open connections;
-/// the concentrator's queue takes one row a lane. `None` where the plan isn't one.
-fn path_of(alloc: Global, plan: &Plan) -> Result<Option<Path>, Fail> {
-    if !plan.keeps_limits() {
-        return Ok(None);
-    }
+/// A concentrator of a plan that keeps its limits, with open connections; its queue takes one row a lane. `None` where the
+/// plan isn't one.
+fn middle_of(alloc: Global, plan: &Plan) -> Result<Option<Middle>, Fail>
+    requires { KeepsLimits plan.now }
+{
     let queue = PlainLanes::new(alloc, [1; 9])?;
     let Ok(mut concentrator) = Concentrator::new(alloc, plan, queue, PlainBook::new(alloc)) else {
         return Ok(None);
     };
-    let Ok(mut centre) = Centre::new(alloc, plan, PlainJournal::new(alloc), PlainBook::new(alloc))
-    else {
-        return Ok(None);
-    };
+    concentrator.opened_above(&mut Actions::none(alloc), alloc, NOW)?;
+    if concentrator.substations() > 0 {
+        concentrator.opened_below(0);
+    }
+    Ok(Some(concentrator))
+}
+
+/// A centre of a plan that keeps its limits, with an open connection. `None` where the plan isn't one.
+fn top_of(alloc: Global, plan: &Plan) -> Option<Top>
+    requires { KeepsLimits plan.now }
+{
+    let mut centre = Centre::new(
+        alloc,
+        plan,
+        PlainJournal::new(alloc),
+        PlainBook::new(alloc),
+    ).ok()?;
+    centre.opened();
+    Some(centre)
+}
+
+/// The one binary input, of class 1.
+fn points(alloc: Global) -> Result<Option<PointDb>, Fail> {
     let inputs = Block {
         base: 0,
         points: Points::new(vec![in alloc; Point {
@@ -77,26 +98,41 @@ fn path_of(alloc: Global, plan: &Plan) -> Result<Option<Path>, Fail> {
             deadband: 0
         }; 1]?),
     };
-    let Ok(points) = PointPlan::new(vec![in alloc; inputs]?, Vec::new(alloc), Vec::new(alloc))
-    else {
+    let plan = PointPlan::new(vec![in alloc; inputs]?, Vec::new(alloc), Vec::new(alloc));
+    match plan {
+        Ok(plan) => Ok(Some(PointDb::new(alloc, plan)?)),
+        Err(_) => Ok(None),
+    }
+}
+
+/// An outstation with the points and one output, with an open connection.
+fn bottom_of(alloc: Global, points: PointDb, times: Times) -> Result<Bottom, Fail> {
+    let lanes = PlainLanes::new(alloc, [100; 9])?;
+    let mut substation = Outstation::new(points, lanes, PlainOutputs::new(alloc, 1, 0), times);
+    let _ = substation.opened(alloc, NOW)?;
+    Ok(substation)
+}
+
+/// The stations of a plan of one substation with one binary input of class 1, over empty stores, with open connections.
+/// `None` where the plan isn't one.
+fn path_of(alloc: Global) -> Result<Option<Path>, Fail> {
+    let plan = plan(alloc, &[SMALL])?;
+    if !plan.keeps_limits() {
+        return Ok(None);
+    }
+    let Some(concentrator) = middle_of(alloc, &plan)? else {
         return Ok(None);
     };
-    let mut substation = Outstation::new(
-        PointDb::new(alloc, points)?,
-        PlainLanes::new(alloc, [100; 9])?,
-        PlainOutputs::new(alloc, 1, 0),
-        plan.times,
-    );
-    centre.opened();
-    concentrator.opened_above(&mut Actions::none(alloc), alloc, NOW)?;
-    if concentrator.substations() > 0 {
-        concentrator.opened_below(0);
-    }
-    let _ = substation.opened(alloc, NOW)?;
+    let Some(centre) = top_of(alloc, &plan) else {
+        return Ok(None);
+    };
+    let Some(points) = points(alloc)? else {
+        return Ok(None);
+    };
     Ok(Some(Path {
         centre,
         concentrator,
-        substation,
+        substation: bottom_of(alloc, points, plan.times)?,
     }))
 }
 
@@ -175,17 +211,12 @@ const STEPS: [(u8, u64, Option<Status>); 4] = [
     (0, 0, None),
 ];
 
-#[test]
-fn a_control_goes_down_through_both_books(rt: HostRuntime) -> Result<(), Fail> {
-    let alloc = rt.alloc();
-    let Some(path) = path_of(alloc, &plan(alloc, &[SMALL])?)? else {
-        assert!(rt; false, "no path");
-        return Ok(());
-    };
+/// A control goes down through both books and operates once; one that the plan lacks an output for isn't issued.
+fn control_goes_down(rt: &impl Abort, alloc: Global, path: &mut Path) -> Result<(), Fail> {
     let Path {
-        mut centre,
-        mut concentrator,
-        mut substation,
+        centre,
+        concentrator,
+        substation,
     } = path;
     let mut actions = Actions::none(alloc);
     for (station, command) in [(0, LATCH_NEXT), (0, SETPOINT), (1, LATCH)] {
@@ -197,18 +228,26 @@ fn a_control_goes_down_through_both_books(rt: HostRuntime) -> Result<(), Fail> {
     }
     assert!(rt; centre.issue(alloc, 0, &LATCH)? == 1);
     for step in STEPS {
-        let relayed = relay_above(&mut centre, &mut concentrator, &mut actions, alloc)?;
+        let relayed = relay_above(centre, concentrator, &mut actions, alloc)?;
         assert!(rt; told(&relayed) == step, "above {step:?}");
     }
     assert!(rt; substation.outputs().operated().is_empty());
     for step in STEPS {
-        let relayed = relay_below(&mut concentrator, &mut substation, alloc)?;
+        let relayed = relay_below(concentrator, substation, alloc)?;
         assert!(rt; told(&relayed) == step, "below {step:?}");
     }
     assert!(rt; substation.outputs().operated() == [LATCH].as_slice());
     let entries = concentrator.book().rows(alloc, 0, 2)?;
     assert!(rt; entries.as_slice() == [DONE].as_slice());
     Ok(())
+}
+
+#[test]
+fn a_control_goes_down_through_both_books(rt: HostRuntime) -> Result<(), Fail> {
+    match path_of(rt.alloc())? {
+        Some(mut path) => control_goes_down(&rt, rt.alloc(), &mut path),
+        None => Err(Fail::new("no path")),
+    }
 }
 
 /// A reading of the binary input.
@@ -249,30 +288,23 @@ fn poll(
     answer_below(concentrator, substation, alloc, request.as_slice())
 }
 
-#[test]
-fn events_that_are_polled_are_queued(rt: HostRuntime) -> Result<(), Fail> {
-    let alloc = rt.alloc();
-    let Some(path) = path_of(alloc, &plan(alloc, &[SMALL])?)? else {
-        assert!(rt; false, "no path");
-        return Ok(());
-    };
-    let Path {
-        centre: _,
-        mut concentrator,
-        mut substation,
-    } = path;
+/// Of two events that are polled the full lane drops the first; above, the second stands as the present value.
+fn events_are_queued(
+    rt: &impl Abort,
+    alloc: Global,
+    concentrator: &mut Middle,
+    substation: &mut Bottom,
+) -> Result<(), Fail> {
     for value in [0, 1] {
         let _ = substation.change(alloc, NOW, Kind::Binary, 0, reading(value))?;
     }
-    let Some(taken) = poll(&mut concentrator, &mut substation, alloc)? else {
-        assert!(rt; false, "no answer");
-        return Ok(());
+    let Some(taken) = poll(concentrator, substation, alloc)? else {
+        return Err(Fail::new("no answer"));
     };
     assert!(rt; taken.taken == 2 && taken.send == Some([0xC0, 0x00]));
     assert!(rt; taken.dropped.as_slice() == [row(0)].as_slice());
     let Some(lane) = Lane::new(1, Kind::Binary) else {
-        assert!(rt; false, "no lane");
-        return Ok(());
+        return Err(Fail::new("no lane"));
     };
     assert!(rt; concentrator.queue().lost(lane) == 1);
     let queued = concentrator.queue().offer(alloc, lane, 0, 9)?;
@@ -282,4 +314,19 @@ fn events_that_are_polled_are_queued(rt: HostRuntime) -> Result<(), Fail> {
     concentrator.receive_above(&mut actions, alloc, NOW, &[0xC0, 0x01, 0x3C, 0x01, 0x06])?;
     assert!(rt; sends(&actions, &PRESENT));
     Ok(())
+}
+
+#[test]
+fn events_that_are_polled_are_queued(rt: HostRuntime) -> Result<(), Fail> {
+    match path_of(rt.alloc())? {
+        Some(mut path) => {
+            let Path {
+                concentrator,
+                substation,
+                ..
+            } = &mut path;
+            events_are_queued(&rt, rt.alloc(), concentrator, substation)
+        },
+        None => Err(Fail::new("no path")),
+    }
 }
