@@ -64,3 +64,5 @@ mod BelowEvents
 mod BelowSteps
 mod Issuing
 mod NewSubstations
+mod ReportReading
+mod ReportLists

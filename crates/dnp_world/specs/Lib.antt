@@ -22,3 +22,4 @@ pub mod SystemStanding
 pub mod SystemEvents
 pub mod SystemParts
 pub mod FreshSystems
+pub mod ReportShown

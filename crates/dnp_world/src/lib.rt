@@ -17,6 +17,7 @@ mod new_substations;
 mod one_link;
 pub mod outstation_laws;
 mod parts;
+mod reading;
 mod report;
 mod sending;
 mod station_list;

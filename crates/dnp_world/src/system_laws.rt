@@ -3,7 +3,7 @@
 //! Behind the lists stand links of the law, which no field holds: one to each substation, and one between concentrator and
 //! centre. An event moves at most one of those below, and the one above.
 
-ghost use Rattle.std.specs.Prelude.{◌≡◌, ℕ, List, [], ◌∷◌, ◌++◌, Some, true, length};
+ghost use Rattle.std.specs.Prelude.{◌≡◌, ◌^◌, ◌<◌, ◌≤◌, ℕ, List, [], ◌∷◌, ◌++◌, Some, true, length};
 ghost use Rattle.std.specs.List.Sorted.{IsPermutation};
 ghost use Rattle.dnp_concentrator.specs.BookOutputs.{all_added};
 ghost use Rattle.dnp_concentrator.specs.IndexMap.{IsMap};
@@ -11,7 +11,7 @@ ghost use Rattle.dnp_concentrator.specs.Mapped.{command_above, queued_rows};
 ghost use Rattle.dnp_concentrator.specs.declared.span.Spans.{Spans};
 ghost use Rattle.dnp_controls.specs.Book.{Ledger, entry_of, finished, is_pending, spent};
 ghost use Rattle.dnp_controls.specs.declared.book.Entry.{Entry};
-ghost use Rattle.dnp_eventbuf.specs.Stock.{arriving};
+ghost use Rattle.dnp_eventbuf.specs.Stock.{arriving, lost_in};
 ghost use Rattle.dnp_objects.specs.Counts.{IsCoveredBy};
 ghost use Rattle.dnp_objects.specs.declared.row.Row.{Row as RowValue};
 ghost use Rattle.dnp_pointdb.specs.Database.{Database};
@@ -23,9 +23,12 @@ ghost use Rattle.dnp_world.specs.declared.event.Link.TheVariants as link;
 ghost use Rattle.dnp_world.specs.declared.link_event.End.TheVariants as end;
 ghost use Rattle.dnp_world.specs.declared.link_event.LinkEvent.TheVariants as event;
 ghost use Rattle.dnp_world.specs.declared.link_event.Way.{Way};
+ghost use Rattle.dnp_world.specs.declared.parts.report.TheConstants.{NUMBERS};
+ghost use Rattle.dnp_world.specs.declared.report.Report.{Report as Shown};
 ghost use Rattle.dnp_world.specs.Behind.{IsBehind, IsUntouched, Links, Turn, made_at, with_links};
 ghost use Rattle.dnp_world.specs.Joined.{rows_made_by};
 ghost use Rattle.dnp_world.specs.Kept.{Kept, commands_below, nothing_kept, order_of, orders_in, report_of, rows_below, shown_of, used_orders};
+ghost use Rattle.dnp_world.specs.ReportShown.{Shows, lists_of};
 ghost use Rattle.dnp_world.specs.Reports.{Holds, IsFate, Report as ReportValue};
 ghost use Rattle.dnp_world.specs.SystemStanding.{IsStanding, Keeps, LinkPromise};
 ghost use Rattle.dnp_world.specs.SystemEvents.{ComesDownBelow, HangsUpOn, IssuesBy, LosesOn, OutstationTicks, Reads, SubstationRestarts};
@@ -68,6 +71,19 @@ pub fn what_stands_is_shown()
     ensures { (s : System) → ∥ IsStanding s ∥₁ → Holds (report_of s) }
 {
     lists_are_of_links();
+}
+
+/// A report that shows a system has what the system keeps: the rows of the queue in another order, and all else as it is, as far
+/// as its numbers reach. So while links of the law stand behind the system, what holds at every moment holds of the report.
+pub fn what_a_report_shows_is_kept()
+    ensures queue { (s : System) (r : Shown) → Shows s r → IsPermutation r.queue (report_of s).queue }
+    ensures others { (s : System) (r : Shown) → Shows s r → length s.substations ≤ NUMBERS → lost_in s.concentrator.queue < 2 ^ 64
+        → lists_of r ≡ record (report_of s) { queue = r.queue } }
+    ensures holds { (s : System) (r : Shown) → Shows s r → length s.substations ≤ NUMBERS → lost_in s.concentrator.queue < 2 ^ 64
+        → ∥ IsStanding s ∥₁ → Holds (lists_of r) }
+{
+    lists_are_of_links();
+    what_stands_is_shown();
 }
 
 /// Events on the link to a substation at which its master takes no rows: something stands behind the system again, and at

@@ -4,6 +4,7 @@ ghost use Rattle.std.specs.Prelude.{◌≡◌, ◌↔◌, Err, IfErr, IfOk, OnOk
 ghost use Rattle.dnp_concentrator.specs.IndexMap.{IsTooWide, Overlaps};
 ghost use Rattle.dnp_concentrator.specs.Plan.{KeepsLimits, map_of};
 ghost use Rattle.dnp_world.specs.FreshSystems.{fresh_system};
+ghost use Rattle.dnp_world.specs.ReportShown.{Shows};
 ghost use Rattle.dnp_world.specs.SystemEvents.{RunsTo, StopsAfter};
 ghost use Rattle.dnp_world.specs.SystemParts.{AreWell, controls_of, journal_of, orders_of, parts_of, queue_of, system_of};
 ghost use Rattle.dnp_world.specs.Systems.{standing_on};
@@ -100,8 +101,12 @@ impl<Q: Lanes, J: JournalStore, A: Book, B: Book> World<Q, J, A, B> {
         self.parts.run(alloc, events)
     }
 
-    /// What became of all rows and commands so far.
-    pub fn report(&mut self, alloc: Global) -> Result<Report, Cause> {
+    /// What became of all rows and commands so far. It changes nothing.
+    pub fn report(&mut self, alloc: Global) -> Result<Report, Cause>
+        ensures held { AreWell Q.honest J.honest A.honest A.is_stopped B.honest B.is_stopped (parts_of self.new) → AreWell Q.honest J.honest A.honest A.is_stopped B.honest B.is_stopped (parts_of self.old) }
+        ensures same { AreWell Q.honest J.honest A.honest A.is_stopped B.honest B.is_stopped (parts_of self.new) → system_of Q.contents J.archive A.contents B.contents (parts_of self.new) ≡ system_of Q.contents J.archive A.contents B.contents (parts_of self.old) }
+        ensures shows { AreWell Q.honest J.honest A.honest A.is_stopped B.honest B.is_stopped (parts_of self.new) → IfOk result (Shows (system_of Q.contents J.archive A.contents B.contents (parts_of self.old))) }
+    {
         self.parts.report(alloc)
     }
 }

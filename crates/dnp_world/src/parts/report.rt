@@ -1,123 +1,107 @@
 //! What became of all rows and commands.
 
+ghost use Rattle.std.specs.Prelude.{◌≡◌, ◌++◌, List, IfOk, OnOk, map as all_of, take};
+ghost use Rattle.dnp_eventbuf.specs.Stock.{row_of};
+ghost use Rattle.dnp_eventbuf.specs.declared.numbered.Numbered.{Numbered as NumberedValue};
+ghost use Rattle.dnp_world.specs.Kept.{lane_rows_of, rows_below as mapped_below};
+ghost use Rattle.dnp_world.specs.ReportShown.{AreById, Shows, all_in};
+ghost use Rattle.dnp_world.specs.Stations.{listed_from};
+ghost use Rattle.dnp_world.specs.SystemParts.{AreWell, substation_of, system_of};
+ghost use Rattle.dnp_world.specs.Systems.{at_station};
+
 use super::Parts;
+use crate::reading::{
+    all_rows, journal_rows, lost_rows, numbered_below, put_rows_of, rows_below, rows_by_id,
+};
 use crate::report::Report;
 use crate::stopped::Cause;
-use dnp_concentrator::{IndexMap, Listed};
+use crate::substation::Substation;
+use dnp_concentrator::Listed;
 use dnp_controls::Book;
-use dnp_eventbuf::{JournalStore, Lanes, Numbered};
-use dnp_objects::{Command, LANES, Lane, Row};
+use dnp_eventbuf::{JournalStore, Lanes};
+use dnp_objects::Row;
 use std::alloc::{AllocError, Global};
 
-/// Puts a row above behind the list, as it stands at its substation.
-fn put_below(list: &mut Vec<(u8, Row)>, map: &IndexMap, row: &Row) -> Result<(), AllocError> {
-    if let Some(below) = map.row_below(row) {
-        list.push(below)?;
-    }
-    Ok(())
-}
-
-/// Puts rows of a substation behind the list.
-fn put_numbered(
-    list: &mut Vec<(u8, Row)>,
-    station: u8,
-    rows: &[Numbered],
-) -> Result<(), AllocError> {
-    for row in rows {
-        list.push((station, row.row))?;
-    }
-    Ok(())
-}
-
-/// All rows of lanes, by their numbers.
-fn rows_by_id<L: Lanes>(alloc: Global, lanes: &mut L) -> Result<Vec<Numbered>, Cause> {
-    let mut rows = Vec::new(alloc);
-    for number in 0..LANES {
-        if let Some(lane) = Lane::numbered(number) {
-            let offered = lanes.offer(alloc, lane, 0, usize::MAX)?;
-            rows.extend_from_slice(offered.as_slice())?;
-        }
-    }
-    rows.sort_unstable_by_key(|row: &Numbered| row.id);
-    Ok(rows)
-}
+/// How many substations a report can name: each number is an octet.
+const NUMBERS: usize = 256;
 
 /// A copy of the list.
-fn copied<T: Copy>(alloc: Global, list: &[(u8, T)]) -> Result<Listed<(u8, T)>, AllocError> {
+fn copied<T: Copy>(alloc: Global, list: &[(u8, T)]) -> Result<Listed<(u8, T)>, AllocError>
+    ensures { IfOk result (λ copy. copy ≡ list.now) }
+{
     Ok(Listed::new(Vec::from_slice(alloc, list)?))
+}
+
+/// Puts the rows in the lanes of the substation of this number behind the list, lane by lane.
+fn put_buffered(
+    alloc: Global,
+    substation: &mut Substation,
+    station: u8,
+    list: &mut Vec<(u8, Row)>,
+) -> Result<(), Cause>
+    ensures same { substation_of substation.new ≡ substation_of substation.old }
+    ensures rows { OnOk result (list.new.items ≡ list.old.items ++ at_station station (lane_rows_of (substation_of substation.old))) }
+{
+    let rows = all_rows(alloc, substation.outstation.lanes())?;
+    put_rows_of(list, station, rows.as_slice())?;
+    Ok(())
+}
+
+/// The rows in the lanes of the first substations, one after the other, as many as a report can name.
+fn buffered_rows(alloc: Global, substations: &mut [Substation]) -> Result<Vec<(u8, Row)>, Cause>
+    ensures same { all_of substation_of substations.new ≡ all_of substation_of substations.old }
+    ensures rows { IfOk result (λ rows. rows.items ≡ listed_from lane_rows_of 0 (take NUMBERS (all_of substation_of substations.old))) }
+{
+    let mut list = Vec::new(alloc);
+    let count = substations.len().min(NUMBERS);
+    for number in 0..count {
+        put_buffered(alloc, &mut substations[number], number as u8, &mut list)?;
+    }
+    Ok(list)
 }
 
 impl<Q: Lanes, J: JournalStore, A: Book, B: Book> Parts<Q, J, A, B> {
     /// The journal's rows.
-    fn journal_rows(&mut self, alloc: Global) -> Result<Listed<(u8, Row)>, Cause> {
-        let mut list = Vec::new(alloc);
-        for row in self.centre.journal().rows(alloc, 0, usize::MAX)?.as_slice() {
-            put_below(&mut list, &self.map, &row.row)?;
-        }
-        Ok(Listed::new(list))
+    fn journal_below(&mut self, alloc: Global) -> Result<Vec<(u8, Row)>, Cause>
+        ensures held { AreWell Q.honest J.honest A.honest A.is_stopped B.honest B.is_stopped self.new → AreWell Q.honest J.honest A.honest A.is_stopped B.honest B.is_stopped self.old }
+        ensures same { AreWell Q.honest J.honest A.honest A.is_stopped B.honest B.is_stopped self.new → system_of Q.contents J.archive A.contents B.contents self.new ≡ system_of Q.contents J.archive A.contents B.contents self.old }
+        ensures rows { AreWell Q.honest J.honest A.honest A.is_stopped B.honest B.is_stopped self.new → IfOk result (λ rows. rows.items ≡ (let s = system_of Q.contents J.archive A.contents B.contents self.old in mapped_below s.indices (all_of row_of s.centre.journal.rows))) }
+    {
+        let rows = journal_rows(alloc, self.centre.journal())?;
+        Ok(numbered_below(alloc, &self.map, rows.as_slice())?)
     }
 
-    /// The queue's rows.
-    fn queue_rows(&mut self, alloc: Global) -> Result<Listed<(u8, Row)>, Cause> {
-        let mut list = Vec::new(alloc);
-        for row in rows_by_id(alloc, self.concentrator.queue())?.as_slice() {
-            put_below(&mut list, &self.map, &row.row)?;
-        }
-        Ok(Listed::new(list))
-    }
-
-    /// The rows in the lanes of the substations.
-    fn buffered_rows(&mut self, alloc: Global) -> Result<Listed<(u8, Row)>, Cause> {
-        let mut list = Vec::new(alloc);
-        let mut station = 0u8;
-        for substation in self.substations.iter_mut() {
-            for number in 0..LANES {
-                if let Some(lane) = Lane::numbered(number) {
-                    let offered = substation
-                        .outstation
-                        .lanes()
-                        .offer(alloc, lane, 0, usize::MAX)?;
-                    put_numbered(&mut list, station, offered.as_slice())?;
-                }
-            }
-            station = station.saturating_add(1);
-        }
-        Ok(Listed::new(list))
-    }
-
-    /// The rows that the queue dropped.
-    fn dropped_rows(&self, alloc: Global) -> Result<Listed<(u8, Row)>, Cause> {
-        let mut list = Vec::new(alloc);
-        for row in self.history.dropped.as_slice() {
-            put_below(&mut list, &self.map, row)?;
-        }
-        Ok(Listed::new(list))
-    }
-
-    /// How many rows the queue's lanes count as lost.
-    fn lost(&mut self) -> u64 {
-        let mut lost = 0u64;
-        for number in 0..LANES {
-            if let Some(lane) = Lane::numbered(number) {
-                lost = lost.saturating_add(self.concentrator.queue().lost(lane));
-            }
-        }
-        lost
+    /// The queue's rows, by their ids.
+    fn queue_below(&mut self, alloc: Global) -> Result<Vec<(u8, Row)>, Cause>
+        ensures held { AreWell Q.honest J.honest A.honest A.is_stopped B.honest B.is_stopped self.new → AreWell Q.honest J.honest A.honest A.is_stopped B.honest B.is_stopped self.old }
+        ensures same { AreWell Q.honest J.honest A.honest A.is_stopped B.honest B.is_stopped self.new → system_of Q.contents J.archive A.contents B.contents self.new ≡ system_of Q.contents J.archive A.contents B.contents self.old }
+        ensures rows { AreWell Q.honest J.honest A.honest A.is_stopped B.honest B.is_stopped self.new → IfOk result (λ rows. let s = system_of Q.contents J.archive A.contents B.contents self.old in
+            (queued : List NumberedValue) × AreById (all_in s.concentrator.queue) queued × (rows.items ≡ mapped_below s.indices (all_of row_of queued))) }
+    {
+        let rows = rows_by_id(alloc, self.concentrator.queue())?;
+        Ok(numbered_below(alloc, &self.map, rows.as_slice())?)
     }
 
     /// What became of all rows and commands so far.
-    pub(crate) fn report(&mut self, alloc: Global) -> Result<Report, Cause> {
+    pub(crate) fn report(&mut self, alloc: Global) -> Result<Report, Cause>
+        ensures held { AreWell Q.honest J.honest A.honest A.is_stopped B.honest B.is_stopped self.new → AreWell Q.honest J.honest A.honest A.is_stopped B.honest B.is_stopped self.old }
+        ensures same { AreWell Q.honest J.honest A.honest A.is_stopped B.honest B.is_stopped self.new → system_of Q.contents J.archive A.contents B.contents self.new ≡ system_of Q.contents J.archive A.contents B.contents self.old }
+        ensures shows { AreWell Q.honest J.honest A.honest A.is_stopped B.honest B.is_stopped self.new → IfOk result (Shows (system_of Q.contents J.archive A.contents B.contents self.old)) }
+    {
+        let journal = self.journal_below(alloc)?;
+        let queue = self.queue_below(alloc)?;
+        let buffered = buffered_rows(alloc, &mut self.substations)?;
         Ok(Report {
-            journal: self.journal_rows(alloc)?,
-            queue: self.queue_rows(alloc)?,
-            dropped: self.dropped_rows(alloc)?,
+            journal: Listed::new(journal),
+            queue: Listed::new(queue),
+            dropped: Listed::new(rows_below(alloc, &self.map, self.history.dropped.as_slice())?),
             confirmed: copied(alloc, self.history.confirmed.as_slice())?,
-            buffered: self.buffered_rows(alloc)?,
+            buffered: Listed::new(buffered),
             overwritten: copied(alloc, self.history.overwritten.as_slice())?,
             gone: copied(alloc, self.history.gone.as_slice())?,
             issued: copied(alloc, self.history.issued.as_slice())?,
             operated: copied(alloc, self.history.operated.as_slice())?,
-            lost: self.lost(),
+            lost: lost_rows(self.concentrator.queue()),
         })
     }
 }

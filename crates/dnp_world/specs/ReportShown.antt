@@ -1,0 +1,52 @@
+-- Definition: what a report of a whole system shows: what became of its rows and commands, each beside the number of its
+-- substation and with the index there (own rule: IEEE Std 1815-2012 knows no such report).
+use Rattle.std.specs.Prelude.{◌≡◌, ◌^◌, ◌-◌, min, List, map, take}
+use Rattle.std.specs.List.{flat_map}
+use Rattle.std.specs.List.Sorted.{IsPermutation, IsNonDecreasingBy}
+use Rattle.dnp_eventbuf.specs.declared.numbered.Numbered.{Numbered}
+use Rattle.dnp_eventbuf.specs.Stock.{Stock, lost_in, row_of}
+use Rattle.dnp_world.specs.Kept.{lane_rows_of, rows_below}
+use Rattle.dnp_world.specs.Reports as lists
+use Rattle.dnp_world.specs.Stations.{listed_from}
+use Rattle.dnp_world.specs.Systems.{System}
+use Rattle.dnp_world.specs.declared.report.Report.{Report}
+use Rattle.dnp_world.specs.declared.parts.report.TheConstants.{NUMBERS}
+
+-- the rows of all lanes, lane by lane
+abbrev pub all_in : Stock → List Numbered
+all_in s = flat_map (λ lane. lane.rows) s.lanes
+
+-- the same rows by their ids
+pub record AreById (rows by_id : List Numbered) : Type 0 where
+  pub same : IsPermutation rows by_id
+  pub in_order : IsNonDecreasingBy (λ x. x.id) by_id
+
+-- The lists of the system, index map undone. What counts as lost is told up to the greatest number of a report.
+pub record Shows (s : System) (r : Report) : Type 0 where
+  pub journal : r.journal ≡ rows_below s.indices (map row_of s.centre.journal.rows)
+  pub queued : List Numbered
+  pub by_id : AreById (all_in s.concentrator.queue) queued
+  pub queue : r.queue ≡ rows_below s.indices (map row_of queued)
+  pub dropped : r.dropped ≡ rows_below s.indices s.history.dropped
+  pub confirmed : r.confirmed ≡ s.history.confirmed
+  pub buffered : r.buffered ≡ listed_from lane_rows_of 0 (take NUMBERS s.substations)
+  pub overwritten : r.overwritten ≡ s.history.overwritten
+  pub gone : r.gone ≡ s.history.gone
+  pub issued : r.issued ≡ s.history.issued
+  pub operated : r.operated ≡ s.history.operated
+  pub lost : r.lost ≡ min (lost_in s.concentrator.queue) (2 ^ 64 - 1)
+
+-- its lists, as the laws of a system speak of them
+abbrev pub lists_of : Report → lists.Report
+lists_of r = record {
+  journal = r.journal;
+  queue = r.queue;
+  dropped = r.dropped;
+  confirmed = r.confirmed;
+  buffered = r.buffered;
+  overwritten = r.overwritten;
+  gone = r.gone;
+  issued = r.issued;
+  operated = r.operated;
+  lost = r.lost;
+}
