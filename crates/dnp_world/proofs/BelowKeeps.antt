@@ -2,27 +2,30 @@
 use Rattle.std.proofs.Common.{◌≡◌, ◌≢◌, ℕ, List, [], ◌∷◌, ◌++◌, length, drop, map, Option, Some, refl, sym, ap, ◌∙◌, subst, append-nil, arith}
 use Rattle.std.specs.Prelude.{slice_get, slice_set, IfSome, ⊤}
 use Rattle.std.specs.List.Sorted.{IsPermutation}
+use Rattle.std.proofs.Math.Seq.{drop-append_seam}
 use Rattle.std.proofs.lemmas.List.{map-append}
 use Rattle.std.proofs.lemmas.List.Sorted.{IsPermutation-refl}
 use Rattle.dnp_objects.specs.Counts.{IsCoveredBy}
 use Rattle.dnp_objects.specs.declared.command.Command.{Command}
 use Rattle.dnp_objects.specs.declared.row.Row.{Row}
 use Rattle.dnp_eventbuf.specs.Stock.{rows_in}
+use Rattle.dnp_controls.specs.Panel.{Panel}
 use Rattle.dnp_concentrator.specs.Below.{link_in}
 use Rattle.dnp_concentrator.specs.Relaying.{Relaying}
 use Rattle.dnp_concentrator.specs.declared.span.Spans.{Spans}
 use Rattle.dnp_world.specs.declared.link_event.LinkEvent.{LinkEvent}
 use Rattle.dnp_world.specs.Behind.{does_nothing, Grows, Links, with_links, IsBehind, Turn, made_at, rows_of}
-use Rattle.dnp_world.specs.Joined.{Joined, rows_made_by}
+use Rattle.dnp_world.specs.Joined.{Follows, Joined, rows_made_by}
 use Rattle.dnp_world.specs.Kept.{Kept, kept_in, lane_rows_of, shown_of, used_orders, used_commands}
 use Rattle.dnp_world.specs.Link.{Link}
 use Rattle.dnp_world.specs.Moves.{Done}
 use Rattle.dnp_world.specs.OneLinkEvents.{LinkState, HappensOn}
 use Rattle.dnp_world.specs.OutstationSeen.{ShowOctets}
 use Rattle.dnp_world.specs.Reports.{IsFate}
+use Rattle.dnp_world.specs.Standing.{Stands}
 use Rattle.dnp_world.specs.Stations.{of_station, HasSameCounts}
 use Rattle.dnp_world.specs.Systems.{SubstationState, System, at_station, panel_of}
-use Rattle.dnp_world.specs.SystemStanding.{RowLists, lists_of, no_sink, seen_below, IsJoinedBelow, IsStanding, Keeps, GoesAs, LinkPromise}
+use Rattle.dnp_world.specs.SystemStanding.{RowLists, lists_of, no_sink, seen_below, IsJoinedBelow, IsStanding, Keeps}
 use Rattle.dnp_world.proofs.Counting.{count_by-append}
 use Rattle.dnp_world.proofs.ListedAt.{set_here, set_there, listed_here, listed_there}
 use Rattle.dnp_world.proofs.OutstationOpenings.{rows_from}
@@ -37,10 +40,12 @@ pub record TurnLaws : Type 0 where
       → (turn : Turn indices station links old new)
       → IsFate (made_at station turn.here.made) (shown_of indices old) (shown_of indices new)
 
--- and what the law of one link is to promise
+-- and the law of one link, of an event by itself
 pub record Grounds : Type 0 where
   pub turns : TurnLaws
-  pub promise : LinkPromise
+  pub happens : (panel : Panel) (s new : LinkState ⊤) (event : LinkEvent) (l : Link) → ShowOctets panel → Stands l → Joined [] s l
+      → HappensOn no_sink panel s event new
+      → Follows [] (rows_made_by s.outstation.core.points (event ∷ [])) [] s.outstation.performed l new
 
 -- ---- lists that get nothing
 
@@ -84,23 +89,33 @@ lane_rows : (s : LinkState ⊤) (l : Link) → Joined [] s l → rows_of l.lanes
 lane_rows s l j = ap rows_of j.outstation.lanes.rows ∙ rows_from 0 s.outstation.lanes.lanes
 
 -- what the link did, by the lists of the link by itself
-pub grows_by : (came taken released left : List Row) (asked performed : List Command) (l : Link) (new : LinkState ⊤)
+pub grows_by : (came taken released left : List Row) (asked before : List Command) (l : Link) (new : LinkState ⊤)
     → new.taken ≡ rows_of l.took ++ taken → new.released ≡ rows_of l.released ++ released → new.left ≡ rows_of l.left ++ left
-    → (g : GoesAs came asked performed l new)
-    → Grows l g.follows.link (record { made = came; discarded = released; left = left; taken = taken; asked = asked; performed = performed })
-grows_by came taken released left asked performed l new takes releases leaves g =
-    let link : Link = g.follows.link in
-    let j : Joined [] new link = g.follows.joined in
+    → (f : Follows [] came asked before l new)
+    → Grows l f.link (record {
+      made = came;
+      discarded = released;
+      left = left;
+      taken = taken;
+      asked = asked;
+      performed = drop (length before) new.outstation.performed;
+    })
+grows_by came taken released left asked before l new takes releases leaves f =
+    let link : Link = f.link in
+    let j : Joined [] new link = f.joined in
+    let performed : drop (length before) new.outstation.performed ≡ f.commands =
+    ap (λ (xs : List Command). drop (length before) xs) f.performed ∙ drop-append_seam before f.commands in
     record {
-      moves = g.follows.moves;
-      stood = same_is (rows_of link.stood) (rows_of l.stood ++ came) g.follows.stood;
+      moves = f.moves;
+      stood = same_is (rows_of link.stood) (rows_of l.stood ++ came) f.stood;
       released = same_is (rows_of link.released) (rows_of l.released ++ released) (j.released ∙ releases);
       left = subst (λ (xs : List Row). HasSameCounts (rows_of link.left) xs) (append-nil new.left ∙ leaves)
           (same_permutation (rows_of link.left) (new.left ++ []) j.left);
       took = subst (λ (xs : List Row). HasSameCounts (rows_of link.took) xs) takes
           (same_sym new.taken (rows_of link.took) (same_permutation new.taken (rows_of link.took) j.taken));
-      asked = same_is link.asked (l.asked ++ asked) g.asked_is;
-      performed = same_is link.performed (l.performed ++ performed) g.performed_is;
+      asked = same_is link.asked (l.asked ++ asked) f.asked_is;
+      performed = same_is link.performed (l.performed ++ drop (length before) new.outstation.performed)
+          (f.performed_is ∙ ap (λ (xs : List Command). l.performed ++ xs) (sym performed));
     }
 
 -- ---- the system after it
@@ -231,13 +246,13 @@ below_keeps grounds old new h station was is relays gone lists e there others sh
     let before : IsJoinedBelow old.now r l was = some_of (IsJoinedBelow old.now r l) (slice_get old.substations station) was there (h.below station) in
     let s : LinkState ⊤ = seen_below old.now r was (lists_of l) in
     let s' : LinkState ⊤ = seen_below old.now (link_in relays station) is lists in
-    let g : GoesAs came [] (performs was is) l s' =
-    grounds.promise.happens (panel_of was) s s' e l before.shown (h.behind.below_stands station) before.joined happens in
-    let link : Link = g.follows.link in
+    let f : Follows [] came [] was.outputs.performed l s' =
+    grounds.happens (panel_of was) s s' e l before.shown (h.behind.below_stands station) before.joined happens in
+    let link : Link = f.link in
     let t : Turn old.indices station h.links (kept_in old) (kept_in next) =
     turn_below old h.links station was is relays gone came link h.behind there
-    (grows_by came [] gone.confirmed left [] (performs was is) l s' (listed.taken ∙ sym (append-nil (rows_of l.took))) listed.released listed.left g)
-    (lane_rows s' link g.follows.joined) in
+    (grows_by came [] gone.confirmed left [] was.outputs.performed l s' (listed.taken ∙ sym (append-nil (rows_of l.took))) listed.released listed.left f)
+    (lane_rows s' link f.joined) in
     subst (λ (x : System). Keeps station came old x) (sym after)
     (record {
       standing = record {
@@ -245,7 +260,7 @@ below_keeps grounds old new h station was is relays gone lists e there others sh
         below = by_station (λ i x. IfSome (slice_get next.substations i) (IsJoinedBelow old.now (link_in relays i) x)) h.links station link h.links.above
             (of_some (IsJoinedBelow old.now (link_in relays station) link) (slice_get next.substations station) is
             (set_here old.substations station was is there)
-            (record { joined = relisted s' link old.now g.follows.joined; shown = shown }))
+            (record { joined = relisted s' link old.now f.joined; shown = shown }))
             (other_stands old h station is relays others);
         above = h.above;
         behind = grounds.turns.kept old.indices station h.links (kept_in old) (kept_in next) h.behind t;

@@ -82,7 +82,7 @@ still_closed now step h closed =
 change_if : {Sink : Type 0} → Laws → (others : List Row) (s new : LinkState Sink) (l : Link) (kind : Kind) (index : ℕ) (reading : Reading)
     → (r : Result (Option LaneRow) ChangeFault)
     → answer_of s.outstation.core.points kind index reading ≡ r → Stands l → Joined others s l → Changes r kind index reading s new
-    → Follows others (arriving (rows_made r)) l new
+    → Follows others (arriving (rows_made r)) [] s.outstation.performed l new
 change_if {Sink = Sink} laws others s new l kind index reading (Ok made) answer stands j h =
     let step : Step = change_of s.outstation s.now kind index reading made in
     let first : Step = record {
@@ -118,6 +118,6 @@ change_if {Sink = Sink} laws others s new l kind index reading (Err fault) answe
 pub change_follows : {Sink : Type 0} → Laws → (others : List Row) (s new : LinkState Sink) (l : Link) (kind : Kind) (index : ℕ)
     → (reading : Reading)
     → Stands l → Joined others s l → Changes (answer_of s.outstation.core.points kind index reading) kind index reading s new
-    → Follows others (arriving (rows_made (answer_of s.outstation.core.points kind index reading))) l new
+    → Follows others (arriving (rows_made (answer_of s.outstation.core.points kind index reading))) [] s.outstation.performed l new
 change_follows laws others s new l kind index reading stands j h =
     change_if laws others s new l kind index reading (answer_of s.outstation.core.points kind index reading) refl stands j h

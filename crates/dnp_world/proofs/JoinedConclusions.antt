@@ -1,5 +1,5 @@
 -- What the law of the link says of the lists of a link of real stations.
-use Rattle.std.proofs.Common.{◌≡◌, List, ◌++◌, map, sym, ap, ◌∙◌, subst, arith}
+use Rattle.std.proofs.Common.{◌≡◌, List, [], ◌++◌, map, sym, ap, ◌∙◌, subst, arith}
 use Rattle.std.specs.List.{All, count_by}
 use Rattle.std.specs.List.Sorted.{IsPermutation}
 use Rattle.std.specs.Prelude.{Contains}
@@ -7,6 +7,7 @@ use Rattle.std.proofs.lemmas.List.{map-append}
 use Rattle.std.proofs.lemmas.List.Elements.{All-weaker}
 use Rattle.std.proofs.lemmas.List.Sorted.{IsPermutation-sym, IsPermutation-trans, IsPermutation-map, IsPermutation-append_left, IsPermutation-append_right, All-permutation, Contains-permutation, sum_by-IsPermutation}
 use Rattle.dnp_objects.specs.Counts.{IsCoveredBy}
+use Rattle.dnp_objects.specs.declared.command.Command.{Command}
 use Rattle.dnp_objects.specs.declared.row.Row.{Row}
 use Rattle.dnp_eventbuf.specs.Buffered.{buffered_row}
 use Rattle.dnp_eventbuf.specs.Stock.{rows_in}
@@ -66,12 +67,12 @@ law_of laws others s h =
 
 -- ---- what it grows by
 
-pub kept_by : {Sink : Type 0} (others came : List Row) (l : Link) (new : LinkState Sink) → Stands l → Follows others came l new
-    → IsJoined others new
-kept_by others came l new stands f = record { link = f.link; stands = moves_stand l f.link f.moves stands; joined = f.joined }
+pub kept_by : {Sink : Type 0} (others came : List Row) (before : List Command) (l : Link) (new : LinkState Sink) → Stands l
+    → Follows others came [] before l new → IsJoined others new
+kept_by others came before l new stands f = record { link = f.link; stands = moves_stand l f.link f.moves stands; joined = f.joined }
 
 pub grown_by : {Sink : Type 0} → LinkLaws → (others others' came : List Row) (s new : LinkState Sink) (l : Link) → Stands l
-    → Joined others s l → Follows others' came l new
+    → Joined others s l → Follows others' came [] s.outstation.performed l new
     → IsPermutation (stood_in others' new) (stood_in others s ++ came)
 grown_by laws others others' came s new l stands j f =
     let before : IsPermutation (map buffered_row l.stood ++ came) (stood_in others s ++ came) =

@@ -36,27 +36,27 @@ use Rattle.dnp_world.proofs.OutstationSteps.{moves_after, one_move}
 -- ---- the front unit of a line
 
 comes_down : {Sink : Type 0} → Laws → (panel : Panel) → ShowOctets panel → (others : List Row) (s new : LinkState Sink) (l : Link)
-    → Stands l → Joined others s l → ComesDown panel (delivered_on s.down) s new → Follows others [] l new
+    → Stands l → Joined others s l → ComesDown panel (delivered_on s.down) s new → Follows others [] [] s.outstation.performed l new
 comes_down laws panel shown others s new l stands j h =
     came_down laws panel shown others s new l (delivered_on s.down) h.port h.given stands j (heard_port _ s.outstation_port h.port [] h.given h.heard)
     (carries_delivered laws.line s.down s.master_port s.outstation_port h.port s.master.is_open j.going_down h.given h.heard j.down) h.came
 
 comes_down_again : {Sink : Type 0} → Laws → (panel : Panel) → ShowOctets panel → (others : List Row) (s new : LinkState Sink) (l : Link)
-    → Stands l → Joined others s l → ComesDown panel (repeated_on s.down) s new → Follows others [] l new
+    → Stands l → Joined others s l → ComesDown panel (repeated_on s.down) s new → Follows others [] [] s.outstation.performed l new
 comes_down_again laws panel shown others s new l stands j h =
     came_down laws panel shown others s new l (repeated_on s.down) h.port h.given stands j (heard_port _ s.outstation_port h.port [] h.given h.heard)
     (carries_repeated laws.line s.down s.master_port s.outstation_port h.port s.master.is_open j.going_down h.given h.heard j.down) h.came
 
 comes_up : {Sink : Type 0} → Laws → (takes : Sink → List Row → List Row → List Row → Sink → Type 0) (others : List Row)
     → (s new : LinkState Sink) (l : Link) → Stands l → Joined others s l
-    → ComesUp takes (delivered_on s.up) s new → Follows others [] l new
+    → ComesUp takes (delivered_on s.up) s new → Follows others [] [] s.outstation.performed l new
 comes_up laws takes others s new l stands j h =
     came_up laws takes others s new l (delivered_on s.up) h.port h.given stands j (heard_port _ s.master_port h.port [] h.given h.heard)
     (carries_delivered laws.line s.up s.outstation_port s.master_port h.port s.outstation.core.is_open (map octets_of l.up) h.given h.heard j.up) h.came
 
 comes_up_again : {Sink : Type 0} → Laws → (takes : Sink → List Row → List Row → List Row → Sink → Type 0) (others : List Row)
     → (s new : LinkState Sink) (l : Link) → Stands l → Joined others s l
-    → ComesUp takes (repeated_on s.up) s new → Follows others [] l new
+    → ComesUp takes (repeated_on s.up) s new → Follows others [] [] s.outstation.performed l new
 comes_up_again laws takes others s new l stands j h =
     came_up laws takes others s new l (repeated_on s.up) h.port h.given stands j (heard_port _ s.master_port h.port [] h.given h.heard)
     (carries_repeated laws.line s.up s.outstation_port s.master_port h.port s.outstation.core.is_open (map octets_of l.up) h.given h.heard j.up) h.came
@@ -103,7 +103,7 @@ goes_away : {Sink : Type 0} → Laws → (others : List Row) (s new : LinkState 
     → step.does.discarded ≡ []
     → step.state.core.is_open ≡ false → Joined others s l → Simulates s.outstation [] step l
     → new ≡ record s { outstation = step.state; down = cleared_on s.down; outstation_port = reset_of s.outstation_port; left = s.left ++ step.does.overwritten }
-    → Follows others [] l new
+    → Follows others [] [] s.outstation.performed l new
 goes_away {Sink = Sink} laws others s new l step silent none closes j sim h =
     let all : ℕ = length sim.link.down in
     let link : Link = lost_down all sim.link in
@@ -132,17 +132,21 @@ goes_away {Sink = Sink} laws others s new l step silent none closes j sim h =
       moves = moves_after l sim.link link sim.moves (one_move sim.link link (LoseDown all refl));
       joined = subst (λ (x : LinkState Sink). Joined others x link) (sym h) joined;
       stood = sim.stood;
+      asked_is = sim.master.asked ∙ sym (append-nil l.asked);
+      commands = sim.commands;
+      performed = ap (λ (x : LinkState Sink). x.outstation.performed) h ∙ sim.performed;
+      performed_is = sim.performed_seen;
     }
 
 hangs_up : {Sink : Type 0} → Laws → (others : List Row) (s new : LinkState Sink) (l : Link) → Joined others s l → new ≡ outstation_gone s
-    → Follows others [] l new
+    → Follows others [] [] s.outstation.performed l new
 hangs_up {Sink = Sink} laws others s new l j h =
     let step : Step = still (record s.outstation { core = closed s.outstation.core }) in
     let after : List Row → LinkState Sink = λ left. record s { outstation = step.state; down = cleared_on s.down; outstation_port = reset_of s.outstation_port; left = left } in
     goes_away laws others s new l step refl refl refl j (laws.outstation.closes s.outstation l j.outstation) (h ∙ ap after (sym (append-nil s.left)))
 
 restarts : {Sink : Type 0} → Laws → (others : List Row) (s new : LinkState Sink) (l : Link) → Joined others s l
-    → new ≡ outstation_restarted s → Follows others [] l new
+    → new ≡ outstation_restarted s → Follows others [] [] s.outstation.performed l new
 restarts laws others s new l j h =
     let step : Step = record { state = restart_of s.outstation false; does = record nothing { overwritten = emptied_of s.outstation false } } in
     goes_away laws others s new l step refl refl refl j (laws.outstation.restarts s.outstation false l j.outstation) h
@@ -150,7 +154,7 @@ restarts laws others s new l j h =
 -- ---- both ends are opened
 
 opens : {Sink : Type 0} → Laws → (others : List Row) (s new : LinkState Sink) (l : Link) → Stands l → Joined others s l
-    → Steps (opened_of s.outstation s.now) (opening s) new → Follows others [] l new
+    → Steps (opened_of s.outstation s.now) (opening s) new → Follows others [] [] s.outstation.performed l new
 opens {Sink = Sink} laws others s new l stands j h =
     let step : Step = opened_of s.outstation s.now in
     let beside : Beside others s.left (opening s) true (opened l) = record {
@@ -165,7 +169,7 @@ opens {Sink = Sink} laws others s new l stands j h =
       released = j.released;
       left = j.left;
     } in
-    moves_before others [] l (opened l) new (one_move l (opened l) (Open refl)) refl
+    moves_before others [] [] s.outstation.performed l (opened l) new (one_move l (opened l) (Open refl)) refl refl refl
     (after_step laws.line others s.left [] (opening s) new true (opened l) step
     (sym (append-nil s.left) ∙ ap (λ (xs : List Row). s.left ++ xs) (sym (opened_leaves s.outstation s.now).none))
     (λ e. absurd (both_ways true e refl)) (λ e. absurd (both_ways true e refl))
@@ -176,7 +180,7 @@ opens {Sink = Sink} laws others s new l stands j h =
 pub event_follows : {Sink : Type 0} → Laws → (takes : Sink → List Row → List Row → List Row → Sink → Type 0) (panel : Panel)
     → ShowOctets panel → (others : List Row) (s new : LinkState Sink) (l : Link) (e : LinkEvent)
     → Stands l → Joined others s l → HappensOn takes panel s e new
-    → Follows others (arriving (rows_of s.outstation.core.points (point_moves e))) l new
+    → Follows others (arriving (rows_of s.outstation.core.points (point_moves e))) [] s.outstation.performed l new
 event_follows laws takes panel shown others s new l event.Open stands j h = opens laws others s new l stands j h
 event_follows laws takes panel shown others s new l (event.HangUp end.Master) stands j h = master_goes laws others s new l j h
 event_follows laws takes panel shown others s new l (event.HangUp end.Outstation) stands j h = hangs_up laws others s new l j h
@@ -200,7 +204,7 @@ event_follows laws takes panel shown others s new l (event.Damage way.Up octets)
     (with_lines others s l s.down h.damaged s.now j j.down
     (carries_damaged laws.line s.up h.damaged s.outstation_port s.master_port s.outstation.core.is_open (map octets_of l.up) octets.items h.damages j.up))
 event_follows laws takes panel shown others s new l (event.Change kind index reading) stands j h =
-    subst (λ rows. Follows others (arriving rows) l new) (sym (append-nil _)) (change_follows laws others s new l kind index reading stands j h)
+    subst (λ rows. Follows others (arriving rows) [] s.outstation.performed l new) (sym (append-nil _)) (change_follows laws others s new l kind index reading stands j h)
 event_follows laws takes panel shown others s new l (event.Ask task) stands j h = asks_follow laws others s new l task j h
 event_follows laws takes panel shown others s new l (event.Pass ms) stands j h =
     stays_as others l new _ h (with_lines others s l s.down s.up _ j j.down j.up)

@@ -5,7 +5,9 @@ use Rattle.std.proofs.lemmas.Bool.{both_ways}
 use Rattle.std.proofs.lemmas.List.{map-append, drop-map}
 use Rattle.std.proofs.lemmas.List.Elements.{All-nil, All-cons, All-append}
 use Rattle.std.proofs.lemmas.List.Sorted.{IsPermutation-sym, IsPermutation-trans, IsPermutation-append_left}
+use Rattle.dnp_objects.specs.declared.command.Command.{Command}
 use Rattle.dnp_objects.specs.declared.row.Row.{Row}
+use Rattle.dnp_appfragment.specs.Fragments.{request_octets}
 use Rattle.dnp_eventbuf.specs.Buffered.{buffered_row}
 use Rattle.dnp_line.specs.Flows.{MayGive, Nothing, One}
 use Rattle.dnp_line.specs.Lines.{LineState}
@@ -14,18 +16,21 @@ use Rattle.dnp_master.specs.declared.fault.AskFault.{AskFault}
 use Rattle.dnp_master.specs.declared.fault.MasterFault.{MasterFault}
 use Rattle.dnp_master.specs.declared.task.Task.{Task}
 use Rattle.dnp_master.specs.Calls.{Taking, ask_answer, asked, receive_of, unheeded, confirm_for}
+use Rattle.dnp_master.specs.Requests.{request_for}
 use Rattle.dnp_master.specs.State as master
 use Rattle.dnp_master.specs.Steps.{Asks as MasterAsks, PassesOver, TakesReport, TakesResponse, control_in}
 use Rattle.dnp_world.specs.Joined.{Carries, Joined, Follows}
 use Rattle.dnp_world.specs.Link.{Down, Asks, Link}
 use Rattle.dnp_world.specs.MasterSeen.{MasterTakes, master_hung_up, with_master_of}
 use Rattle.dnp_world.specs.Moves.{Move, Moves, LoseUp, lost_up, asking}
+use Rattle.dnp_world.specs.Octets.{commands_in}
 use Rattle.dnp_world.specs.OneLinkEvents.{LinkState, ComeUp, Receives, Takes, AreSent, IsAsked, AsksBy, AsksIfOwn, is_own, master_gone}
 use Rattle.dnp_world.specs.OutstationSeen.{down_of, octets_of}
 use Rattle.dnp_world.specs.Standing.{Stands}
+use Rattle.dnp_world.proofs.AskedCommands.{own_asks_none}
 use Rattle.dnp_world.proofs.JoinedLaws.{Laws}
 use Rattle.dnp_world.proofs.JoinedOctets.{AreOctets, confirms_octets, asked_octets}
-use Rattle.dnp_world.proofs.JoinedSteps.{shows_still, stays, stays_as, moves_before}
+use Rattle.dnp_world.proofs.JoinedSteps.{shows_still, stays_as, moves_before}
 use Rattle.dnp_world.proofs.JoinedWays.{LineLaws, Came, IsSamePort, carries_still, carries_sent, carries_cleared, carries_mute, back_all_sent, back_came}
 use Rattle.dnp_world.proofs.OutstationSteps.{one_move}
 
@@ -66,7 +71,7 @@ down_is ds after going confirms e f = f ∙ ap (λ (xs : List Down). xs ++ map d
 after_taking : {Sink : Type 0} → LineLaws → (takes : Sink → List Row → List Row → List Row → Sink → Type 0) (others : List Row)
     → (s new : LinkState Sink) (l : Link) (t : Taking)
     → KeepsBounds s.master t → (s.master.is_open ≡ false → t ≡ unheeded s.master)
-    → Joined others s l → MasterTakes t l → Takes takes t s new → Follows others [] l new
+    → Joined others s l → MasterTakes t l → Takes takes t s new → Follows others [] [] s.outstation.performed l new
 after_taking {Sink = Sink} line takes others s new l t bounds quiet j m h =
     let link : Link = record l { master = m.link.master; down = m.link.down; took = m.link.took; phase = m.link.phase } in
     let after : LinkState Sink = record s {
@@ -101,6 +106,10 @@ after_taking {Sink = Sink} line takes others s new l t bounds quiet j m h =
       moves = subst (λ (x : Link). Moves l x) m.same m.moves;
       joined = subst (λ (x : LinkState Sink). Joined others x link) (sym h.after) joined;
       stood = sym (append-nil (map buffered_row l.stood));
+      asked_is = sym (append-nil l.asked);
+      commands = [];
+      performed = ap (λ (x : LinkState Sink). x.outstation.performed) h.after ∙ sym (append-nil s.outstation.performed);
+      performed_is = sym (append-nil l.performed);
     }
 
 same_ok : (t x : Taking) → (let r : Result Taking MasterFault = Ok t in r) ≡ Ok x → t ≡ x
@@ -110,7 +119,7 @@ after_receiving : {Sink : Type 0} → LineLaws → (takes : Sink → List Row �
     → (s new : LinkState Sink) (l : Link) (octets : List ℕ)
     (r : Result Taking MasterFault) → IfOk r (λ t. PassesOver s.master t ⊎ (TakesResponse s.master octets t ⊎ TakesReport s.master octets t))
     → (s.master.is_open ≡ false → r ≡ Ok (unheeded s.master)) → IfOk r (λ t. MasterTakes t l)
-    → Joined others s l → Receives takes r s new → Follows others [] l new
+    → Joined others s l → Receives takes r s new → Follows others [] [] s.outstation.performed l new
 after_receiving line takes others s new l octets (Ok t) which quiet m j h =
     after_taking line takes others s new l t (keeps_bounds s.master octets t j.number which) (λ closed. same_ok t (unheeded s.master) (quiet closed)) j m h
 after_receiving line takes others s new l octets (Err fault) which quiet m j h =
@@ -121,7 +130,7 @@ pub came_up : {Sink : Type 0} → Laws → (takes : Sink → List Row → List R
     (line : LineState) (port : PortState) (given : List (List ℕ))
     → Stands l → (j : Joined others s l) → IsSamePort s.master_port port
     → Came line s.outstation_port port s.outstation.core.is_open (map octets_of l.up) given
-    → ComeUp takes given (record s { up = line; master_port = port }) new → Follows others [] l new
+    → ComeUp takes given (record s { up = line; master_port = port }) new → Follows others [] [] s.outstation.performed l new
 came_up {Sink = Sink} laws takes others s new l line port given stands j same came h = by came.gives
   where
     base : LinkState Sink
@@ -130,10 +139,9 @@ came_up {Sink = Sink} laws takes others s new l line port given stands j same ca
     down : Carries s.down port s.outstation_port s.master.is_open j.going_down
     down = back_came laws.line s.down s.master_port s.outstation_port port s.master.is_open j.going_down same.same_ends same.number j.down
 
-    by : MayGive (map octets_of l.up) [] came.left given → Follows others [] l new
+    by : MayGive (map octets_of l.up) [] came.left given → Follows others [] [] s.outstation.performed l new
     by (Nothing left_is none) =
-        stays others l new
-        (subst (λ (x : LinkState Sink). Joined others x l) (sym (subst (λ (fs : List (List ℕ)). ComeUp takes fs base new) none h))
+        stays_as others l new base (subst (λ (fs : List (List ℕ)). ComeUp takes fs base new) none h)
         (record {
           outstation = j.outstation;
           master = j.master;
@@ -146,7 +154,7 @@ came_up {Sink = Sink} laws takes others s new l line port given stands j same ca
           taken = j.taken;
           released = j.released;
           left = j.left;
-        }))
+        })
     by (One n fragment at left_is one) =
         let first : Link = lost_up n l in
         let lose : Move l first = LoseUp n refl in
@@ -163,7 +171,7 @@ came_up {Sink = Sink} laws takes others s new l line port given stands j same ca
           released = j.released;
           left = j.left;
         } in
-        moves_before others [] l first new (one_move l first lose) refl
+        moves_before others [] [] s.outstation.performed l first new (one_move l first lose) refl refl refl
         (after_receiving laws.line takes others base new first fragment (receive_of s.master s.now fragment) (laws.master.takes s.master s.now fragment)
         (laws.master.silent_receives s.master s.now fragment) (laws.master.came s.master s.now l n fragment stands j.master at).1 joined
         (subst (λ (fs : List (List ℕ)). ComeUp takes fs base new) one h))
@@ -174,9 +182,9 @@ of_ok : (P : List ℕ → Type 0) (r : Result (List ℕ) AskFault) (octets : Lis
 of_ok P r octets e h = subst (λ (r : Result (List ℕ) AskFault). IfOk r P) e h
 
 after_asking : {Sink : Type 0} → Laws → (others : List Row) (s new : LinkState Sink) (l : Link) (task : Task) (octets : List ℕ)
-    → is_own task ≡ true → Joined others s l
-    → ask_answer s.master task ≡ Ok octets → IsAsked task octets s new → Follows others [] l new
-after_asking {Sink = Sink} laws others s new l task octets own j answer h =
+    → AreOctets (request_octets (request_for s.master.seq task)) → Joined others s l
+    → ask_answer s.master task ≡ Ok octets → IsAsked task octets s new → Follows others [] (commands_in octets) s.outstation.performed l new
+after_asking {Sink = Sink} laws others s new l task octets low j answer h =
     let m = laws.master.asks s.master s.now task octets l j.number j.master answer in
     let law : MasterAsks s.master task octets (asked s.master s.now task) =
     of_ok (λ octets. MasterAsks s.master task octets (asked s.master s.now task)) (ask_answer s.master task) octets answer (laws.master.asked s.master s.now task) in
@@ -195,7 +203,7 @@ after_asking {Sink = Sink} laws others s new l task octets own j answer h =
           (λ closed. absurd (both_ways s.master.is_open closed law.was_open)) down;
       down_is = down_is l.down (l.down ++ Asks octets ∷ []) j.going_down (octets ∷ []) j.down_is (ap (λ (d : Down). l.down ++ d ∷ []) (sym m.2));
       octets = All-append AreOctets j.going_down (octets ∷ []) j.octets
-          (All-cons AreOctets octets [] (subst AreOctets (sym law.octets_are) (asked_octets s.master.seq task j.number own)) (All-nil AreOctets));
+          (All-cons AreOctets octets [] (subst AreOctets (sym law.octets_are) low) (All-nil AreOctets));
       up = back_all_sent laws.line (octets ∷ []) s.down new.down s.up s.master_port new.master_port s.outstation_port s.outstation.core.is_open (map octets_of l.up) sent j.up;
       taken = j.taken;
       released = j.released;
@@ -206,27 +214,36 @@ after_asking {Sink = Sink} laws others s new l task octets own j answer h =
       moves = one_move l link m.0;
       joined = subst (λ (x : LinkState Sink). Joined others x link) (sym h.after) joined;
       stood = sym (append-nil (map buffered_row l.stood));
+      asked_is = refl;
+      commands = [];
+      performed = ap (λ (x : LinkState Sink). x.outstation.performed) h.after ∙ sym (append-nil s.outstation.performed);
+      performed_is = sym (append-nil l.performed);
     }
 
 asks_by : {Sink : Type 0} → Laws → (others : List Row) (s new : LinkState Sink) (l : Link) (task : Task) (r : Result (List ℕ) AskFault)
     → ask_answer s.master task ≡ r
-    → is_own task ≡ true → Joined others s l → AsksBy r task s new → Follows others [] l new
-asks_by laws others s new l task (Ok octets) answer own j h = after_asking laws others s new l task octets own j answer h
+    → is_own task ≡ true → Joined others s l → AsksBy r task s new → Follows others [] [] s.outstation.performed l new
+asks_by laws others s new l task (Ok octets) answer own j h =
+    let law : MasterAsks s.master task octets (asked s.master s.now task) =
+    of_ok (λ octets. MasterAsks s.master task octets (asked s.master s.now task)) (ask_answer s.master task) octets answer (laws.master.asked s.master s.now task) in
+    subst (λ (asks : List Command). Follows others [] asks s.outstation.performed l new)
+    (ap commands_in law.octets_are ∙ own_asks_none s.master.seq task own)
+    (after_asking laws others s new l task octets (asked_octets s.master.seq task j.number own) j answer h)
 asks_by laws others s new l task (Err fault) answer own j h = stays_as others l new s h j
 
 asks_if : {Sink : Type 0} → Laws → (others : List Row) (s new : LinkState Sink) (l : Link) (task : Task) (own : Bool) → is_own task ≡ own
-    → Joined others s l → AsksIfOwn own task s new → Follows others [] l new
+    → Joined others s l → AsksIfOwn own task s new → Follows others [] [] s.outstation.performed l new
 asks_if laws others s new l task true own j h = asks_by laws others s new l task (ask_answer s.master task) refl own j h
 asks_if laws others s new l task false own j h = stays_as others l new s h j
 
 pub asks_follow : {Sink : Type 0} → Laws → (others : List Row) (s new : LinkState Sink) (l : Link) (task : Task)
-    → Joined others s l → AsksIfOwn (is_own task) task s new → Follows others [] l new
+    → Joined others s l → AsksIfOwn (is_own task) task s new → Follows others [] [] s.outstation.performed l new
 asks_follow laws others s new l task j h = asks_if laws others s new l task (is_own task) refl j h
 
 -- ---- it closes
 
 pub tick_follows : {Sink : Type 0} → Laws → (others : List Row) (s new : LinkState Sink) (l : Link) → Joined others s l
-    → new ≡ record s { master = master.ticked s.master s.now } → Follows others [] l new
+    → new ≡ record s { master = master.ticked s.master s.now } → Follows others [] [] s.outstation.performed l new
 tick_follows {Sink = Sink} laws others s new l j h =
     let m : master.State = master.ticked s.master s.now in
     let link : Link = with_master_of m l in
@@ -249,6 +266,10 @@ tick_follows {Sink = Sink} laws others s new l j h =
       moves = laws.master.ticked s.master s.now l j.master;
       joined = subst (λ (x : LinkState Sink). Joined others x link) (sym h) joined;
       stood = sym (append-nil (map buffered_row l.stood));
+      asked_is = sym (append-nil l.asked);
+      commands = [];
+      performed = ap (λ (x : LinkState Sink). x.outstation.performed) h ∙ sym (append-nil s.outstation.performed);
+      performed_is = sym (append-nil l.performed);
     }
   where
     by_number : (b : Bool) → (if b then master.closed s.master else s.master).seq < 16
@@ -260,7 +281,7 @@ tick_follows {Sink = Sink} laws others s new l j h =
     by_open false closed = closed
 
 pub master_goes : {Sink : Type 0} → Laws → (others : List Row) (s new : LinkState Sink) (l : Link) → Joined others s l
-    → new ≡ master_gone s → Follows others [] l new
+    → new ≡ master_gone s → Follows others [] [] s.outstation.performed l new
 master_goes {Sink = Sink} laws others s new l j h =
     let link : Link = master_hung_up s.master l in
     let joined : Joined others (master_gone s) link = record {
@@ -281,4 +302,8 @@ master_goes {Sink = Sink} laws others s new l j h =
       moves = laws.master.hung_up s.master l;
       joined = subst (λ (x : LinkState Sink). Joined others x link) (sym h) joined;
       stood = sym (append-nil (map buffered_row l.stood));
+      asked_is = sym (append-nil l.asked);
+      commands = [];
+      performed = ap (λ (x : LinkState Sink). x.outstation.performed) h ∙ sym (append-nil s.outstation.performed);
+      performed_is = sym (append-nil l.performed);
     }

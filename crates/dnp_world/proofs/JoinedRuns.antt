@@ -39,13 +39,18 @@ use Rattle.dnp_world.proofs.OutstationSteps.{moves_after}
 
 -- ---- one behind the other
 
-follows_both : {Sink : Type 0} (others first second : List Row) (l : Link) (next new : LinkState Sink) (f : Follows others first l next)
-    → Follows others second f.link new → Follows others (first ++ second) l new
-follows_both others first second l next new f g = record {
+follows_both : {Sink : Type 0} (others first second : List Row) (before : List Command) (l : Link) (next new : LinkState Sink)
+    (f : Follows others first [] before l next)
+    → Follows others second [] next.outstation.performed f.link new → Follows others (first ++ second) [] before l new
+follows_both others first second before l next new f g = record {
   link = g.link;
   moves = moves_after l f.link g.link f.moves g.moves;
   joined = g.joined;
   stood = g.stood ∙ ap (λ (xs : List Row). xs ++ second) f.stood ∙ append_assoc (map buffered_row l.stood) first second;
+  asked_is = g.asked_is ∙ append-nil f.link.asked ∙ f.asked_is;
+  commands = f.commands ++ g.commands;
+  performed = g.performed ∙ ap (λ (xs : List Command). xs ++ g.commands) f.performed ∙ append_assoc before f.commands g.commands;
+  performed_is = g.performed_is ∙ ap (λ (xs : List Command). xs ++ g.commands) f.performed_is ∙ append_assoc l.performed f.commands g.commands;
 }
 
 -- no outputs show no octets
@@ -54,31 +59,35 @@ no_octets = record { outputs = omega arith; status = λ index low. omega arith }
 
 pub run_follows : {Sink : Type 0} → Laws → (takes : Sink → List Row → List Row → List Row → Sink → Type 0) (others : List Row)
     → (s new : LinkState Sink) (l : Link) (events : List LinkEvent)
-    → Stands l → Joined others s l → RunsTo takes s events new → Follows others (rows_made_by s.outstation.core.points events) l new
+    → Stands l → Joined others s l → RunsTo takes s events new
+    → Follows others (rows_made_by s.outstation.core.points events) [] s.outstation.performed l new
 run_follows laws takes others s new l [] stands j h = stays_as others l new s h j
 run_follows laws takes others s new l (e ∷ events) stands j (next, first, later) =
-    let f : Follows others (arriving (rows_of s.outstation.core.points (point_moves e))) l next = event_follows laws takes no_panel no_octets others s next l e stands j first in
-    let g : Follows others (rows_made_by next.outstation.core.points events) f.link new =
+    let f : Follows others (arriving (rows_of s.outstation.core.points (point_moves e))) [] s.outstation.performed l next =
+    event_follows laws takes no_panel no_octets others s next l e stands j first in
+    let g : Follows others (rows_made_by next.outstation.core.points events) [] next.outstation.performed f.link new =
     run_follows laws takes others next new f.link events (moves_stand l f.link f.moves stands) f.joined later in
     let rows : arriving (rows_of s.outstation.core.points (point_moves e)) ++ rows_made_by next.outstation.core.points events ≡ rows_made_by s.outstation.core.points (e ∷ events) =
     ap (λ (d : Database). arriving (rows_of s.outstation.core.points (point_moves e)) ++ rows_made_by d events) (event_points laws.points takes no_panel s next e first)
     ∙ made_behind s.outstation.core.points e events in
-    subst (λ (rows : List Row). Follows others rows l new) rows
-    (follows_both others (arriving (rows_of s.outstation.core.points (point_moves e))) (rows_made_by next.outstation.core.points events) l next new f g)
+    subst (λ (rows : List Row). Follows others rows [] s.outstation.performed l new) rows
+    (follows_both others (arriving (rows_of s.outstation.core.points (point_moves e))) (rows_made_by next.outstation.core.points events)
+    s.outstation.performed l next new f g)
 
 -- one event, whatever the outputs
 pub one_follows : {Sink : Type 0} → Laws → (takes : Sink → List Row → List Row → List Row → Sink → Type 0) (panel : Panel) → ShowOctets panel
     → (others : List Row) (s new : LinkState Sink) (l : Link) (e : LinkEvent)
-    → Stands l → Joined others s l → HappensOn takes panel s e new → Follows others (rows_made_by s.outstation.core.points (e ∷ [])) l new
+    → Stands l → Joined others s l → HappensOn takes panel s e new
+    → Follows others (rows_made_by s.outstation.core.points (e ∷ [])) [] s.outstation.performed l new
 one_follows laws takes panel shown others s new l e stands j h =
-    subst (λ (moves : List Move). Follows others (arriving (rows_of s.outstation.core.points moves)) l new) (sym (append-nil (point_moves e)))
+    subst (λ (moves : List Move). Follows others (arriving (rows_of s.outstation.core.points moves)) [] s.outstation.performed l new) (sym (append-nil (point_moves e)))
     (event_follows laws takes panel shown others s new l e stands j h)
 
 -- ---- a list that stops
 
 counts_follows : {Sink : Type 0} → Laws → (takes : Sink → List Row → List Row → List Row → Sink → Type 0) (others : List Row)
     → (s new : LinkState Sink) (l : Link) (e : LinkEvent)
-    → Stands l → Joined others s l → CountsFor takes s e new → Follows others [] l new
+    → Stands l → Joined others s l → CountsFor takes s e new → Follows others [] [] s.outstation.performed l new
 counts_follows laws takes others s new l (event.Deliver way.Down) stands j h = event_follows laws takes no_panel no_octets others s new l (event.Lose way.Down) stands j h
 counts_follows laws takes others s new l (event.Deliver way.Up) stands j h = event_follows laws takes no_panel no_octets others s new l (event.Lose way.Up) stands j h
 counts_follows laws takes others s new l event.Open stands j h = stays_as others l new s h j
@@ -94,19 +103,22 @@ counts_follows laws takes others s new l (event.Restart end) stands j h = stays_
 
 pub stop_follows : {Sink : Type 0} → Laws → (takes : Sink → List Row → List Row → List Row → Sink → Type 0) (keeps : Sink → Sink → Type 0)
     → (others : List Row) (s new : LinkState Sink) (l : Link)
-    (e : LinkEvent) → Stands l → Joined others s l → StopsAt takes keeps s e new → Follows others [] l new
+    (e : LinkEvent) → Stands l → Joined others s l → StopsAt takes keeps s e new
+    → Follows others [] [] s.outstation.performed l new
 stop_follows laws takes keeps others s new l e stands j h =
     counts_follows laws takes others (record s { sink = h.sink }) new l e stands (with_sink others s l h.sink j) h.counts
 
 pub stopped_follows : {Sink : Type 0} → Laws → (takes : Sink → List Row → List Row → List Row → Sink → Type 0)
     → (keeps : Sink → Sink → Type 0) (others : List Row) (s new : LinkState Sink) (l : Link)
     (events : List LinkEvent) (done : ℕ) → Stands l → Joined others s l → StopsAfter takes keeps s events done new
-    → Follows others (rows_made_by s.outstation.core.points (take done events)) l new
+    → Follows others (rows_made_by s.outstation.core.points (take done events)) [] s.outstation.performed l new
 stopped_follows laws takes keeps others s new l events done stands j h =
     let rows : List Row = rows_made_by s.outstation.core.points (take done events) in
-    let f : Follows others rows l h.before = run_follows laws takes others s h.before l (take done events) stands j h.ran in
-    let g : Follows others [] f.link new = stop_follows laws takes keeps others h.before new f.link h.event (moves_stand l f.link f.moves stands) f.joined h.stops in
-    subst (λ (rows : List Row). Follows others rows l new) (append-nil rows) (follows_both others rows [] l h.before new f g)
+    let f : Follows others rows [] s.outstation.performed l h.before = run_follows laws takes others s h.before l (take done events) stands j h.ran in
+    let g : Follows others [] [] h.before.outstation.performed f.link new =
+    stop_follows laws takes keeps others h.before new f.link h.event (moves_stand l f.link f.moves stands) f.joined h.stops in
+    subst (λ (rows : List Row). Follows others rows [] s.outstation.performed l new) (append-nil rows)
+    (follows_both others rows [] s.outstation.performed l h.before new f g)
 
 -- ---- rows that others append
 
@@ -115,7 +127,7 @@ append_of s rows = record { state = record s { lanes = with_rows s.lanes rows };
 
 pub append_follows : {Sink : Type 0} (others : List Row) (s : LinkState Sink) (l : Link) (rows : List LaneRow) → Joined others s l
     → Simulates s.outstation (arriving rows) (append_of s.outstation rows) l
-    → Follows (others ++ dropped_by s.outstation.lanes rows) (arriving rows) l (with_others_rows rows s)
+    → Follows (others ++ dropped_by s.outstation.lanes rows) (arriving rows) [] s.outstation.performed l (with_others_rows rows s)
 append_follows others s l rows j sim =
     let dropped : List Row = dropped_by s.outstation.lanes rows in
     let up_is : map octets_of sim.link.up ≡ map octets_of l.up =
@@ -139,6 +151,10 @@ append_follows others s l rows j sim =
             (IsPermutation-append_left dropped (map buffered_row l.left) (s.left ++ others) j.left));
       };
       stood = sim.stood;
+      asked_is = sim.master.asked ∙ sym (append-nil l.asked);
+      commands = sim.commands;
+      performed = sim.performed;
+      performed_is = sim.performed_seen;
     }
 
 -- what left for others may be listed with the rest

@@ -7,6 +7,7 @@ use Rattle.std.proofs.lemmas.List.{map-append, drop-map}
 use Rattle.std.proofs.lemmas.List.Elements.{All-drop, All-head}
 use Rattle.std.proofs.lemmas.List.Sorted.{IsPermutation-trans, IsPermutation-append_left, IsPermutation-append_right, IsPermutation-append_comm}
 use Rattle.std.proofs.lemmas.Option.{none-some, same_Some}
+use Rattle.dnp_objects.specs.declared.command.Command.{Command}
 use Rattle.dnp_objects.specs.declared.row.Row.{Row}
 use Rattle.dnp_controls.specs.Panel.{Panel}
 use Rattle.dnp_eventbuf.specs.Buffered.{Buffered, buffered_row}
@@ -82,7 +83,8 @@ pub after_step : {Sink : Type 0} → LineLaws → (others listed came : List Row
     → (step : Step)
     → s.left ≡ listed ++ step.does.overwritten
     → (was_open ≡ false → step.does.send ≡ []) → (was_open ≡ false → step.state.core.is_open ≡ false)
-    → Beside others listed s was_open l → Simulates s.outstation came step l → Steps step s new → Follows others came l new
+    → Beside others listed s was_open l → Simulates s.outstation came step l → Steps step s new
+    → Follows others came [] s.outstation.performed l new
 after_step {Sink = Sink} line others listed came s new was_open l step grown quiet closes b sim steps =
     let after : LinkState Sink = record s {
       outstation = step.state;
@@ -116,24 +118,40 @@ after_step {Sink = Sink} line others listed came s new was_open l step grown qui
       moves = sim.moves;
       joined = subst (λ (x : LinkState Sink). Joined others x sim.link) (sym steps.after) joined;
       stood = sim.stood;
+      asked_is = sim.master.asked ∙ sym (append-nil l.asked);
+      commands = sim.commands;
+      performed = ap (λ (x : LinkState Sink). x.outstation.performed) steps.after ∙ sim.performed;
+      performed_is = sim.performed_seen;
     }
 
 -- moves in front
-pub moves_before : {Sink : Type 0} (others came : List Row) (l first : Link) (new : LinkState Sink) → Moves l first
-    → map buffered_row first.stood ≡ map buffered_row l.stood → Follows others came first new → Follows others came l new
-moves_before others came l first new moves same f = record {
+pub moves_before : {Sink : Type 0} (others came : List Row) (asked before : List Command) (l first : Link) (new : LinkState Sink) → Moves l first
+    → map buffered_row first.stood ≡ map buffered_row l.stood → first.asked ≡ l.asked → first.performed ≡ l.performed
+    → Follows others came asked before first new → Follows others came asked before l new
+moves_before others came asked before l first new moves same asks performs f = record {
   link = f.link;
   moves = moves_after l first f.link moves f.moves;
   joined = f.joined;
   stood = f.stood ∙ ap (λ (xs : List Row). xs ++ came) same;
+  asked_is = f.asked_is ∙ ap (λ (xs : List Command). xs ++ asked) asks;
+  commands = f.commands;
+  performed = f.performed;
+  performed_is = f.performed_is ∙ ap (λ (xs : List Command). xs ++ f.commands) performs;
 }
 
 -- nothing comes to the lanes, and no move is made
-pub stays : {Sink : Type 0} (others : List Row) (l : Link) (new : LinkState Sink) → Joined others new l → Follows others [] l new
-stays others l new j = record { link = l; moves = Done; joined = j; stood = sym (append-nil (map buffered_row l.stood)) }
-
-pub stays_as : {Sink : Type 0} (others : List Row) (l : Link) (new after : LinkState Sink) → new ≡ after → Joined others after l → Follows others [] l new
-stays_as {Sink = Sink} others l new after e j = stays others l new (subst (λ (x : LinkState Sink). Joined others x l) (sym e) j)
+pub stays_as : {Sink : Type 0} (others : List Row) (l : Link) (new after : LinkState Sink) → new ≡ after → Joined others after l
+    → Follows others [] [] after.outstation.performed l new
+stays_as {Sink = Sink} others l new after e j = record {
+  link = l;
+  moves = Done;
+  joined = subst (λ (x : LinkState Sink). Joined others x l) (sym e) j;
+  stood = sym (append-nil (map buffered_row l.stood));
+  asked_is = sym (append-nil l.asked);
+  commands = [];
+  performed = ap (λ (x : LinkState Sink). x.outstation.performed) e ∙ sym (append-nil after.outstation.performed);
+  performed_is = sym (append-nil l.performed);
+}
 
 -- ---- a fragment comes down
 
@@ -154,7 +172,7 @@ still_closed s step e closed = ap (λ (x : Step). x.state.core.is_open) e ∙ cl
 -- a step that drops nothing, of an outstation that does nothing where it is closed
 pub plain_step : {Sink : Type 0} → LineLaws → (others : List Row) (s new : LinkState Sink) (l : Link) (step : Step)
     → step.does.overwritten ≡ [] → (s.outstation.core.is_open ≡ false → step ≡ still s.outstation)
-    → Joined others s l → Simulates s.outstation [] step l → Steps step s new → Follows others [] l new
+    → Joined others s l → Simulates s.outstation [] step l → Steps step s new → Follows others [] [] s.outstation.performed l new
 plain_step line others s new l step none quiet j sim steps =
     after_step line others s.left [] s new s.outstation.core.is_open l step
     (sym (append-nil s.left) ∙ ap (λ (xs : List Row). s.left ++ xs) (sym none))
@@ -165,7 +183,7 @@ plain_step line others s new l step none quiet j sim steps =
 come_down : {Sink : Type 0} → Laws → (panel : Panel) → ShowOctets panel → (others : List Row) (s new : LinkState Sink) (l : Link)
     → (fragment : List ℕ) (rest : List Down) → Stands l → Joined others s l
     → All (λ octet. octet < 2 ^ 8) fragment → l.down ≡ down_of fragment ∷ rest
-    → Steps (connection_after s.outstation panel s.now fragment) s new → Follows others [] l new
+    → Steps (connection_after s.outstation panel s.now fragment) s new → Follows others [] [] s.outstation.performed l new
 come_down laws panel shown others s new l fragment rest stands j small down_is steps =
     plain_step laws.line others s new l (connection_after s.outstation panel s.now fragment)
     (received_leaves laws.points s.outstation panel s.now fragment).none
@@ -176,7 +194,7 @@ pub came_down : {Sink : Type 0} → Laws → (panel : Panel) → ShowOctets pane
     → (given : List (List ℕ))
     → Stands l → (j : Joined others s l) → IsSamePort s.outstation_port port
     → Came line s.master_port port s.master.is_open j.going_down given
-    → ComeDown panel given (record s { down = line; outstation_port = port }) new → Follows others [] l new
+    → ComeDown panel given (record s { down = line; outstation_port = port }) new → Follows others [] [] s.outstation.performed l new
 came_down {Sink = Sink} laws panel shown others s new l line port given stands j same came h = by came.gives
   where
     base : LinkState Sink
@@ -185,10 +203,9 @@ came_down {Sink = Sink} laws panel shown others s new l line port given stands j
     up : Carries s.up port s.master_port s.outstation.core.is_open (map octets_of l.up)
     up = back_came laws.line s.up s.outstation_port s.master_port port s.outstation.core.is_open (map octets_of l.up) same.same_ends same.number j.up
 
-    by : MayGive j.going_down [] came.left given → Follows others [] l new
+    by : MayGive j.going_down [] came.left given → Follows others [] [] s.outstation.performed l new
     by (Nothing left_is none) =
-        stays others l new
-        (subst (λ (x : LinkState Sink). Joined others x l) (sym (subst (λ (fs : List (List ℕ)). ComeDown panel fs base new) none h))
+        stays_as others l new base (subst (λ (fs : List (List ℕ)). ComeDown panel fs base new) none h)
         (record {
           outstation = j.outstation;
           master = j.master;
@@ -201,7 +218,7 @@ came_down {Sink = Sink} laws panel shown others s new l line port given stands j
           taken = j.taken;
           released = j.released;
           left = j.left;
-        }))
+        })
     by (One n fragment at left_is one) =
         let first : Link = lost_down n l in
         let there : drop n j.going_down ≡ fragment ∷ drop (suc n) j.going_down = left_at n j.going_down fragment at in
@@ -224,7 +241,7 @@ came_down {Sink = Sink} laws panel shown others s new l line port given stands j
         } in
         let head : first.down ≡ down_of fragment ∷ map down_of (drop (suc n) j.going_down) =
         ap (drop n) j.down_is ∙ drop-map down_of n j.going_down ∙ ap (map down_of) there in
-        moves_before others [] l first new (one_move l first (LoseDown n refl)) refl
+        moves_before others [] [] s.outstation.performed l first new (one_move l first (LoseDown n refl)) refl refl refl
         (come_down laws panel shown others base new first fragment (map down_of (drop (suc n) j.going_down)) stands_first joined
         (All-head (All (λ octet. octet < 2 ^ 8)) fragment (drop (suc n) j.going_down) small) head
         (subst (λ (fs : List (List ℕ)). ComeDown panel fs base new) one h))

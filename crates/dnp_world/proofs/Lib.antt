@@ -37,6 +37,7 @@ pub mod JoinedPoints
 pub mod JoinedLaws
 pub mod JoinedSteps
 pub mod JoinedOctets
+pub mod AskedCommands
 pub mod JoinedMaster
 pub mod JoinedChanges
 pub mod JoinedEvents

@@ -57,12 +57,17 @@ pub record Joined {Sink : Type 0} (others : List Row) (s : LinkState Sink) (l : 
   pub released : map buffered_row l.released ≡ s.released
   pub left : IsPermutation (map buffered_row l.left) (s.left ++ others)
 
--- moves make of the link one that is joined to the new state, and these rows came to the lanes meanwhile
-pub record Follows {Sink : Type 0} (others came : List Row) (l : Link) (new : LinkState Sink) : Type 0 where
+-- Moves make of the link one that is joined to the new state. Meanwhile these rows came to the lanes, the master asked for these
+-- commands, and the outputs, which had performed those before, performed some.
+pub record Follows {Sink : Type 0} (others came : List Row) (asked before : List Command) (l : Link) (new : LinkState Sink) : Type 0 where
   pub link : Link
   pub moves : Moves l link
   pub joined : Joined others new link
   pub stood : map buffered_row link.stood ≡ map buffered_row l.stood ++ came
+  pub asked_is : link.asked ≡ l.asked ++ asked
+  pub commands : List Command
+  pub performed : new.outstation.performed ≡ before ++ commands
+  pub performed_is : link.performed ≡ l.performed ++ commands
 
 -- there is a link of the law behind it, of which the law's invariant holds
 pub record IsJoined {Sink : Type 0} (others : List Row) (s : LinkState Sink) : Type 0 where

@@ -1,22 +1,18 @@
 -- Definition: what stands behind a whole system: a link of the law to each substation and one above, of these stations over these
 -- lines, that have the lists which the system keeps (own rule). No field holds them.
-use Rattle.std.specs.Prelude.{◌≡◌, ℕ, List, [], ◌∷◌, ◌++◌, length, drop, slice_get, IfSome, ⊤}
-use Rattle.dnp_objects.specs.declared.command.Command.{Command}
+use Rattle.std.specs.Prelude.{ℕ, List, [], slice_get, IfSome, ⊤}
 use Rattle.dnp_objects.specs.declared.row.Row.{Row}
-use Rattle.dnp_controls.specs.Panel.{Panel}
 use Rattle.dnp_concentrator.specs.Relaying.{Relaying}
 use Rattle.dnp_master.specs.State as master
 use Rattle.dnp_outstation.specs.State.{State}
-use Rattle.dnp_world.specs.declared.link_event.LinkEvent.{LinkEvent}
 use Rattle.dnp_world.specs.Behind.{Links, IsBehind, made_at, rows_of}
 use Rattle.dnp_world.specs.Channels.{ChannelState}
-use Rattle.dnp_world.specs.Joined.{Joined, Follows, rows_made_by}
+use Rattle.dnp_world.specs.Joined.{Joined}
 use Rattle.dnp_world.specs.Kept.{kept_in, report_of}
 use Rattle.dnp_world.specs.Link.{Link}
-use Rattle.dnp_world.specs.OneLinkEvents.{LinkState, HappensOn}
+use Rattle.dnp_world.specs.OneLinkEvents.{LinkState}
 use Rattle.dnp_world.specs.OutstationSeen.{ShowOctets}
 use Rattle.dnp_world.specs.Reports.{IsFate}
-use Rattle.dnp_world.specs.Standing.{Stands}
 use Rattle.dnp_world.specs.Systems.{SubstationState, System, station_of, panel_of, middle_of, link_at}
 
 -- ---- a link of a system, as a link by itself
@@ -73,17 +69,3 @@ pub record IsStanding (s : System) : Type 0 where
 pub record Keeps (station : ℕ) (made : List Row) (old new : System) : Type 0 where
   pub standing : IsStanding new
   pub fate : IsFate (made_at station made) (report_of old) (report_of new)
-
--- ---- what the law of one link is to promise
-
--- it follows, where these rows came to its lanes, and its master asked for these commands and its outstation performed these
-pub record GoesAs (came : List Row) (asked performed : List Command) (l : Link) (new : LinkState ⊤) : Type 0 where
-  pub follows : Follows [] came l new
-  pub asked_is : follows.link.asked ≡ l.asked ++ asked
-  pub performed_is : follows.link.performed ≡ l.performed ++ performed
-
--- an event of a link by itself asks for no command, and performs those that its outputs list besides
-pub record LinkPromise : Type 0 where
-  pub happens : (panel : Panel) (s new : LinkState ⊤) (event : LinkEvent) (l : Link) → ShowOctets panel → Stands l → Joined [] s l
-      → HappensOn no_sink panel s event new
-      → GoesAs (rows_made_by s.outstation.core.points (event ∷ [])) [] (drop (length s.outstation.performed) new.outstation.performed) l new

@@ -5,7 +5,7 @@
 //! The premises are those of the line: it keeps the order, breaks by 32 losses in a row, and carries no damaged unit
 //! that reads as another frame. The link's events have them built in.
 
-ghost use Rattle.std.specs.Prelude.{◌≡◌, ℕ, ◌<◌, ◌^◌, false, All, List, [], ◌∷◌, ◌++◌, take};
+ghost use Rattle.std.specs.Prelude.{◌≡◌, ℕ, ◌<◌, ◌^◌, false, All, List, [], ◌∷◌, ◌++◌, take, ⊤};
 ghost use Rattle.std.specs.List.Sorted.{IsPermutation};
 ghost use Rattle.dnp_objects.specs.declared.command.Command.{Command};
 ghost use Rattle.dnp_objects.specs.declared.lane.LaneRow.{LaneRow};
@@ -26,6 +26,7 @@ ghost use Rattle.dnp_world.specs.Link.{Link};
 ghost use Rattle.dnp_world.specs.OneLinkEvents.{LinkState, HappensOn, RunsTo, StopsAt, StopsAfter};
 ghost use Rattle.dnp_world.specs.OutstationSeen.{ShowOctets};
 ghost use Rattle.dnp_world.specs.Standing.{Stands};
+ghost use Rattle.dnp_world.specs.SystemStanding.{no_sink};
 
 use crate::laws::{lanes_are_moved, link_law};
 use crate::master_laws::{
@@ -46,19 +47,45 @@ use dnp_pointdb::laws::a_change_makes_what_its_lane_takes;
 
 /// Each event of a link is some moves of the link of its law, whatever its outputs show, and so is a list of them, also
 /// one that stops, where there are no outputs. The rows
-/// that come to the lanes meanwhile are those that the changes of the list make of the points.
+/// that come to the lanes meanwhile are those that the changes of the list make of the points, no command is asked for, and
+/// what the link performs its outputs perform.
 pub fn events_are_moves<S: Sink>()
     ensures event { (panel : Panel) (others : List Row) (s new : LinkState S) (event : LinkEvent) (l : Link) → ShowOctets panel
         → Stands l → Joined others s l → HappensOn S.takes panel s event new
-        → Follows others (rows_made_by s.outstation.core.points (event ∷ [])) l new }
+        → Follows others (rows_made_by s.outstation.core.points (event ∷ [])) [] s.outstation.performed l new }
     ensures stopped { (others : List Row) (s new : LinkState S) (event : LinkEvent) (l : Link) → Stands l
-        → Joined others s l → StopsAt S.takes S.keeps s event new → Follows others [] l new }
+        → Joined others s l → StopsAt S.takes S.keeps s event new → Follows others [] [] s.outstation.performed l new }
     ensures runs { (others : List Row) (s new : LinkState S) (events : List LinkEvent) (l : Link) → Stands l
         → Joined others s l → RunsTo S.takes s events new
-        → Follows others (rows_made_by s.outstation.core.points events) l new }
+        → Follows others (rows_made_by s.outstation.core.points events) [] s.outstation.performed l new }
     ensures stops { (others : List Row) (s new : LinkState S) (events : List LinkEvent) (done : ℕ) (l : Link)
         → Stands l → Joined others s l → StopsAfter S.takes S.keeps s events done new
-        → Follows others (rows_made_by s.outstation.core.points (take done events)) l new }
+        → Follows others (rows_made_by s.outstation.core.points (take done events)) [] s.outstation.performed l new }
+{
+    outstation::an_opening_is_moves();
+    outstation::what_comes_is_moves();
+    outstation::time_is_moves();
+    outstation::a_change_is_moves();
+    outstation::a_closing_is_moves();
+    a_master_takes_by_moves();
+    a_master_asks_by_a_move();
+    a_master_opens_and_closes_by_moves();
+    line_law();
+    a_closed_outstation_is_silent();
+    an_unsolicited_response_starts_where_none_is_awaited();
+    content_leaves_the_connection_alone();
+    a_closed_master_is_silent();
+    an_idle_master_asks();
+    what_comes_is_taken_or_passed_over();
+    a_change_makes_what_its_lane_takes();
+    lanes_stay_sound();
+}
+
+/// The same of an event of a link whose master gives its rows to no sink of the link's own.
+pub fn events_without_a_sink_are_moves()
+    ensures { (panel : Panel) (s new : LinkState ⊤) (event : LinkEvent) (l : Link) → ShowOctets panel → Stands l
+        → Joined [] s l → HappensOn no_sink panel s event new
+        → Follows [] (rows_made_by s.outstation.core.points (event ∷ [])) [] s.outstation.performed l new }
 {
     outstation::an_opening_is_moves();
     outstation::what_comes_is_moves();
@@ -84,7 +111,7 @@ pub fn events_are_moves<S: Sink>()
 pub fn appends_by_others_are_moves<T>()
     ensures appended { (others : List Row) (s : LinkState T) (rows : List LaneRow) (l : Link) → All IsCarried rows
         → exhausts s.outstation.lanes rows ≡ false → All (λ x. x.row.index < 2 ^ 16) rows → Joined others s l
-        → Follows (others ++ dropped_by s.outstation.lanes rows) (arriving rows) l (with_others_rows rows s) }
+        → Follows (others ++ dropped_by s.outstation.lanes rows) (arriving rows) [] s.outstation.performed l (with_others_rows rows s) }
     ensures listed { (others dropped : List Row) (s : LinkState T) (l : Link) → Joined (others ++ dropped) s l
         → Joined others (record s { left = s.left ++ dropped }) l }
     ensures sink { (others : List Row) (s : LinkState T) (sink : T) (l : Link) → Joined others s l

@@ -30,10 +30,11 @@ ghost use Rattle.dnp_world.specs.Joined.{rows_made_by};
 ghost use Rattle.dnp_world.specs.Kept.{Kept, commands_below, nothing_kept, order_of, orders_in, report_of, rows_below, shown_of, used_orders};
 ghost use Rattle.dnp_world.specs.ReportShown.{Shows, lists_of};
 ghost use Rattle.dnp_world.specs.Reports.{Holds, IsFate, Report as ReportValue};
-ghost use Rattle.dnp_world.specs.SystemStanding.{IsStanding, Keeps, LinkPromise};
+ghost use Rattle.dnp_world.specs.SystemStanding.{IsStanding, Keeps};
 ghost use Rattle.dnp_world.specs.SystemEvents.{ComesDownBelow, HangsUpOn, IssuesBy, LosesOn, OutstationTicks, Reads, SubstationRestarts};
 ghost use Rattle.dnp_world.specs.Systems.{System, at_station};
 
+use crate::joined_laws::events_without_a_sink_are_moves;
 use crate::laws::link_law;
 use dnp_concentrator::laws::{commands_are_undone, rows_above_are_undone};
 use dnp_objects::laws::{covered_is_by_counts, equality_is_decided};
@@ -87,25 +88,26 @@ pub fn what_a_report_shows_is_kept()
 }
 
 /// Events on the link to a substation at which its master takes no rows: something stands behind the system again, and at
-/// the substation happened what had happened, as far as the law of one link promises that the link follows.
+/// the substation happened what had happened, and the rows that a reading makes.
 pub fn events_below_keep_what_stands()
-    ensures lost { (promise : LinkPromise) (old new : System) (station : ℕ) (way : Way) → IsStanding old
+    ensures lost { (old new : System) (station : ℕ) (way : Way) → IsStanding old
         → LosesOn (link.Below station) way old new → Keeps station [] old new }
-    ensures hung_up { (promise : LinkPromise) (old new : System) (station : ℕ) → IsStanding old
+    ensures hung_up { (old new : System) (station : ℕ) → IsStanding old
         → HangsUpOn (link.Below station) end.Outstation old new → Keeps station [] old new }
-    ensures restarted { (promise : LinkPromise) (old new : System) (station : ℕ) → IsStanding old
+    ensures restarted { (old new : System) (station : ℕ) → IsStanding old
         → SubstationRestarts station old new → Keeps station [] old new }
-    ensures delivered { (promise : LinkPromise) (old new : System) (station : ℕ) → IsStanding old
+    ensures delivered { (old new : System) (station : ℕ) → IsStanding old
         → ComesDownBelow delivered_on station old new → Keeps station [] old new }
-    ensures repeated { (promise : LinkPromise) (old new : System) (station : ℕ) → IsStanding old
+    ensures repeated { (old new : System) (station : ℕ) → IsStanding old
         → ComesDownBelow repeated_on station old new → Keeps station [] old new }
-    ensures ticked { (promise : LinkPromise) (old new : System) (station : ℕ) → IsStanding old
+    ensures ticked { (old new : System) (station : ℕ) → IsStanding old
         → OutstationTicks (link.Below station) old new → Keeps station [] old new }
-    ensures read { (promise : LinkPromise) (old new : System) (station : ℕ) (kind : Kind) (index : ℕ) (reading : Reading) → IsStanding old
+    ensures read { (old new : System) (station : ℕ) (kind : Kind) (index : ℕ) (reading : Reading) → IsStanding old
         → (reads : Reads station kind index reading old new)
         → Keeps station (rows_made_by reads.was.core.points (event.Change kind index reading ∷ [])) old new }
 {
     lists_are_of_links();
+    events_without_a_sink_are_moves();
     a_confirm_releases_what_its_fragment_reported();
     commands_are_performed_as_they_are_asked();
 }

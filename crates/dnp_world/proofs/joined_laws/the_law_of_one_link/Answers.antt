@@ -17,19 +17,19 @@ pub returns-clause-runs : goal.returns-clause-runs
 returns-clause-runs g c = λ others s new events h ran.
     let came : List Row = rows_made_by s.outstation.core.points events in
     let f = c.events_are_moves.ensures.runs others s new events h.link h.stands h.joined ran in
-    (kept_by others came h.link new h.stands f, grown_by (laws_of g c) others others came s new h.link h.stands h.joined f)
+    (kept_by others came s.outstation.performed h.link new h.stands f, grown_by (laws_of g c) others others came s new h.link h.stands h.joined f)
 
 pub returns-clause-stops : goal.returns-clause-stops
 returns-clause-stops g c = λ others s new events done h stopped.
     let came : List Row = rows_made_by s.outstation.core.points (take done events) in
     let f = c.events_are_moves.ensures.stops others s new events done h.link h.stands h.joined stopped in
-    (kept_by others came h.link new h.stands f, grown_by (laws_of g c) others others came s new h.link h.stands h.joined f)
+    (kept_by others came s.outstation.performed h.link new h.stands f, grown_by (laws_of g c) others others came s new h.link h.stands h.joined f)
 
 pub returns-clause-appended : goal.returns-clause-appended
 returns-clause-appended g c = λ others s rows carried room low h.
     let left : List Row = others ++ dropped_by s.outstation.lanes rows in
     let f = c.appends_by_others_are_moves.ensures.appended others s rows h.link carried room low h.joined in (
-      kept_by left (arriving rows) h.link (with_others_rows rows s) h.stands f,
+      kept_by left (arriving rows) s.outstation.performed h.link (with_others_rows rows s) h.stands f,
       grown_by (laws_of g c) others left (arriving rows) s (with_others_rows rows s) h.link h.stands h.joined f,
     )
 
