@@ -13,6 +13,7 @@ use Rattle.dnp_eventbuf.specs.Stock.{rows_in, without_all}
 use Rattle.dnp_outstation.specs.Calls.{connection_after, restarted_core}
 use Rattle.dnp_outstation.specs.Connection.{closed}
 use Rattle.dnp_outstation.specs.State.{Step}
+use Rattle.dnp_outstation.specs.Station.{with_points}
 use Rattle.dnp_world.specs.declared.link_event.End.TheVariants as end
 use Rattle.dnp_world.specs.declared.link_event.LinkEvent.{LinkEvent}
 use Rattle.dnp_world.specs.declared.link_event.LinkEvent.TheVariants as event
@@ -27,8 +28,8 @@ use Rattle.dnp_world.specs.OneLinkEvents.{LinkState, HappensOn, ComesDown, ComeD
 use Rattle.dnp_world.specs.OutstationSeen.{ShowOctets}
 use Rattle.dnp_world.specs.Systems.{SubstationState, System, at_station, in_state, panel_of, station_of}
 use Rattle.dnp_world.specs.SystemEvents.{HangsUpOn, LosesOn, SubstationAnswers, SubstationSteps, ComesDownBelow, SubstationRestarts, with_substation}
-use Rattle.dnp_world.specs.SystemStanding.{RowLists, lists_of, no_sink, seen_below, IsJoinedBelow, IsStanding, Keeps}
-use Rattle.dnp_world.proofs.BelowKeeps.{Grounds, Gone, IsListed, changed_below, performs, below_keeps, some_of}
+use Rattle.dnp_world.specs.SystemStanding.{RowLists, lists_of, no_sink, seen, seen_below, IsJoinedBelow, IsStanding, Keeps}
+use Rattle.dnp_world.proofs.BelowKeeps.{Grounds, Gone, IsListed, KeepsMiddle, Middle, changed_below, middle_in, middle_same, performs, below_keeps, some_of}
 
 -- ---- outputs
 
@@ -42,18 +43,18 @@ octets_shown outputs few = record { outputs = few; status = λ index low. by (is
 
 -- ---- the lists after it
 
-lists_as : (station : ℕ) (was is : SubstationState) (relays : List Relaying) (gone : Gone) (old : System) (c o g : List (ℕ × Row)) (p : List (ℕ × Command))
+pub lists_as : (station : ℕ) (was is : SubstationState) (middle : Middle) (gone : Gone) (old : System) (c o g : List (ℕ × Row)) (p : List (ℕ × Command))
     → c ≡ old.history.confirmed ++ at_station station gone.confirmed → o ≡ old.history.overwritten ++ at_station station gone.overwritten
     → g ≡ old.history.gone ++ at_station station gone.emptied → p ≡ old.history.operated ++ at_station station (performs was is)
     → record old {
       substations = slice_set old.substations station is;
-      concentrator = record old.concentrator { links = relays };
+      concentrator = record old.concentrator { core = with_points old.concentrator.core middle.points; links = middle.links };
       history = record old.history { confirmed = c; overwritten = o; gone = g; operated = p };
-    } ≡ changed_below station was is relays gone old
-lists_as station was is relays gone old c o g p ec eo eg ep =
+    } ≡ changed_below station was is middle gone old
+lists_as station was is middle gone old c o g p ec eo eg ep =
     let with_lists : List (ℕ × Row) → List (ℕ × Row) → List (ℕ × Row) → List (ℕ × Command) → System = λ a b d e. record old {
       substations = slice_set old.substations station is;
-      concentrator = record old.concentrator { links = relays };
+      concentrator = record old.concentrator { core = with_points old.concentrator.core middle.points; links = middle.links };
       history = record old.history { confirmed = a; overwritten = b; gone = d; operated = e };
     } in
     let c' : List (ℕ × Row) = old.history.confirmed ++ at_station station gone.confirmed in
@@ -64,7 +65,7 @@ lists_as station was is relays gone old c o g p ec eo eg ep =
 pub none_behind : {A : Type 0} (xs : List A) → xs ≡ xs ++ []
 none_behind xs = sym (append-nil xs)
 
-abbrev nothing_gone : Gone
+abbrev pub nothing_gone : Gone
 nothing_gone = record { confirmed = []; overwritten = []; emptied = [] }
 
 nothing_listed : (l : Link) → IsListed l nothing_gone (lists_of l)
@@ -75,13 +76,13 @@ no_performs was is same =
     ap (λ (xs : List Command). drop (length was.outputs.performed) xs) same ∙ drop_all (length was.outputs.performed) was.outputs.performed (omega arith)
 
 -- the outputs of a substation that stands
-few_outputs : (old : System) (h : IsStanding old) (station : ℕ) (was : SubstationState) → slice_get old.substations station ≡ Some was
+pub few_outputs : (old : System) (h : IsStanding old) (station : ℕ) (was : SubstationState) → slice_get old.substations station ≡ Some was
     → was.outputs.outputs ≤ 2 ^ 16
 few_outputs old h station was there =
     let joined_to : SubstationState → Type 0 = IsJoinedBelow old.now (link_in old.concentrator.links station) (h.links.below station) in
     (some_of joined_to (slice_get old.substations station) was there (h.below station)).shown.outputs
 
-shown_with : (was is : SubstationState) → was.outputs.outputs ≤ 2 ^ 16 → is.outputs.outputs ≡ was.outputs.outputs → ShowOctets (panel_of is)
+pub shown_with : (was is : SubstationState) → was.outputs.outputs ≤ 2 ^ 16 → is.outputs.outputs ≡ was.outputs.outputs → ShowOctets (panel_of is)
 shown_with was is few same = octets_shown is.outputs (subst (λ (n : ℕ). n ≤ 2 ^ 16) (sym same) few)
 
 -- ---- events at which no row is released or leaves
@@ -90,20 +91,33 @@ shown_with was is few same = octets_shown is.outputs (subst (λ (n : ℕ). n ≤
 abbrev pub seen_at : System → ℕ → SubstationState → RowLists → LinkState ⊤
 seen_at old station substation lists = seen_below old.now (link_in old.concentrator.links station) substation lists
 
-pub quiet : Grounds → (old new : System) (h : IsStanding old) (station : ℕ) (was is : SubstationState) (e : LinkEvent)
-    → slice_get old.substations station ≡ Some was → is.outputs ≡ was.outputs
-    → HappensOn no_sink (panel_of was) (seen_at old station was (lists_of (h.links.below station))) e (seen_at old station is (lists_of
-    (h.links.below station)))
-    → new ≡ with_substation old station is → Keeps station (rows_made_by was.core.points (e ∷ [])) old new
-quiet grounds old new h station was is e there same happens after =
-    below_keeps grounds old new h station was is old.concentrator.links nothing_gone (lists_of
-    (h.links.below station)) e there
-    (λ i other. refl) (shown_with was is (few_outputs old h station was there) (ap (λ (o : PlainState). o.outputs) same))
+-- the substation is another, and so is what the concentrator has of it
+abbrev pub with_both : System → ℕ → SubstationState → Middle → System
+with_both s station is middle = record (with_substation s station is) {
+  concentrator = record s.concentrator { core = with_points s.concentrator.core middle.points; links = middle.links };
+}
+
+pub quiet_with : Grounds → (old new : System) (h : IsStanding old) (station : ℕ) (was is : SubstationState) (middle : Middle) (e : LinkEvent)
+    → slice_get old.substations station ≡ Some was → KeepsMiddle station middle old → is.outputs ≡ was.outputs
+    → HappensOn no_sink (panel_of was) (seen_at old station was (lists_of (h.links.below station))) e
+    (seen_below old.now (link_in middle.links station) is (lists_of (h.links.below station)))
+    → new ≡ with_both old station is middle → Keeps station (rows_made_by was.core.points (e ∷ [])) old new
+quiet_with grounds old new h station was is middle e there keeps same happens after =
+    below_keeps grounds old new h station was is middle nothing_gone (lists_of (h.links.below station)) e there keeps
+    (shown_with was is (few_outputs old h station was there) (ap (λ (o : PlainState). o.outputs) same))
     (nothing_listed (h.links.below station)) happens
-    (after ∙ lists_as station was is old.concentrator.links nothing_gone old old.history.confirmed old.history.overwritten old.history.gone old.history.operated
+    (after ∙ lists_as station was is middle nothing_gone old old.history.confirmed old.history.overwritten old.history.gone old.history.operated
     (none_behind old.history.confirmed) (none_behind old.history.overwritten) (none_behind old.history.gone)
     (none_behind old.history.operated
     ∙ ap (λ (xs : List Command). old.history.operated ++ at_station station xs) (sym (no_performs was is (ap (λ (o : PlainState). o.performed) same)))))
+
+pub quiet : Grounds → (old new : System) (h : IsStanding old) (station : ℕ) (was is : SubstationState) (e : LinkEvent)
+    → slice_get old.substations station ≡ Some was → is.outputs ≡ was.outputs
+    → HappensOn no_sink (panel_of was) (seen_at old station was (lists_of (h.links.below station))) e
+    (seen_at old station is (lists_of (h.links.below station)))
+    → new ≡ with_substation old station is → Keeps station (rows_made_by was.core.points (e ∷ [])) old new
+quiet grounds old new h station was is e there same happens after =
+    quiet_with grounds old new h station was is (middle_in old) e there (middle_same station old) same happens after
 
 -- a line loses its front unit
 pub loses : Grounds → (old new : System) (station : ℕ) (way : Way) → IsStanding old → LosesOn (Below station) way old new → Keeps station [] old new
@@ -145,12 +159,12 @@ restarts grounds old new station h e =
     let after : SubstationState → System = λ s. record (with_substation old station s) {
       history = record old.history { gone = old.history.gone ++ at_station station (rows_in was.lanes) };
     } in
-    below_keeps grounds old new h station was is old.concentrator.links gone
-    (record (lists_of l) { left = rows_of l.left ++ rows_in was.lanes }) (event.Restart end.Outstation) e.there (λ i other. refl)
+    below_keeps grounds old new h station was is (middle_in old) gone
+    (record (lists_of l) { left = rows_of l.left ++ rows_in was.lanes }) (event.Restart end.Outstation) e.there (middle_same station old)
     (shown_with was is (few_outputs old h station was e.there) refl)
     (record { taken = refl; released = none_behind (rows_of l.released); left = refl }) refl
     (e.after ∙ ap after e.changed
-    ∙ lists_as station was is old.concentrator.links gone old old.history.confirmed old.history.overwritten
+    ∙ lists_as station was is (middle_in old) gone old old.history.confirmed old.history.overwritten
     (old.history.gone ++ at_station station (rows_in was.lanes)) old.history.operated
     (none_behind old.history.confirmed) (none_behind old.history.overwritten) refl
     (none_behind old.history.operated ∙ ap (λ (xs : List Command). old.history.operated ++ at_station station xs) (sym (no_performs was is refl))))
@@ -158,19 +172,23 @@ restarts grounds old new station h e =
 -- ---- steps of its outstation
 
 -- these were released besides
-abbrev with_released : RowLists → List Row → RowLists
+abbrev pub with_released : RowLists → List Row → RowLists
 with_released lists released = record lists { released = lists.released ++ released }
 
--- a step of the substation is a step of the link by itself
+-- a step of the substation is a step of the link by itself, over these lines and with this master
+pub stepped_on : (now : ℕ) (r : Relaying) (step : Step) (lines : ChannelState) (base is : SubstationState) (lists : RowLists)
+    → SubstationSteps step lines base is
+    → Steps step (seen (station_of base) r.master lines now lists) (seen_below now r is (with_released lists step.does.discarded))
+stepped_on now r step lines base is lists steps = record {
+  sent = steps.sent.sent;
+  after = ap (λ (s : SubstationState). seen_below now r s (with_released lists step.does.discarded))
+      (steps.after ∙ ap (λ (c : ChannelState). record (in_state base step.state) { channel = c }) steps.sent.after);
+}
+
 stepped : (old : System) (station : ℕ) (step : Step) (base is : SubstationState) (lists : RowLists) → SubstationSteps step base.channel base is
     → Steps step (seen_at old station base lists) (seen_at old station is (with_released lists step.does.discarded))
 stepped old station step base is lists steps =
-    let lines : ChannelState = record base.channel { up = is.channel.up; outstation_port = is.channel.outstation_port } in
-    record {
-      sent = steps.sent.sent;
-      after = ap (λ (s : SubstationState). seen_at old station s (with_released lists step.does.discarded))
-          (steps.after ∙ ap (λ (c : ChannelState). record (in_state base step.state) { channel = c }) steps.sent.after);
-    }
+    stepped_on old.now (link_in old.concentrator.links station) step base.channel base is lists steps
 
 -- a step that releases nothing, and at which these rows are dropped
 pub step_keeps : Grounds → (old new : System) (h : IsStanding old) (station : ℕ) (was is : SubstationState) (e : LinkEvent) (step : Step) (dropped : List Row)
@@ -191,12 +209,12 @@ step_keeps grounds old new h station was is e step dropped there none steps as_e
     let gone : Gone = record { confirmed = step.does.discarded; overwritten = dropped; emptied = [] } in
     let lists : RowLists = record (lists_of l) { left = rows_of l.left ++ dropped } in
     let is' : SubstationState = record (in_state was step.state) { channel = is.channel } in
-    below_keeps grounds old new h station was is old.concentrator.links gone (with_released lists step.does.discarded) e there (λ i other. refl)
+    below_keeps grounds old new h station was is (middle_in old) gone (with_released lists step.does.discarded) e there (middle_same station old)
     (shown_with was is (few_outputs old h station was there) (ap (λ (s : SubstationState). s.outputs.outputs) steps.after))
     (record { taken = refl; released = refl; left = ap (λ (xs : List Row). rows_of l.left ++ xs) (none_behind dropped) })
     (as_event (seen_at old station is (with_released lists step.does.discarded)) (stepped old station step was is lists steps))
     (after
-    ∙ lists_as station was is old.concentrator.links gone old old.history.confirmed (old.history.overwritten ++ at_station station dropped) old.history.gone
+    ∙ lists_as station was is (middle_in old) gone old old.history.confirmed (old.history.overwritten ++ at_station station dropped) old.history.gone
     (old.history.operated ++ at_station station (performs was is))
     (none_behind old.history.confirmed ∙ ap (λ (xs : List Row). old.history.confirmed ++ at_station station xs) (sym none)) refl
     (none_behind old.history.gone) refl)
@@ -233,13 +251,13 @@ comes grounds left e as_event old new station h c =
     let base : SubstationState = record was { channel = record was.channel { down = left was.channel.down; outstation_port = x.port } } in
     let gone : Gone = record { confirmed = c.released; overwritten = []; emptied = [] } in
     let lists : RowLists = record (lists_of l) { released = rows_of l.released ++ c.released } in
-    below_keeps grounds old new h station was is old.concentrator.links gone lists e c.came.there (λ i other. refl)
+    below_keeps grounds old new h station was is (middle_in old) gone lists e c.came.there (middle_same station old)
     (shown_with was is (few_outputs old h station was c.came.there) (outputs_stay x.given old.now c.released base is x.came))
     (record { taken = refl; released = refl; left = none_behind (rows_of l.left) })
     (as_event (seen_at old station was (lists_of l)) (seen_at old station is lists) (panel_of was)
     (record { port = x.port; given = x.given; heard = x.heard; came = answered old station l base is x.given c.released x.came }))
     (c.came.after
-    ∙ lists_as station was is old.concentrator.links gone old
+    ∙ lists_as station was is (middle_in old) gone old
     (old.history.confirmed ++ at_station station c.released) old.history.overwritten old.history.gone
     (old.history.operated ++ at_station station (performs was is)) refl (none_behind old.history.overwritten) (none_behind old.history.gone) refl)
 

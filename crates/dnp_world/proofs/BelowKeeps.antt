@@ -11,6 +11,11 @@ use Rattle.dnp_objects.specs.declared.row.Row.{Row}
 use Rattle.dnp_eventbuf.specs.Stock.{rows_in}
 use Rattle.dnp_controls.specs.Panel.{Panel}
 use Rattle.dnp_concentrator.specs.Below.{link_in}
+use Rattle.dnp_concentrator.specs.PointsAbove.{HasClassesOf}
+use Rattle.dnp_concentrator.specs.declared.plan.Plan.{Plan}
+use Rattle.dnp_outstation.specs.Station.{with_points}
+use Rattle.dnp_pointdb.specs.Database.{Database}
+use Rattle.dnp_pointdb.specs.Sound as points
 use Rattle.dnp_concentrator.specs.Relaying.{Relaying}
 use Rattle.dnp_concentrator.specs.declared.span.Spans.{Spans}
 use Rattle.dnp_world.specs.declared.link_event.LinkEvent.{LinkEvent}
@@ -25,11 +30,12 @@ use Rattle.dnp_world.specs.Reports.{IsFate}
 use Rattle.dnp_world.specs.Standing.{Stands}
 use Rattle.dnp_world.specs.Stations.{of_station, HasSameCounts}
 use Rattle.dnp_world.specs.Systems.{SubstationState, System, at_station, panel_of}
-use Rattle.dnp_world.specs.SystemStanding.{RowLists, lists_of, no_sink, seen_below, IsJoinedBelow, IsStanding, Keeps}
+use Rattle.dnp_world.specs.SystemStanding.{RowLists, lists_of, no_sink, points_asked, seen_above, seen_below, IsJoinedBelow, IsStanding, Keeps}
 use Rattle.dnp_world.proofs.Counting.{count_by-append}
 use Rattle.dnp_world.proofs.ListedAt.{set_here, set_there, listed_here, listed_there}
 use Rattle.dnp_world.proofs.OutstationOpenings.{rows_from}
 use Rattle.dnp_world.proofs.SystemCounts.{same_refl, same_is, same_sym, same_permutation}
+use Rattle.dnp_world.proofs.SystemPlans.{planned_as}
 use Rattle.dnp_world.proofs.Turning.{by_station}
 
 -- what a law of a system's lists says
@@ -84,8 +90,36 @@ relisted s l now j = record {
   left = subst (λ (xs : List Row). IsPermutation (rows_of l.left) xs) (sym (append-nil (rows_of l.left))) (IsPermutation-refl (rows_of l.left));
 }
 
+-- other readings of its points are no matter of the link
+pub points_set : (s : LinkState ⊤) (l : Link) (database : Database) → points.IsSound database → Joined [] s l
+    → Joined [] (record s { outstation = record s.outstation { core = with_points s.outstation.core database } }) l
+points_set s l database sound j = record {
+  outstation = record {
+    outstation = j.outstation.outstation;
+    lanes = j.outstation.lanes;
+    well = record {
+      lanes = j.outstation.well.lanes;
+      indexes = j.outstation.well.indexes;
+      points = sound;
+      order = record { number = j.outstation.well.order.number; classes = j.outstation.well.order.classes; held = j.outstation.well.order.held };
+      tidy = record { awaited = j.outstation.well.tidy.awaited; first = j.outstation.well.tidy.first; unsolicited = j.outstation.well.tidy.unsolicited };
+      ids = j.outstation.well.ids;
+    };
+  };
+  master = j.master;
+  number = j.number;
+  going_down = j.going_down;
+  down = j.down;
+  down_is = j.down_is;
+  octets = j.octets;
+  up = j.up;
+  taken = j.taken;
+  released = j.released;
+  left = j.left;
+}
+
 -- the rows in its lanes
-lane_rows : (s : LinkState ⊤) (l : Link) → Joined [] s l → rows_of l.lanes ≡ rows_in s.outstation.lanes
+pub lane_rows : (s : LinkState ⊤) (l : Link) → Joined [] s l → rows_of l.lanes ≡ rows_in s.outstation.lanes
 lane_rows s l j = ap rows_of j.outstation.lanes.rows ∙ rows_from 0 s.outstation.lanes.lanes
 
 -- what the link did, by the lists of the link by itself
@@ -130,11 +164,19 @@ pub record Gone : Type 0 where
 abbrev pub performs : SubstationState → SubstationState → List Command
 performs was is = drop (length was.outputs.performed) is.outputs.performed
 
--- the substation is another, and so are the links to substations, and the lists get what became of the rows and commands
-abbrev pub changed_below : ℕ → SubstationState → SubstationState → List Relaying → Gone → System → System
-changed_below station was is links gone s = record s {
+-- what changes of the concentrator besides: the links to substations, and the readings above
+pub record Middle : Type 0 where
+  pub links : List Relaying
+  pub points : Database
+
+abbrev pub middle_in : System → Middle
+middle_in s = record { links = s.concentrator.links; points = s.concentrator.core.points }
+
+-- the substation is another, and so is what the concentrator has of it, and the lists get what became of the rows and commands
+abbrev pub changed_below : ℕ → SubstationState → SubstationState → Middle → Gone → System → System
+changed_below station was is middle gone s = record s {
   substations = slice_set s.substations station is;
-  concentrator = record s.concentrator { links = links };
+  concentrator = record s.concentrator { core = with_points s.concentrator.core middle.points; links = middle.links };
   history = record s.history {
     confirmed = s.history.confirmed ++ at_station station gone.confirmed;
     overwritten = s.history.overwritten ++ at_station station gone.overwritten;
@@ -143,9 +185,16 @@ changed_below station was is links gone s = record s {
   };
 }
 
--- the links to all other substations are as they were
-abbrev pub AreOthersSame : ℕ → List Relaying → System → Type 0
-AreOthersSame station links s = (i : ℕ) → i ≢ station → link_in links i ≡ link_in s.concentrator.links i
+-- the links to all other substations are as they were, the masters ask for the same points, and the points above stay sound and of
+-- their classes
+pub record KeepsMiddle (station : ℕ) (middle : Middle) (s : System) : Type 0 where
+  pub others : (i : ℕ) → i ≢ station → link_in middle.links i ≡ link_in s.concentrator.links i
+  pub masters : map points_asked middle.links ≡ map points_asked s.concentrator.links
+  pub sound : points.IsSound s.concentrator.core.points → points.IsSound middle.points
+  pub classes : (plan : Plan) → HasClassesOf plan s.concentrator.core.points → HasClassesOf plan middle.points
+
+pub middle_same : (station : ℕ) (s : System) → KeepsMiddle station (middle_in s) s
+middle_same station s = record { others = λ i other. refl; masters = refl; sound = λ h. h; classes = λ plan h. h }
 
 left_more : (station : ℕ) (a b c d : List (ℕ × Row)) → HasSameCounts ((a ++ b) ++ (c ++ d)) ((a ++ c) ++ (b ++ d))
 left_more station a b c d = record {
@@ -167,14 +216,14 @@ some_of P o x e h = subst (λ o. IfSome o P) e h
 of_some : {S : Type 0} (P : S → Type 0) (o : Option S) (x : S) → o ≡ Some x → P x → IfSome o P
 of_some P o x e h = subst (λ o. IfSome o P) (sym e) h
 
-turn_below : (old : System) (links : Links) (station : ℕ) (was is : SubstationState) (relays : List Relaying) (gone : Gone) (came : List Row) (link : Link)
+turn_below : (old : System) (links : Links) (station : ℕ) (was is : SubstationState) (middle : Middle) (gone : Gone) (came : List Row) (link : Link)
     → IsBehind old.indices links (kept_in old) → slice_get old.substations station ≡ Some was
     → Grows (links.below station) link
     (record { made = came; discarded = gone.confirmed; left = gone.overwritten ++ gone.emptied; taken = []; asked = []; performed = performs was is })
     → rows_of link.lanes ≡ rows_in is.lanes
-    → Turn old.indices station links (kept_in old) (kept_in (changed_below station was is relays gone old))
-turn_below old links station was is relays gone came link b there grows lanes =
-    let new : System = changed_below station was is relays gone old in
+    → Turn old.indices station links (kept_in old) (kept_in (changed_below station was is middle gone old))
+turn_below old links station was is middle gone came link b there grows lanes =
+    let new : System = changed_below station was is middle gone old in
     record {
       below = link;
       above = links.above;
@@ -220,8 +269,8 @@ pub record IsListed (l : Link) (gone : Gone) (lists : RowLists) : Type 0 where
   pub left : lists.left ≡ rows_of l.left ++ (gone.overwritten ++ gone.emptied)
 
 -- the link to another substation is as it was
-other_stands : (old : System) (h : IsStanding old) (station : ℕ) (is : SubstationState) (relays : List Relaying) → AreOthersSame station relays old
-    → (i : ℕ) → i ≢ station
+other_stands : (old : System) (h : IsStanding old) (station : ℕ) (is : SubstationState) (relays : List Relaying)
+    → ((i : ℕ) → i ≢ station → link_in relays i ≡ link_in old.concentrator.links i) → (i : ℕ) → i ≢ station
     → IfSome (slice_get (slice_set old.substations station is) i) (IsJoinedBelow old.now (link_in relays i) (h.links.below i))
 other_stands old h station is relays others i other =
     subst (λ (r : Relaying). IfSome (slice_get (slice_set old.substations station is) i) (IsJoinedBelow old.now r (h.links.below i))) (sym (others i other))
@@ -230,39 +279,43 @@ other_stands old h station is relays others i other =
 
 -- The event is one of the link by itself.
 pub below_keeps : Grounds → (old new : System) (h : IsStanding old) (station : ℕ)
-    → (was is : SubstationState) (relays : List Relaying) (gone : Gone) (lists : RowLists) (e : LinkEvent)
-    → slice_get old.substations station ≡ Some was → AreOthersSame station relays old → ShowOctets (panel_of is)
+    → (was is : SubstationState) (middle : Middle) (gone : Gone) (lists : RowLists) (e : LinkEvent)
+    → slice_get old.substations station ≡ Some was → KeepsMiddle station middle old → ShowOctets (panel_of is)
     → IsListed (h.links.below station) gone lists
     → HappensOn no_sink (panel_of was) (seen_below old.now (link_in old.concentrator.links station) was (lists_of (h.links.below station))) e
-    (seen_below old.now (link_in relays station) is lists)
-    → new ≡ changed_below station was is relays gone old → Keeps station (rows_made_by was.core.points (e ∷ [])) old new
+    (seen_below old.now (link_in middle.links station) is lists)
+    → new ≡ changed_below station was is middle gone old → Keeps station (rows_made_by was.core.points (e ∷ [])) old new
 unfolding turn_below
-below_keeps grounds old new h station was is relays gone lists e there others shown listed happens after =
+below_keeps grounds old new h station was is middle gone lists e there keeps shown listed happens after =
     let l : Link = h.links.below station in
-    let next : System = changed_below station was is relays gone old in
+    let next : System = changed_below station was is middle gone old in
     let came : List Row = rows_made_by was.core.points (e ∷ []) in
     let left : List Row = gone.overwritten ++ gone.emptied in
     let r : Relaying = link_in old.concentrator.links station in
     let before : IsJoinedBelow old.now r l was = some_of (IsJoinedBelow old.now r l) (slice_get old.substations station) was there (h.below station) in
     let s : LinkState ⊤ = seen_below old.now r was (lists_of l) in
-    let s' : LinkState ⊤ = seen_below old.now (link_in relays station) is lists in
+    let s' : LinkState ⊤ = seen_below old.now (link_in middle.links station) is lists in
     let f : Follows [] came [] was.outputs.performed l s' =
     grounds.happens (panel_of was) s s' e l before.shown (h.behind.below_stands station) before.joined happens in
     let link : Link = f.link in
     let t : Turn old.indices station h.links (kept_in old) (kept_in next) =
-    turn_below old h.links station was is relays gone came link h.behind there
+    turn_below old h.links station was is middle gone came link h.behind there
     (grows_by came [] gone.confirmed left [] was.outputs.performed l s' (listed.taken ∙ sym (append-nil (rows_of l.took))) listed.released listed.left f)
     (lane_rows s' link f.joined) in
     subst (λ (x : System). Keeps station came old x) (sym after)
     (record {
       standing = record {
+        plan = h.plan;
+        of_plan = planned_as old next h.plan refl refl refl (keeps.classes h.plan h.of_plan.classes) keeps.masters h.of_plan;
         links = with_links h.links station link h.links.above;
-        below = by_station (λ i x. IfSome (slice_get next.substations i) (IsJoinedBelow old.now (link_in relays i) x)) h.links station link h.links.above
-            (of_some (IsJoinedBelow old.now (link_in relays station) link) (slice_get next.substations station) is
+        below = by_station (λ i x. IfSome (slice_get next.substations i) (IsJoinedBelow old.now (link_in middle.links i) x)) h.links station link
+            h.links.above
+            (of_some (IsJoinedBelow old.now (link_in middle.links station) link) (slice_get next.substations station) is
             (set_here old.substations station was is there)
             (record { joined = relisted s' link old.now f.joined; shown = shown }))
-            (other_stands old h station is relays others);
-        above = h.above;
+            (other_stands old h station is middle.links keeps.others);
+        above = points_set (seen_above old (lists_of h.links.above)) h.links.above middle.points
+            (keeps.sound h.above.outstation.well.points) h.above;
         behind = grounds.turns.kept old.indices station h.links (kept_in old) (kept_in next) h.behind t;
       };
       fate = grounds.turns.fate old.indices station h.links (kept_in old) (kept_in next) h.behind t;

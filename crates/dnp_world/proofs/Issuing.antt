@@ -20,6 +20,7 @@ use Rattle.dnp_world.specs.SystemStanding.{lists_of, seen_below, seen_above, IsJ
 use Rattle.dnp_world.proofs.BelowKeeps.{TurnLaws, none_more, none_used, stays_still, relisted}
 use Rattle.dnp_world.proofs.Books.{pending_last}
 use Rattle.dnp_world.proofs.SystemCounts.{given, given_first, same_refl, same_is}
+use Rattle.dnp_world.proofs.SystemPlans.{still_of_plan}
 use Rattle.dnp_world.proofs.Turning.{by_station}
 
 -- what the crate of the index map promises of commands
@@ -100,6 +101,8 @@ issued laws undoes s h station command above m e =
     let t : Turn s.indices station h.links (kept_in s) (kept_in new) = issue_turn undoes s h station command above m e in
     record {
       standing = record {
+        plan = h.plan;
+        of_plan = still_of_plan s new h.plan refl refl refl refl refl h.of_plan;
         links = with_links h.links station (h.links.below station) h.links.above;
         below = by_station (λ i x. IfSome (slice_get s.substations i) (IsJoinedBelow s.now (link_at s.concentrator i) x)) h.links station
             (h.links.below station) h.links.above (h.below station) (λ i other. h.below i);
@@ -109,16 +112,17 @@ issued laws undoes s h station command above m e =
       fate = laws.fate s.indices station h.links (kept_in s) (kept_in new) h.behind t;
     }
 
-pub issues : TurnLaws → Undoes → (old new : System) (station : ℕ) (command : Command) → IsMap old.indices → old.centre.indices ≡ old.indices
-    → IsStanding old → IssuesBy (command_above old.centre.indices station command) station command old new → Keeps station [] old new
-issues laws undoes old new station command m same h e =
+pub issues : TurnLaws → Undoes → (old new : System) (station : ℕ) (command : Command) → IsStanding old
+    → IssuesBy (command_above old.centre.indices station command) station command old new → Keeps station [] old new
+issues laws undoes old new station command h e =
     by (command_above old.centre.indices station command) refl e
   where
     by : (o : Option Command) → command_above old.centre.indices station command ≡ o → IssuesBy o station command old new → Keeps station [] old new
     by None is k = same_keeps station old new h k
     by (Some above) is k =
         subst (λ (x : System). Keeps station [] old x) (sym k.1)
-        (issued laws undoes old h station command above m (ap (λ (spans : List Spans). command_above spans station command) (sym same) ∙ is))
+        (issued laws undoes old h station command above h.of_plan.is_map
+        (ap (λ (spans : List Spans). command_above spans station command) (sym h.of_plan.centre_indices) ∙ is))
 
 -- ---- time passes
 
@@ -135,6 +139,8 @@ passes old new now station h e =
     subst (λ (x : System). Keeps station [] old x) (sym e)
     (record {
       standing = record {
+        plan = h.plan;
+        of_plan = still_of_plan old (record old { now = now }) h.plan refl refl refl refl refl h.of_plan;
         links = h.links;
         below = λ i. joined_at now old h i (slice_get old.substations i) (h.below i);
         above = relisted (seen_above old (lists_of h.links.above)) h.links.above now h.above;

@@ -60,10 +60,12 @@ mod SystemBeginning
 mod Books
 mod ListedAt
 mod SystemMapping
+mod SystemPlans
 mod BelowKeeps
 mod BelowEvents
 mod BelowSteps
 mod Issuing
+mod BelowCalls
 mod NewSubstations
 mod ReportReading
 mod ReportLists

@@ -1,10 +1,15 @@
 -- Definition: what stands behind a whole system: a link of the law to each substation and one above, of these stations over these
 -- lines, that have the lists which the system keeps (own rule). No field holds them.
-use Rattle.std.specs.Prelude.{ℕ, List, [], slice_get, IfSome, ⊤}
+use Rattle.std.specs.Prelude.{◌≡◌, ℕ, List, [], map, slice_get, IfSome, ⊤}
 use Rattle.dnp_objects.specs.declared.row.Row.{Row}
+use Rattle.dnp_concentrator.specs.declared.plan.Plan.{Plan}
+use Rattle.dnp_concentrator.specs.IndexMap.{IsMap}
+use Rattle.dnp_concentrator.specs.Plan.{KeepsLimits, map_of}
+use Rattle.dnp_concentrator.specs.PointsAbove.{HasClassesOf, points_below}
 use Rattle.dnp_concentrator.specs.Relaying.{Relaying}
 use Rattle.dnp_master.specs.State as master
 use Rattle.dnp_outstation.specs.State.{State}
+use Rattle.dnp_pointdb.specs.Plan as points
 use Rattle.dnp_world.specs.Behind.{Links, IsBehind, made_at, rows_of}
 use Rattle.dnp_world.specs.Channels.{ChannelState}
 use Rattle.dnp_world.specs.Joined.{Joined}
@@ -59,7 +64,24 @@ pub record IsJoinedBelow (now : ℕ) (relaying : Relaying) (l : Link) (substatio
   pub joined : Joined [] (seen_below now relaying substation (lists_of l)) l
   pub shown : ShowOctets (panel_of substation)
 
+-- the points that a link's master asks for
+abbrev pub points_asked : Relaying → points.Plan
+points_asked r = r.master.plan
+
+-- The system is of this plan, which keeps its limits: all stations have its index map, the points above have its classes, and each
+-- substation's master has the substation's points.
+pub record IsOfPlan (plan : Plan) (s : System) : Type 0 where
+  pub limits : KeepsLimits plan
+  pub is_map : IsMap s.indices
+  pub indices : s.indices ≡ map_of plan
+  pub middle_indices : s.concentrator.indices ≡ s.indices
+  pub centre_indices : s.centre.indices ≡ s.indices
+  pub classes : HasClassesOf plan s.concentrator.core.points
+  pub masters : map points_asked s.concentrator.links ≡ map points_below plan.substations
+
 pub record IsStanding (s : System) : Type 0 where
+  pub plan : Plan
+  pub of_plan : IsOfPlan plan s
   pub links : Links
   pub below : (station : ℕ) → IfSome (slice_get s.substations station) (IsJoinedBelow s.now (link_at s.concentrator station) (links.below station))
   pub above : Joined [] (seen_above s (lists_of links.above)) links.above

@@ -14,6 +14,7 @@ ghost use Rattle.dnp_controls.specs.declared.book.Entry.{Entry};
 ghost use Rattle.dnp_eventbuf.specs.Stock.{arriving, lost_in};
 ghost use Rattle.dnp_objects.specs.Counts.{IsCoveredBy};
 ghost use Rattle.dnp_objects.specs.declared.row.Row.{Row as RowValue};
+ghost use Rattle.dnp_master.specs.declared.task.Task.{Task};
 ghost use Rattle.dnp_pointdb.specs.Database.{Database};
 ghost use Rattle.dnp_objects.specs.declared.command.Command.{Command as CommandValue};
 ghost use Rattle.dnp_objects.specs.declared.row.Kind.{Kind};
@@ -26,22 +27,25 @@ ghost use Rattle.dnp_world.specs.declared.link_event.Way.{Way};
 ghost use Rattle.dnp_world.specs.declared.parts.report.TheConstants.{NUMBERS};
 ghost use Rattle.dnp_world.specs.declared.report.Report.{Report as Shown};
 ghost use Rattle.dnp_world.specs.Behind.{IsBehind, IsUntouched, Links, Turn, made_at, with_links};
+ghost use Rattle.dnp_world.specs.Channels.{DamagesAt};
 ghost use Rattle.dnp_world.specs.Joined.{rows_made_by};
 ghost use Rattle.dnp_world.specs.Kept.{Kept, commands_below, nothing_kept, order_of, orders_in, report_of, rows_below, shown_of, used_orders};
 ghost use Rattle.dnp_world.specs.ReportShown.{Shows, lists_of};
+ghost use Rattle.dnp_world.specs.OneLinkEvents.{is_own};
 ghost use Rattle.dnp_world.specs.Reports.{Holds, IsFate, Report as ReportValue};
 ghost use Rattle.dnp_world.specs.SystemStanding.{IsStanding, Keeps};
-ghost use Rattle.dnp_world.specs.SystemEvents.{ComesDownBelow, HangsUpOn, IssuesBy, LosesOn, OutstationTicks, Reads, SubstationRestarts};
-ghost use Rattle.dnp_world.specs.Systems.{System, at_station};
+ghost use Rattle.dnp_world.specs.SystemEvents.{AsksOn, ComesDownBelow, HangsUpOn, IssuesBy, LinesChange, LosesOn, MasterTicks, OpensOn, OutstationTicks, Reads, SubstationRestarts};
+ghost use Rattle.dnp_world.specs.Systems.{System, at_station, has_station};
 
 use crate::joined_laws::events_without_a_sink_are_moves;
 use crate::laws::link_law;
-use dnp_concentrator::laws::{commands_are_undone, rows_above_are_undone};
+use dnp_concentrator::laws::{classes_above_stay, commands_are_undone, rows_above_are_undone};
 use dnp_objects::laws::{covered_is_by_counts, equality_is_decided};
 use dnp_objects::{Command, Row};
 use dnp_outstation::link_laws::{
     a_confirm_releases_what_its_fragment_reported, commands_are_performed_as_they_are_asked,
 };
+use dnp_pointdb::laws::points_stay_sound;
 
 /// What holds of a system's lists at every moment: they are those of links of the law before the first event, each event
 /// keeps them so, and then no row of the journal is invented, no confirmed row vanishes, what full lanes dropped was
@@ -112,11 +116,32 @@ pub fn events_below_keep_what_stands()
     commands_are_performed_as_they_are_asked();
 }
 
-/// Events at which no link moves keep what stands behind the system: a command is issued at the centre, of a system with one index
-/// map, and time passes.
+/// The same of events at which its lines are damaged, both its ends are opened, or its master asks a task of its own, hangs up or
+/// looks at its timer: a substation whose master hung up can't be reached any more, and its readings above say so.
+pub fn calls_below_keep_what_stands()
+    ensures damaged { (old new : System) (station : ℕ) (way : Way) (octets : List ℕ) → IsStanding old
+        → LinesChange (link.Below station) (DamagesAt way octets) old new → Keeps station [] old new }
+    ensures opened { (old new : System) (station : ℕ) → has_station old station ≡ true → IsStanding old
+        → OpensOn (link.Below station) old new → Keeps station [] old new }
+    ensures asked { (old new : System) (station : ℕ) (task : Task) → has_station old station ≡ true → IsStanding old
+        → AsksOn (is_own task) (link.Below station) task old new → Keeps station [] old new }
+    ensures hung_up { (old new : System) (station : ℕ) → has_station old station ≡ true → IsStanding old
+        → HangsUpOn (link.Below station) end.Master old new → Keeps station [] old new }
+    ensures ticked { (old new : System) (station : ℕ) → has_station old station ≡ true → IsStanding old
+        → MasterTicks (link.Below station) old new → Keeps station [] old new }
+{
+    lists_are_of_links();
+    events_without_a_sink_are_moves();
+    a_confirm_releases_what_its_fragment_reported();
+    commands_are_performed_as_they_are_asked();
+    points_stay_sound();
+    classes_above_stay();
+}
+
+/// Events at which no link moves keep what stands behind the system: a command is issued at the centre, and time passes.
 pub fn other_events_keep_what_stands()
-    ensures issued { (old new : System) (station : ℕ) (command : CommandValue) → IsMap old.indices → old.centre.indices ≡ old.indices
-        → IsStanding old → IssuesBy (command_above old.centre.indices station command) station command old new → Keeps station [] old new }
+    ensures issued { (old new : System) (station : ℕ) (command : CommandValue) → IsStanding old
+        → IssuesBy (command_above old.centre.indices station command) station command old new → Keeps station [] old new }
     ensures passed { (old new : System) (now : ℕ) (station : ℕ) → IsStanding old → new ≡ record old { now = now } → Keeps station [] old new }
 {
     lists_are_of_links();
