@@ -127,13 +127,13 @@ opens grounds laws old new station has h e =
 -- ---- a task is asked
 
 -- nothing goes down
-none_goes : (old new : ChannelState) → GoDown [] old new → new ≡ old
+pub none_goes : (old new : ChannelState) → GoDown [] old new → new ≡ old
 none_goes old new g =
     let lines : LineState → PortState → ChannelState = λ down port. record old { down = down; master_port = port } in
     g.after ∙ ap (λ (d : LineState). lines d new.master_port) g.sent.0 ∙ ap (λ (p : PortState). lines old.down p) g.sent.1
 
 -- one fragment goes down
-one_goes : (octets : List ℕ) (old new : ChannelState) → GoDown (octets ∷ []) old new → IsSent octets old.down old.master_port new.down new.master_port
+pub one_goes : (octets : List ℕ) (old new : ChannelState) → GoDown (octets ∷ []) old new → IsSent octets old.down old.master_port new.down new.master_port
 one_goes octets old new g =
     let (between, port, sent, same) = g.sent in
     subst (λ (d : LineState). IsSent octets old.down old.master_port d new.master_port) (sym same.0)

@@ -66,6 +66,8 @@ mod BelowEvents
 mod BelowSteps
 mod Issuing
 mod BelowCalls
+mod AboveKeeps
+mod AboveEvents
 mod NewSubstations
 mod ReportReading
 mod ReportLists

@@ -138,6 +138,30 @@ pub fn calls_below_keep_what_stands()
     classes_above_stay();
 }
 
+/// Events on the link between concentrator and centre at which no row is taken and no fragment comes to the concentrator: a line
+/// loses its front unit or is damaged, an end hangs up or looks at its timer, both are opened, or the centre asks a task of its own.
+pub fn events_above_keep_what_stands()
+    ensures lost { (old new : System) (station : ℕ) (way : Way) → IsStanding old
+        → LosesOn link.Above way old new → Keeps station [] old new }
+    ensures damaged { (old new : System) (station : ℕ) (way : Way) (octets : List ℕ) → IsStanding old
+        → LinesChange link.Above (DamagesAt way octets) old new → Keeps station [] old new }
+    ensures centre_hung_up { (old new : System) (station : ℕ) → IsStanding old
+        → HangsUpOn link.Above end.Master old new → Keeps station [] old new }
+    ensures concentrator_hung_up { (old new : System) (station : ℕ) → IsStanding old
+        → HangsUpOn link.Above end.Outstation old new → Keeps station [] old new }
+    ensures opened { (old new : System) (station : ℕ) → IsStanding old → OpensOn link.Above old new → Keeps station [] old new }
+    ensures centre_ticked { (old new : System) (station : ℕ) → IsStanding old → MasterTicks link.Above old new → Keeps station [] old new }
+    ensures concentrator_ticked { (old new : System) (station : ℕ) → IsStanding old
+        → OutstationTicks link.Above old new → Keeps station [] old new }
+    ensures asked { (old new : System) (station : ℕ) (task : Task) → IsStanding old
+        → AsksOn (is_own task) link.Above task old new → Keeps station [] old new }
+{
+    lists_are_of_links();
+    events_without_a_sink_are_moves();
+    a_confirm_releases_what_its_fragment_reported();
+    commands_are_performed_as_they_are_asked();
+}
+
 /// Events at which no link moves keep what stands behind the system: a command is issued at the centre, and time passes.
 pub fn other_events_keep_what_stands()
     ensures issued { (old new : System) (station : ℕ) (command : CommandValue) → IsStanding old

@@ -1,0 +1,186 @@
+-- Events on the link between concentrator and centre, which keep what stands behind the system.
+use Rattle.std.proofs.Common.{◌≡◌, ℕ, Bool, true, false, List, [], ◌∷◌, ◌++◌, map, Result, Ok, Err, refl, sym, ap, ◌∙◌, subst, append-nil}
+use Rattle.std.specs.Prelude.{⊤}
+use Rattle.dnp_concentrator.specs.PointsAbove.{HasClassesOf}
+use Rattle.dnp_concentrator.specs.Relaying as relaying
+use Rattle.dnp_concentrator.specs.Relaying.{Relaying}
+use Rattle.dnp_eventbuf.specs.Stock.{Stock, lost_in, row_of}
+use Rattle.dnp_master.specs.Calls.{ask_answer, asked_by}
+use Rattle.dnp_master.specs.declared.fault.AskFault.{AskFault}
+use Rattle.dnp_master.specs.declared.task.Task.{Task}
+use Rattle.dnp_objects.specs.declared.command.Command.{Command}
+use Rattle.dnp_objects.specs.declared.row.Row.{Row}
+use Rattle.dnp_outstation.specs.Calls.{opened_of, tick_of}
+use Rattle.dnp_outstation.specs.Connection.{closed}
+use Rattle.dnp_outstation.specs.Links.{ReleasesNone}
+use Rattle.dnp_outstation.specs.State.{State, Step}
+use Rattle.dnp_pointdb.specs.Database.{Database}
+use Rattle.dnp_world.specs.declared.event.Link.TheVariants as link
+use Rattle.dnp_world.specs.declared.link_event.End.TheVariants as end
+use Rattle.dnp_world.specs.declared.link_event.LinkEvent.{LinkEvent}
+use Rattle.dnp_world.specs.declared.link_event.LinkEvent.TheVariants as event
+use Rattle.dnp_world.specs.declared.link_event.Way.{Way}
+use Rattle.dnp_world.specs.declared.link_event.Way.TheVariants as way
+use Rattle.dnp_world.specs.Behind.{rows_of}
+use Rattle.dnp_world.specs.Channels.{ChannelState, DamagesAt, GoDown, cleared, hung_up_at, lost_at}
+use Rattle.dnp_world.specs.Joined.{rows_made_by}
+use Rattle.dnp_world.specs.OneLinkEvents.{AsksBy, AsksIfOwn, HappensOn, LinkState, Steps, is_own, opening}
+use Rattle.dnp_world.specs.Systems.{System, middle_of, middle_panel}
+use Rattle.dnp_world.specs.SystemEvents.{AsksOn, HangsUpOn, LinesChange, LosesOn, MasterTicks, MiddleSteps, OpensOn, OutstationTicks, request_of}
+use Rattle.dnp_world.specs.SystemStanding.{RowLists, lists_of, no_sink, seen, seen_above, IsStanding, Keeps}
+use Rattle.dnp_world.proofs.AboveKeeps.{Above, above_keeps, changed_above, lists_above}
+use Rattle.dnp_world.proofs.BelowCalls.{none_goes, one_goes}
+use Rattle.dnp_world.proofs.BelowKeeps.{Grounds}
+use Rattle.dnp_world.proofs.Issuing.{same_keeps}
+use Rattle.dnp_world.proofs.JoinedPoints.{opened_leaves, ticked_leaves}
+
+-- ---- events at which no row is released or taken
+
+-- nothing of the concentrator's queue and of the journal changes
+abbrev with_ends : System → State → Relaying → ChannelState → Above
+with_ends s outstation r lines =
+    record { core = outstation.core; queue = outstation.lanes; link = r; journal = s.centre.journal; lines = lines }
+
+none_listed : (h : RowLists) → record h { taken = h.taken ++ []; released = h.released ++ [] } ≡ h
+none_listed h =
+    let with_lists : List Row → List Row → RowLists = λ taken released. record h { taken = taken; released = released } in
+    ap (λ (xs : List Row). with_lists xs (h.released ++ [])) (append-nil h.taken)
+    ∙ ap (λ (xs : List Row). with_lists h.taken xs) (append-nil h.released)
+
+quiet_above : Grounds → (old new : System) (h : IsStanding old) (station : ℕ) (outstation : State) (r : Relaying) (lines : ChannelState) (e : LinkEvent)
+    → outstation.core.points ≡ old.concentrator.core.points → outstation.lanes ≡ old.concentrator.queue
+    → rows_made_by old.concentrator.core.points (e ∷ []) ≡ []
+    → HappensOn no_sink (middle_panel old.concentrator) (seen_above old (lists_of h.links.above)) e
+    (seen_above (changed_above (with_ends old outstation r lines) old) (lists_of h.links.above))
+    → new ≡ changed_above (with_ends old outstation r lines) old → Keeps station [] old new
+quiet_above grounds old new h station outstation r lines e points queue none happens after =
+    let a : Above = with_ends old outstation r lines in
+    above_keeps grounds old new h station a [] [] e (subst (HasClassesOf h.plan) (sym points) h.of_plan.classes)
+    (ap lost_in queue) (sym (append-nil (map row_of old.centre.journal.rows))) none
+    (subst (λ (lists : RowLists). HappensOn no_sink (middle_panel old.concentrator) (seen_above old (lists_of h.links.above)) e
+    (seen_above (changed_above a old) lists))
+    (sym (none_listed (lists_of h.links.above))) happens)
+    after
+
+-- the lines alone change
+pub loses_above : Grounds → (old new : System) (station : ℕ) (w : Way) → IsStanding old → LosesOn link.Above w old new → Keeps station [] old new
+loses_above grounds old new station w h e =
+    quiet_above grounds old new h station (middle_of old.concentrator) old.centre.link (lost_at w old.above) (event.Lose w) refl refl refl (by w)
+    (e.1 ∙ ap (λ (c : ChannelState). record old { above = c }) e.0)
+  where
+    by : (v : Way) → HappensOn no_sink (middle_panel old.concentrator) (seen_above old (lists_of h.links.above)) (event.Lose v)
+        (seen_above (record old { above = lost_at v old.above }) (lists_of h.links.above))
+    by way.Down = refl
+    by way.Up = refl
+
+pub damages_above : Grounds → (old new : System) (station : ℕ) (w : Way) (octets : List ℕ) → IsStanding old
+    → LinesChange link.Above (DamagesAt w octets) old new → Keeps station [] old new
+damages_above grounds old new station w octets h e =
+    quiet_above grounds old new h station (middle_of old.concentrator) old.centre.link new.above (event.Damage w (record { items = octets })) refl refl refl
+    (by w e.0) e.1
+  where
+    seen_on : ChannelState → LinkState ⊤
+    seen_on c = seen_above (record old { above = c }) (lists_of h.links.above)
+
+    by : (v : Way) → DamagesAt v octets old.above new.above
+        → HappensOn no_sink (middle_panel old.concentrator) (seen_on old.above) (event.Damage v (record { items = octets })) (seen_on new.above)
+    by way.Down damaged = record { damaged = new.above.down; damages = damaged.0; is = ap seen_on damaged.1 }
+    by way.Up damaged = record { damaged = new.above.up; damages = damaged.0; is = ap seen_on damaged.1 }
+
+-- ---- an end hangs up
+
+pub centre_hangs_up : Grounds → (old new : System) (station : ℕ) → IsStanding old → HangsUpOn link.Above end.Master old new → Keeps station [] old new
+centre_hangs_up grounds old new station h e =
+    quiet_above grounds old new h station (middle_of old.concentrator) (relaying.hung_up old.centre.link) (hung_up_at end.Master old.above)
+    (event.HangUp end.Master) refl refl refl refl e
+
+pub concentrator_hangs_up : Grounds → (old new : System) (station : ℕ) → IsStanding old → HangsUpOn link.Above end.Outstation old new
+    → Keeps station [] old new
+concentrator_hangs_up grounds old new station h e =
+    quiet_above grounds old new h station (record (middle_of old.concentrator) { core = closed old.concentrator.core }) old.centre.link
+    (hung_up_at end.Outstation old.above) (event.HangUp end.Outstation) refl refl refl refl e
+
+-- ---- timers
+
+pub centre_ticks : Grounds → (old new : System) (station : ℕ) → IsStanding old → MasterTicks link.Above old new → Keeps station [] old new
+centre_ticks grounds old new station h e =
+    quiet_above grounds old new h station (middle_of old.concentrator) (relaying.ticked old.centre.link old.now) old.above
+    (event.Tick end.Master) refl refl refl refl e
+
+-- ---- steps of the concentrator's outstation
+
+-- what the crate of an outstation promises of these
+pub record AboveLaws : Type 0 where
+  pub open_none : (s : State) (now : ℕ) → ReleasesNone s (opened_of s now)
+  pub open_performs : (s : State) (now : ℕ) → (opened_of s now).state.performed ≡ s.performed
+  pub tick_none : (s : State) (now : ℕ) → ReleasesNone s (tick_of s now)
+  pub tick_performs : (s : State) (now : ℕ) → (tick_of s now).state.performed ≡ s.performed
+
+-- a step that releases and performs nothing, over these lines and with this link
+step_above : Grounds → (old new : System) (h : IsStanding old) (station : ℕ) (step : Step) (r : Relaying) (lines : ChannelState) (e : LinkEvent)
+    → step.state.core.points ≡ old.concentrator.core.points → ReleasesNone (middle_of old.concentrator) step
+    → step.state.performed ≡ (middle_of old.concentrator).performed
+    → rows_made_by old.concentrator.core.points (e ∷ []) ≡ []
+    → ((s' : LinkState ⊤) → Steps step (seen (middle_of old.concentrator) r.master lines old.now (lists_of h.links.above)) s'
+    → HappensOn no_sink (middle_panel old.concentrator) (seen_above old (lists_of h.links.above)) e s')
+    → MiddleSteps step [] lines (record old { centre = record old.centre { link = r } }) new → Keeps station [] old new
+step_above grounds old new h station step r lines e points none same made as_event m =
+    let a : Above = with_ends old step.state r new.above in
+    let lists : RowLists = lists_of h.links.above in
+    let base : LinkState ⊤ = seen (middle_of old.concentrator) r.master lines old.now lists in
+    let stepped : ChannelState → List Command → List Row → LinkState ⊤ = λ c performed released.
+    seen (record step.state { performed = performed }) r.master c old.now (record lists { released = released }) in
+    let goes : ChannelState = record lines { up = new.above.up; outstation_port = new.above.outstation_port } in
+    let there : stepped new.above (middle_of old.concentrator).performed lists.released ≡ stepped goes step.state.performed (lists.released ++ step.does.discarded) =
+    ap (λ (c : ChannelState). stepped c (middle_of old.concentrator).performed lists.released) m.sent.after
+    ∙ ap (λ (p : List Command). stepped goes p lists.released) (sym same)
+    ∙ ap (λ (xs : List Row). stepped goes step.state.performed xs)
+    (sym (append-nil lists.released) ∙ ap (λ (xs : List Row). lists.released ++ xs) (sym none.discarded)) in
+    quiet_above grounds old new h station step.state r new.above e points none.lanes made
+    (as_event (seen_above (changed_above a old) lists) (record { sent = m.sent.sent; after = there })) m.after
+
+pub opens_above : Grounds → AboveLaws → (old new : System) (station : ℕ) → IsStanding old → OpensOn link.Above old new → Keeps station [] old new
+opens_above grounds laws old new station h e =
+    let s : State = middle_of old.concentrator in
+    step_above grounds old new h station (opened_of s old.now) (relaying.opened old.centre.link) (cleared old.above) event.Open
+    (opened_leaves s old.now).points_are (laws.open_none s old.now) (laws.open_performs s old.now) refl (λ s' steps. steps) e
+
+pub concentrator_ticks : Grounds → AboveLaws → (old new : System) (station : ℕ) → IsStanding old → OutstationTicks link.Above old new
+    → Keeps station [] old new
+concentrator_ticks grounds laws old new station h e =
+    let s : State = middle_of old.concentrator in
+    step_above grounds old new h station (tick_of s old.now) old.centre.link old.above (event.Tick end.Outstation)
+    (ticked_leaves s old.now).points_are (laws.tick_none s old.now) (laws.tick_performs s old.now) refl (λ s' steps. steps) e
+
+-- ---- a task is asked
+
+asked_so : (old : System) (task : Task) (lines : ChannelState) (lists : RowLists) (answer : Result (List ℕ) AskFault)
+    → (let r : Relaying = old.centre.link in ask_answer r.master task ≡ answer → GoDown (request_of answer) old.above lines
+    → AsksBy answer task (seen_above old lists)
+    (seen_above (record old { centre = record old.centre { link = relaying.asking r old.now task }; above = lines }) lists))
+asked_so old task lines lists (Ok octets) answer down =
+    let r : Relaying = old.centre.link in
+    record {
+      sent = one_goes octets old.above lines down;
+      after = ap (λ (c : ChannelState). seen (middle_of old.concentrator) (relaying.asking r old.now task).master c old.now lists) down.after;
+    }
+asked_so old task lines lists (Err fault) answer down =
+    let r : Relaying = old.centre.link in
+    ap (λ (c : ChannelState). seen (middle_of old.concentrator) (relaying.asking r old.now task).master c old.now lists) (none_goes old.above lines down)
+    ∙ ap (λ (a : Result (List ℕ) AskFault). seen (middle_of old.concentrator) (asked_by r.master old.now task a) old.above old.now lists) answer
+
+asks_if : Grounds → (old new : System) (station : ℕ) (task : Task) (own : Bool) → is_own task ≡ own → IsStanding old
+    → AsksOn own link.Above task old new → Keeps station [] old new
+asks_if grounds old new station task true own h e =
+    let r : Relaying = old.centre.link in
+    let lists : RowLists = lists_of h.links.above in
+    let next : System = record old { centre = record old.centre { link = relaying.asking r old.now task }; above = new.above } in
+    quiet_above grounds old new h station (middle_of old.concentrator) (relaying.asking r old.now task) new.above (event.Ask task) refl refl refl
+    (subst (λ (b : Bool). AsksIfOwn b task (seen_above old lists) (seen_above next lists)) (sym own)
+    (asked_so old task new.above lists (ask_answer r.master task) refl e.0))
+    e.1
+asks_if grounds old new station task false own h e = same_keeps station old new h e
+
+pub asks_above : Grounds → (old new : System) (station : ℕ) (task : Task) → IsStanding old → AsksOn (is_own task) link.Above task old new
+    → Keeps station [] old new
+asks_above grounds old new station task h e = asks_if grounds old new station task (is_own task) refl h e
