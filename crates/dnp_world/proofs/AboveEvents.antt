@@ -37,7 +37,7 @@ use Rattle.dnp_world.proofs.JoinedPoints.{opened_leaves, ticked_leaves}
 -- ---- events at which no row is released or taken
 
 -- nothing of the concentrator's queue and of the journal changes
-abbrev with_ends : System → State → Relaying → ChannelState → Above
+abbrev pub with_ends : System → State → Relaying → ChannelState → Above
 with_ends s outstation r lines =
     record { core = outstation.core; queue = outstation.lanes; link = r; journal = s.centre.journal; lines = lines }
 
@@ -47,7 +47,7 @@ none_listed h =
     ap (λ (xs : List Row). with_lists xs (h.released ++ [])) (append-nil h.taken)
     ∙ ap (λ (xs : List Row). with_lists h.taken xs) (append-nil h.released)
 
-quiet_above : Grounds → (old new : System) (h : IsStanding old) (station : ℕ) (outstation : State) (r : Relaying) (lines : ChannelState) (e : LinkEvent)
+pub quiet_above : Grounds → (old new : System) (h : IsStanding old) (station : ℕ) (outstation : State) (r : Relaying) (lines : ChannelState) (e : LinkEvent)
     → outstation.core.points ≡ old.concentrator.core.points → outstation.lanes ≡ old.concentrator.queue
     → rows_made_by old.concentrator.core.points (e ∷ []) ≡ []
     → HappensOn no_sink (middle_panel old.concentrator) (seen_above old (lists_of h.links.above)) e

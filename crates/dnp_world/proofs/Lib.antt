@@ -68,6 +68,7 @@ mod Issuing
 mod BelowCalls
 mod AboveKeeps
 mod AboveEvents
+mod AboveTakes
 mod NewSubstations
 mod ReportReading
 mod ReportLists

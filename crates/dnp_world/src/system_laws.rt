@@ -34,7 +34,7 @@ ghost use Rattle.dnp_world.specs.ReportShown.{Shows, lists_of};
 ghost use Rattle.dnp_world.specs.OneLinkEvents.{is_own};
 ghost use Rattle.dnp_world.specs.Reports.{Holds, IsFate, Report as ReportValue};
 ghost use Rattle.dnp_world.specs.SystemStanding.{IsStanding, Keeps};
-ghost use Rattle.dnp_world.specs.SystemEvents.{AsksOn, ComesDownBelow, HangsUpOn, IssuesBy, LinesChange, LosesOn, MasterTicks, OpensOn, OutstationTicks, Reads, SubstationRestarts};
+ghost use Rattle.dnp_world.specs.SystemEvents.{AsksOn, ComesDownBelow, ComesUp, HangsUpOn, IssuesBy, LinesChange, LosesOn, MasterTicks, OpensOn, OutstationTicks, Reads, SubstationRestarts};
 ghost use Rattle.dnp_world.specs.Systems.{System, at_station, has_station};
 
 use crate::joined_laws::events_without_a_sink_are_moves;
@@ -160,6 +160,18 @@ pub fn events_above_keep_what_stands()
     events_without_a_sink_are_moves();
     a_confirm_releases_what_its_fragment_reported();
     commands_are_performed_as_they_are_asked();
+}
+
+/// So does what comes to the centre, where the unit leaves the line and where it stays there: the rows that the centre takes come into
+/// its journal.
+pub fn what_comes_to_the_centre_keeps_what_stands()
+    ensures delivered { (old new : System) (station : ℕ) → IsStanding old
+        → ComesUp delivered_on link.Above old new → Keeps station [] old new }
+    ensures repeated { (old new : System) (station : ℕ) → IsStanding old
+        → ComesUp repeated_on link.Above old new → Keeps station [] old new }
+{
+    lists_are_of_links();
+    events_without_a_sink_are_moves();
 }
 
 /// Events at which no link moves keep what stands behind the system: a command is issued at the centre, and time passes.
