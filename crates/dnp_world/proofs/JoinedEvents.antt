@@ -151,6 +151,15 @@ restarts laws others s new l j h =
     let step : Step = record { state = restart_of s.outstation false; does = record nothing { overwritten = emptied_of s.outstation false } } in
     goes_away laws others s new l step refl refl refl j (laws.outstation.restarts s.outstation false l j.outstation) h
 
+-- it restarts, and keeps its lanes
+pub restarts_kept : {Sink : Type 0} → Laws → (others : List Row) (s new : LinkState Sink) (l : Link) → Joined others s l
+    → new ≡ record s { outstation = restart_of s.outstation true; down = cleared_on s.down; outstation_port = reset_of s.outstation_port }
+    → Follows others [] [] s.outstation.performed l new
+restarts_kept {Sink = Sink} laws others s new l j h =
+    let step : Step = record { state = restart_of s.outstation true; does = record nothing { overwritten = emptied_of s.outstation true } } in
+    let after : List Row → LinkState Sink = λ left. record s { outstation = step.state; down = cleared_on s.down; outstation_port = reset_of s.outstation_port; left = left } in
+    goes_away laws others s new l step refl refl refl j (laws.outstation.restarts s.outstation true l j.outstation) (h ∙ ap after (sym (append-nil s.left)))
+
 -- ---- both ends are opened
 
 opens : {Sink : Type 0} → Laws → (others : List Row) (s new : LinkState Sink) (l : Link) → Stands l → Joined others s l

@@ -69,6 +69,7 @@ mod BelowCalls
 mod AboveKeeps
 mod AboveEvents
 mod AboveTakes
+mod Restarting
 mod NewSubstations
 mod ReportReading
 mod ReportLists

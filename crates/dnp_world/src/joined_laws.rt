@@ -5,7 +5,7 @@
 //! The premises are those of the line: it keeps the order, breaks by 32 losses in a row, and carries no damaged unit
 //! that reads as another frame. The link's events have them built in.
 
-ghost use Rattle.std.specs.Prelude.{◌≡◌, ℕ, ◌<◌, ◌^◌, false, All, List, [], ◌∷◌, ◌++◌, take, ⊤};
+ghost use Rattle.std.specs.Prelude.{◌≡◌, ℕ, ◌<◌, ◌^◌, false, true, All, List, [], ◌∷◌, ◌++◌, take, ⊤};
 ghost use Rattle.std.specs.List.Sorted.{IsPermutation};
 ghost use Rattle.dnp_objects.specs.declared.command.Command.{Command};
 ghost use Rattle.dnp_objects.specs.declared.lane.LaneRow.{LaneRow};
@@ -14,6 +14,9 @@ ghost use Rattle.dnp_controls.specs.Panel.{Panel};
 ghost use Rattle.dnp_eventbuf.specs.Carried.{IsCarried};
 ghost use Rattle.dnp_eventbuf.specs.Sound.{IsSound};
 ghost use Rattle.dnp_eventbuf.specs.Stock.{Stock, arriving, dropped_by, exhausts};
+ghost use Rattle.dnp_line.specs.Lines.{cleared_on};
+ghost use Rattle.dnp_line.specs.Ports.{reset_of};
+ghost use Rattle.dnp_outstation.specs.Calls.{restart_of};
 ghost use Rattle.dnp_outstation.specs.Said.{HaveIndexes};
 ghost use Rattle.dnp_pointdb.specs.Database.{new_database};
 ghost use Rattle.dnp_pointdb.specs.Plan.{Plan};
@@ -81,11 +84,15 @@ pub fn events_are_moves<S: Sink>()
     lanes_stay_sound();
 }
 
-/// The same of an event of a link whose master gives its rows to no sink of the link's own.
+/// The same of an event of a link whose master gives its rows to no sink of the link's own, and of a restart of its outstation that
+/// keeps the lanes.
 pub fn events_without_a_sink_are_moves()
-    ensures { (panel : Panel) (s new : LinkState ⊤) (event : LinkEvent) (l : Link) → ShowOctets panel → Stands l
+    ensures event { (panel : Panel) (s new : LinkState ⊤) (event : LinkEvent) (l : Link) → ShowOctets panel → Stands l
         → Joined [] s l → HappensOn no_sink panel s event new
         → Follows [] (rows_made_by s.outstation.core.points (event ∷ [])) [] s.outstation.performed l new }
+    ensures restarted { (s new : LinkState ⊤) (l : Link) → Joined [] s l
+        → new ≡ record s { outstation = restart_of s.outstation true; down = cleared_on s.down; outstation_port = reset_of s.outstation_port }
+        → Follows [] [] [] s.outstation.performed l new }
 {
     outstation::an_opening_is_moves();
     outstation::what_comes_is_moves();

@@ -34,7 +34,7 @@ ghost use Rattle.dnp_world.specs.ReportShown.{Shows, lists_of};
 ghost use Rattle.dnp_world.specs.OneLinkEvents.{is_own};
 ghost use Rattle.dnp_world.specs.Reports.{Holds, IsFate, Report as ReportValue};
 ghost use Rattle.dnp_world.specs.SystemStanding.{IsStanding, Keeps};
-ghost use Rattle.dnp_world.specs.SystemEvents.{AsksOn, ComesDownBelow, ComesUp, HangsUpOn, IssuesBy, LinesChange, LosesOn, MasterTicks, OpensOn, OutstationTicks, Reads, SubstationRestarts};
+ghost use Rattle.dnp_world.specs.SystemEvents.{AsksOn, ComesDownBelow, ComesUp, HangsUpOn, IssuesBy, LinesChange, LosesOn, MasterTicks, OpensOn, OutstationTicks, Reads, SubstationRestarts, concentrator_restarted};
 ghost use Rattle.dnp_world.specs.Systems.{System, at_station, has_station};
 
 use crate::joined_laws::events_without_a_sink_are_moves;
@@ -172,6 +172,15 @@ pub fn what_comes_to_the_centre_keeps_what_stands()
 {
     lists_are_of_links();
     events_without_a_sink_are_moves();
+}
+
+/// So does a restart of the concentrator, which hangs up all its ends at once and keeps its queue and its book.
+pub fn a_restart_of_the_concentrator_keeps_what_stands()
+    ensures { (old new : System) (station : ℕ) → IsStanding old → new ≡ concentrator_restarted old → Keeps station [] old new }
+{
+    lists_are_of_links();
+    events_without_a_sink_are_moves();
+    classes_above_stay();
 }
 
 /// Events at which no link moves keep what stands behind the system: a command is issued at the centre, and time passes.

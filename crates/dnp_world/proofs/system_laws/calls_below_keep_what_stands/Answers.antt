@@ -6,7 +6,7 @@ use Rattle.dnp_world.proofs.system_laws.calls_below_keep_what_stands.Goals as go
 grounds_of : goal.After-classes_above_stay → Grounds
 grounds_of c = record {
   turns = record { kept = c.lists_are_of_links.ensures.kept; fate = c.lists_are_of_links.ensures.fate };
-  happens = c.events_without_a_sink_are_moves.ensures;
+  happens = c.events_without_a_sink_are_moves.ensures.event;
 }
 
 calls_of : goal.After-classes_above_stay → CallLaws

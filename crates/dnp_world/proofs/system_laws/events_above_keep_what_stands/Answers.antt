@@ -6,7 +6,7 @@ use Rattle.dnp_world.proofs.system_laws.events_above_keep_what_stands.Goals as g
 grounds_of : goal.After-commands_are_performed_as_they_are_asked → Grounds
 grounds_of c = record {
   turns = record { kept = c.lists_are_of_links.ensures.kept; fate = c.lists_are_of_links.ensures.fate };
-  happens = c.events_without_a_sink_are_moves.ensures;
+  happens = c.events_without_a_sink_are_moves.ensures.event;
 }
 
 steps_of : goal.After-commands_are_performed_as_they_are_asked → AboveLaws

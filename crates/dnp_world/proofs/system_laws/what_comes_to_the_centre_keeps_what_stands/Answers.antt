@@ -6,7 +6,7 @@ use Rattle.dnp_world.proofs.system_laws.what_comes_to_the_centre_keeps_what_stan
 grounds_of : goal.After-events_without_a_sink_are_moves → Grounds
 grounds_of c = record {
   turns = record { kept = c.lists_are_of_links.ensures.kept; fate = c.lists_are_of_links.ensures.fate };
-  happens = c.events_without_a_sink_are_moves.ensures;
+  happens = c.events_without_a_sink_are_moves.ensures.event;
 }
 
 pub returns-clause-delivered : goal.returns-clause-delivered
