@@ -1,8 +1,8 @@
 -- Requests that go down, as what a step of relaying answers tells them.
-use Rattle.std.proofs.Common.{◌≡◌, ℕ, ◌<◌, true, not, List, [], ◌∷◌, length, map, get_or, slice_set, ◌⊎◌, inl, inr, Option, Some, None, refl, sym, ap, ◌∙◌, subst, arith}
+use Rattle.std.proofs.Common.{◌≡◌, ℕ, ◌<◌, ◌&&◌, if◌then◌else◌, Bool, true, false, not, List, [], ◌∷◌, length, map, get_or, slice_set, ◌⊎◌, inl, inr, Option, Some, None, refl, sym, ap, ◌∙◌, subst, arith}
 use Rattle.std.specs.Option.{IsSomeAnd}
 use Rattle.arrayvec.specs.ArrayVec.{ArrayVec}
-use Rattle.dnp_concentrator.specs.Relayed.{Tells}
+use Rattle.dnp_concentrator.specs.Relayed.{Tells, asks_book, asks_progress, asks_stage}
 use Rattle.dnp_concentrator.specs.Relaying.{Step, Waits, Selects, Operates, Finishes}
 use Rattle.dnp_concentrator.specs.declared.relayed.Relayed.TheVariants as relayed
 use Rattle.dnp_controls.specs.Book.{Ledger, Has, entry_of, is_pending}
@@ -14,13 +14,18 @@ use Rattle.dnp_eventbuf.specs.Stock.{Stock}
 use Rattle.dnp_outstation.specs.State.{Core}
 use Rattle.dnp_concentrator.specs.Centre as centre
 use Rattle.dnp_concentrator.specs.Concentrator.{SetsLink, book_of, core_of, indices_of, link_at, links_of, queue_of}
-use Rattle.dnp_concentrator.specs.Relaying.{Relaying, ledger_after, relaying_after, step_of}
+use Rattle.dnp_concentrator.specs.Relaying.{Relaying, ledger_after, relaying_after, step_by, step_of, step_of_progress}
+use Rattle.dnp_concentrator.specs.declared.progress.Stage.{Stage}
+use Rattle.dnp_concentrator.specs.declared.progress.Stage.TheVariants.{Selecting, Selected, Operating, Known}
+use Rattle.dnp_master.specs.Calls.{is_selected}
+use Rattle.dnp_master.specs.State.{is_idle}
+use Rattle.dnp_objects.specs.declared.command.Command.{Command}
 use Rattle.dnp_concentrator.specs.declared.progress.Progress.{Progress}
 use Rattle.dnp_concentrator.specs.declared.centre.Centre.{Centre}
 use Rattle.dnp_concentrator.specs.declared.concentrator.Concentrator.{Concentrator}
 use Rattle.dnp_concentrator.specs.declared.span.Spans.{Spans}
 use Rattle.dnp_world.specs.Channels.{ChannelState, GoDown, state_of}
-use Rattle.dnp_world.specs.SystemEvents.{IsRefused, RelaysOn, Steps, relaying_at, requests_of, step_on, told, with_relaying}
+use Rattle.dnp_world.specs.SystemEvents.{IfOperates, IsMissing, IsRefused, RelaysOn, Steps, relaying_at, requests_of, step_on, told, with_relaying}
 use Rattle.dnp_world.specs.SystemParts.{centre_of, concentrator_of, substation_of}
 use Rattle.dnp_world.specs.Systems.{ConcentratorState, System, has_station}
 use Rattle.dnp_world.specs.declared.channel.Channel.{Channel}
@@ -59,12 +64,60 @@ finished (Selects own command) seq id status told = absurd told
 finished (Operates own command) seq id status told = absurd told
 finished (Finishes own own_status) seq id status told = refl
 
+-- what holds of the control of an OPERATE that was answered holds of the step's, and no other answer is of one
+pub of_sent : (step : Step) (seq id : ℕ) (request : ArrayVec ℕ) (P : ℕ → Type 0) → Tells seq step (relayed.Sent id request) → P id → IfOperates step P
+of_sent Waits seq id request P told h = absurd told
+of_sent (Selects own command) seq id request P told h = absurd told
+of_sent (Operates own command) seq id request P told h = subst P told.0 h
+of_sent (Finishes own status) seq id request P told h = absurd told
+
+pub of_selecting : (step : Step) (seq id : ℕ) (request : ArrayVec ℕ) (P : ℕ → Type 0) → Tells seq step (relayed.Selecting id request) → IfOperates step P
+of_selecting Waits seq id request P told = absurd told
+of_selecting (Selects own command) seq id request P told = tt
+of_selecting (Operates own command) seq id request P told = absurd told
+of_selecting (Finishes own status) seq id request P told = absurd told
+
+pub of_waited : (step : Step) (seq : ℕ) (P : ℕ → Type 0) → Tells seq step relayed.Nothing → IfOperates step P
+of_waited Waits seq P told = tt
+of_waited (Selects own command) seq P told = absurd told
+of_waited (Operates own command) seq P told = absurd told
+of_waited (Finishes own status) seq P told = absurd told
+
+pub of_finished : (step : Step) (seq id status : ℕ) (P : ℕ → Type 0) → Tells seq step (relayed.Finished id status) → IfOperates step P
+of_finished Waits seq id status P told = absurd told
+of_finished (Selects own command) seq id status P told = absurd told
+of_finished (Operates own command) seq id status P told = absurd told
+of_finished (Finishes own own_status) seq id status P told = tt
+
 -- the book refused for its entry
 pub refused_for : (progress : Option Progress) (entries : List Entry) (fault : BookFault) → (fault ≡ NoControl) ⊎ (fault ≡ NotPending)
     → (fault ≡ NoControl → IsSomeAnd progress (λ p. entry_of entries p.id ≡ None))
-    → (fault ≡ NotPending → IsSomeAnd progress (λ p. Has entries p.id (λ state. not (is_pending state)))) → IsSomeAnd progress (IsRefused entries)
+    → (fault ≡ NotPending → IsSomeAnd progress (λ p. Has entries p.id (λ state. not (is_pending state))))
+    → IsSomeAnd progress (λ p. IsMissing entries p.id)
 refused_for None entries fault which missing spent = elim which [ inl is ↦ missing is | inr is ↦ spent is ]
 refused_for (Some p) entries fault which missing spent = elim which [ inl is ↦ inl (missing is) | inr is ↦ inr (spent is) ]
+
+-- so it refused the step, for which it was asked
+refused_by : (idle : Bool) (progress : Option Progress) (selected : Option Command) (entries : List Entry) (target : ℕ)
+    → ((idle && asks_progress progress selected) ≡ false → ⊥) → IsSomeAnd progress (λ p. IsMissing entries p.id)
+    → IsRefused entries (if idle then step_by progress selected entries target else Waits)
+refused_by false progress selected entries target asked missing = absurd (asked refl)
+refused_by true None selected entries target asked missing = absurd missing
+refused_by true (Some p) selected entries target asked missing = by p.stage asked
+  where
+    by_selected : (b : Bool) → (b ≡ false → ⊥) → IsRefused entries (if b then Operates p.id p.command else Selects p.id p.command)
+    by_selected true asked = missing
+    by_selected false asked = absurd (asked refl)
+
+    by : (stage : Stage) → (asks_stage selected p stage ≡ false → ⊥) → IsRefused entries (step_of_progress selected p stage)
+    by (Known status) asked = missing
+    by Selected asked = by_selected (is_selected selected p.command) asked
+    by Selecting asked = absurd (asked refl)
+    by Operating asked = absurd (asked refl)
+
+pub refused_step : (r : Relaying) (entries : List Entry) (target : ℕ) → (asks_book r ≡ false → ⊥) → IsSomeAnd r.progress (λ p. IsMissing entries p.id)
+    → IsRefused entries (step_of r entries target)
+refused_step r entries target asked missing = refused_by (is_idle r.master) r.progress r.master.selected entries target asked missing
 
 -- ---- the stations
 
@@ -110,13 +163,14 @@ pub relays_below : {Q A : Type 0} (stock : Q → Stock) (ledger : A → Ledger) 
     → SetsLink k station (relaying_after (link_at k station) rest.now (step_of (link_at k station) (ledger (book_of k)).entries station)) d
     → ledger (book_of d) ≡ ledger_after (ledger (book_of k)) (step_of (link_at k station) (ledger (book_of k)).entries station)
     → core_of d ≡ core_of k → queue_of d ≡ queue_of k → indices_of d ≡ indices_of k
+    → IfOperates (step_of (link_at k station) (ledger (book_of k)).entries station) (λ id. Has (ledger (book_of k)).entries id is_pending)
     → GoDown (requests_of (step_of (link_at k station) (ledger (book_of k)).entries station) (link_at k station).master.seq) (state_of was.channel) (state_of lines)
     → RelaysOn (Below station) (whole stock ledger rest k xs) (whole stock ledger rest d (slice_set xs i (record was { channel = lines })))
-relays_below stock ledger rest k d station i xs was lines same has at link book core queue indices down =
+relays_below stock ledger rest k d station i xs was lines same has at link book core queue indices pending down =
     let old : System = whole stock ledger rest k xs in
     let step : Step = step_on old (Below station) in
     let first : System = with_relaying (told old (Below station) step) (Below station) (relaying_after (relaying_at old (Below station)) old.now step) in
-    Steps
+    Steps pending
     (sends_at station i (requests_of step (relaying_at old (Below station)).master.seq) first (concentrator_of stock ledger d) xs was lines refl
     (concentrator_told stock ledger k d first.concentrator.links first.concentrator.controls link book core queue indices) same
     (rw same (is_there old xs station refl has)) at down)

@@ -1,8 +1,7 @@
 -- Definition: what each event makes of a system: the stations by their functions, the lines and ports by those of `dnp_line`, the
 -- lists of what became of rows and commands by what the stations did, and nothing else (IEEE Std 1815-2012: application layer,
 -- transport function and data link layer together).
-use Rattle.std.specs.Prelude.{◌≡◌, ℕ, ◌+◌, ◌^◌, ◌-◌, ◌<◌, Bool, true, false, not, if◌then◌else◌, ◌⊎◌, List, [], ◌∷◌, ◌++◌, length, map, min, take, drop, slice_get, slice_set, Option, Some, None, IfSome, option_to_list, Result, Ok, Err}
-use Rattle.std.specs.Option.{IsSomeAnd}
+use Rattle.std.specs.Prelude.{◌≡◌, ℕ, ◌+◌, ◌^◌, ◌-◌, ◌<◌, Bool, true, false, not, if◌then◌else◌, ◌⊎◌, List, [], ◌∷◌, ◌++◌, length, map, min, take, drop, slice_get, slice_set, Option, Some, None, IfSome, option_to_list, Result, Ok, Err, ⊤}
 use Rattle.dnp_objects.specs.declared.row.Row.{Row}
 use Rattle.dnp_objects.specs.declared.row.Kind.{Kind}
 use Rattle.dnp_objects.specs.declared.command.Command.{Command}
@@ -13,7 +12,6 @@ use Rattle.dnp_pointdb.specs.declared.fault.ChangeFault.{ChangeFault}
 use Rattle.dnp_pointdb.specs.Database.{answer_of}
 use Rattle.dnp_controls.specs.Book.{added, entry_of, Has, is_pending}
 use Rattle.dnp_controls.specs.declared.book.Entry.{Entry}
-use Rattle.dnp_concentrator.specs.declared.progress.Progress.{Progress}
 use Rattle.dnp_eventbuf.specs.Archive.{with_events}
 use Rattle.dnp_eventbuf.specs.Stock.{exhausts, with_rows, dropped_by, without_all, rows_in}
 use Rattle.dnp_line.specs.Lines.{LineState, front_of, delivered_on, repeated_on}
@@ -321,15 +319,29 @@ abbrev pub entries_on : System → Link → List Entry
 entries_on s (Below station) = s.concentrator.controls.entries
 entries_on s Above = s.centre.orders.entries
 
--- the book has not the control in progress, or not as pending
-abbrev pub IsRefused : List Entry → Progress → Type 0
-IsRefused entries p = (entry_of entries p.id ≡ None) ⊎ Has entries p.id (λ state. not (is_pending state))
+-- of a step that sends an OPERATE, by its control's id
+abbrev pub IfOperates : relaying.Step → (ℕ → Type 0) → Type 0
+IfOperates relaying.Waits P = ⊤
+IfOperates (relaying.Selects id command) P = ⊤
+IfOperates (relaying.Operates id command) P = P id
+IfOperates (relaying.Finishes id status) P = ⊤
 
--- a step that the book refuses for its entry does nothing
+-- the book has not this control, or not as pending
+abbrev pub IsMissing : List Entry → ℕ → Type 0
+IsMissing entries id = (entry_of entries id ≡ None) ⊎ Has entries id (λ state. not (is_pending state))
+
+-- the book refuses the step, which it is asked for an OPERATE and for what becomes of a control
+abbrev pub IsRefused : List Entry → relaying.Step → Type 0
+IsRefused entries relaying.Waits = ⊥
+IsRefused entries (relaying.Selects id command) = ⊥
+IsRefused entries (relaying.Operates id command) = IsMissing entries id
+IsRefused entries (relaying.Finishes id status) = IsMissing entries id
+
+-- an OPERATE goes out for a control that is pending; a step that the book refuses for its entry does nothing
 pub data RelaysOn (on : Link) (old new : System) : Type 0 where
-  Steps : SendsDown on (requests_of (step_on old on) (relaying_at old on).master.seq)
+  Steps : IfOperates (step_on old on) (λ id. Has (entries_on old on) id is_pending) → SendsDown on (requests_of (step_on old on) (relaying_at old on).master.seq)
       (relaying.relaying_after (relaying_at old on) old.now (step_on old on)) (told old on (step_on old on)) new → RelaysOn on old new
-  Refuses : IsSomeAnd (relaying_at old on).progress (IsRefused (entries_on old on)) → new ≡ old → RelaysOn on old new
+  Refuses : IsRefused (entries_on old on) (step_on old on) → new ≡ old → RelaysOn on old new
 
 -- a command to no output does nothing
 abbrev pub IssuesBy : Option Command → ℕ → Command → System → System → Type 0

@@ -7,7 +7,7 @@ use Rattle.dnp_world.specs.Channels.{state_of}
 use Rattle.dnp_world.specs.SystemEvents.{requests_of, Steps}
 use Rattle.dnp_world.specs.SystemParts.{system_of}
 use Rattle.dnp_world.specs.Systems.{CentreState}
-use Rattle.dnp_world.proofs.SystemTasks.{selecting, centre_with, down_of}
+use Rattle.dnp_world.proofs.SystemTasks.{selecting, centre_with, down_of, of_selecting}
 use Rattle.dnp_world.proofs.parts.Parts.relay_above.Goals as goal
 
 pub returns-in-Ok-Selecting-clause-done : goal.returns-in-Ok-Selecting-clause-done
@@ -18,10 +18,10 @@ returns-in-Ok-Selecting-clause-done g c = λ well.
     let link = old.centre.link in
     let step = step_of link old.centre.orders.entries 0 in
     let request = c.in-Ok-Selecting.request in
-    let both = selecting step link.master.seq _ request
-    (subst (λ (r : Relayed). Tells link.master.seq step r) c.in-Ok-Selecting.field-0-is (c.in-Ok-Selecting.ensures.told well.orders_is)) in
+    let told = subst (λ (r : Relayed). Tells link.master.seq step r) c.in-Ok-Selecting.field-0-is (c.in-Ok-Selecting.ensures.told well.orders_is) in
+    let both = selecting step link.master.seq _ request told in
     let last = state_of c.send_down.new.self in
-    Steps (
+    Steps (of_selecting step link.master.seq _ request _ told) (
       down_of (requests_of step link.master.seq) request.items c.as_slice.result.now old.above (state_of c.reserve_down.new.self) last both.0 both.1
           c.as_slice.ensures.value c.reserve_down.ensures.same c.send_down.ensures,
       ap (λ (k : CentreState). record old { centre = k; above = last })
