@@ -73,3 +73,4 @@ mod Restarting
 mod NewSubstations
 mod ReportReading
 mod ReportLists
+mod SystemRounds

@@ -1,8 +1,8 @@
 -- Definition: the two lines between the stations of a link, with the ports at their ends, and what comes to the outstation there
 -- (IEEE Std 1815-2012: application layer, transport function and data link layer together).
-use Rattle.std.specs.Prelude.{◌≡◌, ◌≢◌, ℕ, ◌≤◌, Bool, true, false, List, [], ◌∷◌, length, All, Result, OnOk, OnErr}
+use Rattle.std.specs.Prelude.{◌≡◌, ◌≢◌, ℕ, ◌≤◌, Bool, true, false, ◌&&◌, ◌==◌, not, List, [], ◌∷◌, length, All, Result, OnOk, OnErr}
 use Rattle.dnp_controls.specs.Panel.{Panel}
-use Rattle.dnp_line.specs.Lines.{LineState, cleared_on, delivered_on, front_of, lost_on, repeated_on, Damages}
+use Rattle.dnp_line.specs.Lines.{LineState, cleared_on, delivered_on, front_of, is_broken, lost_on, repeated_on, Damages}
 use Rattle.dnp_line.specs.Ports.{PortState, reset_of}
 use Rattle.dnp_line.specs.Ways.{HearsIfAny}
 use Rattle.dnp_objects.specs.declared.command.Command.{Command}
@@ -62,6 +62,13 @@ lost_at way.Up c = record c { up = lost_on c.up }
 abbrev pub DamagesAt : Way → List ℕ → ChannelState → ChannelState → Type 0
 DamagesAt way.Down octets old new = Damages octets old.down new.down × (new ≡ record old { down = new.down })
 DamagesAt way.Up octets old new = Damages octets old.up new.up × (new ≡ record old { up = new.up })
+
+-- the line carries nothing, and is whole
+abbrev pub is_quiet_line : LineState → Bool
+is_quiet_line line = (length line.units == 0) && not (is_broken line)
+
+abbrev pub are_quiet : ChannelState → Bool
+are_quiet c = is_quiet_line c.down && is_quiet_line c.up
 
 -- ---- the outstation's end
 

@@ -23,3 +23,4 @@ pub mod SystemEvents
 pub mod SystemParts
 pub mod FreshSystems
 pub mod ReportShown
+pub mod Rounds

@@ -7,7 +7,7 @@ ghost use Rattle.dnp_line.specs.Ways.{HearsIfAny};
 ghost use Rattle.dnp_master.specs.Calls.{receive_of};
 ghost use Rattle.dnp_outstation.specs.Calls.{connection_after, opened_of, performed_in, tick_of};
 ghost use Rattle.dnp_outstation.specs.Station.{actions_of};
-ghost use Rattle.dnp_world.specs.Channels.{state_of, cleared, hung_up_at, left_at, left_by, line_of, lost_at, DamagesAt, GoDown, GoUp, ComesToOutstation};
+ghost use Rattle.dnp_world.specs.Channels.{state_of, are_quiet, cleared, hung_up_at, left_at, left_by, line_of, lost_at, DamagesAt, GoDown, GoUp, ComesToOutstation};
 ghost use Rattle.dnp_world.specs.MasterEnds.{ComesToMaster, TakesBy};
 
 use crate::ends::{MasterEnd, OutstationEnd};
@@ -99,6 +99,13 @@ impl Channel {
             Way::Down => self.down.len(),
             Way::Up => self.up.len(),
         }
+    }
+
+    /// Whether both lines carry nothing, and neither is broken.
+    pub fn quiet(&self) -> bool
+        ensures { result ≡ are_quiet (state_of self.now) }
+    {
+        self.down.is_empty() && !self.down.broken() && self.up.is_empty() && !self.up.broken()
     }
 
     /// The front unit of this way is lost.

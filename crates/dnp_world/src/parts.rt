@@ -22,6 +22,7 @@ mod arrivals;
 mod calls;
 mod happening;
 mod report;
+mod rounds;
 mod tasks;
 
 /// Substations, a concentrator and a centre, with lines between them, and what became of every row and command.

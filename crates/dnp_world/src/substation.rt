@@ -1,12 +1,13 @@
 //! A substation and its link.
 
-ghost use Rattle.std.specs.Prelude.{◌≡◌, ◌++◌, ◌∷◌, [], false, List, IfErr, IfOk, IfSome, OnErr, OnOk, drop, length, map};
+ghost use Rattle.std.specs.Prelude.{◌≡◌, ◌&&◌, ◌++◌, ◌∷◌, [], false, List, IfErr, IfOk, IfSome, OnErr, OnOk, drop, length, map};
 ghost use Rattle.dnp_eventbuf.specs.Stock.{exhausts, rows_in, without_all};
 ghost use Rattle.dnp_objects.specs.declared.row.Row.{Row as RowValue};
 ghost use Rattle.dnp_pointdb.specs.Database.{answer_of};
 ghost use Rattle.dnp_outstation.specs.Calls.{change_of, opened_of, restarted_core, tick_of};
 ghost use Rattle.dnp_outstation.specs.Connection.{closed};
-ghost use Rattle.dnp_world.specs.Channels.{cleared, hung_up_at, left_by};
+ghost use Rattle.dnp_outstation.specs.State.{is_quiet};
+ghost use Rattle.dnp_world.specs.Channels.{are_quiet, cleared, hung_up_at, left_by};
 ghost use Rattle.dnp_world.specs.SystemEvents.{ComesToSubstation, SubstationSteps, master_gone};
 ghost use Rattle.dnp_world.specs.SystemParts.{history_of, substation_of};
 ghost use Rattle.dnp_world.specs.Systems.{at_station, station_of};
@@ -62,6 +63,13 @@ impl Substation {
         } }
     {
         self.channel.hang_up(End::Master);
+    }
+
+    /// Whether the outstation is open, awaits no confirm and holds no READ, and both lines carry nothing and are whole.
+    pub fn quiet(&self) -> bool
+        ensures { result ≡ (is_quiet (substation_of self.now).core && are_quiet (substation_of self.now).channel) }
+    {
+        self.outstation.quiet() && self.channel.quiet()
     }
 
     /// Clears both lines and resets both ports, and then opens the outstation.

@@ -1,10 +1,11 @@
 //! A whole system: substations, a concentrator and a centre, with lines between them.
 
-ghost use Rattle.std.specs.Prelude.{◌≡◌, ◌↔◌, Err, IfErr, IfOk, OnOk};
+ghost use Rattle.std.specs.Prelude.{◌≡◌, ◌≢◌, ◌↔◌, false, Err, IfErr, IfOk, OnOk};
 ghost use Rattle.dnp_concentrator.specs.IndexMap.{IsTooWide, Overlaps};
 ghost use Rattle.dnp_concentrator.specs.Plan.{KeepsLimits, map_of};
 ghost use Rattle.dnp_world.specs.FreshSystems.{fresh_system};
 ghost use Rattle.dnp_world.specs.ReportShown.{Shows};
+ghost use Rattle.dnp_world.specs.Rounds.{IsOfRound, IsRound, StopsIn, is_quiet_on};
 ghost use Rattle.dnp_world.specs.SystemEvents.{RunsTo, StopsAfter};
 ghost use Rattle.dnp_world.specs.SystemParts.{AreWell, controls_of, journal_of, orders_of, parts_of, queue_of, system_of};
 ghost use Rattle.dnp_world.specs.Systems.{standing_on};
@@ -16,6 +17,7 @@ use crate::link_event::Way;
 use crate::new_substations::new_substations;
 use crate::parts::Parts;
 use crate::report::Report;
+use crate::round_fault::RoundFault;
 use crate::stopped::{Cause, Stopped};
 use dnp_concentrator::{Centre, Concentrator, IndexMap, MapFault, Plan};
 use dnp_controls::Book;
@@ -99,6 +101,21 @@ impl<Q: Lanes, J: JournalStore, A: Book, B: Book> World<Q, J, A, B> {
         ensures stopped { AreWell Q.honest J.honest A.honest A.is_stopped B.honest B.is_stopped (parts_of self.new) → IfErr result (λ stopped. StopsAfter (system_of Q.contents J.archive A.contents B.contents (parts_of self.old)) events.now stopped.done (system_of Q.contents J.archive A.contents B.contents (parts_of self.new))) }
     {
         self.parts.run(alloc, events)
+    }
+
+    /// A clean round over a quiet link: events of classes 1, 2 and 3 are polled, and what comes of it is delivered, down
+    /// the line, up, and down again.
+    ///
+    /// Refused is a link that isn't quiet (`NotQuiet`): one outside the plan, or one of whose ends is closed, or awaits an
+    /// answer, or whose lines carry anything or are broken. Where an event stops (`Fault`), those before it happened.
+    pub fn clean_round(&mut self, alloc: Global, on: Link) -> Result<(), RoundFault>
+        ensures held { AreWell Q.honest J.honest A.honest A.is_stopped B.honest B.is_stopped (parts_of self.new) → AreWell Q.honest J.honest A.honest A.is_stopped B.honest B.is_stopped (parts_of self.old) }
+        ensures not_quiet { (result ≡ Err RoundFault.NotQuiet) ↔ (is_quiet_on (system_of Q.contents J.archive A.contents B.contents (parts_of self.old)) on ≡ false) }
+        ensures unchanged { result ≡ Err RoundFault.NotQuiet → self.new ≡ self.old }
+        ensures done { AreWell Q.honest J.honest A.honest A.is_stopped B.honest B.is_stopped (parts_of self.new) → OnOk result (IsRound on (system_of Q.contents J.archive A.contents B.contents (parts_of self.old)) (system_of Q.contents J.archive A.contents B.contents (parts_of self.new))) }
+        ensures stopped { AreWell Q.honest J.honest A.honest A.is_stopped B.honest B.is_stopped (parts_of self.new) → IfErr result (λ fault. fault ≢ RoundFault.NotQuiet → StopsIn (IsOfRound on) (system_of Q.contents J.archive A.contents B.contents (parts_of self.old)) (system_of Q.contents J.archive A.contents B.contents (parts_of self.new))) }
+    {
+        self.parts.clean_round(alloc, on)
     }
 
     /// What became of all rows and commands so far. It changes nothing.

@@ -1,0 +1,124 @@
+-- Rounds: lists of events that were done one after the other.
+use Rattle.std.proofs.Common.{◌≡◌, ℕ, true, zero, suc, ◌+◌, List, [], ◌∷◌, ◌++◌, length, take, get_or, inr, refl, sym, ap, ◌∙◌, subst, zero-add, arith}
+use Rattle.std.specs.Prelude.{All, replicate, slice_get}
+use Rattle.std.proofs.lemmas.List.{replicate_more}
+use Rattle.dnp_world.specs.Rounds.{Flushes, IsOfRound, StopsIn, deliveries}
+use Rattle.dnp_world.specs.SystemEvents.{CountsFor, Happens, IsKept, RunsTo, may_stop}
+use Rattle.dnp_world.specs.Systems.{System, standing_on}
+use Rattle.dnp_world.specs.declared.event.Event.{Event}
+use Rattle.dnp_world.specs.declared.event.Event.TheVariants.{Deliver}
+use Rattle.dnp_world.specs.declared.event.Link.{Link}
+use Rattle.dnp_world.specs.declared.link_event.Way.{Way}
+use Rattle.dnp_world.proofs.SystemRuns.{runs_more}
+
+-- ---- lists
+
+take_past : {A : Type 0} (xs ys : List A) (n : ℕ) → take (length xs + n) (xs ++ ys) ≡ xs ++ take n ys
+take_past {A} [] ys n = ap (λ (k : ℕ). take k ys) (zero-add n)
+take_past {A} (x ∷ xs) ys n =
+    let next : suc (length xs) + n ≡ suc (length xs + n) = omega arith in
+    ap (λ (k : ℕ). take k (x ∷ (xs ++ ys))) next ∙ ap (λ (zs : List A). x ∷ zs) (take_past xs ys n)
+
+get_past : {A : Type 0} (xs ys : List A) (n : ℕ) → slice_get (xs ++ ys) (length xs + n) ≡ slice_get ys n
+get_past {A} [] ys n = ap (λ (k : ℕ). slice_get ys k) (zero-add n)
+get_past {A} (x ∷ xs) ys n =
+    let next : suc (length xs) + n ≡ suc (length xs + n) = omega arith in
+    ap (λ (k : ℕ). slice_get (x ∷ (xs ++ ys)) k) next ∙ get_past xs ys n
+
+all_joined : {A : Type 0} (P : A → Type 0) (xs ys : List A) → All P xs → All P ys → All P (xs ++ ys)
+all_joined P [] ys all others k d low = others k d low
+all_joined P (x ∷ xs) ys all others zero d low = all zero d (omega arith)
+all_joined P (x ∷ xs) ys all others (suc k) d low =
+    all_joined P xs ys (λ i e lt. all (suc i) e (omega (arith, lt))) others k d (omega (arith, low))
+
+all_one : {A : Type 0} (P : A → Type 0) (x : A) → P x → All P (x ∷ [])
+all_one P x p zero d low = p
+all_one P x p (suc k) d low = absurd (omega (arith, low))
+
+all_same : {A : Type 0} (P : A → Type 0) (x : A) (n : ℕ) → P x → All P (replicate n x)
+all_same P x zero p k d low = absurd (omega (arith, low))
+all_same P x (suc n) p zero d low = p
+all_same P x (suc n) p (suc k) d low = all_same P x n p k d (omega (arith, low))
+
+-- ---- lists of events that were done
+
+-- such events were done
+pub record Ran (IsOne : Event → Type 0) (old new : System) : Type 0 where
+  pub events : List Event
+  pub all : All IsOne events
+  pub ran : RunsTo old events new
+
+runs_joined : (old mid new : System) (xs ys : List Event) → RunsTo old xs mid → RunsTo mid ys new → RunsTo old (xs ++ ys) new
+runs_joined old mid new [] ys ran more = subst (λ (s : System). RunsTo s ys new) ran more
+runs_joined old mid new (x ∷ xs) ys ran more = (ran.0, ran.1, runs_joined ran.0 mid new xs ys ran.2 more)
+
+-- one event
+pub ran_one : (P : Event → Type 0) (old new : System) (event : Event) → P event → Happens old event new → Ran P old new
+ran_one P old new event is h = record { events = event ∷ []; all = all_one P event is; ran = (new, h, refl) }
+
+-- what stood on a line
+pub ran_flush : (P : Event → Type 0) (on : Link) (way : Way) (old new : System) → P (Deliver on way) → Flushes on way old new → Ran P old new
+ran_flush P on way old new is ran = record {
+  events = deliveries (standing_on old on way) on way;
+  all = all_same P (Deliver on way) (standing_on old on way) is;
+  ran = ran;
+}
+
+-- one list behind another
+pub ran_both : (P : Event → Type 0) (old mid new : System) → Ran P old mid → Ran P mid new → Ran P old new
+ran_both P old mid new first more = record {
+  events = first.events ++ more.events;
+  all = all_joined P first.events more.events first.all more.all;
+  ran = runs_joined old mid new first.events more.events first.ran more.ran;
+}
+
+-- ---- lists that stopped
+
+-- at their first event
+pub stops_at : (P : Event → Type 0) (old kept new : System) (event : Event) → P event → may_stop event ≡ true → IsKept old kept → CountsFor kept event new
+    → StopsIn P old new
+stops_at P old kept new event is may keeps counts = record {
+  events = event ∷ [];
+  done = 0;
+  all = all_one P event is;
+  stops = record { before = old; ran = refl; event = event; next = refl; may = may; after = kept; kept = keeps; counts = counts };
+}
+
+-- after another was done
+pub stops_after : (R P : Event → Type 0) (old mid new : System) → ((event : Event) → P event → R event) → Ran R old mid → StopsIn P mid new → StopsIn R old new
+stops_after R P old mid new more first s = record {
+  events = first.events ++ s.events;
+  done = length first.events + s.done;
+  all = all_joined R first.events s.events first.all (λ k d low. more (get_or s.events k d) (s.all k d low));
+  stops = record {
+    before = s.stops.before;
+    ran = subst (λ (es : List Event). RunsTo old es s.stops.before) (sym (take_past first.events s.events s.done))
+        (runs_joined old mid s.stops.before first.events (take s.done s.events) first.ran s.stops.ran);
+    event = s.stops.event;
+    next = get_past first.events s.events s.done ∙ s.stops.next;
+    may = s.stops.may;
+    after = s.stops.after;
+    kept = s.stops.kept;
+    counts = s.stops.counts;
+  };
+}
+
+-- ---- deliveries
+
+-- one unit more was delivered
+pub one_delivered : (old mid new : System) (n : ℕ) (on : Link) (way : Way) → RunsTo old (deliveries n on way) mid → Happens mid (Deliver on way) new
+    → RunsTo old (deliveries (n + 1) on way) new
+one_delivered old mid new n on way ran h =
+    subst (λ (es : List Event). RunsTo old es new) (replicate_more n (Deliver on way)) (runs_more old mid new (deliveries n on way) (Deliver on way) ran h)
+
+-- so many were
+pub delivered : (n : ℕ) (on : Link) (way : Way) (old mid : System) → RunsTo old (deliveries n on way) mid → Ran (λ e. e ≡ Deliver on way) old mid
+delivered n on way old mid ran = record {
+  events = deliveries n on way;
+  all = all_same (λ (e : Event). e ≡ Deliver on way) (Deliver on way) n refl;
+  ran = ran;
+}
+
+-- a delivery of a round
+pub of_round : (on : Link) (way : Way) (event : Event) → event ≡ Deliver on way → IsOfRound on event
+of_round on way event is = inr (way, is)

@@ -1,0 +1,42 @@
+-- One unit more is delivered, or the list stops at it.
+use Rattle.std.proofs.Common.{◌≡◌, ℕ, refl, subst, arith}
+use Rattle.dnp_world.specs.Rounds.{deliveries}
+use Rattle.dnp_world.specs.SystemEvents.{RunsTo}
+use Rattle.dnp_world.specs.SystemParts.{system_of}
+use Rattle.dnp_world.specs.Systems.{standing_on}
+use Rattle.dnp_world.specs.declared.event.Event.{Event}
+use Rattle.dnp_world.specs.declared.event.Event.TheVariants.{Deliver}
+use Rattle.dnp_world.proofs.OneLinkRuns.{any_err}
+use Rattle.dnp_world.proofs.SystemRounds.{delivered, one_delivered, stops_after, stops_at}
+use Rattle.dnp_world.proofs.parts.Parts.flush.Goals as goal
+
+pub loop-preserved : goal.loop-preserved
+loop-preserved g c =
+    let system = system_of g.Q.Lanes.contents g.J.JournalStore.archive g.A.Book.contents g.B.Book.contents in
+    record {
+      held = λ well. c.loop.invariant.held (c.happen.ensures.held well);
+      ran = λ well.
+          one_delivered (system c.args.self.now) (system c.loop.self) (system c.happen.new.self) c.loop.counter c.args.on c.args.way
+          (c.loop.invariant.ran (c.happen.ensures.held well)) (c.in_ok-happen.ensures.done well);
+    }
+
+pub returns-in_err-happen-clause-stopped : goal.returns-in_err-happen-clause-stopped
+returns-in_err-happen-clause-stopped g c = λ well.
+    let system = system_of g.Q.Lanes.contents g.J.JournalStore.archive g.A.Book.contents g.B.Book.contents in
+    let on = c.args.on in
+    let way = c.args.way in
+    let old = system c.args.self.now in
+    let mid = system c.loop.self in
+    let new = system c.happen.new.self in
+    let stopped = c.in_err-happen.ensures.stopped well in
+    any_err c.from_residual.result _
+    (stops_after (λ (e : Event). e ≡ Deliver on way) (λ (e : Event). e ≡ Deliver on way) old mid new (λ e is. is)
+    (delivered c.loop.counter on way old mid (c.loop.invariant.ran (c.happen.ensures.held well)))
+    (stops_at (λ (e : Event). e ≡ Deliver on way) mid stopped.0 new (Deliver on way) refl refl stopped.1 stopped.2))
+
+pub returns-clause-done : goal.returns-clause-done
+returns-clause-done g c = λ well.
+    let system = system_of g.Q.Lanes.contents g.J.JournalStore.archive g.A.Book.contents g.B.Book.contents in
+    let old = system c.args.self.now in
+    let all : c.loop.counter ≡ standing_on old c.args.on c.args.way = omega arith in
+    subst (λ (n : ℕ). RunsTo old (deliveries n c.args.on c.args.way) (system c.loop.self)) all (c.loop.invariant.ran well)

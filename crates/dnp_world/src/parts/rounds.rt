@@ -1,0 +1,79 @@
+//! Polls over quiet links, with all that comes of them.
+
+ghost use Rattle.std.specs.Prelude.{◌≡◌, ◌≢◌, ◌↔◌, false, Err, IfErr, OnErr, OnOk};
+ghost use Rattle.dnp_world.specs.Rounds.{Flushes, IsOfRound, IsRound, StopsIn, is_quiet_on};
+ghost use Rattle.dnp_world.specs.SystemParts.{AreWell, system_of};
+ghost use Rattle.dnp_world.specs.declared.event.Event.TheVariants as event;
+
+use super::Parts;
+use crate::event::{Event, Link};
+use crate::link_event::Way;
+use crate::round_fault::RoundFault;
+use crate::stopped::Cause;
+use dnp_controls::Book;
+use dnp_eventbuf::{JournalStore, Lanes};
+use dnp_master::{Classes, Task};
+use std::alloc::Global;
+
+impl<Q: Lanes, J: JournalStore, A: Book, B: Book> Parts<Q, J, A, B> {
+    /// Whether the link is one of the plan, and quiet: both ends are open, both lines carry nothing and are whole, the
+    /// master awaits no response, and the outstation awaits no confirm and holds no READ.
+    pub(crate) fn quiet(&self, on: Link) -> bool
+        ensures { result ≡ is_quiet_on (system_of Q.contents J.archive A.contents B.contents self.now) on }
+    {
+        if !self.has(on) {
+            return false;
+        }
+        match on {
+            Link::Below(station) => {
+                self.concentrator.idle_below(station)
+                    && self.substations[usize::from(station)].quiet()
+            }
+            Link::Above => {
+                self.centre.idle() && self.concentrator.quiet_above() && self.above.quiet()
+            }
+        }
+    }
+
+    /// What stands on the line of this way of the link is delivered, one unit after the other.
+    pub(crate) fn flush(&mut self, alloc: Global, on: Link, way: Way) -> Result<(), Cause>
+        ensures held { AreWell Q.honest J.honest A.honest A.is_stopped B.honest B.is_stopped self.new → AreWell Q.honest J.honest A.honest A.is_stopped B.honest B.is_stopped self.old }
+        ensures done { AreWell Q.honest J.honest A.honest A.is_stopped B.honest B.is_stopped self.new → OnOk result (Flushes on way (system_of Q.contents J.archive A.contents B.contents self.old) (system_of Q.contents J.archive A.contents B.contents self.new)) }
+        ensures stopped { AreWell Q.honest J.honest A.honest A.is_stopped B.honest B.is_stopped self.new → OnErr result (StopsIn (λ e. e ≡ event.Deliver on way) (system_of Q.contents J.archive A.contents B.contents self.old) (system_of Q.contents J.archive A.contents B.contents self.new)) }
+    {
+        for _ in 0..self.standing(on, way) {
+            self.happen(alloc, &Event::Deliver(on, way))?;
+        }
+        Ok(())
+    }
+
+    /// Events of classes 1, 2 and 3 are polled over the link, and all that comes of it is delivered: the request, the
+    /// response, and the confirm.
+    fn poll_round(&mut self, alloc: Global, on: Link) -> Result<(), Cause>
+        ensures held { AreWell Q.honest J.honest A.honest A.is_stopped B.honest B.is_stopped self.new → AreWell Q.honest J.honest A.honest A.is_stopped B.honest B.is_stopped self.old }
+        ensures done { AreWell Q.honest J.honest A.honest A.is_stopped B.honest B.is_stopped self.new → OnOk result (IsRound on (system_of Q.contents J.archive A.contents B.contents self.old) (system_of Q.contents J.archive A.contents B.contents self.new)) }
+        ensures stopped { AreWell Q.honest J.honest A.honest A.is_stopped B.honest B.is_stopped self.new → OnErr result (StopsIn (IsOfRound on) (system_of Q.contents J.archive A.contents B.contents self.old) (system_of Q.contents J.archive A.contents B.contents self.new)) }
+    {
+        let classes = Classes([false, true, true, true]);
+        self.happen(alloc, &Event::Ask(on, Task::Poll(classes)))?;
+        self.flush(alloc, on, Way::Down)?;
+        self.flush(alloc, on, Way::Up)?;
+        self.flush(alloc, on, Way::Down)?;
+        Ok(())
+    }
+
+    /// A round over a quiet link. Refused, with nothing changed, is a link that isn't quiet.
+    pub(crate) fn clean_round(&mut self, alloc: Global, on: Link) -> Result<(), RoundFault>
+        ensures held { AreWell Q.honest J.honest A.honest A.is_stopped B.honest B.is_stopped self.new → AreWell Q.honest J.honest A.honest A.is_stopped B.honest B.is_stopped self.old }
+        ensures not_quiet { (result ≡ Err RoundFault.NotQuiet) ↔ (is_quiet_on (system_of Q.contents J.archive A.contents B.contents self.old) on ≡ false) }
+        ensures unchanged { result ≡ Err RoundFault.NotQuiet → self.new ≡ self.old }
+        ensures done { AreWell Q.honest J.honest A.honest A.is_stopped B.honest B.is_stopped self.new → OnOk result (IsRound on (system_of Q.contents J.archive A.contents B.contents self.old) (system_of Q.contents J.archive A.contents B.contents self.new)) }
+        ensures stopped { AreWell Q.honest J.honest A.honest A.is_stopped B.honest B.is_stopped self.new → IfErr result (λ fault. fault ≢ RoundFault.NotQuiet → StopsIn (IsOfRound on) (system_of Q.contents J.archive A.contents B.contents self.old) (system_of Q.contents J.archive A.contents B.contents self.new)) }
+    {
+        if !self.quiet(on) {
+            return Err(RoundFault::NotQuiet);
+        }
+        self.poll_round(alloc, on)?;
+        Ok(())
+    }
+}
