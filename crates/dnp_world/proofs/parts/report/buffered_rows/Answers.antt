@@ -1,7 +1,6 @@
 -- One substation more was listed, and is what it was.
-use Rattle.std.proofs.Common.{◌≡◌, ◌∙◌, ℕ, ◌<◌, List, length, map, take, min, ap, arith}
+use Rattle.std.proofs.Common.{◌≡◌, ◌∙◌, ℕ, List, length, map, take, min, ap, arith}
 use Rattle.std.proofs.lemmas.List.{length-map, take_min}
-use Rattle.dnp_objects.specs.declared.row.Row.{Row}
 use Rattle.dnp_world.specs.Kept.{lane_rows_of}
 use Rattle.dnp_world.specs.Stations.{listed_from}
 use Rattle.dnp_world.specs.SystemParts.{substation_of}
