@@ -62,7 +62,7 @@ received : Grounds → (left : LineState → LineState) (e : LinkEvent) → IsCo
     → rows_made_by old.concentrator.core.points (e ∷ []) ≡ []
     → (r : Result Taking MasterFault) → receive_of old.centre.link.master old.now fragment ≡ r
     → MasterReceives link.Above r (record old { above = heard_lines left port old }) new → Keeps station [] old new
-received grounds left e as_event old new h station port fragment others heard made (Ok t) is (down, after) =
+received grounds left e as_event old new h station port fragment others heard made (Ok t) is (room, (down, after)) =
     let l : Link = h.links.above in
     let lines : ChannelState = heard_lines left port old in
     let base : LinkState ⊤ = seen_above (record old { above = lines }) (lists_of l) in

@@ -1,5 +1,5 @@
 -- What comes up the lines of a link, and what the station at the master's end makes of it.
-use Rattle.std.proofs.Common.{◌≡◌, ℕ, suc, ◌≤◌, Bool, true, false, List, [], ◌∷◌, ◌++◌, length, ◌⊎◌, inl, inr, Option, Some, None, Result, Ok, Err, IfOk, IfErr, OnOk, sym, ap, ◌∙◌, subst, arith, refl, length-append}
+use Rattle.std.proofs.Common.{◌≡◌, ◌≢◌, ℕ, suc, ◌≤◌, Bool, true, false, List, [], ◌∷◌, ◌++◌, length, ◌⊎◌, inl, inr, Option, Some, None, Result, Ok, Err, IfOk, IfErr, OnOk, sym, ap, ◌∙◌, subst, arith, refl, length-append}
 use Rattle.std.specs.Prelude.{if◌then◌else◌, option_to_list, OnErr}
 use Rattle.std.specs.List.{cons_option, filter_map}
 use Rattle.std.proofs.lemmas.List.{length-take}
@@ -8,7 +8,7 @@ use Rattle.dnp_objects.specs.declared.row.Row.{Row}
 use Rattle.dnp_objects.specs.Lanes.{lane_number}
 use Rattle.dnp_controls.specs.Book.{Ledger}
 use Rattle.dnp_eventbuf.specs.Archive.{Archive, with_events}
-use Rattle.dnp_eventbuf.specs.Stock.{Stock, dropped_by, dropped_from, LaneState, is_full, lane_at, with_row, with_rows}
+use Rattle.dnp_eventbuf.specs.Stock.{Stock, dropped_by, exhausts, dropped_from, LaneState, is_full, lane_at, with_row, with_rows}
 use Rattle.dnp_line.specs.Lines.{LineState, front_of}
 use Rattle.dnp_line.specs.Ports.{PortState, IsShown}
 use Rattle.dnp_line.specs.Ways.{Hears, HearsIfAny}
@@ -31,7 +31,7 @@ use Rattle.dnp_concentrator.specs.declared.span.Spans.{Spans}
 use Rattle.dnp_world.specs.Channels.{ChannelState, GoDown, left_by}
 use Rattle.dnp_world.specs.MasterEnds.{ComesToMaster, TakesBy, TakesIn}
 use Rattle.dnp_world.specs.Octets.{rows_in}
-use Rattle.dnp_world.specs.SystemEvents.{centre_taken, concentrator_taken, dropped_for}
+use Rattle.dnp_world.specs.SystemEvents.{HasNumbers, centre_taken, concentrator_taken, dropped_for}
 use Rattle.dnp_world.specs.SystemParts.{centre_of, concentrator_of}
 use Rattle.dnp_world.specs.Systems.{ConcentratorState}
 use Rattle.dnp_world.proofs.OneLinkArrivals.{events_first}
@@ -89,14 +89,19 @@ pub taken_below : {Q A : Type 0} (stock : Q → Stock) (ledger : A → Ledger) (
     → OnOk answer (IfOk r (λ t. SetsLink old link (received (link_at old link) t) new))
     → OnOk answer (IfOk r (λ t. stock (queue_of new) ≡ with_rows (stock (queue_of old)) (queued_at old link t.events)))
     → OnOk answer (IfOk r (λ t. core_of new ≡ with_readings old link t.events t.statics)) → outputs_of new ≡ outputs_of old
+    → OnOk answer (IfOk r (λ t. t.events ≢ [] → exhausts (stock (queue_of old)) (queued_at old link t.events) ≡ false))
     → IfOk answer (λ a. IfOk r (λ t. (a ≡ actions_of t (dropped_for (concentrator_of stock ledger old) link t))
-    × (concentrator_of stock ledger new ≡ concentrator_taken (concentrator_of stock ledger old) link t)))
-taken_below stock ledger old new link r (Err fault) actions dropped links queued core outputs = tt
-taken_below stock ledger old new link (Err fault) (Ok a) actions dropped links queued core outputs = tt
-taken_below stock ledger old new link (Ok t) (Ok a) actions dropped links queued core outputs = (
+    × (HasNumbers (concentrator_of stock ledger old) link t
+    × (concentrator_of stock ledger new ≡ concentrator_taken (concentrator_of stock ledger old) link t))))
+taken_below stock ledger old new link r (Err fault) actions dropped links queued core outputs room = tt
+taken_below stock ledger old new link (Err fault) (Ok a) actions dropped links queued core outputs room = tt
+taken_below stock ledger old new link (Ok t) (Ok a) actions dropped links queued core outputs room = (
   actions ∙ ap (λ (rows : List Row). actions_of t rows) dropped,
-  concentrator_by stock ledger old new (with_readings old link t.events t.statics) (with_rows (stock (queue_of old)) (queued_at old link t.events)) _
-      core queued outputs links,
+  (
+    room,
+    concentrator_by stock ledger old new (with_readings old link t.events t.statics) (with_rows (stock (queue_of old)) (queued_at old link t.events)) _
+        core queued outputs links,
+  ),
 )
 
 -- what a concentrator refused

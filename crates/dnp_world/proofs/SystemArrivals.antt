@@ -8,7 +8,7 @@ use Rattle.dnp_master.specs.declared.fault.MasterFault.{MasterFault}
 use Rattle.dnp_master.specs.Calls.{Taking, receive_of}
 use Rattle.dnp_world.specs.Channels.{ChannelState, state_of}
 use Rattle.dnp_world.specs.MasterEnds.{ComesToMaster, TakesBy, TakesGiven}
-use Rattle.dnp_world.specs.SystemEvents.{ComesUp, IsKept, MasterReceives, MasterTakes, centre_taken, concentrator_taken, dropped_for, taken_below, with_substation}
+use Rattle.dnp_world.specs.SystemEvents.{ComesUp, HasNumbers, IsKept, MasterReceives, MasterTakes, centre_taken, concentrator_taken, dropped_for, taken_below, with_substation}
 use Rattle.dnp_world.specs.SystemParts.{substation_of}
 use Rattle.dnp_world.specs.Systems.{CentreState, ConcentratorState, SubstationState, System, has_station, link_at}
 use Rattle.dnp_world.specs.declared.channel.Channel.{Channel}
@@ -44,9 +44,12 @@ above_by : (old : System) (centre : CentreState) (between lines : ChannelState) 
     → MasterReceives Above r (record old { above = between }) (with_above old centre lines dropped)
 above_by old centre between lines dropped (Err fault) (is, same) = above_same old centre between lines dropped is same
 above_by old centre between lines dropped (Ok t) (down, took) = (
-  down,
-  ap (λ (k : CentreState). with_above old k lines dropped) took.0
-      ∙ ap (λ (rows : List Row). with_above old (centre_taken old.centre t) lines rows) (took.1 ∙ append-nil old.history.dropped),
+  tt,
+  (
+    down,
+    ap (λ (k : CentreState). with_above old k lines dropped) took.0
+        ∙ ap (λ (rows : List Row). with_above old (centre_taken old.centre t) lines rows) (took.1 ∙ append-nil old.history.dropped),
+  ),
 )
 
 above_given : (old : System) (centre : CentreState) (between lines : ChannelState) (dropped : List Row) (given : List (List ℕ))
@@ -81,7 +84,7 @@ with_below s station is middle dropped = record s {
 
 abbrev MiddleTakes : System → ℕ → ConcentratorState → List Row → Taking → Type 0
 MiddleTakes old station middle dropped t =
-    (middle ≡ concentrator_taken old.concentrator station t) × (dropped ≡ old.history.dropped ++ dropped_for old.concentrator station t)
+    (HasNumbers old.concentrator station t × (middle ≡ concentrator_taken old.concentrator station t)) × (dropped ≡ old.history.dropped ++ dropped_for old.concentrator station t)
 
 abbrev MiddleSame : System → ConcentratorState → List Row → Type 0
 MiddleSame old middle dropped = (middle ≡ old.concentrator) × (dropped ≡ old.history.dropped)
@@ -113,17 +116,19 @@ below_by : (old : System) (station : ℕ) (was : SubstationState) (middle : Conc
 below_by old station was middle between lines dropped (Err fault) at (is, same) = below_same old station was middle between lines dropped is same
 below_by old station was middle between lines dropped (Ok t) at (down, took) =
     let mid : SubstationState = record was { channel = between } in
-    let is : SubstationState = record was { channel = lines } in
-    record {
-      was = mid;
-      is = is;
-      there = set_there old.substations station was mid at;
-      changed = (down, refl);
-      after =
-          ap (λ (k : ConcentratorState). with_below old station is k dropped) took.0
-          ∙ ap (λ (rows : List Row). with_below old station is (concentrator_taken old.concentrator station t) rows) took.1
-          ∙ ap (λ (xs : List SubstationState). record (taken_below old station t) { substations = xs }) (sym (set_again old.substations station mid is));
-    }
+    let is : SubstationState = record was { channel = lines } in (
+      took.0.0,
+      record {
+        was = mid;
+        is = is;
+        there = set_there old.substations station was mid at;
+        changed = (down, refl);
+        after =
+            ap (λ (k : ConcentratorState). with_below old station is k dropped) took.0.1
+            ∙ ap (λ (rows : List Row). with_below old station is (concentrator_taken old.concentrator station t) rows) took.1
+            ∙ ap (λ (xs : List SubstationState). record (taken_below old station t) { substations = xs }) (sym (set_again old.substations station mid is));
+      },
+    )
 
 below_given : (old : System) (station : ℕ) (was : SubstationState) (middle : ConcentratorState) (between lines : ChannelState) (dropped : List Row)
     (given : List (List ℕ)) → slice_get old.substations station ≡ Some was

@@ -1,7 +1,7 @@
 -- Definition: what each event makes of a system: the stations by their functions, the lines and ports by those of `dnp_line`, the
 -- lists of what became of rows and commands by what the stations did, and nothing else (IEEE Std 1815-2012: application layer,
 -- transport function and data link layer together).
-use Rattle.std.specs.Prelude.{◌≡◌, ℕ, ◌+◌, ◌^◌, ◌-◌, ◌<◌, Bool, true, false, not, if◌then◌else◌, ◌⊎◌, List, [], ◌∷◌, ◌++◌, length, map, min, take, drop, slice_get, slice_set, Option, Some, None, IfSome, option_to_list, Result, Ok, Err, ⊤}
+use Rattle.std.specs.Prelude.{◌≡◌, ◌≢◌, ℕ, ◌+◌, ◌^◌, ◌-◌, ◌<◌, Bool, true, false, not, if◌then◌else◌, ◌⊎◌, List, [], ◌∷◌, ◌++◌, length, map, min, take, drop, slice_get, slice_set, Option, Some, None, IfSome, option_to_list, Result, Ok, Err, ⊤}
 use Rattle.dnp_objects.specs.declared.row.Row.{Row}
 use Rattle.dnp_objects.specs.declared.row.Kind.{Kind}
 use Rattle.dnp_objects.specs.declared.command.Command.{Command}
@@ -238,9 +238,17 @@ abbrev pub taken_on : System → Link → Taking → System
 taken_on s (Below station) t = taken_below s station t
 taken_on s Above t = taken_above s t
 
+-- the queue has numbers left for a substation's events
+abbrev pub HasNumbers : ConcentratorState → ℕ → Taking → Type 0
+HasNumbers c station t = t.events ≢ [] → exhausts c.queue (queued_rows c.indices c.core.points station t.events) ≡ false
+
+abbrev pub HasNumbersOn : System → Link → Taking → Type 0
+HasNumbersOn s (Below station) t = HasNumbers s.concentrator station t
+HasNumbersOn s Above t = ⊤
+
 -- the confirm goes down; what the master refuses for itself is lost
 abbrev pub MasterReceives : Link → Result Taking MasterFault → System → System → Type 0
-MasterReceives on (Ok t) old new = LinesChange on (GoDown (option_to_list t.confirm)) (taken_on old on t) new
+MasterReceives on (Ok t) old new = HasNumbersOn old on t × LinesChange on (GoDown (option_to_list t.confirm)) (taken_on old on t) new
 MasterReceives on (Err fault) old new = new ≡ old
 
 abbrev pub MasterTakes : Link → List (List ℕ) → System → System → Type 0

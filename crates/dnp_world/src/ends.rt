@@ -13,7 +13,7 @@ ghost use Rattle.dnp_concentrator.specs.Concentrator.{above_of, links_of, queue_
 ghost use Rattle.dnp_master.specs.Calls.{receive_of};
 ghost use Rattle.dnp_world.specs.Channels.{HavePerformed, TakesStep};
 ghost use Rattle.dnp_world.specs.MasterEnds.{TakesIn};
-ghost use Rattle.dnp_world.specs.SystemEvents.{centre_taken, concentrator_taken, dropped_for};
+ghost use Rattle.dnp_world.specs.SystemEvents.{HasNumbers, centre_taken, concentrator_taken, dropped_for};
 ghost use Rattle.dnp_world.specs.SystemParts.{centre_of, concentrator_of};
 
 use crate::stopped::Cause;
@@ -202,7 +202,7 @@ impl<Q: Lanes, B: Book> MasterEnd for Concentrator<Q, B> {
 
     ghost honest = { λ c. Q.honest (queue_of c) × IsBookWell B.honest B.is_stopped c };
 
-    ghost takes = { λ old link t new. concentrator_of Q.contents B.contents new ≡ concentrator_taken (concentrator_of Q.contents B.contents old) link t };
+    ghost takes = { λ old link t new. HasNumbers (concentrator_of Q.contents B.contents old) link t × (concentrator_of Q.contents B.contents new ≡ concentrator_taken (concentrator_of Q.contents B.contents old) link t) };
 
     ghost drops = { λ c link t. dropped_for (concentrator_of Q.contents B.contents c) link t };
 
