@@ -4,7 +4,7 @@ use Rattle.std.specs.Prelude.{⊤}
 use Rattle.dnp_concentrator.specs.PointsAbove.{HasClassesOf}
 use Rattle.dnp_concentrator.specs.Relaying as relaying
 use Rattle.dnp_concentrator.specs.Relaying.{Relaying}
-use Rattle.dnp_eventbuf.specs.Stock.{Stock, lost_in, row_of}
+use Rattle.dnp_eventbuf.specs.Stock.{lost_in, row_of}
 use Rattle.dnp_master.specs.Calls.{ask_answer, asked_by}
 use Rattle.dnp_master.specs.declared.fault.AskFault.{AskFault}
 use Rattle.dnp_master.specs.declared.task.Task.{Task}
@@ -14,21 +14,19 @@ use Rattle.dnp_outstation.specs.Calls.{opened_of, tick_of}
 use Rattle.dnp_outstation.specs.Connection.{closed}
 use Rattle.dnp_outstation.specs.Links.{ReleasesNone}
 use Rattle.dnp_outstation.specs.State.{State, Step}
-use Rattle.dnp_pointdb.specs.Database.{Database}
 use Rattle.dnp_world.specs.declared.event.Link.TheVariants as link
 use Rattle.dnp_world.specs.declared.link_event.End.TheVariants as end
 use Rattle.dnp_world.specs.declared.link_event.LinkEvent.{LinkEvent}
 use Rattle.dnp_world.specs.declared.link_event.LinkEvent.TheVariants as event
 use Rattle.dnp_world.specs.declared.link_event.Way.{Way}
 use Rattle.dnp_world.specs.declared.link_event.Way.TheVariants as way
-use Rattle.dnp_world.specs.Behind.{rows_of}
 use Rattle.dnp_world.specs.Channels.{ChannelState, DamagesAt, GoDown, cleared, hung_up_at, lost_at}
 use Rattle.dnp_world.specs.Joined.{rows_made_by}
-use Rattle.dnp_world.specs.OneLinkEvents.{AsksBy, AsksIfOwn, HappensOn, LinkState, Steps, is_own, opening}
+use Rattle.dnp_world.specs.OneLinkEvents.{AsksBy, AsksIfOwn, HappensOn, LinkState, Steps, is_own}
 use Rattle.dnp_world.specs.Systems.{System, middle_of, middle_panel}
 use Rattle.dnp_world.specs.SystemEvents.{AsksOn, HangsUpOn, LinesChange, LosesOn, MasterTicks, MiddleSteps, OpensOn, OutstationTicks, request_of}
 use Rattle.dnp_world.specs.SystemStanding.{RowLists, lists_of, no_sink, seen, seen_above, IsStanding, Keeps}
-use Rattle.dnp_world.proofs.AboveKeeps.{Above, above_keeps, changed_above, lists_above}
+use Rattle.dnp_world.proofs.AboveKeeps.{Above, above_keeps, changed_above}
 use Rattle.dnp_world.proofs.BelowCalls.{none_goes, one_goes}
 use Rattle.dnp_world.proofs.BelowKeeps.{Grounds}
 use Rattle.dnp_world.proofs.Issuing.{same_keeps}

@@ -1,21 +1,20 @@
 -- An event on the link between concentrator and centre, at which no command is performed, keeps what stands behind the system.
-use Rattle.std.proofs.Common.{◌≡◌, ℕ, List, [], ◌∷◌, ◌++◌, length, drop, map, refl, sym, ap, ◌∙◌, subst, append-nil, arith}
+use Rattle.std.proofs.Common.{◌≡◌, ℕ, List, [], ◌∷◌, ◌++◌, length, drop, map, refl, sym, subst, append-nil, arith}
 use Rattle.std.specs.Prelude.{slice_get, IfSome, ⊤}
 use Rattle.std.proofs.lemmas.List.{drop_all}
 use Rattle.dnp_concentrator.specs.Below.{link_in}
 use Rattle.dnp_concentrator.specs.PointsAbove.{HasClassesOf}
 use Rattle.dnp_concentrator.specs.Relaying.{Relaying}
-use Rattle.dnp_controls.specs.Panel.{Panel}
 use Rattle.dnp_eventbuf.specs.Archive.{Archive}
 use Rattle.dnp_eventbuf.specs.Stock.{Stock, lost_in, row_of}
 use Rattle.dnp_objects.specs.declared.command.Command.{Command}
 use Rattle.dnp_objects.specs.declared.row.Row.{Row}
 use Rattle.dnp_outstation.specs.State.{Core}
 use Rattle.dnp_world.specs.declared.link_event.LinkEvent.{LinkEvent}
-use Rattle.dnp_world.specs.Behind.{does_nothing, rows_of, with_links, Does, Grows, Turn}
+use Rattle.dnp_world.specs.Behind.{does_nothing, rows_of, with_links, Grows, Turn}
 use Rattle.dnp_world.specs.Channels.{ChannelState}
-use Rattle.dnp_world.specs.Joined.{Follows, Joined, rows_made_by}
-use Rattle.dnp_world.specs.Kept.{commands_below, kept_in, orders_in, used_commands, used_orders}
+use Rattle.dnp_world.specs.Joined.{Follows, rows_made_by}
+use Rattle.dnp_world.specs.Kept.{kept_in, orders_in, used_commands, used_orders}
 use Rattle.dnp_world.specs.Link.{Link}
 use Rattle.dnp_world.specs.OneLinkEvents.{LinkState, HappensOn}
 use Rattle.dnp_world.specs.OutstationSeen.{ShowOctets}

@@ -1,6 +1,6 @@
 -- What comes to the centre keeps what stands behind the system: the rows that it takes come into its journal.
 use Rattle.std.proofs.Common.{◌≡◌, ℕ, ◌+◌, List, [], ◌∷◌, ◌++◌, map, Result, Ok, Err, refl, sym, ap, ◌∙◌, subst, append-nil}
-use Rattle.std.specs.Prelude.{option_to_list, ⊤}
+use Rattle.std.specs.Prelude.{⊤}
 use Rattle.std.proofs.lemmas.List.{map-append}
 use Rattle.dnp_concentrator.specs.Relaying as relaying
 use Rattle.dnp_controls.specs.Panel.{Panel}

@@ -1,8 +1,7 @@
 -- The commands that a master's tasks ask for.
 use Rattle.std.proofs.Common.{◌≡◌, ℕ, Bool, true, false, if◌then◌else◌, List, [], ◌∷◌, Result, Ok, Err, refl, ap}
 use Rattle.std.specs.List.{flat_map}
-use Rattle.dnp_objects.specs.declared.command.Command.{Command}
-use Rattle.dnp_appfragment.specs.Control.{ControlBits, control_octet}
+use Rattle.dnp_appfragment.specs.Control.{control_octet}
 use Rattle.dnp_appfragment.specs.Fragments.{Asked, request_octets}
 use Rattle.dnp_appfragment.specs.Headers.{Head, spelled}
 use Rattle.dnp_appfragment.specs.Meaning.{control_of, request_at}

@@ -1,8 +1,8 @@
 -- Calls of a substation's master, an opening and damage, which keep what stands behind the system.
-use Rattle.std.proofs.Common.{◌≡◌, ◌≢◌, ℕ, zero, suc, ◌<◌, if◌then◌else◌, Bool, true, false, List, [], ◌∷◌, ◌++◌, length, Option, Some, Result, Ok, Err, refl, sym, ap, ◌∙◌, subst, arith}
+use Rattle.std.proofs.Common.{◌≡◌, ℕ, zero, suc, ◌<◌, if◌then◌else◌, Bool, true, false, List, [], ◌∷◌, ◌++◌, length, Some, Result, Ok, Err, refl, sym, ap, ◌∙◌, subst, arith}
 use Rattle.std.specs.Prelude.{nat_lt, slice_get, slice_set, ⊤}
 use Rattle.std.proofs.lemmas.Bool.{and_parts, ltb-true}
-use Rattle.std.proofs.lemmas.Option.{none-some, same_Some}
+use Rattle.std.proofs.lemmas.Option.{same_Some}
 use Rattle.dnp_objects.specs.declared.command.Command.{Command}
 use Rattle.dnp_objects.specs.declared.row.Row.{Row}
 use Rattle.dnp_concentrator.specs.Below.{link_in}
@@ -12,7 +12,7 @@ use Rattle.dnp_concentrator.specs.Relaying.{Relaying}
 use Rattle.dnp_concentrator.specs.declared.plan.Plan.{Plan}
 use Rattle.dnp_line.specs.Lines.{LineState}
 use Rattle.dnp_line.specs.Ports.{PortState}
-use Rattle.dnp_master.specs.Calls.{ask_answer, asked, asked_by}
+use Rattle.dnp_master.specs.Calls.{ask_answer, asked_by}
 use Rattle.dnp_master.specs.State as master
 use Rattle.dnp_master.specs.declared.fault.AskFault.{AskFault}
 use Rattle.dnp_master.specs.declared.task.Task.{Task}
@@ -20,7 +20,6 @@ use Rattle.dnp_outstation.specs.Calls.{opened_of}
 use Rattle.dnp_outstation.specs.Links.{ReleasesNone}
 use Rattle.dnp_outstation.specs.State.{State, Step}
 use Rattle.dnp_pointdb.specs.Database.{Database, lost_of}
-use Rattle.dnp_pointdb.specs.Plan as asked_points
 use Rattle.dnp_pointdb.specs.Sound as points
 use Rattle.dnp_world.specs.declared.event.Link.TheVariants.{Below}
 use Rattle.dnp_world.specs.declared.link_event.End.TheVariants as end
@@ -35,7 +34,7 @@ use Rattle.dnp_world.specs.Systems.{SubstationState, System, at_station, has_sta
 use Rattle.dnp_world.specs.SystemEvents.{AsksOn, HangsUpOn, LinesChange, MasterTicks, OpensOn, master_gone, request_of, with_link, with_lost, with_substation}
 use Rattle.dnp_world.specs.SystemStanding.{RowLists, lists_of, no_sink, points_asked, seen_below, IsStanding, Keeps}
 use Rattle.dnp_world.proofs.BelowEvents.{few_outputs, lists_as, no_performs, none_behind, quiet, quiet_with, seen_at, shown_with, stepped_on, with_both, with_released}
-use Rattle.dnp_world.proofs.BelowKeeps.{Gone, Grounds, KeepsMiddle, Middle, below_keeps, performs}
+use Rattle.dnp_world.proofs.BelowKeeps.{Gone, Grounds, KeepsMiddle, Middle, below_keeps}
 use Rattle.dnp_world.proofs.Issuing.{same_keeps}
 use Rattle.dnp_world.proofs.SystemPlans.{asked_still, link_here, link_there}
 

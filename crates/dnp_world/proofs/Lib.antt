@@ -74,3 +74,4 @@ mod NewSubstations
 mod ReportReading
 mod ReportLists
 mod SystemRounds
+mod SystemControls

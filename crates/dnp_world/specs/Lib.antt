@@ -24,3 +24,5 @@ pub mod SystemParts
 pub mod FreshSystems
 pub mod ReportShown
 pub mod Rounds
+pub mod Controls
+pub mod ControlSteps

@@ -31,6 +31,6 @@ pub use event::{Damaged, Event, Link, Place};
 pub use link_event::{End, LinkEvent, Way};
 pub use one_link::OneLink;
 pub use report::Report;
-pub use round_fault::RoundFault;
+pub use round_fault::{ControlFault, RoundFault};
 pub use stopped::{Cause, Stopped};
 pub use world::World;

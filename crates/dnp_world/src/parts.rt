@@ -20,6 +20,7 @@ use dnp_outstation::Actions;
 
 mod arrivals;
 mod calls;
+mod controls;
 mod happening;
 mod report;
 mod rounds;

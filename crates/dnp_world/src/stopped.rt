@@ -3,6 +3,7 @@
 ghost use Rattle.std.specs.Prelude.{IfNone};
 ghost use Rattle.dnp_master.specs.Sinks.{IsSinkFault};
 
+use dnp_controls::BookFault;
 use dnp_master::MasterFault;
 use dnp_objects::StoreFault;
 use dnp_outstation::Fault;
@@ -58,6 +59,17 @@ impl From<StoreFault> for Cause {
             StoreFault::Exhausted => Cause::Exhausted,
             StoreFault::Memory => Cause::Memory,
             StoreFault::Device => Cause::Device,
+        }
+    }
+}
+
+/// What a book refuses to read is a cause. What it refuses of one entry is none, and no reading is refused for it.
+impl From<BookFault> for Cause {
+    fn from(fault: BookFault) -> Cause {
+        match fault {
+            BookFault::Exhausted => Cause::Exhausted,
+            BookFault::Device => Cause::Device,
+            BookFault::NoControl | BookFault::NotPending | BookFault::Memory => Cause::Memory,
         }
     }
 }

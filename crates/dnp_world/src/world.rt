@@ -5,6 +5,7 @@ ghost use Rattle.dnp_concentrator.specs.IndexMap.{IsTooWide, Overlaps};
 ghost use Rattle.dnp_concentrator.specs.Plan.{KeepsLimits, map_of};
 ghost use Rattle.dnp_world.specs.FreshSystems.{fresh_system};
 ghost use Rattle.dnp_world.specs.ReportShown.{Shows};
+ghost use Rattle.dnp_world.specs.Controls.{ControlEnds};
 ghost use Rattle.dnp_world.specs.Rounds.{IsOfRound, IsRound, StopsIn, is_quiet_on};
 ghost use Rattle.dnp_world.specs.SystemEvents.{RunsTo, StopsAfter};
 ghost use Rattle.dnp_world.specs.SystemParts.{AreWell, controls_of, journal_of, orders_of, parts_of, queue_of, system_of};
@@ -17,7 +18,7 @@ use crate::link_event::Way;
 use crate::new_substations::new_substations;
 use crate::parts::Parts;
 use crate::report::Report;
-use crate::round_fault::RoundFault;
+use crate::round_fault::{ControlFault, RoundFault};
 use crate::stopped::{Cause, Stopped};
 use dnp_concentrator::{Centre, Concentrator, IndexMap, MapFault, Plan};
 use dnp_controls::Book;
@@ -116,6 +117,19 @@ impl<Q: Lanes, J: JournalStore, A: Book, B: Book> World<Q, J, A, B> {
         ensures stopped { AreWell Q.honest J.honest A.honest A.is_stopped B.honest B.is_stopped (parts_of self.new) → IfErr result (λ fault. fault ≢ RoundFault.NotQuiet → StopsIn (IsOfRound on) (system_of Q.contents J.archive A.contents B.contents (parts_of self.old)) (system_of Q.contents J.archive A.contents B.contents (parts_of self.new))) }
     {
         self.parts.clean_round(alloc, on)
+    }
+
+    /// The control of this id in the centre's book goes to its substation over quiet links: three steps of relaying above
+    /// and then three below. What each of the first two sends is delivered down the line, and what comes of it up.
+    ///
+    /// Refused is, first of all, a link on its way that isn't quiet (`NotQuiet`), and then a control that isn't the centre's
+    /// next one, or one that another is before, at the centre or at the concentrator (`NotNext`). A status other than
+    /// SUCCESS ends it (`Refused`), and so does an event that stops (`Fault`): the events before that happened.
+    pub fn clean_control(&mut self, alloc: Global, id: u64) -> Result<(), ControlFault>
+        ensures held { AreWell Q.honest J.honest A.honest A.is_stopped B.honest B.is_stopped (parts_of self.new) → AreWell Q.honest J.honest A.honest A.is_stopped B.honest B.is_stopped (parts_of self.old) }
+        ensures ends { AreWell Q.honest J.honest A.honest A.is_stopped B.honest B.is_stopped (parts_of self.new) → ControlEnds id (system_of Q.contents J.archive A.contents B.contents (parts_of self.old)) result (system_of Q.contents J.archive A.contents B.contents (parts_of self.new)) }
+    {
+        self.parts.clean_control(alloc, id)
     }
 
     /// What became of all rows and commands so far. It changes nothing.

@@ -1,0 +1,87 @@
+-- Controls: what was done on their way, and where they stop.
+use Rattle.std.proofs.Common.{◌≡◌, ℕ, Option, Result, Ok, Err, inl, inr, refl, subst}
+use Rattle.std.specs.Prelude.{IfErr, OnOk, ⊤}
+use Rattle.dnp_world.specs.ControlSteps.{EndsBy}
+use Rattle.dnp_world.specs.Controls.{CanGo, ControlEnds, IsAccepted, IsControlFor, IsOfControl, IsRefusedFor, IsRefusedOn, Passes, PassesBack, station_in}
+use Rattle.dnp_world.specs.Rounds.{Flushes, StopsIn}
+use Rattle.dnp_world.specs.SystemEvents.{CountsFor, IsKept}
+use Rattle.dnp_world.specs.Systems.{System}
+use Rattle.dnp_world.specs.declared.event.Event.{Event}
+use Rattle.dnp_world.specs.declared.event.Event.TheVariants.{Deliver, Relay}
+use Rattle.dnp_world.specs.declared.event.Link.{Link}
+use Rattle.dnp_world.specs.declared.event.Link.TheVariants.{Above}
+use Rattle.dnp_world.specs.declared.link_event.Way.{Way}
+use Rattle.dnp_world.specs.declared.link_event.Way.TheVariants.{Down, Up}
+use Rattle.dnp_world.specs.declared.round_fault.ControlFault.{ControlFault}
+use Rattle.dnp_world.specs.declared.round_fault.ControlFault.TheVariants.{NotQuiet, NotNext, Refused, Fault}
+use Rattle.dnp_world.proofs.SystemRounds.{Ran, ran_both, ran_flush, ran_one, stops_after, stops_at}
+use Rattle.dnp_world.proofs.SystemRuns.{is_kept}
+
+-- ---- what was done
+
+pub ran_step : (on : Link) (id : Option ℕ) (old new : System) → Passes on id old new → Ran IsOfControl old new
+ran_step on id old new p = ran_one IsOfControl old new (Relay on) (on, inl refl) p.relays
+
+pub ran_flushed : (on : Link) (way : Way) (old new : System) → Flushes on way old new → Ran IsOfControl old new
+ran_flushed on way old new flushes = ran_flush IsOfControl on way old new (on, inr (way, refl)) flushes
+
+pub ran_back : (on : Link) (id : Option ℕ) (old new : System) → PassesBack on id old new → Ran IsOfControl old new
+ran_back on id old new p =
+    ran_both IsOfControl old p.answered new
+    (ran_both IsOfControl old p.relayed p.answered (ran_step on id old p.relayed p.step) (ran_flushed on Down p.relayed p.answered p.down))
+    (ran_flushed on Up p.answered new p.up)
+
+pub ran_twice : (on : Link) (id : Option ℕ) (old mid new : System) → PassesBack on id old mid → PassesBack on id mid new → Ran IsOfControl old new
+ran_twice on id old mid new first second = ran_both IsOfControl old mid new (ran_back on id old mid first) (ran_back on id mid new second)
+
+pub ran_accepted : (on : Link) (id : Option ℕ) (old new : System) → IsAccepted on id old new → Ran IsOfControl old new
+ran_accepted on id old new p =
+    ran_both IsOfControl old p.operated new (ran_twice on id old p.selected p.operated p.selects p.operates) (ran_step on id p.operated new p.finishes)
+
+-- ---- where it stopped
+
+-- at a step of relaying
+pub stops_relaying : (on : Link) (old kept new : System) → IsKept old kept → CountsFor kept (Relay on) new → StopsIn IsOfControl old new
+stops_relaying on old kept new keeps counts = stops_at IsOfControl old kept new (Relay on) (on, inl refl) refl keeps counts
+
+-- nothing has happened: it stopped before its next step
+pub stops_still : (old new : System) → new ≡ old → StopsIn IsOfControl old new
+stops_still old new is = stops_relaying Above old new new (is_kept old new is) refl
+
+pub stops_behind : (old mid new : System) → Ran IsOfControl old mid → StopsIn IsOfControl mid new → StopsIn IsOfControl old new
+stops_behind old mid new first s = stops_after IsOfControl IsOfControl old mid new (λ e is. is) first s
+
+pub stops_delivering : (on : Link) (way : Way) (old mid new : System) → Ran IsOfControl old mid → StopsIn (λ (e : Event). e ≡ Deliver on way) mid new
+    → StopsIn IsOfControl old new
+stops_delivering on way old mid new first s =
+    stops_after IsOfControl (λ (e : Event). e ≡ Deliver on way) old mid new (λ e is. (on, inr (way, is))) first s
+
+-- ---- how it ended
+
+-- what ends a part of the way ends the whole
+pub ends_of : (Refusal Whole : ℕ → Type 0) (Stop Stopped : Type 0) (fault : ControlFault) → ((status : ℕ) → Refusal status → Whole status)
+    → (Stop → Stopped) → EndsBy Refusal Stop fault → EndsBy Whole Stopped fault
+ends_of Refusal Whole Stop Stopped NotQuiet refusal stop ends = ends
+ends_of Refusal Whole Stop Stopped NotNext refusal stop ends = ends
+ends_of Refusal Whole Stop Stopped (Refused status) refusal stop ends = refusal status ends
+ends_of Refusal Whole Stop Stopped (Fault cause) refusal stop ends = stop ends
+
+-- a part of the way from the same system, of the same control
+pub accepted_from : (on : Link) (its id : Option ℕ) (old mid new : System) → mid ≡ old → its ≡ id → IsAccepted on its mid new → IsAccepted on id old new
+accepted_from on its id old mid new same is accepted =
+    subst (λ (s : System). IsAccepted on id s new) same (subst (λ (x : Option ℕ). IsAccepted on x mid new) is accepted)
+
+pub refused_from : (on : Link) (its id : Option ℕ) (status : ℕ) (old mid new : System) → mid ≡ old → its ≡ id → IsRefusedOn on its status mid new
+    → IsRefusedOn on id status old new
+refused_from on its id status old mid new same is refused =
+    subst (λ (s : System). IsRefusedOn on id status s new) same (subst (λ (x : Option ℕ). IsRefusedOn on x status mid new) is refused)
+
+-- how the whole way ends is how the call ends
+pub control_of : (id : ℕ) (station : Option ℕ) (old new : System) (result : Result ⊤ ControlFault) → CanGo id old → station ≡ station_in old id
+    → OnOk result (IsControlFor station id old new)
+    → IfErr result (EndsBy (λ (status : ℕ). IsRefusedFor station id status old new) (StopsIn IsOfControl old new)) → ControlEnds id old result new
+control_of id station old new (Ok done) can is whole ended = (can, subst (λ (x : Option ℕ). IsControlFor x id old new) is whole)
+control_of id station old new (Err NotQuiet) can is whole ended = absurd ended
+control_of id station old new (Err NotNext) can is whole ended = absurd ended
+control_of id station old new (Err (Refused status)) can is whole ended = (can, subst (λ (x : Option ℕ). IsRefusedFor x id status old new) is ended)
+control_of id station old new (Err (Fault cause)) can is whole ended = ended

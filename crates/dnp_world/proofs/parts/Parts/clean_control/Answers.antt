@@ -1,0 +1,47 @@
+-- The control goes, or a book can't be read before it does.
+use Rattle.std.proofs.Common.{◌≡◌, true, rules, sym, ◌∙◌, subst}
+use Rattle.std.specs.Prelude.{Option, ℕ}
+use Rattle.std.proofs.lemmas.Result.{err_from_is_err_and}
+use Rattle.dnp_world.specs.Controls.{CanGo, ControlEnds, are_quiet_for, is_next_for, station_in}
+use Rattle.dnp_world.specs.SystemParts.{system_of}
+use Rattle.dnp_world.specs.Systems.{System}
+use Rattle.dnp_world.proofs.SystemControls.{control_of, stops_still}
+use Rattle.dnp_world.proofs.parts.Parts.clean_control.Goals as goal
+
+pub returns-in_err-station-clause-ends : goal.returns-in_err-station-clause-ends
+returns-in_err-station-clause-ends g c = λ well.
+    let system = system_of g.Q.Lanes.contents g.J.JournalStore.archive g.A.Book.contents g.B.Book.contents in
+    let p = err_from_is_err_and c.from_residual.result c.from_residual.ensures.1 in
+    rw (p.1, p.2) (stops_still (system c.args.self.now) (system c.station_of.new.self) (c.station_of.ensures.same well))
+
+pub returns-in_err-is_next-clause-ends : goal.returns-in_err-is_next-clause-ends
+returns-in_err-is_next-clause-ends g c = λ well.
+    let system = system_of g.Q.Lanes.contents g.J.JournalStore.archive g.A.Book.contents g.B.Book.contents in
+    let p = err_from_is_err_and c.from_residual-in_err-is_next.result c.from_residual-in_err-is_next.ensures.1 in
+    rw (p.1, p.2)
+    (stops_still (system c.args.self.now) (system c.is_next.new.self)
+    (c.is_next.ensures.same well ∙ c.station_of.ensures.same (c.is_next.ensures.held well)))
+
+pub returns-clause-ends : goal.returns-clause-ends
+returns-clause-ends g c = λ well.
+    let system = system_of g.Q.Lanes.contents g.J.JournalStore.archive g.A.Book.contents g.B.Book.contents in
+    let id = c.args.id in
+    let station = c.in_ok-station.station in
+    let old = system c.args.self.now in
+    let found = system c.station_of.new.self in
+    let read = system c.is_next.new.self in
+    let new = system c.relay_all.new.self in
+    let before = c.relay_all.ensures.held well in
+    let first = c.is_next.ensures.held before in
+    let was : found ≡ old = c.station_of.ensures.same first in
+    let same : read ≡ old = c.is_next.ensures.same before ∙ was in
+    let is : station ≡ station_in old id = c.in_ok-station.ensures.value first in
+    let quiet : are_quiet_for found station ≡ true = sym c.are_quiet.ensures ∙ search rules in
+    let next : is_next_for found id station ≡ true = sym (c.in_ok-is_next.ensures.value before) ∙ search rules in
+    let can : CanGo id old = (
+      subst (λ (s : System). are_quiet_for s (station_in old id) ≡ true) was (subst (λ (x : Option ℕ). are_quiet_for found x ≡ true) is quiet),
+      subst (λ (s : System). is_next_for s id (station_in old id) ≡ true) was (subst (λ (x : Option ℕ). is_next_for found id x ≡ true) is next),
+    ) in
+    subst (λ (s : System). ControlEnds id s c.relay_all.result new) same
+    (control_of id station read new c.relay_all.result (subst (CanGo id) (sym same) can)
+    (subst (λ (s : System). station ≡ station_in s id) (sym same) is) (c.relay_all.ensures.done well) (c.relay_all.ensures.ended well))

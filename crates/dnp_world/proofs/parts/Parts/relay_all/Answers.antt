@@ -1,0 +1,74 @@
+-- The way above, and then the way below, or where one of them ends.
+use Rattle.std.proofs.Common.{◌≡◌, ℕ, Some, subst}
+use Rattle.std.proofs.lemmas.Result.{err_from_is_err_and}
+use Rattle.dnp_world.specs.Controls.{IsOfControl, IsRefusedFor, IsRefusedOn, AtCentre, AtConcentrator, next_below}
+use Rattle.dnp_world.specs.Rounds.{StopsIn}
+use Rattle.dnp_world.specs.SystemParts.{system_of}
+use Rattle.dnp_world.specs.Systems.{System}
+use Rattle.dnp_world.specs.declared.event.Link.TheVariants.{Below, Above}
+use Rattle.dnp_world.proofs.SystemControls.{accepted_from, ends_of, ran_accepted, refused_from, stops_behind, stops_still}
+use Rattle.dnp_world.proofs.parts.Parts.relay_all.Goals as goal
+
+pub returns-in_err-relay_through-clause-ended : goal.returns-in_err-relay_through-clause-ended
+returns-in_err-relay_through-clause-ended g c = λ well.
+    let system = system_of g.Q.Lanes.contents g.J.JournalStore.archive g.A.Book.contents g.B.Book.contents in
+    let id = c.args.id in
+    let station = c.args.station in
+    let old = system c.args.self.now in
+    let new = system c.relay_through.new.self in
+    let p = err_from_is_err_and c.from_residual.result c.from_residual.ensures.1 in
+    rw (p.1, p.2)
+    (ends_of (λ (status : ℕ). IsRefusedOn Above (Some id) status old new) (λ (status : ℕ). IsRefusedFor station id status old new)
+    (StopsIn IsOfControl old new) (StopsIn IsOfControl old new) c.in_err-relay_through.field-0.0 (λ status refused. AtCentre refused) (λ s. s)
+    (c.in_err-relay_through.ensures.ended well))
+
+pub returns-in_err-queued-clause-ended : goal.returns-in_err-queued-clause-ended
+returns-in_err-queued-clause-ended g c = λ well.
+    let system = system_of g.Q.Lanes.contents g.J.JournalStore.archive g.A.Book.contents g.B.Book.contents in
+    let old = system c.args.self.now in
+    let above = system c.relay_through.new.self in
+    let new = system c.next_below.new.self in
+    let p = err_from_is_err_and c.from_residual-in_err-queued.result c.from_residual-in_err-queued.ensures.1 in
+    rw (p.1, p.2)
+    (stops_behind old above new (ran_accepted Above (Some c.args.id) old above (c.in_ok-relay_through.ensures.done (c.next_below.ensures.held well)))
+    (stops_still above new (c.next_below.ensures.same well)))
+
+pub returns-in_err-relay_through-2-clause-ended : goal.returns-in_err-relay_through-2-clause-ended
+returns-in_err-relay_through-2-clause-ended g c = λ well.
+    let system = system_of g.Q.Lanes.contents g.J.JournalStore.archive g.A.Book.contents g.B.Book.contents in
+    let id = c.args.id in
+    let station = c.args.station in
+    let its = c.in-Some.station in
+    let queued = c.in_ok-queued.queued in
+    let old = system c.args.self.now in
+    let above = system c.relay_through.new.self in
+    let read = system c.next_below.new.self in
+    let new = system c.relay_through-2.new.self in
+    let before = c.relay_through-2.ensures.held well in
+    let first = c.in_ok-relay_through.ensures.done (c.next_below.ensures.held before) in
+    let same : read ≡ above = c.next_below.ensures.same before in
+    let is : queued ≡ next_below above its = c.in_ok-queued.ensures.value before in
+    let p = err_from_is_err_and c.from_residual-in_err-relay_through-2.result c.from_residual-in_err-relay_through-2.ensures.1 in
+    rw (p.1, p.2)
+    (ends_of (λ (status : ℕ). IsRefusedOn (Below its) queued status read new) (λ (status : ℕ). IsRefusedFor station id status old new)
+    (StopsIn IsOfControl read new) (StopsIn IsOfControl old new) c.in_err-relay_through-2.field-0.0
+    (λ status refused. AtConcentrator its above c.in-Some.is first (refused_from (Below its) queued (next_below above its) status above read new same is refused))
+    (λ stops. stops_behind old above new (ran_accepted Above (Some id) old above first)
+    (subst (λ (s : System). StopsIn IsOfControl s new) same stops)) (c.in_err-relay_through-2.ensures.ended well))
+
+pub returns-clause-done : goal.returns-clause-done
+returns-clause-done g c = λ well.
+    let system = system_of g.Q.Lanes.contents g.J.JournalStore.archive g.A.Book.contents g.B.Book.contents in
+    let its = c.in-Some.station in
+    let queued = c.in_ok-queued.queued in
+    let above = system c.relay_through.new.self in
+    let read = system c.next_below.new.self in
+    let new = system c.relay_through-2.new.self in
+    let before = c.relay_through-2.ensures.held well in
+    let same : read ≡ above = c.next_below.ensures.same before in
+    let is : queued ≡ next_below above its = c.in_ok-queued.ensures.value before in
+    rw c.in-Some.is (
+      above,
+      c.in_ok-relay_through.ensures.done (c.next_below.ensures.held before),
+      accepted_from (Below its) queued (next_below above its) above read new same is (c.in_ok-relay_through-2.ensures.done well),
+    )

@@ -1,0 +1,153 @@
+-- Definition: clean controls: the steps that relay a control over quiet links, with all that comes of them delivered (IEEE Std
+-- 1815-2012, application layer: SELECT and OPERATE, each a request and its response).
+use Rattle.std.specs.Prelude.{◌≡◌, ◌≢◌, ℕ, ◌-◌, Bool, true, false, ◌&&◌, ◌==◌, if◌then◌else◌, ◌⊎◌, is_none, List, [], ◌∷◌, Option, Some, None, Result, Ok, Err, ⊤}
+use Rattle.std.specs.Option.{option_map, option_and_then}
+use Rattle.dnp_controls.specs.Book.{next_of, rows_of}
+use Rattle.dnp_controls.specs.declared.book.Entry.{Entry}
+use Rattle.dnp_controls.specs.declared.book.State.{State}
+use Rattle.dnp_controls.specs.declared.book.State.TheVariants.{Pending, Spent, Finished}
+use Rattle.dnp_concentrator.specs.Mapped.{command_below}
+use Rattle.dnp_concentrator.specs.declared.progress.Progress.{Progress}
+use Rattle.dnp_objects.specs.Status.{success}
+use Rattle.dnp_world.specs.Rounds.{Flushes, StopsIn, is_quiet_on}
+use Rattle.dnp_world.specs.SystemEvents.{Happens, entries_on}
+use Rattle.dnp_world.specs.Systems.{System, link_at}
+use Rattle.dnp_world.specs.declared.event.Event.{Event}
+use Rattle.dnp_world.specs.declared.event.Event.TheVariants.{Deliver, Relay}
+use Rattle.dnp_world.specs.declared.event.Link.{Link}
+use Rattle.dnp_world.specs.declared.event.Link.TheVariants.{Below, Above}
+use Rattle.dnp_world.specs.declared.link_event.Way.{Way}
+use Rattle.dnp_world.specs.declared.link_event.Way.TheVariants.{Down, Up}
+use Rattle.dnp_world.specs.declared.round_fault.ControlFault.{ControlFault}
+use Rattle.dnp_world.specs.declared.round_fault.ControlFault.TheVariants as control
+
+-- ---- what a book says of a control
+
+-- the first of the entries, if it has this id
+abbrev pub first_with : ℕ → List Entry → Option Entry
+first_with id [] = None
+first_with id (entry ∷ entries) = if entry.id == id then Some entry else None
+
+-- the entry of this id, where ids rise: the first from it on
+abbrev pub found_in : List Entry → ℕ → Option Entry
+found_in entries id = first_with id (rows_of entries (id - 1) 1)
+
+-- the substation that a control of the centre's book is for
+abbrev pub station_in : System → ℕ → Option ℕ
+station_in s id = option_and_then (λ entry. option_map (λ p. p.0) (command_below s.indices entry.command)) (found_in s.centre.orders.entries id)
+
+abbrev pub status_in : State → Option ℕ
+status_in Pending = None
+status_in Spent = None
+status_in (Finished status) = Some status
+
+-- the status with which the book that keeps the controls of the link says that this one finished
+abbrev pub status_on : System → Link → Option ℕ → Option ℕ
+status_on s on None = None
+status_on s on (Some id) = option_and_then (λ entry. status_in entry.state) (found_in (entries_on s on) id)
+
+-- the id of the control that the concentrator sends to the substation next
+abbrev pub next_below : System → ℕ → Option ℕ
+next_below s station = option_map (λ entry. entry.id) (next_of s.concentrator.controls.entries station)
+
+-- ---- a control that can go at once
+
+-- both links on its way are quiet
+abbrev pub are_quiet_for : System → Option ℕ → Bool
+are_quiet_for s None = is_quiet_on s Above
+are_quiet_for s (Some station) = is_quiet_on s Above && is_quiet_on s (Below station)
+
+abbrev pub is_entry : ℕ → Option Entry → Bool
+is_entry id None = false
+is_entry id (Some entry) = entry.id == id
+
+-- none is in progress, or this one
+abbrev pub is_free_for : ℕ → Option Progress → Bool
+is_free_for id None = true
+is_free_for id (Some p) = p.id == id
+
+-- the concentrator has none pending or in progress for the substation
+abbrev pub is_free_below : System → Option ℕ → Bool
+is_free_below s None = true
+is_free_below s (Some station) = is_none (next_below s station) && is_none (link_at s.concentrator station).progress
+
+-- a control for this station is the centre's next one, and no other is before it
+abbrev pub is_next_for : System → ℕ → Option ℕ → Bool
+is_next_for s id station = is_entry id (next_of s.centre.orders.entries 0) && (is_free_for id s.centre.link.progress && is_free_below s station)
+
+abbrev pub is_next : System → ℕ → Bool
+is_next s id = is_next_for s id (station_in s id)
+
+abbrev pub CanGo : ℕ → System → Type 0
+CanGo id s = (are_quiet_for s (station_in s id) ≡ true) × (is_next s id ≡ true)
+
+-- ---- a control that goes all the way
+
+-- a step of relaying over the link, after which the control has finished with no status other than SUCCESS
+pub record Passes (on : Link) (id : Option ℕ) (old new : System) : Type 0 where
+  pub relays : Happens old (Relay on) new
+  pub passes : (status : ℕ) → status_on new on id ≡ Some status → status ≡ success
+
+-- such a step, and what comes of it there and back
+pub record PassesBack (on : Link) (id : Option ℕ) (old new : System) : Type 0 where
+  pub relayed : System
+  pub answered : System
+  pub step : Passes on id old relayed
+  pub down : Flushes on Down relayed answered
+  pub up : Flushes on Up answered new
+
+-- three steps: the SELECT, the OPERATE, and what became of it
+pub record IsAccepted (on : Link) (id : Option ℕ) (old new : System) : Type 0 where
+  pub selected : System
+  pub operated : System
+  pub selects : PassesBack on id old selected
+  pub operates : PassesBack on id selected operated
+  pub finishes : Passes on id operated new
+
+-- above, and then below where the control is for a substation, for which the concentrator has it under an id of its own
+abbrev pub IsControlFor : Option ℕ → ℕ → System → System → Type 0
+IsControlFor None id old new = IsAccepted Above (Some id) old new
+IsControlFor (Some station) id old new =
+    (above : System) × IsAccepted Above (Some id) old above × IsAccepted (Below station) (next_below above station) above new
+
+abbrev pub IsControl : ℕ → System → System → Type 0
+IsControl id old new = IsControlFor (station_in old id) id old new
+
+-- ---- a control that a status ends
+
+-- a step of relaying told that the control finished with a status other than SUCCESS
+pub record IsTold (on : Link) (id : Option ℕ) (status : ℕ) (old new : System) : Type 0 where
+  pub relays : Happens old (Relay on) new
+  pub says : status_on new on id ≡ Some status
+  pub other : status ≢ success
+
+-- one of the three steps over the link told that
+pub data IsRefusedOn (on : Link) (id : Option ℕ) (status : ℕ) (old new : System) : Type 0 where
+  First : IsTold on id status old new → IsRefusedOn on id status old new
+  Second : (selected : System) → PassesBack on id old selected → IsTold on id status selected new → IsRefusedOn on id status old new
+  Third : (selected operated : System) → PassesBack on id old selected → PassesBack on id selected operated → IsTold on id status operated new
+      → IsRefusedOn on id status old new
+
+-- over the link above, or else over the one to its substation
+pub data IsRefusedFor (station : Option ℕ) (id status : ℕ) (old new : System) : Type 0 where
+  AtCentre : IsRefusedOn Above (Some id) status old new → IsRefusedFor station id status old new
+  AtConcentrator : (its : ℕ) (above : System) → station ≡ Some its → IsAccepted Above (Some id) old above
+      → IsRefusedOn (Below its) (next_below above its) status above new → IsRefusedFor station id status old new
+
+abbrev pub IsRefusedControl : ℕ → ℕ → System → System → Type 0
+IsRefusedControl id status old new = IsRefusedFor (station_in old id) id status old new
+
+-- ---- how a call ends
+
+-- an event on a control's way
+abbrev pub IsOfControl : Event → Type 0
+IsOfControl event = (on : Link) × ((event ≡ Relay on) ⊎ ((way : Way) × (event ≡ Deliver on way)))
+
+-- Refused is, first of all, a link on its way that isn't quiet, and then a control that isn't next; nothing has happened. Else it
+-- goes all the way, or a status ends it, or a store, or a request for memory, refuses.
+abbrev pub ControlEnds : ℕ → System → Result ⊤ ControlFault → System → Type 0
+ControlEnds id old (Ok done) new = CanGo id old × IsControl id old new
+ControlEnds id old (Err control.NotQuiet) new = (are_quiet_for old (station_in old id) ≡ false) × (new ≡ old)
+ControlEnds id old (Err control.NotNext) new = (are_quiet_for old (station_in old id) ≡ true) × (is_next old id ≡ false) × (new ≡ old)
+ControlEnds id old (Err (control.Refused status)) new = CanGo id old × IsRefusedControl id status old new
+ControlEnds id old (Err (control.Fault cause)) new = StopsIn IsOfControl old new

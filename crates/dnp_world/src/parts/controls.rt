@@ -1,0 +1,274 @@
+//! A control on its way from the centre to its substation, over quiet links.
+
+ghost use Rattle.std.specs.Prelude.{◌≡◌, true, false, IfErr, IfOk, IfSome, OnOk, ℕ};
+ghost use Rattle.std.specs.Option.{option_and_then, option_map};
+ghost use Rattle.dnp_controls.specs.Book.{next_of};
+ghost use Rattle.dnp_world.specs.ControlSteps.{EndsBy};
+ghost use Rattle.dnp_world.specs.Controls.{ControlEnds, IsAccepted, IsControlFor, IsOfControl, IsRefusedFor, IsRefusedOn, IsTold, Passes, PassesBack, are_quiet_for, first_with, found_in, is_free_below, is_next_for, next_below, station_in, status_in, status_on};
+ghost use Rattle.dnp_world.specs.Rounds.{StopsIn};
+ghost use Rattle.dnp_world.specs.SystemParts.{AreWell, system_of};
+ghost use Rattle.dnp_world.specs.Systems.{has_station};
+
+use super::Parts;
+use crate::event::{Event, Link};
+use crate::link_event::Way;
+use crate::round_fault::ControlFault;
+use crate::stopped::Cause;
+use dnp_controls::{Book, Entry, State};
+use dnp_eventbuf::{JournalStore, Lanes};
+use dnp_objects::Status;
+use std::alloc::Global;
+
+/// The target of all controls in the centre's book: the station below.
+const STATION_BELOW: u8 = 0;
+
+/// The first of the rows, if it is the entry of this id.
+fn first_with(rows: &[Entry], id: u64) -> Option<Entry>
+    ensures { result ≡ first_with id rows.now }
+{
+    let entry = rows.first()?;
+    if entry.id == id { Some(*entry) } else { None }
+}
+
+/// The entry of this id, if the book has it.
+fn entry_with<B: Book>(alloc: Global, book: &mut B, id: u64) -> Result<Option<Entry>, Cause>
+    ensures held { B.honest book.new → B.honest book.old }
+    ensures runs { B.honest book.new → B.is_stopped book.old ≡ false }
+    ensures same { B.honest book.new → B.contents book.new ≡ B.contents book.old }
+    ensures value { B.honest book.new → IfOk result (λ entry. entry ≡ found_in (B.contents book.old).entries id) }
+{
+    let rows = book.rows(alloc, id.saturating_sub(1), 1)?;
+    Ok(first_with(&rows, id))
+}
+
+/// The pending entry of the least id for a target, if the book has one.
+fn next_for<B: Book>(alloc: Global, book: &mut B, target: u8) -> Result<Option<Entry>, Cause>
+    ensures held { B.honest book.new → B.honest book.old }
+    ensures runs { B.honest book.new → B.is_stopped book.old ≡ false }
+    ensures same { B.honest book.new → B.contents book.new ≡ B.contents book.old }
+    ensures value { B.honest book.new → IfOk result (λ entry. entry ≡ next_of (B.contents book.old).entries target) }
+{
+    Ok(book.next(alloc, target)?)
+}
+
+/// The id of the entry.
+fn id_of(entry: Option<Entry>) -> Option<u64>
+    ensures { result ≡ option_map (λ e. e.id) entry }
+{
+    match entry {
+        Some(entry) => Some(entry.id),
+        None => None,
+    }
+}
+
+/// The status with which a control finished.
+fn finished_with(state: State) -> Option<Status>
+    ensures { result ≡ status_in state }
+{
+    match state {
+        State::Finished(status) => Some(status),
+        State::Pending | State::Spent => None,
+    }
+}
+
+/// The status with which the entry finished.
+fn status_of(entry: Option<Entry>) -> Option<Status>
+    ensures { result ≡ option_and_then (λ e. status_in e.state) entry }
+{
+    match entry {
+        Some(entry) => finished_with(entry.state),
+        None => None,
+    }
+}
+
+impl<Q: Lanes, J: JournalStore, A: Book, B: Book> Parts<Q, J, A, B> {
+    /// The entry of this id in the centre's book.
+    fn entry_above(&mut self, alloc: Global, id: u64) -> Result<Option<Entry>, Cause>
+        ensures held { AreWell Q.honest J.honest A.honest A.is_stopped B.honest B.is_stopped self.new → AreWell Q.honest J.honest A.honest A.is_stopped B.honest B.is_stopped self.old }
+        ensures same { AreWell Q.honest J.honest A.honest A.is_stopped B.honest B.is_stopped self.new → system_of Q.contents J.archive A.contents B.contents self.new ≡ system_of Q.contents J.archive A.contents B.contents self.old }
+        ensures value { AreWell Q.honest J.honest A.honest A.is_stopped B.honest B.is_stopped self.new → IfOk result (λ entry. entry ≡ found_in (system_of Q.contents J.archive A.contents B.contents self.old).centre.orders.entries id) }
+    {
+        let book = self.centre.book();
+        entry_with(alloc, book, id)
+    }
+
+    /// The entry of this id in the concentrator's book.
+    fn entry_below(&mut self, alloc: Global, id: u64) -> Result<Option<Entry>, Cause>
+        ensures held { AreWell Q.honest J.honest A.honest A.is_stopped B.honest B.is_stopped self.new → AreWell Q.honest J.honest A.honest A.is_stopped B.honest B.is_stopped self.old }
+        ensures same { AreWell Q.honest J.honest A.honest A.is_stopped B.honest B.is_stopped self.new → system_of Q.contents J.archive A.contents B.contents self.new ≡ system_of Q.contents J.archive A.contents B.contents self.old }
+        ensures value { AreWell Q.honest J.honest A.honest A.is_stopped B.honest B.is_stopped self.new → IfOk result (λ entry. entry ≡ found_in (system_of Q.contents J.archive A.contents B.contents self.old).concentrator.controls.entries id) }
+    {
+        let book = self.concentrator.book();
+        entry_with(alloc, book, id)
+    }
+
+    /// The centre's next pending control.
+    fn next_above(&mut self, alloc: Global) -> Result<Option<Entry>, Cause>
+        ensures held { AreWell Q.honest J.honest A.honest A.is_stopped B.honest B.is_stopped self.new → AreWell Q.honest J.honest A.honest A.is_stopped B.honest B.is_stopped self.old }
+        ensures same { AreWell Q.honest J.honest A.honest A.is_stopped B.honest B.is_stopped self.new → system_of Q.contents J.archive A.contents B.contents self.new ≡ system_of Q.contents J.archive A.contents B.contents self.old }
+        ensures value { AreWell Q.honest J.honest A.honest A.is_stopped B.honest B.is_stopped self.new → IfOk result (λ entry. entry ≡ next_of (system_of Q.contents J.archive A.contents B.contents self.old).centre.orders.entries 0) }
+    {
+        let book = self.centre.book();
+        next_for(alloc, book, STATION_BELOW)
+    }
+
+    /// The id of the concentrator's next pending control for the substation.
+    fn next_below(&mut self, alloc: Global, station: u8) -> Result<Option<u64>, Cause>
+        ensures held { AreWell Q.honest J.honest A.honest A.is_stopped B.honest B.is_stopped self.new → AreWell Q.honest J.honest A.honest A.is_stopped B.honest B.is_stopped self.old }
+        ensures same { AreWell Q.honest J.honest A.honest A.is_stopped B.honest B.is_stopped self.new → system_of Q.contents J.archive A.contents B.contents self.new ≡ system_of Q.contents J.archive A.contents B.contents self.old }
+        ensures value { AreWell Q.honest J.honest A.honest A.is_stopped B.honest B.is_stopped self.new → IfOk result (λ id. id ≡ next_below (system_of Q.contents J.archive A.contents B.contents self.old) station) }
+    {
+        let book = self.concentrator.book();
+        Ok(id_of(next_for(alloc, book, station)?))
+    }
+
+    /// The substation that the control of this id in the centre's book is for.
+    fn station_of(&mut self, alloc: Global, id: u64) -> Result<Option<u8>, Cause>
+        ensures held { AreWell Q.honest J.honest A.honest A.is_stopped B.honest B.is_stopped self.new → AreWell Q.honest J.honest A.honest A.is_stopped B.honest B.is_stopped self.old }
+        ensures same { AreWell Q.honest J.honest A.honest A.is_stopped B.honest B.is_stopped self.new → system_of Q.contents J.archive A.contents B.contents self.new ≡ system_of Q.contents J.archive A.contents B.contents self.old }
+        ensures value { AreWell Q.honest J.honest A.honest A.is_stopped B.honest B.is_stopped self.new → IfOk result (λ station. station ≡ station_in (system_of Q.contents J.archive A.contents B.contents self.old) id) }
+    {
+        let Some(entry) = self.entry_above(alloc, id)? else {
+            return Ok(None);
+        };
+        match self.map.command_below(&entry.command) {
+            Some((station, _)) => Ok(Some(station)),
+            None => Ok(None),
+        }
+    }
+
+    /// Whether the link above is quiet, and that to the substation.
+    fn are_quiet(&self, station: Option<u8>) -> bool
+        ensures { result ≡ are_quiet_for (system_of Q.contents J.archive A.contents B.contents self.now) station }
+    {
+        match station {
+            Some(station) => self.quiet(Link::Above) && self.quiet(Link::Below(station)),
+            None => self.quiet(Link::Above),
+        }
+    }
+
+    /// Whether the concentrator has no control pending or in progress for the substation, which is one of the plan.
+    fn is_free(&mut self, alloc: Global, station: u8) -> Result<bool, Cause>
+        requires { has_station (system_of Q.contents J.archive A.contents B.contents self.old) station ≡ true }
+        ensures held { AreWell Q.honest J.honest A.honest A.is_stopped B.honest B.is_stopped self.new → AreWell Q.honest J.honest A.honest A.is_stopped B.honest B.is_stopped self.old }
+        ensures same { AreWell Q.honest J.honest A.honest A.is_stopped B.honest B.is_stopped self.new → system_of Q.contents J.archive A.contents B.contents self.new ≡ system_of Q.contents J.archive A.contents B.contents self.old }
+        ensures value { AreWell Q.honest J.honest A.honest A.is_stopped B.honest B.is_stopped self.new → IfOk result (λ free. free ≡ is_free_below (system_of Q.contents J.archive A.contents B.contents self.old) (Some station)) }
+    {
+        let idle = self.concentrator.in_progress(station).is_none();
+        let next = self.next_below(alloc, station)?;
+        Ok(next.is_none() && idle)
+    }
+
+    /// Whether the control of this id, which is for this substation of the plan, is the centre's next pending one, no other
+    /// is in progress there, and the concentrator has none pending or in progress for that substation.
+    fn is_next(&mut self, alloc: Global, id: u64, station: Option<u8>) -> Result<bool, Cause>
+        requires { IfSome station (λ s. has_station (system_of Q.contents J.archive A.contents B.contents self.old) s ≡ true) }
+        ensures held { AreWell Q.honest J.honest A.honest A.is_stopped B.honest B.is_stopped self.new → AreWell Q.honest J.honest A.honest A.is_stopped B.honest B.is_stopped self.old }
+        ensures same { AreWell Q.honest J.honest A.honest A.is_stopped B.honest B.is_stopped self.new → system_of Q.contents J.archive A.contents B.contents self.new ≡ system_of Q.contents J.archive A.contents B.contents self.old }
+        ensures value { AreWell Q.honest J.honest A.honest A.is_stopped B.honest B.is_stopped self.new → IfOk result (λ next. next ≡ is_next_for (system_of Q.contents J.archive A.contents B.contents self.old) id station) }
+    {
+        let free = match station {
+            Some(station) => self.is_free(alloc, station)?,
+            None => true,
+        };
+        let alone = self.centre.in_progress().unwrap_or(id) == id;
+        let next = self.next_above(alloc)?;
+        Ok(id_of(next) == Some(id) && alone && free)
+    }
+
+    /// What became of the control of this id in the book that keeps the controls of this link.
+    fn status_on(
+        &mut self,
+        alloc: Global,
+        on: Link,
+        id: Option<u64>,
+    ) -> Result<Option<Status>, Cause>
+        ensures held { AreWell Q.honest J.honest A.honest A.is_stopped B.honest B.is_stopped self.new → AreWell Q.honest J.honest A.honest A.is_stopped B.honest B.is_stopped self.old }
+        ensures same { AreWell Q.honest J.honest A.honest A.is_stopped B.honest B.is_stopped self.new → system_of Q.contents J.archive A.contents B.contents self.new ≡ system_of Q.contents J.archive A.contents B.contents self.old }
+        ensures value { AreWell Q.honest J.honest A.honest A.is_stopped B.honest B.is_stopped self.new → IfOk result (λ status. status ≡ status_on (system_of Q.contents J.archive A.contents B.contents self.old) on id) }
+    {
+        let Some(id) = id else {
+            return Ok(None);
+        };
+        let entry = match on {
+            Link::Below(_) => self.entry_below(alloc, id)?,
+            Link::Above => self.entry_above(alloc, id)?,
+        };
+        Ok(status_of(entry))
+    }
+
+    /// A step of relaying over the link. Refused where it finished the control of this id with another status than
+    /// SUCCESS.
+    fn relay_one(&mut self, alloc: Global, on: Link, id: Option<u64>) -> Result<(), ControlFault>
+        ensures held { AreWell Q.honest J.honest A.honest A.is_stopped B.honest B.is_stopped self.new → AreWell Q.honest J.honest A.honest A.is_stopped B.honest B.is_stopped self.old }
+        ensures done { AreWell Q.honest J.honest A.honest A.is_stopped B.honest B.is_stopped self.new → OnOk result (Passes on id (system_of Q.contents J.archive A.contents B.contents self.old) (system_of Q.contents J.archive A.contents B.contents self.new)) }
+        ensures ended { AreWell Q.honest J.honest A.honest A.is_stopped B.honest B.is_stopped self.new → IfErr result (EndsBy (λ status. IsTold on id status (system_of Q.contents J.archive A.contents B.contents self.old) (system_of Q.contents J.archive A.contents B.contents self.new)) (StopsIn IsOfControl (system_of Q.contents J.archive A.contents B.contents self.old) (system_of Q.contents J.archive A.contents B.contents self.new))) }
+    {
+        self.happen(alloc, &Event::Relay(on))?;
+        match self.status_on(alloc, on, id)? {
+            Some(status) if status != Status::SUCCESS => Err(ControlFault::Refused(status)),
+            _ => Ok(()),
+        }
+    }
+
+    /// A step of relaying over the link, and what comes of it there and back.
+    fn exchange(&mut self, alloc: Global, on: Link, id: Option<u64>) -> Result<(), ControlFault>
+        ensures held { AreWell Q.honest J.honest A.honest A.is_stopped B.honest B.is_stopped self.new → AreWell Q.honest J.honest A.honest A.is_stopped B.honest B.is_stopped self.old }
+        ensures done { AreWell Q.honest J.honest A.honest A.is_stopped B.honest B.is_stopped self.new → OnOk result (PassesBack on id (system_of Q.contents J.archive A.contents B.contents self.old) (system_of Q.contents J.archive A.contents B.contents self.new)) }
+        ensures ended { AreWell Q.honest J.honest A.honest A.is_stopped B.honest B.is_stopped self.new → IfErr result (EndsBy (λ status. IsTold on id status (system_of Q.contents J.archive A.contents B.contents self.old) (system_of Q.contents J.archive A.contents B.contents self.new)) (StopsIn IsOfControl (system_of Q.contents J.archive A.contents B.contents self.old) (system_of Q.contents J.archive A.contents B.contents self.new))) }
+    {
+        self.relay_one(alloc, on, id)?;
+        self.flush(alloc, on, Way::Down)?;
+        self.flush(alloc, on, Way::Up)?;
+        Ok(())
+    }
+
+    /// Three steps of relaying over the link: the SELECT, the OPERATE, and what became of it.
+    fn relay_through(
+        &mut self,
+        alloc: Global,
+        on: Link,
+        id: Option<u64>,
+    ) -> Result<(), ControlFault>
+        ensures held { AreWell Q.honest J.honest A.honest A.is_stopped B.honest B.is_stopped self.new → AreWell Q.honest J.honest A.honest A.is_stopped B.honest B.is_stopped self.old }
+        ensures done { AreWell Q.honest J.honest A.honest A.is_stopped B.honest B.is_stopped self.new → OnOk result (IsAccepted on id (system_of Q.contents J.archive A.contents B.contents self.old) (system_of Q.contents J.archive A.contents B.contents self.new)) }
+        ensures ended { AreWell Q.honest J.honest A.honest A.is_stopped B.honest B.is_stopped self.new → IfErr result (EndsBy (λ status. IsRefusedOn on id status (system_of Q.contents J.archive A.contents B.contents self.old) (system_of Q.contents J.archive A.contents B.contents self.new)) (StopsIn IsOfControl (system_of Q.contents J.archive A.contents B.contents self.old) (system_of Q.contents J.archive A.contents B.contents self.new))) }
+    {
+        self.exchange(alloc, on, id)?;
+        self.exchange(alloc, on, id)?;
+        self.relay_one(alloc, on, id)?;
+        Ok(())
+    }
+
+    /// The control of this id goes over the link above, and then over the one to its substation.
+    fn relay_all(&mut self, alloc: Global, id: u64, station: Option<u8>) -> Result<(), ControlFault>
+        ensures held { AreWell Q.honest J.honest A.honest A.is_stopped B.honest B.is_stopped self.new → AreWell Q.honest J.honest A.honest A.is_stopped B.honest B.is_stopped self.old }
+        ensures done { AreWell Q.honest J.honest A.honest A.is_stopped B.honest B.is_stopped self.new → OnOk result (IsControlFor station id (system_of Q.contents J.archive A.contents B.contents self.old) (system_of Q.contents J.archive A.contents B.contents self.new)) }
+        ensures ended { AreWell Q.honest J.honest A.honest A.is_stopped B.honest B.is_stopped self.new → IfErr result (EndsBy (λ status. IsRefusedFor station id status (system_of Q.contents J.archive A.contents B.contents self.old) (system_of Q.contents J.archive A.contents B.contents self.new)) (StopsIn IsOfControl (system_of Q.contents J.archive A.contents B.contents self.old) (system_of Q.contents J.archive A.contents B.contents self.new))) }
+    {
+        self.relay_through(alloc, Link::Above, Some(id))?;
+        let Some(station) = station else {
+            return Ok(());
+        };
+        let queued = self.next_below(alloc, station)?;
+        self.relay_through(alloc, Link::Below(station), queued)?;
+        Ok(())
+    }
+
+    /// The control of this id goes from the centre to its substation, over quiet links. Refused, with nothing changed, is
+    /// first of all a link on its way that isn't quiet, and then a control that isn't the centre's next one, or one that
+    /// another is before.
+    pub(crate) fn clean_control(&mut self, alloc: Global, id: u64) -> Result<(), ControlFault>
+        ensures held { AreWell Q.honest J.honest A.honest A.is_stopped B.honest B.is_stopped self.new → AreWell Q.honest J.honest A.honest A.is_stopped B.honest B.is_stopped self.old }
+        ensures ends { AreWell Q.honest J.honest A.honest A.is_stopped B.honest B.is_stopped self.new → ControlEnds id (system_of Q.contents J.archive A.contents B.contents self.old) result (system_of Q.contents J.archive A.contents B.contents self.new) }
+    {
+        let station = self.station_of(alloc, id)?;
+        if !self.are_quiet(station) {
+            return Err(ControlFault::NotQuiet);
+        }
+        if !self.is_next(alloc, id, station)? {
+            return Err(ControlFault::NotNext);
+        }
+        self.relay_all(alloc, id, station)
+    }
+}
