@@ -214,6 +214,8 @@ impl<Q: Lanes, B: Book> Concentrator<Q, B> {
         ensures actions_unchanged { OnErr result (actions.new ≡ actions.old) }
         ensures queue_unchanged { Q.honest (queue_of self.new) → OnErr result (Q.contents (queue_of self.new) ≡ Q.contents (queue_of self.old)) }
         ensures panel_unchanged { IsBookWell B.honest B.is_stopped self.new → OnErr result (panel_of B.contents (outputs_of self.new) ≡ panel_of B.contents (outputs_of self.old)) }
+        ensures book_unchanged { IsBookWell B.honest B.is_stopped self.new → OnErr result (B.contents (book_of self.new) ≡ B.contents (book_of self.old)) }
+        ensures indices_unchanged { IsBookWell B.honest B.is_stopped self.new → OnErr result (indices_of self.new ≡ indices_of self.old) }
         ensures idle { performed_in (core_of self.old) (panel_of B.contents (outputs_of self.old)) now octets.now ≡ [] → outputs_of self.new ≡ outputs_of self.old }
         ensures performed { IsBookWell B.honest B.is_stopped self.new → OnOk result (performed_in (core_of self.old) (panel_of B.contents (outputs_of self.old)) now octets.now ≢ []
             → Performs B.contents (outputs_of self.old) (performed_in (core_of self.old) (panel_of B.contents (outputs_of self.old)) now octets.now) (outputs_of self.new)) }

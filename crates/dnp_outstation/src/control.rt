@@ -10,6 +10,7 @@ ghost use Rattle.dnp_outstation.specs.Connection.{on_request, at_end, replied};
 ghost use Rattle.dnp_outstation.specs.Controls.{is_control};
 ghost use Rattle.dnp_outstation.specs.Calls.{performed_at};
 ghost use Rattle.dnp_outstation.specs.Items.{last_in};
+ghost use Rattle.dnp_outstation.specs.Owned.{HaveDoneNothing};
 ghost use Rattle.dnp_outstation.specs.State.{State, with_session};
 ghost use Rattle.dnp_outstation.specs.Station.{state_of, actions_of, HasRoom};
 
@@ -91,6 +92,7 @@ impl OutstationCore {
         ensures actions_unchanged { OnErr result (actions.new ≡ actions.old) }
         ensures same { L.honest lanes.new → L.contents lanes.new ≡ L.contents lanes.old }
         ensures outputs_unchanged { O.honest outputs.new → OnErr result (O.panel outputs.new ≡ O.panel outputs.old) }
+        ensures undone { O.honest outputs.new → OnErr result (HaveDoneNothing O.performs outputs.old outputs.new) }
         ensures idle { performed_at self.old (O.panel outputs.old) now octets.now ≡ [] → outputs.new ≡ outputs.old }
         ensures performed { O.honest outputs.new → OnOk result (performed_at self.old (O.panel outputs.old) now octets.now ≢ []
             → O.performs outputs.old (performed_at self.old (O.panel outputs.old) now octets.now) outputs.new) }

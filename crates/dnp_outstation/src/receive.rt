@@ -4,6 +4,7 @@ ghost use Rattle.std.specs.Prelude.{All, ◌⊎◌, ◌≡◌, ◌≢◌, ◌≤
 ghost use Rattle.dnp_eventbuf.specs.Stock.{rows_in};
 ghost use Rattle.dnp_outstation.specs.Calls.{connection_after, performed_in};
 ghost use Rattle.dnp_outstation.specs.Connection.{is_looked_at};
+ghost use Rattle.dnp_outstation.specs.Owned.{HaveDoneNothing};
 ghost use Rattle.dnp_outstation.specs.Station.{state_of, actions_of, MayAsk};
 
 use crate::actions::Actions;
@@ -40,6 +41,7 @@ impl OutstationCore {
         ensures actions_unchanged { OnErr result (actions.new ≡ actions.old) }
         ensures lanes_unchanged { L.honest lanes.new → OnErr result (L.contents lanes.new ≡ L.contents lanes.old) }
         ensures outputs_unchanged { O.honest outputs.new → OnErr result (O.panel outputs.new ≡ O.panel outputs.old) }
+        ensures undone { O.honest outputs.new → OnErr result (HaveDoneNothing O.performs outputs.old outputs.new) }
         ensures idle { performed_in self.old (O.panel outputs.old) now octets.now ≡ [] → outputs.new ≡ outputs.old }
         ensures performed { O.honest outputs.new → OnOk result (performed_in self.old (O.panel outputs.old) now octets.now ≢ []
             → O.performs outputs.old (performed_in self.old (O.panel outputs.old) now octets.now) outputs.new) }

@@ -8,17 +8,13 @@ use Rattle.dnp_master.specs.declared.fault.MasterFault.{MasterFault}
 use Rattle.dnp_master.specs.Calls.{Taking, receive_of}
 use Rattle.dnp_world.specs.Channels.{ChannelState, state_of}
 use Rattle.dnp_world.specs.MasterEnds.{ComesToMaster, TakesBy, TakesGiven}
-use Rattle.dnp_world.specs.SystemEvents.{ComesUp, HasNumbers, IsKept, MasterReceives, MasterTakes, centre_taken, concentrator_taken, dropped_for, taken_below, with_substation}
+use Rattle.dnp_world.specs.SystemEvents.{ComesUp, HasNumbers, MasterReceives, MasterTakes, centre_taken, concentrator_taken, dropped_for, taken_below, with_substation}
 use Rattle.dnp_world.specs.SystemParts.{substation_of}
 use Rattle.dnp_world.specs.Systems.{CentreState, ConcentratorState, SubstationState, System, has_station, link_at}
 use Rattle.dnp_world.specs.declared.channel.Channel.{Channel}
 use Rattle.dnp_world.specs.declared.event.Link.TheVariants.{Above, Below}
 use Rattle.dnp_world.specs.declared.substation.Substation.{Substation}
 use Rattle.dnp_world.proofs.SystemPlaces.{is_there, there}
-
--- a refusal that changed nothing at all
-pub kept_same : (old new : System) → new ≡ old → IsKept old new
-kept_same old new same = subst (λ (s : System). IsKept old s) (sym same) (record { panel = refl; after = refl })
 
 -- ---- to the centre
 

@@ -3,7 +3,7 @@ use Rattle.std.proofs.Common.{◌≡◌, ℕ, true, zero, suc, ◌+◌, List, []
 use Rattle.std.specs.Prelude.{All, replicate, slice_get}
 use Rattle.std.proofs.lemmas.List.{replicate_more}
 use Rattle.dnp_world.specs.Rounds.{Flushes, IsOfRound, StopsIn, deliveries}
-use Rattle.dnp_world.specs.SystemEvents.{CountsFor, Happens, IsKept, RunsTo, may_stop}
+use Rattle.dnp_world.specs.SystemEvents.{CountsFor, Happens, RunsTo, may_stop}
 use Rattle.dnp_world.specs.Systems.{System, standing_on}
 use Rattle.dnp_world.specs.declared.event.Event.{Event}
 use Rattle.dnp_world.specs.declared.event.Event.TheVariants.{Deliver}
@@ -75,13 +75,13 @@ ran_both P old mid new first more = record {
 -- ---- lists that stopped
 
 -- at their first event
-pub stops_at : (P : Event → Type 0) (old kept new : System) (event : Event) → P event → may_stop event ≡ true → IsKept old kept → CountsFor kept event new
+pub stops_at : (P : Event → Type 0) (old new : System) (event : Event) → P event → may_stop event ≡ true → CountsFor old event new
     → StopsIn P old new
-stops_at P old kept new event is may keeps counts = record {
+stops_at P old new event is may counts = record {
   events = event ∷ [];
   done = 0;
   all = all_one P event is;
-  stops = record { before = old; ran = refl; event = event; next = refl; may = may; after = kept; kept = keeps; counts = counts };
+  stops = record { before = old; ran = refl; event = event; next = refl; may = may; counts = counts };
 }
 
 -- after another was done
@@ -97,8 +97,6 @@ stops_after R P old mid new more first s = record {
     event = s.stops.event;
     next = get_past first.events s.events s.done ∙ s.stops.next;
     may = s.stops.may;
-    after = s.stops.after;
-    kept = s.stops.kept;
     counts = s.stops.counts;
   };
 }

@@ -2,10 +2,9 @@
 use Rattle.std.proofs.Common.{◌≡◌, ℕ, suc, ◌+◌, ◌<◌, ◌≤◌, Bool, true, List, [], ◌∷◌, ◌++◌, length, take, get_or, Some, refl, sym, ap, ◌∙◌, subst, arith}
 use Rattle.std.proofs.lemmas.List.{take_all}
 use Rattle.dnp_world.specs.declared.event.Event.{Event}
-use Rattle.dnp_world.specs.SystemEvents.{CountsFor, Happens, IsKept, RunsTo, StopsAfter, may_stop}
-use Rattle.dnp_world.specs.SystemEvents.{with_middle}
+use Rattle.dnp_world.specs.SystemEvents.{CountsFor, Happens, RunsTo, StopsAfter, may_stop}
 use Rattle.dnp_world.specs.SystemParts.{AreWell, controls_of, journal_of, orders_of, queue_of}
-use Rattle.dnp_world.specs.Systems.{System, middle_panel}
+use Rattle.dnp_world.specs.Systems.{System}
 use Rattle.dnp_world.specs.declared.parts.Parts.{Parts}
 use Rattle.dnp_world.proofs.OneLinkRuns.{take_more, get_some}
 
@@ -25,16 +24,14 @@ one_done old mid new events k event low is ran h =
 pub all_done : (old new : System) (events : List Event) (k : ℕ) → length events ≤ k → RunsTo old (take k events) new → RunsTo old events new
 all_done old new events k high ran = subst (λ (es : List Event). RunsTo old es new) (take_all k events high) ran
 
-pub stops_after : (old mid kept new : System) (events : List Event) (k : ℕ) (event : Event) → k < length events → event ≡ get_or events k event
-    → RunsTo old (take k events) mid → may_stop event ≡ true → IsKept mid kept → CountsFor kept event new → StopsAfter old events k new
-stops_after old mid kept new events k event low is ran may keeps counts = record {
+pub stops_after : (old mid new : System) (events : List Event) (k : ℕ) (event : Event) → k < length events → event ≡ get_or events k event
+    → RunsTo old (take k events) mid → may_stop event ≡ true → CountsFor mid event new → StopsAfter old events k new
+stops_after old mid new events k event low is ran may counts = record {
   before = mid;
   ran = ran;
   event = event;
   next = get_some events k event low ∙ ap Some (sym is);
   may = may;
-  after = kept;
-  kept = keeps;
   counts = counts;
 }
 
@@ -54,14 +51,8 @@ well_before queue journal controls controls_stopped orders orders_stopped old ne
   orders_run = ap orders_stopped (sym orders_is) ∙ well.orders_run;
 }
 
--- nothing has changed
-pub is_kept : (old new : System) → new ≡ old → IsKept old new
-is_kept old new is = record {
-  panel = ap (λ (s : System). middle_panel s.concentrator) is;
-  after = is ∙ ap (λ (s : System). with_middle old (record old.concentrator { indices = s.concentrator.indices; controls = s.concentrator.controls })) (sym is);
-}
-
 -- what stops an event other than a delivery
 pub left_out : (old new : System) (event its : Event) → event ≡ its → ((s : System) → CountsFor s its s) → new ≡ old
-    → (kept : System) × IsKept old kept × CountsFor kept event new
-left_out old new event its is counts same = (new, is_kept old new same, subst (λ (e : Event). CountsFor new e new) (sym is) (counts new))
+    → CountsFor old event new
+left_out old new event its is counts same =
+    subst (λ (s : System). CountsFor s event new) same (subst (λ (e : Event). CountsFor new e new) (sym is) (counts new))

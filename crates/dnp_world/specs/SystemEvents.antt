@@ -433,18 +433,11 @@ may_stop (event.Restart place.Centre) = false
 may_stop (event.Restart place.Concentrator) = false
 may_stop (event.Restart (place.Substation station)) = true
 
--- A refusal has changed nothing. Of the concentrator's book it is promised what its outputs show.
-pub record IsKept (old new : System) : Type 0 where
-  pub panel : middle_panel new.concentrator ≡ middle_panel old.concentrator
-  pub after : new ≡ with_middle old (record old.concentrator { indices = new.concentrator.indices; controls = new.concentrator.controls })
-
--- so many events were done, and the list stopped at the one behind them
+-- so many events were done, and the list stopped at the one behind them, whose refusal has changed nothing
 pub record StopsAfter (old : System) (events : List Event) (done : ℕ) (new : System) : Type 0 where
   pub before : System
   pub ran : RunsTo old (take done events) before
   pub event : Event
   pub next : slice_get events done ≡ Some event
   pub may : may_stop event ≡ true
-  pub after : System
-  pub kept : IsKept before after
-  pub counts : CountsFor after event new
+  pub counts : CountsFor before event new

@@ -9,7 +9,7 @@ ghost use Rattle.dnp_outstation.specs.Station.{actions_of};
 ghost use Rattle.dnp_concentrator.specs.BookOutputs.{panel_of, Performs};
 ghost use Rattle.dnp_concentrator.specs.Centre as centre;
 ghost use Rattle.dnp_concentrator.specs.Concentrator as concentrator;
-ghost use Rattle.dnp_concentrator.specs.Concentrator.{above_of, links_of, queue_of, IsBookWell};
+ghost use Rattle.dnp_concentrator.specs.Concentrator.{above_of, book_of, indices_of, links_of, queue_of, IsBookWell};
 ghost use Rattle.dnp_master.specs.Calls.{receive_of};
 ghost use Rattle.dnp_world.specs.Channels.{HavePerformed, TakesStep};
 ghost use Rattle.dnp_world.specs.MasterEnds.{TakesIn};
@@ -48,7 +48,7 @@ pub trait OutstationEnd {
     /// not changed otherwise.
     ghost follows: { Self → List Command → Self → Type 0 };
 
-    /// What is no part of its state is what it was, as far as its outputs show it.
+    /// What is no part of its state is what it was: of its outputs what they show, and of a book what it holds.
     ghost keeps: { Self → Self → Type 0 };
 
     /// A connection begins, at this moment, in milliseconds.
@@ -124,11 +124,11 @@ impl<Q: Lanes, B: Book> OutstationEnd for Concentrator<Q, B> {
 
     ghost follows = { λ old commands new. HavePerformed (Performs B.contents) commands (concentrator.outputs_of old) (concentrator.outputs_of new) × (links_of new ≡ links_of old) };
 
-    ghost keeps = { λ old new. (panel_of B.contents (concentrator.outputs_of new) ≡ panel_of B.contents (concentrator.outputs_of old)) × (links_of new ≡ links_of old) };
+    ghost keeps = { λ old new. (indices_of new ≡ indices_of old) × (B.contents (book_of new) ≡ B.contents (book_of old)) × (links_of new ≡ links_of old) };
 
     ghost follows_itself = { λ c. (record { idle = λ _. refl; performed = λ some. absurd (some refl) }, refl) };
 
-    ghost keeps_itself = { λ c. (refl, refl) };
+    ghost keeps_itself = { λ c. (refl, refl, refl) };
 
     fn opened(&mut self, actions: &mut Actions, alloc: Global, now: u64) -> Result<(), Cause> {
         self.opened_above(actions, alloc, now)?;

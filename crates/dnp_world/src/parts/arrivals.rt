@@ -2,7 +2,7 @@
 
 ghost use Rattle.std.specs.Prelude.{◌≡◌, true, OnErr, OnOk};
 ghost use Rattle.dnp_world.specs.Channels.{left_by};
-ghost use Rattle.dnp_world.specs.SystemEvents.{ComesDownAbove, ComesDownBelow, ComesOn, ComesUp, IsKept};
+ghost use Rattle.dnp_world.specs.SystemEvents.{ComesDownAbove, ComesDownBelow, ComesOn, ComesUp};
 ghost use Rattle.dnp_world.specs.SystemParts.{AreWell, system_of};
 ghost use Rattle.dnp_world.specs.Systems.{has_link, has_station};
 ghost use Rattle.dnp_world.specs.declared.event.Link.TheVariants as link;
@@ -42,7 +42,7 @@ impl<Q: Lanes, J: JournalStore, A: Book, B: Book> Parts<Q, J, A, B> {
     fn come_down_above(&mut self, alloc: Global, repeats: bool) -> Result<(), Cause>
         ensures held { AreWell Q.honest J.honest A.honest A.is_stopped B.honest B.is_stopped self.new → AreWell Q.honest J.honest A.honest A.is_stopped B.honest B.is_stopped self.old }
         ensures done { AreWell Q.honest J.honest A.honest A.is_stopped B.honest B.is_stopped self.new → OnOk result (ComesDownAbove (left_by repeats) (system_of Q.contents J.archive A.contents B.contents self.old) (system_of Q.contents J.archive A.contents B.contents self.new)) }
-        ensures stopped { AreWell Q.honest J.honest A.honest A.is_stopped B.honest B.is_stopped self.new → OnErr result (IsKept (system_of Q.contents J.archive A.contents B.contents self.old) (system_of Q.contents J.archive A.contents B.contents self.new)) }
+        ensures stopped { AreWell Q.honest J.honest A.honest A.is_stopped B.honest B.is_stopped self.new → OnErr result ((system_of Q.contents J.archive A.contents B.contents self.new) ≡ (system_of Q.contents J.archive A.contents B.contents self.old)) }
     {
         self.above.come_down(
             &mut self.actions,
@@ -101,7 +101,7 @@ impl<Q: Lanes, J: JournalStore, A: Book, B: Book> Parts<Q, J, A, B> {
         requires { has_link (system_of Q.contents J.archive A.contents B.contents self.old) on ≡ true }
         ensures held { AreWell Q.honest J.honest A.honest A.is_stopped B.honest B.is_stopped self.new → AreWell Q.honest J.honest A.honest A.is_stopped B.honest B.is_stopped self.old }
         ensures done { AreWell Q.honest J.honest A.honest A.is_stopped B.honest B.is_stopped self.new → OnOk result (ComesOn (left_by repeats) on way (system_of Q.contents J.archive A.contents B.contents self.old) (system_of Q.contents J.archive A.contents B.contents self.new)) }
-        ensures stopped { AreWell Q.honest J.honest A.honest A.is_stopped B.honest B.is_stopped self.new → OnErr result (IsKept (system_of Q.contents J.archive A.contents B.contents self.old) (system_of Q.contents J.archive A.contents B.contents self.new)) }
+        ensures stopped { AreWell Q.honest J.honest A.honest A.is_stopped B.honest B.is_stopped self.new → OnErr result ((system_of Q.contents J.archive A.contents B.contents self.new) ≡ (system_of Q.contents J.archive A.contents B.contents self.old)) }
     {
         match (on, way) {
             (Link::Below(station), Way::Down) => self.come_down_below(alloc, station, repeats)?,

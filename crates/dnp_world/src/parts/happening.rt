@@ -1,9 +1,9 @@
 //! One event of a system after the other.
 
 ghost use Rattle.std.specs.Prelude.{◌≡◌, true, IfErr, OnErr, OnOk};
-ghost use Rattle.dnp_world.specs.SystemEvents.{ComesOn, CountsFor, Happens, IsKept, RunsTo, StopsAfter, may_stop};
+ghost use Rattle.dnp_world.specs.SystemEvents.{ComesOn, CountsFor, Happens, RunsTo, StopsAfter, may_stop};
 ghost use Rattle.dnp_world.specs.SystemParts.{AreWell, system_of};
-ghost use Rattle.dnp_world.specs.Systems.{System as Whole, has_link};
+ghost use Rattle.dnp_world.specs.Systems.{has_link};
 ghost use Rattle.dnp_world.specs.declared.event.Event.TheVariants as event;
 ghost use Rattle.dnp_line.specs.Lines.{delivered_on};
 
@@ -21,7 +21,7 @@ impl<Q: Lanes, J: JournalStore, A: Book, B: Book> Parts<Q, J, A, B> {
         requires { has_link (system_of Q.contents J.archive A.contents B.contents self.old) on ≡ true }
         ensures held { AreWell Q.honest J.honest A.honest A.is_stopped B.honest B.is_stopped self.new → AreWell Q.honest J.honest A.honest A.is_stopped B.honest B.is_stopped self.old }
         ensures done { AreWell Q.honest J.honest A.honest A.is_stopped B.honest B.is_stopped self.new → OnOk result (ComesOn delivered_on on way (system_of Q.contents J.archive A.contents B.contents self.old) (system_of Q.contents J.archive A.contents B.contents self.new)) }
-        ensures stopped { AreWell Q.honest J.honest A.honest A.is_stopped B.honest B.is_stopped self.new → OnErr result ((kept : Whole) × IsKept (system_of Q.contents J.archive A.contents B.contents self.old) kept × CountsFor kept (event.Deliver on way) (system_of Q.contents J.archive A.contents B.contents self.new)) }
+        ensures stopped { AreWell Q.honest J.honest A.honest A.is_stopped B.honest B.is_stopped self.new → OnErr result (CountsFor (system_of Q.contents J.archive A.contents B.contents self.old) (event.Deliver on way) (system_of Q.contents J.archive A.contents B.contents self.new)) }
     {
         let Err(cause) = self.come(alloc, on, way, false) else {
             return Ok(());
@@ -36,7 +36,7 @@ impl<Q: Lanes, J: JournalStore, A: Book, B: Book> Parts<Q, J, A, B> {
     pub(crate) fn happen(&mut self, alloc: Global, event: &Event) -> Result<(), Cause>
         ensures held { AreWell Q.honest J.honest A.honest A.is_stopped B.honest B.is_stopped self.new → AreWell Q.honest J.honest A.honest A.is_stopped B.honest B.is_stopped self.old }
         ensures done { AreWell Q.honest J.honest A.honest A.is_stopped B.honest B.is_stopped self.new → OnOk result (Happens (system_of Q.contents J.archive A.contents B.contents self.old) event.now (system_of Q.contents J.archive A.contents B.contents self.new)) }
-        ensures stopped { AreWell Q.honest J.honest A.honest A.is_stopped B.honest B.is_stopped self.new → OnErr result ((kept : Whole) × IsKept (system_of Q.contents J.archive A.contents B.contents self.old) kept × CountsFor kept event.now (system_of Q.contents J.archive A.contents B.contents self.new)) }
+        ensures stopped { AreWell Q.honest J.honest A.honest A.is_stopped B.honest B.is_stopped self.new → OnErr result (CountsFor (system_of Q.contents J.archive A.contents B.contents self.old) event.now (system_of Q.contents J.archive A.contents B.contents self.new)) }
         ensures named { OnErr result (may_stop event.now ≡ true) }
     {
         match event {

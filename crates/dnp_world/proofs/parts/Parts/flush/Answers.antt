@@ -28,11 +28,10 @@ returns-in_err-happen-clause-stopped g c = λ well.
     let old = system c.args.self.now in
     let mid = system c.loop.self in
     let new = system c.happen.new.self in
-    let stopped = c.in_err-happen.ensures.stopped well in
     any_err c.from_residual.result _
     (stops_after (λ (e : Event). e ≡ Deliver on way) (λ (e : Event). e ≡ Deliver on way) old mid new (λ e is. is)
     (delivered c.loop.counter on way old mid (c.loop.invariant.ran (c.happen.ensures.held well)))
-    (stops_at (λ (e : Event). e ≡ Deliver on way) mid stopped.0 new (Deliver on way) refl refl stopped.1 stopped.2))
+    (stops_at (λ (e : Event). e ≡ Deliver on way) mid new (Deliver on way) refl refl (c.in_err-happen.ensures.stopped well)))
 
 pub returns-clause-done : goal.returns-clause-done
 returns-clause-done g c = λ well.

@@ -13,9 +13,8 @@ pub returns-in_err-happen-clause-stopped : goal.returns-in_err-happen-clause-sto
 returns-in_err-happen-clause-stopped g c = λ well.
     let system = system_of g.Q.Lanes.contents g.J.JournalStore.archive g.A.Book.contents g.B.Book.contents in
     let on = c.args.on in
-    let stopped = c.in_err-happen.ensures.stopped well in
     any_err c.from_residual.result _
-    (stops_at (IsOfRound on) (system c.args.self.now) stopped.0 (system c.happen.new.self) (Ask on events_polled) (inl refl) refl stopped.1 stopped.2)
+    (stops_at (IsOfRound on) (system c.args.self.now) (system c.happen.new.self) (Ask on events_polled) (inl refl) refl (c.in_err-happen.ensures.stopped well))
 
 pub returns-in_err-flush-clause-stopped : goal.returns-in_err-flush-clause-stopped
 returns-in_err-flush-clause-stopped g c = λ well.

@@ -17,10 +17,9 @@ loop-done-preserved g c =
 pub returns-in-Err-clause-stopped : goal.returns-in-Err-clause-stopped
 returns-in-Err-clause-stopped g c = λ well.
     let system = system_of g.Q.Lanes.contents g.J.JournalStore.archive g.A.Book.contents g.B.Book.contents in
-    let stopped = c.in-Err.ensures.stopped well in
-    stops_after (system c.args.self.now) (system c.loop-done.self) stopped.0 (system c.happen.new.self) c.args.events.now c.loop-done.done
+    stops_after (system c.args.self.now) (system c.loop-done.self) (system c.happen.new.self) c.args.events.now c.loop-done.done
     c.index-events-done.result c.loop-done-test.true c.index-events-done.is (c.loop-done.invariant.ran (c.happen.ensures.held well)) c.in-Err.ensures.named
-    stopped.1 stopped.2
+    (c.in-Err.ensures.stopped well)
 
 pub returns-clause-done : goal.returns-clause-done
 returns-clause-done g c = λ well.
