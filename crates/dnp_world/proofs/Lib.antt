@@ -69,6 +69,8 @@ mod BelowCalls
 mod AboveKeeps
 mod AboveEvents
 mod AboveTakes
+mod AboveSteps
+mod AboveComes
 mod Restarting
 mod NewSubstations
 mod ReportReading
