@@ -4,7 +4,7 @@ use Rattle.std.proofs.Common.{◌≡◌, ℕ, List, [], ◌∷◌, ◌++◌, len
 use Rattle.std.specs.Prelude.{slice_get, IfSome, ⊤}
 use Rattle.std.proofs.Math.Seq.{drop-append_seam}
 use Rattle.dnp_concentrator.specs.Below.{link_in}
-use Rattle.dnp_concentrator.specs.BookOutputs.{all_added, book_panel, ordered}
+use Rattle.dnp_concentrator.specs.BookOutputs.{all_added, ordered}
 use Rattle.dnp_concentrator.specs.PointsAbove.{HasClassesOf}
 use Rattle.dnp_concentrator.specs.declared.span.Spans.{Spans}
 use Rattle.dnp_controls.specs.Book.{Ledger}
@@ -18,7 +18,6 @@ use Rattle.dnp_objects.specs.declared.command.Command.{Command}
 use Rattle.dnp_objects.specs.declared.row.Row.{Row}
 use Rattle.dnp_outstation.specs.Calls.{connection_after, performed_in}
 use Rattle.dnp_outstation.specs.State.{Core, State, Step}
-use Rattle.dnp_outstation.specs.Station.{state_of}
 use Rattle.dnp_world.specs.declared.link_event.LinkEvent.{LinkEvent}
 use Rattle.dnp_world.specs.declared.link_event.LinkEvent.TheVariants as event
 use Rattle.dnp_world.specs.declared.link_event.Way.TheVariants as way
@@ -31,12 +30,12 @@ use Rattle.dnp_world.specs.OneLinkEvents.{ComesDown, HappensOn, LinkState, Steps
 use Rattle.dnp_world.specs.OutstationSeen.{ShowOctets}
 use Rattle.dnp_world.specs.Stations.{of_station, HasSameCounts}
 use Rattle.dnp_world.specs.Systems.{System, middle_of, middle_panel}
-use Rattle.dnp_world.specs.SystemEvents.{ComesDownAbove, MiddleAnswers, MiddleSteps}
+use Rattle.dnp_world.specs.SystemEvents.{ComesDownAbove, MiddleAnswers}
 use Rattle.dnp_world.specs.SystemStanding.{RowLists, lists_of, no_sink, seen, seen_above, IsJoinedBelow, IsStanding, Keeps}
 use Rattle.dnp_world.proofs.AboveEvents.{quiet_above}
 use Rattle.dnp_world.proofs.AboveSteps.{ComingLaws, all_relayed, lost_same, ordered_all, performs_as}
 use Rattle.dnp_world.proofs.BelowKeeps.{Grounds, grows_by, lane_rows, none_more, none_used, relisted, stays_still}
-use Rattle.dnp_world.proofs.JoinedPoints.{PointLaws, received_leaves}
+use Rattle.dnp_world.proofs.JoinedPoints.{received_leaves}
 use Rattle.dnp_world.proofs.SystemCounts.{same_is, same_refl}
 use Rattle.dnp_world.proofs.SystemMapping.{added_orders, added_unused}
 use Rattle.dnp_world.proofs.SystemPlans.{planned_as}

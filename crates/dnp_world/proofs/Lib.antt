@@ -73,6 +73,7 @@ mod AboveSteps
 mod AboveComes
 mod Restarting
 mod NewSubstations
+mod NewSystems
 mod ReportReading
 mod ReportLists
 mod SystemRounds

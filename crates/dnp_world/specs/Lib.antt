@@ -22,5 +22,6 @@ pub mod SystemStanding
 pub mod SystemEvents
 pub mod SystemParts
 pub mod FreshSystems
+pub mod NewSystems
 pub mod ReportShown
 pub mod Rounds
