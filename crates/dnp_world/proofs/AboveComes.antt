@@ -35,7 +35,7 @@ use Rattle.dnp_world.specs.SystemStanding.{RowLists, lists_of, no_sink, seen, se
 use Rattle.dnp_world.proofs.AboveEvents.{quiet_above}
 use Rattle.dnp_world.proofs.AboveSteps.{ComingLaws, all_relayed, lost_same, ordered_all, performs_as}
 use Rattle.dnp_world.proofs.BelowKeeps.{Grounds, grows_by, lane_rows, none_more, none_used, relisted, stays_still}
-use Rattle.dnp_world.proofs.JoinedPoints.{received_leaves}
+use Rattle.dnp_world.proofs.JoinedPoints.{Leaves, received_leaves}
 use Rattle.dnp_world.proofs.SystemCounts.{same_is, same_refl}
 use Rattle.dnp_world.proofs.SystemMapping.{added_orders, added_unused}
 use Rattle.dnp_world.proofs.SystemPlans.{planned_as}
@@ -105,7 +105,8 @@ turn_middle old h station m released commands link lost grows lanes =
     }
 
 -- The event is one of the link by itself, at which no point changes and these commands are performed.
-middle_keeps : Grounds → (old new : System) (h : IsStanding old) (station : ℕ) (m : Middle) (released : List Row) (commands : List Command) (e : LinkEvent)
+middle_keeps : Grounds → (old new : System) (h : IsStanding old) (station : ℕ) (m : Middle) (released : List Row) (commands : List Command)
+    → (e : LinkEvent)
     → HasClassesOf h.plan m.core.points
     → lost_in m.queue ≡ lost_in old.concentrator.queue
     → map (ordered old.concentrator.indices) (with_commands old commands).entries
@@ -154,8 +155,8 @@ heard_lines left port s = record s.above { down = left s.above.down; outstation_
 abbrev IsComing : (LineState → LineState) → LinkEvent → Type 0
 IsComing left e = (s s' : LinkState ⊤) (panel : Panel) → ComesDown panel (left s.down) s s' → HappensOn no_sink panel s e s'
 
-answered : Grounds → ComingLaws → (left : LineState → LineState) (e : LinkEvent) → IsComing left e → (old new : System) (h : IsStanding old) (station : ℕ)
-    → (port : PortState) (given : List (List ℕ)) → HearsIfAny (front_of old.above.down) old.above.outstation_port port [] given
+answered : Grounds → ComingLaws → (left : LineState → LineState) (e : LinkEvent) → IsComing left e → (old new : System) (h : IsStanding old)
+    → (station : ℕ) (port : PortState) (given : List (List ℕ)) → HearsIfAny (front_of old.above.down) old.above.outstation_port port [] given
     → rows_made_by old.concentrator.core.points (e ∷ []) ≡ []
     → MiddleAnswers given (record old { above = heard_lines left port old }) new → Keeps station [] old new
 answered grounds laws left e as_event old new h station port [] heard made came =
@@ -187,9 +188,10 @@ answered grounds laws left e as_event old new h station port (fragment ∷ other
       after = ap (λ (c : ChannelState). seen_on c (map (ordered spans) (with_commands old commands).entries)) came.sent.after
           ∙ ap (λ (xs : List Command). seen_on goes xs) (performs ∙ sym (performs_as laws s panel old.now fragment));
     } in
+    let leaves : Leaves s.core.points step =
+    received_leaves (record { keeps = laws.keeps; keeps_held = laws.keeps_held }) s panel old.now fragment in
     middle_keeps grounds old new h station m released commands e
-    (subst (HasClassesOf h.plan) (sym (received_leaves (record { keeps = laws.keeps; keeps_held = laws.keeps_held }) s panel old.now fragment).points_are)
-    h.of_plan.classes)
+    (subst (HasClassesOf h.plan) (sym leaves.points_are) h.of_plan.classes)
     (lost_same laws s panel old.now fragment) performs made
     (as_event (seen_above old (lists_of l)) s' panel (record { port = port; given = fragment ∷ others; heard = heard; came = steps }))
     came.after

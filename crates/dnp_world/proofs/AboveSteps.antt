@@ -99,14 +99,16 @@ end_performed now step =
     (step.state.core.announced && (step.state.core.is_open && (is_free step.state.core && has_enabled_rows step.state))))
   where
     by : (b : Bool)
-        → (if b then starts step now (content_from (pushed step.state.lanes step.state.core.enabled)) else step).state.performed ≡ step.state.performed
+        → (if b then starts step now (content_from (pushed step.state.lanes step.state.core.enabled)) else step).state.performed
+        ≡ step.state.performed
     by true = refl
     by false = refl
 
 replied_performed : (now seq : ℕ) (x : Executed) → (replied now seq x).state.performed ≡ x.state.performed
 replied_performed now seq x = go x.content
   where
-    go : (content : Option Content) → (replied now seq (record { state = x.state; content = content; time = x.time })).state.performed ≡ x.state.performed
+    go : (content : Option Content)
+        → (replied now seq (record { state = x.state; content = content; time = x.time })).state.performed ≡ x.state.performed
     go None = refl
     go (Some content) = refl
 
@@ -123,7 +125,8 @@ control_performed s o now octets control = by (is_control octets) (is_silent oct
     outcome = outcome_at (new_request s.core.session octets).selects s.core.times.select_ms o now octets (request_at octets)
 
     by : (a b : Bool) → a ≡ true → (if a
-        then (let x : Executed = carried_out (asked s octets) (outcome_at (new_request s.core.session octets).selects s.core.times.select_ms o now octets (request_at octets)) in
+        then (let x : Executed = carried_out (asked s octets)
+        (outcome_at (new_request s.core.session octets).selects s.core.times.select_ms o now octets (request_at octets)) in
         if b then silently x else x)
         else content_of (asked s octets) o octets).state.performed ≡ s.performed ++ performed_at s.core o now octets
     by true true is = carried_performed (asked s octets) outcome
@@ -182,7 +185,8 @@ IsRelayed spans command = is_some (command_below spans command) ≡ true
 relayed : (spans : List Spans) (command : Command) → (relay_check spans command == status.success) ≡ true → IsRelayed spans command
 relayed spans command is = by (can_relay spans command) refl is
   where
-    by : (b : Bool) → can_relay spans command ≡ b → ((if b then status.success else status.not_supported) == status.success) ≡ true → IsRelayed spans command
+    by : (b : Bool) → can_relay spans command ≡ b → ((if b then status.success else status.not_supported) == status.success) ≡ true
+        → IsRelayed spans command
     by true can is = (and_parts (is_some (command_below spans command)) (obeys_code command) can).0
     by false can is = absurd (cc)
 
@@ -195,7 +199,8 @@ accepted_relayed spans (c ∷ cs) = by (relay_check spans c == status.success) r
     by true is rest = (relayed spans c is, rest)
     by false is rest = rest
 
-performed_relayed : (spans : List Spans) (book : Ledger) (commands : List Command) → Each (IsRelayed spans) (performed_of (book_panel spans book) commands)
+performed_relayed : (spans : List Spans) (book : Ledger) (commands : List Command)
+    → Each (IsRelayed spans) (performed_of (book_panel spans book) commands)
 performed_relayed spans book commands = by (are_too_many (book_panel spans book) commands)
   where
     by : (b : Bool) → Each (IsRelayed spans) (if b then [] else accepted (relay_check spans) commands)

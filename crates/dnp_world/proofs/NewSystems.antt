@@ -80,7 +80,8 @@ none_buffered number (lane ∷ lanes) e =
     ∙ none_buffered (number + 1) lanes (first_none lane.rows (lane_rows lanes) e).1
 
 no_indexes : (s : Stock) → rows_in s ≡ [] → HaveIndexes s
-no_indexes s e = λ lane low. subst (All (λ (x : Numbered). x.row.index < 2 ^ 16)) (sym (none_at s.lanes lane e)) (All-nil (λ (x : Numbered). x.row.index < 2 ^ 16))
+no_indexes s e = λ lane low.
+    subst (All (λ (x : Numbered). x.row.index < 2 ^ 16)) (sym (none_at s.lanes lane e)) (All-nil (λ (x : Numbered). x.row.index < 2 ^ 16))
 
 none_in : (capacities : List ℕ) → lane_rows (map empty_lane capacities) ≡ []
 none_in [] = refl
@@ -129,8 +130,8 @@ new_substation : NewLaws → (times : Times) (number : ℕ) (s : SubPlan) → Ke
 new_substation laws times number s keeps nine =
     let it : SubstationState = fresh_substation times number s in
     record {
-      joined = new_joined_to laws (new_database (points_at s)) (points_below s) times (empty_stock s.lanes) [] CONCENTRATOR_BELOW (FIRST_SUBSTATION + number)
-          (laws.sound_points (points_at s) (sound_at s keeps)) (new_lanes laws s keeps nine);
+      joined = new_joined_to laws (new_database (points_at s)) (points_below s) times (empty_stock s.lanes) []
+          CONCENTRATOR_BELOW (FIRST_SUBSTATION + number) (laws.sound_points (points_at s) (sound_at s keeps)) (new_lanes laws s keeps nine);
       shown = shown_with it it (omega (arith, keeps.few_outputs)) refl;
     }
 
@@ -141,11 +142,12 @@ lanes_in queue (Some s) = s.lanes
 
 -- each substation is joined to the link before its first opening, and the lanes behind each number are new
 record AreJoined (queue : Stock) (times : Times) (number : ℕ) (plans : List SubPlan) (i : ℕ) : Type 0 where
-  joined : IfSome (slice_get (fresh_substations times number plans) i) (λ s. IsJoinedBelow 0 (link_in (map (new_link times) plans) i) (fresh_link s.lanes) s)
+  joined : IfSome (slice_get (fresh_substations times number plans) i)
+      (λ s. IsJoinedBelow 0 (link_in (map (new_link times) plans) i) (fresh_link s.lanes) s)
   new : AreNew (lanes_in queue (slice_get (fresh_substations times number plans) i))
 
-all_joined : NewLaws → (queue : Stock) → AreNew queue → (times : Times) (number : ℕ) (plans : List SubPlan) → All KeepsSubLimits plans → All HasAllLanes plans
-    → (i : ℕ) → AreJoined queue times number plans i
+all_joined : NewLaws → (queue : Stock) → AreNew queue → (times : Times) (number : ℕ) (plans : List SubPlan) → All KeepsSubLimits plans
+    → All HasAllLanes plans → (i : ℕ) → AreJoined queue times number plans i
 all_joined laws queue empty times number [] keeps nine zero = record { joined = tt; new = empty }
 all_joined laws queue empty times number [] keeps nine (suc i) = record { joined = tt; new = empty }
 all_joined laws queue empty times number (s ∷ plans) keeps nine zero =
@@ -173,7 +175,8 @@ none_listed times n number (s ∷ plans) =
 nothing_in : (plan : Plan) (queue : Stock) (journal : Archive) (controls orders : Ledger) → AreEmpty queue journal controls orders
     → kept_in (fresh_system plan queue journal controls orders) ≡ nothing_kept
 nothing_in plan queue journal controls orders empty =
-    let kept : List (ℕ × Row) → List Row → List Row → ℕ → List Entry → List Entry → Kept = λ buffered rows events lost entries ordered. record nothing_kept {
+    let kept : List (ℕ × Row) → List Row → List Row → ℕ → List Entry → List Entry → Kept =
+    λ buffered rows events lost entries ordered. record nothing_kept {
       buffered = buffered;
       queue = rows;
       journal = events;
@@ -225,8 +228,8 @@ stands_at_first laws plan queue journal controls orders can empty =
       of_plan = new_of_plan laws plan queue journal controls orders can;
       links = links;
       below = λ i. joined_in queue (link_in (new_links plan) i) (slice_get new.substations i) (joined i).joined;
-      above = new_joined_to laws (new_database (points_above plan)) (points_above plan) plan.times queue (book_panel (map_of plan) controls).performed CENTRE
-          CONCENTRATOR_ABOVE
+      above = new_joined_to laws (new_database (points_above plan)) (points_above plan) plan.times queue
+          (book_panel (map_of plan) controls).performed CENTRE CONCENTRATOR_ABOVE
           (laws.sound_points (points_above plan) (sound_above plan can.limits (laws.is_map (map_of plan) can.narrow can.apart))) new_queue;
       behind = subst (IsBehind (map_of plan) links) (sym (nothing_in plan queue journal controls orders empty))
           (laws.at_first (map_of plan) links (λ i. untouched laws (lanes_in queue (slice_get new.substations i)) (joined i).new)
