@@ -69,8 +69,11 @@ mod BelowCalls
 mod AboveKeeps
 mod AboveEvents
 mod AboveTakes
+mod AboveSteps
+mod AboveComes
 mod Restarting
 mod NewSubstations
+mod NewSystems
 mod ReportReading
 mod ReportLists
 mod SystemRounds

@@ -22,6 +22,7 @@ pub mod SystemStanding
 pub mod SystemEvents
 pub mod SystemParts
 pub mod FreshSystems
+pub mod NewSystems
 pub mod ReportShown
 pub mod Rounds
 pub mod Controls

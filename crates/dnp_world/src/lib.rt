@@ -21,6 +21,7 @@ mod reading;
 mod report;
 mod round_fault;
 mod sending;
+pub mod standing_laws;
 mod station_list;
 mod stopped;
 mod substation;
