@@ -65,6 +65,7 @@ mod BelowKeeps
 mod BelowEvents
 mod BelowSteps
 mod Issuing
+mod CommandRequests
 mod BelowCalls
 mod AboveKeeps
 mod AboveEvents
