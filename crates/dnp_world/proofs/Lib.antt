@@ -66,6 +66,10 @@ mod BelowEvents
 mod BelowSteps
 mod Issuing
 mod CommandRequests
+mod RelaySteps
+mod RelayLinks
+mod RelayWidths
+mod RelayKeeps
 mod BelowCalls
 mod AboveKeeps
 mod AboveEvents
