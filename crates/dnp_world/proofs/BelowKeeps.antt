@@ -213,7 +213,7 @@ left_more station a b c d = record {
 pub some_of : {S : Type 0} (P : S → Type 0) (o : Option S) (x : S) → o ≡ Some x → IfSome o P → P x
 some_of P o x e h = subst (λ o. IfSome o P) e h
 
-of_some : {S : Type 0} (P : S → Type 0) (o : Option S) (x : S) → o ≡ Some x → P x → IfSome o P
+pub of_some : {S : Type 0} (P : S → Type 0) (o : Option S) (x : S) → o ≡ Some x → P x → IfSome o P
 of_some P o x e h = subst (λ o. IfSome o P) (sym e) h
 
 turn_below : (old : System) (links : Links) (station : ℕ) (was is : SubstationState) (middle : Middle) (gone : Gone) (came : List Row) (link : Link)

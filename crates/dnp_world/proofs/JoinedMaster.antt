@@ -181,7 +181,7 @@ came_up {Sink = Sink} laws takes others s new l line port given stands j same ca
 of_ok : (P : List ℕ → Type 0) (r : Result (List ℕ) AskFault) (octets : List ℕ) → r ≡ Ok octets → IfOk r P → P octets
 of_ok P r octets e h = subst (λ (r : Result (List ℕ) AskFault). IfOk r P) e h
 
-after_asking : {Sink : Type 0} → Laws → (others : List Row) (s new : LinkState Sink) (l : Link) (task : Task) (octets : List ℕ)
+pub after_asking : {Sink : Type 0} → Laws → (others : List Row) (s new : LinkState Sink) (l : Link) (task : Task) (octets : List ℕ)
     → AreOctets (request_octets (request_for s.master.seq task)) → Joined others s l
     → ask_answer s.master task ≡ Ok octets → IsAsked task octets s new → Follows others [] (commands_in octets) s.outstation.performed l new
 after_asking {Sink = Sink} laws others s new l task octets low j answer h =

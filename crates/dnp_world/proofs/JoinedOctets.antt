@@ -50,7 +50,7 @@ confirms_octets control low = by control.con
 
 -- ---- requests
 
-asked_low : (seq code : ℕ) (hs : List Head) → seq < 16 → code < 2 ^ 8 → AreOctets (spelled hs)
+pub asked_low : (seq code : ℕ) (hs : List Head) → seq < 16 → code < 2 ^ 8 → AreOctets (spelled hs)
     → AreOctets (control_octet (record { fir = true; fin = true; con = false; uns = false; seq = seq }) ∷ code ∷ spelled hs)
 asked_low seq code hs low few h =
     let control : ℕ = control_octet (record { fir = true; fin = true; con = false; uns = false; seq = seq }) in
@@ -76,7 +76,7 @@ low_byte : (i x : ℕ) → byte_at i x < 2 ^ 8
 low_byte zero x = omega arith
 low_byte (suc i) x = omega arith
 
-low_bytes : (n i x : ℕ) → AreOctets (bytes_low_first i n x)
+pub low_bytes : (n i x : ℕ) → AreOctets (bytes_low_first i n x)
 low_bytes zero i x = no_more
 low_bytes (suc n) i x = and_more (byte_at i x) (bytes_low_first (suc i) n x) (low_byte i x) (low_bytes n (suc i) x)
 

@@ -65,6 +65,11 @@ mod BelowKeeps
 mod BelowEvents
 mod BelowSteps
 mod Issuing
+mod CommandRequests
+mod RelaySteps
+mod RelayLinks
+mod RelayWidths
+mod RelayKeeps
 mod BelowCalls
 mod AboveKeeps
 mod AboveEvents

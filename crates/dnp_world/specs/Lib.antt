@@ -19,6 +19,8 @@ pub mod Reports
 pub mod Kept
 pub mod Behind
 pub mod SystemStanding
+pub mod CommandWidths
+pub mod ControlsInStep
 pub mod SystemEvents
 pub mod SystemParts
 pub mod FreshSystems

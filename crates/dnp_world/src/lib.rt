@@ -18,6 +18,7 @@ mod one_link;
 pub mod outstation_laws;
 mod parts;
 mod reading;
+pub mod relay_laws;
 mod report;
 mod round_fault;
 mod sending;

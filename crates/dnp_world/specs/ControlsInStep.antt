@@ -1,0 +1,28 @@
+-- Definition: the controls in progress over the links of a system go with the books that keep them, that of the concentrator below
+-- and that of the centre above (own rule).
+use Rattle.std.specs.Prelude.{◌≡◌, ℕ, ◌≤◌, All, IfSome}
+use Rattle.dnp_concentrator.specs.declared.progress.Progress.{Progress}
+use Rattle.dnp_controls.specs.Book.{Ledger, IsSound, entry_of}
+use Rattle.dnp_controls.specs.declared.book.Entry.{Entry}
+use Rattle.dnp_world.specs.CommandWidths.{HasWidths}
+use Rattle.dnp_world.specs.Systems.{System, link_at}
+
+-- the entry is for this target, and has this control's command
+abbrev pub IsOfEntry : ℕ → Progress → Entry → Type 0
+IsOfEntry target p entry = (entry.target ≡ target) × (entry.command ≡ p.command)
+
+-- A control in progress towards a target goes with a book: its id was given out, where the book has an entry of it, that is for the
+-- target and has the command, and the command can be sent.
+pub record GoesWith (book : Ledger) (target : ℕ) (p : Progress) : Type 0 where
+  pub given : p.id ≤ book.last_id
+  pub entry : IfSome (entry_of book.entries p.id) (IsOfEntry target p)
+  pub widths : HasWidths p.command
+
+-- Those below have the substations for targets, and the one above has 0. What is issued can be sent; so can what comes down to the
+-- concentrator's book, where links of the law stand behind the system.
+pub record InStep (s : System) : Type 0 where
+  pub below : (station : ℕ) → IfSome (link_at s.concentrator station).progress (GoesWith s.concentrator.controls station)
+  pub above : IfSome s.centre.link.progress (GoesWith s.centre.orders 0)
+  pub controls : IsSound s.concentrator.controls
+  pub orders : IsSound s.centre.orders
+  pub widths : All (λ entry. HasWidths entry.command) s.centre.orders.entries
