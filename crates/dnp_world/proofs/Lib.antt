@@ -74,3 +74,8 @@ mod NewSubstations
 mod ReportReading
 mod ReportLists
 mod SystemRounds
+mod HappenedRows
+mod TakenPlans
+mod QueuedRows
+mod BelowTakes
+mod BelowArrives

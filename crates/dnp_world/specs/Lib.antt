@@ -24,3 +24,4 @@ pub mod SystemParts
 pub mod FreshSystems
 pub mod ReportShown
 pub mod Rounds
+pub mod Happened

@@ -4,9 +4,11 @@
 //! [`joined_laws`].
 #![tactic(auto)]
 
+pub mod arrival_laws;
 mod channel;
 mod ends;
 mod event;
+pub mod happened_laws;
 mod history;
 pub mod joined_laws;
 pub mod laws;
