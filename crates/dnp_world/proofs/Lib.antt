@@ -79,3 +79,4 @@ mod TakenPlans
 mod QueuedRows
 mod BelowTakes
 mod BelowArrives
+mod HappenedEvents
