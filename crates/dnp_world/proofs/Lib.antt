@@ -80,3 +80,5 @@ mod QueuedRows
 mod BelowTakes
 mod BelowArrives
 mod HappenedEvents
+mod PlannedPoints
+mod PlannedEvents

@@ -25,3 +25,4 @@ pub mod FreshSystems
 pub mod ReportShown
 pub mod Rounds
 pub mod Happened
+pub mod Planned

@@ -19,6 +19,7 @@ mod new_substations;
 mod one_link;
 pub mod outstation_laws;
 mod parts;
+pub mod planned_laws;
 mod reading;
 mod report;
 mod round_fault;
