@@ -82,3 +82,4 @@ mod BelowArrives
 mod HappenedEvents
 mod PlannedPoints
 mod PlannedEvents
+mod PlannedRows

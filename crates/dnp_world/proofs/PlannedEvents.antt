@@ -38,7 +38,7 @@ use Rattle.dnp_world.proofs.PlannedPoints.{ClassLaws, KeepClasses, SameClasses, 
 -- ---- parts of systems
 
 -- the substations of both
-abbrev Keep : System → System → Type 0
+abbrev pub Keep : System → System → Type 0
 Keep old new = KeepClasses old.substations new.substations
 
 same_system : (old new : System) → new ≡ old → Keep old new
@@ -134,7 +134,7 @@ comes_keep laws left (Below station) way.Up old new c = up_keeps left (Below sta
 comes_keep laws left Above way.Up old new c = up_keeps left Above old new c
 
 -- a reading
-reads_keep : ClassLaws → (station : ℕ) (kind : Kind) (index : ℕ) (reading : Reading) (was : SubstationState) (r : Result (Option LaneRow) ChangeFault)
+pub reads_keep : ClassLaws → (station : ℕ) (kind : Kind) (index : ℕ) (reading : Reading) (was : SubstationState) (r : Result (Option LaneRow) ChangeFault)
     (old new : System) → slice_get old.substations station ≡ Some was → ReadsBy r station kind index reading was old new → Keep old new
 reads_keep laws station kind index reading was (Ok made) old new there (room, c) =
     let step : Step = change_of (station_of was) old.now kind index reading made in
