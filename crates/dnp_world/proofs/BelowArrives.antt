@@ -1,5 +1,5 @@
 -- What comes from a substation to the concentrator keeps what stands behind the system.
-use Rattle.std.proofs.Common.{◌≡◌, ℕ, zero, suc, ◌<◌, Bool, true, List, [], ◌∷◌, ◌++◌, length, Option, Some, Result, Ok, Err, IfOk, refl, sym, ap, ◌∙◌, subst}
+use Rattle.std.proofs.Common.{◌≡◌, ℕ, zero, suc, ◌<◌, true, List, [], ◌∷◌, ◌++◌, length, Some, Result, Ok, Err, IfOk, refl, sym, ap, ◌∙◌, subst}
 use Rattle.std.specs.Prelude.{nat_lt, option_to_list, slice_get, slice_set, ⊤}
 use Rattle.std.proofs.lemmas.Bool.{and_parts, ltb-true}
 use Rattle.std.proofs.lemmas.Option.{same_Some}
@@ -10,7 +10,6 @@ use Rattle.dnp_concentrator.specs.Plan.{map_of}
 use Rattle.dnp_concentrator.specs.Relaying as relaying
 use Rattle.dnp_concentrator.specs.Relaying.{Relaying}
 use Rattle.dnp_concentrator.specs.declared.span.Spans.{Spans}
-use Rattle.dnp_controls.specs.Latches.{PlainState}
 use Rattle.dnp_controls.specs.Panel.{Panel}
 use Rattle.dnp_line.specs.Lines.{LineState, delivered_on, front_of, repeated_on}
 use Rattle.dnp_line.specs.Ports.{PortState}
@@ -30,7 +29,7 @@ use Rattle.dnp_world.specs.Link.{Link}
 use Rattle.dnp_world.specs.OneLinkEvents as one
 use Rattle.dnp_world.specs.OneLinkEvents.{HappensOn, LinkState, Receives, Takes}
 use Rattle.dnp_world.specs.Systems.{SubstationState, System, has_station, panel_of, station_of}
-use Rattle.dnp_world.specs.SystemEvents.{ComesUp, HasNumbers, LinesChange, MasterReceives, MasterTakes, taken_below, with_substation}
+use Rattle.dnp_world.specs.SystemEvents.{ComesUp, MasterReceives, MasterTakes, taken_below, with_substation}
 use Rattle.dnp_world.specs.SystemStanding.{RowLists, lists_of, no_sink, seen, seen_below, IsStanding, Keeps}
 use Rattle.dnp_world.proofs.BelowEvents.{few_outputs, quiet, seen_at, shown_with}
 use Rattle.dnp_world.proofs.BelowKeeps.{Grounds}

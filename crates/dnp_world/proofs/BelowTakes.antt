@@ -1,5 +1,5 @@
 -- Rows that a substation's master takes: they happened there, and come into the queue above, which keeps what stands behind the system.
-use Rattle.std.proofs.Common.{◌≡◌, ◌≢◌, ℕ, ◌+◌, ◌<◌, ◌^◌, Bool, false, List, [], ◌∷◌, ◌++◌, length, drop, map, Option, Some, IfOk, refl, sym, ap, ◌∙◌, subst, append-nil, arith}
+use Rattle.std.proofs.Common.{◌≡◌, ◌≢◌, ℕ, ◌+◌, ◌<◌, ◌^◌, Bool, false, List, [], ◌∷◌, ◌++◌, length, drop, Option, Some, IfOk, refl, sym, ap, ◌∙◌, subst, append-nil, arith}
 use Rattle.std.specs.Prelude.{slice_get, slice_set, IfSome, ⊤}
 use Rattle.std.specs.List.{All, count_by}
 use Rattle.std.proofs.lemmas.List.{drop_all, length-map}
@@ -31,10 +31,10 @@ use Rattle.dnp_outstation.specs.State.{State}
 use Rattle.dnp_pointdb.specs.Database.{Database}
 use Rattle.dnp_pointdb.specs.Sound as points
 use Rattle.dnp_world.specs.declared.link_event.LinkEvent.{LinkEvent}
-use Rattle.dnp_world.specs.Behind.{does_nothing, rows_of, with_links, Does, Grows, Turn}
+use Rattle.dnp_world.specs.Behind.{does_nothing, rows_of, with_links, Grows, Turn}
 use Rattle.dnp_world.specs.Happened.{HappenedAsEvents}
-use Rattle.dnp_world.specs.Joined.{Follows, Joined, rows_made_by, with_others_rows}
-use Rattle.dnp_world.specs.Kept.{commands_below, kept_in, lane_rows_of, orders_in, report_of, rows_below, used_commands, used_orders}
+use Rattle.dnp_world.specs.Joined.{Follows, rows_made_by, with_others_rows}
+use Rattle.dnp_world.specs.Kept.{kept_in, lane_rows_of, orders_in, report_of, rows_below, used_commands, used_orders}
 use Rattle.dnp_world.specs.Link.{Link}
 use Rattle.dnp_world.specs.Moves.{Done, Moves}
 use Rattle.dnp_world.specs.OneLinkEvents.{LinkState, HappensOn}
@@ -43,8 +43,8 @@ use Rattle.dnp_world.specs.Reports.{happened}
 use Rattle.dnp_world.specs.Standing.{Stands}
 use Rattle.dnp_world.specs.Stations.{of_station, HasSameCounts}
 use Rattle.dnp_world.specs.SystemEvents.{HasNumbers, concentrator_taken, dropped_for}
-use Rattle.dnp_world.specs.Systems.{ConcentratorState, SubstationState, System, at_station, middle_of, panel_of}
-use Rattle.dnp_world.specs.SystemStanding.{RowLists, lists_of, no_sink, points_asked, seen_above, seen_below, IsJoinedBelow, IsOfPlan, IsStanding, Keeps}
+use Rattle.dnp_world.specs.Systems.{ConcentratorState, SubstationState, System, middle_of, panel_of}
+use Rattle.dnp_world.specs.SystemStanding.{RowLists, lists_of, no_sink, seen_above, seen_below, IsJoinedBelow, IsStanding, Keeps}
 use Rattle.dnp_world.proofs.BelowEvents.{no_performs}
 use Rattle.dnp_world.proofs.BelowKeeps.{Grounds, grows_by, lane_rows, none_more, none_used, points_set, relisted, some_of}
 use Rattle.dnp_world.proofs.ByStations.{some_there}

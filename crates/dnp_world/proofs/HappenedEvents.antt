@@ -7,7 +7,7 @@ use Rattle.dnp_concentrator.specs.declared.plan.Plan.{Plan}
 use Rattle.dnp_concentrator.specs.declared.plan.SubPlan.{SubPlan}
 use Rattle.dnp_controls.specs.Book.{Ledger}
 use Rattle.dnp_eventbuf.specs.Archive.{Archive}
-use Rattle.dnp_eventbuf.specs.Stock.{Stock, arriving, empty_stock, rows_in}
+use Rattle.dnp_eventbuf.specs.Stock.{Stock, empty_stock, rows_in}
 use Rattle.dnp_objects.specs.Events.{IsEvent}
 use Rattle.dnp_objects.specs.declared.lane.LaneRow.{LaneRow}
 use Rattle.dnp_objects.specs.declared.row.Kind.{Kind}

@@ -1,28 +1,27 @@
 -- Each event of a system leaves the points of its substations their classes.
 use Rattle.std.proofs.Common.{◌≡◌, ℕ, if◌then◌else◌, Bool, true, false, List, [], ◌∷◌, Option, Some, None, Result, Ok, Err, refl, sym, ap, ◌∙◌, subst}
-use Rattle.std.specs.Prelude.{option_to_list, slice_get, slice_set, ⊤}
+use Rattle.std.specs.Prelude.{option_to_list, slice_get}
 use Rattle.std.proofs.lemmas.Option.{same_Some}
 use Rattle.dnp_concentrator.specs.Mapped.{command_above}
 use Rattle.dnp_concentrator.specs.Relaying as relaying
 use Rattle.dnp_line.specs.Lines.{LineState, delivered_on, repeated_on}
-use Rattle.dnp_master.specs.Calls.{Taking, receive_of}
-use Rattle.dnp_master.specs.State as master
+use Rattle.dnp_master.specs.Calls.{Taking}
 use Rattle.dnp_master.specs.declared.fault.MasterFault.{MasterFault}
 use Rattle.dnp_master.specs.declared.task.Task.{Task}
 use Rattle.dnp_objects.specs.declared.command.Command.{Command}
 use Rattle.dnp_objects.specs.declared.lane.LaneRow.{LaneRow}
 use Rattle.dnp_objects.specs.declared.row.Kind.{Kind}
 use Rattle.dnp_objects.specs.declared.row.Row.{Row}
-use Rattle.dnp_outstation.specs.Calls.{change_of, connection_after, opened_of, performed_in, tick_of}
+use Rattle.dnp_outstation.specs.Calls.{change_of, connection_after, opened_of, tick_of}
 use Rattle.dnp_outstation.specs.State.{Step, nothing}
 use Rattle.dnp_eventbuf.specs.Stock.{dropped_by, with_rows}
-use Rattle.dnp_pointdb.specs.Database.{Database, answer_of, changed_of}
+use Rattle.dnp_pointdb.specs.Database.{answer_of, changed_of}
 use Rattle.dnp_pointdb.specs.declared.fault.ChangeFault.{ChangeFault}
 use Rattle.dnp_pointdb.specs.declared.reading.Reading.{Reading}
 use Rattle.dnp_world.specs.Channels.{ChannelState, DamagesAt, GoDown, cleared, lost_at}
 use Rattle.dnp_world.specs.OneLinkEvents.{is_own}
 use Rattle.dnp_world.specs.Systems.{SubstationState, System, has_link, has_station, link_at, panel_of, station_of}
-use Rattle.dnp_world.specs.SystemEvents.{AsksOn, ChangesAt, ComesDownAbove, ComesDownBelow, ComesOn, ComesToSubstation, ComesUp, Happens, HangsUpOn, IfThere, IssuesBy, LinesChange, LosesOn, MasterReceives, MasterTakes, MasterTicks, MiddleAnswers, MiddleSteps, OpensOn, OutstationTicks, Reads, ReadsBy, RelaysOn, Steps, Refuses, SubstationAnswers, SubstationRestarts, SubstationSteps, concentrator_restarted, master_gone, step_on, taken_on, told, with_lost, with_link, with_relaying, with_substation}
+use Rattle.dnp_world.specs.SystemEvents.{AsksOn, ChangesAt, ComesDownBelow, ComesOn, ComesUp, Happens, HangsUpOn, IfThere, IssuesBy, LinesChange, LosesOn, MasterReceives, MasterTakes, MasterTicks, MiddleAnswers, MiddleSteps, OpensOn, OutstationTicks, Reads, ReadsBy, RelaysOn, Steps, Refuses, SubstationAnswers, SubstationRestarts, SubstationSteps, concentrator_restarted, master_gone, step_on, taken_on, told, with_lost, with_link, with_relaying, with_substation}
 use Rattle.dnp_world.specs.declared.event.Event.{Event}
 use Rattle.dnp_world.specs.declared.event.Event.TheVariants as event
 use Rattle.dnp_world.specs.declared.event.Link.{Link}

@@ -1,19 +1,15 @@
 -- Rows that changes of planned points make are planned, and the points of a new system are.
-use Rattle.std.proofs.Common.{◌≡◌, ℕ, zero, suc, ◌+◌, ◌-◌, ◌<◌, ◌≤◌, nat_lt, nat_le, ◌&&◌, if◌then◌else◌, Bool, true, false, cond, List, [], ◌∷◌, ◌++◌, length, map, Option, Some, None, Result, Ok, Err, refl, sym, ap, ◌∙◌, subst, arith}
+use Rattle.std.proofs.Common.{◌≡◌, ℕ, zero, suc, ◌+◌, ◌-◌, ◌<◌, nat_lt, nat_le, ◌&&◌, if◌then◌else◌, Bool, true, false, List, [], ◌∷◌, ◌++◌, length, map, Option, Some, None, Result, Ok, Err, refl, sym, ap, ◌∙◌, arith}
 use Rattle.std.specs.Prelude.{IfSome, slice_get}
 use Rattle.std.specs.Option.{IsSomeAnd, option_map, option_map_or}
-use Rattle.std.specs.List.{All, zip}
+use Rattle.std.specs.List.{All}
 use Rattle.std.proofs.lemmas.Bool.Decides.{nat_tests}
-use Rattle.std.proofs.lemmas.List.{length-map}
 use Rattle.std.proofs.lemmas.List.Elements.{All-cons, All-head, All-nil, All-tail}
-use Rattle.std.proofs.lemmas.Option.{none-some, same_Some}
-use Rattle.dnp_concentrator.specs.Plan.{KeepsLimits, KeepsSubLimits}
-use Rattle.dnp_concentrator.specs.PointsAbove.{block_of, class_of, point_of, points_below}
-use Rattle.dnp_concentrator.specs.declared.plan.Plan.{Plan}
+use Rattle.dnp_concentrator.specs.Plan.{KeepsSubLimits}
+use Rattle.dnp_concentrator.specs.PointsAbove.{class_of, point_of, points_below}
 use Rattle.dnp_concentrator.specs.declared.plan.SubPlan.{SubPlan}
 use Rattle.dnp_eventbuf.specs.Stock.{arriving}
 use Rattle.dnp_master.specs.Rows.{is_reported}
-use Rattle.dnp_objects.specs.Events.{IsEvent}
 use Rattle.dnp_objects.specs.declared.lane.Lane.{Lane}
 use Rattle.dnp_objects.specs.declared.lane.LaneRow.{LaneRow}
 use Rattle.dnp_objects.specs.declared.row.Kind.{Kind}
@@ -31,9 +27,8 @@ use Rattle.dnp_pointdb.specs.declared.point.Point.{Point}
 use Rattle.dnp_pointdb.specs.declared.reading.Reading.{Reading}
 use Rattle.dnp_pointdb.specs.declared.state.PointState.{PointState}
 use Rattle.dnp_pointdb.specs.declared.times.Times.{Times}
-use Rattle.dnp_world.specs.FreshSystems.{analog_point, analog_points, fresh_substation, fresh_substations, points_at}
+use Rattle.dnp_world.specs.FreshSystems.{analog_points, fresh_substations, points_at}
 use Rattle.dnp_world.specs.Planned.{HasClassesBelow}
-use Rattle.dnp_world.specs.Systems.{SubstationState}
 
 -- ---- what a change makes
 

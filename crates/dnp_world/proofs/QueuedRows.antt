@@ -1,7 +1,7 @@
 -- Rows that a concentrator queues: their lanes carry them, under indices that have 16 bits, and the points above stay sound.
-use Rattle.std.proofs.Common.{◌≡◌, ℕ, zero, suc, ◌<◌, ◌^◌, List, [], ◌∷◌, length, map, Option, Some, None, refl, sym, ap, ◌∙◌, subst, arith}
+use Rattle.std.proofs.Common.{◌≡◌, ℕ, zero, suc, ◌<◌, ◌^◌, List, [], ◌∷◌, Option, Some, None, refl, sym, ap, subst, arith}
 use Rattle.std.specs.Option.{option_and_then, option_map}
-use Rattle.std.specs.List.{All, filter_map}
+use Rattle.std.specs.List.{All}
 use Rattle.std.proofs.lemmas.List.Elements.{All-cons, All-head, All-nil, All-tail}
 use Rattle.dnp_concentrator.specs.Below.{reading_of, readings_set, set_by}
 use Rattle.dnp_concentrator.specs.IndexKinds.{kind_of_points}

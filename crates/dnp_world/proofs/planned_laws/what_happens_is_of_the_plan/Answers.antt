@@ -1,5 +1,5 @@
 -- The laws that the body calls are what the lemmas ask for.
-use Rattle.std.proofs.Common.{◌≡◌, ℕ, true, List, [], ◌∷◌, Option, Some, None, refl, sym, ap, subst}
+use Rattle.std.proofs.Common.{◌≡◌, ℕ, true, List, [], ◌∷◌, Option, Some, None, sym, subst}
 use Rattle.std.specs.Prelude.{IfSome, nat_eq, slice_get}
 use Rattle.std.specs.Option.{IsSomeAnd}
 use Rattle.std.specs.List.{All}
@@ -12,14 +12,11 @@ use Rattle.dnp_objects.specs.Equality.{row_eq}
 use Rattle.dnp_objects.specs.Events.{IsEvent}
 use Rattle.dnp_objects.specs.declared.row.Kind.{Kind}
 use Rattle.dnp_objects.specs.declared.row.Row.{Row}
-use Rattle.dnp_pointdb.specs.Database.{Database}
 use Rattle.dnp_pointdb.specs.declared.reading.Reading.{Reading}
 use Rattle.dnp_world.specs.Behind.{made_at}
 use Rattle.dnp_world.specs.Joined.{rows_made_by}
 use Rattle.dnp_world.specs.Kept.{report_of}
-use Rattle.dnp_world.specs.Planned.{HappenedAsPlanned, HasClassesBelow, HavePlannedPoints, IsPlanned}
-use Rattle.dnp_world.specs.Reports.{IsFate}
-use Rattle.dnp_world.specs.SystemEvents.{Reads}
+use Rattle.dnp_world.specs.Planned.{HasClassesBelow, HavePlannedPoints, IsPlanned}
 use Rattle.dnp_world.specs.Systems.{SubstationState, System}
 use Rattle.dnp_world.specs.declared.link_event.LinkEvent.TheVariants as event
 use Rattle.dnp_world.proofs.HappenedEvents.{MakesEvents, all_made_events, none_happened}
