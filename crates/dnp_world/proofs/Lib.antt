@@ -83,3 +83,12 @@ mod ReportReading
 mod ReportLists
 mod SystemRounds
 mod SystemControls
+mod HappenedRows
+mod TakenPlans
+mod QueuedRows
+mod BelowTakes
+mod BelowArrives
+mod HappenedEvents
+mod PlannedPoints
+mod PlannedEvents
+mod PlannedRows

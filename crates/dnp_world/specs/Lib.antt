@@ -29,3 +29,5 @@ pub mod ReportShown
 pub mod Rounds
 pub mod Controls
 pub mod ControlSteps
+pub mod Happened
+pub mod Planned

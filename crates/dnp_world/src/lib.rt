@@ -4,9 +4,11 @@
 //! [`joined_laws`].
 #![tactic(auto)]
 
+pub mod arrival_laws;
 mod channel;
 mod ends;
 mod event;
+pub mod happened_laws;
 mod history;
 pub mod joined_laws;
 pub mod laws;
@@ -17,6 +19,7 @@ mod new_substations;
 mod one_link;
 pub mod outstation_laws;
 mod parts;
+pub mod planned_laws;
 mod reading;
 pub mod relay_laws;
 mod report;

@@ -1,0 +1,194 @@
+-- What comes from a substation to the concentrator keeps what stands behind the system.
+use Rattle.std.proofs.Common.{◌≡◌, ℕ, zero, suc, ◌<◌, true, List, [], ◌∷◌, ◌++◌, length, Some, Result, Ok, Err, IfOk, refl, sym, ap, ◌∙◌, subst}
+use Rattle.std.specs.Prelude.{nat_lt, option_to_list, slice_get, slice_set, ⊤}
+use Rattle.std.proofs.lemmas.Bool.{and_parts, ltb-true}
+use Rattle.std.proofs.lemmas.Option.{same_Some}
+use Rattle.dnp_concentrator.specs.Below.{link_in}
+use Rattle.dnp_concentrator.specs.IndexMap.{IsMap}
+use Rattle.dnp_concentrator.specs.Mapped.{queued_rows}
+use Rattle.dnp_concentrator.specs.Plan.{map_of}
+use Rattle.dnp_concentrator.specs.Relaying as relaying
+use Rattle.dnp_concentrator.specs.Relaying.{Relaying}
+use Rattle.dnp_concentrator.specs.declared.span.Spans.{Spans}
+use Rattle.dnp_controls.specs.Panel.{Panel}
+use Rattle.dnp_line.specs.Lines.{LineState, delivered_on, front_of, repeated_on}
+use Rattle.dnp_line.specs.Ports.{PortState}
+use Rattle.dnp_line.specs.Ways.{HearsIfAny}
+use Rattle.dnp_master.specs.Calls.{Taking, receive_of}
+use Rattle.dnp_master.specs.declared.fault.MasterFault.{MasterFault}
+use Rattle.dnp_objects.specs.declared.row.Row.{Row}
+use Rattle.dnp_world.specs.declared.event.Link.TheVariants.{Below}
+use Rattle.dnp_world.specs.declared.link_event.LinkEvent.{LinkEvent}
+use Rattle.dnp_world.specs.declared.link_event.LinkEvent.TheVariants as event
+use Rattle.dnp_world.specs.declared.link_event.Way.TheVariants as way
+use Rattle.dnp_world.specs.Behind.{rows_of}
+use Rattle.dnp_world.specs.Channels.{ChannelState, GoDown}
+use Rattle.dnp_world.specs.Happened.{HappenedAsEvents}
+use Rattle.dnp_world.specs.Joined.{rows_made_by}
+use Rattle.dnp_world.specs.Link.{Link}
+use Rattle.dnp_world.specs.OneLinkEvents as one
+use Rattle.dnp_world.specs.OneLinkEvents.{HappensOn, LinkState, Receives, Takes}
+use Rattle.dnp_world.specs.Systems.{SubstationState, System, has_station, panel_of, station_of}
+use Rattle.dnp_world.specs.SystemEvents.{ComesUp, MasterReceives, MasterTakes, taken_below, with_substation}
+use Rattle.dnp_world.specs.SystemStanding.{RowLists, lists_of, no_sink, seen, seen_below, IsStanding, Keeps}
+use Rattle.dnp_world.proofs.BelowEvents.{few_outputs, quiet, seen_at, shown_with}
+use Rattle.dnp_world.proofs.BelowKeeps.{Grounds}
+use Rattle.dnp_world.proofs.BelowTakes.{ArrivalLaws, queued_for, taken_with, takes_keep}
+use Rattle.dnp_world.proofs.ListedAt.{set_here}
+use Rattle.dnp_world.proofs.TakenPlans.{IsMasterOf, master_there, receiving_keeps_plan}
+
+-- ---- the lines and the list of substations
+
+-- the substation once the front unit came to its master's port
+abbrev pub heard_at : (LineState → LineState) → PortState → SubstationState → SubstationState
+heard_at left port s = record s { channel = record s.channel { up = left s.channel.up; master_port = port } }
+
+-- what makes an event of the link by itself of what comes up
+abbrev pub IsComing : (LineState → LineState) → LinkEvent → Type 0
+IsComing left e = (s s' : LinkState ⊤) (panel : Panel) → one.ComesUp no_sink (left s.up) s s' → HappensOn no_sink panel s e s'
+
+-- a place that was written can be written again
+set_again : {A : Type 0} (xs : List A) (i : ℕ) (a b : A) → slice_set (slice_set xs i a) i b ≡ slice_set xs i b
+set_again [] i a b = refl
+set_again (x ∷ xs) zero a b = refl
+set_again {A} (x ∷ xs) (suc i) a b = ap (λ (ys : List A). x ∷ ys) (set_again xs i a b)
+
+has_link_to : (s : System) (station : ℕ) → has_station s station ≡ true → station < length s.concentrator.links
+has_link_to s station has =
+    ltb-true station (length s.concentrator.links)
+    ((and_parts (nat_lt station (length s.substations)) (nat_lt station (length s.concentrator.links)) has).1)
+
+-- ---- a unit comes to the master of a substation
+
+-- what was heard there
+record Comes (left : LineState → LineState) (e : LinkEvent) (old : System) (station : ℕ) : Type 0 where
+  is_event : IsComing left e
+  has : has_station old station ≡ true
+  was : SubstationState
+  there : slice_get old.substations station ≡ Some was
+  port : PortState
+  given : List (List ℕ)
+  heard : HearsIfAny (front_of was.channel.up) was.channel.master_port port [] given
+  made : rows_made_by was.core.points (e ∷ []) ≡ []
+
+-- nothing is taken
+untaken : Grounds → (left : LineState → LineState) (e : LinkEvent) (old new : System) (h : IsStanding old) (station : ℕ) (c : Comes left e old station)
+    → (let base : LinkState ⊤ = seen_at old station (heard_at left c.port c.was) (lists_of (h.links.below station)) in one.ComeUp no_sink c.given base base)
+    → new ≡ with_substation old station (heard_at left c.port c.was) → Keeps station [] old new
+untaken grounds left e old new h station c came after =
+    let lists : RowLists = lists_of (h.links.below station) in
+    let is : SubstationState = heard_at left c.port c.was in
+    subst (λ (rows : List Row). Keeps station rows old new) c.made
+    (quiet grounds old new h station c.was is e c.there refl
+    (c.is_event (seen_at old station c.was lists) (seen_at old station is lists) (panel_of c.was)
+    (record { port = c.port; given = c.given; heard = c.heard; came = came })) after)
+
+-- the events that the concentrator takes are all queued
+taken_queued : ArrivalLaws → (old : System) (h : IsStanding old) (station : ℕ) → has_station old station ≡ true → (fragment : List ℕ) (t : Taking)
+    → receive_of (link_in old.concentrator.links station).master old.now fragment ≡ Ok t
+    → length (queued_for old station t.events) ≡ length t.events
+taken_queued laws old h station has fragment t is =
+    let r : Relaying = link_in old.concentrator.links station in
+    let m : IsMasterOf h.plan.substations station r =
+    master_there old.concentrator.links h.plan.substations station (has_link_to old station has) h.of_plan.masters in
+    let spans : old.concentrator.indices ≡ map_of h.plan = h.of_plan.middle_indices ∙ h.of_plan.indices in
+    let all : length (queued_rows (map_of h.plan) old.concentrator.core.points station t.events) ≡ length t.events =
+    subst (λ (x : Result Taking MasterFault). IfOk x (λ t. length (queued_rows (map_of h.plan) old.concentrator.core.points station t.events) ≡ length t.events))
+    is
+    (laws.queued h.plan old.concentrator.core.points station m.substation r.master old.now fragment h.of_plan.limits
+    (subst (λ (xs : List Spans). IsMap xs) h.of_plan.indices h.of_plan.is_map) h.of_plan.classes m.there m.asks) in
+    subst (λ (xs : List Spans). length (queued_rows xs old.concentrator.core.points station t.events) ≡ length t.events) (sym spans) all
+
+-- the concentrator takes the fragment, or refuses it
+received : Grounds → ArrivalLaws → (left : LineState → LineState) (e : LinkEvent) (old new : System) (h : IsStanding old) (station : ℕ) (c : Comes left e old station)
+    → HappenedAsEvents old → (fragment : List ℕ) (others : List (List ℕ)) → c.given ≡ fragment ∷ others → (r : Result Taking MasterFault)
+    → receive_of (link_in old.concentrator.links station).master old.now fragment ≡ r
+    → MasterReceives (Below station) r (with_substation old station (heard_at left c.port c.was)) new → Keeps station [] old new
+received grounds laws left e old new h station c events fragment others given (Ok t) is (room, change) =
+    let l : Link = h.links.below station in
+    let r : Relaying = link_in old.concentrator.links station in
+    let mid : SubstationState = heard_at left c.port c.was in
+    let between : System = with_substation old station mid in
+    let same : change.was ≡ mid =
+    same_Some change.was mid (sym change.there ∙ set_here old.substations station c.was mid c.there) in
+    let lines : ChannelState = change.is.channel in
+    let is_now : SubstationState = record mid { channel = lines } in
+    let down : GoDown (option_to_list t.confirm) mid.channel lines =
+    subst (λ (x : SubstationState). GoDown (option_to_list t.confirm) x.channel lines) same change.changed.0 in
+    let after : new ≡ taken_with station is_now t old =
+    change.after
+    ∙ ap (λ (x : SubstationState). with_substation (taken_below between station t) station x)
+    (change.changed.1 ∙ ap (λ (x : SubstationState). record x { channel = lines }) same)
+    ∙ ap (λ (xs : List SubstationState). record (taken_below between station t) { substations = xs }) (set_again old.substations station mid is_now) in
+    let lists : RowLists = record (lists_of l) { taken = rows_of l.took ++ t.events } in
+    let base : LinkState ⊤ = seen_at old station mid (lists_of l) in
+    let s' : LinkState ⊤ = seen_below old.now (relaying.received r t) is_now lists in
+    let takes : Takes no_sink t base s' = record {
+      given = λ some. ([], tt);
+      spared = λ none. refl;
+      sent = down.sent;
+      after = ap (λ (x : ChannelState). seen (station_of c.was) t.state x old.now lists) down.after;
+    } in
+    takes_keep grounds laws old new h station c.was is_now t e events (has_link_to old station c.has) c.there refl
+    (shown_with c.was is_now (few_outputs old h station c.was c.there) refl)
+    (taken_queued laws old h station c.has fragment t is) room
+    (subst (λ (x : Result Taking MasterFault). IfOk x (λ t. t.state.plan ≡ r.master.plan)) is (receiving_keeps_plan r.master old.now fragment))
+    c.made
+    (c.is_event (seen_at old station c.was (lists_of l)) s' (panel_of c.was)
+    (record {
+      port = c.port;
+      given = c.given;
+      heard = c.heard;
+      came = subst (λ (xs : List (List ℕ)). one.ComeUp no_sink xs base s') (sym given)
+          (subst (λ (x : Result Taking MasterFault). Receives no_sink x base s') (sym is) takes);
+    }))
+    after
+received grounds laws left e old new h station c events fragment others given (Err fault) is after =
+    let base : LinkState ⊤ = seen_at old station (heard_at left c.port c.was) (lists_of (h.links.below station)) in
+    untaken grounds left e old new h station c
+    (subst (λ (xs : List (List ℕ)). one.ComeUp no_sink xs base base) (sym given)
+    (subst (λ (x : Result Taking MasterFault). Receives no_sink x base base) (sym is) refl)) after
+
+taken_in : Grounds → ArrivalLaws → (left : LineState → LineState) (e : LinkEvent) (old new : System) (h : IsStanding old) (station : ℕ) (c : Comes left e old station)
+    → HappenedAsEvents old → (given : List (List ℕ)) → c.given ≡ given
+    → MasterTakes (Below station) given (with_substation old station (heard_at left c.port c.was)) new → Keeps station [] old new
+taken_in grounds laws left e old new h station c events [] given after =
+    let base : LinkState ⊤ = seen_at old station (heard_at left c.port c.was) (lists_of (h.links.below station)) in
+    untaken grounds left e old new h station c (subst (λ (xs : List (List ℕ)). one.ComeUp no_sink xs base base) (sym given) refl) after
+taken_in grounds laws left e old new h station c events (fragment ∷ others) given came =
+    received grounds laws left e old new h station c events fragment others given
+    (receive_of (link_in old.concentrator.links station).master old.now fragment) refl came
+
+comes : Grounds → ArrivalLaws → (left : LineState → LineState) (e : LinkEvent) → IsComing left e → (old new : System) (station : ℕ)
+    → has_station old station ≡ true → IsStanding old → HappenedAsEvents old
+    → ((was : SubstationState) → rows_made_by was.core.points (e ∷ []) ≡ []) → ComesUp left (Below station) old new → Keeps station [] old new
+comes grounds laws left e is_event old new station has h events made c =
+    let was : SubstationState = c.heard.was in
+    let port : PortState = c.heard.is.channel.master_port in
+    let is : c.between ≡ with_substation old station (heard_at left port was) =
+    c.heard.after
+    ∙ ap (λ (s : SubstationState). with_substation old station s)
+    (c.heard.changed.1 ∙ ap (λ (lines : ChannelState). record was { channel = lines }) c.heard.changed.0.after) in
+    taken_in grounds laws left e old new h station
+    (record {
+      is_event = is_event;
+      has = has;
+      was = was;
+      there = c.heard.there;
+      port = port;
+      given = c.given;
+      heard = c.heard.changed.0.heard;
+      made = made was;
+    })
+    events c.given refl
+    (subst (λ (s : System). MasterTakes (Below station) c.given s new) is c.came)
+
+pub delivers_below : Grounds → ArrivalLaws → (old new : System) (station : ℕ) → has_station old station ≡ true → IsStanding old → HappenedAsEvents old
+    → ComesUp delivered_on (Below station) old new → Keeps station [] old new
+delivers_below grounds laws old new station has h events c =
+    comes grounds laws delivered_on (event.Deliver way.Up) (λ s s' panel come. come) old new station has h events (λ was. refl) c
+
+pub repeats_below : Grounds → ArrivalLaws → (old new : System) (station : ℕ) → has_station old station ≡ true → IsStanding old → HappenedAsEvents old
+    → ComesUp repeated_on (Below station) old new → Keeps station [] old new
+repeats_below grounds laws old new station has h events c =
+    comes grounds laws repeated_on (event.Repeat way.Up) (λ s s' panel come. come) old new station has h events (λ was. refl) c

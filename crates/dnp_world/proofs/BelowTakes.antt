@@ -1,0 +1,310 @@
+-- Rows that a substation's master takes: they happened there, and come into the queue above, which keeps what stands behind the system.
+use Rattle.std.proofs.Common.{◌≡◌, ◌≢◌, ℕ, ◌+◌, ◌<◌, ◌^◌, Bool, false, List, [], ◌∷◌, ◌++◌, length, drop, Option, Some, IfOk, refl, sym, ap, ◌∙◌, subst, append-nil, arith}
+use Rattle.std.specs.Prelude.{slice_get, slice_set, IfSome, ⊤}
+use Rattle.std.specs.List.{All, count_by}
+use Rattle.std.proofs.lemmas.List.{drop_all, length-map}
+use Rattle.std.proofs.lemmas.List.Elements.{All-weaker}
+use Rattle.dnp_concentrator.specs.Below.{link_in, readings_set}
+use Rattle.dnp_concentrator.specs.IndexMap.{IsMap}
+use Rattle.dnp_concentrator.specs.Mapped.{queued_rows}
+use Rattle.dnp_concentrator.specs.Plan.{KeepsLimits, map_of}
+use Rattle.dnp_concentrator.specs.PointsAbove.{HasClassesOf, points_below}
+use Rattle.dnp_concentrator.specs.Relaying as relaying
+use Rattle.dnp_concentrator.specs.Relaying.{Relaying}
+use Rattle.dnp_concentrator.specs.declared.plan.Plan.{Plan}
+use Rattle.dnp_concentrator.specs.declared.plan.SubPlan.{SubPlan}
+use Rattle.dnp_concentrator.specs.declared.span.Spans.{Spans}
+use Rattle.dnp_controls.specs.Latches.{PlainState}
+use Rattle.dnp_eventbuf.specs.Buffered.{Buffered, buffered_row}
+use Rattle.dnp_eventbuf.specs.Carried.{IsCarried}
+use Rattle.dnp_eventbuf.specs.Sound.{IsSound}
+use Rattle.dnp_eventbuf.specs.Stock.{Stock, arriving, dropped_by, exhausts, lost_in, rows_in, with_rows}
+use Rattle.dnp_master.specs.Calls.{Taking, receive_of}
+use Rattle.dnp_master.specs.State as master
+use Rattle.dnp_objects.specs.Counts.{IsEqualityTest}
+use Rattle.dnp_objects.specs.Equality.{row_eq}
+use Rattle.dnp_objects.specs.Events.{IsEvent}
+use Rattle.dnp_objects.specs.declared.command.Command.{Command}
+use Rattle.dnp_objects.specs.declared.lane.LaneRow.{LaneRow}
+use Rattle.dnp_objects.specs.declared.row.Row.{Row}
+use Rattle.dnp_outstation.specs.State.{State}
+use Rattle.dnp_pointdb.specs.Database.{Database}
+use Rattle.dnp_pointdb.specs.Sound as points
+use Rattle.dnp_world.specs.declared.link_event.LinkEvent.{LinkEvent}
+use Rattle.dnp_world.specs.Behind.{does_nothing, rows_of, with_links, Grows, Turn}
+use Rattle.dnp_world.specs.Happened.{HappenedAsEvents}
+use Rattle.dnp_world.specs.Joined.{Follows, rows_made_by, with_others_rows}
+use Rattle.dnp_world.specs.Kept.{kept_in, lane_rows_of, orders_in, report_of, rows_below, used_commands, used_orders}
+use Rattle.dnp_world.specs.Link.{Link}
+use Rattle.dnp_world.specs.Moves.{Done, Moves}
+use Rattle.dnp_world.specs.OneLinkEvents.{LinkState, HappensOn}
+use Rattle.dnp_world.specs.OutstationSeen.{ShowOctets, Shows, Simulates}
+use Rattle.dnp_world.specs.Reports.{happened}
+use Rattle.dnp_world.specs.Standing.{Stands}
+use Rattle.dnp_world.specs.Stations.{of_station, HasSameCounts}
+use Rattle.dnp_world.specs.SystemEvents.{HasNumbers, concentrator_taken, dropped_for}
+use Rattle.dnp_world.specs.Systems.{ConcentratorState, SubstationState, System, middle_of, panel_of}
+use Rattle.dnp_world.specs.SystemStanding.{RowLists, lists_of, no_sink, seen_above, seen_below, IsJoinedBelow, IsStanding, Keeps}
+use Rattle.dnp_world.proofs.BelowEvents.{no_performs}
+use Rattle.dnp_world.proofs.BelowKeeps.{Grounds, grows_by, lane_rows, none_more, none_used, points_set, relisted, some_of}
+use Rattle.dnp_world.proofs.ByStations.{some_there}
+use Rattle.dnp_world.proofs.Counting.{count_by-append}
+use Rattle.dnp_world.proofs.HappenedRows.{all_at, all_counted}
+use Rattle.dnp_world.proofs.JoinedRuns.{append_follows, append_of, listed}
+use Rattle.dnp_world.proofs.ListedAt.{set_here, set_there, listed_here, listed_there}
+use Rattle.dnp_world.proofs.QueuedRows.{IsTaken, LowIndexes, StaySound, all_taken, readings_sound}
+use Rattle.dnp_world.proofs.SystemCounts.{count_by-map, same_is, same_refl}
+use Rattle.dnp_world.proofs.SystemMapping.{RowsBack, queued_undone}
+use Rattle.dnp_world.proofs.SystemPlans.{asked_still, link_here, link_there, planned_as}
+use Rattle.dnp_world.proofs.Turning.{by_station}
+
+-- what the laws of a link, of lanes, of points and of the index map promise
+pub record ArrivalLaws : Type 0 where
+  pub goes_on : (old new : Link) → Moves old new → Stands old → Stands new
+  pub stood : (s : System) (h : IsStanding s) (station : ℕ)
+      → HasSameCounts (rows_of (h.links.below station).stood) (of_station station (happened (report_of s)))
+  pub rows : IsEqualityTest row_eq
+  pub appends : (s : State) (rows : List LaneRow) (l : Link) → All IsCarried rows → exhausts s.lanes rows ≡ false
+      → All (λ x. x.row.index < 2 ^ 16) rows → Shows s l → Simulates s (arriving rows) (append_of s rows) l
+  pub lost : (s : Stock) (rows : List LaneRow) → IsSound s → lost_in (with_rows s rows) ≡ lost_in s + length (dropped_by s rows)
+  pub queued : (plan : Plan) (database : Database) (station : ℕ) (substation : SubPlan) (m : master.State) (now : ℕ) (octets : List ℕ)
+      → KeepsLimits plan → IsMap (map_of plan) → HasClassesOf plan database → slice_get plan.substations station ≡ Some substation
+      → m.plan ≡ points_below substation
+      → IfOk (receive_of m now octets) (λ t. length (queued_rows (map_of plan) database station t.events) ≡ length t.events)
+  pub undone : RowsBack
+  pub low : LowIndexes
+  pub set_sound : StaySound
+  pub set_classes : (plan : Plan) (database : Database) (spans : List Spans) (station : ℕ) (rows : List Row) → HasClassesOf plan database
+      → HasClassesOf plan (readings_set spans station database rows)
+
+-- ---- what is taken happened
+
+-- where a row that the master took passes a test, one that happened at the substation does
+taken_happened : ArrivalLaws → (old : System) (h : IsStanding old) (station : ℕ) (link : Link) (taken : List Row) → Moves (h.links.below station) link
+    → HasSameCounts (rows_of link.stood) (rows_of (h.links.below station).stood ++ [])
+    → HasSameCounts (rows_of link.took) (rows_of (h.links.below station).took ++ taken)
+    → (test : Row → Bool) → 0 < count_by test taken → 0 < count_by test (of_station station (happened (report_of old)))
+taken_happened laws old h station link taken moves stood took test some =
+    let l : Link = h.links.below station in
+    let stands : Stands link = laws.goes_on l link moves (h.behind.below_stands station) in
+    let in_test : Buffered → Bool = λ x. test (buffered_row x) in
+    let took_some : 0 < count_by in_test link.took =
+    omega (arith, some, took.same test, count_by-append test (rows_of l.took) taken, count_by-map test buffered_row link.took) in
+    let stood_some : 0 < count_by in_test link.stood = some_there in_test link.took link.stood stands.rows.took took_some in
+    omega (
+      arith,
+      stood_some,
+      count_by-map test buffered_row link.stood,
+      stood.same test,
+      count_by-append test (rows_of l.stood) [],
+      (laws.stood old h station).same test,
+    )
+
+-- so each can be written as an event
+events_taken : ArrivalLaws → (old : System) (h : IsStanding old) (station : ℕ) (link : Link) (taken : List Row) → HappenedAsEvents old
+    → Moves (h.links.below station) link
+    → HasSameCounts (rows_of link.stood) (rows_of (h.links.below station).stood ++ [])
+    → HasSameCounts (rows_of link.took) (rows_of (h.links.below station).took ++ taken) → All IsEvent taken
+events_taken laws old h station link taken events moves stood took =
+    all_counted IsEvent row_eq laws.rows taken (of_station station (happened (report_of old)))
+    (λ x some. taken_happened laws old h station link taken moves stood took (row_eq x) some)
+    (all_at (λ (x : ℕ × Row). IsEvent x.1) station (happened (report_of old)) events)
+
+-- ---- the link above
+
+-- the link by itself where rows were queued, and what full lanes dropped for them is listed
+abbrev queued_on : System → RowLists → List LaneRow → LinkState ⊤
+queued_on s lists rows =
+    record (with_others_rows rows (seen_above s lists)) { left = lists.left ++ dropped_by s.concentrator.queue rows }
+
+queued_follows : ArrivalLaws → (old : System) (h : IsStanding old) (rows : List LaneRow) → All IsTaken rows → exhausts old.concentrator.queue rows ≡ false
+    → Follows [] (arriving rows) [] (middle_of old.concentrator).performed h.links.above (queued_on old (lists_of h.links.above) rows)
+queued_follows laws old h rows taken fits =
+    let l : Link = h.links.above in
+    let s : LinkState ⊤ = seen_above old (lists_of l) in
+    let dropped : List Row = dropped_by old.concentrator.queue rows in
+    let f : Follows ([] ++ dropped) (arriving rows) [] (middle_of old.concentrator).performed l (with_others_rows rows s) =
+    append_follows [] s l rows h.above
+    (laws.appends s.outstation rows l (All-weaker IsTaken IsCarried (λ x t. t.0) rows taken) fits
+    (All-weaker IsTaken (λ x. x.row.index < 2 ^ 16) (λ x t. t.1) rows taken) h.above.outstation) in
+    record {
+      link = f.link;
+      moves = f.moves;
+      joined = listed [] dropped (with_others_rows rows s) f.link f.joined;
+      stood = f.stood;
+      asked_is = f.asked_is;
+      commands = f.commands;
+      performed = f.performed;
+      performed_is = f.performed_is;
+    }
+
+-- where none came, the link stays
+none_follows : (old : System) (h : IsStanding old)
+    → Follows [] (arriving []) [] (middle_of old.concentrator).performed h.links.above (queued_on old (lists_of h.links.above) [])
+none_follows old h =
+    let l : Link = h.links.above in
+    record {
+      link = l;
+      moves = Done;
+      joined = listed [] [] (seen_above old (lists_of l)) l h.above;
+      stood = sym (append-nil (rows_of l.stood));
+      asked_is = sym (append-nil l.asked);
+      commands = [];
+      performed = sym (append-nil (middle_of old.concentrator).performed);
+      performed_is = sym (append-nil l.performed);
+    }
+
+-- the rows of a substation that are queued
+abbrev pub queued_for : System → ℕ → List Row → List LaneRow
+queued_for s station events = queued_rows s.concentrator.indices s.concentrator.core.points station events
+
+events_follow : ArrivalLaws → (old : System) (h : IsStanding old) (station : ℕ) (events : List Row) → All IsEvent events
+    → (events ≢ [] → exhausts old.concentrator.queue (queued_for old station events) ≡ false)
+    → Follows [] (arriving (queued_for old station events)) [] (middle_of old.concentrator).performed h.links.above
+    (queued_on old (lists_of h.links.above) (queued_for old station events))
+events_follow laws old h station [] events fits = none_follows old h
+events_follow laws old h station (row ∷ rows) events fits =
+    queued_follows laws old h (queued_for old station (row ∷ rows))
+    (all_taken laws.low old.concentrator.indices (subst IsMap (sym h.of_plan.middle_indices) h.of_plan.is_map) old.concentrator.core.points station (row ∷ rows)
+    events)
+    (fits (λ none. absurd (cc)))
+
+-- ---- the system after it
+
+-- the substation is another, and its rows were taken
+abbrev pub taken_with : ℕ → SubstationState → Taking → System → System
+taken_with station is t s = record s {
+  substations = slice_set s.substations station is;
+  concentrator = concentrator_taken s.concentrator station t;
+  history = record s.history { dropped = s.history.dropped ++ dropped_for s.concentrator station t };
+}
+
+turn_taken : ArrivalLaws → (old : System) (h : IsStanding old) (station : ℕ) (was is : SubstationState) (t : Taking) (below above : Link)
+    → slice_get old.substations station ≡ Some was
+    → length (queued_for old station t.events) ≡ length t.events
+    → Grows (h.links.below station) below (record does_nothing { taken = t.events })
+    → Grows h.links.above above
+    (record does_nothing { made = arriving (queued_for old station t.events); left = dropped_for old.concentrator station t })
+    → rows_of below.lanes ≡ rows_in is.lanes
+    → rows_of above.lanes ≡ rows_in (with_rows old.concentrator.queue (queued_for old station t.events))
+    → Turn old.indices station h.links (kept_in old) (kept_in (taken_with station is t old))
+turn_taken laws old h station was is t below above there all below_grows above_grows lanes queue =
+    let new : System = taken_with station is t old in
+    let rows : List LaneRow = queued_for old station t.events in
+    let spans : List Spans = old.concentrator.indices in
+    let m : IsMap spans = subst IsMap (sym h.of_plan.middle_indices) h.of_plan.is_map in
+    record {
+      below = below;
+      above = above;
+      here = record does_nothing { taken = t.events };
+      there = record does_nothing { made = arriving rows; left = dropped_for old.concentrator station t };
+      below_grows = below_grows;
+      above_grows = above_grows;
+      joined = ap (λ (xs : List Spans). rows_below xs (arriving rows)) (sym h.of_plan.middle_indices)
+          ∙ queued_undone laws.undone spans m old.concentrator.core.points station t.events all;
+      mapped = length-map rows (λ (x : LaneRow). x.row) ∙ all;
+      buffered = same_is (rows_of below.lanes) (of_station station (kept_in new).buffered)
+          (lanes ∙ sym (listed_here lane_rows_of old.substations station was is there));
+      others = λ i other. same_is (of_station i (kept_in new).buffered) (of_station i (kept_in old).buffered)
+          (listed_there lane_rows_of old.substations station i is other);
+      confirmed = none_more old.history.confirmed;
+      left = none_more (old.history.overwritten ++ old.history.gone);
+      queue = same_is (rows_of above.lanes) (kept_in new).queue queue;
+      dropped = same_refl new.history.dropped;
+      lost = laws.lost old.concentrator.queue rows h.above.outstation.well.lanes;
+      journal = none_more (kept_in old).journal;
+      operated = none_more old.history.operated;
+      used = none_used (used_orders (kept_in old).controls);
+      added = none_more (orders_in (kept_in old).controls);
+      used_above = none_used (used_commands (kept_in old).orders);
+      issues = [];
+      issued = none_more old.history.issued;
+      ordered = none_more _;
+    }
+
+-- the link to another substation is as it was
+other_stands : (old : System) (h : IsStanding old) (station : ℕ) (is : SubstationState) (r : Relaying) (i : ℕ) → i ≢ station
+    → IfSome (slice_get (slice_set old.substations station is) i)
+    (IsJoinedBelow old.now (link_in (slice_set old.concentrator.links station r) i) (h.links.below i))
+other_stands old h station is r i other =
+    subst (λ (x : Relaying). IfSome (slice_get (slice_set old.substations station is) i) (IsJoinedBelow old.now x (h.links.below i)))
+    (sym (link_there old.concentrator.links station i r other))
+    (subst (λ (o : Option SubstationState). IfSome o (IsJoinedBelow old.now (link_in old.concentrator.links i) (h.links.below i)))
+    (sym (set_there old.substations station i is other)) (h.below i))
+
+some_then : {S : Type 0} (P : S → Type 0) (o : Option S) (x : S) → o ≡ Some x → P x → IfSome o P
+some_then P o x e h = subst (λ o. IfSome o P) (sym e) h
+
+-- nothing is performed above
+none_performed : (performed : List Command) → drop (length performed) performed ≡ []
+none_performed performed = drop_all (length performed) performed (omega arith)
+
+-- The fragment is one that comes on the link by itself.
+pub takes_keep : Grounds → ArrivalLaws → (old new : System) (h : IsStanding old) (station : ℕ) (was is : SubstationState) (t : Taking) (e : LinkEvent)
+    → HappenedAsEvents old → station < length old.concentrator.links → slice_get old.substations station ≡ Some was → is.outputs ≡ was.outputs
+    → ShowOctets (panel_of is)
+    → length (queued_for old station t.events) ≡ length t.events → HasNumbers old.concentrator station t
+    → t.state.plan ≡ (link_in old.concentrator.links station).master.plan
+    → rows_made_by was.core.points (e ∷ []) ≡ []
+    → (let r : Relaying = link_in old.concentrator.links station in
+    let l : Link = h.links.below station in
+    HappensOn no_sink (panel_of was) (seen_below old.now r was (lists_of l)) e
+    (seen_below old.now (relaying.received r t) is (record (lists_of l) { taken = rows_of l.took ++ t.events })))
+    → new ≡ taken_with station is t old → Keeps station [] old new
+unfolding turn_taken
+takes_keep grounds laws old new h station was is t e events low there same shown all room plan made happens after =
+    let l : Link = h.links.below station in
+    let c : ConcentratorState = old.concentrator in
+    let r : Relaying = link_in c.links station in
+    let next : System = taken_with station is t old in
+    let before : IsJoinedBelow old.now r l was = some_of (IsJoinedBelow old.now r l) (slice_get old.substations station) was there (h.below station) in
+    let s : LinkState ⊤ = seen_below old.now r was (lists_of l) in
+    let s' : LinkState ⊤ = seen_below old.now (relaying.received r t) is (record (lists_of l) { taken = rows_of l.took ++ t.events }) in
+    let f : Follows [] [] [] was.outputs.performed l s' =
+    subst (λ (rows : List Row). Follows [] rows [] was.outputs.performed l s') made
+    (grounds.happens (panel_of was) s s' e l before.shown (h.behind.below_stands station) before.joined happens) in
+    let below_grows : Grows l f.link (record does_nothing { taken = t.events }) =
+    subst (λ (performs : List Command). Grows l f.link (record does_nothing { taken = t.events; performed = performs }))
+    (no_performs was is (ap (λ (o : PlainState). o.performed) same))
+    (grows_by [] t.events [] [] [] was.outputs.performed l s' refl (sym (append-nil (rows_of l.released))) (sym (append-nil (rows_of l.left))) f) in
+    let rows : List LaneRow = queued_for old station t.events in
+    let dropped : List Row = dropped_for c station t in
+    let a : Link = h.links.above in
+    let performed : List Command = (middle_of c).performed in
+    let s2 : LinkState ⊤ = queued_on old (lists_of a) rows in
+    let g : Follows [] (arriving rows) [] performed a s2 =
+    events_follow laws old h station t.events
+    (events_taken laws old h station f.link t.events events f.moves below_grows.stood below_grows.took) room in
+    let above_grows : Grows a g.link (record does_nothing { made = arriving rows; left = dropped }) =
+    subst (λ (performs : List Command). Grows a g.link (record does_nothing { made = arriving rows; left = dropped; performed = performs }))
+    (none_performed performed)
+    (grows_by (arriving rows) [] [] dropped [] performed a s2 (sym (append-nil (rows_of a.took))) (sym (append-nil (rows_of a.released))) refl g) in
+    let turn : Turn old.indices station h.links (kept_in old) (kept_in next) =
+    turn_taken laws old h station was is t f.link g.link there all below_grows above_grows (lane_rows s' f.link f.joined) (lane_rows s2 g.link g.joined) in
+    let first : Database = readings_set c.indices station c.core.points t.events in
+    let last : Database = readings_set c.indices station first t.statics in
+    let sound : points.IsSound last =
+    readings_sound laws.set_sound c.indices station first t.statics
+    (readings_sound laws.set_sound c.indices station c.core.points t.events h.above.outstation.well.points) in
+    let classes : HasClassesOf h.plan last =
+    laws.set_classes h.plan first c.indices station t.statics (laws.set_classes h.plan c.core.points c.indices station t.events h.of_plan.classes) in
+    subst (λ (x : System). Keeps station [] old x) (sym after)
+    (record {
+      standing = record {
+        plan = h.plan;
+        of_plan = planned_as old next h.plan refl refl refl classes (asked_still c.links station (relaying.received r t) plan) h.of_plan;
+        links = with_links h.links station f.link g.link;
+        below = by_station
+            (λ i x. IfSome (slice_get next.substations i) (IsJoinedBelow old.now (link_in (slice_set c.links station (relaying.received r t)) i) x)) h.links
+            station f.link g.link
+            (some_then (IsJoinedBelow old.now (link_in (slice_set c.links station (relaying.received r t)) station) f.link)
+            (slice_get next.substations station) is (set_here old.substations station was is there)
+            (subst (λ (x : Relaying). IsJoinedBelow old.now x f.link is) (sym (link_here c.links station (relaying.received r t) low))
+            (record { joined = relisted s' f.link old.now f.joined; shown = shown })))
+            (other_stands old h station is (relaying.received r t));
+        above = points_set (record s2 { now = old.now; taken = rows_of g.link.took; released = rows_of g.link.released; left = rows_of g.link.left }) g.link last sound
+            (relisted s2 g.link old.now g.joined);
+        behind = grounds.turns.kept old.indices station h.links (kept_in old) (kept_in next) h.behind turn;
+      };
+      fate = grounds.turns.fate old.indices station h.links (kept_in old) (kept_in next) h.behind turn;
+    })

@@ -1,0 +1,18 @@
+-- The laws that the body calls are what the lemmas ask for.
+use Rattle.dnp_world.proofs.PlannedEvents.{event_keeps}
+use Rattle.dnp_world.proofs.PlannedPoints.{ClassLaws, planned_on}
+use Rattle.dnp_world.proofs.planned_laws.substations_keep_their_points.Goals as goal
+
+laws_of : goal.After-a_change_is_of_one_point → ClassLaws
+laws_of c = record {
+  content = record {
+    keeps = c.content_leaves_the_connection_alone.ensures.keeps;
+    keeps_held = c.content_leaves_the_connection_alone.ensures.keeps_held;
+  };
+  changed = c.a_change_is_of_one_point.ensures.changed;
+  others = c.a_change_is_of_one_point.ensures.others_changed;
+  restarted = c.a_change_is_of_one_point.ensures.restarted;
+}
+
+pub returns : goal.returns
+returns c = λ plan old new event happens. planned_on plan old new (event_keeps (laws_of c) old new event happens)

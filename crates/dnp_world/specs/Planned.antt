@@ -1,0 +1,35 @@
+-- Definition: what happened at the substations of a system is of its plan: each row is of a point that the plan has there, with a
+-- class that has events, and can be written as an event (IEEE Std 1815-2012, application layer: event classes; object library: groups
+-- 2, 22 and 32).
+use Rattle.std.specs.Prelude.{◌≡◌, ℕ, true, All, IfSome, slice_get}
+use Rattle.std.specs.Option.{IsSomeAnd}
+use Rattle.dnp_concentrator.specs.PointsAbove.{class_of, points_below}
+use Rattle.dnp_concentrator.specs.declared.plan.Plan.{Plan}
+use Rattle.dnp_concentrator.specs.declared.plan.SubPlan.{SubPlan}
+use Rattle.dnp_master.specs.Rows.{is_reported}
+use Rattle.dnp_objects.specs.Events.{IsEvent}
+use Rattle.dnp_objects.specs.declared.row.Kind.{Kind}
+use Rattle.dnp_objects.specs.declared.row.Row.{Row}
+use Rattle.dnp_pointdb.specs.Classes.{class_at}
+use Rattle.dnp_pointdb.specs.Database.{Database}
+use Rattle.dnp_world.specs.Kept.{report_of}
+use Rattle.dnp_world.specs.Reports.{happened}
+use Rattle.dnp_world.specs.Systems.{System}
+
+-- the points are those of the substation's plan, with its classes
+abbrev pub HasClassesBelow : SubPlan → Database → Type 0
+HasClassesBelow planned points = (kind : Kind) (index : ℕ) → class_of points kind index ≡ class_at (points_below planned) kind index
+
+-- those of each substation
+abbrev pub HavePlannedPoints : Plan → System → Type 0
+HavePlannedPoints plan s =
+    (station : ℕ) → IfSome (slice_get s.substations station) (λ substation.
+    IsSomeAnd (slice_get plan.substations station) (λ planned. HasClassesBelow planned substation.core.points))
+
+-- the plan has the row's point at this substation, with a class that has events, and the row can be written as an event
+abbrev pub IsPlanned : Plan → ℕ × Row → Type 0
+IsPlanned plan x = IsEvent x.1 × IsSomeAnd (slice_get plan.substations x.0) (λ planned. is_reported (points_below planned) x.1 ≡ true)
+
+pub record HappenedAsPlanned (plan : Plan) (s : System) : Type 0 where
+  pub points : HavePlannedPoints plan s
+  pub rows : All (IsPlanned plan) (happened (report_of s))
