@@ -4,7 +4,7 @@ use Rattle.std.specs.Prelude.{IfErr, OnOk, ⊤}
 use Rattle.dnp_world.specs.ControlSteps.{EndsBy}
 use Rattle.dnp_world.specs.Controls.{CanGo, ControlEnds, IsAccepted, IsControlFor, IsOfControl, IsRefusedFor, IsRefusedOn, Passes, PassesBack, station_in}
 use Rattle.dnp_world.specs.Rounds.{Flushes, StopsIn}
-use Rattle.dnp_world.specs.SystemEvents.{CountsFor, IsKept}
+use Rattle.dnp_world.specs.SystemEvents.{CountsFor}
 use Rattle.dnp_world.specs.Systems.{System}
 use Rattle.dnp_world.specs.declared.event.Event.{Event}
 use Rattle.dnp_world.specs.declared.event.Event.TheVariants.{Deliver, Relay}
@@ -15,7 +15,6 @@ use Rattle.dnp_world.specs.declared.link_event.Way.TheVariants.{Down, Up}
 use Rattle.dnp_world.specs.declared.round_fault.ControlFault.{ControlFault}
 use Rattle.dnp_world.specs.declared.round_fault.ControlFault.TheVariants.{NotQuiet, NotNext, Refused, Fault}
 use Rattle.dnp_world.proofs.SystemRounds.{Ran, ran_both, ran_flush, ran_one, stops_after, stops_at}
-use Rattle.dnp_world.proofs.SystemRuns.{is_kept}
 
 -- ---- what was done
 
@@ -41,12 +40,12 @@ ran_accepted on id old new p =
 -- ---- where it stopped
 
 -- at a step of relaying
-pub stops_relaying : (on : Link) (old kept new : System) → IsKept old kept → CountsFor kept (Relay on) new → StopsIn IsOfControl old new
-stops_relaying on old kept new keeps counts = stops_at IsOfControl old kept new (Relay on) (on, inl refl) refl keeps counts
+pub stops_relaying : (on : Link) (old new : System) → CountsFor old (Relay on) new → StopsIn IsOfControl old new
+stops_relaying on old new counts = stops_at IsOfControl old new (Relay on) (on, inl refl) refl counts
 
 -- nothing has happened: it stopped before its next step
 pub stops_still : (old new : System) → new ≡ old → StopsIn IsOfControl old new
-stops_still old new is = stops_relaying Above old new new (is_kept old new is) refl
+stops_still old new is = stops_relaying Above old new is
 
 pub stops_behind : (old mid new : System) → Ran IsOfControl old mid → StopsIn IsOfControl mid new → StopsIn IsOfControl old new
 stops_behind old mid new first s = stops_after IsOfControl IsOfControl old mid new (λ e is. is) first s

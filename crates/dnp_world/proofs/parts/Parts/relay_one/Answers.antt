@@ -11,9 +11,8 @@ use Rattle.dnp_world.proofs.parts.Parts.relay_one.Goals as goal
 pub returns-in_err-happen-clause-ended : goal.returns-in_err-happen-clause-ended
 returns-in_err-happen-clause-ended g c = λ well.
     let system = system_of g.Q.Lanes.contents g.J.JournalStore.archive g.A.Book.contents g.B.Book.contents in
-    let stopped = c.in_err-happen.ensures.stopped well in
     let p = err_from_is_err_and c.from_residual.result c.from_residual.ensures.1 in
-    rw (p.1, p.2) (stops_relaying c.args.on (system c.args.self.now) stopped.0 (system c.happen.new.self) stopped.1 stopped.2)
+    rw (p.1, p.2) (stops_relaying c.args.on (system c.args.self.now) (system c.happen.new.self) (c.in_err-happen.ensures.stopped well))
 
 pub returns-in_err-status-clause-ended : goal.returns-in_err-status-clause-ended
 returns-in_err-status-clause-ended g c = λ well.
