@@ -31,3 +31,4 @@ pub mod Controls
 pub mod ControlSteps
 pub mod Happened
 pub mod Planned
+pub mod Steady

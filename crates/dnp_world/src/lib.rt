@@ -9,6 +9,7 @@ mod channel;
 mod ends;
 mod event;
 pub mod happened_laws;
+pub mod headline_laws;
 mod history;
 pub mod joined_laws;
 pub mod laws;

@@ -1,0 +1,63 @@
+//! Laws of a whole system at every moment. Each function does nothing, and its contract is a law.
+
+ghost use Rattle.std.specs.Prelude.{◌≡◌, ℕ, List, [], take};
+ghost use Rattle.dnp_concentrator.specs.declared.plan.Plan.{Plan};
+ghost use Rattle.dnp_controls.specs.Book.{Ledger};
+ghost use Rattle.dnp_eventbuf.specs.Archive.{Archive};
+ghost use Rattle.dnp_eventbuf.specs.Stock.{Stock};
+ghost use Rattle.dnp_world.specs.declared.event.Event.{Event};
+ghost use Rattle.dnp_world.specs.declared.event.Link.{Link};
+ghost use Rattle.dnp_world.specs.FreshSystems.{fresh_system};
+ghost use Rattle.dnp_world.specs.Kept.{report_of};
+ghost use Rattle.dnp_world.specs.NewSystems.{AreEmpty, CanBegin};
+ghost use Rattle.dnp_world.specs.Reports.{Holds};
+ghost use Rattle.dnp_world.specs.Steady.{Goes, IsSteady, Lasts, made_by};
+ghost use Rattle.dnp_world.specs.SystemEvents.{Happens, RunsTo, StopsAfter};
+ghost use Rattle.dnp_world.specs.Systems.{System};
+
+use crate::arrival_laws::what_comes_from_a_substation_keeps_what_stands;
+use crate::happened_laws::what_happened_can_be_reported;
+use crate::relay_laws::{controls_stay_in_step, relaying_keeps_what_stands};
+use crate::standing_laws::{a_new_system_stands, what_comes_to_the_concentrator_keeps_what_stands};
+use crate::system_laws::{
+    a_restart_of_the_concentrator_keeps_what_stands, calls_below_keep_what_stands,
+    events_above_keep_what_stands, events_below_keep_what_stands, lists_are_of_links,
+    other_events_keep_what_stands, what_comes_to_the_centre_keeps_what_stands, what_stands_is_shown,
+};
+
+/// Whatever happens to a steady system leaves it steady, and what happened at its substations is what had happened and the rows
+/// that a reading makes.
+pub fn every_event_keeps_a_system_steady()
+    ensures { (old new : System) (event : Event) → IsSteady old → Happens old event new → Goes (made_by old event) old new }
+{
+    events_below_keep_what_stands();
+    calls_below_keep_what_stands();
+    events_above_keep_what_stands();
+    what_comes_to_the_centre_keeps_what_stands();
+    a_restart_of_the_concentrator_keeps_what_stands();
+    other_events_keep_what_stands();
+    what_comes_to_the_concentrator_keeps_what_stands();
+    what_comes_from_a_substation_keeps_what_stands();
+    relaying_keeps_what_stands();
+    what_happened_can_be_reported();
+    controls_stay_in_step();
+}
+
+/// So do lists of events, also one that stops; a new system over empty stores is steady; and of a steady system holds what is said
+/// of every moment: no row of the journal is invented, no confirmed row vanishes, what full lanes of the queue dropped is counted, and
+/// no command is performed more often than it was issued.
+pub fn steady_systems_stay_steady()
+    ensures ran { (old new : System) (events : List Event) → IsSteady old → RunsTo old events new → Lasts events old new }
+    ensures stopped { (old new : System) (events : List Event) (done : ℕ) → IsSteady old → StopsAfter old events done new
+        → Lasts (take done events) old new }
+    ensures at_first { (plan : Plan) (queue : Stock) (journal : Archive) (controls orders : Ledger) → CanBegin plan
+        → AreEmpty queue journal controls orders → IsSteady (fresh_system plan queue journal controls orders) }
+    ensures holds { (s : System) → IsSteady s → Holds (report_of s) }
+{
+    every_event_keeps_a_system_steady();
+    lists_are_of_links();
+    a_new_system_stands();
+    what_happened_can_be_reported();
+    controls_stay_in_step();
+    what_stands_is_shown();
+}
