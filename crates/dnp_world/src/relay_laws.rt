@@ -15,14 +15,7 @@ ghost use Rattle.dnp_world.specs.Joined.{Follows, Joined};
 ghost use Rattle.dnp_world.specs.Link.{Link};
 ghost use Rattle.dnp_world.specs.Octets.{commands_in};
 ghost use Rattle.dnp_world.specs.OneLinkEvents.{IsAsked, LinkState};
-ghost use Rattle.dnp_world.specs.SystemEvents.{Happens, RelaysOn};
-ghost use Rattle.dnp_world.specs.declared.event.Event.{Event};
-ghost use Rattle.dnp_concentrator.specs.declared.plan.Plan.{Plan};
-ghost use Rattle.dnp_controls.specs.Book.{Ledger};
-ghost use Rattle.dnp_eventbuf.specs.Archive.{Archive};
-ghost use Rattle.dnp_eventbuf.specs.Stock.{Stock};
-ghost use Rattle.dnp_world.specs.FreshSystems.{fresh_system};
-ghost use Rattle.dnp_world.specs.NewSystems.{AreEmpty};
+ghost use Rattle.dnp_world.specs.SystemEvents.{RelaysOn};
 ghost use Rattle.dnp_world.specs.SystemStanding.{IsStanding, Keeps};
 ghost use Rattle.dnp_world.specs.Systems.{System, has_station};
 
@@ -104,11 +97,4 @@ pub fn relaying_keeps_what_stands()
     a_request_goes_by_a_move();
     equality_is_decided::<u64, Command>();
     link_law();
-}
-
-/// STUB
-pub fn controls_stay_in_step()
-    ensures kept { (old new : System) (event : Event) → IsStanding old → InStep old → Happens old event new → InStep new }
-    ensures at_first { (plan : Plan) (queue : Stock) (journal : Archive) (controls orders : Ledger) → AreEmpty queue journal controls orders → InStep (fresh_system plan queue journal controls orders) }
-{
 }
