@@ -72,8 +72,10 @@ record Comes (left : LineState → LineState) (e : LinkEvent) (old : System) (st
   made : rows_made_by was.core.points (e ∷ []) ≡ []
 
 -- nothing is taken
-untaken : Grounds → (left : LineState → LineState) (e : LinkEvent) (old new : System) (h : IsStanding old) (station : ℕ) (c : Comes left e old station)
-    → (let base : LinkState ⊤ = seen_at old station (heard_at left c.port c.was) (lists_of (h.links.below station)) in one.ComeUp no_sink c.given base base)
+untaken : Grounds → (left : LineState → LineState) (e : LinkEvent) (old new : System) (h : IsStanding old) (station : ℕ)
+    (c : Comes left e old station)
+    → (let base : LinkState ⊤ = seen_at old station (heard_at left c.port c.was) (lists_of (h.links.below station)) in
+    one.ComeUp no_sink c.given base base)
     → new ≡ with_substation old station (heard_at left c.port c.was) → Keeps station [] old new
 untaken grounds left e old new h station c came after =
     let lists : RowLists = lists_of (h.links.below station) in
@@ -92,15 +94,16 @@ taken_queued laws old h station has fragment t is =
     let m : IsMasterOf h.plan.substations station r =
     master_there old.concentrator.links h.plan.substations station (has_link_to old station has) h.of_plan.masters in
     let spans : old.concentrator.indices ≡ map_of h.plan = h.of_plan.middle_indices ∙ h.of_plan.indices in
-    let all : length (queued_rows (map_of h.plan) old.concentrator.core.points station t.events) ≡ length t.events =
-    subst (λ (x : Result Taking MasterFault). IfOk x (λ t. length (queued_rows (map_of h.plan) old.concentrator.core.points station t.events) ≡ length t.events))
-    is
+    let AllQueued : Taking → Type 0 = λ t. length (queued_rows (map_of h.plan) old.concentrator.core.points station t.events) ≡ length t.events in
+    let all : AllQueued t =
+    subst (λ (x : Result Taking MasterFault). IfOk x AllQueued) is
     (laws.queued h.plan old.concentrator.core.points station m.substation r.master old.now fragment h.of_plan.limits
     (subst (λ (xs : List Spans). IsMap xs) h.of_plan.indices h.of_plan.is_map) h.of_plan.classes m.there m.asks) in
     subst (λ (xs : List Spans). length (queued_rows xs old.concentrator.core.points station t.events) ≡ length t.events) (sym spans) all
 
 -- the concentrator takes the fragment, or refuses it
-received : Grounds → ArrivalLaws → (left : LineState → LineState) (e : LinkEvent) (old new : System) (h : IsStanding old) (station : ℕ) (c : Comes left e old station)
+received : Grounds → ArrivalLaws
+    → (left : LineState → LineState) (e : LinkEvent) (old new : System) (h : IsStanding old) (station : ℕ) (c : Comes left e old station)
     → HappenedAsEvents old → (fragment : List ℕ) (others : List (List ℕ)) → c.given ≡ fragment ∷ others → (r : Result Taking MasterFault)
     → receive_of (link_in old.concentrator.links station).master old.now fragment ≡ r
     → MasterReceives (Below station) r (with_substation old station (heard_at left c.port c.was)) new → Keeps station [] old new
@@ -119,7 +122,8 @@ received grounds laws left e old new h station c events fragment others given (O
     change.after
     ∙ ap (λ (x : SubstationState). with_substation (taken_below between station t) station x)
     (change.changed.1 ∙ ap (λ (x : SubstationState). record x { channel = lines }) same)
-    ∙ ap (λ (xs : List SubstationState). record (taken_below between station t) { substations = xs }) (set_again old.substations station mid is_now) in
+    ∙ ap (λ (xs : List SubstationState). record (taken_below between station t) { substations = xs })
+    (set_again old.substations station mid is_now) in
     let lists : RowLists = record (lists_of l) { taken = rows_of l.took ++ t.events } in
     let base : LinkState ⊤ = seen_at old station mid (lists_of l) in
     let s' : LinkState ⊤ = seen_below old.now (relaying.received r t) is_now lists in
@@ -149,7 +153,8 @@ received grounds laws left e old new h station c events fragment others given (E
     (subst (λ (xs : List (List ℕ)). one.ComeUp no_sink xs base base) (sym given)
     (subst (λ (x : Result Taking MasterFault). Receives no_sink x base base) (sym is) refl)) after
 
-taken_in : Grounds → ArrivalLaws → (left : LineState → LineState) (e : LinkEvent) (old new : System) (h : IsStanding old) (station : ℕ) (c : Comes left e old station)
+taken_in : Grounds → ArrivalLaws
+    → (left : LineState → LineState) (e : LinkEvent) (old new : System) (h : IsStanding old) (station : ℕ) (c : Comes left e old station)
     → HappenedAsEvents old → (given : List (List ℕ)) → c.given ≡ given
     → MasterTakes (Below station) given (with_substation old station (heard_at left c.port c.was)) new → Keeps station [] old new
 taken_in grounds laws left e old new h station c events [] given after =

@@ -117,7 +117,8 @@ abbrev queued_on : System → RowLists → List LaneRow → LinkState ⊤
 queued_on s lists rows =
     record (with_others_rows rows (seen_above s lists)) { left = lists.left ++ dropped_by s.concentrator.queue rows }
 
-queued_follows : ArrivalLaws → (old : System) (h : IsStanding old) (rows : List LaneRow) → All IsTaken rows → exhausts old.concentrator.queue rows ≡ false
+queued_follows : ArrivalLaws → (old : System) (h : IsStanding old) (rows : List LaneRow) → All IsTaken rows
+    → exhausts old.concentrator.queue rows ≡ false
     → Follows [] (arriving rows) [] (middle_of old.concentrator).performed h.links.above (queued_on old (lists_of h.links.above) rows)
 queued_follows laws old h rows taken fits =
     let l : Link = h.links.above in
@@ -165,8 +166,8 @@ events_follow : ArrivalLaws → (old : System) (h : IsStanding old) (station : �
 events_follow laws old h station [] events fits = none_follows old h
 events_follow laws old h station (row ∷ rows) events fits =
     queued_follows laws old h (queued_for old station (row ∷ rows))
-    (all_taken laws.low old.concentrator.indices (subst IsMap (sym h.of_plan.middle_indices) h.of_plan.is_map) old.concentrator.core.points station (row ∷ rows)
-    events)
+    (all_taken laws.low old.concentrator.indices (subst IsMap (sym h.of_plan.middle_indices) h.of_plan.is_map)
+    old.concentrator.core.points station (row ∷ rows) events)
     (fits (λ none. absurd (cc)))
 
 -- ---- the system after it
@@ -257,7 +258,8 @@ takes_keep grounds laws old new h station was is t e events low there same shown
     let c : ConcentratorState = old.concentrator in
     let r : Relaying = link_in c.links station in
     let next : System = taken_with station is t old in
-    let before : IsJoinedBelow old.now r l was = some_of (IsJoinedBelow old.now r l) (slice_get old.substations station) was there (h.below station) in
+    let before : IsJoinedBelow old.now r l was =
+    some_of (IsJoinedBelow old.now r l) (slice_get old.substations station) was there (h.below station) in
     let s : LinkState ⊤ = seen_below old.now r was (lists_of l) in
     let s' : LinkState ⊤ = seen_below old.now (relaying.received r t) is (record (lists_of l) { taken = rows_of l.took ++ t.events }) in
     let f : Follows [] [] [] was.outputs.performed l s' =
@@ -280,7 +282,8 @@ takes_keep grounds laws old new h station was is t e events low there same shown
     (none_performed performed)
     (grows_by (arriving rows) [] [] dropped [] performed a s2 (sym (append-nil (rows_of a.took))) (sym (append-nil (rows_of a.released))) refl g) in
     let turn : Turn old.indices station h.links (kept_in old) (kept_in next) =
-    turn_taken laws old h station was is t f.link g.link there all below_grows above_grows (lane_rows s' f.link f.joined) (lane_rows s2 g.link g.joined) in
+    turn_taken laws old h station was is t f.link g.link there all below_grows above_grows (lane_rows s' f.link f.joined)
+    (lane_rows s2 g.link g.joined) in
     let first : Database = readings_set c.indices station c.core.points t.events in
     let last : Database = readings_set c.indices station first t.statics in
     let sound : points.IsSound last =
@@ -295,15 +298,16 @@ takes_keep grounds laws old new h station was is t e events low there same shown
         of_plan = planned_as old next h.plan refl refl refl classes (asked_still c.links station (relaying.received r t) plan) h.of_plan;
         links = with_links h.links station f.link g.link;
         below = by_station
-            (λ i x. IfSome (slice_get next.substations i) (IsJoinedBelow old.now (link_in (slice_set c.links station (relaying.received r t)) i) x)) h.links
-            station f.link g.link
+            (λ i x. IfSome (slice_get next.substations i) (IsJoinedBelow old.now (link_in (slice_set c.links station (relaying.received r t)) i) x))
+            h.links station f.link g.link
             (some_then (IsJoinedBelow old.now (link_in (slice_set c.links station (relaying.received r t)) station) f.link)
             (slice_get next.substations station) is (set_here old.substations station was is there)
             (subst (λ (x : Relaying). IsJoinedBelow old.now x f.link is) (sym (link_here c.links station (relaying.received r t) low))
             (record { joined = relisted s' f.link old.now f.joined; shown = shown })))
             (other_stands old h station is (relaying.received r t));
-        above = points_set (record s2 { now = old.now; taken = rows_of g.link.took; released = rows_of g.link.released; left = rows_of g.link.left }) g.link last sound
-            (relisted s2 g.link old.now g.joined);
+        above = points_set
+            (record s2 { now = old.now; taken = rows_of g.link.took; released = rows_of g.link.released; left = rows_of g.link.left })
+            g.link last sound (relisted s2 g.link old.now g.joined);
         behind = grounds.turns.kept old.indices station h.links (kept_in old) (kept_in next) h.behind turn;
       };
       fate = grounds.turns.fate old.indices station h.links (kept_in old) (kept_in next) h.behind turn;

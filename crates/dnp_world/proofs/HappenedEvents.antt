@@ -50,7 +50,8 @@ run_events makes database (move ∷ moves) =
 
 pub all_made_events : MakesEvents → (database : Database) (events : List LinkEvent) → All IsEvent (rows_made_by database events)
 all_made_events makes database events =
-    All-map IsEvent (λ (x : LaneRow). x.row) (rows_of database (flat_map point_moves events)) (run_events makes database (flat_map point_moves events))
+    All-map IsEvent (λ (x : LaneRow). x.row) (rows_of database (flat_map point_moves events))
+    (run_events makes database (flat_map point_moves events))
 
 -- ---- at first
 

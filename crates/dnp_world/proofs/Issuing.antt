@@ -120,7 +120,7 @@ issues laws undoes old new station command h e =
     by : (o : Option Command) → command_above old.centre.indices station command ≡ o → IssuesBy o station command old new → Keeps station [] old new
     by None is k = same_keeps station old new h k
     by (Some above) is k =
-        subst (λ (x : System). Keeps station [] old x) (sym k.1)
+        subst (λ (x : System). Keeps station [] old x) (sym k.2)
         (issued laws undoes old h station command above h.of_plan.is_map
         (ap (λ (spans : List Spans). command_above spans station command) (sym h.of_plan.centre_indices) ∙ is))
 

@@ -70,6 +70,9 @@ mod RelaySteps
 mod RelayLinks
 mod RelayWidths
 mod RelayKeeps
+mod StepBooks
+mod StepEvents
+mod StepHappens
 mod BelowCalls
 mod AboveKeeps
 mod AboveEvents

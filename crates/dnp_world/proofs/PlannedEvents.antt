@@ -64,12 +64,14 @@ lines_keep (Below station) Change old new c =
     (λ was is there h. same_core was is (record was { channel = is.channel }) h.1 refl) c
 lines_keep Above Change old new (changed, after) = keep_all old.substations new.substations (ap (λ (s : System). s.substations) after)
 
-steps_keep : (step : Step) (lines : ChannelState) (was is : SubstationState) → step.state.core.points ≡ was.core.points → SubstationSteps step lines was is
+steps_keep : (step : Step) (lines : ChannelState) (was is : SubstationState) → step.state.core.points ≡ was.core.points
+    → SubstationSteps step lines was is
     → SameClasses was.core.points is.core.points
 steps_keep step lines was is same steps =
     same_points was.core.points is.core.points (ap (λ (s : SubstationState). s.core.points) steps.after ∙ same)
 
-middle_keeps : (step : Step) (commands : List Command) (lines : ChannelState) (old new : System) → MiddleSteps step commands lines old new → Keep old new
+middle_keeps : (step : Step) (commands : List Command) (lines : ChannelState) (old new : System) → MiddleSteps step commands lines old new
+    → Keep old new
 middle_keeps step commands lines old new m = keep_all old.substations new.substations (ap (λ (s : System). s.substations) m.after)
 
 -- ---- events
@@ -77,7 +79,8 @@ middle_keeps step commands lines old new m = keep_all old.substations new.substa
 opens_keep : (on : Link) (old new : System) → OpensOn on old new → Keep old new
 opens_keep (Below station) old new c =
     change_keeps station _ _ (with_link old station _) new (λ was is s. refl)
-    (λ was is there h. steps_keep (opened_of (station_of was) old.now) (cleared was.channel) was is (opened_leaves (station_of was) old.now).points_are h) c
+    (λ was is there h. steps_keep (opened_of (station_of was) old.now) (cleared was.channel) was is
+    (opened_leaves (station_of was) old.now).points_are h) c
 opens_keep Above old new m = keep_all old.substations new.substations (ap (λ (s : System). s.substations) m.after)
 
 hangs_up_keep : (on : Link) (e : End) (old new : System) → HangsUpOn on e old new → Keep old new
@@ -88,7 +91,8 @@ hangs_up_keep (Below station) end.Outstation old new c =
 hangs_up_keep Above end.Master old new after = keep_all old.substations new.substations (ap (λ (s : System). s.substations) after)
 hangs_up_keep Above end.Outstation old new after = keep_all old.substations new.substations (ap (λ (s : System). s.substations) after)
 
-answers_keep : ClassLaws → (given : List (List ℕ)) (now : ℕ) (released : List Row) (was is : SubstationState) → SubstationAnswers given now released was is
+answers_keep : ClassLaws → (given : List (List ℕ)) (now : ℕ) (released : List Row) (was is : SubstationState)
+    → SubstationAnswers given now released was is
     → SameClasses was.core.points is.core.points
 answers_keep laws [] now released was is (none, same) = same_core was is was same refl
 answers_keep laws (fragment ∷ others) now released was is (discarded, steps) =
@@ -124,7 +128,8 @@ takes_keep on (fragment ∷ others) old new h = receives_keep on _ old new h
 
 up_keeps : (left : LineState → LineState) (on : Link) (old new : System) → ComesUp left on old new → Keep old new
 up_keeps left on old new c =
-    keep_both old.substations c.between.substations new.substations (lines_keep on _ old c.between c.heard) (takes_keep on c.given c.between new c.came)
+    keep_both old.substations c.between.substations new.substations (lines_keep on _ old c.between c.heard)
+    (takes_keep on c.given c.between new c.came)
 
 comes_keep : ClassLaws → (left : LineState → LineState) (on : Link) (w : Way) (old new : System) → ComesOn left on w old new → Keep old new
 comes_keep laws left (Below station) way.Down old new c = down_keeps laws left station old new c
@@ -133,7 +138,8 @@ comes_keep laws left (Below station) way.Up old new c = up_keeps left (Below sta
 comes_keep laws left Above way.Up old new c = up_keeps left Above old new c
 
 -- a reading
-pub reads_keep : ClassLaws → (station : ℕ) (kind : Kind) (index : ℕ) (reading : Reading) (was : SubstationState) (r : Result (Option LaneRow) ChangeFault)
+pub reads_keep : ClassLaws
+    → (station : ℕ) (kind : Kind) (index : ℕ) (reading : Reading) (was : SubstationState) (r : Result (Option LaneRow) ChangeFault)
     (old new : System) → slice_get old.substations station ≡ Some was → ReadsBy r station kind index reading was old new → Keep old new
 reads_keep laws station kind index reading was (Ok made) old new there (room, c) =
     let step : Step = change_of (station_of was) old.now kind index reading made in
@@ -149,7 +155,8 @@ reads_keep laws station kind index reading was (Ok made) old new there (room, c)
     change_keeps station _ _ old new (λ x is s. refl)
     (λ x is at h.
     subst (λ (y : SubstationState). SameClasses y.core.points is.core.points) (same_Some was x (sym there ∙ at))
-    (λ k i. same_points (changed_of was.core.points kind index reading) is.core.points (ap (λ (s : SubstationState). s.core.points) h.after ∙ points) k i
+    (λ k i. same_points (changed_of was.core.points kind index reading) is.core.points
+    (ap (λ (s : SubstationState). s.core.points) h.after ∙ points) k i
     ∙ changed_classes laws was.core.points kind index reading k i)) c
 reads_keep laws station kind index reading was (Err fault) old new there same = same_system old new same
 
@@ -201,15 +208,18 @@ restarts_keep laws station old new c =
     (λ was is there h.
     subst (λ (s : SubstationState). SameClasses was.core.points s.core.points) (sym h) (restarted_classes laws was.core.points)) c
 
-if_there : (b : Bool) (Change : System → System → Type 0) (old new : System) → (Change old new → Keep old new) → IfThere b Change old new → Keep old new
+if_there : (b : Bool) (Change : System → System → Type 0) (old new : System) → (Change old new → Keep old new) → IfThere b Change old new
+    → Keep old new
 if_there true Change old new keeps h = keeps h
 if_there false Change old new keeps same = same_system old new same
 
 pub event_keeps : ClassLaws → (old new : System) (e : Event) → Happens old e new → Keep old new
 event_keeps laws old new (event.Open on) h = if_there (has_link old on) (OpensOn on) old new (opens_keep on old new) h
 event_keeps laws old new (event.HangUp on e) h = if_there (has_link old on) (HangsUpOn on e) old new (hangs_up_keep on e old new) h
-event_keeps laws old new (event.Deliver on w) h = if_there (has_link old on) (ComesOn delivered_on on w) old new (comes_keep laws delivered_on on w old new) h
-event_keeps laws old new (event.Repeat on w) h = if_there (has_link old on) (ComesOn repeated_on on w) old new (comes_keep laws repeated_on on w old new) h
+event_keeps laws old new (event.Deliver on w) h =
+    if_there (has_link old on) (ComesOn delivered_on on w) old new (comes_keep laws delivered_on on w old new) h
+event_keeps laws old new (event.Repeat on w) h =
+    if_there (has_link old on) (ComesOn repeated_on on w) old new (comes_keep laws repeated_on on w old new) h
 event_keeps laws old new (event.Lose on w) h =
     if_there (has_link old on) (LosesOn on w) old new (lines_keep on (λ was is. is ≡ lost_at w was) old new) h
 event_keeps laws old new (event.Damage on w octets) h =
@@ -217,7 +227,8 @@ event_keeps laws old new (event.Damage on w octets) h =
 event_keeps laws old new (event.Change station kind index reading) h =
     if_there (has_station old station) (Reads station kind index reading) old new
     (λ c. reads_keep laws station kind index reading c.was (answer_of c.was.core.points kind index reading) old new c.there c.reads) h
-event_keeps laws old new (event.Ask on task) h = if_there (has_link old on) (AsksOn (is_own task) on task) old new (asks_keep (is_own task) on task old new) h
+event_keeps laws old new (event.Ask on task) h =
+    if_there (has_link old on) (AsksOn (is_own task) on task) old new (asks_keep (is_own task) on task old new) h
 event_keeps laws old new (event.Issue station command) h = issues_keep (command_above old.centre.indices station command) station command old new h
 event_keeps laws old new (event.Relay on) h = if_there (has_link old on) (RelaysOn on) old new (relays_keep on old new) h
 event_keeps laws old new (event.Pass ms) h = keep_all old.substations new.substations (ap (λ (s : System). s.substations) h)

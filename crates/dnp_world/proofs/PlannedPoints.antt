@@ -92,7 +92,8 @@ changed_classes laws d kind index reading k i = by_range (is_in_range kind readi
     by_range true in_range = by_kind in_range (same_kind kind k)
     by_range false refused =
         let blocks : List BlockState = blocks_of d kind in
-        subst (λ (b : Bool). class_of (with_blocks d kind (cond b (updated_in (changed_state kind index reading) blocks index) blocks)) k i ≡ class_of d k i)
+        let changed : List BlockState = updated_in (changed_state kind index reading) blocks index in
+        subst (λ (b : Bool). class_of (with_blocks d kind (cond b changed blocks)) k i ≡ class_of d k i)
         (sym refused) (ap (λ (e : Database). class_of e k i) (same_blocks d kind))
 
 pub restarted_classes : ClassLaws → (d : Database) → SameClasses d (restarted d)
@@ -147,13 +148,18 @@ pub keep_map : (f : SubstationState → SubstationState) → ((s : SubstationSta
     → (xs : List SubstationState) → KeepClasses xs (map f xs)
 keep_map f same [] station is there = absurd (none-some is there)
 keep_map f same (x ∷ xs) zero is there =
-    record { was = x; there = refl; same = subst (λ (s : SubstationState). SameClasses x.core.points s.core.points) (same_Some (f x) is there) (same x) }
+    record {
+      was = x;
+      there = refl;
+      same = subst (λ (s : SubstationState). SameClasses x.core.points s.core.points) (same_Some (f x) is there) (same x);
+    }
 keep_map f same (x ∷ xs) (suc station) is there =
     let rest : IsOf xs station is = keep_map f same xs station is there in
     record { was = rest.was; there = rest.there; same = rest.same }
 
 -- so the points stay those of the plan
-pub planned_on : (plan : Plan) (old new : System) → KeepClasses old.substations new.substations → HavePlannedPoints plan old → HavePlannedPoints plan new
+pub planned_on : (plan : Plan) (old new : System) → KeepClasses old.substations new.substations → HavePlannedPoints plan old
+    → HavePlannedPoints plan new
 planned_on plan old new keeps planned station = by (slice_get new.substations station) refl
   where
     Has : SubstationState → Type 0

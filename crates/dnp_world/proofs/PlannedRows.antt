@@ -66,13 +66,16 @@ of_event : (database : Database) (kind : Kind) (index : ℕ) (reading : Reading)
 of_event database kind index reading state x there e = by (differs state.point state.reported reading) e
   where
     by : (b : Bool)
-        → (if b then option_map (λ (lane : Lane). let y : LaneRow = record { lane = lane; row = row_of kind index reading } in y) (lane_of state.point.class kind)
+        → (if b
+        then option_map (λ (lane : Lane). let y : LaneRow = record { lane = lane; row = row_of kind index reading } in y)
+        (lane_of state.point.class kind)
         else None) ≡ Some x
         → IsOfPoint database kind index x.row
     by true e = of_lane database kind index reading state.point.class x there (lane_of state.point.class kind) refl e
     by false e = absurd (cc)
 
-of_state : (database : Database) (kind : Kind) (index : ℕ) (reading : Reading) (x : LaneRow) (o : Option PointState) → state_at database kind index ≡ o
+of_state : (database : Database) (kind : Kind) (index : ℕ) (reading : Reading) (x : LaneRow) (o : Option PointState)
+    → state_at database kind index ≡ o
     → made_from kind index reading (checked o kind reading) ≡ Ok (Some x) → IsOfPoint database kind index x.row
 of_state database kind index reading x None there e = absurd (cc)
 of_state database kind index reading x (Some state) there e = by (is_carried kind reading) (is_in_time reading.time) e
@@ -118,7 +121,8 @@ abbrev pub HasItsClass : Type 0
 HasItsClass = (plan : points.Plan) (kind : Kind) (index : ℕ)
     → option_map (λ (state : PointState). state.point.class) (state_at (new_database plan) kind index) ≡ class_at plan kind index
 
-same_points : (classes deadbands : List ℕ) → length deadbands ≡ length classes → length (analog_points classes deadbands) ≡ length (map point_of classes)
+same_points : (classes deadbands : List ℕ) → length deadbands ≡ length classes
+    → length (analog_points classes deadbands) ≡ length (map point_of classes)
 same_points [] deadbands e = refl
 same_points (class ∷ classes) [] e = absurd (cc)
 same_points (class ∷ classes) (deadband ∷ deadbands) e =
@@ -137,14 +141,16 @@ same_class (class ∷ classes) (deadband ∷ deadbands) (suc index) e =
 
 -- one block of points, which begins with 0
 abbrev class_in_block : ℕ → List Point → ℕ → Option ℕ
-class_in_block many listed index = option_map (λ (p : Point). p.class) (if nat_le 0 index && nat_lt index (0 + many) then slice_get listed (index - 0) else None)
+class_in_block many listed index =
+    option_map (λ (p : Point). p.class) (if nat_le 0 index && nat_lt index (0 + many) then slice_get listed (index - 0) else None)
 
 classes_at : (planned : SubPlan) → length planned.deadband ≡ length planned.analog → (kind : Kind) (index : ℕ)
     → class_at (points_at planned) kind index ≡ class_at (points_below planned) kind index
 classes_at planned deadbands Binary index = refl
 classes_at planned deadbands Counter index = refl
 classes_at planned deadbands Analog index =
-    ap (λ (many : ℕ). class_in_block many (analog_points planned.analog planned.deadband) index) (same_points planned.analog planned.deadband deadbands)
+    ap (λ (many : ℕ). class_in_block many (analog_points planned.analog planned.deadband) index)
+    (same_points planned.analog planned.deadband deadbands)
     ∙ by (nat_le 0 index && nat_lt index (0 + length (map point_of planned.analog)))
   where
     by : (b : Bool)

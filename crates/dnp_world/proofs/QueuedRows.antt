@@ -86,14 +86,17 @@ all_taken low spans m points station (row ∷ rows) events =
     by None e rest = rest
     by (Some x) e rest =
         All-cons IsTaken x (queued_rows spans points station rows)
-        (queued_fits low spans m points station row x (index_above spans station (kind_of_points row.kind) row.index) refl e (All-head IsEvent row rows events))
+        (queued_fits low spans m points station row x (index_above spans station (kind_of_points row.kind) row.index) refl e
+        (All-head IsEvent row rows events))
         rest
 
 -- ---- readings above
 
 -- what the crate of points promises of a reading that is set
 abbrev pub StaySound : Type 0
-StaySound = (database : Database) (kind : Kind) (index : ℕ) (reading : Reading) → points.IsSound database → points.IsSound (set_of database kind index reading)
+StaySound =
+    (database : Database) (kind : Kind) (index : ℕ) (reading : Reading) → points.IsSound database
+    → points.IsSound (set_of database kind index reading)
 
 pub readings_sound : StaySound → (spans : List Spans) (station : ℕ) (database : Database) (rows : List Row) → points.IsSound database
     → points.IsSound (readings_set spans station database rows)

@@ -36,6 +36,7 @@ use Rattle.dnp_master.specs.Requests.{request_for}
 use Rattle.dnp_concentrator.specs.Relaying as relaying
 use Rattle.dnp_concentrator.specs.Relaying.{Relaying}
 use Rattle.dnp_world.specs.Channels.{ChannelState, GoDown, GoUp, cleared, hung_up_at, lost_at, DamagesAt}
+use Rattle.dnp_world.specs.CommandWidths.{HasWidths}
 use Rattle.dnp_world.specs.OneLinkEvents.{is_own}
 use Rattle.dnp_world.specs.Systems.{SubstationState, CentreState, ConcentratorState, System, station_of, panel_of, in_state, middle_of, middle_panel, link_at, at_station, has_station, has_link}
 use Rattle.dnp_world.specs.declared.event.Event.{Event}
@@ -351,11 +352,12 @@ pub data RelaysOn (on : Link) (old new : System) : Type 0 where
       (relaying.relaying_after (relaying_at old on) old.now (step_on old on)) (told old on (step_on old on)) new → RelaysOn on old new
   Refuses : IsRefused (entries_on old on) (step_on old on) → new ≡ old → RelaysOn on old new
 
--- a command to no output does nothing
+-- a command to no output does nothing; what is issued is a command of a program, so its fields have their widths
 abbrev pub IssuesBy : Option Command → ℕ → Command → System → System → Type 0
 IssuesBy None station command old new = new ≡ old
 IssuesBy (Some above) station command old new =
     (old.centre.orders.last_id < MAX_ID)
+    × HasWidths command
     × (new ≡ record old {
       centre = record old.centre { orders = added old.centre.orders 0 above };
       history = record old.history { issued = old.history.issued ++ (station, command) ∷ [] };

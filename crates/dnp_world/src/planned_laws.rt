@@ -27,7 +27,8 @@ use dnp_pointdb::laws::{
 
 /// The points of the substations stay those of the plan, with its classes, whatever happens.
 pub fn substations_keep_their_points()
-    ensures { (plan : Plan) (old new : System) (event : Event) → Happens old event new → HavePlannedPoints plan old → HavePlannedPoints plan new }
+    ensures { (plan : Plan) (old new : System) (event : Event) → Happens old event new → HavePlannedPoints plan old
+        → HavePlannedPoints plan new }
 {
     content_leaves_the_connection_alone();
     a_change_is_of_one_point();

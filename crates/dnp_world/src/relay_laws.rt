@@ -3,6 +3,10 @@
 
 ghost use Rattle.std.specs.Prelude.{◌≡◌, ◌^◌, ◌<◌, ℕ, true, All, List, [], ◌∷◌, Ok, ⊤};
 ghost use Rattle.dnp_appfragment.specs.Fragments.{request_octets};
+ghost use Rattle.dnp_concentrator.specs.declared.plan.Plan.{Plan as PlanValue};
+ghost use Rattle.dnp_controls.specs.Book.{Ledger};
+ghost use Rattle.dnp_eventbuf.specs.Archive.{Archive};
+ghost use Rattle.dnp_eventbuf.specs.Stock.{Stock};
 ghost use Rattle.dnp_master.specs.Calls.{ask_answer};
 ghost use Rattle.dnp_master.specs.Requests.{request_for};
 ghost use Rattle.dnp_master.specs.declared.task.Task.{Task as TaskValue};
@@ -10,12 +14,14 @@ ghost use Rattle.dnp_master.specs.declared.task.Task.TheVariants as task;
 ghost use Rattle.dnp_objects.specs.declared.command.Command.{Command as CommandValue};
 ghost use Rattle.dnp_world.specs.CommandWidths.{HasWidths};
 ghost use Rattle.dnp_world.specs.ControlsInStep.{InStep};
+ghost use Rattle.dnp_world.specs.declared.event.Event.{Event as EventValue};
 ghost use Rattle.dnp_world.specs.declared.event.Link.TheVariants as link;
+ghost use Rattle.dnp_world.specs.FreshSystems.{fresh_system};
 ghost use Rattle.dnp_world.specs.Joined.{Follows, Joined};
 ghost use Rattle.dnp_world.specs.Link.{Link};
 ghost use Rattle.dnp_world.specs.Octets.{commands_in};
 ghost use Rattle.dnp_world.specs.OneLinkEvents.{IsAsked, LinkState};
-ghost use Rattle.dnp_world.specs.SystemEvents.{RelaysOn};
+ghost use Rattle.dnp_world.specs.SystemEvents.{Happens, RelaysOn};
 ghost use Rattle.dnp_world.specs.SystemStanding.{IsStanding, Keeps};
 ghost use Rattle.dnp_world.specs.Systems.{System, has_station};
 
@@ -29,6 +35,8 @@ use dnp_appfragment::laws::{
     a_header_holds_what_was_put, what_is_held_is_read, what_is_spelled_is_said,
     what_is_there_is_said,
 };
+use dnp_concentrator::laws::indices_above_are_in_range;
+use dnp_controls::laws::ids_go_on;
 use dnp_eventbuf::laws::lanes_stay_sound;
 use dnp_line::laws::line_law;
 use dnp_master::laws::{
@@ -95,6 +103,19 @@ pub fn relaying_keeps_what_stands()
     lists_are_of_links();
     a_command_is_asked_for_as_it_is();
     a_request_goes_by_a_move();
+    equality_is_decided::<u64, Command>();
+    link_law();
+}
+
+/// Controls in progress stay in step with their books: at each event, while links of the law stand behind the system, and they are
+/// in step before the first event over empty books.
+pub fn controls_stay_in_step()
+    ensures event { (old new : System) (event : EventValue) → Happens old event new → IsStanding old → InStep old → InStep new }
+    ensures at_first { (plan : PlanValue) (queue : Stock) (journal : Archive) (controls orders : Ledger)
+        → controls.entries ≡ [] → orders.entries ≡ [] → InStep (fresh_system plan queue journal controls orders) }
+{
+    ids_go_on();
+    indices_above_are_in_range();
     equality_is_decided::<u64, Command>();
     link_law();
 }

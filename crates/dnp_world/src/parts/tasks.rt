@@ -2,6 +2,8 @@
 
 ghost use Rattle.std.specs.Prelude.{◌≡◌, ◌⊎◌, true, IfNone, OnErr, OnOk};
 ghost use Rattle.dnp_concentrator.specs.Mapped.{command_above};
+ghost use Rattle.dnp_objects.specs.declared.command.Command.TheVariants.{Block, Set16, Set32};
+ghost use Rattle.dnp_world.specs.CommandWidths.{HasWidths};
 ghost use Rattle.dnp_world.specs.OneLinkEvents.{is_own};
 ghost use Rattle.dnp_world.specs.SystemEvents.{AsksOn, IssuesBy, Reads, RelaysOn};
 ghost use Rattle.dnp_world.specs.SystemParts.{AreWell, system_of};
@@ -18,6 +20,41 @@ use dnp_master::Task;
 use dnp_objects::{Command, Kind};
 use dnp_pointdb::Reading;
 use std::alloc::Global;
+
+/// The fields of a block have the widths of their types.
+fn block_has_widths(index: u16, code: u8, count: u8, on_ms: u32, off_ms: u32)
+    ensures { HasWidths (Block index code count on_ms off_ms) }
+{
+}
+
+/// So have those of a setpoint command of 16 bits.
+fn short_has_widths(index: u16, value: i16)
+    ensures { HasWidths (Set16 index value) }
+{
+}
+
+/// So have those of one of 32 bits.
+fn long_has_widths(index: u16, value: i32)
+    ensures { HasWidths (Set32 index value) }
+{
+}
+
+/// So have those of each command.
+fn has_widths(command: &Command)
+    ensures { HasWidths command.now }
+{
+    match *command {
+        Command::Block {
+            index,
+            code,
+            count,
+            on_ms,
+            off_ms,
+        } => block_has_widths(index, code, count, on_ms, off_ms),
+        Command::Set16 { index, value } => short_has_widths(index, value),
+        Command::Set32 { index, value } => long_has_widths(index, value),
+    }
+}
 
 /// The cause at which a list of events stops. What a book refuses of one entry is none.
 fn cause_of(fault: BookFault) -> Option<Cause>
@@ -182,6 +219,7 @@ impl<Q: Lanes, J: JournalStore, A: Book, B: Book> Parts<Q, J, A, B> {
         ensures done { AreWell Q.honest J.honest A.honest A.is_stopped B.honest B.is_stopped self.new → OnOk result (IssuesBy (command_above (system_of Q.contents J.archive A.contents B.contents self.old).centre.indices station command.now) station command.now (system_of Q.contents J.archive A.contents B.contents self.old) (system_of Q.contents J.archive A.contents B.contents self.new)) }
         ensures stopped { AreWell Q.honest J.honest A.honest A.is_stopped B.honest B.is_stopped self.new → OnErr result ((system_of Q.contents J.archive A.contents B.contents self.new) ≡ (system_of Q.contents J.archive A.contents B.contents self.old)) }
     {
+        has_widths(command);
         self.history.issued.reserve(1)?;
         match self.centre.issue(alloc, station, command) {
             Ok(_) => {

@@ -49,12 +49,17 @@ made_planned : MakesEvents → (plan : Plan) (s : System) (station : ℕ) (kind 
     → All (λ row. IsPlanned plan (station, row)) (rows_made_by was.core.points (event.Change kind index reading ∷ []))
 made_planned makes plan s station kind index reading was planned there =
     let classes : IsSomeAnd (slice_get plan.substations station) (λ x. HasClassesBelow x was.core.points) =
-    subst (λ (o : Option SubstationState). IfSome o (λ is. IsSomeAnd (slice_get plan.substations station) (λ x. HasClassesBelow x is.core.points))) there
-    (planned station) in
-    λ k d low. (all_made_events makes was.core.points (event.Change kind index reading ∷ []) k d low, by (slice_get plan.substations station) classes k d low)
+    subst
+    (λ (o : Option SubstationState). IfSome o (λ is. IsSomeAnd (slice_get plan.substations station) (λ x. HasClassesBelow x is.core.points)))
+    there (planned station) in
+    λ k d low. (
+      all_made_events makes was.core.points (event.Change kind index reading ∷ []) k d low,
+      by (slice_get plan.substations station) classes k d low,
+    )
   where
     by : (o : Option SubPlan) → IsSomeAnd o (λ x. HasClassesBelow x was.core.points)
-        → All (λ row. IsSomeAnd o (λ x. is_reported (points_below x) row ≡ true)) (rows_made_by was.core.points (event.Change kind index reading ∷ []))
+        → All (λ row. IsSomeAnd o (λ x. is_reported (points_below x) row ≡ true))
+        (rows_made_by was.core.points (event.Change kind index reading ∷ []))
     by None h = absurd h
     by (Some x) h = all_reported x was.core.points kind index reading h
 
@@ -79,7 +84,8 @@ returns-clause-read c plan old new station kind index reading planned reads keep
           (reads_keep (class_laws_of c) station kind index reading reads.was _ old new reads.there reads.reads) planned.points;
       rows = all_fated (tests_of c) (IsPlanned plan) (made_at station made) (report_of old) (report_of new) keeps.fate
           (all_made (IsPlanned plan) station made
-          (made_planned c.a_change_makes_what_its_lane_takes.ensures plan old station kind index reading reads.was planned.points reads.there)) planned.rows;
+          (made_planned c.a_change_makes_what_its_lane_takes.ensures plan old station kind index reading reads.was planned.points reads.there))
+          planned.rows;
     }
 
 pub returns-clause-events : goal.returns-clause-events
