@@ -95,3 +95,4 @@ mod HappenedEvents
 mod PlannedPoints
 mod PlannedEvents
 mod PlannedRows
+mod Lasting

@@ -1,6 +1,6 @@
 -- Each event by the law of its kind.
-use Rattle.std.proofs.Common.{◌≡◌, ℕ, Bool, true, false, [], refl, subst}
-use Rattle.std.specs.Prelude.{if◌then◌else◌, List, slice_get}
+use Rattle.std.proofs.Common.{◌≡◌, ℕ, Bool, true, false, [], ◌∷◌, refl}
+use Rattle.std.specs.Prelude.{◌+◌, ◌^◌, ◌-◌, if◌then◌else◌, List, min, slice_get}
 use Rattle.dnp_objects.specs.declared.row.Kind.{Kind}
 use Rattle.dnp_objects.specs.declared.row.Row.{Row}
 use Rattle.dnp_pointdb.specs.declared.reading.Reading.{Reading}
@@ -18,6 +18,7 @@ use Rattle.dnp_world.specs.declared.event.Link.TheVariants.{Below, Above}
 use Rattle.dnp_world.specs.declared.event.Place.TheVariants as place
 use Rattle.dnp_world.specs.declared.link_event.End.TheVariants as end
 use Rattle.dnp_world.specs.declared.link_event.Way.TheVariants as way
+use Rattle.dnp_world.specs.declared.link_event.LinkEvent.TheVariants as link_event
 use Rattle.dnp_line.specs.Lines.{delivered_on, repeated_on}
 use Rattle.dnp_world.proofs.headline_laws.every_event_keeps_a_system_steady.Goals as goal
 
@@ -28,7 +29,7 @@ none c old new event s h station k = record {
   steady = record {
     standing = k.standing;
     happened = c.what_happened_can_be_reported.ensures.kept old new station s.happened k;
-    controls = c.controls_stay_in_step.ensures.kept old new event s.standing s.controls h;
+    controls = c.controls_stay_in_step.ensures.event old new event h s.standing s.controls;
   };
   fate = k.fate;
 }
@@ -49,8 +50,8 @@ reads c true old new station kind index reading s h r =
     record {
       steady = record {
         standing = k.standing;
-        happened = c.what_happened_can_be_reported.ensures.read old new station r.was.core.points _ s.happened k;
-        controls = c.controls_stay_in_step.ensures.kept old new (event.Change station kind index reading) s.standing s.controls h;
+        happened = c.what_happened_can_be_reported.ensures.read old new station r.was.core.points (link_event.Change kind index reading ∷ []) s.happened k;
+        controls = c.controls_stay_in_step.ensures.event old new (event.Change station kind index reading) h s.standing s.controls;
       };
       fate = rw r.there k.fate;
     }
@@ -119,7 +120,7 @@ goes c old new (event.Relay (Below station)) s h =
     (λ is e. c.relaying_keeps_what_stands.ensures.below old new station is s.standing s.controls e) h
 goes c old new (event.Relay Above) s h =
     none c old new (event.Relay Above) s h 0 (c.relaying_keeps_what_stands.ensures.above old new 0 s.standing s.controls h)
-goes c old new (event.Pass ms) s h = none c old new (event.Pass ms) s h 0 (c.other_events_keep_what_stands.ensures.passed old new _ 0 s.standing h)
+goes c old new (event.Pass ms) s h = none c old new (event.Pass ms) s h 0 (c.other_events_keep_what_stands.ensures.passed old new (min (old.now + ms) (2 ^ 64 - 1)) 0 s.standing h)
 goes c old new (event.Tick (Below station) end.Master) s h =
     there c (has_station old station) (MasterTicks (Below station)) old new (event.Tick (Below station) end.Master) s h station
     (λ is e. c.calls_below_keep_what_stands.ensures.ticked old new station is s.standing e) h
