@@ -1,16 +1,26 @@
 -- Lists of events over a steady system.
-use Rattle.std.proofs.Common.{◌≡◌, ℕ, List, [], ◌∷◌, ◌++◌, refl, sym, subst, arith}
+use Rattle.std.proofs.Common.{◌≡◌, ℕ, zero, suc, List, [], ◌∷◌, ◌++◌, take, Option, Some, None, Result, Ok, Err, inl, inr, refl, sym, subst, arith}
+use Rattle.std.specs.Prelude.{All, ⊤}
 use Rattle.std.specs.List.{count_by}
 use Rattle.dnp_objects.specs.declared.row.Row.{Row}
+use Rattle.dnp_world.specs.Controls.{ControlEnds, IsControlFor, IsOfControl, IsRefusedFor, AtCentre, AtConcentrator, IsRefusedOn, First, Second, Third, IsTold, next_below, station_in}
 use Rattle.dnp_world.specs.Kept.{report_of}
 use Rattle.dnp_world.specs.Reports.{IsFate, Report, happened}
+use Rattle.dnp_world.specs.Rounds.{IsOfRound, IsRound, StopsIn, events_polled}
 use Rattle.dnp_world.specs.Stations.{HasSameCounts, of_station}
 use Rattle.dnp_world.specs.Steady.{Goes, IsSteady, Lasts, Makes, made_by}
 use Rattle.dnp_world.specs.SystemEvents.{CountsFor, Happens, RunsTo}
 use Rattle.dnp_world.specs.Systems.{System}
 use Rattle.dnp_world.specs.declared.event.Event.{Event}
 use Rattle.dnp_world.specs.declared.event.Event.TheVariants as event
+use Rattle.dnp_world.specs.declared.event.Link.{Link}
+use Rattle.dnp_world.specs.declared.event.Link.TheVariants.{Below, Above}
+use Rattle.dnp_world.specs.declared.link_event.Way.TheVariants.{Down, Up}
+use Rattle.dnp_world.specs.declared.round_fault.ControlFault.{ControlFault}
+use Rattle.dnp_world.specs.declared.round_fault.ControlFault.TheVariants as fault
 use Rattle.dnp_world.proofs.Counting.{count_by-append}
+use Rattle.dnp_world.proofs.SystemControls.{ran_accepted, ran_back, ran_twice}
+use Rattle.dnp_world.proofs.SystemRounds.{Ran, ran_both, ran_flush, ran_one}
 
 -- what the laws of one event and of lists promise
 pub record LastingLaws : Type 0 where
@@ -71,3 +81,95 @@ lasts_then laws events old mid new l g = record {
             count_by-append test (of_station i (happened (report_of old))) (l.made i), count_by-append test (l.made i) []) };
   };
 }
+
+-- ---- events that make no row
+
+all_taken : {A : Type 0} (P : A → Type 0) (n : ℕ) (xs : List A) → All P xs → All P (take n xs)
+all_taken P zero xs all k d low = absurd (omega (arith, low))
+all_taken P (suc n) [] all k d low = absurd (omega (arith, low))
+all_taken P (suc n) (x ∷ xs) all zero d low = all zero d (omega arith)
+all_taken P (suc n) (x ∷ xs) all (suc k) d low =
+    all_taken P n xs (λ j e lt. all (suc j) e (omega (arith, lt))) k d (omega (arith, low))
+
+-- such events make none, in whatever system
+abbrev MakeNone : (Event → Type 0) → Type 0
+MakeNone P = (e : Event) → P e → (s : System) (i : ℕ) → made_by s e i ≡ []
+
+one_calm : LastingLaws → (P : Event → Type 0) → MakeNone P → (e : Event) → P e → (old new : System) → IsSteady old → Happens old e new
+    → Goes (λ i. []) old new
+one_calm laws P none e is old new s h =
+    let g : Goes (made_by old e) old new = laws.goes old new e s h in
+    record {
+      steady = g.steady;
+      fate = λ i.
+          subst (λ (rows : List Row). HasSameCounts (of_station i (happened (report_of new))) (of_station i (happened (report_of old)) ++ rows))
+          (none e is old i) (g.fate i);
+    }
+
+pub calm : LastingLaws → (P : Event → Type 0) → MakeNone P → (events : List Event) → All P events → (old new : System) → IsSteady old
+    → RunsTo old events new → Goes (λ i. []) old new
+calm laws P none [] all old new s same = rests old new s same
+calm laws P none (e ∷ events) all old new s (next, h, ran) =
+    let first : Goes (λ i. []) old next = one_calm laws P none e (all zero e (omega arith)) old next s h in
+    goes_on laws (λ i. []) (λ i. []) old next new first
+    (calm laws P none events (λ k d low. all (suc k) d (omega (arith, low))) next new first.steady ran)
+
+pub calm_run : LastingLaws → (P : Event → Type 0) → MakeNone P → (old new : System) → IsSteady old → Ran P old new → Goes (λ i. []) old new
+calm_run laws P none old new s r = calm laws P none r.events r.all old new s r.ran
+
+pub calm_stop : LastingLaws → (P : Event → Type 0) → MakeNone P → (old new : System) → IsSteady old → StopsIn P old new → Goes (λ i. []) old new
+calm_stop laws P none old new s r =
+    let first : Goes (λ i. []) old r.stops.before =
+    calm laws P none (take r.done r.events) (all_taken P r.done r.events r.all) old r.stops.before s r.stops.ran in
+    goes_on laws (λ i. []) (λ i. []) old r.stops.before new first (stops laws r.stops.event r.stops.before new first.steady r.stops.counts)
+
+-- ---- rounds and controls
+
+pub round_makes_none : (on : Link) → MakeNone (IsOfRound on)
+round_makes_none on e (inl is) s i = rw is refl
+round_makes_none on e (inr (w, is)) s i = rw is refl
+
+pub control_makes_none : MakeNone IsOfControl
+control_makes_none e (on, inl is) s i = rw is refl
+control_makes_none e (on, inr (w, is)) s i = rw is refl
+
+pub ran_round : (on : Link) (old new : System) → IsRound on old new → Ran (IsOfRound on) old new
+ran_round on old new r =
+    ran_both (IsOfRound on) old r.taken new
+    (ran_both (IsOfRound on) old r.answered r.taken
+    (ran_both (IsOfRound on) old r.asked r.answered (ran_one (IsOfRound on) old r.asked (event.Ask on events_polled) (inl refl) r.asks)
+    (ran_flush (IsOfRound on) on Down r.asked r.answered (inr (Down, refl)) r.down))
+    (ran_flush (IsOfRound on) on Up r.answered r.taken (inr (Up, refl)) r.up))
+    (ran_flush (IsOfRound on) on Down r.taken new (inr (Down, refl)) r.confirms)
+
+ran_told : (on : Link) (id : Option ℕ) (status : ℕ) (old new : System) → IsTold on id status old new → Ran IsOfControl old new
+ran_told on id status old new t = ran_one IsOfControl old new (event.Relay on) (on, inl refl) t.relays
+
+ran_refused : (on : Link) (id : Option ℕ) (status : ℕ) (old new : System) → IsRefusedOn on id status old new → Ran IsOfControl old new
+ran_refused on id status old new (First t) = ran_told on id status old new t
+ran_refused on id status old new (Second selected back t) =
+    ran_both IsOfControl old selected new (ran_back on id old selected back) (ran_told on id status selected new t)
+ran_refused on id status old new (Third selected operated first second t) =
+    ran_both IsOfControl old operated new (ran_twice on id old selected operated first second) (ran_told on id status operated new t)
+
+ran_refused_for : (station : Option ℕ) (id status : ℕ) (old new : System) → IsRefusedFor station id status old new → Ran IsOfControl old new
+ran_refused_for station id status old new (AtCentre r) = ran_refused Above (Some id) status old new r
+ran_refused_for station id status old new (AtConcentrator its above is accepted r) =
+    ran_both IsOfControl old above new (ran_accepted Above (Some id) old above accepted)
+    (ran_refused (Below its) (next_below above its) status above new r)
+
+ran_control : (station : Option ℕ) (id : ℕ) (old new : System) → IsControlFor station id old new → Ran IsOfControl old new
+ran_control None id old new accepted = ran_accepted Above (Some id) old new accepted
+ran_control (Some station) id old new (above, first, second) =
+    ran_both IsOfControl old above new (ran_accepted Above (Some id) old above first)
+    (ran_accepted (Below station) (next_below above station) above new second)
+
+pub calm_control : LastingLaws → (id : ℕ) (old new : System) (result : Result ⊤ ControlFault) → IsSteady old → ControlEnds id old result new
+    → Goes (λ i. []) old new
+calm_control laws id old new (Ok done) s (can, control) =
+    calm_run laws IsOfControl control_makes_none old new s (ran_control (station_in old id) id old new control)
+calm_control laws id old new (Err fault.NotQuiet) s (loud, same) = rests old new s same
+calm_control laws id old new (Err fault.NotNext) s (quiet, waits, same) = rests old new s same
+calm_control laws id old new (Err (fault.Refused status)) s (can, refused) =
+    calm_run laws IsOfControl control_makes_none old new s (ran_refused_for (station_in old id) id status old new refused)
+calm_control laws id old new (Err (fault.Fault cause)) s stop = calm_stop laws IsOfControl control_makes_none old new s stop

@@ -1,16 +1,19 @@
 //! Laws of a whole system at every moment. Each function does nothing, and its contract is a law.
 
-ghost use Rattle.std.specs.Prelude.{◌≡◌, ℕ, List, [], take};
+ghost use Rattle.std.specs.Prelude.{◌≡◌, ℕ, List, [], Result, take, ⊤};
 ghost use Rattle.dnp_concentrator.specs.declared.plan.Plan.{Plan};
 ghost use Rattle.dnp_controls.specs.Book.{Ledger};
 ghost use Rattle.dnp_eventbuf.specs.Archive.{Archive};
 ghost use Rattle.dnp_eventbuf.specs.Stock.{Stock};
 ghost use Rattle.dnp_world.specs.declared.event.Event.{Event};
 ghost use Rattle.dnp_world.specs.declared.event.Link.{Link};
+ghost use Rattle.dnp_world.specs.declared.round_fault.ControlFault.{ControlFault};
+ghost use Rattle.dnp_world.specs.Controls.{ControlEnds};
 ghost use Rattle.dnp_world.specs.FreshSystems.{fresh_system};
 ghost use Rattle.dnp_world.specs.Kept.{report_of};
 ghost use Rattle.dnp_world.specs.NewSystems.{AreEmpty, CanBegin};
 ghost use Rattle.dnp_world.specs.Reports.{Holds};
+ghost use Rattle.dnp_world.specs.Rounds.{IsOfRound, IsRound, StopsIn};
 ghost use Rattle.dnp_world.specs.Steady.{Goes, IsSteady, Lasts, made_by};
 ghost use Rattle.dnp_world.specs.SystemEvents.{Happens, RunsTo, StopsAfter};
 ghost use Rattle.dnp_world.specs.Systems.{System};
@@ -60,4 +63,15 @@ pub fn steady_systems_stay_steady()
     what_happened_can_be_reported();
     controls_stay_in_step();
     what_stands_is_shown();
+}
+
+/// So do clean rounds and clean controls, at whatever they end, and they make no row.
+pub fn rounds_and_controls_keep_a_system_steady()
+    ensures round { (on : Link) (old new : System) → IsSteady old → IsRound on old new → Goes (λ i. []) old new }
+    ensures round_stopped { (on : Link) (old new : System) → IsSteady old → StopsIn (IsOfRound on) old new → Goes (λ i. []) old new }
+    ensures control { (id : ℕ) (old new : System) (result : Result ⊤ ControlFault) → IsSteady old → ControlEnds id old result new
+        → Goes (λ i. []) old new }
+{
+    every_event_keeps_a_system_steady();
+    lists_are_of_links();
 }
