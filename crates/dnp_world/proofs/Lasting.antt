@@ -1,6 +1,6 @@
 -- Lists of events over a steady system.
 use Rattle.std.proofs.Common.{◌≡◌, ℕ, zero, suc, List, [], ◌∷◌, ◌++◌, take, Option, Some, None, Result, Ok, Err, inl, inr, refl, sym, subst, arith}
-use Rattle.std.specs.Prelude.{All, ⊤}
+use Rattle.std.specs.Prelude.{◌≢◌, All, IfErr, OnOk, ⊤}
 use Rattle.std.specs.List.{count_by}
 use Rattle.dnp_objects.specs.declared.row.Row.{Row}
 use Rattle.dnp_world.specs.Controls.{ControlEnds, IsControlFor, IsOfControl, IsRefusedFor, AtCentre, AtConcentrator, IsRefusedOn, First, Second, Third, IsTold, next_below, station_in}
@@ -9,7 +9,7 @@ use Rattle.dnp_world.specs.Reports.{IsFate, Report, happened}
 use Rattle.dnp_world.specs.Rounds.{IsOfRound, IsRound, StopsIn, events_polled}
 use Rattle.dnp_world.specs.Stations.{HasSameCounts, of_station}
 use Rattle.dnp_world.specs.Steady.{Goes, IsSteady, Lasts, Makes, made_by}
-use Rattle.dnp_world.specs.SystemEvents.{CountsFor, Happens, RunsTo}
+use Rattle.dnp_world.specs.SystemEvents.{CountsFor, Happens, RunsTo, StopsAfter}
 use Rattle.dnp_world.specs.Systems.{System}
 use Rattle.dnp_world.specs.declared.event.Event.{Event}
 use Rattle.dnp_world.specs.declared.event.Event.TheVariants as event
@@ -17,6 +17,9 @@ use Rattle.dnp_world.specs.declared.event.Link.{Link}
 use Rattle.dnp_world.specs.declared.event.Link.TheVariants.{Below, Above}
 use Rattle.dnp_world.specs.declared.link_event.Way.TheVariants.{Down, Up}
 use Rattle.dnp_world.specs.declared.round_fault.ControlFault.{ControlFault}
+use Rattle.dnp_world.specs.declared.round_fault.RoundFault.{RoundFault}
+use Rattle.dnp_world.specs.declared.round_fault.RoundFault.TheVariants as round
+use Rattle.dnp_world.specs.declared.stopped.Stopped.{Stopped}
 use Rattle.dnp_world.specs.declared.round_fault.ControlFault.TheVariants as fault
 use Rattle.dnp_world.proofs.Counting.{count_by-append}
 use Rattle.dnp_world.proofs.SystemControls.{ran_accepted, ran_back, ran_twice}
@@ -173,3 +176,20 @@ calm_control laws id old new (Err fault.NotNext) s (quiet, waits, same) = rests 
 calm_control laws id old new (Err (fault.Refused status)) s (can, refused) =
     calm_run laws IsOfControl control_makes_none old new s (ran_refused_for (station_in old id) id status old new refused)
 calm_control laws id old new (Err (fault.Fault cause)) s stop = calm_stop laws IsOfControl control_makes_none old new s stop
+
+-- ---- calls
+
+-- a list of events leaves a steady system, where it was done and where it stopped
+pub steady_after : (events : List Event) (old new : System) (r : Result ⊤ Stopped) → (RunsTo old events new → Lasts events old new)
+    → ((done : ℕ) → StopsAfter old events done new → Lasts (take done events) old new) → OnOk r (RunsTo old events new)
+    → IfErr r (λ stopped. StopsAfter old events stopped.done new) → IsSteady new
+steady_after events old new (Ok done) ran stopped all some = (ran all).goes.steady
+steady_after events old new (Err stop) ran stopped all some = (stopped stop.done some).goes.steady
+
+-- what a clean round leaves
+pub calm_round : (on : Link) (old new : System) (r : Result ⊤ RoundFault) → (IsRound on old new → Goes (λ i. []) old new)
+    → (StopsIn (IsOfRound on) old new → Goes (λ i. []) old new) → (new ≡ old → Goes (λ i. []) old new) → OnOk r (IsRound on old new)
+    → IfErr r (λ fault. fault ≢ round.NotQuiet → StopsIn (IsOfRound on) old new) → (r ≡ Err round.NotQuiet → new ≡ old) → Goes (λ i. []) old new
+calm_round on old new (Ok done) whole stop same all some none = whole all
+calm_round on old new (Err round.NotQuiet) whole stop same all some none = same (none refl)
+calm_round on old new (Err (round.Fault cause)) whole stop same all some none = stop (some (λ e. cc))

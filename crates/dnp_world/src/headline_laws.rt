@@ -67,6 +67,7 @@ pub fn steady_systems_stay_steady()
 
 /// So do clean rounds and clean controls, at whatever they end, and they make no row.
 pub fn rounds_and_controls_keep_a_system_steady()
+    ensures rests { (old new : System) → IsSteady old → new ≡ old → Goes (λ i. []) old new }
     ensures round { (on : Link) (old new : System) → IsSteady old → IsRound on old new → Goes (λ i. []) old new }
     ensures round_stopped { (on : Link) (old new : System) → IsSteady old → StopsIn (IsOfRound on) old new → Goes (λ i. []) old new }
     ensures control { (id : ℕ) (old new : System) (result : Result ⊤ ControlFault) → IsSteady old → ControlEnds id old result new

@@ -1,25 +1,36 @@
 //! A whole system: substations, a concentrator and a centre, with lines between them.
 
-ghost use Rattle.std.specs.Prelude.{◌≡◌, ◌≢◌, ◌↔◌, false, Err, IfErr, IfOk, OnOk};
+ghost use Rattle.std.specs.Prelude.{◌≡◌, ◌≢◌, ◌↔◌, ◌^◌, ◌<◌, ◌≤◌, [], false, length, take, Err, IfErr, IfOk, OnOk};
 ghost use Rattle.dnp_concentrator.specs.IndexMap.{IsTooWide, Overlaps};
 ghost use Rattle.dnp_concentrator.specs.Plan.{KeepsLimits, map_of};
+ghost use Rattle.dnp_eventbuf.specs.Stock.{lost_in};
 ghost use Rattle.dnp_world.specs.FreshSystems.{fresh_system};
-ghost use Rattle.dnp_world.specs.ReportShown.{Shows};
+ghost use Rattle.dnp_world.specs.Kept.{report_of};
+ghost use Rattle.dnp_world.specs.NewSystems.{AreEmpty};
+ghost use Rattle.dnp_world.specs.ReportShown.{Shows, lists_of};
+ghost use Rattle.dnp_world.specs.Reports.{Holds};
 ghost use Rattle.dnp_world.specs.Controls.{ControlEnds};
 ghost use Rattle.dnp_world.specs.Rounds.{IsOfRound, IsRound, StopsIn, is_quiet_on};
+ghost use Rattle.dnp_world.specs.Steady.{Goes, IsSteady, Lasts};
 ghost use Rattle.dnp_world.specs.SystemEvents.{RunsTo, StopsAfter};
 ghost use Rattle.dnp_world.specs.SystemParts.{AreWell, controls_of, journal_of, orders_of, parts_of, queue_of, system_of};
 ghost use Rattle.dnp_world.specs.Systems.{standing_on};
+ghost use Rattle.dnp_world.specs.declared.parts.report.TheConstants.{NUMBERS};
 
 use crate::channel::Channel;
 use crate::event::{Event, Link};
+use crate::headline_laws::{
+    rounds_and_controls_keep_a_system_steady, steady_systems_stay_steady,
+};
 use crate::history::History;
 use crate::link_event::Way;
 use crate::new_substations::new_substations;
 use crate::parts::Parts;
 use crate::report::Report;
 use crate::round_fault::{ControlFault, RoundFault};
+use crate::standing_laws::plans_have_all_lanes;
 use crate::stopped::{Cause, Stopped};
+use crate::system_laws::what_a_report_shows_is_kept;
 use dnp_concentrator::{Centre, Concentrator, IndexMap, MapFault, Plan};
 use dnp_controls::Book;
 use dnp_eventbuf::{JournalStore, Lanes};
@@ -64,7 +75,11 @@ impl<Q: Lanes + Drop, J: JournalStore + Drop, A: Book + Drop, B: Book + Drop> Wo
         ensures orders { IfOk result (λ w. orders_of (parts_of w) ≡ orders) }
         ensures too_wide { (result ≡ Err MapFault.TooWide) ↔ IsTooWide (map_of plan.now) }
         ensures overlap { (result ≡ Err MapFault.Overlap) ↔ (Overlaps (map_of plan.now) × (IsTooWide (map_of plan.now) → ⊥)) }
+        ensures steady { AreEmpty (Q.contents queue) (J.archive journal) (A.contents controls) (B.contents orders)
+            → IfOk result (λ w. IsSteady (system_of Q.contents J.archive A.contents B.contents (parts_of w))) }
     {
+        steady_systems_stay_steady();
+        plans_have_all_lanes(plan);
         let map = IndexMap::new(alloc, plan)?;
         let concentrator = Concentrator::new(alloc, plan, queue, controls)?;
         let centre = Centre::new(alloc, plan, journal, orders)?;
@@ -100,7 +115,11 @@ impl<Q: Lanes, J: JournalStore, A: Book, B: Book> World<Q, J, A, B> {
         ensures held { AreWell Q.honest J.honest A.honest A.is_stopped B.honest B.is_stopped (parts_of self.new) → AreWell Q.honest J.honest A.honest A.is_stopped B.honest B.is_stopped (parts_of self.old) }
         ensures done { AreWell Q.honest J.honest A.honest A.is_stopped B.honest B.is_stopped (parts_of self.new) → OnOk result (RunsTo (system_of Q.contents J.archive A.contents B.contents (parts_of self.old)) events.now (system_of Q.contents J.archive A.contents B.contents (parts_of self.new))) }
         ensures stopped { AreWell Q.honest J.honest A.honest A.is_stopped B.honest B.is_stopped (parts_of self.new) → IfErr result (λ stopped. StopsAfter (system_of Q.contents J.archive A.contents B.contents (parts_of self.old)) events.now stopped.done (system_of Q.contents J.archive A.contents B.contents (parts_of self.new))) }
+        ensures lasts { AreWell Q.honest J.honest A.honest A.is_stopped B.honest B.is_stopped (parts_of self.new) → IsSteady (system_of Q.contents J.archive A.contents B.contents (parts_of self.old)) → OnOk result (Lasts events.now (system_of Q.contents J.archive A.contents B.contents (parts_of self.old)) (system_of Q.contents J.archive A.contents B.contents (parts_of self.new))) }
+        ensures lasts_so_far { AreWell Q.honest J.honest A.honest A.is_stopped B.honest B.is_stopped (parts_of self.new) → IsSteady (system_of Q.contents J.archive A.contents B.contents (parts_of self.old)) → IfErr result (λ stopped. Lasts (take stopped.done events.now) (system_of Q.contents J.archive A.contents B.contents (parts_of self.old)) (system_of Q.contents J.archive A.contents B.contents (parts_of self.new))) }
+        ensures holds { AreWell Q.honest J.honest A.honest A.is_stopped B.honest B.is_stopped (parts_of self.new) → IsSteady (system_of Q.contents J.archive A.contents B.contents (parts_of self.old)) → Holds (report_of (system_of Q.contents J.archive A.contents B.contents (parts_of self.new))) }
     {
+        steady_systems_stay_steady();
         self.parts.run(alloc, events)
     }
 
@@ -115,7 +134,11 @@ impl<Q: Lanes, J: JournalStore, A: Book, B: Book> World<Q, J, A, B> {
         ensures unchanged { result ≡ Err RoundFault.NotQuiet → self.new ≡ self.old }
         ensures done { AreWell Q.honest J.honest A.honest A.is_stopped B.honest B.is_stopped (parts_of self.new) → OnOk result (IsRound on (system_of Q.contents J.archive A.contents B.contents (parts_of self.old)) (system_of Q.contents J.archive A.contents B.contents (parts_of self.new))) }
         ensures stopped { AreWell Q.honest J.honest A.honest A.is_stopped B.honest B.is_stopped (parts_of self.new) → IfErr result (λ fault. fault ≢ RoundFault.NotQuiet → StopsIn (IsOfRound on) (system_of Q.contents J.archive A.contents B.contents (parts_of self.old)) (system_of Q.contents J.archive A.contents B.contents (parts_of self.new))) }
+        ensures goes { AreWell Q.honest J.honest A.honest A.is_stopped B.honest B.is_stopped (parts_of self.new) → IsSteady (system_of Q.contents J.archive A.contents B.contents (parts_of self.old)) → Goes (λ i. []) (system_of Q.contents J.archive A.contents B.contents (parts_of self.old)) (system_of Q.contents J.archive A.contents B.contents (parts_of self.new)) }
+        ensures holds { AreWell Q.honest J.honest A.honest A.is_stopped B.honest B.is_stopped (parts_of self.new) → IsSteady (system_of Q.contents J.archive A.contents B.contents (parts_of self.old)) → Holds (report_of (system_of Q.contents J.archive A.contents B.contents (parts_of self.new))) }
     {
+        steady_systems_stay_steady();
+        rounds_and_controls_keep_a_system_steady();
         self.parts.clean_round(alloc, on)
     }
 
@@ -128,7 +151,11 @@ impl<Q: Lanes, J: JournalStore, A: Book, B: Book> World<Q, J, A, B> {
     pub fn clean_control(&mut self, alloc: Global, id: u64) -> Result<(), ControlFault>
         ensures held { AreWell Q.honest J.honest A.honest A.is_stopped B.honest B.is_stopped (parts_of self.new) → AreWell Q.honest J.honest A.honest A.is_stopped B.honest B.is_stopped (parts_of self.old) }
         ensures ends { AreWell Q.honest J.honest A.honest A.is_stopped B.honest B.is_stopped (parts_of self.new) → ControlEnds id (system_of Q.contents J.archive A.contents B.contents (parts_of self.old)) result (system_of Q.contents J.archive A.contents B.contents (parts_of self.new)) }
+        ensures goes { AreWell Q.honest J.honest A.honest A.is_stopped B.honest B.is_stopped (parts_of self.new) → IsSteady (system_of Q.contents J.archive A.contents B.contents (parts_of self.old)) → Goes (λ i. []) (system_of Q.contents J.archive A.contents B.contents (parts_of self.old)) (system_of Q.contents J.archive A.contents B.contents (parts_of self.new)) }
+        ensures holds { AreWell Q.honest J.honest A.honest A.is_stopped B.honest B.is_stopped (parts_of self.new) → IsSteady (system_of Q.contents J.archive A.contents B.contents (parts_of self.old)) → Holds (report_of (system_of Q.contents J.archive A.contents B.contents (parts_of self.new))) }
     {
+        steady_systems_stay_steady();
+        rounds_and_controls_keep_a_system_steady();
         self.parts.clean_control(alloc, id)
     }
 
@@ -137,7 +164,10 @@ impl<Q: Lanes, J: JournalStore, A: Book, B: Book> World<Q, J, A, B> {
         ensures held { AreWell Q.honest J.honest A.honest A.is_stopped B.honest B.is_stopped (parts_of self.new) → AreWell Q.honest J.honest A.honest A.is_stopped B.honest B.is_stopped (parts_of self.old) }
         ensures same { AreWell Q.honest J.honest A.honest A.is_stopped B.honest B.is_stopped (parts_of self.new) → system_of Q.contents J.archive A.contents B.contents (parts_of self.new) ≡ system_of Q.contents J.archive A.contents B.contents (parts_of self.old) }
         ensures shows { AreWell Q.honest J.honest A.honest A.is_stopped B.honest B.is_stopped (parts_of self.new) → IfOk result (Shows (system_of Q.contents J.archive A.contents B.contents (parts_of self.old))) }
+        ensures holds { AreWell Q.honest J.honest A.honest A.is_stopped B.honest B.is_stopped (parts_of self.new) → IsSteady (system_of Q.contents J.archive A.contents B.contents (parts_of self.old)) → length (system_of Q.contents J.archive A.contents B.contents (parts_of self.old)).substations ≤ NUMBERS → lost_in (system_of Q.contents J.archive A.contents B.contents (parts_of self.old)).concentrator.queue < 2 ^ 64
+            → IfOk result (λ report. Holds (lists_of report)) }
     {
+        what_a_report_shows_is_kept();
         self.parts.report(alloc)
     }
 }

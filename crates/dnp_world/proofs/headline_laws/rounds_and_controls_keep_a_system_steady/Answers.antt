@@ -1,11 +1,14 @@
 -- Their events make no row.
 use Rattle.std.proofs.Common.{◌≡◌}
 use Rattle.dnp_world.specs.Rounds.{IsOfRound}
-use Rattle.dnp_world.proofs.Lasting.{LastingLaws, calm_control, calm_run, calm_stop, ran_round, round_makes_none}
+use Rattle.dnp_world.proofs.Lasting.{LastingLaws, calm_control, calm_run, calm_stop, ran_round, rests, round_makes_none}
 use Rattle.dnp_world.proofs.headline_laws.rounds_and_controls_keep_a_system_steady.Goals as goal
 
 laws_of : goal.After-lists_are_of_links → LastingLaws
 laws_of c = record { goes = c.every_event_keeps_a_system_steady.ensures; joined = c.lists_are_of_links.ensures.joined }
+
+pub returns-clause-rests : goal.returns-clause-rests
+returns-clause-rests c = λ old new s same. rests old new s same
 
 pub returns-clause-round : goal.returns-clause-round
 returns-clause-round c = λ on old new s round. calm_run (laws_of c) (IsOfRound on) (round_makes_none on) old new s (ran_round on old new round)
