@@ -113,7 +113,8 @@ keeps_below laws old h station was lines next controls commands there low points
     let s' : LinkState ⊤ = seen (station_of was) next.master lines old.now (lists_of l) in
     let link : Link = f.link in
     let r : Relaying = link_in old.concentrator.links station in
-    let before : IsJoinedBelow old.now r l was = some_of (IsJoinedBelow old.now r l) (slice_get old.substations station) was there (h.below station) in
+    let before : IsJoinedBelow old.now r l was =
+    some_of (IsJoinedBelow old.now r l) (slice_get old.substations station) was there (h.below station) in
     let grows : Grows l link (asks_for commands) =
     subst (λ (performs : List Command). Grows l link (record (asks_for commands) { performed = performs })) (no_performs was is refl)
     (grows_by [] [] [] [] commands was.outputs.performed l s' (sym (append-nil (rows_of l.took))) (sym (append-nil (rows_of l.released)))
@@ -126,8 +127,8 @@ keeps_below laws old h station was lines next controls commands there low points
         plan = h.plan;
         of_plan = still_of_plan old new h.plan refl refl refl refl (asked_still old.concentrator.links station next points) h.of_plan;
         links = with_links h.links station link h.links.above;
-        below = by_station (λ i x. IfSome (slice_get new.substations i) (IsJoinedBelow old.now (link_in new.concentrator.links i) x)) h.links station link
-            h.links.above
+        below = by_station (λ i x. IfSome (slice_get new.substations i) (IsJoinedBelow old.now (link_in new.concentrator.links i) x))
+            h.links station link h.links.above
             (subst (λ (x : Relaying). IfSome (slice_get new.substations station) (IsJoinedBelow old.now x link))
             (sym (link_here old.concentrator.links station next low))
             (of_some (IsJoinedBelow old.now next link) (slice_get new.substations station) is (set_here old.substations station was is there) joined))
@@ -222,7 +223,8 @@ pub record RelayLaws : Type 0 where
   pub commands : CommandLaws
 
 -- each link goes with its book
-pub below_in_step : CommandLaws → (s : System) (station : ℕ) → IsStanding s → InStep s → IsInStep (link_at s.concentrator station) s.concentrator.controls station
+pub below_in_step : CommandLaws → (s : System) (station : ℕ) → IsStanding s → InStep s
+    → IsInStep (link_at s.concentrator station) s.concentrator.controls station
 below_in_step laws s station h i = record { control = i.below station; sound = i.controls; widths = controls_fit laws s h i.widths }
 
 pub above_in_step : (s : System) → InStep s → IsInStep s.centre.link s.centre.orders 0
@@ -243,7 +245,8 @@ relays_below laws old new station has h i (Steps pending sends) =
     ltb-true station (length old.concentrator.links)
     ((and_parts (nat_lt station (length old.substations)) (nat_lt station (length old.concentrator.links)) has).1) in
     let inside : IsInStep r book station = below_in_step laws.commands old station h i in
-    let before : IsJoinedBelow old.now r l was = some_of (IsJoinedBelow old.now r l) (slice_get old.substations station) was sends.there (h.below station) in
+    let before : IsJoinedBelow old.now r l was =
+    some_of (IsJoinedBelow old.now r l) (slice_get old.substations station) was sends.there (h.below station) in
     let controls : Ledger = ledger_after book step in
     subst (λ (x : System). Keeps station [] old x)
     (sym (sends.after ∙ ap (λ (is : SubstationState). record (relayed_below station was lines next controls old) {

@@ -38,7 +38,8 @@ pub record Carries (old new : Ledger) : Type 0 where
       → IfSome (entry_of new.entries p.id) (IsOfEntry target p)
   pub sound : IsSound old → IsSound new
 
-pub carried : (old new : Ledger) (target : ℕ) (o : Option Progress) → Carries old new → IfSome o (GoesWith old target) → IfSome o (GoesWith new target)
+pub carried : (old new : Ledger) (target : ℕ) (o : Option Progress) → Carries old new → IfSome o (GoesWith old target)
+    → IfSome o (GoesWith new target)
 carried old new target None c h = h
 carried old new target (Some p) c h = record {
   given = omega (arith, h.given, c.given);
@@ -70,7 +71,8 @@ added_entry : (entries : List Entry) (new : Entry) (target : ℕ) (p : Progress)
     → IfSome (entry_of (entries ++ new ∷ []) p.id) (IsOfEntry target p)
 added_entry entries new target p low h =
     subst (λ (o : Option Entry). IfSome o (IsOfEntry target p))
-    (sym (find-append (λ (e : Entry). e.id == p.id) entries (new ∷ []) ∙ ap (λ (o : Option Entry). option_or (entry_of entries p.id) o) (other_id new p.id low)))
+    (sym (find-append (λ (e : Entry). e.id == p.id) entries (new ∷ [])
+    ∙ ap (λ (o : Option Entry). option_or (entry_of entries p.id) o) (other_id new p.id low)))
     (by (entry_of entries p.id) h)
   where
     by : (o : Option Entry) → IfSome o (IsOfEntry target p) → IfSome (option_or o None) (IsOfEntry target p)
@@ -155,7 +157,8 @@ next_found (x ∷ xs) target e rising is =
     (λ rest. next_found xs target e (λ i j d low inside. rising (suc i) (suc j) d (omega (arith, low)) (omega (arith, inside))) rest)
   where
     later_id : next_of xs target ≡ Some e → x.id < e.id
-    later_id rest = (next_has (λ (y : Entry). x.id < y.id) xs target e (λ k d inside. rising 0 (suc k) d (omega arith) (omega (arith, inside))) rest).0
+    later_id rest =
+        (next_has (λ (y : Entry). x.id < y.id) xs target e (λ k d inside. rising 0 (suc k) d (omega arith) (omega (arith, inside))) rest).0
 
     here : (b : Bool) → (b ≡ true → x.id ≡ e.id) → x.id < e.id → cond b (Some x) (entry_of xs e.id) ≡ entry_of xs e.id
     here true same low = absurd (let is : x.id ≡ e.id = same refl in omega (arith, low, is))
@@ -165,11 +168,13 @@ next_found (x ∷ xs) target e rising is =
         → cond (x.id == e.id) (Some x) (entry_of xs e.id) ≡ Some e
     by true same later =
         let is : x ≡ e = same_Some x e same in
-        ap (λ (b : Bool). cond b (Some x) (entry_of xs e.id)) ((Decides-eqb x.id e.id).1 (ap (λ (y : Entry). y.id) is)) ∙ ap (λ (y : Entry). Some y) is
+        ap (λ (b : Bool). cond b (Some x) (entry_of xs e.id)) ((Decides-eqb x.id e.id).1 (ap (λ (y : Entry). y.id) is))
+        ∙ ap (λ (y : Entry). Some y) is
     by false same later = here (x.id == e.id) (Decides-eqb x.id e.id).0 (later_id same) ∙ later same
 
 -- another of the same id and command
-renamed : (book : Ledger) (target : ℕ) (p q : Progress) → p.id ≡ q.id → p.command ≡ q.command → IfSome (entry_of book.entries p.id) (IsOfEntry target p)
+renamed : (book : Ledger) (target : ℕ) (p q : Progress) → p.id ≡ q.id → p.command ≡ q.command
+    → IfSome (entry_of book.entries p.id) (IsOfEntry target p)
     → IfSome (entry_of book.entries q.id) (IsOfEntry target q)
 renamed book target p q ids commands h =
     subst (λ (id : ℕ). IfSome (entry_of book.entries id) (IsOfEntry target q)) ids (by (entry_of book.entries p.id) h)

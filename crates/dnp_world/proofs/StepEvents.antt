@@ -88,9 +88,9 @@ link_changes old new station r book links here centre h = record {
 }
 
 -- the link above does, and the centre's book
-pub centre_changes : (old new : System) → Carries old.concentrator.controls new.concentrator.controls → new.concentrator.links ≡ old.concentrator.links
-    → IfSome new.centre.link.progress (GoesWith new.centre.orders 0) → IsSound new.centre.orders → All FitsEntry new.centre.orders.entries
-    → InStep old → InStep new
+pub centre_changes : (old new : System) → Carries old.concentrator.controls new.concentrator.controls
+    → new.concentrator.links ≡ old.concentrator.links → IfSome new.centre.link.progress (GoesWith new.centre.orders 0)
+    → IsSound new.centre.orders → All FitsEntry new.centre.orders.entries → InStep old → InStep new
 centre_changes old new book links above sound widths h = record {
   below = subst (λ (xs : List Relaying). AreInStep xs new.concentrator.controls) (sym links)
       (λ i. carried old.concentrator.controls new.concentrator.controls i (link_in old.concentrator.links i).progress book (h.below i));
@@ -103,7 +103,8 @@ centre_changes old new book links above sound widths h = record {
 -- ---- lines
 
 -- lines alone
-pub lines_change : (on : Link) (Change : ChannelState → ChannelState → Type 0) (old new : System) → LinesChange on Change old new → InStep old → InStep new
+pub lines_change : (on : Link) (Change : ChannelState → ChannelState → Type 0) (old new : System) → LinesChange on Change old new → InStep old
+    → InStep new
 lines_change (Below station) Change old new e h = subst InStep (sym e.after) (rest_changes old _ refl refl refl h)
 lines_change Above Change old new e h = subst InStep (sym e.1) (rest_changes old (record old { above = new.above }) refl refl refl h)
 

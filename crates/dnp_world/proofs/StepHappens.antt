@@ -62,7 +62,8 @@ use Rattle.dnp_world.proofs.StepEvents.{centre_changes, heard_goes, in_step_as, 
 -- what laws promise of books, of the index map, and of commands
 pub record StepLaws : Type 0 where
   pub sound : SoundLaw
-  pub low : (spans : List Spans) (kind : IndexKind) (station index above : ℕ) → IsMap spans → index_above spans station kind index ≡ Some above → above < INDICES
+  pub low : (spans : List Spans) (kind : IndexKind) (station index above : ℕ) → IsMap spans
+      → index_above spans station kind index ≡ Some above → above < INDICES
   pub commands : CommandLaws
 
 -- ---- links
@@ -142,7 +143,8 @@ comes laws left Above way.Up old new h e = comes_up left Above old new h e
 
 -- ---- readings and tasks
 
-reads_by : (r : Result (Option LaneRow) ChangeFault) (station : ℕ) (kind : Kind) (index : ℕ) (reading : Reading) (was : _) (old new : System) → InStep old
+reads_by : (r : Result (Option LaneRow) ChangeFault) (station : ℕ) (kind : Kind) (index : ℕ) (reading : Reading) (was : _) (old new : System)
+    → InStep old
     → ReadsBy r station kind index reading was old new → InStep new
 reads_by (Ok made) station kind index reading was old new h e = subst InStep (sym e.1.after) (rest_changes old _ refl refl refl h)
 reads_by (Err fault) station kind index reading was old new h e = subst InStep (sym e) h
@@ -153,7 +155,8 @@ asks true (Below station) task old new h e =
     lines_change (Below station) _ (with_link old station r) new e (with_link_stays old station r (h.below station) h)
 asks true Above task old new h e =
     let r : Relaying = relaying.asking old.centre.link old.now task in
-    lines_change Above (GoDown (request_of (ask_answer old.centre.link.master task))) (with_centre_link old r) new e (with_centre_stays old r h.above h)
+    lines_change Above (GoDown (request_of (ask_answer old.centre.link.master task))) (with_centre_link old r) new e
+    (with_centre_stays old r h.above h)
 asks false on task old new h e = subst InStep (sym e) h
 
 -- ---- commands
@@ -197,7 +200,8 @@ relays laws (Below station) old new s h (Steps pending sends) =
     let inside : IsInStep r book station = below_in_step laws.commands old station s h in
     let first : System = with_link (told old (Below station) step) station next in
     lines_change (Below station) _ first new sends
-    (link_changes old first station next (step_carries laws.sound book step) refl (step_in_progress laws.sound r old.now book station step refl inside) refl h)
+    (link_changes old first station next (step_carries laws.sound book step) refl
+    (step_in_progress laws.sound r old.now book station step refl inside) refl h)
 relays laws Above old new s h (Steps pending sends) =
     let r : Relaying = old.centre.link in
     let book : Ledger = old.centre.orders in
