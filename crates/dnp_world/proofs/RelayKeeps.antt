@@ -1,13 +1,11 @@
 -- A step of relaying keeps what stands behind the system.
-use Rattle.std.proofs.Common.{◌≡◌, ◌≢◌, ℕ, zero, suc, ◌<◌, Bool, true, List, [], ◌∷◌, ◌++◌, length, map, drop, Option, Some, refl, sym, ap, ◌∙◌, subst, append-nil, ltb-true, arith}
+use Rattle.std.proofs.Common.{◌≡◌, ◌≢◌, ℕ, ◌<◌, true, List, [], ◌∷◌, ◌++◌, length, map, Option, Some, refl, sym, ap, ◌∙◌, subst, append-nil, ltb-true, arith}
 use Rattle.std.specs.Prelude.{slice_get, slice_set, IfSome, nat_lt, ⊤}
 use Rattle.std.proofs.lemmas.Bool.{and_parts}
 use Rattle.std.proofs.lemmas.List.{drop_all}
 use Rattle.dnp_objects.specs.Counts.{IsCoveredBy}
 use Rattle.dnp_objects.specs.declared.command.Command.{Command}
-use Rattle.dnp_objects.specs.declared.row.Row.{Row}
 use Rattle.dnp_controls.specs.Book.{Ledger}
-use Rattle.dnp_controls.specs.declared.book.Entry.{Entry}
 use Rattle.dnp_eventbuf.specs.Stock.{rows_in}
 use Rattle.dnp_concentrator.specs.Below.{link_in}
 use Rattle.dnp_concentrator.specs.BookOutputs.{ordered}
@@ -21,8 +19,8 @@ use Rattle.dnp_world.specs.Kept.{command_of, commands_below, commands_in, kept_i
 use Rattle.dnp_world.specs.Link.{Link}
 use Rattle.dnp_world.specs.OneLinkEvents.{LinkState}
 use Rattle.dnp_world.specs.Stations.{of_station}
-use Rattle.dnp_world.specs.SystemEvents.{RelaysOn, Refuses, SendsDown, Steps, entries_on, step_on, told}
-use Rattle.dnp_world.specs.SystemStanding.{lists_of, points_asked, seen, seen_above, seen_below, IsJoinedBelow, IsStanding, Keeps}
+use Rattle.dnp_world.specs.SystemEvents.{RelaysOn, Refuses, Steps}
+use Rattle.dnp_world.specs.SystemStanding.{lists_of, points_asked, seen, IsJoinedBelow, IsStanding, Keeps}
 use Rattle.dnp_world.specs.Systems.{SubstationState, System, at_station, has_station, link_at, middle_of, station_of}
 use Rattle.dnp_world.proofs.BelowEvents.{no_performs}
 use Rattle.dnp_world.proofs.BelowKeeps.{TurnLaws, grows_by, lane_rows, none_more, none_used, of_some, relisted, some_of, stays_still}

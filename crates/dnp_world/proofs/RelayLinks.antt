@@ -1,5 +1,5 @@
 -- What a step of relaying makes of the book, and what it is to the link.
-use Rattle.std.proofs.Common.{◌≡◌, ℕ, ◌<◌, ◌≤◌, Bool, true, false, not, if◌then◌else◌, List, [], ◌∷◌, ◌++◌, map, Option, Some, None, IfSome, Result, Ok, Err, refl, sym, ap, ◌∙◌, subst, arith}
+use Rattle.std.proofs.Common.{◌≡◌, ℕ, ◌<◌, true, false, List, [], ◌∷◌, ◌++◌, map, Option, Some, None, IfSome, Result, Ok, Err, refl, ap, ◌∙◌, subst, arith}
 use Rattle.std.specs.Prelude.{IsTrue, is_none, is_some, ⊤}
 use Rattle.std.specs.Option.{IsSomeAnd}
 use Rattle.std.proofs.lemmas.Bool.{and_parts}
@@ -34,7 +34,7 @@ use Rattle.dnp_world.proofs.Books.{IsOfCommand, in_state_same, in_state_used, pi
 use Rattle.dnp_world.proofs.Counting.{count_by-append}
 use Rattle.dnp_world.proofs.JoinedOctets.{AreOctets}
 use Rattle.dnp_world.proofs.JoinedSteps.{stays_as}
-use Rattle.dnp_world.proofs.RelaySteps.{FromProgress, IfSends, in_progress, operates_from, selects_from}
+use Rattle.dnp_world.proofs.RelaySteps.{IfSends, in_progress, operates_from, selects_from}
 
 -- what laws promise of requests that commands have
 pub record RequestLaws : Type 0 where

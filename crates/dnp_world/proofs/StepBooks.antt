@@ -1,11 +1,10 @@
 -- What calls of a book make of the controls in progress: they stay in step with it.
-use Rattle.std.proofs.Common.{◌≡◌, ℕ, zero, suc, ◌+◌, ◌<◌, ◌≤◌, ◌==◌, ◌&&◌, Bool, true, false, cond, List, [], ◌∷◌, ◌++◌, map, ◌⊎◌, inl, inr, Option, Some, None, IfSome, refl, sym, ap, ◌∙◌, subst, eqb-true, arith}
+use Rattle.std.proofs.Common.{◌≡◌, ℕ, suc, ◌+◌, ◌<◌, ◌≤◌, ◌==◌, ◌&&◌, Bool, true, false, cond, List, [], ◌∷◌, ◌++◌, ◌⊎◌, inl, inr, Option, Some, None, IfSome, refl, sym, ap, ◌∙◌, subst, arith}
 use Rattle.std.specs.List.{All, AllPairs}
-use Rattle.std.specs.Option.{option_map, option_or}
+use Rattle.std.specs.Option.{option_or}
 use Rattle.std.proofs.lemmas.Option.{none-some, same_Some}
-use Rattle.std.proofs.lemmas.Bool.{and_parts}
 use Rattle.std.proofs.lemmas.Bool.Decides.{Decides-eqb}
-use Rattle.std.proofs.lemmas.List.Elements.{All-nil, All-cons, All-head, All-tail, All-map, All-append, All-push}
+use Rattle.std.proofs.lemmas.List.Elements.{All-nil, All-cons, All-head, All-tail, All-map}
 use Rattle.std.proofs.lemmas.List.Folds.{find-append}
 use Rattle.dnp_objects.specs.declared.command.Command.{Command}
 use Rattle.dnp_controls.specs.Book.{Ledger, IsSound, added, entry_of, in_state, is_pending, next_of}
@@ -24,7 +23,7 @@ use Rattle.dnp_world.specs.ControlsInStep.{GoesWith, IsOfEntry}
 use Rattle.dnp_world.specs.Kept.{command_of, commands_in}
 use Rattle.dnp_world.proofs.Books.{put}
 use Rattle.dnp_world.proofs.RelayLinks.{book_same}
-use Rattle.dnp_world.proofs.RelaySteps.{FromProgress, FromEntry, IfSends, IsInStep, in_progress, next_has, operates_from, selects_from, step_widths}
+use Rattle.dnp_world.proofs.RelaySteps.{FromProgress, FromEntry, IsInStep, in_progress, next_has, operates_from, selects_from, step_widths}
 use Rattle.dnp_world.proofs.RelayWidths.{FitsEntry}
 
 -- what the crate of controls promises of a book
