@@ -1,23 +1,20 @@
 -- The requests of a command: they are octets, and the command is read of them as it is.
-use Rattle.std.proofs.Common.{◌≡◌, ℕ, ◌%◌, ◌/◌, ◌<◌, ◌^◌, false, List, [], ◌∷◌, ◌++◌, map, option_to_list, Option, Some, Result, Ok, refl, ap, ◌∙◌, arith}
+use Rattle.std.proofs.Common.{◌≡◌, ℕ, ◌%◌, ◌/◌, ◌<◌, ◌^◌, false, List, [], ◌∷◌, ◌++◌, map, option_to_list, Option, Some, Ok, refl, ap, ◌∙◌, arith}
 use Rattle.std.specs.Prelude.{slice_get}
-use Rattle.std.specs.List.{All}
 use Rattle.std.specs.Int.{w16, w32, bytes_low_first, cast_unsigned}
 use Rattle.std.proofs.lemmas.List.Elements.{All-nil, All-cons, All-append}
-use Rattle.dnp_objects.specs.Commands.{IsInRange, index_of, order_octets, command_octets}
+use Rattle.dnp_objects.specs.Commands.{IsInRange, index_of, order_octets}
 use Rattle.dnp_objects.specs.Objects.{objects, content_of}
 use Rattle.dnp_objects.specs.declared.command.Command.{Command}
 use Rattle.dnp_objects.specs.declared.command.Command.TheVariants.{Block, Set16, Set32}
-use Rattle.dnp_appfragment.specs.Control.{ControlBits, IsControl, control_octet}
+use Rattle.dnp_appfragment.specs.Control.{IsControl}
 use Rattle.dnp_appfragment.specs.Fragments.{Asked, request_octets}
 use Rattle.dnp_appfragment.specs.Headers.{Head, AreHeaders, IsHeader, begin, header_octets, spelled}
 use Rattle.dnp_appfragment.specs.Items.{Item, Holds, command_item}
 use Rattle.dnp_appfragment.specs.Meaning.{request_at, command_in}
 use Rattle.dnp_appfragment.specs.Objects.{IsCommand}
-use Rattle.dnp_appfragment.specs.Table.{codes, form_of, function_of, is_response, rules, takes_of}
+use Rattle.dnp_appfragment.specs.Table.{form_of, is_response, rules, takes_of}
 use Rattle.dnp_appfragment.specs.Written.{order}
-use Rattle.dnp_appfragment.specs.declared.fault.AppFault.{AppFault}
-use Rattle.dnp_appfragment.specs.declared.function.Function.TheVariants as function
 use Rattle.dnp_appfragment.specs.declared.table.Form.TheVariants as form
 use Rattle.dnp_master.specs.Requests.{request_for}
 use Rattle.dnp_master.specs.declared.task.Task.TheVariants.{Select, Operate}

@@ -1,13 +1,11 @@
 -- A step of relaying keeps what stands behind the system.
-use Rattle.std.proofs.Common.{◌≡◌, ◌≢◌, ℕ, zero, suc, ◌<◌, Bool, true, List, [], ◌∷◌, ◌++◌, length, map, drop, Option, Some, refl, sym, ap, ◌∙◌, subst, append-nil, ltb-true, arith}
+use Rattle.std.proofs.Common.{◌≡◌, ◌≢◌, ℕ, ◌<◌, true, List, [], ◌∷◌, ◌++◌, length, map, Option, Some, refl, sym, ap, ◌∙◌, subst, append-nil, ltb-true, arith}
 use Rattle.std.specs.Prelude.{slice_get, slice_set, IfSome, nat_lt, ⊤}
 use Rattle.std.proofs.lemmas.Bool.{and_parts}
 use Rattle.std.proofs.lemmas.List.{drop_all}
 use Rattle.dnp_objects.specs.Counts.{IsCoveredBy}
 use Rattle.dnp_objects.specs.declared.command.Command.{Command}
-use Rattle.dnp_objects.specs.declared.row.Row.{Row}
 use Rattle.dnp_controls.specs.Book.{Ledger}
-use Rattle.dnp_controls.specs.declared.book.Entry.{Entry}
 use Rattle.dnp_eventbuf.specs.Stock.{rows_in}
 use Rattle.dnp_concentrator.specs.Below.{link_in}
 use Rattle.dnp_concentrator.specs.BookOutputs.{ordered}
@@ -21,8 +19,8 @@ use Rattle.dnp_world.specs.Kept.{command_of, commands_below, commands_in, kept_i
 use Rattle.dnp_world.specs.Link.{Link}
 use Rattle.dnp_world.specs.OneLinkEvents.{LinkState}
 use Rattle.dnp_world.specs.Stations.{of_station}
-use Rattle.dnp_world.specs.SystemEvents.{RelaysOn, Refuses, SendsDown, Steps, entries_on, step_on, told}
-use Rattle.dnp_world.specs.SystemStanding.{lists_of, points_asked, seen, seen_above, seen_below, IsJoinedBelow, IsStanding, Keeps}
+use Rattle.dnp_world.specs.SystemEvents.{RelaysOn, Refuses, Steps}
+use Rattle.dnp_world.specs.SystemStanding.{lists_of, points_asked, seen, IsJoinedBelow, IsStanding, Keeps}
 use Rattle.dnp_world.specs.Systems.{SubstationState, System, at_station, has_station, link_at, middle_of, station_of}
 use Rattle.dnp_world.proofs.BelowEvents.{no_performs}
 use Rattle.dnp_world.proofs.BelowKeeps.{TurnLaws, grows_by, lane_rows, none_more, none_used, of_some, relisted, some_of, stays_still}
@@ -113,7 +111,8 @@ keeps_below laws old h station was lines next controls commands there low points
     let s' : LinkState ⊤ = seen (station_of was) next.master lines old.now (lists_of l) in
     let link : Link = f.link in
     let r : Relaying = link_in old.concentrator.links station in
-    let before : IsJoinedBelow old.now r l was = some_of (IsJoinedBelow old.now r l) (slice_get old.substations station) was there (h.below station) in
+    let before : IsJoinedBelow old.now r l was =
+    some_of (IsJoinedBelow old.now r l) (slice_get old.substations station) was there (h.below station) in
     let grows : Grows l link (asks_for commands) =
     subst (λ (performs : List Command). Grows l link (record (asks_for commands) { performed = performs })) (no_performs was is refl)
     (grows_by [] [] [] [] commands was.outputs.performed l s' (sym (append-nil (rows_of l.took))) (sym (append-nil (rows_of l.released)))
@@ -126,8 +125,8 @@ keeps_below laws old h station was lines next controls commands there low points
         plan = h.plan;
         of_plan = still_of_plan old new h.plan refl refl refl refl (asked_still old.concentrator.links station next points) h.of_plan;
         links = with_links h.links station link h.links.above;
-        below = by_station (λ i x. IfSome (slice_get new.substations i) (IsJoinedBelow old.now (link_in new.concentrator.links i) x)) h.links station link
-            h.links.above
+        below = by_station (λ i x. IfSome (slice_get new.substations i) (IsJoinedBelow old.now (link_in new.concentrator.links i) x))
+            h.links station link h.links.above
             (subst (λ (x : Relaying). IfSome (slice_get new.substations station) (IsJoinedBelow old.now x link))
             (sym (link_here old.concentrator.links station next low))
             (of_some (IsJoinedBelow old.now next link) (slice_get new.substations station) is (set_here old.substations station was is there) joined))
@@ -222,7 +221,8 @@ pub record RelayLaws : Type 0 where
   pub commands : CommandLaws
 
 -- each link goes with its book
-pub below_in_step : CommandLaws → (s : System) (station : ℕ) → IsStanding s → InStep s → IsInStep (link_at s.concentrator station) s.concentrator.controls station
+pub below_in_step : CommandLaws → (s : System) (station : ℕ) → IsStanding s → InStep s
+    → IsInStep (link_at s.concentrator station) s.concentrator.controls station
 below_in_step laws s station h i = record { control = i.below station; sound = i.controls; widths = controls_fit laws s h i.widths }
 
 pub above_in_step : (s : System) → InStep s → IsInStep s.centre.link s.centre.orders 0
@@ -243,7 +243,8 @@ relays_below laws old new station has h i (Steps pending sends) =
     ltb-true station (length old.concentrator.links)
     ((and_parts (nat_lt station (length old.substations)) (nat_lt station (length old.concentrator.links)) has).1) in
     let inside : IsInStep r book station = below_in_step laws.commands old station h i in
-    let before : IsJoinedBelow old.now r l was = some_of (IsJoinedBelow old.now r l) (slice_get old.substations station) was sends.there (h.below station) in
+    let before : IsJoinedBelow old.now r l was =
+    some_of (IsJoinedBelow old.now r l) (slice_get old.substations station) was sends.there (h.below station) in
     let controls : Ledger = ledger_after book step in
     subst (λ (x : System). Keeps station [] old x)
     (sym (sends.after ∙ ap (λ (is : SubstationState). record (relayed_below station was lines next controls old) {

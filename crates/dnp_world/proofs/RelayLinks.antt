@@ -1,5 +1,5 @@
 -- What a step of relaying makes of the book, and what it is to the link.
-use Rattle.std.proofs.Common.{◌≡◌, ℕ, ◌<◌, ◌≤◌, Bool, true, false, not, if◌then◌else◌, List, [], ◌∷◌, ◌++◌, map, Option, Some, None, IfSome, Result, Ok, Err, refl, sym, ap, ◌∙◌, subst, arith}
+use Rattle.std.proofs.Common.{◌≡◌, ℕ, ◌<◌, true, false, List, [], ◌∷◌, ◌++◌, map, Option, Some, None, IfSome, Result, Ok, Err, refl, ap, ◌∙◌, subst, arith}
 use Rattle.std.specs.Prelude.{IsTrue, is_none, is_some, ⊤}
 use Rattle.std.specs.Option.{IsSomeAnd}
 use Rattle.std.proofs.lemmas.Bool.{and_parts}
@@ -34,7 +34,7 @@ use Rattle.dnp_world.proofs.Books.{IsOfCommand, in_state_same, in_state_used, pi
 use Rattle.dnp_world.proofs.Counting.{count_by-append}
 use Rattle.dnp_world.proofs.JoinedOctets.{AreOctets}
 use Rattle.dnp_world.proofs.JoinedSteps.{stays_as}
-use Rattle.dnp_world.proofs.RelaySteps.{FromProgress, IfSends, in_progress, operates_from, selects_from}
+use Rattle.dnp_world.proofs.RelaySteps.{IfSends, in_progress, operates_from, selects_from}
 
 -- what laws promise of requests that commands have
 pub record RequestLaws : Type 0 where
@@ -122,12 +122,14 @@ request_goes laws o lists now m was is l t low answer j down =
     })
 
 -- the link moves by what the step asks for
-pub step_goes : RequestLaws → (o : State) (lists : RowLists) (now : ℕ) (r : Relaying) (entries : List Entry) (target : ℕ) (was is : ChannelState) (l : Link) (step : Step)
+pub step_goes : RequestLaws → (o : State) (lists : RowLists) (now : ℕ) (r : Relaying) (entries : List Entry) (target : ℕ)
+    → (was is : ChannelState) (l : Link) (step : Step)
     → step_of r entries target ≡ step → IfSends step HasWidths → Joined [] (seen o r.master was now lists) l
     → GoDown (requests_of step r.master.seq) was is
     → Follows [] [] (asked_in step) o.performed l (seen o (relaying_after r now step).master is now lists)
 step_goes laws o lists now r entries target was is l Waits from widths j down =
-    stays_as [] l (at_lines o lists now r.master is) (at_lines o lists now r.master was) (ap (at_lines o lists now r.master) (none_goes was is down)) j
+    stays_as [] l (at_lines o lists now r.master is) (at_lines o lists now r.master was)
+    (ap (at_lines o lists now r.master) (none_goes was is down)) j
 step_goes laws o lists now r entries target was is l (Selects id command) from widths j down =
     let (idle, origin) = selects_from r entries target id command from in
     subst (λ (asks : List Command). Follows [] [] asks o.performed l (at_lines o lists now (asked r.master now (task.Select command)) is))
@@ -141,7 +143,8 @@ step_goes laws o lists now r entries target was is l (Operates id command) from 
     (request_goes laws o lists now r.master was is l (task.Operate command) (laws.operates r.master.seq command j.number widths)
     (answers r.master (task.Operate command) idle chosen refl) j down)
 step_goes laws o lists now r entries target was is l (Finishes id status) from widths j down =
-    stays_as [] l (at_lines o lists now r.master is) (at_lines o lists now r.master was) (ap (at_lines o lists now r.master) (none_goes was is down)) j
+    stays_as [] l (at_lines o lists now r.master is) (at_lines o lists now r.master was)
+    (ap (at_lines o lists now r.master) (none_goes was is down)) j
 
 -- the points that its master asks for stay
 points_stay : (s : master.State) (now : ℕ) (t : Task) (answer : Result (List ℕ) AskFault) → (asked_by s now t answer).plan ≡ s.plan

@@ -1,8 +1,8 @@
 -- The commands in the concentrator's book can be sent, where those in the centre's can and links of the law stand behind the system.
-use Rattle.std.proofs.Common.{◌≡◌, ℕ, suc, ◌<◌, ◌≤◌, ◌^◌, ◌==◌, Bool, true, false, cond, if◌then◌else◌, List, [], ◌∷◌, map, Option, Some, None, refl, sym, ap, ◌∙◌, subst, arith}
-use Rattle.std.specs.Prelude.{IsTrue, nat_eq, ◌-◌}
+use Rattle.std.proofs.Common.{◌≡◌, ℕ, ◌<◌, ◌≤◌, Bool, true, false, cond, if◌then◌else◌, List, [], ◌∷◌, Option, Some, None, refl, sym, ap, subst, arith}
+use Rattle.std.specs.Prelude.{nat_eq, ◌-◌}
 use Rattle.std.specs.Option.{option_map}
-use Rattle.std.specs.List.{All, count_by, filter_map}
+use Rattle.std.specs.List.{All, count_by}
 use Rattle.std.proofs.lemmas.Option.{none-some, same_Some}
 use Rattle.std.proofs.lemmas.List.Elements.{All-nil, All-cons, All-head, All-tail, All-map}
 use Rattle.dnp_objects.specs.Commands.{index_of}
@@ -17,10 +17,9 @@ use Rattle.dnp_concentrator.specs.Mapped.{command_below, with_index}
 use Rattle.dnp_concentrator.specs.declared.index_kind.IndexKind.{IndexKind}
 use Rattle.dnp_concentrator.specs.declared.span.Spans.{Spans}
 use Rattle.dnp_world.specs.CommandWidths.{HasWidths}
-use Rattle.dnp_world.specs.Kept.{command_of, commands_below, commands_in, is_used, kept_in, order_of, orders_in, used_commands}
+use Rattle.dnp_world.specs.Kept.{command_of, commands_below, commands_in, is_used, order_of, orders_in}
 use Rattle.dnp_world.specs.Link.{Link}
 use Rattle.dnp_world.specs.Standing.{Stands}
-use Rattle.dnp_world.specs.Stations.{HasSameCounts}
 use Rattle.dnp_world.specs.SystemStanding.{IsStanding}
 use Rattle.dnp_world.specs.Systems.{System}
 use Rattle.dnp_world.proofs.Counting.{one_if, count_by-cons}

@@ -1,11 +1,10 @@
 -- What calls of a book make of the controls in progress: they stay in step with it.
-use Rattle.std.proofs.Common.{◌≡◌, ℕ, zero, suc, ◌+◌, ◌<◌, ◌≤◌, ◌==◌, ◌&&◌, Bool, true, false, cond, List, [], ◌∷◌, ◌++◌, map, ◌⊎◌, inl, inr, Option, Some, None, IfSome, refl, sym, ap, ◌∙◌, subst, eqb-true, arith}
+use Rattle.std.proofs.Common.{◌≡◌, ℕ, suc, ◌+◌, ◌<◌, ◌≤◌, ◌==◌, ◌&&◌, Bool, true, false, cond, List, [], ◌∷◌, ◌++◌, ◌⊎◌, inl, inr, Option, Some, None, IfSome, refl, sym, ap, ◌∙◌, subst, arith}
 use Rattle.std.specs.List.{All, AllPairs}
-use Rattle.std.specs.Option.{option_map, option_or}
+use Rattle.std.specs.Option.{option_or}
 use Rattle.std.proofs.lemmas.Option.{none-some, same_Some}
-use Rattle.std.proofs.lemmas.Bool.{and_parts}
 use Rattle.std.proofs.lemmas.Bool.Decides.{Decides-eqb}
-use Rattle.std.proofs.lemmas.List.Elements.{All-nil, All-cons, All-head, All-tail, All-map, All-append, All-push}
+use Rattle.std.proofs.lemmas.List.Elements.{All-nil, All-cons, All-head, All-tail, All-map}
 use Rattle.std.proofs.lemmas.List.Folds.{find-append}
 use Rattle.dnp_objects.specs.declared.command.Command.{Command}
 use Rattle.dnp_controls.specs.Book.{Ledger, IsSound, added, entry_of, in_state, is_pending, next_of}
@@ -24,7 +23,7 @@ use Rattle.dnp_world.specs.ControlsInStep.{GoesWith, IsOfEntry}
 use Rattle.dnp_world.specs.Kept.{command_of, commands_in}
 use Rattle.dnp_world.proofs.Books.{put}
 use Rattle.dnp_world.proofs.RelayLinks.{book_same}
-use Rattle.dnp_world.proofs.RelaySteps.{FromProgress, FromEntry, IfSends, IsInStep, in_progress, next_has, operates_from, selects_from, step_widths}
+use Rattle.dnp_world.proofs.RelaySteps.{FromProgress, FromEntry, IsInStep, in_progress, next_has, operates_from, selects_from, step_widths}
 use Rattle.dnp_world.proofs.RelayWidths.{FitsEntry}
 
 -- what the crate of controls promises of a book
@@ -38,7 +37,8 @@ pub record Carries (old new : Ledger) : Type 0 where
       → IfSome (entry_of new.entries p.id) (IsOfEntry target p)
   pub sound : IsSound old → IsSound new
 
-pub carried : (old new : Ledger) (target : ℕ) (o : Option Progress) → Carries old new → IfSome o (GoesWith old target) → IfSome o (GoesWith new target)
+pub carried : (old new : Ledger) (target : ℕ) (o : Option Progress) → Carries old new → IfSome o (GoesWith old target)
+    → IfSome o (GoesWith new target)
 carried old new target None c h = h
 carried old new target (Some p) c h = record {
   given = omega (arith, h.given, c.given);
@@ -70,7 +70,8 @@ added_entry : (entries : List Entry) (new : Entry) (target : ℕ) (p : Progress)
     → IfSome (entry_of (entries ++ new ∷ []) p.id) (IsOfEntry target p)
 added_entry entries new target p low h =
     subst (λ (o : Option Entry). IfSome o (IsOfEntry target p))
-    (sym (find-append (λ (e : Entry). e.id == p.id) entries (new ∷ []) ∙ ap (λ (o : Option Entry). option_or (entry_of entries p.id) o) (other_id new p.id low)))
+    (sym (find-append (λ (e : Entry). e.id == p.id) entries (new ∷ [])
+    ∙ ap (λ (o : Option Entry). option_or (entry_of entries p.id) o) (other_id new p.id low)))
     (by (entry_of entries p.id) h)
   where
     by : (o : Option Entry) → IfSome o (IsOfEntry target p) → IfSome (option_or o None) (IsOfEntry target p)
@@ -155,7 +156,8 @@ next_found (x ∷ xs) target e rising is =
     (λ rest. next_found xs target e (λ i j d low inside. rising (suc i) (suc j) d (omega (arith, low)) (omega (arith, inside))) rest)
   where
     later_id : next_of xs target ≡ Some e → x.id < e.id
-    later_id rest = (next_has (λ (y : Entry). x.id < y.id) xs target e (λ k d inside. rising 0 (suc k) d (omega arith) (omega (arith, inside))) rest).0
+    later_id rest =
+        (next_has (λ (y : Entry). x.id < y.id) xs target e (λ k d inside. rising 0 (suc k) d (omega arith) (omega (arith, inside))) rest).0
 
     here : (b : Bool) → (b ≡ true → x.id ≡ e.id) → x.id < e.id → cond b (Some x) (entry_of xs e.id) ≡ entry_of xs e.id
     here true same low = absurd (let is : x.id ≡ e.id = same refl in omega (arith, low, is))
@@ -165,11 +167,13 @@ next_found (x ∷ xs) target e rising is =
         → cond (x.id == e.id) (Some x) (entry_of xs e.id) ≡ Some e
     by true same later =
         let is : x ≡ e = same_Some x e same in
-        ap (λ (b : Bool). cond b (Some x) (entry_of xs e.id)) ((Decides-eqb x.id e.id).1 (ap (λ (y : Entry). y.id) is)) ∙ ap (λ (y : Entry). Some y) is
+        ap (λ (b : Bool). cond b (Some x) (entry_of xs e.id)) ((Decides-eqb x.id e.id).1 (ap (λ (y : Entry). y.id) is))
+        ∙ ap (λ (y : Entry). Some y) is
     by false same later = here (x.id == e.id) (Decides-eqb x.id e.id).0 (later_id same) ∙ later same
 
 -- another of the same id and command
-renamed : (book : Ledger) (target : ℕ) (p q : Progress) → p.id ≡ q.id → p.command ≡ q.command → IfSome (entry_of book.entries p.id) (IsOfEntry target p)
+renamed : (book : Ledger) (target : ℕ) (p q : Progress) → p.id ≡ q.id → p.command ≡ q.command
+    → IfSome (entry_of book.entries p.id) (IsOfEntry target p)
     → IfSome (entry_of book.entries q.id) (IsOfEntry target q)
 renamed book target p q ids commands h =
     subst (λ (id : ℕ). IfSome (entry_of book.entries id) (IsOfEntry target q)) ids (by (entry_of book.entries p.id) h)

@@ -1,43 +1,23 @@
 -- The controls in progress stay in step with the books at each event.
-use Rattle.std.proofs.Common.{◌≡◌, ℕ, zero, suc, ◌<◌, Bool, true, false, if◌then◌else◌, List, [], ◌∷◌, map, Option, Some, None, IfSome, Result, Ok, Err, refl, sym, ap, ◌∙◌, subst, arith}
+use Rattle.std.proofs.Common.{◌≡◌, ℕ, zero, suc, List, [], ◌∷◌, Option, Some, None, IfSome, refl, sym, ap, subst}
 use Rattle.std.specs.Prelude.{slice_set}
 use Rattle.std.specs.List.{All}
-use Rattle.std.proofs.lemmas.Option.{none-some, same_Some}
-use Rattle.std.proofs.lemmas.List.Elements.{All-nil, All-push}
-use Rattle.dnp_objects.specs.Commands.{index_of}
 use Rattle.dnp_objects.specs.declared.command.Command.{Command}
-use Rattle.dnp_objects.specs.declared.command.Command.TheVariants.{Block, Set16, Set32}
-use Rattle.dnp_controls.specs.Book.{Ledger, IsSound, added}
-use Rattle.dnp_controls.specs.declared.book.State.TheVariants.{Pending}
+use Rattle.dnp_controls.specs.Book.{Ledger, IsSound}
 use Rattle.dnp_concentrator.specs.Below.{link_in}
 use Rattle.dnp_concentrator.specs.BookOutputs.{all_added}
-use Rattle.dnp_concentrator.specs.IndexKinds.{kind_of_command}
-use Rattle.dnp_concentrator.specs.IndexMap.{IsMap, index_above}
-use Rattle.dnp_concentrator.specs.Mapped.{command_above, with_index}
-use Rattle.dnp_concentrator.specs.Relaying as relaying
-use Rattle.dnp_concentrator.specs.Relaying.{Relaying, Step, ledger_after, progress_heard, relaying_after, step_of}
-use Rattle.dnp_concentrator.specs.declared.index_kind.IndexKind.{IndexKind}
+use Rattle.dnp_concentrator.specs.Relaying.{Relaying, progress_heard}
 use Rattle.dnp_concentrator.specs.declared.progress.Progress.{Progress}
-use Rattle.dnp_concentrator.specs.declared.span.Spans.{Spans}
-use Rattle.dnp_master.specs.Calls.{Taking, receive_of}
-use Rattle.dnp_master.specs.declared.fault.MasterFault.{MasterFault}
 use Rattle.dnp_master.specs.declared.outcome.Outcome.{Outcome}
-use Rattle.dnp_master.specs.declared.task.Task.{Task}
 use Rattle.dnp_outstation.specs.State as outstation
-use Rattle.dnp_pointdb.specs.Database.{answer_of}
-use Rattle.dnp_line.specs.Lines.{LineState}
-use Rattle.dnp_world.specs.declared.event.Event.{Event}
 use Rattle.dnp_world.specs.declared.event.Link.{Link}
 use Rattle.dnp_world.specs.declared.event.Link.TheVariants.{Below, Above}
 use Rattle.dnp_world.specs.Channels.{ChannelState}
-use Rattle.dnp_world.specs.CommandWidths.{HasWidths}
 use Rattle.dnp_world.specs.ControlsInStep.{GoesWith, InStep}
-use Rattle.dnp_world.specs.SystemEvents.{ChangesAt, LinesChange, MiddleSteps, MasterTakes, RelaysOn, Refuses, Steps, SendsDown}
-use Rattle.dnp_world.specs.SystemStanding.{IsStanding}
-use Rattle.dnp_world.specs.Systems.{SubstationState, System, link_at}
-use Rattle.dnp_world.proofs.RelayKeeps.{above_in_step, below_in_step}
-use Rattle.dnp_world.proofs.RelayWidths.{CommandLaws, FitsEntry}
-use Rattle.dnp_world.proofs.StepBooks.{Carries, SoundLaw, added_carries, all_added_carries, carried, carried_same, step_carries, step_fits, step_in_progress}
+use Rattle.dnp_world.specs.SystemEvents.{LinesChange, MiddleSteps}
+use Rattle.dnp_world.specs.Systems.{System}
+use Rattle.dnp_world.proofs.RelayWidths.{FitsEntry}
+use Rattle.dnp_world.proofs.StepBooks.{Carries, SoundLaw, all_added_carries, carried}
 
 -- ---- parts of a system
 
@@ -88,9 +68,9 @@ link_changes old new station r book links here centre h = record {
 }
 
 -- the link above does, and the centre's book
-pub centre_changes : (old new : System) → Carries old.concentrator.controls new.concentrator.controls → new.concentrator.links ≡ old.concentrator.links
-    → IfSome new.centre.link.progress (GoesWith new.centre.orders 0) → IsSound new.centre.orders → All FitsEntry new.centre.orders.entries
-    → InStep old → InStep new
+pub centre_changes : (old new : System) → Carries old.concentrator.controls new.concentrator.controls
+    → new.concentrator.links ≡ old.concentrator.links → IfSome new.centre.link.progress (GoesWith new.centre.orders 0)
+    → IsSound new.centre.orders → All FitsEntry new.centre.orders.entries → InStep old → InStep new
 centre_changes old new book links above sound widths h = record {
   below = subst (λ (xs : List Relaying). AreInStep xs new.concentrator.controls) (sym links)
       (λ i. carried old.concentrator.controls new.concentrator.controls i (link_in old.concentrator.links i).progress book (h.below i));
@@ -103,7 +83,8 @@ centre_changes old new book links above sound widths h = record {
 -- ---- lines
 
 -- lines alone
-pub lines_change : (on : Link) (Change : ChannelState → ChannelState → Type 0) (old new : System) → LinesChange on Change old new → InStep old → InStep new
+pub lines_change : (on : Link) (Change : ChannelState → ChannelState → Type 0) (old new : System) → LinesChange on Change old new → InStep old
+    → InStep new
 lines_change (Below station) Change old new e h = subst InStep (sym e.after) (rest_changes old _ refl refl refl h)
 lines_change Above Change old new e h = subst InStep (sym e.1) (rest_changes old (record old { above = new.above }) refl refl refl h)
 

@@ -1,6 +1,5 @@
 -- Each event keeps the controls in progress in step with the books.
-use Rattle.std.proofs.Common.{◌≡◌, ℕ, zero, suc, ◌+◌, ◌^◌, ◌-◌, ◌<◌, ◌≤◌, Bool, true, false, if◌then◌else◌, List, [], ◌∷◌, ◌++◌, map, min, Option, Some, None, IfSome, Result, Ok, Err, refl, sym, ap, ◌∙◌, subst, arith}
-use Rattle.std.specs.Prelude.{slice_set}
+use Rattle.std.proofs.Common.{◌≡◌, ℕ, zero, suc, ◌+◌, ◌<◌, ◌≤◌, Bool, true, false, if◌then◌else◌, List, [], ◌∷◌, map, Option, Some, None, IfSome, Result, Ok, Err, refl, sym, subst, arith}
 use Rattle.std.specs.Option.{option_map}
 use Rattle.std.specs.List.{All, AllPairs}
 use Rattle.std.proofs.lemmas.Option.{none-some, same_Some}
@@ -45,24 +44,25 @@ use Rattle.dnp_world.specs.declared.link_event.End.{End}
 use Rattle.dnp_world.specs.declared.link_event.End.TheVariants as end
 use Rattle.dnp_world.specs.declared.link_event.Way.{Way}
 use Rattle.dnp_world.specs.declared.link_event.Way.TheVariants as way
-use Rattle.dnp_world.specs.Channels.{ChannelState, DamagesAt, GoDown, cleared, hung_up_at, lost_at}
+use Rattle.dnp_world.specs.Channels.{GoDown, cleared}
 use Rattle.dnp_world.specs.CommandWidths.{HasWidths}
 use Rattle.dnp_world.specs.ControlsInStep.{GoesWith, InStep}
 use Rattle.dnp_world.specs.FreshSystems.{fresh_system}
 use Rattle.dnp_world.specs.OneLinkEvents.{is_own}
-use Rattle.dnp_world.specs.SystemEvents.{AsksOn, ComesDownAbove, ComesOn, ComesUp, HangsUpOn, Happens, IfThere, IsHeardUp, IssuesBy, LinesChange, MasterReceives, MasterTakes, MasterTicks, MiddleAnswers, OpensOn, OutstationTicks, Reads, ReadsBy, Refuses, RelaysOn, SendsDown, Steps, SubstationRestarts, concentrator_restarted, relaying_at, request_of, requests_of, step_on, taken_above, taken_below, taken_on, told, with_centre_link, with_link, with_lost, with_relaying}
+use Rattle.dnp_world.specs.SystemEvents.{AsksOn, ComesDownAbove, ComesOn, ComesUp, HangsUpOn, Happens, IfThere, IssuesBy, MasterReceives, MasterTakes, MasterTicks, MiddleAnswers, OpensOn, OutstationTicks, Reads, ReadsBy, Refuses, RelaysOn, Steps, SubstationRestarts, concentrator_restarted, relaying_at, request_of, requests_of, taken_above, taken_below, taken_on, told, with_centre_link, with_link, with_lost}
 use Rattle.dnp_world.specs.SystemStanding.{IsStanding}
 use Rattle.dnp_world.specs.Systems.{System, has_link, has_station, link_at, middle_of, middle_panel}
 use Rattle.dnp_world.proofs.RelayKeeps.{above_in_step, below_in_step}
 use Rattle.dnp_world.proofs.RelaySteps.{IsInStep}
 use Rattle.dnp_world.proofs.RelayWidths.{CommandLaws, FitsEntry}
 use Rattle.dnp_world.proofs.StepBooks.{SoundLaw, added_carries, carried, carried_same, step_carries, step_fits, step_in_progress}
-use Rattle.dnp_world.proofs.StepEvents.{centre_changes, heard_goes, in_step_as, lines_change, link_changes, middle_steps, rest_changes}
+use Rattle.dnp_world.proofs.StepEvents.{centre_changes, heard_goes, lines_change, link_changes, middle_steps, rest_changes}
 
 -- what laws promise of books, of the index map, and of commands
 pub record StepLaws : Type 0 where
   pub sound : SoundLaw
-  pub low : (spans : List Spans) (kind : IndexKind) (station index above : ℕ) → IsMap spans → index_above spans station kind index ≡ Some above → above < INDICES
+  pub low : (spans : List Spans) (kind : IndexKind) (station index above : ℕ) → IsMap spans
+      → index_above spans station kind index ≡ Some above → above < INDICES
   pub commands : CommandLaws
 
 -- ---- links
@@ -142,7 +142,8 @@ comes laws left Above way.Up old new h e = comes_up left Above old new h e
 
 -- ---- readings and tasks
 
-reads_by : (r : Result (Option LaneRow) ChangeFault) (station : ℕ) (kind : Kind) (index : ℕ) (reading : Reading) (was : _) (old new : System) → InStep old
+reads_by : (r : Result (Option LaneRow) ChangeFault) (station : ℕ) (kind : Kind) (index : ℕ) (reading : Reading) (was : _) (old new : System)
+    → InStep old
     → ReadsBy r station kind index reading was old new → InStep new
 reads_by (Ok made) station kind index reading was old new h e = subst InStep (sym e.1.after) (rest_changes old _ refl refl refl h)
 reads_by (Err fault) station kind index reading was old new h e = subst InStep (sym e) h
@@ -153,7 +154,8 @@ asks true (Below station) task old new h e =
     lines_change (Below station) _ (with_link old station r) new e (with_link_stays old station r (h.below station) h)
 asks true Above task old new h e =
     let r : Relaying = relaying.asking old.centre.link old.now task in
-    lines_change Above (GoDown (request_of (ask_answer old.centre.link.master task))) (with_centre_link old r) new e (with_centre_stays old r h.above h)
+    lines_change Above (GoDown (request_of (ask_answer old.centre.link.master task))) (with_centre_link old r) new e
+    (with_centre_stays old r h.above h)
 asks false on task old new h e = subst InStep (sym e) h
 
 -- ---- commands
@@ -197,7 +199,8 @@ relays laws (Below station) old new s h (Steps pending sends) =
     let inside : IsInStep r book station = below_in_step laws.commands old station s h in
     let first : System = with_link (told old (Below station) step) station next in
     lines_change (Below station) _ first new sends
-    (link_changes old first station next (step_carries laws.sound book step) refl (step_in_progress laws.sound r old.now book station step refl inside) refl h)
+    (link_changes old first station next (step_carries laws.sound book step) refl
+    (step_in_progress laws.sound r old.now book station step refl inside) refl h)
 relays laws Above old new s h (Steps pending sends) =
     let r : Relaying = old.centre.link in
     let book : Ledger = old.centre.orders in

@@ -1,6 +1,6 @@
 -- Definition: the fields of a command have their widths (IEEE Std 1815-2012, object library: control relay output block, analog
 -- output blocks).
-use Rattle.std.specs.Prelude.{ℕ, ◌^◌, ◌<◌, FitsSigned}
+use Rattle.std.specs.Prelude.{◌^◌, ◌<◌, FitsSigned}
 use Rattle.std.specs.Int.{w16, w32}
 use Rattle.dnp_objects.specs.declared.command.Command.{Command}
 use Rattle.dnp_objects.specs.declared.command.Command.TheVariants.{Block, Set16, Set32}

@@ -24,20 +24,17 @@ use std::alloc::Global;
 /// The fields of a block have the widths of their types.
 fn block_has_widths(index: u16, code: u8, count: u8, on_ms: u32, off_ms: u32)
     ensures { HasWidths (Block index code count on_ms off_ms) }
-{
-}
+{}
 
 /// So have those of a setpoint command of 16 bits.
 fn short_has_widths(index: u16, value: i16)
     ensures { HasWidths (Set16 index value) }
-{
-}
+{}
 
 /// So have those of one of 32 bits.
 fn long_has_widths(index: u16, value: i32)
     ensures { HasWidths (Set32 index value) }
-{
-}
+{}
 
 /// So have those of each command.
 fn has_widths(command: &Command)
