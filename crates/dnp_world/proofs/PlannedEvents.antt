@@ -172,7 +172,7 @@ asks_keep false on task old new same = same_system old new same
 
 issues_keep : (o : Option Command) (station : ℕ) (command : Command) (old new : System) → IssuesBy o station command old new → Keep old new
 issues_keep None station command old new same = same_system old new same
-issues_keep (Some above) station command old new (room, after) = keep_all old.substations new.substations (ap (λ (s : System). s.substations) after)
+issues_keep (Some above) station command old new (room, widths, after) = keep_all old.substations new.substations (ap (λ (s : System). s.substations) after)
 
 told_same : (s : System) (on : Link) (step : relaying.Step) → (told s on step).substations ≡ s.substations
 told_same s (Below station) step = refl
