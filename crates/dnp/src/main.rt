@@ -10,6 +10,7 @@ mod numbers;
 mod outstation;
 mod plan_file;
 mod serving;
+mod sim;
 
 use crate::fault::lost;
 use clap::error::ErrorKind;
@@ -75,7 +76,8 @@ fn command<'a>(alloc: Global) -> Result<Command<'a>, AllocError> {
         .subcommand_required(true)
         .arg_required_else_help(true)
         .subcommand(answer::command(alloc)?)?
-        .subcommand(outstation::command(alloc)?)
+        .subcommand(outstation::command(alloc)?)?
+        .subcommand(sim::command(alloc)?)
 }
 
 /// Does what the subcommand asks.
@@ -87,6 +89,7 @@ where
     match matches.subcommand() {
         Some((answer::NAME, given)) => answer::run(rt, given),
         Some((outstation::NAME, given)) => outstation::run(rt, given),
+        Some((sim::NAME, given)) => sim::run(rt, given),
         // `clap` refuses a missing or an unknown subcommand before this.
         _ => Ok(ExitCode::from(exit::USAGE)),
     }

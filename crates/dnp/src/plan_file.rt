@@ -18,10 +18,14 @@ pub(crate) fn plan_text<R: AllocGlobal + Eprint + Files>(
 ) -> Result<Vec<u8>, ExitCode> {
     let mut text = Vec::new(rt.alloc());
     let read = match fs::open(rt, path) {
-        Ok(file) => file.take(MAX_PLAN).read_to_end(&mut text),
+        Ok(file) => file.take(MAX_PLAN + 1).read_to_end(&mut text),
         Err(cause) => Err(cause),
     };
     match read {
+        Ok(_) if text.len() as u64 > MAX_PLAN => {
+            let _ = eprintln!(rt; "dnp: {path}: over {MAX_PLAN} octets");
+            Err(ExitCode::from(exit::FAULT))
+        }
         Ok(_) => Ok(text),
         Err(cause) => Err(lost(rt, path, &cause)),
     }

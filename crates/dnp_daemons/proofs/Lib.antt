@@ -11,6 +11,9 @@ mod Numbers
 mod Opened
 mod Said
 mod Scripts
+mod ScriptReporting
+mod ScriptRunning
+mod Simulating
 mod Spaced
 mod SpacedPieces
 mod SpacedWriting

@@ -10,6 +10,13 @@ pub mod Words
 pub mod Numbers
 pub mod Names
 pub mod ScriptLines
+pub mod Scripted
+pub mod ScriptTexts
+pub mod ScriptRuns
+pub mod ScriptReports
+pub mod Judgements
+pub mod ScriptWorlds
+pub mod Simulations
 pub mod streams
 pub mod PlanFields
 pub mod PlanRanges

@@ -3,3 +3,5 @@ pub mod Appended
 pub mod Hearing
 pub mod Outgoing
 pub mod Pieces
+pub mod Judging
+pub mod Lines

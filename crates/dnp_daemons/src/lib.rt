@@ -1,6 +1,7 @@
 //! What the program `dnp` does, as calls over values and streams: `answer_line` answers one line of octets,
-//! `serve_stream` serves a stream of octets by a station, `read_plan` reads a plan and `read_script` a script for it, and
-//! `print_report` prints what became of every event and command.
+//! `serve_stream` serves a stream of octets by a station, `read_plan` reads a plan and `read_script` a script for it,
+//! `run_script` runs a script, `print_report` prints what became of every event and command, and `sim_text` does all
+//! four with two texts.
 #![tactic(auto)]
 
 mod address;
@@ -11,7 +12,9 @@ mod octets;
 mod plan_text;
 mod planned;
 mod report_text;
+mod run;
 mod script;
+mod sim;
 mod station;
 mod stream;
 mod text;
@@ -25,7 +28,9 @@ pub use octets::MAX_CHARACTERS;
 pub use plan_text::{PlanTextFault, read_plan};
 pub use planned::{MASTER_BELOW, PlannedOutstation, outstation_address, planned_outstation};
 pub use report_text::{PrintFault, print_report};
+pub use run::{ScriptStop, Scripted, run_script};
 pub use script::{ScriptFault, ScriptLine, number_in, read_script};
+pub use sim::sim_text;
 pub use stream::{
     Above, Answer, Below, Clocked, Log, ServeFault, Served, Station, StationFault, serve_noted,
     serve_stream,

@@ -1,0 +1,11 @@
+use Rattle.std.proofs.Common.{◌≡◌, refl, ◌∙◌}
+use Rattle.dnp_daemons.specs.ScriptWorlds.{plain_system}
+use Rattle.dnp_daemons.proofs.Simulating.{on_new}
+use Rattle.dnp_daemons.proofs.sim.simulate.Goals as goal
+
+pub returns-in-Ok-made : goal.returns-in-Ok-made
+returns-in-Ok-made g c =
+    let fresh = rw (c.in-Ok.ensures, c.new-2.ensures, c.new-3.ensures, c.new-4.ensures) at c.in-Ok-made.ensures.fresh in
+    on_new c.args.plan.now c.args.script.now c.run_to_report.result _ _ _ _ fresh
+    (c.run_to_report.ensures.ends
+    (record { queue_is = tt; journal_is = tt; controls_is = tt; controls_run = refl; orders_is = tt; orders_run = refl }))

@@ -1,0 +1,45 @@
+//! A script over a system in memory.
+
+use crate::run::scripted::Scripted;
+use dnp_controls::Book;
+use dnp_eventbuf::{JournalStore, Lanes};
+use dnp_world::{Cause, ControlFault, Event, Link, Report, RoundFault, Way, World};
+use std::alloc::Global;
+use std::slice;
+
+impl<Q: Lanes, J: JournalStore, A: Book, B: Book> Scripted for World<Q, J, A, B> {
+    ghost use Rattle.dnp_daemons.specs.ScriptWorlds.{law_of_worlds};
+    ghost use Rattle.dnp_world.specs.SystemParts.{AreWell, parts_of, system_of};
+    ghost use Rattle.dnp_world.specs.Systems.{System};
+
+    ghost State = { System };
+
+    ghost state = { λ world. system_of Q.contents J.archive A.contents B.contents (parts_of world) };
+
+    ghost honest = { λ world. AreWell Q.honest J.honest A.honest A.is_stopped B.honest B.is_stopped (parts_of world) };
+
+    ghost law = { law_of_worlds };
+
+    fn happen(&mut self, alloc: Global, event: &Event) -> Result<(), Cause> {
+        match self.run(alloc, slice::from_ref(event)) {
+            Ok(()) => Ok(()),
+            Err(stopped) => Err(stopped.cause),
+        }
+    }
+
+    fn standing(&self, link: Link, way: Way) -> usize {
+        self.standing(link, way)
+    }
+
+    fn clean_round(&mut self, alloc: Global, link: Link) -> Result<(), RoundFault> {
+        self.clean_round(alloc, link)
+    }
+
+    fn clean_control(&mut self, alloc: Global, id: u64) -> Result<(), ControlFault> {
+        self.clean_control(alloc, id)
+    }
+
+    fn report(&mut self, alloc: Global) -> Result<Report, Cause> {
+        self.report(alloc)
+    }
+}

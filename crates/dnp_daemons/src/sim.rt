@@ -1,0 +1,84 @@
+//! A plan and a script, judged and then run.
+
+ghost use Rattle.dnp_concentrator.specs.Plan.{KeepsLimits};
+ghost use Rattle.dnp_daemons.specs.Simulations.{PlanEnds, TextsEnd};
+
+use crate::run::ScriptStop;
+use crate::run::reporting::run_to_report;
+use crate::script::ScriptLine;
+use crate::sim::judging::{Judged, judge, print_refusal};
+use dnp_concentrator::Plan;
+use dnp_controls::PlainBook;
+use dnp_eventbuf::{PlainJournal, PlainLanes};
+use dnp_world::{Cause, World};
+use std::alloc::Global;
+use std::io::Write;
+
+mod judging;
+
+/// The status of texts that were run.
+const DONE: u8 = 0;
+
+/// The status of texts of which one is refused.
+const REFUSED: u8 = 1;
+
+/// Runs a script on a new system of the plan, over stores in memory, and prints the report at its end.
+fn simulate<W: Write>(
+    alloc: Global,
+    plan: &Plan,
+    script: &[ScriptLine],
+    out: &mut W,
+) -> Result<(), ScriptStop>
+    requires { KeepsLimits plan.now }
+    ensures { PlanEnds plan.now script.now result (W.contents out.old) (W.contents out.new) }
+{
+    let Ok(queue) = PlainLanes::new(alloc, plan.queue) else {
+        return Err(ScriptStop::Fault(Cause::Memory));
+    };
+    let made = World::new(
+        alloc,
+        plan,
+        queue,
+        PlainJournal::new(alloc),
+        PlainBook::new(alloc),
+        PlainBook::new(alloc),
+    );
+    match made {
+        Ok(mut world) => run_to_report(alloc, &mut world, script, out),
+        Err(_) => Err(ScriptStop::Fault(Cause::Memory)),
+    }
+}
+
+/// Runs a script on a new system of a plan, over stores in memory, and prints the report at its end: what `run_script`
+/// and `print_report` print. It answers 0.
+///
+/// Both texts are judged before anything runs, first the plan. A plan that is refused is `refused plan` and the number of
+/// its `PlanTextFault`, a script `refused line` and the number of its first line that doesn't fit: that line is
+/// printed, and the answer is 1.
+pub fn sim_text<W: Write>(
+    alloc: Global,
+    plan: &str,
+    script: &str,
+    out: &mut W,
+) -> Result<u8, ScriptStop>
+    ensures { TextsEnd plan.now script.now result (W.contents out.old) (W.contents out.new) }
+{
+    let judged = match judge(alloc, plan, script) {
+        Ok(judged) => judged,
+        Err(stop) => return Err(stop),
+    };
+    match judged {
+        Judged::Good(plan, script) => match simulate(alloc, &plan, &script, out) {
+            Ok(()) => Ok(DONE),
+            Err(stop) => Err(stop),
+        },
+        Judged::NoPlan(number) => match print_refusal(b"plan", number, out) {
+            Ok(()) => Ok(REFUSED),
+            Err(stop) => Err(stop),
+        },
+        Judged::NoScript(number) => match print_refusal(b"line", number, out) {
+            Ok(()) => Ok(REFUSED),
+            Err(stop) => Err(stop),
+        },
+    }
+}

@@ -1,0 +1,181 @@
+#!/bin/bash
+# `dnp sim` from the shell: scripts on whole systems. The reports of examples/ were worked out by hand.
+. "$(dirname "${BASH_SOURCE[0]}")/../expect.bash"
+
+lf=$'\n'
+examples=$top/examples
+plan=$examples/plan.toml
+
+# The scripts of examples/, each on the plan of its name, or else on plan.toml
+for script in "$examples"/*.script; do
+    name=${script##*/} && name=${name%.script}
+    of=$examples/$name.toml
+    [ -e "$of" ] || of=$plan
+    got=0
+    "$dnp" sim --plan "$of" <"$script" >out 2>err || got=$?
+    judge "reports:$name" 0 "$(<"$examples/$name.report")" "$got"
+done
+
+# A report in which nothing happened, behind these lines
+# nothing [LINE..]
+nothing() {
+    [ $# = 0 ] || printf '%s\n' "$@"
+    printf '%s 0\n' journal queue dropped confirmed buffered overwritten gone issued operated lost
+}
+# reports NAME INPUT [LINE..]: the script does nothing that a report shows, and prints these lines
+reports() {
+    expect "$1" 0 "$(nothing "${@:3}")" "$2" sim --plan "$plan"
+}
+reports no-line ''
+reports a-last-line-with-no-line-feed "open 0${lf}open above"
+reports a-round-on-a-closed-link "round 0$lf" 'round 0 refused 1'
+reports a-round-above-on-a-closed-link "round above$lf" 'round above refused 1'
+reports a-control-on-closed-links "control 1$lf" 'control 1 refused 1'
+reports a-control-that-there-is-not "open 0${lf}open above${lf}control 18446744073709551615$lf" 'control 18446744073709551615 refused 2'
+reports rounds-that-move-nothing "open 0${lf}open above${lf}round 0${lf}round above${lf}round 0$lf" 'round 0 ok' 'round above ok' 'round 0 ok'
+reports zeros-before-a-number "open 00${lf}round 000$lf" 'round 0 ok'
+reports a-point-that-the-plan-lacks "change 0 binary 1 1 01 -${lf}change 0 counter 0 1 01 -${lf}issue 0 block 1 3 1 0 0$lf"
+reports lines-that-do-nothing "deliver 0 up${lf}lose 0 down${lf}repeat above up${lf}damage 0 down 00${lf}flush 0 up${lf}relay 0$lf"
+
+# What comes of a script on a plan that is changed so, worked out by hand
+# shows NAME SED INPUT WANT
+shows() {
+    sed "$2" "$plan" >changed.toml
+    expect "shows-$1" 0 "$4" "$3" sim --plan changed.toml
+}
+# listed JOURNAL QUEUE DROPPED CONFIRMED BUFFERED OVERWRITTEN GONE ISSUED OPERATED LOST: a report; each list has the
+# items of its word, with a comma behind each
+listed() {
+    local list items item
+    for list in journal queue dropped confirmed buffered overwritten gone issued operated; do
+        IFS=, read -r -a items <<<"$1"
+        echo "$list ${#items[@]}"
+        for item in "${items[@]+"${items[@]}"}"; do echo " $item"; done
+        shift
+    done
+    echo "lost $1"
+}
+on1='0 binary 0 1 01 1000'
+block='0 block 0 3 1 0 0'
+both_open="open 0${lf}open above$lf"
+changed="open 0${lf}change $on1$lf"
+shows a-reading-that-a-new-point-has '' "change 0 binary 0 0 02 1000$lf" "$(nothing)"
+shows the-same-reading-after-a-restart '' "change $on1${lf}restart 0${lf}change $on1$lf" \
+    "$(listed '' '' '' '' "$on1," '' "$on1," '' '' 0)"
+shows a-change-of-flags-alone '' "change $on1${lf}change 0 binary 0 1 41 2000$lf" \
+    "$(listed '' '' '' '' "$on1,0 binary 0 1 41 2000," '' '' '' '' 0)"
+shows a-difference-equal-to-the-deadband 's/^analog = .*/analog = [2]/; s/^deadband = .*/deadband = [5]/' \
+    "change 0 analog 0 0 01 1${lf}change 0 analog 0 5 01 2${lf}change 0 analog 0 6 01 3$lf" \
+    "$(listed '' '' '' '' '0 analog 0 0 01 1,0 analog 0 6 01 3,' '' '' '' '' 0)"
+shows a-point-of-class-0 's/^binary = .*/binary = [0]/' "${changed}round 0$lf" "$(nothing 'round 0 ok')"
+shows five-events-into-a-lane-of-two 's/^queue = .100, /queue = [2, /' \
+    "open 0$lf$(printf 'change 0 binary 0 %s 01 %s\n' 1 1 0 2 1 3 0 4 1 5)${lf}round 0$lf" \
+    "round 0 ok$lf$(listed '' '0 binary 0 0 01 4,0 binary 0 1 01 5,' '0 binary 0 1 01 1,0 binary 0 0 01 2,0 binary 0 1 01 3,' \
+        '0 binary 0 1 01 1,0 binary 0 0 01 2,0 binary 0 1 01 3,0 binary 0 0 01 4,0 binary 0 1 01 5,' '' '' '' '' '' 3)"
+shows a-poll-that-finds-the-master-busy '' "${changed}poll 0 123${lf}poll 0 123${lf}flush 0 down${lf}flush 0 up$lf" \
+    "$(listed '' "$on1," '' '' "$on1," '' '' '' '' 0)"
+shows a-confirm-after-its-time '' "${changed}poll 0 123${lf}flush 0 down${lf}flush 0 up${lf}pass 5000${lf}tick 0 outstation${lf}flush 0 down$lf" \
+    "$(listed '' "$on1," '' '' "$on1," '' '' '' '' 0)"
+shows a-confirm-in-time '' "${changed}poll 0 123${lf}flush 0 down${lf}flush 0 up${lf}pass 4999${lf}tick 0 outstation${lf}flush 0 down$lf" \
+    "$(listed '' "$on1," '' "$on1," '' '' '' '' '' 0)"
+# The request stays on the line and is answered again and again; so many of the answers are then lost.
+# answers COUNT LOST
+answers() {
+    printf '%spoll 0 123\n' "$changed"
+    yes 'repeat 0 down' | head -n "$1"
+    yes 'lose 0 up' | head -n "$2"
+    printf 'flush 0 up\nflush 0 down\n'
+}
+shows what-comes-after-31-losses '' "$(answers 34 31)$lf" "$(listed '' "$on1," '' "$on1," '' '' '' '' '' 0)"
+shows what-a-line-drops-at-32-losses '' "$(answers 34 32)$lf" "$(listed '' '' '' '' "$on1," '' '' '' '' 0)"
+shows an-unsolicited-response 's/^unsolicited = .*/unsolicited = true/' \
+    "open 0${lf}flush 0 up${lf}flush 0 down${lf}enable 0 1${lf}flush 0 down${lf}flush 0 up${lf}change $on1${lf}flush 0 up${lf}flush 0 down$lf" \
+    "$(listed '' "$on1," '' "$on1," '' '' '' '' '' 0)"
+shows a-select-that-time-ends '' "${both_open}issue $block${lf}pass 18446744073709551615${lf}control 1$lf" \
+    "control 1 refused 3$lf$(listed '' '' '' '' '' '' '' "$block," '' 0)"
+shows a-setpoint 's/^setpoints = 0/setpoints = 1/' "${both_open}issue 0 set16 0 -5${lf}control 1$lf" \
+    "control 1 ok$lf$(listed '' '' '' '' '' '' '' '0 set16 0 -5,' '0 set16 0 -5,' 0)"
+shows a-control-behind-another '' "${both_open}issue $block${lf}issue $block${lf}control 2${lf}control 1${lf}control 2$lf" \
+    "control 2 refused 2${lf}control 1 ok${lf}control 2 ok$lf$(listed '' '' '' '' '' '' '' "$block,$block," "$block,$block," 0)"
+shows a-control-again '' "${both_open}issue $block${lf}control 1${lf}control 1$lf" \
+    "control 1 ok${lf}control 1 refused 2$lf$(listed '' '' '' '' '' '' '' "$block," "$block," 0)"
+
+# What is refused of a script: nothing else is printed, whatever stands before it and behind it
+# refuses NAME LINE INPUT
+refuses() {
+    expect "refuses-$1" 1 "refused line $2" "$3" sim --plan "$plan"
+}
+fits="open 0$lf"
+refuses the-third-line 3 "${fits}round 0${lf}poll 0$lf$fits"
+refuses the-last-line-with-no-line-feed 2 "${fits}open"
+refuses a-blank-line 1 "$lf$fits"
+refuses two-line-feeds-at-the-end 2 "$fits$lf"
+refuses a-carriage-return 1 "open 0"$'\r'"$lf"
+refuses two-spaces 2 "${fits}open  0$lf"
+refuses a-space-at-the-end 2 "${fits}open 0 $lf"
+refuses a-tab 1 "open"$'\t'"0$lf"
+refuses a-plus-sign 1 "pass +1$lf"
+refuses a-link-that-the-plan-lacks 2 "${fits}open 1$lf"
+refuses a-substation-that-the-plan-lacks 1 "restart 1$lf"
+refuses a-class-named-twice 1 "poll 0 11$lf"
+refuses no-class 1 "poll 0 4$lf"
+refuses damage-of-no-octet 1 "damage 0 down $lf"
+refuses half-an-octet-of-damage 1 "damage 0 down 123$lf"
+refuses a-number-of-65-bits 1 "pass 18446744073709551616$lf"
+refuses what-is-not-UTF-8 2 "$fits"$'\xff'"$lf${fits}open$lf"
+refuses what-does-not-fit-before-what-is-not-UTF-8 2 "${fits}open$lf"$'\xff'"$lf"
+
+# What is refused of a plan, whatever the script says. changed SED..: the plan, changed so
+# refuses_plan NAME NUMBER SED..
+refuses_plan() {
+    sed "${@:3}" "$plan" >changed.toml
+    expect "refuses-a-plan-$1" 1 "refused plan $2" "poll$lf" sim --plan changed.toml
+}
+refuses_plan that-is-no-TOML 1 '1s/=//'
+refuses_plan that-is-not-UTF-8 1 '1s/$/ # \xff/'
+refuses_plan without-retries 2 '/^retries/d'
+refuses_plan with-another-key 2 '1s/^/color = 1\n/'
+refuses_plan with-retries-of-4 3 's/^retries = 0/retries = 4/'
+refuses_plan with-a-class-of-4 4 's/^binary = \[1\]/binary = [4]/'
+refuses_plan with-an-index-above-over-65535 5 's/^binary = .*/binary = [1, 1]/; s/^base = \[100/base = [65535/'
+sed -n '/^\[\[/,$p' "$plan" >substation.toml
+refuses_plan whose-substations-share-an-index 6 '$r substation.toml'
+
+# The command line and the files
+expect wants-a-plan 2 '' '' sim
+expect wants-a-file 2 '' '' sim --plan
+expect wants-no-other-word 2 '' '' sim --plan "$plan" more
+expect has-no-such-file 3 '' "$fits" sim --plan absent.toml
+got=0 && "$dnp" sim --plan "$plan" </dev/null >/dev/full 2>err || got=$?
+: >out
+judge tells-that-the-output-is-lost 3 '' "$got"
+expect tells-how-to-use-it 0 "$(<"$top/crates/dnp/help/sim")" '' sim --help
+
+# A million lines: a point that goes on and off at each, into a lane of 100 rows, and no link that carries it away
+seq 1 1000000 | awk '{ print "change 0 binary 0 " $1 % 2 " 01 " $1 }' >script
+# rows FROM TO: what of them stands in the report
+rows() {
+    echo "$3 $(($2 - $1 + 1))"
+    seq "$1" "$2" | awk '{ print " 0 binary 0 " $1 % 2 " 01 " $1 }'
+}
+{
+    printf '%s 0\n' journal queue dropped confirmed
+    rows 999901 1000000 buffered
+    rows 1 999900 overwritten
+    printf '%s 0\n' gone issued operated lost
+} >want
+got=0 && "$dnp" sim --plan "$plan" <script >out 2>err || got=$?
+if [ "$got" = 0 ] && cmp -s want out; then
+    echo "ok runs-a-million-changes"
+else
+    echo "FAILED runs-a-million-changes, with exit status $got: $(head -c 500 err)"
+fi
+# Rounds, each of which is printed: fewer, since each is a poll with its response
+{ echo 'open 0' && yes 'round 0' | head -n 99999; } >script
+{ yes 'round 0 ok' | head -n 99999 && nothing; } >want
+got=0 && "$dnp" sim --plan "$plan" <script >out 2>err || got=$?
+if [ "$got" = 0 ] && cmp -s want out; then
+    echo "ok runs-a-hundred-thousand-rounds"
+else
+    echo "FAILED runs-a-hundred-thousand-rounds, with exit status $got: $(head -c 500 err)"
+fi
