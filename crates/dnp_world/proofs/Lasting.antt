@@ -1,14 +1,13 @@
 -- Lists of events over a steady system.
 use Rattle.std.proofs.Common.{◌≡◌, ℕ, zero, suc, List, [], ◌∷◌, ◌++◌, take, Option, Some, None, Result, Ok, Err, inl, inr, refl, sym, subst, arith}
 use Rattle.std.specs.Prelude.{◌≢◌, All, IfErr, OnOk, ⊤}
-use Rattle.std.specs.List.{count_by}
 use Rattle.dnp_objects.specs.declared.row.Row.{Row}
 use Rattle.dnp_world.specs.Controls.{ControlEnds, IsControlFor, IsOfControl, IsRefusedFor, AtCentre, AtConcentrator, IsRefusedOn, First, Second, Third, IsTold, next_below, station_in}
 use Rattle.dnp_world.specs.Kept.{report_of}
 use Rattle.dnp_world.specs.Reports.{IsFate, Report, happened}
 use Rattle.dnp_world.specs.Rounds.{IsOfRound, IsRound, StopsIn, events_polled}
 use Rattle.dnp_world.specs.Stations.{HasSameCounts, of_station}
-use Rattle.dnp_world.specs.Steady.{Goes, IsSteady, Lasts, Makes, made_by}
+use Rattle.dnp_world.specs.Steady.{Goes, IsSteady, Lasts, made_by}
 use Rattle.dnp_world.specs.SystemEvents.{CountsFor, Happens, RunsTo, StopsAfter}
 use Rattle.dnp_world.specs.Systems.{System}
 use Rattle.dnp_world.specs.declared.event.Event.{Event}
@@ -80,8 +79,15 @@ lasts_then laws events old mid new l g = record {
     steady = g.steady;
     fate = λ i.
         let more = laws.joined l.made (λ i. []) (report_of old) (report_of mid) (report_of new) l.goes.fate g.fate i in
-        record { same = λ test. omega (arith, more.same test, count_by-append test (of_station i (happened (report_of old))) (l.made i ++ []),
-            count_by-append test (of_station i (happened (report_of old))) (l.made i), count_by-append test (l.made i) []) };
+        record {
+          same = λ test. omega (
+            arith,
+            more.same test,
+            count_by-append test (of_station i (happened (report_of old))) (l.made i ++ []),
+            count_by-append test (of_station i (happened (report_of old))) (l.made i),
+            count_by-append test (l.made i) [],
+          );
+        };
   };
 }
 

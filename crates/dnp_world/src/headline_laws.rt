@@ -25,7 +25,8 @@ use crate::standing_laws::{a_new_system_stands, what_comes_to_the_concentrator_k
 use crate::system_laws::{
     a_restart_of_the_concentrator_keeps_what_stands, calls_below_keep_what_stands,
     events_above_keep_what_stands, events_below_keep_what_stands, lists_are_of_links,
-    other_events_keep_what_stands, what_comes_to_the_centre_keeps_what_stands, what_stands_is_shown,
+    other_events_keep_what_stands, what_comes_to_the_centre_keeps_what_stands,
+    what_stands_is_shown,
 };
 
 /// Whatever happens to a steady system leaves it steady, and what happened at its substations is what had happened and the rows

@@ -19,9 +19,7 @@ ghost use Rattle.dnp_world.specs.declared.parts.report.TheConstants.{NUMBERS};
 
 use crate::channel::Channel;
 use crate::event::{Event, Link};
-use crate::headline_laws::{
-    rounds_and_controls_keep_a_system_steady, steady_systems_stay_steady,
-};
+use crate::headline_laws::{rounds_and_controls_keep_a_system_steady, steady_systems_stay_steady};
 use crate::history::History;
 use crate::link_event::Way;
 use crate::new_substations::new_substations;

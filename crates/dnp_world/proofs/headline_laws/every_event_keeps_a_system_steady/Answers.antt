@@ -1,12 +1,10 @@
 -- Each event by the law of its kind.
 use Rattle.std.proofs.Common.{◌≡◌, ℕ, Bool, true, false, [], ◌∷◌, refl}
-use Rattle.std.specs.Prelude.{◌+◌, ◌^◌, ◌-◌, if◌then◌else◌, List, min, slice_get}
+use Rattle.std.specs.Prelude.{◌+◌, ◌^◌, ◌-◌, if◌then◌else◌, min, slice_get}
 use Rattle.dnp_objects.specs.declared.row.Kind.{Kind}
-use Rattle.dnp_objects.specs.declared.row.Row.{Row}
 use Rattle.dnp_pointdb.specs.declared.reading.Reading.{Reading}
 use Rattle.dnp_world.specs.Behind.{made_at}
 use Rattle.dnp_world.specs.Channels.{DamagesAt}
-use Rattle.dnp_world.specs.Kept.{report_of}
 use Rattle.dnp_world.specs.OneLinkEvents.{is_own}
 use Rattle.dnp_world.specs.Steady.{Goes, IsSteady, made_by, read_at}
 use Rattle.dnp_world.specs.SystemEvents.{AsksOn, ComesDownBelow, ComesUp, Happens, HangsUpOn, IfThere, LinesChange, LosesOn, MasterTicks, OpensOn, OutstationTicks, Reads, RelaysOn, SubstationRestarts}

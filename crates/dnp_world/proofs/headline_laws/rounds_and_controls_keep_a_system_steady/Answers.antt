@@ -1,5 +1,4 @@
 -- Their events make no row.
-use Rattle.std.proofs.Common.{◌≡◌}
 use Rattle.dnp_world.specs.Rounds.{IsOfRound}
 use Rattle.dnp_world.proofs.Lasting.{LastingLaws, calm_control, calm_run, calm_stop, ran_round, rests, round_makes_none}
 use Rattle.dnp_world.proofs.headline_laws.rounds_and_controls_keep_a_system_steady.Goals as goal

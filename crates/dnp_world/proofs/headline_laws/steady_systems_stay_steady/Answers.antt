@@ -1,5 +1,5 @@
 -- Event by event.
-use Rattle.std.proofs.Common.{◌≡◌, take}
+use Rattle.std.proofs.Common.{take}
 use Rattle.dnp_world.proofs.Lasting.{LastingLaws, lasts, lasts_then, stops}
 use Rattle.dnp_world.proofs.headline_laws.steady_systems_stay_steady.Goals as goal
 

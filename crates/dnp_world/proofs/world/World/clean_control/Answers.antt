@@ -1,5 +1,4 @@
 -- What is left is steady.
-use Rattle.std.proofs.Common.{◌≡◌}
 use Rattle.dnp_world.specs.SystemParts.{parts_of, system_of}
 use Rattle.dnp_world.proofs.world.World.clean_control.Goals as goal
 

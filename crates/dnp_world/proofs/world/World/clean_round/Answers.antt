@@ -1,8 +1,7 @@
 -- What is left is steady, whatever the round ends with.
-use Rattle.std.proofs.Common.{◌≡◌, [], ap}
+use Rattle.std.proofs.Common.{[], ap}
 use Rattle.dnp_world.specs.Steady.{Goes}
 use Rattle.dnp_world.specs.SystemParts.{parts_of, system_of}
-use Rattle.dnp_world.specs.Systems.{System}
 use Rattle.dnp_world.proofs.Lasting.{calm_round}
 use Rattle.dnp_world.proofs.world.World.clean_round.Goals as goal
 

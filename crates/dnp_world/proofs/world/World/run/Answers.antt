@@ -1,5 +1,4 @@
 -- What is left is steady, done or stopped.
-use Rattle.std.proofs.Common.{◌≡◌}
 use Rattle.dnp_world.specs.SystemParts.{parts_of, system_of}
 use Rattle.dnp_world.proofs.Lasting.{steady_after}
 use Rattle.dnp_world.proofs.world.World.run.Goals as goal
