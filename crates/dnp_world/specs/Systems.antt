@@ -14,6 +14,7 @@ use Rattle.dnp_concentrator.specs.BookOutputs.{book_panel}
 use Rattle.dnp_concentrator.specs.Below.{link_in}
 use Rattle.dnp_concentrator.specs.Relaying.{Relaying}
 use Rattle.dnp_concentrator.specs.declared.span.Spans.{Spans}
+use Rattle.dnp_line.specs.Lines.{front_of}
 use Rattle.dnp_world.specs.Channels.{ChannelState, line_of}
 use Rattle.dnp_world.specs.declared.event.Link.{Link}
 use Rattle.dnp_world.specs.declared.event.Link.TheVariants.{Below, Above}
@@ -115,3 +116,14 @@ units_at way (Some s) = length (line_of way s.channel).units
 abbrev pub standing_on : System → Link → Way → ℕ
 standing_on s (Below station) way = if has_station s station then units_at way (slice_get s.substations station) else 0
 standing_on s Above way = length (line_of way s.above).units
+
+-- ---- the next unit of a line
+
+abbrev pub front_at : Way → Option SubstationState → Option (List ℕ)
+front_at way None = None
+front_at way (Some s) = front_of (line_of way s.channel)
+
+-- the octets of the unit that a line of a link gives next, if one stands there; none on one outside the plan
+abbrev pub front_on : System → Link → Way → Option (List ℕ)
+front_on s (Below station) way = if has_station s station then front_at way (slice_get s.substations station) else None
+front_on s Above way = front_of (line_of way s.above)

@@ -1,6 +1,6 @@
 //! The lines between the two stations of a link.
 
-ghost use Rattle.std.specs.Prelude.{◌≡◌, ◌<◌, ◌≤◌, ℕ, true, false, if◌then◌else◌, IfOk, OnErr, OnOk, List, [], ◌∷◌, ◌++◌, length, option_to_list};
+ghost use Rattle.std.specs.Prelude.{option_copied, ◌≡◌, ◌<◌, ◌≤◌, ℕ, true, false, if◌then◌else◌, IfOk, OnErr, OnOk, List, [], ◌∷◌, ◌++◌, length, option_to_list};
 ghost use Rattle.dnp_line.specs.Lines.{front_of, quiet_line, room_of};
 ghost use Rattle.dnp_line.specs.Ports.{IsShown, new_port, reset_of};
 ghost use Rattle.dnp_line.specs.Ways.{HearsIfAny};
@@ -98,6 +98,16 @@ impl Channel {
         match way {
             Way::Down => self.down.len(),
             Way::Up => self.up.len(),
+        }
+    }
+
+    /// The octets of the front unit of this way, if one stands there.
+    pub fn front(&self, way: Way) -> Option<&[u8]>
+        ensures { option_copied result ≡ front_of (line_of way (state_of self.now)) }
+    {
+        match way {
+            Way::Down => self.down.front(),
+            Way::Up => self.up.front(),
         }
     }
 

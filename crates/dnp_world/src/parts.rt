@@ -1,10 +1,10 @@
 //! The parts of a whole system, and the events that change lines, masters and the moment alone.
 
-ghost use Rattle.std.specs.Prelude.{◌≡◌, ◌+◌, ◌-◌, ◌^◌, true, min};
+ghost use Rattle.std.specs.Prelude.{option_copied, ◌≡◌, ◌+◌, ◌-◌, ◌^◌, true, min};
 ghost use Rattle.dnp_world.specs.Channels.{DamagesAt};
 ghost use Rattle.dnp_world.specs.SystemEvents.{HangsUpOn, LinesChange, LosesOn, MasterTicks, concentrator_restarted};
 ghost use Rattle.dnp_world.specs.SystemParts.{system_of, queue_of, controls_of, journal_of, orders_of};
-ghost use Rattle.dnp_world.specs.Systems.{has_link, standing_on};
+ghost use Rattle.dnp_world.specs.Systems.{front_on, has_link, standing_on};
 ghost use Rattle.dnp_world.specs.declared.event.Link.TheVariants as link;
 ghost use Rattle.dnp_world.specs.declared.link_event.End.TheVariants as end;
 
@@ -67,6 +67,19 @@ impl<Q: Lanes, J: JournalStore, A: Book, B: Book> Parts<Q, J, A, B> {
         match on {
             Link::Below(station) => self.substations[usize::from(station)].channel.standing(way),
             Link::Above => self.above.standing(way),
+        }
+    }
+
+    /// The octets of the front unit of this way of the link, none for a link outside the plan.
+    pub fn front(&self, on: Link, way: Way) -> Option<&[u8]>
+        ensures { option_copied result ≡ front_on (system_of Q.contents J.archive A.contents B.contents self.now) on way }
+    {
+        if !self.has(on) {
+            return None;
+        }
+        match on {
+            Link::Below(station) => self.substations[usize::from(station)].channel.front(way),
+            Link::Above => self.above.front(way),
         }
     }
 

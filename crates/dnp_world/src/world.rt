@@ -1,6 +1,6 @@
 //! A whole system: substations, a concentrator and a centre, with lines between them.
 
-ghost use Rattle.std.specs.Prelude.{◌≡◌, ◌≢◌, ◌↔◌, ◌^◌, ◌<◌, ◌≤◌, [], false, length, take, Err, IfErr, IfOk, OnOk};
+ghost use Rattle.std.specs.Prelude.{option_copied, ◌≡◌, ◌≢◌, ◌↔◌, ◌^◌, ◌<◌, ◌≤◌, [], false, length, take, Err, IfErr, IfOk, OnOk};
 ghost use Rattle.dnp_concentrator.specs.IndexMap.{IsTooWide, Overlaps};
 ghost use Rattle.dnp_concentrator.specs.Plan.{KeepsLimits, map_of};
 ghost use Rattle.dnp_eventbuf.specs.Stock.{lost_in};
@@ -14,7 +14,7 @@ ghost use Rattle.dnp_world.specs.Rounds.{IsOfRound, IsRound, StopsIn, is_quiet_o
 ghost use Rattle.dnp_world.specs.Steady.{Goes, IsSteady, Lasts};
 ghost use Rattle.dnp_world.specs.SystemEvents.{RunsTo, StopsAfter};
 ghost use Rattle.dnp_world.specs.SystemParts.{AreWell, controls_of, journal_of, orders_of, parts_of, queue_of, system_of};
-ghost use Rattle.dnp_world.specs.Systems.{standing_on};
+ghost use Rattle.dnp_world.specs.Systems.{front_on, standing_on};
 ghost use Rattle.dnp_world.specs.declared.parts.report.TheConstants.{NUMBERS};
 
 use crate::channel::Channel;
@@ -105,6 +105,14 @@ impl<Q: Lanes, J: JournalStore, A: Book, B: Book> World<Q, J, A, B> {
         ensures { result ≡ standing_on (system_of Q.contents J.archive A.contents B.contents (parts_of self.now)) on way }
     {
         self.parts.standing(on, way)
+    }
+
+    /// The octets of the unit that the line of this way of the link gives next: a link frame of at most 292. None where
+    /// nothing stands there, and for a link outside the plan.
+    pub fn front(&self, on: Link, way: Way) -> Option<&[u8]>
+        ensures { option_copied result ≡ front_on (system_of Q.contents J.archive A.contents B.contents (parts_of self.now)) on way }
+    {
+        self.parts.front(on, way)
     }
 
     /// The events happen, one after the other, up to the first at which a store or a request for memory refuses. That one
