@@ -27,6 +27,7 @@ pub mod FreshSystems
 pub mod NewSystems
 pub mod ReportShown
 pub mod Rounds
+pub mod Arriving
 pub mod Controls
 pub mod ControlSteps
 pub mod Happened

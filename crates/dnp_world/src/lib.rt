@@ -5,6 +5,7 @@
 #![tactic(auto)]
 
 pub mod arrival_laws;
+pub mod arriving_laws;
 mod channel;
 mod ends;
 mod event;
