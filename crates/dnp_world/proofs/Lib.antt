@@ -96,3 +96,10 @@ mod PlannedPoints
 mod PlannedEvents
 mod PlannedRows
 mod Lasting
+mod ArrivingPorts
+mod ArrivingLines
+mod ArrivingLinks
+mod ArrivingUnits
+mod ArrivingTakes
+mod Arriving
+mod ArrivingApart

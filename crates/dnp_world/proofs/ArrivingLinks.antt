@@ -1,0 +1,190 @@
+-- The lines of one link of a system: what they are, what changes them alone, and what leaves them alone.
+use Rattle.std.proofs.Common.{◌≡◌, ℕ, zero, suc, Bool, true, false, ◌&&◌, if◌then◌else◌, List, [], ◌∷◌, length, Option, Some, None, refl, sym, ap, ◌∙◌, subst}
+use Rattle.std.specs.Prelude.{nat_lt, slice_get, slice_set}
+use Rattle.std.proofs.lemmas.Option.{none-some, same_Some}
+use Rattle.dnp_line.specs.Lines.{LineState}
+use Rattle.dnp_line.specs.Ports.{PortState}
+use Rattle.dnp_world.specs.Arriving.{channel_at, channel_on}
+use Rattle.dnp_world.specs.Channels.{ChannelState, line_of}
+use Rattle.dnp_world.specs.SystemEvents.{LinesChange, with_substation}
+use Rattle.dnp_world.specs.Systems.{SubstationState, System, has_link, has_station}
+use Rattle.dnp_world.specs.declared.event.Link.{Link}
+use Rattle.dnp_world.specs.declared.event.Link.TheVariants.{Below, Above}
+use Rattle.dnp_world.specs.declared.link_event.Way.{Way}
+use Rattle.dnp_world.specs.declared.link_event.Way.TheVariants.{Down, Up}
+use Rattle.dnp_world.proofs.ListedAt.{set_here}
+
+-- ---- lists
+
+-- a place that was written can be written again
+pub set_again : {A : Type 0} (xs : List A) (i : ℕ) (a b : A) → slice_set (slice_set xs i a) i b ≡ slice_set xs i b
+set_again [] i a b = refl
+set_again (x ∷ xs) zero a b = refl
+set_again {A} (x ∷ xs) (suc i) a b = ap (λ (ys : List A). x ∷ ys) (set_again xs i a b)
+
+pub length_set : {A : Type 0} (xs : List A) (i : ℕ) (a : A) → length (slice_set xs i a) ≡ length xs
+length_set [] i a = refl
+length_set (x ∷ xs) zero a = refl
+length_set (x ∷ xs) (suc i) a = ap (λ (n : ℕ). suc n) (length_set xs i a)
+
+-- ---- the ends of a way
+
+abbrev pub receiver_at : Way → ChannelState → PortState
+receiver_at Down c = c.outstation_port
+receiver_at Up c = c.master_port
+
+abbrev pub sender_at : Way → ChannelState → PortState
+sender_at Down c = c.master_port
+sender_at Up c = c.outstation_port
+
+abbrev pub back : Way → Way
+back Down = Up
+back Up = Down
+
+-- the line of the way and the port at its end are these
+abbrev pub heard_at : Way → ChannelState → LineState → PortState → ChannelState
+heard_at Down c line port = record c { down = line; outstation_port = port }
+heard_at Up c line port = record c { up = line; master_port = port }
+
+pub line_heard : (way : Way) (c : ChannelState) (line : LineState) (port : PortState) → line_of way (heard_at way c line port) ≡ line
+line_heard Down c line port = refl
+line_heard Up c line port = refl
+
+pub receiver_heard : (way : Way) (c : ChannelState) (line : LineState) (port : PortState) → receiver_at way (heard_at way c line port) ≡ port
+receiver_heard Down c line port = refl
+receiver_heard Up c line port = refl
+
+pub heard_again : (way : Way) (c : ChannelState) (line line' : LineState) (port port' : PortState)
+    → heard_at way (heard_at way c line port) line' port' ≡ heard_at way c line' port'
+heard_again Down c line line' port port' = refl
+heard_again Up c line line' port port' = refl
+
+-- ---- the lines of a link
+
+-- a substation of the plan with these lines
+pub record Found (s : System) (station : ℕ) (c : ChannelState) : Type 0 where
+  pub has : has_station s station ≡ true
+  pub was : SubstationState
+  pub there : slice_get s.substations station ≡ Some was
+  pub lines : was.channel ≡ c
+
+found_by : (s : System) (station : ℕ) (c : ChannelState) (b : Bool) (o : Option SubstationState) → has_station s station ≡ b
+    → slice_get s.substations station ≡ o → (if b then channel_at o else None) ≡ Some c → Found s station c
+found_by s station c true (Some was) has there e = record { has = has; was = was; there = there; lines = same_Some was.channel c e }
+found_by s station c true None has there e = absurd (none-some c e)
+found_by s station c false o has there e = absurd (none-some c e)
+
+pub found : (s : System) (station : ℕ) (c : ChannelState) → channel_on s (Below station) ≡ Some c → Found s station c
+found s station c e = found_by s station c (has_station s station) (slice_get s.substations station) refl refl e
+
+pub channel_found : (s : System) (station : ℕ) (was : SubstationState) → has_station s station ≡ true → slice_get s.substations station ≡ Some was
+    → channel_on s (Below station) ≡ Some was.channel
+channel_found s station was has there =
+    ap (λ (b : Bool). if b then channel_at (slice_get s.substations station) else None) has
+    ∙ ap (λ (o : Option SubstationState). channel_at o) there
+
+-- a link with lines is one of the plan
+pub linked : (on : Link) (s : System) (c : ChannelState) → channel_on s on ≡ Some c → has_link s on ≡ true
+linked (Below station) s c e = (found s station c e).has
+linked Above s c e = refl
+
+-- another list of as many substations has the same places
+pub has_set : (s : System) (i station : ℕ) (is : SubstationState) → has_station (with_substation s i is) station ≡ has_station s station
+has_set s i station is =
+    ap (λ (n : ℕ). nat_lt station n && nat_lt station (length s.concentrator.links)) (length_set s.substations i is)
+
+-- ---- changes of the lines alone
+
+-- these lines became those
+abbrev pub ChangeTo : ChannelState → ChannelState → ChannelState → ChannelState → Type 0
+ChangeTo c c' was is = (was ≡ c) × (is ≡ c')
+
+-- the lines of the link were these, and became those, and nothing else changed
+pub record LinesGo (on : Link) (c c' : ChannelState) (old new : System) : Type 0 where
+  pub before : channel_on old on ≡ Some c
+  pub after : channel_on new on ≡ Some c'
+  pub change : LinesChange on (ChangeTo c c') old new
+
+pub lines_as : (on : Link) (C D : ChannelState → ChannelState → Type 0) (old new : System)
+    → ((was is : ChannelState) → C was is → D was is) → LinesChange on C old new → LinesChange on D old new
+lines_as (Below station) C D old new weaker e = record {
+  was = e.was;
+  is = e.is;
+  there = e.there;
+  changed = (weaker e.was.channel e.is.channel e.changed.0, e.changed.1);
+  after = e.after;
+}
+lines_as Above C D old new weaker e = (weaker old.above new.above e.0, e.1)
+
+-- any change of the lines
+pub lines_by : (on : Link) (C : ChannelState → ChannelState → Type 0) (c c' : ChannelState) (old new : System) → LinesGo on c c' old new → C c c'
+    → LinesChange on C old new
+lines_by on C c c' old new go is =
+    lines_as on (ChangeTo c c') C old new (λ a b same. subst (λ (x : ChannelState). C x b) (sym same.0) (subst (λ (x : ChannelState). C c x) (sym same.1) is))
+    go.change
+
+-- what they became
+pub record WentTo (on : Link) (C : ChannelState → ChannelState → Type 0) (c : ChannelState) (old new : System) : Type 0 where
+  pub lines : ChannelState
+  pub changed : C c lines
+  pub go : LinesGo on c lines old new
+
+pub lines_go : (on : Link) (C : ChannelState → ChannelState → Type 0) (c : ChannelState) (old new : System) → channel_on old on ≡ Some c
+    → LinesChange on C old new → WentTo on C c old new
+lines_go (Below station) C c old new there e =
+    let f : Found old station c = found old station c there in
+    let same : e.was.channel ≡ c =
+    ap (λ (x : SubstationState). x.channel) (same_Some e.was f.was (sym e.there ∙ f.there)) ∙ f.lines in
+    let changed : System = with_substation old station e.is in
+    let after : channel_on changed (Below station) ≡ Some e.is.channel =
+    channel_found changed station e.is (has_set old station station e.is ∙ f.has) (set_here old.substations station e.was e.is e.there) in
+    record {
+      lines = e.is.channel;
+      changed = subst (λ (x : ChannelState). C x e.is.channel) same e.changed.0;
+      go = record {
+        before = there;
+        after = ap (λ (s : System). channel_on s (Below station)) e.after ∙ after;
+        change = record { was = e.was; is = e.is; there = e.there; changed = ((same, refl), e.changed.1); after = e.after };
+      };
+    }
+lines_go Above C c old new there e =
+    let same : old.above ≡ c = same_Some old.above c there in
+    record {
+      lines = new.above;
+      changed = subst (λ (x : ChannelState). C x new.above) same e.0;
+      go = record { before = there; after = refl; change = ((same, refl), e.1) };
+    }
+
+-- one change after another
+substations_both : (station : ℕ) (first next last : System) (was middle from is : SubstationState) → slice_get first.substations station ≡ Some was
+    → middle ≡ record was { channel = middle.channel } → next ≡ with_substation first station middle → slice_get next.substations station ≡ Some from
+    → is ≡ record from { channel = is.channel } → last ≡ with_substation next station is
+    → (is ≡ record was { channel = is.channel }) × (last ≡ with_substation first station is)
+substations_both station first next last was middle from is there changed set there' changed' set' =
+    let with_lines : SubstationState → SubstationState = λ s. record s { channel = is.channel } in
+    let same : from ≡ middle =
+    same_Some from middle
+    (sym there' ∙ ap (λ (s : System). slice_get s.substations station) set ∙ set_here first.substations station was middle there) in
+    let with_list : List SubstationState → System = λ xs. record first { substations = xs } in (
+      changed' ∙ ap with_lines same ∙ ap with_lines changed,
+      set' ∙ ap (λ (s : System). with_substation s station is) set ∙ ap with_list (set_again first.substations station middle is),
+    )
+
+pub lines_both : (on : Link) (a b c : ChannelState) (first next last : System) → LinesGo on a b first next → LinesGo on b c next last
+    → LinesGo on a c first last
+lines_both (Below station) a b c first next last g h =
+    let e = g.change in
+    let f = h.change in
+    let both = substations_both station first next last e.was e.is f.was f.is e.there e.changed.1 e.after f.there f.changed.1 f.after in
+    record {
+      before = g.before;
+      after = h.after;
+      change = record { was = e.was; is = f.is; there = e.there; changed = ((e.changed.0.0, f.changed.0.1), both.0); after = both.1 };
+    }
+lines_both Above a b c first next last g h =
+    let with_above : System → System = λ s. record s { above = last.above } in
+    record {
+      before = g.before;
+      after = h.after;
+      change = ((g.change.0.0, h.change.0.1), h.change.1 ∙ ap with_above g.change.1);
+    }
