@@ -103,3 +103,4 @@ mod ArrivingUnits
 mod ArrivingTakes
 mod Arriving
 mod ArrivingApart
+mod Opening

@@ -28,6 +28,7 @@ pub mod NewSystems
 pub mod ReportShown
 pub mod Rounds
 pub mod Arriving
+pub mod Opening
 pub mod Controls
 pub mod ControlSteps
 pub mod Happened

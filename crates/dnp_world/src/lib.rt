@@ -19,6 +19,7 @@ mod listing;
 pub mod master_laws;
 mod new_substations;
 mod one_link;
+pub mod opening_laws;
 pub mod outstation_laws;
 mod parts;
 pub mod planned_laws;
