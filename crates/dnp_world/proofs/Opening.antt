@@ -14,7 +14,7 @@ use Rattle.dnp_outstation.specs.Offer.{pushed}
 use Rattle.dnp_outstation.specs.State.{Core, State, Step, is_free, is_quiet, still}
 use Rattle.dnp_pointdb.specs.declared.times.Times.{Times}
 use Rattle.dnp_world.specs.Channels.{ChannelState, GoUp, are_quiet, cleared, is_quiet_line}
-use Rattle.dnp_world.specs.Opening.{reports_at, reports_on}
+use Rattle.dnp_world.specs.Opening.{OpensQuiet, reports_at, reports_on}
 use Rattle.dnp_world.specs.Rounds.{is_quiet_at, is_quiet_on}
 use Rattle.dnp_world.specs.SystemEvents.{Happens, IfThere, OpensOn, RunsTo, with_link, with_substation}
 use Rattle.dnp_world.specs.Systems.{SubstationState, System, has_link, has_station, link_at, middle_of, station_of}
@@ -142,8 +142,12 @@ last_opens on false old new before has off h =
     let same : new ≡ old = subst (λ (b : Bool). IfThere b (OpensOn on) old new) before h in
     absurd (both_ways (has_link new on) (ap (λ (s : System). has_link s on) same ∙ before) has)
 
-pub runs_quiet : (on : Link) (events : List Event) (old new : System) → has_link new on ≡ true → reports_on new on ≡ false
+ends_quiet : (on : Link) (events : List Event) (old new : System) → has_link new on ≡ true → reports_on new on ≡ false
     → RunsTo old (events ++ Open on ∷ []) new → is_quiet_on new on ≡ true
-runs_quiet on [] old new has off (next, h, end) =
+ends_quiet on [] old new has off (next, h, end) =
     last_opens on (has_link old on) old new refl has off (subst (λ (s : System). Happens old (Open on) s) (sym end) h)
-runs_quiet on (event ∷ events) old new has off (next, h, rest) = runs_quiet on events next new has off rest
+ends_quiet on (event ∷ events) old new has off (next, h, rest) = ends_quiet on events next new has off rest
+
+pub runs_quiet : (events : List Event) (old new : System) → RunsTo old events new → OpensQuiet events new
+runs_quiet events old new ran =
+    λ on before is has off. ends_quiet on before old new has off (subst (λ (es : List Event). RunsTo old es new) is ran)

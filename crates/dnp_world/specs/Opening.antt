@@ -1,6 +1,9 @@
--- Definition: whether the outstation of a link sends unsolicited responses (IEEE Std 1815-2012, application layer: unsolicited responses).
-use Rattle.std.specs.Prelude.{Bool, false, slice_get, Option, Some, None}
-use Rattle.dnp_world.specs.Systems.{SubstationState, System}
+-- Definition: links that are quiet once they were opened (IEEE Std 1815-2012, application layer: unsolicited responses).
+use Rattle.std.specs.Prelude.{◌≡◌, Bool, true, false, List, [], ◌∷◌, ◌++◌, slice_get, Option, Some, None}
+use Rattle.dnp_world.specs.Rounds.{is_quiet_on}
+use Rattle.dnp_world.specs.Systems.{SubstationState, System, has_link}
+use Rattle.dnp_world.specs.declared.event.Event.{Event}
+use Rattle.dnp_world.specs.declared.event.Event.TheVariants.{Open}
 use Rattle.dnp_world.specs.declared.event.Link.{Link}
 use Rattle.dnp_world.specs.declared.event.Link.TheVariants.{Below, Above}
 
@@ -8,7 +11,13 @@ abbrev pub reports_at : Option SubstationState → Bool
 reports_at None = false
 reports_at (Some s) = s.core.times.unsolicited
 
--- its times say that it does
+-- the outstation of the link sends unsolicited responses
 abbrev pub reports_on : System → Link → Bool
 reports_on s (Below station) = reports_at (slice_get s.substations station)
 reports_on s Above = s.concentrator.core.times.unsolicited
+
+-- where the last of the events opened a link of the plan whose outstation sends none, that link is quiet
+abbrev pub OpensQuiet : List Event → System → Type 0
+OpensQuiet events s =
+    (on : Link) (before : List Event) → events ≡ before ++ Open on ∷ [] → has_link s on ≡ true → reports_on s on ≡ false
+    → is_quiet_on s on ≡ true

@@ -1,7 +1,7 @@
 //! Laws of links of a system that are opened. Each function does nothing, and its contract is a law.
 
-ghost use Rattle.std.specs.Prelude.{◌≡◌, List, [], ◌∷◌, ◌++◌, true, false};
-ghost use Rattle.dnp_world.specs.Opening.{reports_on};
+ghost use Rattle.std.specs.Prelude.{◌≡◌, List, true, false};
+ghost use Rattle.dnp_world.specs.Opening.{OpensQuiet, reports_on};
 ghost use Rattle.dnp_world.specs.Rounds.{is_quiet_on};
 ghost use Rattle.dnp_world.specs.SystemEvents.{Happens, RunsTo};
 ghost use Rattle.dnp_world.specs.Systems.{System, has_link};
@@ -14,6 +14,5 @@ ghost use Rattle.dnp_world.specs.declared.event.Link.{Link};
 pub fn an_opened_link_is_quiet()
     ensures event { (on : Link) (old new : System) → has_link old on ≡ true → reports_on new on ≡ false → Happens old (Open on) new
         → is_quiet_on new on ≡ true }
-    ensures ran { (on : Link) (events : List Event) (old new : System) → has_link new on ≡ true → reports_on new on ≡ false
-        → RunsTo old (events ++ Open on ∷ []) new → is_quiet_on new on ≡ true }
+    ensures ran { (events : List Event) (old new : System) → RunsTo old events new → OpensQuiet events new }
 {}

@@ -7,6 +7,7 @@ ghost use Rattle.dnp_eventbuf.specs.Stock.{lost_in};
 ghost use Rattle.dnp_world.specs.FreshSystems.{fresh_system};
 ghost use Rattle.dnp_world.specs.Kept.{report_of};
 ghost use Rattle.dnp_world.specs.NewSystems.{AreEmpty};
+ghost use Rattle.dnp_world.specs.Opening.{OpensQuiet};
 ghost use Rattle.dnp_world.specs.ReportShown.{Shows, lists_of};
 ghost use Rattle.dnp_world.specs.Reports.{Holds};
 ghost use Rattle.dnp_world.specs.Controls.{ControlEnds};
@@ -23,6 +24,7 @@ use crate::headline_laws::{rounds_and_controls_keep_a_system_steady, steady_syst
 use crate::history::History;
 use crate::link_event::Way;
 use crate::new_substations::new_substations;
+use crate::opening_laws::an_opened_link_is_quiet;
 use crate::parts::Parts;
 use crate::report::Report;
 use crate::round_fault::{ControlFault, RoundFault};
@@ -124,8 +126,10 @@ impl<Q: Lanes, J: JournalStore, A: Book, B: Book> World<Q, J, A, B> {
         ensures lasts { AreWell Q.honest J.honest A.honest A.is_stopped B.honest B.is_stopped (parts_of self.new) → IsSteady (system_of Q.contents J.archive A.contents B.contents (parts_of self.old)) → OnOk result (Lasts events.now (system_of Q.contents J.archive A.contents B.contents (parts_of self.old)) (system_of Q.contents J.archive A.contents B.contents (parts_of self.new))) }
         ensures lasts_so_far { AreWell Q.honest J.honest A.honest A.is_stopped B.honest B.is_stopped (parts_of self.new) → IsSteady (system_of Q.contents J.archive A.contents B.contents (parts_of self.old)) → IfErr result (λ stopped. Lasts (take stopped.done events.now) (system_of Q.contents J.archive A.contents B.contents (parts_of self.old)) (system_of Q.contents J.archive A.contents B.contents (parts_of self.new))) }
         ensures holds { AreWell Q.honest J.honest A.honest A.is_stopped B.honest B.is_stopped (parts_of self.new) → IsSteady (system_of Q.contents J.archive A.contents B.contents (parts_of self.old)) → Holds (report_of (system_of Q.contents J.archive A.contents B.contents (parts_of self.new))) }
+        ensures opens { AreWell Q.honest J.honest A.honest A.is_stopped B.honest B.is_stopped (parts_of self.new) → OnOk result (OpensQuiet events.now (system_of Q.contents J.archive A.contents B.contents (parts_of self.new))) }
     {
         steady_systems_stay_steady();
+        an_opened_link_is_quiet();
         self.parts.run(alloc, events)
     }
 
