@@ -9,7 +9,9 @@ use crate::script::ScriptLine;
 use crate::sim::judging::{Judged, judge, print_refusal};
 use dnp_concentrator::Plan;
 use dnp_controls::PlainBook;
+use dnp_eventbuf::laws::lanes_stay_sound;
 use dnp_eventbuf::{PlainJournal, PlainLanes};
+use dnp_world::standing_laws::plans_have_all_lanes;
 use dnp_world::{Cause, World};
 use std::alloc::Global;
 use std::io::Write;
@@ -32,6 +34,8 @@ fn simulate<W: Write>(
     requires { KeepsLimits plan.now }
     ensures { PlanEnds plan.now script.now result (W.contents out.old) (W.contents out.new) }
 {
+    plans_have_all_lanes(plan);
+    lanes_stay_sound();
     let Ok(queue) = PlainLanes::new(alloc, plan.queue) else {
         return Err(ScriptStop::Fault(Cause::Memory));
     };

@@ -1,13 +1,15 @@
 -- Lists of events over a steady system.
 use Rattle.std.proofs.Common.{◌≡◌, ℕ, zero, suc, List, [], ◌∷◌, ◌++◌, take, Option, Some, None, Result, Ok, Err, inl, inr, refl, sym, subst, arith}
 use Rattle.std.specs.Prelude.{◌≢◌, All, IfErr, OnOk, ⊤}
+use Rattle.std.proofs.Math.Logic.{∥∥₁_elim, ∥∥₁_map}
+use Rattle.std.proofs.Props.{props}
 use Rattle.dnp_objects.specs.declared.row.Row.{Row}
 use Rattle.dnp_world.specs.Controls.{ControlEnds, IsControlFor, IsOfControl, IsRefusedFor, AtCentre, AtConcentrator, IsRefusedOn, First, Second, Third, IsTold, next_below, station_in}
 use Rattle.dnp_world.specs.Kept.{report_of}
 use Rattle.dnp_world.specs.Reports.{IsFate, Report, happened}
 use Rattle.dnp_world.specs.Rounds.{IsOfRound, IsRound, StopsIn, events_polled}
 use Rattle.dnp_world.specs.Stations.{HasSameCounts, of_station}
-use Rattle.dnp_world.specs.Steady.{Goes, IsSteady, Lasts, made_by}
+use Rattle.dnp_world.specs.Steady.{Goes, IsSteady, Lasts, Makes, made_by}
 use Rattle.dnp_world.specs.SystemEvents.{CountsFor, Happens, RunsTo, StopsAfter}
 use Rattle.dnp_world.specs.Systems.{System}
 use Rattle.dnp_world.specs.declared.event.Event.{Event}
@@ -43,16 +45,21 @@ goes_on laws first second old mid new f s = record {
   fate = laws.joined first second (report_of old) (report_of mid) (report_of new) f.fate s.fate;
 }
 
-pub lasts : LastingLaws → (events : List Event) (old new : System) → IsSteady old → RunsTo old events new → Lasts events old new
-lasts laws [] old new s same = record { made = λ i. []; makes = λ i. refl; goes = rests old new s same }
-lasts laws (e ∷ events) old new s (next, h, ran) =
+-- the rows that a run makes
+abbrev pub rows_made : (events : List Event) (old new : System) → RunsTo old events new → ℕ → List Row
+rows_made [] old new same = λ i. []
+rows_made (e ∷ events) old new (next, h, ran) = λ i. made_by old e i ++ rows_made events next new ran i
+
+makes : (events : List Event) (old new : System) (ran : RunsTo old events new) → Makes old events (rows_made events old new ran)
+makes [] old new same = λ i. refl
+makes (e ∷ events) old new (next, h, ran) = (next, rows_made events next new ran, h, makes events next new ran, λ i. refl)
+
+pub goes_by : LastingLaws → (events : List Event) (old new : System) → IsSteady old → (ran : RunsTo old events new)
+    → Goes (rows_made events old new ran) old new
+goes_by laws [] old new s same = rests old new s same
+goes_by laws (e ∷ events) old new s (next, h, ran) =
     let first : Goes (made_by old e) old next = laws.goes old next e s h in
-    let rest : Lasts events next new = lasts laws events next new first.steady ran in
-    record {
-      made = λ i. made_by old e i ++ rest.made i;
-      makes = (next, rest.made, h, rest.makes, λ i. refl);
-      goes = goes_on laws (made_by old e) rest.made old next new first rest.goes;
-    }
+    goes_on laws (made_by old e) (rows_made events next new ran) old next new first (goes_by laws events next new first.steady ran)
 
 -- what counts for an event at which a list stops makes no row
 pub stops : LastingLaws → (e : Event) (old new : System) → IsSteady old → CountsFor old e new → Goes (λ i. []) old new
@@ -71,25 +78,59 @@ stops laws (event.Tick on end) old new s same = rests old new s same
 stops laws (event.Restart place) old new s same = rests old new s same
 
 -- what a list made, and nothing behind it
-pub lasts_then : LastingLaws → (events : List Event) (old mid new : System) → Lasts events old mid → Goes (λ i. []) mid new → Lasts events old new
-lasts_then laws events old mid new l g = record {
-  made = l.made;
-  makes = l.makes;
-  goes = record {
-    steady = g.steady;
-    fate = λ i.
-        let more = laws.joined l.made (λ i. []) (report_of old) (report_of mid) (report_of new) l.goes.fate g.fate i in
-        record {
-          same = λ test. omega (
-            arith,
-            more.same test,
-            count_by-append test (of_station i (happened (report_of old))) (l.made i ++ []),
-            count_by-append test (of_station i (happened (report_of old))) (l.made i),
-            count_by-append test (l.made i) [],
-          );
-        };
-  };
+goes_then : LastingLaws → (made : ℕ → List Row) (old mid new : System) → Goes made old mid → Goes (λ i. []) mid new → Goes made old new
+goes_then laws made old mid new f g = record {
+  steady = g.steady;
+  fate = λ i.
+      let more = laws.joined made (λ i. []) (report_of old) (report_of mid) (report_of new) f.fate g.fate i in
+      record {
+        same = λ test. omega (
+          arith,
+          more.same test,
+          count_by-append test (of_station i (happened (report_of old))) (made i ++ []),
+          count_by-append test (of_station i (happened (report_of old))) (made i),
+          count_by-append test (made i) [],
+        );
+      };
 }
+
+pub goes_stopped : LastingLaws → (events : List Event) (done : ℕ) (old new : System) → IsSteady old → (stop : StopsAfter old events done new)
+    → Goes (rows_made (take done events) old stop.before stop.ran) old new
+goes_stopped laws events done old new s stop =
+    let made = rows_made (take done events) old stop.before stop.ran in
+    let first : Goes made old stop.before = goes_by laws (take done events) old stop.before s stop.ran in
+    goes_then laws made old stop.before new first (stops laws stop.event stop.before new first.steady stop.counts)
+
+-- ---- what is had where a system is only known to be steady in some way
+
+fate_once : (made : ℕ → List Row) (old new : Report) → IsProp (IsFate made old new)
+fate_once made old new = hlevel props
+
+pub fate_of : (made : ℕ → List Row) (old new : System) → ∥ IsSteady old ∥₁ → (IsSteady old → Goes made old new)
+    → IsFate made (report_of old) (report_of new)
+fate_of made old new some goes = ∥∥₁_elim some (fate_once made (report_of old) (report_of new)) (λ s. (goes s).fate)
+
+pub steady_of : (made : ℕ → List Row) (old new : System) → ∥ IsSteady old ∥₁ → (IsSteady old → Goes made old new) → ∥ IsSteady new ∥₁
+steady_of made old new some goes = ∥∥₁_map some (λ s. (goes s).steady)
+
+pub lasts : LastingLaws → (events : List Event) (old new : System) → ∥ IsSteady old ∥₁ → RunsTo old events new → Lasts events old new
+lasts laws events old new some ran =
+    let made = rows_made events old new ran in
+    record {
+      made = made;
+      makes = makes events old new ran;
+      fate = fate_of made old new some (λ s. goes_by laws events old new s ran);
+    }
+
+pub lasts_stopped : LastingLaws → (events : List Event) (done : ℕ) (old new : System) → ∥ IsSteady old ∥₁ → StopsAfter old events done new
+    → Lasts (take done events) old new
+lasts_stopped laws events done old new some stop =
+    let made = rows_made (take done events) old stop.before stop.ran in
+    record {
+      made = made;
+      makes = makes (take done events) old stop.before stop.ran;
+      fate = fate_of made old new some (λ s. goes_stopped laws events done old new s stop);
+    }
 
 -- ---- events that make no row
 
@@ -186,11 +227,24 @@ calm_control laws id old new (Err (fault.Fault cause)) s stop = calm_stop laws I
 -- ---- calls
 
 -- a list of events leaves a steady system, where it was done and where it stopped
-pub steady_after : (events : List Event) (old new : System) (r : Result ⊤ Stopped) → (RunsTo old events new → Lasts events old new)
-    → ((done : ℕ) → StopsAfter old events done new → Lasts (take done events) old new) → OnOk r (RunsTo old events new)
-    → IfErr r (λ stopped. StopsAfter old events stopped.done new) → IsSteady new
-steady_after events old new (Ok done) ran stopped all some = (ran all).goes.steady
-steady_after events old new (Err stop) ran stopped all some = (stopped stop.done some).goes.steady
+pub steady_after : (events : List Event) (old new : System) (r : Result ⊤ Stopped) → (IsSteady old → RunsTo old events new → IsSteady new)
+    → ((done : ℕ) → IsSteady old → StopsAfter old events done new → IsSteady new) → ∥ IsSteady old ∥₁ → OnOk r (RunsTo old events new)
+    → IfErr r (λ stopped. StopsAfter old events stopped.done new) → ∥ IsSteady new ∥₁
+steady_after events old new (Ok done) ran stopped some all stop = ∥∥₁_map some (λ s. ran s all)
+steady_after events old new (Err stopped_by) ran stopped some all stop = ∥∥₁_map some (λ s. stopped stopped_by.done s stop)
+
+-- what it made, where it was done and where it stopped
+pub lasts_if_done : (events : List Event) (old new : System) (r : Result ⊤ Stopped)
+    → (∥ IsSteady old ∥₁ → RunsTo old events new → Lasts events old new) → ∥ IsSteady old ∥₁ → OnOk r (RunsTo old events new)
+    → OnOk r (Lasts events old new)
+lasts_if_done events old new (Ok done) ran some all = ran some all
+lasts_if_done events old new (Err stopped_by) ran some all = all
+
+pub lasts_if_stopped : (events : List Event) (old new : System) (r : Result ⊤ Stopped)
+    → ((done : ℕ) → ∥ IsSteady old ∥₁ → StopsAfter old events done new → Lasts (take done events) old new) → ∥ IsSteady old ∥₁
+    → IfErr r (λ stopped. StopsAfter old events stopped.done new) → IfErr r (λ stopped. Lasts (take stopped.done events) old new)
+lasts_if_stopped events old new (Ok done) stopped some stop = stop
+lasts_if_stopped events old new (Err stopped_by) stopped some stop = stopped stopped_by.done some stop
 
 -- what a clean round leaves
 pub calm_round : (on : Link) (old new : System) (r : Result ⊤ RoundFault) → (IsRound on old new → Goes (λ i. []) old new)

@@ -34,3 +34,4 @@ pub mod ControlSteps
 pub mod Happened
 pub mod Planned
 pub mod Steady
+pub mod Shown

@@ -47,8 +47,8 @@ pub record Goes (made : ℕ → List Row) (old new : System) : Type 0 where
   pub steady : IsSteady new
   pub fate : IsFate made (report_of old) (report_of new)
 
--- so it is behind a list of events
+-- Events made these rows, and what happened at each substation is what had happened and these.
 pub record Lasts (events : List Event) (old new : System) : Type 0 where
   pub made : ℕ → List Row
   pub makes : Makes old events made
-  pub goes : Goes made old new
+  pub fate : IsFate made (report_of old) (report_of new)

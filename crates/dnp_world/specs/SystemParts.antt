@@ -1,5 +1,5 @@
--- Definition: what a system is, by what its stores say of themselves.
-use Rattle.std.specs.Prelude.{◌≡◌, Bool, false, map}
+-- Definition: what a system is, by what its stores say of themselves, and its stores.
+use Rattle.std.specs.Prelude.{Bool, map}
 use Rattle.dnp_eventbuf.specs.Archive.{Archive}
 use Rattle.dnp_eventbuf.specs.Stock.{Stock}
 use Rattle.dnp_controls.specs.Book.{Ledger}
@@ -13,7 +13,7 @@ use Rattle.dnp_world.specs.Systems.{SubstationState, ConcentratorState, CentreSt
 use Rattle.dnp_world.specs.declared.history.History as kept
 use Rattle.dnp_world.specs.declared.parts.Parts.{Parts}
 use Rattle.dnp_world.specs.declared.substation.Substation.{Substation}
-use Rattle.dnp_world.specs.declared.world.World.{World}
+use Rattle.dnp_world.specs.Shown.{Shown, Stores, StoresAreWell}
 
 abbrev pub substation_of : Substation → SubstationState
 substation_of s = record {
@@ -61,9 +61,6 @@ system_of stock archive controls orders p = record {
   history = history_of p.history;
 }
 
-abbrev pub parts_of : {Q J A B : Type 0} → World Q J A B → Parts Q J A B
-parts_of w = w.parts
-
 -- ---- the stores
 
 abbrev pub queue_of : {Q J A B : Type 0} → Parts Q J A B → Q
@@ -78,12 +75,15 @@ journal_of p = centre.journal_of p.centre
 abbrev pub orders_of : {Q J A B : Type 0} → Parts Q J A B → B
 orders_of p = centre.book_of p.centre
 
--- the stores are honest, and no book has answered Device
-pub record AreWell {Q J A B : Type 0} (queue : Q → Type 0) (journal : J → Type 0) (controls : A → Type 0) (controls_stopped : A → Bool)
-    (orders : B → Type 0) (orders_stopped : B → Bool) (p : Parts Q J A B) : Type 0 where
-  pub queue_is : queue (queue_of p)
-  pub journal_is : journal (journal_of p)
-  pub controls_is : controls (controls_of p)
-  pub controls_run : controls_stopped (controls_of p) ≡ false
-  pub orders_is : orders (orders_of p)
-  pub orders_run : orders_stopped (orders_of p) ≡ false
+abbrev pub stores_of : {Q J A B : Type 0} → Parts Q J A B → Stores Q J A B
+stores_of p = record { queue = queue_of p; journal = journal_of p; controls = controls_of p; orders = orders_of p }
+
+abbrev pub AreWell : {Q J A B : Type 0} → (Q → Type 0) → (J → Type 0) → (A → Type 0) → (A → Bool) → (B → Type 0) → (B → Bool)
+    → Parts Q J A B → Type 0
+AreWell queue journal controls controls_stopped orders orders_stopped p =
+    StoresAreWell queue journal controls controls_stopped orders orders_stopped (stores_of p)
+
+-- ---- what contracts see
+
+abbrev pub shown_by : {Q J A B : Type 0} → (Q → Stock) → (J → Archive) → (A → Ledger) → (B → Ledger) → Parts Q J A B → Shown Q J A B
+shown_by stock archive controls orders p = record { system = system_of stock archive controls orders p; stores = stores_of p }

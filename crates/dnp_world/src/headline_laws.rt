@@ -47,16 +47,19 @@ pub fn every_event_keeps_a_system_steady()
     controls_stay_in_step();
 }
 
-/// So do lists of events, also one that stops; a new system over empty stores is steady; and of a steady system holds what is said
-/// of every moment: no row of the journal is invented, no confirmed row vanishes, what full lanes of the queue dropped is counted, and
-/// no command is performed more often than it was issued.
+/// So do lists of events, also one that stops, and they make the rows of their readings; a new system over empty stores is steady; and
+/// of a steady system holds what is said of every moment: no row of the journal is invented, no confirmed row vanishes, what full lanes
+/// of the queue dropped is counted, and no command is performed more often than it was issued.
 pub fn steady_systems_stay_steady()
-    ensures ran { (old new : System) (events : List Event) → IsSteady old → RunsTo old events new → Lasts events old new }
-    ensures stopped { (old new : System) (events : List Event) (done : ℕ) → IsSteady old → StopsAfter old events done new
+    ensures stays { (old new : System) (events : List Event) → IsSteady old → RunsTo old events new → IsSteady new }
+    ensures stays_stopped { (old new : System) (events : List Event) (done : ℕ) → IsSteady old → StopsAfter old events done new
+        → IsSteady new }
+    ensures ran { (old new : System) (events : List Event) → ∥ IsSteady old ∥₁ → RunsTo old events new → Lasts events old new }
+    ensures stopped { (old new : System) (events : List Event) (done : ℕ) → ∥ IsSteady old ∥₁ → StopsAfter old events done new
         → Lasts (take done events) old new }
     ensures at_first { (plan : Plan) (queue : Stock) (journal : Archive) (controls orders : Ledger) → CanBegin plan
         → AreEmpty queue journal controls orders → IsSteady (fresh_system plan queue journal controls orders) }
-    ensures holds { (s : System) → IsSteady s → Holds (report_of s) }
+    ensures holds { (s : System) → ∥ IsSteady s ∥₁ → Holds (report_of s) }
 {
     every_event_keeps_a_system_steady();
     lists_are_of_links();

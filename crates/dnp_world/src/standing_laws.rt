@@ -75,10 +75,12 @@ fn are_all_lanes(capacities: [u32; LANES])
     ensures { length capacities ≡ LANES }
 {}
 
-/// The plan of each substation has a capacity for each lane, as its type says. It does nothing.
+/// A plan has a capacity for each lane of the queue and of each substation, as its type says. It does nothing.
 pub fn plans_have_all_lanes(plan: &SystemPlan)
-    ensures { All HasAllLanes plan.now.substations }
+    ensures queue { length plan.now.queue ≡ LANES }
+    ensures substations { All HasAllLanes plan.now.substations }
 {
+    are_all_lanes(plan.queue);
     for substation in plan.substations.as_slice() {
         are_all_lanes(substation.lanes);
     }

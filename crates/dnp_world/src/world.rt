@@ -9,12 +9,12 @@ ghost use Rattle.dnp_world.specs.Kept.{report_of};
 ghost use Rattle.dnp_world.specs.NewSystems.{AreEmpty};
 ghost use Rattle.dnp_world.specs.Opening.{OpensQuiet};
 ghost use Rattle.dnp_world.specs.ReportShown.{Shows, lists_of};
-ghost use Rattle.dnp_world.specs.Reports.{Holds};
+ghost use Rattle.dnp_world.specs.Reports.{Holds, IsFate};
 ghost use Rattle.dnp_world.specs.Controls.{ControlEnds};
 ghost use Rattle.dnp_world.specs.Rounds.{IsOfRound, IsRound, StopsIn, is_quiet_on};
-ghost use Rattle.dnp_world.specs.Steady.{Goes, IsSteady, Lasts};
+ghost use Rattle.dnp_world.specs.Shown.{StoresAreWell};
+ghost use Rattle.dnp_world.specs.Steady.{Lasts};
 ghost use Rattle.dnp_world.specs.SystemEvents.{RunsTo, StopsAfter};
-ghost use Rattle.dnp_world.specs.SystemParts.{AreWell, controls_of, journal_of, orders_of, parts_of, queue_of, system_of};
 ghost use Rattle.dnp_world.specs.Systems.{front_on, standing_on};
 ghost use Rattle.dnp_world.specs.declared.parts.report.TheConstants.{NUMBERS};
 
@@ -36,6 +36,7 @@ use dnp_controls::Book;
 use dnp_eventbuf::{JournalStore, Lanes};
 use dnp_outstation::Actions;
 use std::alloc::Global;
+use std::marker::Model;
 
 /// The link address of the centre.
 pub(crate) const CENTRE: u16 = 1;
@@ -46,15 +47,30 @@ pub(crate) const CONCENTRATOR_ABOVE: u16 = 9;
 /// A whole system: substations, a concentrator and a centre, with lossy lines between them, and what became of every row
 /// and command.
 ///
-/// What its events do holds where its stores are honest as a call ends, and no book has answered Device.
+/// At every moment at which its stores are honest and no book has answered Device: no row of the journal is invented, no
+/// confirmed row vanishes, what full lanes of the queue dropped is counted, and no command was performed more often than it was
+/// issued (`headline`). So long, too, its calls do what they say.
+///
+/// A clause sees the system, by what its stores say of themselves, and the stores.
 #[derive(Drop)]
-pub struct World<Q, J, A, B> {
+pub struct World<Q: Lanes, J: JournalStore, A: Book, B: Book> {
     parts: Parts<Q, J, A, B>,
 }
 
+impl<Q: Lanes, J: JournalStore, A: Book, B: Book> Model for World<Q, J, A, B> {
+    ghost use Rattle.dnp_world.specs.Shown.{IsSteadyWhileWell, Shown};
+    ghost use Rattle.dnp_world.specs.SystemParts.{shown_by};
+
+    ghost Value = { Shown Q J A B };
+
+    ghost view = { λ w. shown_by Q.contents J.archive A.contents B.contents w.parts };
+
+    ghost invariant = { λ w. IsSteadyWhileWell Q.honest J.honest A.honest A.is_stopped B.honest B.is_stopped (shown_by Q.contents J.archive A.contents B.contents w.parts) };
+}
+
 impl<Q: Lanes + Drop, J: JournalStore + Drop, A: Book + Drop, B: Book + Drop> World<Q, J, A, B> {
-    /// A system of a plan that keeps its limits (`Plan::keeps_limits`), all of it closed, at the moment 0, over empty stores:
-    /// the concentrator's queue, the centre's journal, and the books of concentrator and centre.
+    /// A system of a plan that keeps its limits (`Plan::keeps_limits`), all of it closed, at the moment 0, over stores that hold
+    /// nothing (`AreEmpty`): the concentrator's queue, the centre's journal, and the books of concentrator and centre.
     ///
     /// Refused is, first of all, an index above over 65,535 (`TooWide`), and then an index above of one kind that two
     /// substations would share (`Overlap`). After these it may be out of memory (`Memory`). What is refused drops the stores.
@@ -66,17 +82,13 @@ impl<Q: Lanes + Drop, J: JournalStore + Drop, A: Book + Drop, B: Book + Drop> Wo
         controls: A,
         orders: B,
     ) -> Result<Self, MapFault>
-        requires { KeepsLimits plan.now }
-        ensures fresh { IfOk result (λ w. system_of Q.contents J.archive A.contents B.contents (parts_of w)
+        requires limits { KeepsLimits plan.now }
+        requires empty { AreEmpty (Q.contents queue) (J.archive journal) (A.contents controls) (B.contents orders) }
+        ensures fresh { IfOk result (λ w. w.system
             ≡ fresh_system plan.now (Q.contents queue) (J.archive journal) (A.contents controls) (B.contents orders)) }
-        ensures queue { IfOk result (λ w. queue_of (parts_of w) ≡ queue) }
-        ensures journal { IfOk result (λ w. journal_of (parts_of w) ≡ journal) }
-        ensures controls { IfOk result (λ w. controls_of (parts_of w) ≡ controls) }
-        ensures orders { IfOk result (λ w. orders_of (parts_of w) ≡ orders) }
+        ensures stores { IfOk result (λ w. w.stores ≡ record { queue = queue; journal = journal; controls = controls; orders = orders }) }
         ensures too_wide { (result ≡ Err MapFault.TooWide) ↔ IsTooWide (map_of plan.now) }
         ensures overlap { (result ≡ Err MapFault.Overlap) ↔ (Overlaps (map_of plan.now) × (IsTooWide (map_of plan.now) → ⊥)) }
-        ensures steady { AreEmpty (Q.contents queue) (J.archive journal) (A.contents controls) (B.contents orders)
-            → IfOk result (λ w. IsSteady (system_of Q.contents J.archive A.contents B.contents (parts_of w))) }
     {
         steady_systems_stay_steady();
         plans_have_all_lanes(plan);
@@ -102,9 +114,17 @@ impl<Q: Lanes + Drop, J: JournalStore + Drop, A: Book + Drop, B: Book + Drop> Wo
 }
 
 impl<Q: Lanes, J: JournalStore, A: Book, B: Book> World<Q, J, A, B> {
+    /// What holds of any system, whatever was done with it, where its stores are well. It does nothing.
+    pub fn headline(&self)
+        ensures { StoresAreWell Q.honest J.honest A.honest A.is_stopped B.honest B.is_stopped self.now.stores → Holds (report_of self.now.system) }
+    {
+        steady_systems_stay_steady();
+        let _ = &self.parts;
+    }
+
     /// How many units stand on the line of this way of the link, 0 for a link outside the plan.
     pub fn standing(&self, on: Link, way: Way) -> usize
-        ensures { result ≡ standing_on (system_of Q.contents J.archive A.contents B.contents (parts_of self.now)) on way }
+        ensures { result ≡ standing_on self.now.system on way }
     {
         self.parts.standing(on, way)
     }
@@ -112,7 +132,7 @@ impl<Q: Lanes, J: JournalStore, A: Book, B: Book> World<Q, J, A, B> {
     /// The octets of the unit that the line of this way of the link gives next: a link frame of at most 292. None where
     /// nothing stands there, and for a link outside the plan.
     pub fn front(&self, on: Link, way: Way) -> Option<&[u8]>
-        ensures { option_copied result ≡ front_on (system_of Q.contents J.archive A.contents B.contents (parts_of self.now)) on way }
+        ensures { option_copied result ≡ front_on self.now.system on way }
     {
         self.parts.front(on, way)
     }
@@ -120,13 +140,13 @@ impl<Q: Lanes, J: JournalStore, A: Book, B: Book> World<Q, J, A, B> {
     /// The events happen, one after the other, up to the first at which a store or a request for memory refuses. That one
     /// counts as `Lose` if it is `Deliver`, and else it is left out.
     pub fn run(&mut self, alloc: Global, events: &[Event]) -> Result<(), Stopped>
-        ensures held { AreWell Q.honest J.honest A.honest A.is_stopped B.honest B.is_stopped (parts_of self.new) → AreWell Q.honest J.honest A.honest A.is_stopped B.honest B.is_stopped (parts_of self.old) }
-        ensures done { AreWell Q.honest J.honest A.honest A.is_stopped B.honest B.is_stopped (parts_of self.new) → OnOk result (RunsTo (system_of Q.contents J.archive A.contents B.contents (parts_of self.old)) events.now (system_of Q.contents J.archive A.contents B.contents (parts_of self.new))) }
-        ensures stopped { AreWell Q.honest J.honest A.honest A.is_stopped B.honest B.is_stopped (parts_of self.new) → IfErr result (λ stopped. StopsAfter (system_of Q.contents J.archive A.contents B.contents (parts_of self.old)) events.now stopped.done (system_of Q.contents J.archive A.contents B.contents (parts_of self.new))) }
-        ensures lasts { AreWell Q.honest J.honest A.honest A.is_stopped B.honest B.is_stopped (parts_of self.new) → IsSteady (system_of Q.contents J.archive A.contents B.contents (parts_of self.old)) → OnOk result (Lasts events.now (system_of Q.contents J.archive A.contents B.contents (parts_of self.old)) (system_of Q.contents J.archive A.contents B.contents (parts_of self.new))) }
-        ensures lasts_so_far { AreWell Q.honest J.honest A.honest A.is_stopped B.honest B.is_stopped (parts_of self.new) → IsSteady (system_of Q.contents J.archive A.contents B.contents (parts_of self.old)) → IfErr result (λ stopped. Lasts (take stopped.done events.now) (system_of Q.contents J.archive A.contents B.contents (parts_of self.old)) (system_of Q.contents J.archive A.contents B.contents (parts_of self.new))) }
-        ensures holds { AreWell Q.honest J.honest A.honest A.is_stopped B.honest B.is_stopped (parts_of self.new) → IsSteady (system_of Q.contents J.archive A.contents B.contents (parts_of self.old)) → Holds (report_of (system_of Q.contents J.archive A.contents B.contents (parts_of self.new))) }
-        ensures opens { AreWell Q.honest J.honest A.honest A.is_stopped B.honest B.is_stopped (parts_of self.new) → OnOk result (OpensQuiet events.now (system_of Q.contents J.archive A.contents B.contents (parts_of self.new))) }
+        ensures held { StoresAreWell Q.honest J.honest A.honest A.is_stopped B.honest B.is_stopped self.new.stores → StoresAreWell Q.honest J.honest A.honest A.is_stopped B.honest B.is_stopped self.old.stores }
+        ensures done { StoresAreWell Q.honest J.honest A.honest A.is_stopped B.honest B.is_stopped self.new.stores → OnOk result (RunsTo self.old.system events.now self.new.system) }
+        ensures stopped { StoresAreWell Q.honest J.honest A.honest A.is_stopped B.honest B.is_stopped self.new.stores → IfErr result (λ stopped. StopsAfter self.old.system events.now stopped.done self.new.system) }
+        ensures lasts { StoresAreWell Q.honest J.honest A.honest A.is_stopped B.honest B.is_stopped self.new.stores → OnOk result (Lasts events.now self.old.system self.new.system) }
+        ensures lasts_so_far { StoresAreWell Q.honest J.honest A.honest A.is_stopped B.honest B.is_stopped self.new.stores → IfErr result (λ stopped. Lasts (take stopped.done events.now) self.old.system self.new.system) }
+        ensures holds { StoresAreWell Q.honest J.honest A.honest A.is_stopped B.honest B.is_stopped self.new.stores → Holds (report_of self.new.system) }
+        ensures opens { StoresAreWell Q.honest J.honest A.honest A.is_stopped B.honest B.is_stopped self.new.stores → OnOk result (OpensQuiet events.now self.new.system) }
     {
         steady_systems_stay_steady();
         an_opened_link_is_quiet();
@@ -139,13 +159,13 @@ impl<Q: Lanes, J: JournalStore, A: Book, B: Book> World<Q, J, A, B> {
     /// Refused is a link that isn't quiet (`NotQuiet`): one outside the plan, or one of whose ends is closed, or awaits an
     /// answer, or whose lines carry anything or are broken. Where an event stops (`Fault`), those before it happened.
     pub fn clean_round(&mut self, alloc: Global, on: Link) -> Result<(), RoundFault>
-        ensures held { AreWell Q.honest J.honest A.honest A.is_stopped B.honest B.is_stopped (parts_of self.new) → AreWell Q.honest J.honest A.honest A.is_stopped B.honest B.is_stopped (parts_of self.old) }
-        ensures not_quiet { (result ≡ Err RoundFault.NotQuiet) ↔ (is_quiet_on (system_of Q.contents J.archive A.contents B.contents (parts_of self.old)) on ≡ false) }
+        ensures held { StoresAreWell Q.honest J.honest A.honest A.is_stopped B.honest B.is_stopped self.new.stores → StoresAreWell Q.honest J.honest A.honest A.is_stopped B.honest B.is_stopped self.old.stores }
+        ensures not_quiet { (result ≡ Err RoundFault.NotQuiet) ↔ (is_quiet_on self.old.system on ≡ false) }
         ensures unchanged { result ≡ Err RoundFault.NotQuiet → self.new ≡ self.old }
-        ensures done { AreWell Q.honest J.honest A.honest A.is_stopped B.honest B.is_stopped (parts_of self.new) → OnOk result (IsRound on (system_of Q.contents J.archive A.contents B.contents (parts_of self.old)) (system_of Q.contents J.archive A.contents B.contents (parts_of self.new))) }
-        ensures stopped { AreWell Q.honest J.honest A.honest A.is_stopped B.honest B.is_stopped (parts_of self.new) → IfErr result (λ fault. fault ≢ RoundFault.NotQuiet → StopsIn (IsOfRound on) (system_of Q.contents J.archive A.contents B.contents (parts_of self.old)) (system_of Q.contents J.archive A.contents B.contents (parts_of self.new))) }
-        ensures goes { AreWell Q.honest J.honest A.honest A.is_stopped B.honest B.is_stopped (parts_of self.new) → IsSteady (system_of Q.contents J.archive A.contents B.contents (parts_of self.old)) → Goes (λ i. []) (system_of Q.contents J.archive A.contents B.contents (parts_of self.old)) (system_of Q.contents J.archive A.contents B.contents (parts_of self.new)) }
-        ensures holds { AreWell Q.honest J.honest A.honest A.is_stopped B.honest B.is_stopped (parts_of self.new) → IsSteady (system_of Q.contents J.archive A.contents B.contents (parts_of self.old)) → Holds (report_of (system_of Q.contents J.archive A.contents B.contents (parts_of self.new))) }
+        ensures done { StoresAreWell Q.honest J.honest A.honest A.is_stopped B.honest B.is_stopped self.new.stores → OnOk result (IsRound on self.old.system self.new.system) }
+        ensures stopped { StoresAreWell Q.honest J.honest A.honest A.is_stopped B.honest B.is_stopped self.new.stores → IfErr result (λ fault. fault ≢ RoundFault.NotQuiet → StopsIn (IsOfRound on) self.old.system self.new.system) }
+        ensures fate { StoresAreWell Q.honest J.honest A.honest A.is_stopped B.honest B.is_stopped self.new.stores → IsFate (λ i. []) (report_of self.old.system) (report_of self.new.system) }
+        ensures holds { StoresAreWell Q.honest J.honest A.honest A.is_stopped B.honest B.is_stopped self.new.stores → Holds (report_of self.new.system) }
     {
         steady_systems_stay_steady();
         rounds_and_controls_keep_a_system_steady();
@@ -159,10 +179,10 @@ impl<Q: Lanes, J: JournalStore, A: Book, B: Book> World<Q, J, A, B> {
     /// next one, or one that another is before, at the centre or at the concentrator (`NotNext`). A status other than
     /// SUCCESS ends it (`Refused`), and so does an event that stops (`Fault`): the events before that happened.
     pub fn clean_control(&mut self, alloc: Global, id: u64) -> Result<(), ControlFault>
-        ensures held { AreWell Q.honest J.honest A.honest A.is_stopped B.honest B.is_stopped (parts_of self.new) → AreWell Q.honest J.honest A.honest A.is_stopped B.honest B.is_stopped (parts_of self.old) }
-        ensures ends { AreWell Q.honest J.honest A.honest A.is_stopped B.honest B.is_stopped (parts_of self.new) → ControlEnds id (system_of Q.contents J.archive A.contents B.contents (parts_of self.old)) result (system_of Q.contents J.archive A.contents B.contents (parts_of self.new)) }
-        ensures goes { AreWell Q.honest J.honest A.honest A.is_stopped B.honest B.is_stopped (parts_of self.new) → IsSteady (system_of Q.contents J.archive A.contents B.contents (parts_of self.old)) → Goes (λ i. []) (system_of Q.contents J.archive A.contents B.contents (parts_of self.old)) (system_of Q.contents J.archive A.contents B.contents (parts_of self.new)) }
-        ensures holds { AreWell Q.honest J.honest A.honest A.is_stopped B.honest B.is_stopped (parts_of self.new) → IsSteady (system_of Q.contents J.archive A.contents B.contents (parts_of self.old)) → Holds (report_of (system_of Q.contents J.archive A.contents B.contents (parts_of self.new))) }
+        ensures held { StoresAreWell Q.honest J.honest A.honest A.is_stopped B.honest B.is_stopped self.new.stores → StoresAreWell Q.honest J.honest A.honest A.is_stopped B.honest B.is_stopped self.old.stores }
+        ensures ends { StoresAreWell Q.honest J.honest A.honest A.is_stopped B.honest B.is_stopped self.new.stores → ControlEnds id self.old.system result self.new.system }
+        ensures fate { StoresAreWell Q.honest J.honest A.honest A.is_stopped B.honest B.is_stopped self.new.stores → IsFate (λ i. []) (report_of self.old.system) (report_of self.new.system) }
+        ensures holds { StoresAreWell Q.honest J.honest A.honest A.is_stopped B.honest B.is_stopped self.new.stores → Holds (report_of self.new.system) }
     {
         steady_systems_stay_steady();
         rounds_and_controls_keep_a_system_steady();
@@ -171,10 +191,10 @@ impl<Q: Lanes, J: JournalStore, A: Book, B: Book> World<Q, J, A, B> {
 
     /// What became of all rows and commands so far. It changes nothing.
     pub fn report(&mut self, alloc: Global) -> Result<Report, Cause>
-        ensures held { AreWell Q.honest J.honest A.honest A.is_stopped B.honest B.is_stopped (parts_of self.new) → AreWell Q.honest J.honest A.honest A.is_stopped B.honest B.is_stopped (parts_of self.old) }
-        ensures same { AreWell Q.honest J.honest A.honest A.is_stopped B.honest B.is_stopped (parts_of self.new) → system_of Q.contents J.archive A.contents B.contents (parts_of self.new) ≡ system_of Q.contents J.archive A.contents B.contents (parts_of self.old) }
-        ensures shows { AreWell Q.honest J.honest A.honest A.is_stopped B.honest B.is_stopped (parts_of self.new) → IfOk result (Shows (system_of Q.contents J.archive A.contents B.contents (parts_of self.old))) }
-        ensures holds { AreWell Q.honest J.honest A.honest A.is_stopped B.honest B.is_stopped (parts_of self.new) → IsSteady (system_of Q.contents J.archive A.contents B.contents (parts_of self.old)) → length (system_of Q.contents J.archive A.contents B.contents (parts_of self.old)).substations ≤ NUMBERS → lost_in (system_of Q.contents J.archive A.contents B.contents (parts_of self.old)).concentrator.queue < 2 ^ 64
+        ensures held { StoresAreWell Q.honest J.honest A.honest A.is_stopped B.honest B.is_stopped self.new.stores → StoresAreWell Q.honest J.honest A.honest A.is_stopped B.honest B.is_stopped self.old.stores }
+        ensures same { StoresAreWell Q.honest J.honest A.honest A.is_stopped B.honest B.is_stopped self.new.stores → self.new.system ≡ self.old.system }
+        ensures shows { StoresAreWell Q.honest J.honest A.honest A.is_stopped B.honest B.is_stopped self.new.stores → IfOk result (Shows self.old.system) }
+        ensures holds { StoresAreWell Q.honest J.honest A.honest A.is_stopped B.honest B.is_stopped self.new.stores → length self.old.system.substations ≤ NUMBERS → lost_in self.old.system.concentrator.queue < 2 ^ 64
             → IfOk result (λ report. Holds (lists_of report)) }
     {
         what_a_report_shows_is_kept();

@@ -9,14 +9,14 @@ use std::slice;
 
 impl<Q: Lanes, J: JournalStore, A: Book, B: Book> Scripted for World<Q, J, A, B> {
     ghost use Rattle.dnp_daemons.specs.ScriptWorlds.{law_of_worlds};
-    ghost use Rattle.dnp_world.specs.SystemParts.{AreWell, parts_of, system_of};
+    ghost use Rattle.dnp_world.specs.Shown.{StoresAreWell};
     ghost use Rattle.dnp_world.specs.Systems.{System};
 
     ghost State = { System };
 
-    ghost state = { λ world. system_of Q.contents J.archive A.contents B.contents (parts_of world) };
+    ghost state = { λ world. world.system };
 
-    ghost honest = { λ world. AreWell Q.honest J.honest A.honest A.is_stopped B.honest B.is_stopped (parts_of world) };
+    ghost honest = { λ world. StoresAreWell Q.honest J.honest A.honest A.is_stopped B.honest B.is_stopped world.stores };
 
     ghost law = { law_of_worlds };
 

@@ -1,19 +1,22 @@
 -- Event by event.
-use Rattle.std.proofs.Common.{take}
-use Rattle.dnp_world.proofs.Lasting.{LastingLaws, lasts, lasts_then, stops}
+use Rattle.std.proofs.Math.Logic.{∥∥₁_map}
+use Rattle.dnp_world.proofs.Lasting.{LastingLaws, goes_by, goes_stopped, lasts, lasts_stopped}
 use Rattle.dnp_world.proofs.headline_laws.steady_systems_stay_steady.Goals as goal
 
 laws_of : goal.After-what_stands_is_shown → LastingLaws
 laws_of c = record { goes = c.every_event_keeps_a_system_steady.ensures; joined = c.lists_are_of_links.ensures.joined }
 
+pub returns-clause-stays : goal.returns-clause-stays
+returns-clause-stays c = λ old new events s ran. (goes_by (laws_of c) events old new s ran).steady
+
+pub returns-clause-stays_stopped : goal.returns-clause-stays_stopped
+returns-clause-stays_stopped c = λ old new events done s stop. (goes_stopped (laws_of c) events done old new s stop).steady
+
 pub returns-clause-ran : goal.returns-clause-ran
-returns-clause-ran c = λ old new events s ran. lasts (laws_of c) events old new s ran
+returns-clause-ran c = λ old new events some ran. lasts (laws_of c) events old new some ran
 
 pub returns-clause-stopped : goal.returns-clause-stopped
-returns-clause-stopped c = λ old new events done s stopped.
-    let first = lasts (laws_of c) (take done events) old stopped.before s stopped.ran in
-    lasts_then (laws_of c) (take done events) old stopped.before new first
-    (stops (laws_of c) stopped.event stopped.before new first.goes.steady stopped.counts)
+returns-clause-stopped c = λ old new events done some stop. lasts_stopped (laws_of c) events done old new some stop
 
 pub returns-clause-at_first : goal.returns-clause-at_first
 returns-clause-at_first c = λ plan queue journal controls orders begins empty. record {
@@ -23,4 +26,4 @@ returns-clause-at_first c = λ plan queue journal controls orders begins empty. 
 }
 
 pub returns-clause-holds : goal.returns-clause-holds
-returns-clause-holds c = λ s steady. c.what_stands_is_shown.ensures s ∣ steady.standing ∣₁
+returns-clause-holds c = λ s some. c.what_stands_is_shown.ensures s (∥∥₁_map some (λ steady. steady.standing))

@@ -1,11 +1,29 @@
--- What is left is steady.
-use Rattle.dnp_world.specs.SystemParts.{parts_of, system_of}
+-- What is left is steady, and no row was made.
+use Rattle.std.proofs.Common.{[]}
+use Rattle.dnp_world.specs.SystemParts.{system_of}
+use Rattle.dnp_world.proofs.Lasting.{fate_of, steady_of}
 use Rattle.dnp_world.proofs.world.World.clean_control.Goals as goal
 
-pub returns-clause-holds : goal.returns-clause-holds
-returns-clause-holds g c = λ well steady.
+pub invariant_of-self : goal.invariant_of-self
+invariant_of-self g c = λ well.
     let system = system_of g.Q.Lanes.contents g.J.JournalStore.archive g.A.Book.contents g.B.Book.contents in
-    let old = system (parts_of c.args.self.now) in
+    let old = system c.self.inside.parts in
     let new = system c.clean_control.new.self in
-    let goes = c.rounds_and_controls_keep_a_system_steady.ensures.control c.args.id old new c.clean_control.result steady (c.clean_control.ensures.ends well) in
-    c.steady_systems_stay_steady.ensures.holds new goes.steady
+    let ends = c.clean_control.ensures.ends well in
+    steady_of (λ i. []) old new (c.self.invariant (c.clean_control.ensures.held well))
+    (λ s. c.rounds_and_controls_keep_a_system_steady.ensures.control c.args.id old new c.clean_control.result s ends)
+
+pub returns-clause-fate : goal.returns-clause-fate
+returns-clause-fate g c = λ well.
+    let system = system_of g.Q.Lanes.contents g.J.JournalStore.archive g.A.Book.contents g.B.Book.contents in
+    let old = system c.self.inside.parts in
+    let new = system c.clean_control.new.self in
+    let ends = c.clean_control.ensures.ends well in
+    rw (← c.self.view_is)
+    (fate_of (λ i. []) old new (c.self.invariant (c.clean_control.ensures.held well))
+    (λ s. c.rounds_and_controls_keep_a_system_steady.ensures.control c.args.id old new c.clean_control.result s ends))
+
+pub returns-clause-holds : goal.returns-clause-holds
+returns-clause-holds g c = λ well.
+    let system = system_of g.Q.Lanes.contents g.J.JournalStore.archive g.A.Book.contents g.B.Book.contents in
+    c.steady_systems_stay_steady.ensures.holds (system c.clean_control.new.self) (invariant_of-self g c well)

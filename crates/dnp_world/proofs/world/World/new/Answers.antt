@@ -7,8 +7,8 @@ use Rattle.dnp_world.specs.SystemParts.{system_of}
 use Rattle.dnp_world.specs.Systems.{System}
 use Rattle.dnp_world.proofs.world.World.new.Goals as goal
 
-pub returns-clause-steady : goal.returns-clause-steady
-returns-clause-steady g c = λ empty.
+pub invariant_of-result : goal.invariant_of-result
+invariant_of-result g c = λ well.
     let plan = c.args.plan.now in
     let queue = g.Q.Lanes.contents c.args.queue in
     let journal = g.J.JournalStore.archive c.args.journal in
@@ -26,4 +26,4 @@ returns-clause-steady g c = λ empty.
     }) in
     let fresh : new ≡ fresh_system plan queue journal controls orders = search rules in
     let begins : CanBegin plan = search rules in
-    subst IsSteady (sym fresh) (c.steady_systems_stay_steady.ensures.at_first plan queue journal controls orders begins empty)
+    ∣ subst IsSteady (sym fresh) (c.steady_systems_stay_steady.ensures.at_first plan queue journal controls orders begins c.requires.empty) ∣₁

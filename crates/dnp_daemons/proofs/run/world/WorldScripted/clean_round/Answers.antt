@@ -2,7 +2,7 @@
 use Rattle.std.proofs.Common.{◌≡◌, Bool, true, false, Result, Ok, Err, refl, ap}
 use Rattle.std.specs.Prelude.{◌≢◌, ◌↔◌, IfErr, OnOk, ⊤}
 use Rattle.dnp_world.specs.Rounds.{IsOfRound, IsRound, StopsIn, is_quiet_on}
-use Rattle.dnp_world.specs.SystemParts.{parts_of, system_of}
+use Rattle.dnp_world.specs.Shown.{Shown}
 use Rattle.dnp_world.specs.Systems.{System}
 use Rattle.dnp_world.specs.declared.event.Link.{Link}
 use Rattle.dnp_world.specs.declared.round_fault.RoundFault.{RoundFault}
@@ -23,9 +23,6 @@ ends on old new (Err (Fault cause)) refused same round stopped = stopped (λ e. 
 
 pub returns-clause-done : goal.returns-clause-done
 returns-clause-done g c = λ honest.
-    let system = system_of g.Q.Lanes.contents g.J.JournalStore.archive g.A.Book.contents g.B.Book.contents in
-    let old = system (parts_of c.args.self.now) in
-    let new = system (parts_of c.clean_round.new.self) in
-    ends c.args.link old new c.clean_round.result c.clean_round.ensures.not_quiet
-    (λ is. ap (λ (w : _). system (parts_of w)) (c.clean_round.ensures.unchanged is)) (c.clean_round.ensures.done honest)
+    ends c.args.link c.args.self.now.system c.clean_round.new.self.system c.clean_round.result c.clean_round.ensures.not_quiet
+    (λ is. ap (λ (w : Shown _ _ _ _). w.system) (c.clean_round.ensures.unchanged is)) (c.clean_round.ensures.done honest)
     (c.clean_round.ensures.stopped honest)
