@@ -21,7 +21,7 @@ const fn table() -> [u16; 256] {
 
 static TABLE: [u16; 256] = table();
 
-fn check_word(octets: &[u8]) -> u16 {
+pub fn check_word(octets: &[u8]) -> u16 {
     !octets.iter().fold(0u16, |word, octet| {
         word >> 8 ^ TABLE[((word ^ u16::from(*octet)) & 0xFF) as usize]
     })
@@ -32,11 +32,17 @@ fn is_checked(octets: &[u8], word: &[u8]) -> bool {
 }
 
 pub struct Frame {
-    control: u8,
-    dest: u16,
-    source: u16,
+    pub control: u8,
+    pub dest: u16,
+    pub source: u16,
     user: [u8; 250],
     count: usize,
+}
+
+impl Frame {
+    pub fn user(&self) -> &[u8] {
+        &self.user[..self.count]
+    }
 }
 
 /// The frame of a header that was checked, with its blocks.
@@ -105,7 +111,7 @@ pub unsafe extern "C" fn plain_feed(octets: *const u8, count: usize, piece: usiz
     for octets in stream.chunks(piece.max(1)) {
         reader.feed(octets, &mut frames);
         for frame in &frames {
-            let user = &frame.user[..frame.count];
+            let user = frame.user();
             let picked = user.get(user.len() / 2).copied().unwrap_or(0);
             sum = sum.wrapping_mul(31).wrapping_add(
                 u64::from(frame.control)
