@@ -108,12 +108,6 @@ sound_points s keeps Overlap (kind, shared) = omega (arith, shared.in_order, sha
 
 -- ---- analog inputs, put into a list one by one
 
-pub analogs_more : (all done : List Point) (xs ys xs' ys' : List ℕ) (x y : ℕ) → all ≡ done ++ map analog_of (zip xs ys) → xs ≡ x ∷ xs' → ys ≡ y ∷ ys'
-    → all ≡ (done ++ (analog_of (x, y) ∷ [])) ++ map analog_of (zip xs' ys')
-analogs_more all done xs ys xs' ys' x y is first second =
-    let front : map analog_of (zip xs ys) ≡ analog_of (x, y) ∷ map analog_of (zip xs' ys') = rw (first, second) refl in
-    is ∙ ap (λ (more : List Point). done ++ more) front ∙ sym (append_assoc done (analog_of (x, y) ∷ []) (map analog_of (zip xs' ys')))
-
 none-left : (xs ys : List ℕ) → (xs ≡ []) ⊎ (ys ≡ []) → map analog_of (zip xs ys) ≡ []
 none-left xs ys (inl e) = rw e refl
 none-left [] ys (inr e) = refl

@@ -6,3 +6,5 @@ pub mod Putting
 pub mod Spelling
 pub mod Clocking
 pub mod Taken
+pub mod Dialogues
+pub mod Talking

@@ -5,3 +5,4 @@ pub mod Outgoing
 pub mod Pieces
 pub mod Judging
 pub mod Lines
+pub mod Talking

@@ -11,3 +11,6 @@ pub mod Outstations
 pub mod Masters
 pub mod Centres
 pub mod Concentrators
+pub mod Dialogues
+pub mod Asking
+pub mod Talking

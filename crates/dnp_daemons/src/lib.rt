@@ -1,7 +1,7 @@
 //! What the program `dnp` does, as calls over values and streams: `answer_line` answers one line of octets,
-//! `serve_stream` serves a stream of octets by a station, `read_plan` reads a plan and `read_script` a script for it,
-//! `run_script` runs a script, `print_report` prints what became of every event and command, and `sim_text` does all
-//! four with two texts.
+//! `serve_stream` serves a stream of octets by a station, `ask_stream` asks tasks on one, `read_plan` reads a plan and
+//! `read_script` a script for it, `run_script` runs a script, `print_report` prints what became of every event and
+//! command, and `sim_text` does all four with two texts.
 #![tactic(auto)]
 
 mod address;
@@ -32,7 +32,7 @@ pub use run::{ScriptStop, Scripted, run_script};
 pub use script::{ScriptFault, ScriptLine, number_in, read_script};
 pub use sim::sim_text;
 pub use stream::{
-    Above, Answer, Below, Clocked, Log, ServeFault, Served, Station, StationFault, serve_noted,
-    serve_stream,
+    Above, Answer, Asked, Asker, Below, Clocked, Log, ServeFault, Served, Station, StationFault,
+    ask_noted, ask_stream, serve_noted, serve_stream,
 };
 pub use text::{TextFault, text_fault};

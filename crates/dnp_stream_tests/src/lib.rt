@@ -6,4 +6,6 @@ mod ends;
 #[cfg(test)]
 mod exchanges;
 #[cfg(test)]
+mod links;
+#[cfg(test)]
 mod stations;

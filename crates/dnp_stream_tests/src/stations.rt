@@ -16,6 +16,7 @@ pub struct Echo {
 
 impl Station for Echo {
     ghost use Rattle.std.specs.Prelude.{⊤};
+    ghost use Rattle.dnp_daemons.specs.streams.Dialogues.{asks_nothing};
 
     ghost State = { ⊤ };
 
@@ -26,6 +27,8 @@ impl Station for Echo {
     ghost opens = { λ _ _ _ _. ⊤ };
 
     ghost receives = { λ _ _ _ _ _. ⊤ };
+
+    ghost asking = { asks_nothing };
 
     ghost hung_up_of = { λ s. s };
 

@@ -56,13 +56,13 @@ pub record Serves {S : Type 0} (opens : Opening S) (receives : Receiving S) (now
   pub ends : EndsBy turns traffic (IsAtEnd left') result
 
 -- after a fault the station is hung up
-abbrev pub IsLeft : {S : Type 0} → (S → S) → Result Served ServeFault → S → S → Type 0
-IsLeft hung_up_of (Ok served) ended station = station ≡ ended
+abbrev pub IsLeft : {S A : Type 0} → (S → S) → Result A ServeFault → S → S → Type 0
+IsLeft hung_up_of (Ok done) ended station = station ≡ ended
 IsLeft hung_up_of (Err fault) ended station = station ≡ hung_up_of ended
 
 -- What the log of a stream's reads and writes says of its end: a fault of the reader or the writer where there was one,
 -- and nowhere else; at most `turns` reads, and that many where they are spent.
-pub record IsNoted (turns : ℕ) (result : Result Served ServeFault) (log : Log) : Type 0 where
+pub record IsNoted {A : Type 0} (turns : ℕ) (result : Result A ServeFault) (log : Log) : Type 0 where
   pub read_failed : (result ≡ Err ReadFailed) ↔ (log.read_failed ≡ true)
   pub write_failed : (result ≡ Err WriteFailed) ↔ (log.write_failed ≡ true)
   pub reads : log.reads ≤ turns

@@ -26,6 +26,7 @@ impl<'a, Q: Lanes, B: Book> Above<'a, Q, B> {
 impl<'a, Q: Lanes, B: Book> Station for Above<'a, Q, B> {
     ghost use Rattle.dnp_concentrator.specs.BookOutputs.{Performs, panel_of};
     ghost use Rattle.dnp_concentrator.specs.Concentrator.{IsBookWell, queue_of};
+    ghost use Rattle.dnp_daemons.specs.streams.Dialogues.{asks_nothing};
     ghost use Rattle.dnp_daemons.specs.streams.Outstations.{Seen, IsOpened, Receives, hung_up_of};
     ghost use Rattle.dnp_daemons.specs.streams.Concentrators.{above_seen};
 
@@ -38,6 +39,8 @@ impl<'a, Q: Lanes, B: Book> Station for Above<'a, Q, B> {
     ghost opens = { IsOpened };
 
     ghost receives = { Receives (panel_of B.contents) (Performs B.contents) };
+
+    ghost asking = { asks_nothing };
 
     ghost hung_up_of = { hung_up_of };
 

@@ -3,11 +3,13 @@
 ghost use Rattle.std.specs.Prelude.{◌≡◌, nat_lt, length};
 ghost use Rattle.dnp_concentrator.specs.Concentrator.{links_of};
 
+use crate::stream::asker::Asker;
 use crate::stream::master::{answer_taking, fault_of, nothing};
 use crate::stream::station::{Answer, Station, StationFault};
-use dnp_concentrator::Concentrator;
-use dnp_controls::Book;
+use dnp_concentrator::{Concentrator, Relayed};
+use dnp_controls::{Book, BookFault};
 use dnp_eventbuf::Lanes;
+use dnp_master::{AskFault, Fragment, Task};
 use std::alloc::Global;
 
 /// The link of a lent concentrator to the substation with this number. Where the concentrator's plan has no such
@@ -35,18 +37,21 @@ impl<'a, Q: Lanes, B: Book> Below<'a, Q, B> {
 }
 
 impl<'a, Q: Lanes, B: Book> Station for Below<'a, Q, B> {
-    ghost use Rattle.dnp_concentrator.specs.Concentrator.{queue_of};
+    ghost use Rattle.dnp_concentrator.specs.Concentrator.{book_of, queue_of};
+    ghost use Rattle.dnp_daemons.specs.streams.Asking.{below_asking};
     ghost use Rattle.dnp_daemons.specs.streams.Concentrators.{BelowSeen, OpensBelow, BelowReceives, below_hung_up, below_seen};
 
     ghost State = { BelowSeen };
 
     ghost state = { λ s. below_seen Q.contents s.concentrator.now s.link };
 
-    ghost honest = { λ s. Q.honest (queue_of s.concentrator.now) };
+    ghost honest = { λ s. Q.honest (queue_of s.concentrator.now) × B.honest (book_of s.concentrator.now) };
 
     ghost opens = { OpensBelow };
 
     ghost receives = { BelowReceives };
+
+    ghost asking = { below_asking };
 
     ghost hung_up_of = { below_hung_up };
 
@@ -74,5 +79,25 @@ impl<'a, Q: Lanes, B: Book> Station for Below<'a, Q, B> {
         if self.is_there() {
             self.concentrator.hung_up_below(self.link);
         }
+    }
+}
+
+impl<'a, Q: Lanes, B: Book> Asker for Below<'a, Q, B> {
+    fn ask(&mut self, now: u64, task: Task) -> Result<Fragment, AskFault> {
+        if !self.is_there() {
+            return Err(AskFault::Closed);
+        }
+        self.concentrator.ask_below(self.link, now, task)
+    }
+
+    fn relay(&mut self, alloc: Global, now: u64) -> Result<Relayed, BookFault> {
+        if !self.is_there() {
+            return Ok(Relayed::Nothing);
+        }
+        self.concentrator.relay(alloc, self.link, now)
+    }
+
+    fn idle(&self) -> bool {
+        self.is_there() && self.concentrator.idle_below(self.link)
     }
 }

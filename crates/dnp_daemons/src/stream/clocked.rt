@@ -50,6 +50,7 @@ impl<'a, S: Station, C: Clock> Clocked<'a, S, C> {
 }
 
 impl<'a, S: Station, C: Clock> Station for Clocked<'a, S, C> {
+    ghost use Rattle.dnp_daemons.specs.streams.Dialogues.{asks_nothing};
     ghost use Rattle.dnp_daemons.specs.streams.Clocks.{OpensSometime, ReceivesSometime};
 
     ghost State = { S.State };
@@ -61,6 +62,8 @@ impl<'a, S: Station, C: Clock> Station for Clocked<'a, S, C> {
     ghost opens = { OpensSometime S.opens };
 
     ghost receives = { ReceivesSometime S.receives };
+
+    ghost asking = { asks_nothing };
 
     ghost hung_up_of = { S.hung_up_of };
 

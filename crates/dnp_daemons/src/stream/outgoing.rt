@@ -2,6 +2,7 @@
 
 ghost use Rattle.std.specs.Prelude.{◌≡◌, ℕ, ◌<◌, ◌≤◌, ◌+◌, ◌∷◌, [], List, length, All, option_to_list};
 ghost use Rattle.dnp_outstation.specs.Station.{sent_of};
+ghost use Rattle.dnp_daemons.specs.streams.Dialogues.{sendable};
 ghost use Rattle.dnp_daemons.specs.streams.Spelled.{sent_frames, port_after};
 ghost use Rattle.dnp_daemons.specs.steps.Outgoing.{ArePut};
 
@@ -62,6 +63,17 @@ pub(super) fn put_fragments(port: &mut Port, send: &[Option<Fragment>; 2], out: 
     let [first, second] = send;
     put_one(port, first, out);
     put_one(port, second, out);
+}
+
+/// Puts the units of a request in place of what was there: none where it has no octets.
+pub(super) fn put_request(port: &mut Port, request: &Fragment, out: &mut Outgoing)
+    ensures put { ArePut [] (sent_frames port.old (sendable request.now.items)) out.new.items }
+    ensures moved { port.new ≡ port_after port.old (sendable request.now.items) }
+{
+    out.clear();
+    if !request.is_empty() {
+        put_fragment(port, request, out);
+    }
 }
 
 /// Puts the unit of the link layer's reply, if there is one, in place of what was there.

@@ -30,6 +30,7 @@ pub(super) fn answer_with(mut actions: Actions) -> Answer
 
 impl<L: Lanes, O: Outputs> Station for Outstation<L, O> {
     ghost use Rattle.dnp_outstation.specs.Parts.{lanes_of, outputs_of};
+    ghost use Rattle.dnp_daemons.specs.streams.Dialogues.{asks_nothing};
     ghost use Rattle.dnp_daemons.specs.streams.Outstations.{Seen, seen_of, IsOpened, Receives, hung_up_of};
 
     ghost State = { Seen };
@@ -41,6 +42,8 @@ impl<L: Lanes, O: Outputs> Station for Outstation<L, O> {
     ghost opens = { IsOpened };
 
     ghost receives = { Receives O.panel O.performs };
+
+    ghost asking = { asks_nothing };
 
     ghost hung_up_of = { hung_up_of };
 

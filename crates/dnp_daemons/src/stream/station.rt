@@ -1,6 +1,7 @@
 //! What a stream needs of a station.
 
 ghost use Rattle.std.specs.Prelude.{◌≡◌, ℕ, ◌<◌, List, length, All, IfOk, OnErr};
+ghost use Rattle.dnp_daemons.specs.streams.Dialogues.{Asking};
 ghost use Rattle.dnp_daemons.specs.streams.Stations.{Answer as AnswerValue, answer_of};
 
 use dnp_master::Outcome;
@@ -55,6 +56,9 @@ pub trait Station {
 
     /// What a hang-up makes of a state.
     ghost hung_up_of: { State → State };
+
+    /// How it asks and relays, and when it is idle, where it is an `Asker`.
+    ghost asking: { Asking State };
 
     /// A connection begins.
     fn opened(&mut self, alloc: Global, now: u64) -> Result<Answer, StationFault>

@@ -15,7 +15,7 @@ returns-in-Ok-clause-answered g c honest =
     let found = taken (taking_at old at c.args.now c.args.octets.now) c.in-Ok.actions told.refused in
     let links = MatchResult-at_ok _ _ found.0 found.1 told.link in
     let core = MatchResult-at_ok _ _ found.0 found.1 told.readings in
-    let queue = MatchResult-at_ok _ _ found.0 found.1 (told.queued honest) in
+    let queue = MatchResult-at_ok _ _ found.0 found.1 (told.queued honest.0) in
     let by = MatchResult-at_ok _ _ found.0 found.1 told.actions in
     Taken there found.0 found.1 (answered _ _ found.0 _ c.answer_taking.ensures.answer by)
     (seen at _ _ _ _ _ _ _ _ links core (ap (λ outputs. map_in outputs) told.outputs) queue)

@@ -1,0 +1,255 @@
+//! A concentrator's stations and a centre on streams.
+
+use crate::ends::{Giving, Taking};
+use dnp_concentrator::{Centre, Concentrator};
+use dnp_controls::PlainBook;
+use dnp_daemons::{
+    Above, Asked, Below, ServeFault, Served, Station, ask_stream, read_plan, serve_stream,
+};
+use dnp_eventbuf::{JournalStore, Lane, Lanes, PlainJournal, PlainLanes};
+use dnp_line::Port;
+use dnp_master::{Classes, Outcome, Task};
+use dnp_objects::Kind;
+use std::alloc::Global;
+
+/// A plan of one substation with one binary input of class 1, whose index above is 100.
+const PLAN: &str = "\
+confirm_ms = 5000
+response_ms = 10000
+select_ms = 5000
+retries = 0
+unsolicited = false
+queue = [100, 100, 100, 100, 100, 100, 100, 100, 100]
+[[substation]]
+lanes = [100, 100, 100, 100, 100, 100, 100, 100, 100]
+binary = [1]
+counter = []
+analog = []
+deadband = []
+outputs = 1
+setpoints = 0
+base = [100, 0, 0, 200, 0]
+";
+
+/// An unsolicited response from outstation 10 to master 2: binary input 0 has become 1, with a time.
+const REPORT: [u8; 33] = [
+    0x05, 0x64, 0x18, 0x44, 0x02, 0x00, 0x0A, 0x00, 0x59, 0x71, 0xC0, 0xF0, 0x82, 0x80, 0x00, 0x02,
+    0x02, 0x28, 0x01, 0x00, 0x00, 0x00, 0x81, 0xE8, 0x03, 0x00, 0xDA, 0xDC, 0x00, 0x00, 0x00, 0xFF,
+    0xFF,
+];
+
+/// The same of binary input 1, which is not there.
+const STRANGE: [u8; 33] = [
+    0x05, 0x64, 0x18, 0x44, 0x02, 0x00, 0x0A, 0x00, 0x59, 0x71, 0xC0, 0xF0, 0x82, 0x80, 0x00, 0x02,
+    0x02, 0x28, 0x01, 0x00, 0x01, 0x00, 0x81, 0xE8, 0x03, 0x00, 0x3D, 0x69, 0x00, 0x00, 0x00, 0xFF,
+    0xFF,
+];
+
+/// Its confirm.
+const CONFIRM: [u8; 15] = [
+    0x05, 0x64, 0x08, 0xC4, 0x0A, 0x00, 0x02, 0x00, 0x57, 0xF2, 0xC0, 0xD0, 0x00, 0x1B, 0x49,
+];
+
+/// A READ of class 1 from master 1 to outstation 9.
+const POLL: [u8; 18] = [
+    0x05, 0x64, 0x0B, 0xC4, 0x09, 0x00, 0x01, 0x00, 0xED, 0xDB, 0xC0, 0xC0, 0x01, 0x3C, 0x02, 0x06,
+    0x54, 0xE0,
+];
+
+/// The response: binary input 100 has become 1, at the same time.
+const RESPONSE: [u8; 33] = [
+    0x05, 0x64, 0x18, 0x44, 0x01, 0x00, 0x09, 0x00, 0xB3, 0xCB, 0xC0, 0xE0, 0x81, 0x80, 0x00, 0x02,
+    0x02, 0x28, 0x01, 0x00, 0x64, 0x00, 0x81, 0xE8, 0x03, 0x00, 0xB4, 0x8E, 0x00, 0x00, 0x00, 0xFF,
+    0xFF,
+];
+
+/// The same as an unsolicited response.
+const REPORT_ABOVE: [u8; 33] = [
+    0x05, 0x64, 0x18, 0x44, 0x01, 0x00, 0x09, 0x00, 0xB3, 0xCB, 0xC0, 0xF0, 0x82, 0x80, 0x00, 0x02,
+    0x02, 0x28, 0x01, 0x00, 0x64, 0x00, 0x81, 0xE8, 0x03, 0x00, 0x4B, 0xCE, 0x00, 0x00, 0x00, 0xFF,
+    0xFF,
+];
+
+/// Its confirm.
+const CONFIRM_ABOVE: [u8; 15] = [
+    0x05, 0x64, 0x08, 0xC4, 0x09, 0x00, 0x01, 0x00, 0xBD, 0x48, 0xC0, 0xD0, 0x00, 0x1B, 0x49,
+];
+
+/// The response to a READ of class 1, from outstation 10 to master 2: binary input 0 has become 1.
+const ANSWER: [u8; 33] = [
+    0x05, 0x64, 0x18, 0x44, 0x02, 0x00, 0x0A, 0x00, 0x59, 0x71, 0xC0, 0xE0, 0x81, 0x00, 0x00, 0x02,
+    0x02, 0x28, 0x01, 0x00, 0x00, 0x00, 0x81, 0xE8, 0x03, 0x00, 0xEA, 0x4C, 0x00, 0x00, 0x00, 0xFF,
+    0xFF,
+];
+
+/// The READ of class 1, and the confirm of its response.
+const ASKED: [u8; 33] = [
+    0x05, 0x64, 0x0B, 0xC4, 0x0A, 0x00, 0x02, 0x00, 0x07, 0x61, 0xC0, 0xC0, 0x01, 0x3C, 0x02, 0x06,
+    0x54, 0xE0, 0x05, 0x64, 0x08, 0xC4, 0x0A, 0x00, 0x02, 0x00, 0x57, 0xF2, 0xC1, 0xC0, 0x00, 0x8B,
+    0x8F,
+];
+
+/// A task that polls class 1.
+const POLL_1: Task = Task::Poll(Classes([false, true, false, false]));
+
+/// One fragment came, and so many were refused.
+fn one(faults: u64) -> Result<Served, ServeFault> {
+    Ok(Served {
+        fragments: 1,
+        faults,
+        closed: false,
+    })
+}
+
+/// Whether a station to which these octets come by this port sends these, and is served so.
+fn sends<S: Station>(
+    alloc: Global,
+    station: &mut S,
+    mut port: Port,
+    octets: &[u8],
+    sent: &[u8],
+    served: Result<Served, ServeFault>,
+) -> bool {
+    let mut reader = Giving {
+        octets,
+        most: 10,
+        fails: false,
+    };
+    let mut writer = Taking::new(128);
+    let result = serve_stream(alloc, station, &mut port, 0, &mut reader, &mut writer, 9);
+    result == served && writer.taken.as_slice() == sent
+}
+
+/// An event comes to a concentrator on a link below, and from there it goes above; a substation that the plan lacks
+/// takes nothing.
+#[test]
+fn a_concentrator_on_streams(rt: HostRuntime) {
+    let alloc = rt.alloc();
+    let plan = read_plan(alloc, PLAN).expect(&rt, "a plan");
+    let queue = PlainLanes::new(alloc, plan.queue).expect(&rt, "a queue");
+    let mut concentrator = Concentrator::new(alloc, &plan, queue, PlainBook::new(alloc)).expect(
+        &rt,
+        "a concentrator",
+    );
+    let below = [(0, &STRANGE, 0, 1), (1, &REPORT, 0, 0), (0, &REPORT, 15, 0)];
+    for (link, octets, count, faults) in below {
+        let mut station = Below::new(&mut concentrator, link);
+        let port = Port::new(2, 10, true);
+        assert!(rt;
+            sends(
+                alloc,
+                &mut station,
+                port,
+                octets,
+                &CONFIRM[..count],
+                one(faults)
+            ),
+            "link {link}, {count} octets"
+        );
+    }
+    let mut station = Above::new(&mut concentrator);
+    assert!(rt;
+        sends(
+            alloc,
+            &mut station,
+            Port::new(9, 1, false),
+            &POLL,
+            &RESPONSE,
+            one(0)
+        )
+    );
+}
+
+/// A centre keeps an event in its journal, and confirms it.
+#[test]
+fn a_centre_on_a_stream(rt: HostRuntime) {
+    let alloc = rt.alloc();
+    let plan = read_plan(alloc, PLAN).expect(&rt, "a plan");
+    let mut centre = Centre::new(
+        alloc,
+        &plan,
+        PlainJournal::new(alloc),
+        PlainBook::new(alloc),
+    )
+    .expect(&rt, "a centre");
+    assert!(rt;
+        sends(
+            alloc,
+            &mut centre,
+            Port::new(1, 9, true),
+            &REPORT_ABOVE,
+            &CONFIRM_ABOVE,
+            one(0)
+        )
+    );
+    assert_eq!(rt; centre.journal().count(), 1);
+}
+
+/// Asks these tasks on the link to the substation, to which an answer comes.
+fn asks(
+    alloc: Global,
+    concentrator: &mut Concentrator<PlainLanes, PlainBook>,
+    tasks: &[Task],
+    turns: u64,
+    writer: &mut Taking,
+) -> Result<Asked, ServeFault> {
+    let mut reader = Giving {
+        octets: &ANSWER,
+        most: 10,
+        fails: false,
+    };
+    let mut station = Below::new(concentrator, 0);
+    let mut port = Port::new(2, 10, true);
+    ask_stream(
+        alloc,
+        &mut station,
+        &mut port,
+        0,
+        tasks,
+        &mut reader,
+        writer,
+        turns,
+    )
+}
+
+/// A poll is asked, answered and confirmed, and its event is queued above; a task that is refused is passed over.
+#[test]
+fn a_poll_on_a_stream(rt: HostRuntime) {
+    let alloc = rt.alloc();
+    let plan = read_plan(alloc, PLAN).expect(&rt, "a plan");
+    let queue = PlainLanes::new(alloc, plan.queue).expect(&rt, "a queue");
+    let mut concentrator = Concentrator::new(alloc, &plan, queue, PlainBook::new(alloc)).expect(
+        &rt,
+        "a concentrator",
+    );
+    let mut writer = Taking::new(128);
+    let asked = asks(alloc, &mut concentrator, &[POLL_1], 100, &mut writer).expect(&rt, "asked");
+    assert_eq!(rt; asked.rows, 1);
+    assert_eq!(rt; asked.outcomes.len(), 1);
+    assert!(rt; matches!(&asked.outcomes[0], Outcome::Done(_)));
+    assert_eq!(rt; asked.faults, 0);
+    assert!(rt; writer.taken.as_slice() == ASKED.as_slice());
+    let lane = Lane::new(1, Kind::Binary).expect(&rt, "a lane");
+    let queued = concentrator
+        .queue()
+        .offer(alloc, lane, 0, 9)
+        .expect(&rt, "rows");
+    assert_eq!(rt; queued.len(), 1);
+    assert_eq!(rt; queued[0].row.index, 100);
+    let none = Task::Poll(Classes([false, false, false, false]));
+    let mut writer = Taking::new(128);
+    let asked = asks(alloc, &mut concentrator, &[none, POLL_1], 100, &mut writer).expect(
+        &rt, "asked",
+    );
+    assert!(rt;
+        asked.faults == 1 && asked.rows == 1 && writer.taken.as_slice() == ASKED.as_slice()
+    );
+    let mut writer = Taking::new(20);
+    let cut = asks(alloc, &mut concentrator, &[POLL_1], 100, &mut writer);
+    assert!(rt; matches!(&cut, Err(ServeFault::WriteFailed)));
+    assert!(rt; writer.taken.as_slice() == &ASKED[..20] && !concentrator.idle_below(0));
+    let mut writer = Taking::new(128);
+    let spent = asks(alloc, &mut concentrator, &[POLL_1], 3, &mut writer);
+    assert!(rt; matches!(&spent, Err(ServeFault::TurnsSpent)));
+    assert!(rt; !concentrator.idle_below(0));
+}
