@@ -104,3 +104,10 @@ mod ArrivingTakes
 mod Arriving
 mod ArrivingApart
 mod Opening
+mod PolledItems
+mod PolledLayout
+mod PolledOrder
+mod PolledNone
+mod PolledAnswer
+mod PolledConfirm
+mod PolledTaken

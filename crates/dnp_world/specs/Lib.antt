@@ -29,6 +29,7 @@ pub mod ReportShown
 pub mod Rounds
 pub mod Arriving
 pub mod Opening
+pub mod Polled
 pub mod Controls
 pub mod ControlSteps
 pub mod Happened

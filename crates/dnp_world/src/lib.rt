@@ -17,6 +17,7 @@ pub mod laws;
 mod link_event;
 mod listing;
 pub mod master_laws;
+pub mod movement_laws;
 mod new_substations;
 mod one_link;
 pub mod opening_laws;

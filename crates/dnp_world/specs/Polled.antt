@@ -1,0 +1,90 @@
+-- Definition: what a READ of classes 1, 2 and 3 is answered with first, and what becomes of it at both ends of a quiet link (IEEE Std
+-- 1815-2012, application layer: event classes, READ, responses, confirms).
+use Rattle.std.specs.Prelude.{◌≡◌, ℕ, Bool, true, false, ◌==◌, if◌then◌else◌, List, [], ◌∷◌, length, Some, None, Result, Ok}
+use Rattle.dnp_objects.specs.declared.row.Row.{Row}
+use Rattle.dnp_appfragment.specs.Fragments.{Answered, confirmation, request_octets}
+use Rattle.dnp_appfragment.specs.Meaning.{response_at}
+use Rattle.dnp_appfragment.specs.declared.function.Function.TheVariants as function
+use Rattle.dnp_eventbuf.specs.Stock.{Stock, without}
+use Rattle.dnp_master.specs.Calls.{Taking}
+use Rattle.dnp_master.specs.Requests.{request_for}
+use Rattle.dnp_master.specs.declared.fault.MasterFault.{MasterFault}
+use Rattle.dnp_outstation.specs.Items.{Item, lane_items}
+use Rattle.dnp_outstation.specs.Laws.{lane_numbers}
+use Rattle.dnp_outstation.specs.Layout.{headers_of}
+use Rattle.dnp_outstation.specs.Offer.{held_of, last_ids}
+use Rattle.dnp_outstation.specs.Said.{events_in}
+use Rattle.dnp_outstation.specs.State.{State, Step}
+use Rattle.dnp_outstation.specs.declared.session.Awaited.{Awaited}
+use Rattle.dnp_world.specs.Rounds.{events_polled}
+
+-- ---- what is polled
+
+-- the octets of the READ of this number
+abbrev pub poll_octets : ℕ → List ℕ
+poll_octets seq = request_octets (request_for seq events_polled)
+
+-- those of the confirm of a response of this number
+abbrev pub confirm_octets : ℕ → List ℕ
+confirm_octets seq = request_octets (confirmation seq false)
+
+-- all rows of the lanes, one lane after another
+abbrev pub polled_items : Stock → List Item
+polled_items lanes = lane_items lanes lane_numbers
+
+-- of those as many as fit into one fragment
+abbrev pub polled_held : Stock → List Item
+polled_held lanes = held_of (polled_items lanes)
+
+abbrev pub polled_rows : Stock → List Row
+polled_rows lanes = events_in (polled_held lanes)
+
+-- the last id in each lane among them, 0 where there is none
+abbrev pub polled_ids : Stock → List ℕ
+polled_ids lanes = last_ids (polled_held lanes)
+
+-- they are all that the lanes hold
+abbrev pub are_all_polled : Stock → Bool
+are_all_polled lanes = length (polled_held lanes) == length (polled_items lanes)
+
+-- ---- what the outstation makes of it
+
+-- the confirm of the fragment with this number and these ids is awaited
+pub record Awaits (seq : ℕ) (upto : List ℕ) (s : State) : Type 0 where
+  pub wait : Awaited
+  pub is : s.core.session.awaited ≡ Some wait
+  pub seq_is : wait.seq ≡ seq
+  pub upto_is : wait.upto ≡ upto
+
+-- The READ of this number is answered with those rows in one fragment, the last one where they are all rows. Nothing has left
+-- the lanes so far. Where there are rows the fragment's confirm is asked for and awaited.
+pub record Offers (seq : ℕ) (old : State) (step : Step) : Type 0 where
+  pub fragment : List ℕ
+  pub con : Bool
+  pub answered : Answered
+  pub sent : step.does.send ≡ fragment ∷ []
+  pub read : response_at fragment ≡ Ok answered
+  pub control : answered.control ≡ record { fir = true; fin = are_all_polled old.lanes; con = con; uns = false; seq = seq }
+  pub function : answered.function ≡ function.Response
+  pub headers : answered.headers ≡ headers_of (polled_held old.lanes)
+  pub discarded : step.does.discarded ≡ []
+  pub lanes : step.state.lanes ≡ old.lanes
+  pub performed : step.state.performed ≡ old.performed
+  pub is_open : step.state.core.is_open ≡ true
+  pub awaits : con ≡ true → Awaits seq (polled_ids old.lanes) step.state
+  pub none : con ≡ false → polled_rows old.lanes ≡ []
+
+-- That confirm takes just those rows out of the lanes, and nothing else is done.
+pub record Releases (old : State) (step : Step) : Type 0 where
+  pub lanes : step.state.lanes ≡ without old.lanes (polled_ids old.lanes)
+  pub discarded : step.does.discarded ≡ polled_rows old.lanes
+  pub performed : step.state.performed ≡ old.performed
+
+-- ---- what the master makes of it
+
+-- the fragment is taken: its rows go to the sink, and its confirm is sent where CON asks for that
+pub record Takes (seq : ℕ) (rows : List Row) (con : Bool) (answer : Result Taking MasterFault) : Type 0 where
+  pub taken : Taking
+  pub is : answer ≡ Ok taken
+  pub events : taken.events ≡ rows
+  pub confirm : taken.confirm ≡ (if con then Some (confirm_octets seq) else None)
