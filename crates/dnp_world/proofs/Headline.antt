@@ -113,6 +113,54 @@ nothing_invented laws indices links k b =
     (λ x there. journal_happened laws indices links k b x (contains_counts (pair_eq nat_eq row_eq x) journal x there (laws.itself x)))
     journal (All-contains_itself journal)
 
+-- ---- what stands in the queue
+
+-- a row of the queue was taken below too
+pub queue_happened : Laws → (indices : List Spans) (links : Links) (k : Kept) → IsBehind indices links k → (x : ℕ × Row)
+    → 0 < times x (rows_below indices k.queue) → 0 < times x (happened (shown_of indices k))
+queue_happened laws indices links k b x some =
+    let test : Row → Bool = λ row. passes (pair_eq nat_eq row_eq x) (row_below indices row) in
+    let came : List (ℕ × Row) = rows_below indices (rows_of links.above.stood) in
+    let all : List (ℕ × Row) = happened (shown_of indices k) in
+    let counted : (rows : List Row) → times x (rows_below indices rows) ≡ count_by test rows =
+    count_by-filter_map (pair_eq nat_eq row_eq x) (row_below indices) in
+    let above : 0 < count_by test (rows_of links.above.lanes) = omega (arith, some, counted k.queue, b.queue.same test) in
+    let stood : 0 < count_by test (rows_of links.above.stood) = omega (arith, above, stood_counts laws links.above b.above_stands test) in
+    let took : 0 < count_by (row_eq x.1) (rows_of (links.below x.0).took) =
+    omega (arith, stood, counted (rows_of links.above.stood), count_pair row_eq x came, (b.joined x.0).same (row_eq x.1)) in
+    let below : 0 < count_by (row_eq x.1) (rows_of (links.below x.0).stood) = took_stood laws (links.below x.0) (b.below_stands x.0) (row_eq x.1) took in
+    omega (arith, below, (happened_stood laws indices links k b x.0).same (row_eq x.1), count_pair row_eq x all)
+
+-- and each has a substation, as all rows that stood in the queue have
+pub queue_mapped : Laws → (indices : List Spans) (links : Links) (k : Kept) → IsBehind indices links k → length (rows_below indices k.queue) ≡ length k.queue
+queue_mapped laws indices links k b =
+    let l : Link = links.above in
+    let parts : (test : Row → Bool) → count_by test (rows_of l.stood) ≡ count_by test (rows_of l.lanes) + (count_by test
+    (rows_of l.released) + count_by test (rows_of l.left)) =
+    stood_counts laws l b.above_stands in
+    let mapped : Row → Bool = λ row. passes (λ _. true) (row_below indices row) in
+    let below : (rows : List Row) → length (rows_below indices rows) ≡ count_by mapped rows = λ rows.
+    sym (counted_all (rows_below indices rows)) ∙ count_by-filter_map (λ _. true) (row_below indices) rows in
+    omega (
+      arith,
+      b.mapped,
+      length-map l.stood buffered_row,
+      parts mapped,
+      parts (λ _. true),
+      below (rows_of l.stood),
+      below k.queue,
+      b.queue.same mapped,
+      b.queue.same (λ _. true),
+      counted_all (rows_of l.stood),
+      counted_all (rows_of l.left),
+      counted_all (rows_of l.released),
+      counted_all (rows_of l.lanes),
+      counted_all k.queue,
+      count_by-le-length mapped (rows_of l.lanes),
+      count_by-le-length mapped (rows_of l.released),
+      count_by-le-length mapped (rows_of l.left),
+    )
+
 -- ---- nothing vanishes
 
 -- the rows that ever stood in the queue are in it, or were dropped, or were released, and then taken above

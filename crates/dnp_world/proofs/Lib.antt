@@ -95,6 +95,8 @@ mod HappenedEvents
 mod PlannedPoints
 mod PlannedEvents
 mod PlannedRows
+mod PlannedMasters
+mod PlannedLanes
 mod Lasting
 mod ArrivingPorts
 mod ArrivingLines

@@ -1,9 +1,10 @@
 -- Definition: what happened at the substations of a system is of its plan: each row is of a point that the plan has there, with a
 -- class that has events, and can be written as an event (IEEE Std 1815-2012, application layer: event classes; object library: groups
 -- 2, 22 and 32).
-use Rattle.std.specs.Prelude.{◌≡◌, ℕ, true, All, IfSome, slice_get}
+use Rattle.std.specs.Prelude.{◌≡◌, ℕ, true, All, map, IfSome, slice_get}
 use Rattle.std.specs.Option.{IsSomeAnd}
-use Rattle.dnp_concentrator.specs.PointsAbove.{class_of, points_below}
+use Rattle.dnp_concentrator.specs.Plan.{KeepsLimits, map_of}
+use Rattle.dnp_concentrator.specs.PointsAbove.{class_of, points_above, points_below}
 use Rattle.dnp_concentrator.specs.declared.plan.Plan.{Plan}
 use Rattle.dnp_concentrator.specs.declared.plan.SubPlan.{SubPlan}
 use Rattle.dnp_master.specs.Rows.{is_reported}
@@ -14,6 +15,7 @@ use Rattle.dnp_pointdb.specs.Classes.{class_at}
 use Rattle.dnp_pointdb.specs.Database.{Database}
 use Rattle.dnp_world.specs.Kept.{report_of}
 use Rattle.dnp_world.specs.Reports.{happened}
+use Rattle.dnp_world.specs.SystemStanding.{points_asked}
 use Rattle.dnp_world.specs.Systems.{System}
 
 -- the points are those of the substation's plan, with its classes
@@ -33,3 +35,13 @@ IsPlanned plan x = IsEvent x.1 × IsSomeAnd (slice_get plan.substations x.0) (λ
 pub record HappenedAsPlanned (plan : Plan) (s : System) : Type 0 where
   pub points : HavePlannedPoints plan s
   pub rows : All (IsPlanned plan) (happened (report_of s))
+
+-- The system is of a plan: what happened is of it, all stations have its index map, and the masters have its points, those below of
+-- each substation and the centre's all of them.
+pub record IsAsPlanned (s : System) : Type 0 where
+  pub plan : Plan
+  pub limits : KeepsLimits plan
+  pub happened : HappenedAsPlanned plan s
+  pub indices : s.indices ≡ map_of plan
+  pub below : map points_asked s.concentrator.links ≡ map points_below plan.substations
+  pub above : points_asked s.centre.link ≡ points_above plan

@@ -9,6 +9,7 @@ use Rattle.dnp_world.specs.ControlsInStep.{InStep}
 use Rattle.dnp_world.specs.Happened.{HappenedAsEvents}
 use Rattle.dnp_world.specs.Joined.{rows_made_by}
 use Rattle.dnp_world.specs.Kept.{report_of}
+use Rattle.dnp_world.specs.Planned.{IsAsPlanned}
 use Rattle.dnp_world.specs.Reports.{IsFate}
 use Rattle.dnp_world.specs.SystemEvents.{Happens}
 use Rattle.dnp_world.specs.SystemStanding.{IsStanding}
@@ -17,10 +18,12 @@ use Rattle.dnp_world.specs.declared.event.Event.{Event}
 use Rattle.dnp_world.specs.declared.event.Event.TheVariants as event
 use Rattle.dnp_world.specs.declared.link_event.LinkEvent.TheVariants as link_event
 
--- Links of the law stand behind it, what happened at its substations can be reported, and its controls are in step with their books.
+-- Links of the law stand behind it, what happened at its substations can be reported, it is of a plan, and its controls are in step
+-- with their books.
 pub record IsSteady (s : System) : Type 0 where
   pub standing : IsStanding s
   pub happened : HappenedAsEvents s
+  pub planned : IsAsPlanned s
   pub controls : InStep s
 
 -- ---- what happens at the substations

@@ -20,6 +20,7 @@ ghost use Rattle.dnp_world.specs.Systems.{System};
 
 use crate::arrival_laws::what_comes_from_a_substation_keeps_what_stands;
 use crate::happened_laws::what_happened_can_be_reported;
+use crate::planned_laws::systems_stay_as_planned;
 use crate::relay_laws::{controls_stay_in_step, relaying_keeps_what_stands};
 use crate::standing_laws::{a_new_system_stands, what_comes_to_the_concentrator_keeps_what_stands};
 use crate::system_laws::{
@@ -45,6 +46,7 @@ pub fn every_event_keeps_a_system_steady()
     relaying_keeps_what_stands();
     what_happened_can_be_reported();
     controls_stay_in_step();
+    systems_stay_as_planned();
 }
 
 /// So do lists of events, also one that stops, and they make the rows of their readings; a new system over empty stores is steady; and
@@ -66,6 +68,7 @@ pub fn steady_systems_stay_steady()
     a_new_system_stands();
     what_happened_can_be_reported();
     controls_stay_in_step();
+    systems_stay_as_planned();
     what_stands_is_shown();
 }
 

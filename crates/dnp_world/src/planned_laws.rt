@@ -1,25 +1,29 @@
 //! Laws of what the plan of a system says of its substations. Each function does nothing, and its contract is a law.
 
-ghost use Rattle.std.specs.Prelude.{ℕ, [], ◌∷◌};
+ghost use Rattle.std.specs.Prelude.{◌≡◌, ◌<◌, ℕ, All, Some, true, [], ◌∷◌, length, slice_get};
 ghost use Rattle.dnp_concentrator.specs.Plan.{KeepsLimits};
 ghost use Rattle.dnp_concentrator.specs.declared.plan.Plan.{Plan};
 ghost use Rattle.dnp_controls.specs.Book.{Ledger};
 ghost use Rattle.dnp_eventbuf.specs.Archive.{Archive};
-ghost use Rattle.dnp_eventbuf.specs.Stock.{Stock};
+ghost use Rattle.dnp_eventbuf.specs.Stock.{Stock, rows_in};
+ghost use Rattle.dnp_master.specs.Rows.{is_reported};
 ghost use Rattle.dnp_objects.specs.declared.row.Kind.{Kind};
 ghost use Rattle.dnp_pointdb.specs.declared.reading.Reading.{Reading};
 ghost use Rattle.dnp_world.specs.declared.event.Event.{Event};
+ghost use Rattle.dnp_world.specs.declared.event.Event.TheVariants as happening;
 ghost use Rattle.dnp_world.specs.declared.link_event.LinkEvent.TheVariants as event;
 ghost use Rattle.dnp_world.specs.FreshSystems.{fresh_system};
 ghost use Rattle.dnp_world.specs.Happened.{HappenedAsEvents};
 ghost use Rattle.dnp_world.specs.Joined.{rows_made_by};
-ghost use Rattle.dnp_world.specs.Planned.{HappenedAsPlanned, HavePlannedPoints};
+ghost use Rattle.dnp_world.specs.Planned.{HappenedAsPlanned, HavePlannedPoints, IsAsPlanned};
 ghost use Rattle.dnp_world.specs.SystemEvents.{Happens, Reads};
-ghost use Rattle.dnp_world.specs.SystemStanding.{Keeps};
-ghost use Rattle.dnp_world.specs.Systems.{System};
+ghost use Rattle.dnp_world.specs.SystemStanding.{IsStanding, Keeps};
+ghost use Rattle.dnp_world.specs.Systems.{SubstationState, System, link_at};
 
-use dnp_objects::Row;
-use dnp_objects::laws::equality_is_decided;
+use crate::laws::link_law;
+use dnp_concentrator::laws::{each_direction_undoes_the_other, no_event_is_passed_over};
+use dnp_objects::laws::{covered_is_by_counts, equality_is_decided};
+use dnp_objects::{Command, Row};
 use dnp_outstation::link_laws::content_leaves_the_connection_alone;
 use dnp_pointdb::laws::{
     a_change_is_of_one_point, a_change_makes_what_its_lane_takes, points_are_those_of_the_plan,
@@ -52,4 +56,36 @@ pub fn what_happens_is_of_the_plan()
     equality_is_decided::<u64, Row>();
     a_change_makes_what_its_lane_takes();
     points_are_those_of_the_plan();
+}
+
+/// Systems stay of their plan: a new one is of the plan that it is made of, and whatever happens, masters keep their points and the
+/// system its index map.
+pub fn systems_stay_as_planned()
+    ensures at_first { (plan : Plan) (queue : Stock) (journal : Archive) (controls orders : Ledger) → KeepsLimits plan
+        → IsAsPlanned (fresh_system plan queue journal controls orders) }
+    ensures kept { (old new : System) (station : ℕ) (event : Event) → IsAsPlanned old → Happens old event new
+        → Keeps station [] old new → IsAsPlanned new }
+    ensures read { (old new : System) (station : ℕ) (kind : Kind) (index : ℕ) (reading : Reading) → IsAsPlanned old
+        → Happens old (happening.Change station kind index reading) new → (reads : Reads station kind index reading old new)
+        → Keeps station (rows_made_by reads.was.core.points (event.Change kind index reading ∷ [])) old new → IsAsPlanned new }
+{
+    what_happens_is_of_the_plan();
+}
+
+/// Each row in the lanes of a substation, and in the queue, is of a point that the master at the other end asks for, with a class that
+/// has events: so that master takes it.
+pub fn rows_in_lanes_are_asked_for()
+    ensures below { (s : System) (station : ℕ) (was : SubstationState) → IsAsPlanned s → station < length s.concentrator.links
+        → slice_get s.substations station ≡ Some was
+        → All (λ row. is_reported (link_at s.concentrator station).master.plan row ≡ true) (rows_in was.lanes) }
+    ensures above { (s : System) → IsStanding s → IsAsPlanned s
+        → All (λ row. is_reported s.centre.link.master.plan row ≡ true) (rows_in s.concentrator.queue) }
+{
+    link_law();
+    equality_is_decided::<u64, Row>();
+    equality_is_decided::<u64, Command>();
+    covered_is_by_counts::<(u64, Row)>();
+    covered_is_by_counts::<(u64, Command)>();
+    each_direction_undoes_the_other();
+    no_event_is_passed_over();
 }

@@ -1,0 +1,42 @@
+-- What happened by the law before, and the masters and the index map by the events.
+use Rattle.std.proofs.Common.{◌≡◌, List, refl, sym, ap, ◌∙◌}
+use Rattle.dnp_concentrator.specs.Below.{new_link}
+use Rattle.dnp_concentrator.specs.PointsAbove.{points_below}
+use Rattle.dnp_concentrator.specs.declared.plan.SubPlan.{SubPlan}
+use Rattle.dnp_pointdb.specs.declared.times.Times.{Times}
+use Rattle.dnp_world.specs.Planned.{HappenedAsPlanned, IsAsPlanned}
+use Rattle.dnp_world.specs.SystemStanding.{points_asked}
+use Rattle.dnp_world.specs.Systems.{System}
+use Rattle.dnp_world.specs.declared.event.Event.TheVariants as event
+use Rattle.dnp_world.proofs.PlannedMasters.{Asked, KeepAsked, asked_at_first, event_keeps}
+use Rattle.dnp_world.proofs.planned_laws.systems_stay_as_planned.Goals as goal
+
+goes_on : (old new : System) (h : IsAsPlanned old) → KeepAsked old new → HappenedAsPlanned h.plan new → IsAsPlanned new
+goes_on old new h keeps happened = record {
+  plan = h.plan;
+  limits = h.limits;
+  happened = happened;
+  indices = ap (λ (a : Asked). a.indices) keeps ∙ h.indices;
+  below = ap (λ (a : Asked). a.below) keeps ∙ h.below;
+  above = ap (λ (a : Asked). a.above) keeps ∙ h.above;
+}
+
+pub returns-clause-at_first : goal.returns-clause-at_first
+returns-clause-at_first c plan queue journal controls orders limits = record {
+  plan = plan;
+  limits = limits;
+  happened = c.what_happens_is_of_the_plan.ensures.at_first plan queue journal controls orders limits;
+  indices = refl;
+  below = asked_at_first plan.times plan.substations;
+  above = refl;
+}
+
+pub returns-clause-kept : goal.returns-clause-kept
+returns-clause-kept c old new station event h happens keeps =
+    goes_on old new h (event_keeps old new event happens)
+    (c.what_happens_is_of_the_plan.ensures.kept h.plan old new station event h.happened happens keeps)
+
+pub returns-clause-read : goal.returns-clause-read
+returns-clause-read c old new station kind index reading h happens reads keeps =
+    goes_on old new h (event_keeps old new (event.Change station kind index reading) happens)
+    (c.what_happens_is_of_the_plan.ensures.read h.plan old new station kind index reading h.happened reads keeps)
