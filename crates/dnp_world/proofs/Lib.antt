@@ -113,3 +113,7 @@ mod PolledNone
 mod PolledAnswer
 mod PolledConfirm
 mod PolledTaken
+mod RoundSteps
+mod RoundBelow
+mod RoundAbove
+mod RoundMoves

@@ -27,9 +27,10 @@ pub mod FreshSystems
 pub mod NewSystems
 pub mod ReportShown
 pub mod Rounds
+pub mod Polled
+pub mod Movement
 pub mod Arriving
 pub mod Opening
-pub mod Polled
 pub mod Controls
 pub mod ControlSteps
 pub mod Happened

@@ -12,12 +12,19 @@ ghost use Rattle.dnp_outstation.specs.Content.{source_of};
 ghost use Rattle.dnp_outstation.specs.Said.{AreWritable, HaveIndexes};
 ghost use Rattle.dnp_outstation.specs.State.{State, Step, is_quiet};
 ghost use Rattle.dnp_world.specs.Polled.{Awaits, Offers, Releases, Takes, confirm_octets, poll_octets, polled_ids, polled_rows};
-ghost use Rattle.dnp_world.specs.Rounds.{events_polled};
+ghost use Rattle.dnp_world.specs.declared.event.Link.{Link};
+ghost use Rattle.dnp_world.specs.Movement.{RoundMoves};
+ghost use Rattle.dnp_world.specs.Rounds.{IsRound, events_polled, is_quiet_on};
+ghost use Rattle.dnp_world.specs.Steady.{IsSteady};
+ghost use Rattle.dnp_world.specs.Systems.{System};
 
+use crate::arriving_laws::what_is_sent_arrives;
+use crate::planned_laws::rows_in_lanes_are_asked_for;
 use dnp_appfragment::laws::what_is_spelled_is_said;
 use dnp_outstation::laws::{a_release_takes_what_the_octets_said, octets_say_what_is_held};
 use dnp_outstation::link_laws::{
     a_confirm_releases_what_its_fragment_reported, commands_are_performed_as_they_are_asked,
+    what_is_sound_can_be_written,
 };
 
 /// A quiet outstation answers a READ of classes 1, 2 and 3 that isn't its last request with the first rows of its lanes, one
@@ -44,4 +51,16 @@ pub fn a_master_takes_what_it_polled()
         → Takes m.seq (polled_rows s.lanes) offer.con (receive_of (asked m before events_polled) now offer.fragment) }
 {
     octets_say_what_is_held();
+}
+
+/// What a clean round over a quiet link moves: the first rows of the lanes below, as many as fit into a fragment, leave them and
+/// come to the end above, in their order, and no others do.
+pub fn a_clean_round_moves_rows()
+    ensures { (on : Link) (old new : System) → IsSteady old → is_quiet_on old on ≡ true → IsRound on old new → RoundMoves on old new }
+{
+    a_quiet_outstation_offers_its_events();
+    a_master_takes_what_it_polled();
+    what_is_sound_can_be_written();
+    what_is_sent_arrives();
+    rows_in_lanes_are_asked_for();
 }
