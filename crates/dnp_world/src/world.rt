@@ -6,6 +6,7 @@ ghost use Rattle.dnp_concentrator.specs.Plan.{KeepsLimits, map_of};
 ghost use Rattle.dnp_eventbuf.specs.Stock.{lost_in};
 ghost use Rattle.dnp_world.specs.FreshSystems.{fresh_system};
 ghost use Rattle.dnp_world.specs.Kept.{report_of};
+ghost use Rattle.dnp_world.specs.Movement.{RoundMoves};
 ghost use Rattle.dnp_world.specs.NewSystems.{AreEmpty};
 ghost use Rattle.dnp_world.specs.Opening.{OpensQuiet};
 ghost use Rattle.dnp_world.specs.ReportShown.{Shows, lists_of};
@@ -23,6 +24,7 @@ use crate::event::{Event, Link};
 use crate::headline_laws::{rounds_and_controls_keep_a_system_steady, steady_systems_stay_steady};
 use crate::history::History;
 use crate::link_event::Way;
+use crate::movement_laws::a_clean_round_moves_rows;
 use crate::new_substations::new_substations;
 use crate::opening_laws::an_opened_link_is_quiet;
 use crate::parts::Parts;
@@ -156,6 +158,9 @@ impl<Q: Lanes, J: JournalStore, A: Book, B: Book> World<Q, J, A, B> {
     /// A clean round over a quiet link: events of classes 1, 2 and 3 are polled, and what comes of it is delivered, down
     /// the line, up, and down again.
     ///
+    /// So the first rows of the lanes below, as many as fit into one fragment, leave them and come to the end above: from a
+    /// substation into the queue, and from there into the journal.
+    ///
     /// Refused is a link that isn't quiet (`NotQuiet`): one outside the plan, or one of whose ends is closed, or awaits an
     /// answer, or whose lines carry anything or are broken. Where an event stops (`Fault`), those before it happened.
     pub fn clean_round(&mut self, alloc: Global, on: Link) -> Result<(), RoundFault>
@@ -164,11 +169,13 @@ impl<Q: Lanes, J: JournalStore, A: Book, B: Book> World<Q, J, A, B> {
         ensures unchanged { result ≡ Err RoundFault.NotQuiet → self.new ≡ self.old }
         ensures done { StoresAreWell Q.honest J.honest A.honest A.is_stopped B.honest B.is_stopped self.new.stores → OnOk result (IsRound on self.old.system self.new.system) }
         ensures stopped { StoresAreWell Q.honest J.honest A.honest A.is_stopped B.honest B.is_stopped self.new.stores → IfErr result (λ fault. fault ≢ RoundFault.NotQuiet → StopsIn (IsOfRound on) self.old.system self.new.system) }
+        ensures moves { StoresAreWell Q.honest J.honest A.honest A.is_stopped B.honest B.is_stopped self.new.stores → OnOk result ∥ RoundMoves on self.old.system self.new.system ∥₁ }
         ensures fate { StoresAreWell Q.honest J.honest A.honest A.is_stopped B.honest B.is_stopped self.new.stores → IsFate (λ i. []) (report_of self.old.system) (report_of self.new.system) }
         ensures holds { StoresAreWell Q.honest J.honest A.honest A.is_stopped B.honest B.is_stopped self.new.stores → Holds (report_of self.new.system) }
     {
         steady_systems_stay_steady();
         rounds_and_controls_keep_a_system_steady();
+        a_clean_round_moves_rows();
         self.parts.clean_round(alloc, on)
     }
 

@@ -1,6 +1,15 @@
--- What is left is steady, whatever the round ends with, and no row was made.
-use Rattle.std.proofs.Common.{[], ap}
+-- What is left is steady, whatever the round ends with, and no row was made; the polled rows have moved.
+use Rattle.std.proofs.Common.{◌≡◌, ◌↔◌, Bool, true, false, [], Result, Ok, Err, refl, ap}
+use Rattle.std.proofs.Math.Logic.{∥∥₁_map}
+use Rattle.std.specs.Prelude.{OnOk, ⊤}
+use Rattle.dnp_world.specs.Movement.{RoundMoves}
+use Rattle.dnp_world.specs.Rounds.{IsRound, is_quiet_on}
+use Rattle.dnp_world.specs.Steady.{IsSteady}
 use Rattle.dnp_world.specs.SystemParts.{system_of}
+use Rattle.dnp_world.specs.Systems.{System}
+use Rattle.dnp_world.specs.declared.event.Link.{Link}
+use Rattle.dnp_world.specs.declared.round_fault.RoundFault.{RoundFault}
+use Rattle.dnp_world.specs.declared.round_fault.RoundFault.TheVariants.{NotQuiet}
 use Rattle.dnp_world.proofs.Lasting.{calm_round, fate_of, steady_of}
 use Rattle.dnp_world.proofs.world.World.clean_round.Goals as goal
 
@@ -28,6 +37,27 @@ returns-clause-fate g c = λ well.
     (λ s. calm_round on old new c.clean_round.result (λ round. keeps.round on old new s round) (λ stop. keeps.round_stopped on old new s stop)
     (λ same. keeps.rests old new s same) (c.clean_round.ensures.done well) (c.clean_round.ensures.stopped well)
     (λ is. ap system (c.clean_round.ensures.unchanged is))))
+
+-- where it is done the link was quiet
+moves_so : (on : Link) (old new : System) (result : Result ⊤ RoundFault) → ((result ≡ Err NotQuiet) ↔ (is_quiet_on old on ≡ false))
+    → ∥ IsSteady old ∥₁ → (IsSteady old → is_quiet_on old on ≡ true → IsRound on old new → RoundMoves on old new)
+    → OnOk result (IsRound on old new) → OnOk result ∥ RoundMoves on old new ∥₁
+moves_so on old new (Ok x) not_quiet some moves round = by (is_quiet_on old on) refl
+  where
+    by : (b : Bool) → is_quiet_on old on ≡ b → ∥ RoundMoves on old new ∥₁
+    by true quiet = ∥∥₁_map some (λ s. moves s quiet round)
+    by false quiet = absurd (let e : Ok x ≡ Err NotQuiet = not_quiet.1 quiet in cc)
+moves_so on old new (Err fault) not_quiet some moves round = tt
+
+pub returns-clause-moves : goal.returns-clause-moves
+returns-clause-moves g c = λ well.
+    let system = system_of g.Q.Lanes.contents g.J.JournalStore.archive g.A.Book.contents g.B.Book.contents in
+    let on = c.args.on in
+    let old = system c.self.inside.parts in
+    let new = system c.clean_round.new.self in
+    rw (← c.self.view_is)
+    (moves_so on old new c.clean_round.result c.clean_round.ensures.not_quiet (c.self.invariant (c.clean_round.ensures.held well))
+    (λ s. c.a_clean_round_moves_rows.ensures on old new s) (c.clean_round.ensures.done well))
 
 pub returns-clause-holds : goal.returns-clause-holds
 returns-clause-holds g c = λ well.
