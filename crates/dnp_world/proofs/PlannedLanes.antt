@@ -1,5 +1,5 @@
 -- Each row in the lanes of a system is of a point that the master at the other end asks for, with a class.
-use Rattle.std.proofs.Common.{◌≡◌, ℕ, zero, suc, ◌<◌, ◌≤◌, Bool, true, false, List, [], ◌∷◌, ◌++◌, length, Option, Some, None, refl, sym, ap, ◌∙◌, subst, arith, rules}
+use Rattle.std.proofs.Common.{◌≡◌, ℕ, zero, suc, ◌<◌, ◌≤◌, true, false, List, [], ◌∷◌, ◌++◌, length, Option, Some, None, refl, sym, ap, ◌∙◌, subst, arith, rules}
 use Rattle.std.specs.Prelude.{filter_map, nat_eq, nat_lt, slice_get}
 use Rattle.std.specs.List.{All}
 use Rattle.std.specs.Option.{IsSome, IsSomeAnd, option_and_then, option_map, option_map_or}
@@ -12,7 +12,7 @@ use Rattle.dnp_concentrator.specs.IndexKinds.{kind_of_points}
 use Rattle.dnp_concentrator.specs.IndexMap.{IsMap, index_above, index_below}
 use Rattle.dnp_concentrator.specs.Mapped.{lane_row, queued_row, row_below}
 use Rattle.dnp_concentrator.specs.Plan.{KeepsLimits, map_of}
-use Rattle.dnp_concentrator.specs.PointsAbove.{HasClassesOf, class_of, points_above, points_below}
+use Rattle.dnp_concentrator.specs.PointsAbove.{HasClassesOf, points_above, points_below}
 use Rattle.dnp_concentrator.specs.declared.index_kind.IndexKind.{IndexKind}
 use Rattle.dnp_concentrator.specs.declared.plan.Plan.{Plan}
 use Rattle.dnp_concentrator.specs.declared.plan.SubPlan.{SubPlan}
@@ -24,7 +24,6 @@ use Rattle.dnp_objects.specs.declared.lane.Lane.{Lane}
 use Rattle.dnp_objects.specs.declared.lane.LaneRow.{LaneRow}
 use Rattle.dnp_objects.specs.declared.row.Row.{Row}
 use Rattle.dnp_eventbuf.specs.Stock.{rows_in}
-use Rattle.dnp_pointdb.specs.Classes.{class_at}
 use Rattle.dnp_pointdb.specs.Database.{Database, new_database, state_at}
 use Rattle.dnp_pointdb.specs.Events.{lane_of}
 use Rattle.dnp_pointdb.specs.Plan as points
@@ -32,8 +31,8 @@ use Rattle.dnp_pointdb.specs.declared.state.PointState.{PointState}
 use Rattle.dnp_world.specs.Kept.{kept_in, lane_rows_of, report_of, rows_below}
 use Rattle.dnp_world.specs.Planned.{HappenedAsPlanned, IsAsPlanned, IsPlanned}
 use Rattle.dnp_world.specs.Reports.{happened}
-use Rattle.dnp_world.specs.Stations.{listed_from, of_station}
-use Rattle.dnp_world.specs.SystemStanding.{IsStanding, points_asked}
+use Rattle.dnp_world.specs.Stations.{listed_from}
+use Rattle.dnp_world.specs.SystemStanding.{IsStanding}
 use Rattle.dnp_world.specs.Systems.{SubstationState, System, link_at}
 use Rattle.dnp_world.proofs.HappenedRows.{all_at, all_counted}
 use Rattle.dnp_world.proofs.Headline.{Laws, queue_happened, queue_mapped}

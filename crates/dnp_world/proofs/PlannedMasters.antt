@@ -1,6 +1,6 @@
 -- Each event of a system leaves its masters their plans, and the system its index map.
 use Rattle.std.proofs.Common.{◌≡◌, ℕ, zero, suc, if◌then◌else◌, Bool, true, false, List, [], ◌∷◌, map, Option, Some, None, Result, Ok, Err, IfOk, refl, ap, ◌∙◌}
-use Rattle.std.specs.Prelude.{option_to_list, slice_get, slice_set}
+use Rattle.std.specs.Prelude.{option_to_list, slice_set}
 use Rattle.dnp_concentrator.specs.Below.{link_in, new_link}
 use Rattle.dnp_concentrator.specs.Mapped.{command_above}
 use Rattle.dnp_concentrator.specs.PointsAbove.{points_below}
@@ -19,14 +19,13 @@ use Rattle.dnp_master.specs.declared.task.Task.TheVariants.{Operate, Select}
 use Rattle.dnp_objects.specs.declared.command.Command.{Command}
 use Rattle.dnp_objects.specs.declared.lane.LaneRow.{LaneRow}
 use Rattle.dnp_objects.specs.declared.row.Kind.{Kind}
-use Rattle.dnp_outstation.specs.State.{Step}
 use Rattle.dnp_pointdb.specs.Database.{answer_of}
 use Rattle.dnp_pointdb.specs.Plan as points
 use Rattle.dnp_pointdb.specs.declared.fault.ChangeFault.{ChangeFault}
 use Rattle.dnp_pointdb.specs.declared.reading.Reading.{Reading}
 use Rattle.dnp_world.specs.Channels.{ChannelState, DamagesAt, GoDown, lost_at}
 use Rattle.dnp_world.specs.OneLinkEvents.{is_own}
-use Rattle.dnp_world.specs.SystemEvents.{AsksOn, ChangesAt, ComesDownBelow, ComesOn, ComesUp, Happens, HangsUpOn, IfThere, IssuesBy, LinesChange, LosesOn, MasterReceives, MasterTakes, MasterTicks, MiddleAnswers, MiddleSteps, OpensOn, OutstationTicks, Reads, ReadsBy, Refuses, RelaysOn, Steps, SubstationRestarts, concentrator_restarted, relaying_at, step_on, taken_on, told, with_centre_link, with_link, with_lost, with_relaying, with_substation}
+use Rattle.dnp_world.specs.SystemEvents.{AsksOn, ChangesAt, ComesOn, ComesUp, Happens, HangsUpOn, IfThere, IssuesBy, LinesChange, LosesOn, MasterReceives, MasterTakes, MasterTicks, MiddleAnswers, OpensOn, OutstationTicks, Reads, ReadsBy, Refuses, RelaysOn, Steps, SubstationRestarts, relaying_at, step_on, taken_on, told, with_link, with_lost, with_relaying, with_substation}
 use Rattle.dnp_world.specs.SystemStanding.{points_asked}
 use Rattle.dnp_world.specs.Systems.{SubstationState, System, has_link, has_station, link_at}
 use Rattle.dnp_world.specs.declared.event.Event.{Event}
@@ -183,7 +182,9 @@ relays_keep on old new (Refuses refused same) = ap asked_in same
 
 master_ticks_keep : (on : Link) (old new : System) → MasterTicks on old new → KeepAsked old new
 master_ticks_keep (Below station) old new after =
-    by _ after ∙ relaying_set (Below station) (relaying.ticked (link_at old.concentrator station) old.now) old (ticked_keeps (link_at old.concentrator station) old.now)
+    by _ after
+    ∙ relaying_set (Below station) (relaying.ticked (link_at old.concentrator station) old.now) old
+    (ticked_keeps (link_at old.concentrator station) old.now)
   where
     ticked : System
     ticked = with_link old station (relaying.ticked (link_at old.concentrator station) old.now)
@@ -191,7 +192,8 @@ master_ticks_keep (Below station) old new after =
     by : (b : Bool) → new ≡ (if b then with_lost ticked station else ticked) → asked_in new ≡ asked_in ticked
     by true is = ap asked_in is
     by false is = ap asked_in is
-master_ticks_keep Above old new after = ap asked_in after ∙ relaying_set Above (relaying.ticked old.centre.link old.now) old (ticked_keeps old.centre.link old.now)
+master_ticks_keep Above old new after =
+    ap asked_in after ∙ relaying_set Above (relaying.ticked old.centre.link old.now) old (ticked_keeps old.centre.link old.now)
 
 ticks_keep : (on : Link) (old new : System) → OutstationTicks on old new → KeepAsked old new
 ticks_keep (Below station) old new c = change_keeps station _ _ old new (λ was is s. refl) c

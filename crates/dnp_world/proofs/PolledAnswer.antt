@@ -163,6 +163,12 @@ module _ (laws : OfferLaws) (s : State) (o : Panel) (now seq : ℕ) (low : seq <
           and_right (true && rest) (has_enabled_rows (answer_of s o now seq).state)
           (none_enabled s.lanes (enabled_lanes 0 s.core.enabled) (lanes_are_empty s.lanes sound none.0 none.1))
 
+  abbrev control_with : Bool → Bool → ControlBits
+  control_with con fin = record { fir = true; fin = fin; con = con; uns = false; seq = seq }
+
+  abbrev waits : Awaited
+  waits = record { seq = seq; upto = (content_for s o).upto; ends = deadline now s.core.times.confirm_ms }
+
   said : Answered
   said = record {
     control = control_for true seq (content_for s o);
@@ -179,7 +185,7 @@ module _ (laws : OfferLaws) (s : State) (o : Panel) (now seq : ℕ) (low : seq <
     answered = said;
     sent = refl;
     read = laws.is_answer said (source_of s o) (last_in s.lanes) first_place (headers_for events_polled) refl low refl sound writable;
-    control = ap (λ (fin : Bool). let k : ControlBits = record { fir = true; fin = fin; con = asks_confirm (content_for s o); uns = false; seq = seq } in k) found.last;
+    control = ap (control_with (asks_confirm (content_for s o))) found.last;
     function = refl;
     headers = found.headers;
     discarded = refl;
@@ -187,8 +193,8 @@ module _ (laws : OfferLaws) (s : State) (o : Panel) (now seq : ℕ) (low : seq <
     performed = refl;
     is_open = quiet.is_open;
     awaits = λ con. record {
-      wait = record { seq = seq; upto = (content_for s o).upto; ends = deadline now s.core.times.confirm_ms };
-      is = ap (λ (b : Bool). if b then Some (let w : Awaited = record { seq = seq; upto = (content_for s o).upto; ends = deadline now s.core.times.confirm_ms } in w) else None) con;
+      wait = waits;
+      is = ap (λ (b : Bool). if b then Some waits else None) con;
       seq_is = refl;
       upto_is = found.upto;
     };

@@ -43,7 +43,8 @@ confirms : (s : State) (seq : ℕ) (upto : List ℕ) → seq < 16 → s.core.is_
 confirms s seq upto low opens awaits =
     let c : Core = s.core in
     let octets : List ℕ = confirm_octets seq in
-    let by_number : ControlBits → Case = λ k. if is_number (awaited_number c.session k.uns) k.seq then if k.uns then ConfirmsUnsolicited else Confirms else Stray in
+    let by_number : ControlBits → Case = λ k.
+    if is_number (awaited_number c.session k.uns) k.seq then if k.uns then ConfirmsUnsolicited else Confirms else Stray in
     ap (λ (b : Bool). if not b then PassedOver else by_number (control_in octets)) (looked_at c seq low opens)
     ∙ ap by_number (control_is seq low)
     ∙ ap (λ (o : Option Awaited). if is_number (option_map (λ w. w.seq) o) seq then Confirms else Stray) awaits.is

@@ -52,7 +52,8 @@ abbrev of_three : (ℕ → ℕ) → ℕ → ℕ
 of_three last from = max (last from) (max (last (from + 1)) (last (from + 2)))
 
 of_nine : (last : ℕ → ℕ) (lane : ℕ) → lane < 9 → last lane ≤ max (of_three last 0) (max (of_three last 3) (of_three last 6))
-of_nine last zero low = at_left (of_three last 0) (max (of_three last 3) (of_three last 6)) (last 0) (at_left (last 0) (max (last 1) (last 2)) (last 0) (same_last (last 0)))
+of_nine last zero low =
+    at_left (of_three last 0) (max (of_three last 3) (of_three last 6)) (last 0) (at_left (last 0) (max (last 1) (last 2)) (last 0) (same_last (last 0)))
 of_nine last (suc zero) low =
     at_left (of_three last 0) (max (of_three last 3) (of_three last 6)) (last 1) (in_three (last 0) (last 1) (last 2) (last 1) (same_last (last 1)))
 of_nine last (suc (suc zero)) low =

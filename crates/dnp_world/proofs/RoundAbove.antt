@@ -1,5 +1,5 @@
 -- A clean round over the link between concentrator and centre.
-use Rattle.std.proofs.Common.{◌≡◌, ℕ, ◌<◌, Bool, true, false, if◌then◌else◌, ◌&&◌, List, [], ◌∷◌, ◌++◌, Option, Some, None, Result, Ok, refl, sym, ap, ◌∙◌, subst}
+use Rattle.std.proofs.Common.{◌≡◌, ℕ, ◌<◌, Bool, true, false, if◌then◌else◌, ◌&&◌, List, [], ◌∷◌, Some, None, Result, Ok, refl, sym, ap, ◌∙◌, subst}
 use Rattle.std.specs.Prelude.{option_to_list}
 use Rattle.std.specs.List.{All}
 use Rattle.std.proofs.lemmas.Bool.{and_parts}
@@ -13,21 +13,19 @@ use Rattle.dnp_master.specs.Calls.{Taking, asked, receive_of}
 use Rattle.dnp_master.specs.Rows.{is_reported}
 use Rattle.dnp_master.specs.State as master
 use Rattle.dnp_master.specs.declared.fault.MasterFault.{MasterFault}
-use Rattle.dnp_objects.specs.declared.command.Command.{Command}
 use Rattle.dnp_objects.specs.declared.row.Row.{Row}
 use Rattle.dnp_outstation.specs.Calls.{connection_after, performed_in}
 use Rattle.dnp_outstation.specs.Connection.{is_last_request}
 use Rattle.dnp_outstation.specs.Content.{source_of}
 use Rattle.dnp_outstation.specs.Said.{AreWritable, HaveIndexes}
-use Rattle.dnp_outstation.specs.State.{State, Step, is_quiet}
-use Rattle.dnp_world.specs.Arriving.{Arrive, Arrives, HearsAt, IsClearOn, UnderWay, confirms_of}
+use Rattle.dnp_outstation.specs.State.{Step, is_quiet}
+use Rattle.dnp_world.specs.Arriving.{Arrives, HearsAt, IsClearOn, UnderWay, confirms_of}
 use Rattle.dnp_world.specs.Channels.{ChannelState, GoDown, are_quiet}
 use Rattle.dnp_world.specs.Movement.{Leave, MovesAbove, Released, Rested}
 use Rattle.dnp_world.specs.Polled.{Awaits, Offers, Releases, Takes, confirm_octets, poll_octets, polled_ids, polled_rows}
 use Rattle.dnp_world.specs.Rounds.{IsRound, events_polled, is_quiet_on}
 use Rattle.dnp_world.specs.SystemEvents.{LinesChange, MasterReceives, MiddleAnswers, SendsDown, centre_taken, relaying_at, taken_above, with_centre_link}
 use Rattle.dnp_world.specs.Systems.{CentreState, ConcentratorState, System, middle_of, middle_panel}
-use Rattle.dnp_world.specs.declared.event.Link.{Link}
 use Rattle.dnp_world.specs.declared.event.Link.TheVariants.{Above}
 use Rattle.dnp_world.specs.declared.link_event.Way.TheVariants.{Down, Up}
 use Rattle.dnp_world.proofs.PolledOrder.{released_is}

@@ -1,5 +1,5 @@
 -- A clean round over the link to a substation.
-use Rattle.std.proofs.Common.{◌≡◌, ℕ, ◌<◌, ◌≤◌, ◌^◌, Bool, true, false, if◌then◌else◌, ◌&&◌, List, [], ◌∷◌, ◌++◌, length, append-nil, Option, Some, None, Result, Ok, Err, IfSome, refl, sym, ap, ◌∙◌, subst, arith}
+use Rattle.std.proofs.Common.{◌≡◌, ℕ, ◌<◌, ◌≤◌, ◌^◌, Bool, true, false, if◌then◌else◌, ◌&&◌, List, [], ◌∷◌, ◌++◌, length, append-nil, Some, None, Result, Ok, refl, sym, ap, ◌∙◌, subst}
 use Rattle.std.specs.Prelude.{nat_lt, option_map, option_to_list, slice_get, slice_set}
 use Rattle.std.specs.List.{All}
 use Rattle.std.proofs.lemmas.Bool.{and_parts, ltb-true}
@@ -7,7 +7,7 @@ use Rattle.dnp_concentrator.specs.Relaying as relaying
 use Rattle.dnp_concentrator.specs.Relaying.{Relaying}
 use Rattle.dnp_controls.specs.Panel.{Panel}
 use Rattle.dnp_eventbuf.specs.Sound.{IsSound}
-use Rattle.dnp_eventbuf.specs.Stock.{Stock, all_up_to, dropped_by, with_rows, without}
+use Rattle.dnp_eventbuf.specs.Stock.{Stock, dropped_by, with_rows, without}
 use Rattle.dnp_master.specs.Calls.{Taking, ask_answer, asked, receive_of}
 use Rattle.dnp_master.specs.Rows.{is_reported}
 use Rattle.dnp_master.specs.State as master
@@ -21,15 +21,15 @@ use Rattle.dnp_outstation.specs.Said.{AreWritable, HaveIndexes}
 use Rattle.dnp_outstation.specs.State.{State, Step, is_quiet}
 use Rattle.dnp_pointdb.specs.Sound as points
 use Rattle.dnp_world.specs.Arriving.{Arrive, Arrives, IsClearOn, UnderWay, confirms_of}
-use Rattle.dnp_world.specs.Channels.{ChannelState, GoDown}
-use Rattle.dnp_world.specs.Movement.{Leave, MovesBelow, Released, Rested, is_repeated_at, rows_queued}
+use Rattle.dnp_world.specs.Channels.{GoDown}
+use Rattle.dnp_world.specs.Movement.{Leave, MovesBelow, Released, Rested, rows_queued}
 use Rattle.dnp_world.specs.Polled.{Awaits, Offers, Releases, Takes, confirm_octets, poll_octets, polled_ids, polled_rows}
 use Rattle.dnp_world.specs.Rounds.{Flushes, IsRound, events_polled, is_quiet_at, is_quiet_on}
-use Rattle.dnp_world.specs.SystemEvents.{LinesChange, MasterReceives, SendsDown, concentrator_taken, dropped_for, relaying_at, taken_below, with_link}
+use Rattle.dnp_world.specs.SystemEvents.{MasterReceives, SendsDown, concentrator_taken, dropped_for, relaying_at, taken_below, with_link}
 use Rattle.dnp_world.specs.SystemStanding.{IsStanding}
 use Rattle.dnp_world.specs.Systems.{ConcentratorState, SubstationState, System, at_station, has_station, link_at, panel_of, station_of}
 use Rattle.dnp_world.specs.declared.event.Link.{Link}
-use Rattle.dnp_world.specs.declared.event.Link.TheVariants.{Below, Above}
+use Rattle.dnp_world.specs.declared.event.Link.TheVariants.{Below}
 use Rattle.dnp_world.specs.declared.link_event.Way.TheVariants.{Down, Up}
 use Rattle.dnp_world.proofs.PolledOrder.{released_is}
 use Rattle.dnp_world.proofs.RoundSteps.{IsNow, Parts, QuietAt, asks_so, lines_change, link_set, one_arrives, panel_in, parts_after, parts_of, parts_there, quiet_at, rows_taken, set_link, state_in, step_in, substation_sends, substation_steps}

@@ -1,6 +1,6 @@
 -- What the parts of a clean round are to what it turns on: the two stations without their lines, and the lists of what became of rows.
-use Rattle.std.proofs.Common.{◌≡◌, ℕ, zero, suc, ◌<◌, Bool, true, false, if◌then◌else◌, ◌&&◌, List, [], ◌∷◌, ◌++◌, length, append-nil, Option, Some, None, Result, Ok, Err, refl, sym, ap, ◌∙◌, subst, arith}
-use Rattle.std.specs.Prelude.{drop, option_map, option_to_list, slice_get, slice_set}
+use Rattle.std.proofs.Common.{◌≡◌, ℕ, zero, suc, ◌<◌, Bool, true, List, [], ◌∷◌, ◌++◌, length, append-nil, Option, Some, None, Result, Ok, refl, sym, ap, ◌∙◌, subst, arith}
+use Rattle.std.specs.Prelude.{option_map, slice_get, slice_set}
 use Rattle.std.proofs.lemmas.Bool.{and_parts}
 use Rattle.std.proofs.lemmas.Option.{none-some, same_Some}
 use Rattle.dnp_concentrator.specs.Below.{link_in}
@@ -9,22 +9,19 @@ use Rattle.dnp_concentrator.specs.Relaying.{Relaying}
 use Rattle.dnp_controls.specs.Latches.{PlainState, plain_panel}
 use Rattle.dnp_controls.specs.Panel.{Panel}
 use Rattle.dnp_eventbuf.specs.Stock.{Stock}
-use Rattle.dnp_master.specs.Calls.{Taking, ask_answer, receive_of}
+use Rattle.dnp_master.specs.Calls.{Taking, ask_answer}
 use Rattle.dnp_master.specs.declared.fault.AskFault.{AskFault}
-use Rattle.dnp_master.specs.declared.fault.MasterFault.{MasterFault}
 use Rattle.dnp_objects.specs.declared.row.Row.{Row}
 use Rattle.dnp_outstation.specs.Calls.{connection_after}
 use Rattle.dnp_outstation.specs.State.{Core, State, Step, is_quiet}
 use Rattle.dnp_outstation.specs.Station.{state_of}
-use Rattle.dnp_world.specs.Arriving.{Arrive, Arrives, TakesOn, SubstationTakes, answers_below, answers_on}
+use Rattle.dnp_world.specs.Arriving.{Arrive, Arrives, TakesOn, SubstationTakes, answers_below}
 use Rattle.dnp_world.specs.Channels.{ChannelState, are_quiet}
-use Rattle.dnp_world.specs.Polled.{poll_octets}
 use Rattle.dnp_world.specs.Rounds.{events_polled, is_quiet_at}
-use Rattle.dnp_world.specs.SystemEvents.{AsksOn, Happens, IfThere, LinesChange, SendsDown, concentrator_taken, dropped_for, request_of, relaying_at, taken_below, with_link, with_substation}
-use Rattle.dnp_world.specs.Systems.{ConcentratorState, SubstationState, System, at_station, panel_of, station_of}
-use Rattle.dnp_world.specs.declared.event.Event.TheVariants as event
+use Rattle.dnp_world.specs.SystemEvents.{AsksOn, IfThere, LinesChange, SendsDown, concentrator_taken, dropped_for, request_of, relaying_at, taken_below, with_link}
+use Rattle.dnp_world.specs.Systems.{ConcentratorState, SubstationState, System, at_station}
 use Rattle.dnp_world.specs.declared.event.Link.{Link}
-use Rattle.dnp_world.specs.declared.event.Link.TheVariants.{Below, Above}
+use Rattle.dnp_world.specs.declared.event.Link.TheVariants.{Below}
 use Rattle.dnp_world.specs.declared.link_event.Way.{Way}
 use Rattle.dnp_world.proofs.ListedAt.{set_here}
 

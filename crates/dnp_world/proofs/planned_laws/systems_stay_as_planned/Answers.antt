@@ -1,11 +1,6 @@
 -- What happened by the law before, and the masters and the index map by the events.
-use Rattle.std.proofs.Common.{◌≡◌, List, refl, sym, ap, ◌∙◌}
-use Rattle.dnp_concentrator.specs.Below.{new_link}
-use Rattle.dnp_concentrator.specs.PointsAbove.{points_below}
-use Rattle.dnp_concentrator.specs.declared.plan.SubPlan.{SubPlan}
-use Rattle.dnp_pointdb.specs.declared.times.Times.{Times}
+use Rattle.std.proofs.Common.{refl, ap, ◌∙◌}
 use Rattle.dnp_world.specs.Planned.{HappenedAsPlanned, IsAsPlanned}
-use Rattle.dnp_world.specs.SystemStanding.{points_asked}
 use Rattle.dnp_world.specs.Systems.{System}
 use Rattle.dnp_world.specs.declared.event.Event.TheVariants as event
 use Rattle.dnp_world.proofs.PlannedMasters.{Asked, KeepAsked, asked_at_first, event_keeps}
