@@ -114,6 +114,9 @@ mod PolledAnswer
 mod PolledConfirm
 mod PolledTaken
 mod RoundSteps
+mod RoundExchange
 mod RoundBelow
 mod RoundAbove
+mod RepeatedPoll
+mod RepeatedRequests
 mod RoundMoves

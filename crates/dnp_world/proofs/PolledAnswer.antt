@@ -76,7 +76,7 @@ asked_control seq = record { fir = true; fin = true; con = false; uns = false; s
 control_is : (seq : ℕ) → seq < 16 → control_in (poll_octets seq) ≡ asked_control seq
 control_is seq low = octet_of_control (asked_control seq) low
 
-looked_at : (c : Core) (seq : ℕ) → seq < 16 → c.is_open ≡ true → is_looked_at c (poll_octets seq) ≡ true
+pub looked_at : (c : Core) (seq : ℕ) → seq < 16 → c.is_open ≡ true → is_looked_at c (poll_octets seq) ≡ true
 looked_at c seq low opens =
     let octets : List ℕ = poll_octets seq in
     let bits : ControlBits → Bool = λ k. (k.fir && k.fin) && (nat_lt (function_in octets) 129 && (not k.uns || function_in octets == 0)) in

@@ -1,14 +1,13 @@
 -- A release of the ids of what was polled takes its rows, in the order in which they were given.
-use Rattle.std.proofs.Common.{◌≡◌, refl, sym, ap, ◌∙◌, ℕ, zero, suc, ◌+◌, ◌<◌, true, List, [], ◌∷◌, ◌++◌, map, length, take, append-nil, arith}
-use Rattle.std.specs.List.{flat_map, range_with_len}
+use Rattle.std.proofs.Common.{◌≡◌, ◌⊎◌, inl, inr, Bool, true, false, refl, sym, ap, ◌∙◌, ℕ, zero, suc, ◌+◌, ◌*◌, ◌<◌, ◌≤◌, List, [], ◌∷◌, ◌++◌, map, length, take, append-nil, arith}
+use Rattle.std.specs.List.{flat_map}
 use Rattle.std.proofs.lemmas.List.{take-map}
 use Rattle.std.proofs.lemmas.List.Elements.{filter_map-append}
 use Rattle.dnp_eventbuf.specs.Sound.{IsSound}
 use Rattle.dnp_eventbuf.specs.Stock.{Stock, all_up_to, lane_at, row_of}
 use Rattle.dnp_eventbuf.specs.declared.numbered.Numbered.{Numbered}
-use Rattle.dnp_objects.specs.declared.limits.TheConstants.{LANES}
 use Rattle.dnp_objects.specs.declared.row.Row.{Row}
-use Rattle.dnp_outstation.specs.Items.{Item, event_of, lane_items}
+use Rattle.dnp_outstation.specs.Items.{Item, enabled_lanes, event_of, lane_items}
 use Rattle.dnp_outstation.specs.Laws.{AreRowsUpto, lane_numbers, row_in, rows_by_lane, rows_in_lane}
 use Rattle.dnp_outstation.specs.Layout.{fits_fragment}
 use Rattle.dnp_outstation.specs.Offer.{held_of, offered_of}
@@ -17,7 +16,7 @@ use Rattle.dnp_outstation.proofs.Carried.{pushed_rows, released_rows}
 use Rattle.dnp_outstation.proofs.LaneRows.{IsApart, rows_at, rows_elsewhere}
 use Rattle.dnp_outstation.proofs.Longest.{longest_longest}
 use Rattle.dnp_outstation.proofs.Reported.{nine_ids}
-use Rattle.dnp_world.specs.Polled.{polled_held, polled_ids, polled_items, polled_rows}
+use Rattle.dnp_world.specs.Polled.{polled_ids, polled_rows, reported}
 
 -- ---- a beginning of two lists
 
@@ -75,13 +74,24 @@ over_others lane front behind (number ∷ numbers) apart =
     ∙ ap (λ (rows : List Numbered). rows ++ rows_in_lane number behind) (rows_elsewhere 0 number lane front (λ e. apart.0 (sym e))))
     ∙ ap (λ (rows : List Row). map row_of (rows_in_lane number behind) ++ rows) (over_others lane front behind numbers apart.1)
 
-abbrev AreOnce : List ℕ → Type 0
-AreOnce [] = Unit {0}
-AreOnce (lane ∷ lanes) = IsApart lane lanes × AreOnce lanes
+over_none : (numbers : List ℕ) → rows_over [] numbers ≡ []
+over_none [] = refl
+over_none (number ∷ numbers) = over_none numbers
 
-in_order : (s : Stock) (n : ℕ) (lanes : List ℕ) → AreOnce lanes → rows_over (take n (lane_items s lanes)) lanes ≡ events_in (take n (lane_items s lanes))
-in_order s n [] once = ap events_in (sym (none_of_none n))
-in_order s n (lane ∷ lanes) once =
+-- the first lanes stand among the others, in their order, and each once
+abbrev AreAmong : List ℕ → List ℕ → Type 0
+AreAmong [] numbers = Unit {0}
+AreAmong (lane ∷ lanes) [] = ⊥
+AreAmong (lane ∷ lanes) (number ∷ numbers) =
+    ((lane ≡ number) × IsApart lane lanes × IsApart lane numbers × AreAmong lanes numbers)
+    ⊎ (IsApart number (lane ∷ lanes) × AreAmong (lane ∷ lanes) numbers)
+
+in_order : (s : Stock) (n : ℕ) (lanes numbers : List ℕ) → AreAmong lanes numbers
+    → rows_over (take n (lane_items s lanes)) numbers ≡ events_in (take n (lane_items s lanes))
+in_order s n [] numbers among =
+    ap (λ (items : List Item). rows_over items numbers) (none_of_none n) ∙ over_none numbers ∙ ap events_in (sym (none_of_none n))
+in_order s n (lane ∷ lanes) [] among = absurd among
+in_order s n (lane ∷ lanes) (number ∷ numbers) (inl (same, once, apart, among)) =
     let b = begins n (map (event_of 0 lane) (lane_at s lane).rows) (lane_items s lanes) in
     let front : List Numbered = take n (lane_at s lane).rows in
     let own : List Item = map (event_of 0 lane) front in
@@ -90,40 +100,100 @@ in_order s n (lane ∷ lanes) once =
     let here : rows_in_lane lane (own ++ behind) ≡ front =
     filter_map-append (row_in lane) own behind
     ∙ ap (λ (rows : List Numbered). rows ++ rows_in_lane lane behind) (rows_at 0 lane lane front refl)
-    ∙ ap (λ (rows : List Numbered). front ++ rows) (apart_first s b.more lane lanes once.0)
+    ∙ ap (λ (rows : List Numbered). front ++ rows) (apart_first s b.more lane lanes once)
     ∙ append-nil front
     in
-    ap (λ (items : List Item). rows_over items (lane ∷ lanes)) is
-    ∙ ap (λ (rows : List Numbered). map row_of rows ++ rows_over (own ++ behind) lanes) here
-    ∙ ap (λ (rows : List Row). map row_of front ++ rows) (over_others lane front behind lanes once.0)
-    ∙ ap (λ (rows : List Row). map row_of front ++ rows) (in_order s b.more lanes once.1)
+    ap (λ (k : ℕ). rows_over (take n (lane_items s (lane ∷ lanes))) (k ∷ numbers)) (sym same)
+    ∙ ap (λ (items : List Item). rows_over items (lane ∷ numbers)) is
+    ∙ ap (λ (rows : List Numbered). map row_of rows ++ rows_over (own ++ behind) numbers) here
+    ∙ ap (λ (rows : List Row). map row_of front ++ rows) (over_others lane front behind numbers apart)
+    ∙ ap (λ (rows : List Row). map row_of front ++ rows) (in_order s b.more lanes numbers among)
     ∙ ap (λ (rows : List Row). rows ++ events_in behind) (sym (events_of_lane lane front))
     ∙ sym (filter_map-append event_in own behind)
     ∙ ap events_in (sym is)
+in_order s n (lane ∷ lanes) (number ∷ numbers) (inr (apart, among)) =
+    let items : List Item = take n (lane_items s (lane ∷ lanes)) in
+    ap (λ (rows : List Numbered). map row_of rows ++ rows_over items numbers) (apart_first s n number (lane ∷ lanes) apart)
+    ∙ in_order s n (lane ∷ lanes) numbers among
 
--- ---- the nine lanes
+-- ---- the lanes of the enabled classes
 
-apart_behind : (lane from n : ℕ) → lane < from → IsApart lane (range_with_len from n)
-apart_behind lane from zero low = tt
-apart_behind lane from (suc n) low = ((λ e. omega arith), apart_behind lane (from + 1) n (omega arith))
+-- those of so many classes
+abbrev lanes_from : ℕ → ℕ → List ℕ
+lanes_from class zero = []
+lanes_from class (suc more) = 3 * class ∷ (3 * class + 1) ∷ (3 * class + 2) ∷ lanes_from (class + 1) more
 
-once_from : (from n : ℕ) → AreOnce (range_with_len from n)
-once_from from zero = tt
-once_from from (suc n) = (apart_behind from (from + 1) n (omega arith), once_from (from + 1) n)
+apart_lanes : (lane class more : ℕ) → lane < 3 * class → IsApart lane (lanes_from class more)
+apart_lanes lane class zero low = tt
+apart_lanes lane class (suc more) low =
+    ((λ e. omega arith), ((λ e. omega arith), ((λ e. omega arith), apart_lanes lane (class + 1) more (omega arith))))
+
+apart_enabled : (lane class : ℕ) (enabled : List Bool) → lane < 3 * class → IsApart lane (enabled_lanes class enabled)
+apart_enabled lane class [] low = tt
+apart_enabled lane class (true ∷ bs) low =
+    ((λ e. omega arith), ((λ e. omega arith), ((λ e. omega arith), apart_enabled lane (class + 1) bs (omega arith))))
+apart_enabled lane class (false ∷ bs) low = apart_enabled lane (class + 1) bs (omega arith)
+
+passed_over : (number : ℕ) (lanes numbers : List ℕ) → IsApart number lanes → AreAmong lanes numbers → AreAmong lanes (number ∷ numbers)
+passed_over number [] numbers apart among = tt
+passed_over number (lane ∷ lanes) numbers apart among = inr (apart, among)
+
+enabled_among : (class : ℕ) (enabled : List Bool) (more : ℕ) → length enabled ≤ more → AreAmong (enabled_lanes class enabled) (lanes_from class more)
+enabled_among class [] more few = tt
+enabled_among class (b ∷ bs) zero few = absurd (omega arith)
+enabled_among class (true ∷ bs) (suc more) few =
+    let from : ℕ = 3 * class in
+    let enabled : List ℕ = enabled_lanes (class + 1) bs in
+    let rest : List ℕ = lanes_from (class + 1) more in
+    inl (
+      refl,
+      ((λ e. omega arith), ((λ e. omega arith), apart_enabled from (class + 1) bs (omega arith))),
+      ((λ e. omega arith), ((λ e. omega arith), apart_lanes from (class + 1) more (omega arith))),
+      inl (
+        refl,
+        ((λ e. omega arith), apart_enabled (from + 1) (class + 1) bs (omega arith)),
+        ((λ e. omega arith), apart_lanes (from + 1) (class + 1) more (omega arith)),
+        inl (
+          refl,
+          apart_enabled (from + 2) (class + 1) bs (omega arith),
+          apart_lanes (from + 2) (class + 1) more (omega arith),
+          enabled_among (class + 1) bs more (omega arith),
+        ),
+      ),
+    )
+enabled_among class (false ∷ bs) (suc more) few =
+    let from : ℕ = 3 * class in
+    let enabled : List ℕ = enabled_lanes (class + 1) bs in
+    let rest : List ℕ = lanes_from (class + 1) more in
+    passed_over from enabled ((from + 1) ∷ (from + 2) ∷ rest) (apart_enabled from (class + 1) bs (omega arith))
+    (passed_over (from + 1) enabled ((from + 2) ∷ rest) (apart_enabled (from + 1) (class + 1) bs (omega arith))
+    (passed_over (from + 2) enabled rest (apart_enabled (from + 2) (class + 1) bs (omega arith))
+    (enabled_among (class + 1) bs more (omega arith))))
+
+-- ---- what is held of them
 
 first_of : (items : List Item) → take (length (held_of items)) items ≡ held_of items
 unfolding held_of
 first_of items = (longest_longest fits_fragment items refl).begins
 
-polled_in_order : (s : Stock) → rows_by_lane (polled_held s) ≡ polled_rows s
-polled_in_order s =
-    let items : List Item = polled_items s in
-    ap rows_by_lane (sym (first_of items)) ∙ in_order s (length (held_of items)) lane_numbers (once_from 0 LANES) ∙ ap events_in (first_of items)
+held_in_order : (s : Stock) (enabled : List Bool) → length enabled ≤ 3
+    → (let items : List Item = lane_items s (enabled_lanes 0 enabled) in rows_by_lane (held_of items) ≡ events_in (held_of items))
+held_in_order s enabled few =
+    let items : List Item = lane_items s (enabled_lanes 0 enabled) in
+    ap rows_by_lane (sym (first_of items))
+    ∙ in_order s (length (held_of items)) (enabled_lanes 0 enabled) lane_numbers (enabled_among 0 enabled 3 few)
+    ∙ ap events_in (first_of items)
 
-polled_upto : (s : Stock) → IsSound s → AreRowsUpto s (polled_ids s) (polled_held s)
+held_upto : (s : Stock) (enabled : List Bool) → IsSound s → AreRowsUpto s (reported s enabled).ids (held_of (lane_items s (enabled_lanes 0 enabled)))
 unfolding offered_of
-polled_upto s sound = pushed_rows s (true ∷ true ∷ true ∷ []) sound
+held_upto s enabled sound = pushed_rows s enabled sound
 
+pub reported_released : (s : Stock) (enabled : List Bool) → IsSound s → length enabled ≤ 3
+    → all_up_to s (reported s enabled).ids ≡ (reported s enabled).rows
+reported_released s enabled sound few =
+    let held : List Item = held_of (lane_items s (enabled_lanes 0 enabled)) in
+    released_rows s (reported s enabled).ids held sound.nine (nine_ids held) (held_upto s enabled sound) ∙ held_in_order s enabled few
+
+-- a poll is of all classes
 pub released_is : (s : Stock) → IsSound s → all_up_to s (polled_ids s) ≡ polled_rows s
-released_is s sound =
-    released_rows s (polled_ids s) (polled_held s) sound.nine (nine_ids (polled_held s)) (polled_upto s sound) ∙ polled_in_order s
+released_is s sound = reported_released s (true ∷ true ∷ true ∷ []) sound (omega arith)

@@ -60,7 +60,7 @@ all_pass p [] all = refl
 all_pass p (x ∷ xs) all =
     and_from (p x) (list_all p xs) (All-head (λ y. p y ≡ true) x xs all) (all_pass p xs (All-tail (λ y. p y ≡ true) x xs all))
 
-from_plan : (plan : Plan) (answered : Answered) (rows : List Row) → events_in answered.headers ≡ rows
+pub from_plan : (plan : Plan) (answered : Answered) (rows : List Row) → events_in answered.headers ≡ rows
     → All (λ row. is_reported plan row ≡ true) rows → is_from_plan plan answered.headers ≡ true
 from_plan plan answered rows is all = ap (list_all (is_reported plan)) is ∙ all_pass (is_reported plan) rows all
 

@@ -1,35 +1,27 @@
 -- A clean round over the link between concentrator and centre.
-use Rattle.std.proofs.Common.{◌≡◌, ℕ, ◌<◌, Bool, true, false, if◌then◌else◌, ◌&&◌, List, [], ◌∷◌, Some, None, Result, Ok, refl, sym, ap, ◌∙◌, subst}
+use Rattle.std.proofs.Common.{◌≡◌, ℕ, ◌+◌, true, ◌&&◌, List, [], ◌∷◌, ◌++◌, append-nil, arith, Option, Some, None, Result, Ok, refl, sym, ap, ◌∙◌, subst}
 use Rattle.std.specs.Prelude.{option_to_list}
-use Rattle.std.specs.List.{All}
 use Rattle.std.proofs.lemmas.Bool.{and_parts}
 use Rattle.dnp_concentrator.specs.BookOutputs.{all_added}
 use Rattle.dnp_concentrator.specs.Relaying as relaying
 use Rattle.dnp_concentrator.specs.Relaying.{Relaying}
-use Rattle.dnp_eventbuf.specs.Archive.{with_events}
-use Rattle.dnp_eventbuf.specs.Sound.{IsSound}
-use Rattle.dnp_eventbuf.specs.Stock.{Stock, without}
-use Rattle.dnp_master.specs.Calls.{Taking, asked, receive_of}
-use Rattle.dnp_master.specs.Rows.{is_reported}
+use Rattle.dnp_eventbuf.specs.Archive.{Archive, with_events}
+use Rattle.dnp_master.specs.Calls.{Taking, receive_of}
 use Rattle.dnp_master.specs.State as master
 use Rattle.dnp_master.specs.declared.fault.MasterFault.{MasterFault}
-use Rattle.dnp_objects.specs.declared.row.Row.{Row}
 use Rattle.dnp_outstation.specs.Calls.{connection_after, performed_in}
-use Rattle.dnp_outstation.specs.Connection.{is_last_request}
-use Rattle.dnp_outstation.specs.Content.{source_of}
-use Rattle.dnp_outstation.specs.Said.{AreWritable, HaveIndexes}
-use Rattle.dnp_outstation.specs.State.{Step, is_quiet}
+use Rattle.dnp_outstation.specs.State.{State, Step, is_quiet, still}
 use Rattle.dnp_world.specs.Arriving.{Arrives, HearsAt, IsClearOn, UnderWay, confirms_of}
 use Rattle.dnp_world.specs.Channels.{ChannelState, GoDown, are_quiet}
 use Rattle.dnp_world.specs.Movement.{Leave, MovesAbove, Released, Rested}
-use Rattle.dnp_world.specs.Polled.{Awaits, Offers, Releases, Takes, confirm_octets, poll_octets, polled_ids, polled_rows}
+use Rattle.dnp_world.specs.Polled.{Portion, no_rows, poll_octets}
 use Rattle.dnp_world.specs.Rounds.{IsRound, events_polled, is_quiet_on}
 use Rattle.dnp_world.specs.SystemEvents.{LinesChange, MasterReceives, MiddleAnswers, SendsDown, centre_taken, relaying_at, taken_above, with_centre_link}
 use Rattle.dnp_world.specs.Systems.{CentreState, ConcentratorState, System, middle_of, middle_panel}
 use Rattle.dnp_world.specs.declared.event.Link.TheVariants.{Above}
 use Rattle.dnp_world.specs.declared.link_event.Way.TheVariants.{Down, Up}
-use Rattle.dnp_world.proofs.PolledOrder.{released_is}
-use Rattle.dnp_world.proofs.RoundBelow.{LineLaws, StationLaws}
+use Rattle.dnp_world.proofs.RoundBelow.{LineLaws}
+use Rattle.dnp_world.proofs.RoundExchange.{Answer, Exchange, Exchanges, Frees, Passes, StationLaws, master_after}
 use Rattle.dnp_world.proofs.RoundSteps.{asks_so, one_arrives}
 
 -- ---- the two stations
@@ -100,26 +92,22 @@ begins_above old quiet =
     let a = and_parts (master.is_idle old.centre.link.master) (is_quiet old.concentrator.core && are_quiet old.above) quiet in
     record { idle = a.0; quiet = (and_parts (is_quiet old.concentrator.core) (are_quiet old.above) a.1).0 }
 
--- what stands of the two stations
-pub record AreFit (old : System) : Type 0 where
-  pub sound : IsSound old.concentrator.queue
-  pub indexes : HaveIndexes old.concentrator.queue
-  pub writable : AreWritable (source_of (middle_of old.concentrator) (middle_panel old.concentrator))
-  pub seq : old.centre.link.master.seq < 16
-  pub reported : All (λ row. is_reported old.centre.link.master.plan row ≡ true) (polled_rows old.concentrator.queue)
+-- no events change nothing
+no_events : (a : Archive) → a ≡ with_events a []
+no_events a =
+    let none : a.last_id ≡ a.last_id + 0 = omega arith in
+    ap (λ rows. let b : Archive = record { rows = rows; last_id = a.last_id } in b) (sym (append-nil a.rows))
+    ∙ ap (λ (n : ℕ). let b : Archive = record { rows = a.rows ++ []; last_id = n } in b) none
 
 -- ---- the round
 
-module _ (laws : StationLaws) (lines : LineLaws) (old new : System) (begins : BeginsAbove old) (fit : AreFit old) (clear : IsClearOn Above old)
-    (other : is_last_request old.concentrator.core.session (poll_octets old.centre.link.master.seq) ≡ false) (round : IsRound Above old new) where
+module _ (laws : StationLaws) (lines : LineLaws) (old new : System) (begins : BeginsAbove old) (clear : IsClearOn Above old)
+    (portion_in : State → Portion) (round : IsRound Above old new) where
   abbrev link : Relaying
   link = old.centre.link
 
-  abbrev seq : ℕ
-  seq = link.master.seq
-
   abbrev poll : List ℕ
-  poll = poll_octets seq
+  poll = poll_octets link.master.seq
 
   abbrev asking : Relaying
   asking = relaying.asking link old.now events_polled
@@ -127,8 +115,8 @@ module _ (laws : StationLaws) (lines : LineLaws) (old new : System) (begins : Be
   abbrev c0 : ConcentratorState
   c0 = old.concentrator
 
-  abbrev rows : List Row
-  rows = polled_rows c0.queue
+  abbrev portion : Portion
+  portion = portion_in (middle_of c0)
 
   abbrev centre1 : CentreState
   centre1 = record old.centre { link = asking }
@@ -151,99 +139,109 @@ module _ (laws : StationLaws) (lines : LineLaws) (old new : System) (begins : Be
   abbrev c1 : ConcentratorState
   c1 = concentrator_after c0 old.now poll
 
-  offer : Offers seq (middle_of c0) step1
-  offer = laws.offered (middle_of c0) (middle_panel c0) old.now seq fit.sound fit.writable begins.quiet fit.seq other
-
-  record IsAnswered : Type 0 where
+  record IsAnswered (answers : List (List ℕ)) : Type 0 where
     is : IsNow c1 centre1 old.now round.answered
-    under_way : UnderWay Above [] (offer.fragment ∷ []) round.answered
+    under_way : UnderWay Above [] answers round.answered
 
-  answered : IsAnswered
-  answered =
+  answered : (answers : List (List ℕ)) → step1.does.send ≡ answers → IsAnswered answers
+  answered answers sent =
       let d = lines.down Above (poll ∷ []) [] round.asked round.answered poll_under_way round.down in
       let a : Arrives Above Down poll d.0 round.asked round.answered = one_arrives Above Down poll d.0 round.asked round.answered d.1 in
       let heard = lines_change c0 centre1 old.now (HearsAt Down) round.asked a.heard a.hears once_asked in
-      let sent : d.0 ≡ offer.fragment ∷ [] = a.sends ∙ middle_sends c0 centre1 old.now poll a.heard heard ∙ offer.sent in
+      let back : d.0 ≡ answers = a.sends ∙ middle_sends c0 centre1 old.now poll a.heard heard ∙ sent in
       record {
         is = middle_steps c0 centre1 old.now poll a.heard round.answered a.takes heard;
-        under_way = subst (λ (up : List (List ℕ)). UnderWay Above [] up round.answered) sent d.2;
+        under_way = subst (λ (up : List (List ℕ)). UnderWay Above [] up round.answered) back d.2;
       }
 
-  -- the response comes, and is taken
-  took : Takes seq rows offer.con (receive_of (asked link.master old.now events_polled) old.now offer.fragment)
-  took = laws.takes link.master old.now old.now (middle_of c0) step1 begins.idle fit.sound fit.indexes offer fit.reported
+  -- what the round ends with
+  record IsDone (c : ConcentratorState) (centre : CentreState) : Type 0 where
+    left : Leave portion c0.queue c.queue
+    is : IsNow c centre old.now new
 
-  abbrev centre2 : CentreState
-  centre2 = centre_taken centre1 took.taken
+  -- ---- a fragment is exchanged
+  module _ (x : Exchange link.master old.now (middle_of c0) (middle_panel c0) portion) where
+    abbrev centre2 : CentreState
+    centre2 = centre_taken centre1 x.taken
 
-  abbrev confirms : Bool → List (List ℕ)
-  confirms con = option_to_list (if con then Some (confirm_octets seq) else None)
+    record IsTaken : Type 0 where
+      is : IsNow c1 centre2 old.now round.taken
+      under_way : UnderWay Above (option_to_list x.confirm) [] round.taken
 
-  record IsTaken : Type 0 where
-    is : IsNow c1 centre2 old.now round.taken
-    under_way : UnderWay Above (confirms offer.con) [] round.taken
-
-  taken : IsTaken
-  taken =
-      let t : Taking = took.taken in
-      let u = lines.up Above [] (offer.fragment ∷ []) round.answered round.taken answered.under_way round.up in
-      let b : Arrives Above Up offer.fragment u.0 round.answered round.taken =
-      one_arrives Above Up offer.fragment u.0 round.answered round.taken u.1 in
-      let heard = lines_change c1 centre1 old.now (HearsAt Up) round.answered b.heard b.hears answered.is in
-      let got : receive_of (relaying_at b.heard Above).master b.heard.now offer.fragment ≡ Ok t =
-      ap (λ (x : CentreState). receive_of x.link.master b.heard.now offer.fragment) heard.centre_is
-      ∙ ap (λ (n : ℕ). receive_of asking.master n offer.fragment) heard.now_is
-      ∙ took.is
-      in
-      let received : MasterReceives Above (Ok t) b.heard round.taken =
-      subst (λ (r : Result Taking MasterFault). MasterReceives Above r b.heard round.taken) got b.takes in
-      let sent : u.0 ≡ confirms offer.con = b.sends ∙ ap confirms_of got ∙ ap option_to_list took.confirm in
-      record {
-        is = lines_change c1 centre2 old.now (GoDown (option_to_list t.confirm)) (taken_above b.heard t) round.taken received.1
-            (rows_taken c1 centre1 old.now t b.heard heard);
-        under_way = subst (λ (down : List (List ℕ)). UnderWay Above down [] round.taken) sent u.2;
-      }
-
-  -- where there are rows the confirm comes, and releases them
-  abbrev step2 : Step
-  step2 = step_in c1 old.now (confirm_octets seq)
-
-  released : offer.con ≡ true → Releases (middle_of c1) step2
-  released con =
-      let lanes : c1.queue ≡ c0.queue = offer.lanes in
-      let was : Awaits seq (polled_ids c0.queue) step1.state = offer.awaits con in
-      let now : Awaits seq (polled_ids c0.queue) (middle_of c1) =
-      record { wait = was.wait; is = was.is; seq_is = was.seq_is; upto_is = was.upto_is } in
-      laws.confirmed (middle_of c1) (middle_panel c1) old.now seq fit.seq (subst IsSound (sym lanes) fit.sound) offer.is_open
-      (subst (λ (s : Stock). Awaits seq (polled_ids s) (middle_of c1)) (sym lanes) now)
-
-  record IsDone (c : ConcentratorState) : Type 0 where
-    left : Leave c0.queue c.queue
-    is : IsNow c centre2 old.now new
-
-  done : (con : Bool) → offer.con ≡ con → UnderWay Above (confirms con) [] round.taken → (c : ConcentratorState) × IsDone c
-  done true con under_way =
-      let d = lines.down Above (confirm_octets seq ∷ []) [] round.taken new under_way round.confirms in
-      let a : Arrives Above Down (confirm_octets seq) d.0 round.taken new = one_arrives Above Down (confirm_octets seq) d.0 round.taken new d.1 in
-      let heard = lines_change c1 centre2 old.now (HearsAt Down) round.taken a.heard a.hears taken.is in
-      let r : Releases (middle_of c1) step2 = released con in (
-        concentrator_after c1 old.now (confirm_octets seq),
+    -- it comes, and is taken
+    taken : IsTaken
+    taken =
+        let t : Taking = x.taken in
+        let before = answered (x.fragment ∷ []) x.sent in
+        let u = lines.up Above [] (x.fragment ∷ []) round.answered round.taken before.under_way round.up in
+        let b : Arrives Above Up x.fragment u.0 round.answered round.taken = one_arrives Above Up x.fragment u.0 round.answered round.taken u.1 in
+        let heard = lines_change c1 centre1 old.now (HearsAt Up) round.answered b.heard b.hears before.is in
+        let got : receive_of (relaying_at b.heard Above).master b.heard.now x.fragment ≡ Ok t =
+        ap (λ (y : CentreState). receive_of y.link.master b.heard.now x.fragment) heard.centre_is
+        ∙ ap (λ (n : ℕ). receive_of asking.master n x.fragment) heard.now_is
+        ∙ x.is_taken
+        in
+        let received : MasterReceives Above (Ok t) b.heard round.taken =
+        subst (λ (r : Result Taking MasterFault). MasterReceives Above r b.heard round.taken) got b.takes in
+        let sent : u.0 ≡ option_to_list x.confirm = b.sends ∙ ap confirms_of got ∙ ap option_to_list x.confirm_is in
         record {
-          left = Released (released_is c0.queue fit.sound) (r.lanes ∙ ap (λ (s : Stock). without s (polled_ids s)) offer.lanes);
-          is = middle_steps c1 centre2 old.now (confirm_octets seq) a.heard new a.takes heard;
-        },
-      )
-  done false con under_way =
-      let d = lines.down Above [] [] round.taken new under_way round.confirms in
-      let same : new ≡ round.taken = d.1.1 in (
-        c1,
-        record { left = Rested (offer.none con) offer.lanes; is = subst (IsNow c1 centre2 old.now) (sym same) taken.is },
-      )
+          is = lines_change c1 centre2 old.now (GoDown (option_to_list t.confirm)) (taken_above b.heard t) round.taken received.1
+              (rows_taken c1 centre1 old.now t b.heard heard);
+          under_way = subst (λ (down : List (List ℕ)). UnderWay Above down [] round.taken) sent u.2;
+        }
 
-  pub moves : MovesAbove old new
-  moves =
-      let x = done offer.con refl taken.under_way in
+    -- where it asks for a confirm that comes, and releases the rows
+    confirms : (o : Option (List ℕ)) → x.confirm ≡ o → UnderWay Above (option_to_list o) [] round.taken
+        → (c : ConcentratorState) × IsDone c centre2
+    confirms (Some octets) is under_way =
+        let d = lines.down Above (octets ∷ []) [] round.taken new under_way round.confirms in
+        let a : Arrives Above Down octets d.0 round.taken new = one_arrives Above Down octets d.0 round.taken new d.1 in
+        let heard = lines_change c1 centre2 old.now (HearsAt Down) round.taken a.heard a.hears taken.is in
+        let r : Frees portion c0.queue (step_in c1 old.now octets) = x.frees octets is (middle_of c1).performed (middle_panel c1) in (
+          concentrator_after c1 old.now octets,
+          record { left = Released x.released r.lanes; is = middle_steps c1 centre2 old.now octets a.heard new a.takes heard },
+        )
+    confirms None is under_way =
+        let d = lines.down Above [] [] round.taken new under_way round.confirms in
+        let same : new ≡ round.taken = d.1.1 in (
+          c1,
+          record { left = Rested (x.none is) x.lanes; is = subst (IsNow c1 centre2 old.now) (sym same) taken.is },
+        )
+
+  -- ---- the poll is passed over
+  passes : step1 ≡ still (middle_of c0) → portion ≡ no_rows → IsDone c1 centre1
+  passes rests none =
+      let before = answered [] (ap (λ (step : Step). step.does.send) rests) in
+      let u = lines.up Above [] [] round.answered round.taken before.under_way round.up in
+      let second : round.taken ≡ round.answered = u.1.1 in
+      let quiet : UnderWay Above [] [] round.taken = subst (λ (down : List (List ℕ)). UnderWay Above down [] round.taken) u.1.0 u.2 in
+      let d = lines.down Above [] [] round.taken new quiet round.confirms in
+      let third : new ≡ round.taken = d.1.1 in
       record {
-        left = subst (λ (c : ConcentratorState). Leave c0.queue c.queue) (sym x.1.is.concentrator) x.1.left;
-        journal = ap (λ (c : CentreState). c.journal) x.1.is.centre_is ∙ ap (with_events old.centre.journal) took.events;
+        left = Rested (ap (λ (x : Portion). x.rows) none) (ap (λ (step : Step). step.state.lanes) rests);
+        is = subst (IsNow c1 centre1 old.now) (sym (third ∙ second)) before.is;
       }
+
+  -- ---- all of it
+
+  pub record Moved (after : master.State) : Type 0 where
+    pub moves : MovesAbove portion_in old new
+    pub master_is : (relaying_at new Above).master ≡ after
+
+  moved : (c : ConcentratorState) (centre : CentreState) → IsDone c centre → centre.journal ≡ with_events old.centre.journal portion.rows
+      → Moved centre.link.master
+  moved c centre done journal = record {
+    moves = record {
+      left = subst (λ (x : ConcentratorState). Leave portion c0.queue x.queue) (sym done.is.concentrator) done.left;
+      journal = ap (λ (x : CentreState). x.journal) done.is.centre_is ∙ journal;
+    };
+    master_is = ap (λ (x : CentreState). x.link.master) done.is.centre_is;
+  }
+
+  pub moves : (answer : Answer link.master old.now (middle_of c0) (middle_panel c0) portion)
+      → Moved (master_after link.master old.now (middle_of c0) (middle_panel c0) portion answer)
+  moves (Exchanges x) =
+      let done = confirms x x.confirm refl (taken x).under_way in
+      moved done.0 (centre2 x) done.1 (ap (with_events old.centre.journal) x.events)
+  moves (Passes rests none) =
+      moved c1 centre1 (passes rests none) (no_events old.centre.journal ∙ ap (with_events old.centre.journal) (sym (ap (λ (x : Portion). x.rows) none)))

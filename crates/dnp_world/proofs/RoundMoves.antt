@@ -1,5 +1,5 @@
 -- Clean rounds over quiet links of steady systems.
-use Rattle.std.proofs.Common.{◌≡◌, ℕ, ◌<◌, suc, true, false, List, [], ◌∷◌, ◌++◌, length, Option, Some, IfSome, sym, ap, ◌∙◌, subst, arith}
+use Rattle.std.proofs.Common.{◌≡◌, ℕ, ◌<◌, ◌≤◌, suc, Bool, true, false, List, [], ◌∷◌, ◌++◌, length, Option, Some, IfSome, is_some, sym, ap, ◌∙◌, subst, arith}
 use Rattle.std.specs.Prelude.{map, nat_le, slice_get}
 use Rattle.std.specs.List.{All, filter}
 use Rattle.std.proofs.lemmas.List.{get_or_append_left, length-append}
@@ -8,21 +8,29 @@ use Rattle.dnp_eventbuf.specs.Sound.{IsSound}
 use Rattle.dnp_eventbuf.specs.Stock.{LaneState, Stock, lane_rows, lanes_up_to, row_of, rows_in, up_to}
 use Rattle.dnp_eventbuf.specs.declared.numbered.Numbered.{Numbered}
 use Rattle.dnp_master.specs.Rows.{is_reported}
+use Rattle.dnp_master.specs.State as master
 use Rattle.dnp_objects.specs.declared.row.Row.{Row}
+use Rattle.dnp_outstation.specs.Connection.{is_last_request}
 use Rattle.dnp_outstation.specs.Content.{source_of}
-use Rattle.dnp_world.specs.Movement.{MovesAbove, MovesBelow, is_repeated_at, is_repeated_on}
+use Rattle.dnp_outstation.specs.Links.{IsInOrder}
+use Rattle.dnp_world.specs.Movement.{MovesAbove, MovesBelow, first_reported, first_rows, is_repeated_at, is_repeated_on}
 use Rattle.dnp_world.specs.OutstationSeen.{IsWell, ShowOctets}
 use Rattle.dnp_world.specs.Planned.{IsAsPlanned}
-use Rattle.dnp_world.specs.Polled.{poll_octets, polled_ids, polled_rows}
+use Rattle.dnp_world.specs.Polled.{poll_octets, polled_rows, reported}
 use Rattle.dnp_world.specs.Rounds.{IsRound, is_quiet_on}
 use Rattle.dnp_world.specs.Steady.{IsSteady}
+use Rattle.dnp_world.specs.SystemEvents.{relaying_at}
 use Rattle.dnp_world.specs.SystemStanding.{IsJoinedBelow, IsStanding}
 use Rattle.dnp_world.specs.Systems.{SubstationState, System, link_at, middle_of, middle_panel, panel_of, station_of}
 use Rattle.dnp_world.specs.declared.event.Link.TheVariants.{Below, Above}
-use Rattle.dnp_world.proofs.PolledOrder.{released_is}
+use Rattle.dnp_world.proofs.PolledAnswer.{quiet_parts}
+use Rattle.dnp_world.proofs.PolledOrder.{reported_released}
+use Rattle.dnp_world.proofs.RepeatedPoll.{ReportLaws, WentOn, repeated}
+use Rattle.dnp_world.proofs.RepeatedRequests.{CaseLaw, went_on}
 use Rattle.dnp_world.proofs.RoundAbove as above
 use Rattle.dnp_world.proofs.RoundBelow as below
-use Rattle.dnp_world.proofs.RoundBelow.{LineLaws, StationLaws}
+use Rattle.dnp_world.proofs.RoundBelow.{LineLaws}
+use Rattle.dnp_world.proofs.RoundExchange.{AreFit, Exchanges, StationLaws, polled_exchange}
 
 -- the rows in the lanes are asked for at the other end
 pub record LaneLaws : Type 0 where
@@ -56,51 +64,127 @@ first_of_lanes P (lane ∷ lanes) (id ∷ ids) all =
     All-append P (up_to id lane) (lanes_up_to lanes ids) (first_of_lane P id lane (all_front P (map row_of lane.rows) (lane_rows lanes) all))
     (first_of_lanes P lanes ids (all_behind P (map row_of lane.rows) (lane_rows lanes) all))
 
+all_reported : (P : Row → Type 0) (s : Stock) (enabled : List Bool) → IsSound s → length enabled ≤ 3 → All P (rows_in s)
+    → All P (reported s enabled).rows
+all_reported P s enabled sound few all =
+    subst (All P) (reported_released s enabled sound few) (first_of_lanes P s.lanes (reported s enabled).ids all)
+
 all_polled : (P : Row → Type 0) (s : Stock) → IsSound s → All P (rows_in s) → All P (polled_rows s)
-all_polled P s sound all = subst (All P) (released_is s sound) (first_of_lanes P s.lanes (polled_ids s) all)
+all_polled P s sound all = all_reported P s (true ∷ true ∷ true ∷ []) sound (omega arith) all
 
 -- ---- the two links
 
-pub moves_below : StationLaws → LineLaws → LaneLaws → (station : ℕ) (old new : System) → IsSteady old → is_quiet_on old (Below station) ≡ true
-    → IsRound (Below station) old new → is_repeated_on old (Below station) ≡ false → MovesBelow station old new
-moves_below stations lines lanes station old new steady quiet round other =
-    let begins : below.BeginsBelow station old = below.begins_below station old quiet in
-    let was : SubstationState = begins.was in
-    let joined : IsJoinedBelow old.now (link_at old.concentrator station) (steady.standing.links.below station) was =
+-- what stands of a substation and of its master
+joined_to : (station : ℕ) (old : System) (steady : IsSteady old) (begins : below.BeginsBelow station old)
+    → IsJoinedBelow old.now (link_at old.concentrator station) (steady.standing.links.below station) begins.was
+joined_to station old steady begins =
     subst
     (λ (o : Option SubstationState). IfSome o (IsJoinedBelow old.now (link_at old.concentrator station) (steady.standing.links.below station)))
     begins.there (steady.standing.below station)
-    in
+
+pub fit_below : StationLaws → (station : ℕ) (old : System) → IsSteady old → (begins : below.BeginsBelow station old)
+    → AreFit (link_at old.concentrator station).master (station_of begins.was) (panel_of begins.was)
+fit_below stations station old steady begins =
+    let was : SubstationState = begins.was in
+    let joined = joined_to station old steady begins in
     let well : IsWell (station_of was) = joined.joined.outstation.well in
-    let octets : List ℕ = poll_octets (link_at old.concentrator station).master.seq in
-    below.moves stations lines station old new begins
-    (record {
+    record {
+      idle = begins.idle;
+      quiet = begins.quiet;
       sound = well.lanes;
       indexes = well.indexes;
       writable = stations.writable (source_of (station_of was) (panel_of was)) well.points joined.shown.outputs joined.shown.status well.indexes;
       seq = joined.joined.number;
-      reported = all_polled (λ row. is_reported (link_at old.concentrator station).master.plan row ≡ true) was.lanes well.lanes
-          (lanes.below old station was steady.planned begins.low begins.there);
-    })
-    (lines.quiet (Below station) old steady.standing quiet)
-    (ap (λ (o : Option SubstationState). is_repeated_at o octets) (sym begins.there) ∙ other) round
+    }
 
 -- the outputs above show no status
 none_shown : (s : System) → ShowOctets (middle_panel s.concentrator)
 none_shown s = record { outputs = omega arith; status = λ index low. omega arith }
 
-pub moves_above : StationLaws → LineLaws → LaneLaws → (old new : System) → IsSteady old → is_quiet_on old Above ≡ true → IsRound Above old new
-    → is_repeated_on old Above ≡ false → MovesAbove old new
-moves_above stations lines lanes old new steady quiet round other =
+pub fit_above : StationLaws → (old : System) → IsSteady old → above.BeginsAbove old
+    → AreFit old.centre.link.master (middle_of old.concentrator) (middle_panel old.concentrator)
+fit_above stations old steady begins =
     let well : IsWell (middle_of old.concentrator) = steady.standing.above.outstation.well in
     let shown : ShowOctets (middle_panel old.concentrator) = none_shown old in
-    above.moves stations lines old new (above.begins_above old quiet)
-    (record {
+    record {
+      idle = begins.idle;
+      quiet = begins.quiet;
       sound = well.lanes;
       indexes = well.indexes;
       writable = stations.writable (source_of (middle_of old.concentrator) (middle_panel old.concentrator)) well.points shown.outputs shown.status well.indexes;
       seq = steady.standing.above.number;
-      reported = all_polled (λ row. is_reported old.centre.link.master.plan row ≡ true) old.concentrator.queue well.lanes
-          (lanes.above old steady.standing steady.planned);
-    })
-    (lines.quiet Above old steady.standing quiet) other round
+    }
+
+-- ---- a poll that is answered
+
+pub polled_below : StationLaws → LineLaws → LaneLaws → (station : ℕ) (old new : System) → IsSteady old → is_quiet_on old (Below station) ≡ true
+    → IsRound (Below station) old new → is_repeated_on old (Below station) ≡ false → MovesBelow station first_rows old new
+polled_below stations lines lanes station old new steady quiet round other =
+    let begins : below.BeginsBelow station old = below.begins_below station old quiet in
+    let was : SubstationState = begins.was in
+    let m : master.State = (link_at old.concentrator station).master in
+    let fit : AreFit m (station_of was) (panel_of was) = fit_below stations station old steady begins in
+    (below.moves stations lines station old new begins (lines.quiet (Below station) old steady.standing quiet) first_rows round
+    (Exchanges (polled_exchange stations m old.now (station_of was) (panel_of was) fit
+    (all_polled (λ row. is_reported m.plan row ≡ true) was.lanes fit.sound (lanes.below old station was steady.planned begins.low begins.there))
+    (ap (λ (o : Option SubstationState). is_repeated_at o (poll_octets m.seq)) (sym begins.there) ∙ other)))).moves
+
+pub polled_above : StationLaws → LineLaws → LaneLaws → (old new : System) → IsSteady old → is_quiet_on old Above ≡ true → IsRound Above old new
+    → is_repeated_on old Above ≡ false → MovesAbove first_rows old new
+polled_above stations lines lanes old new steady quiet round other =
+    let begins : above.BeginsAbove old = above.begins_above old quiet in
+    let c = old.concentrator in
+    let m : master.State = old.centre.link.master in
+    let fit : AreFit m (middle_of c) (middle_panel c) = fit_above stations old steady begins in
+    (above.moves stations lines old new begins (lines.quiet Above old steady.standing quiet) first_rows round
+    (Exchanges (polled_exchange stations m old.now (middle_of c) (middle_panel c) fit
+    (all_polled (λ row. is_reported m.plan row ≡ true) c.queue fit.sound (lanes.above old steady.standing steady.planned)) other))).moves
+
+-- ---- a poll that is taken for the last request
+
+-- the master waits on, and at most an unsolicited response moved its rows
+pub record PassedBelow (station : ℕ) (old new : System) : Type 0 where
+  pub moves : MovesBelow station first_reported old new
+  pub busy : is_some (relaying_at new (Below station)).master.request ≡ true
+
+pub repeated_below : StationLaws → LineLaws → LaneLaws → ReportLaws → CaseLaw → (station : ℕ) (old new : System) → IsSteady old
+    → is_quiet_on old (Below station) ≡ true → IsRound (Below station) old new → is_repeated_on old (Below station) ≡ true
+    → PassedBelow station old new
+repeated_below stations lines lanes reports cases station old new steady quiet round again =
+    let begins : below.BeginsBelow station old = below.begins_below station old quiet in
+    let was : SubstationState = begins.was in
+    let m : master.State = (link_at old.concentrator station).master in
+    let fit : AreFit m (station_of was) (panel_of was) = fit_below stations station old steady begins in
+    let joined = joined_to station old steady begins in
+    let order : IsInOrder was.core = joined.joined.outstation.well.order in
+    let same : is_last_request was.core.session (poll_octets m.seq) ≡ true =
+    ap (λ (o : Option SubstationState). is_repeated_at o (poll_octets m.seq)) (sym begins.there) ∙ again in
+    let went : WentOn (station_of was) =
+    went_on cases (station_of was) m (steady.standing.links.below station) joined.joined.outstation joined.joined.master
+    (steady.standing.behind.below_stands station) (quiet_parts was.core begins.quiet).is_open fit.idle fit.seq same in
+    let r = repeated reports m old.now (station_of was) (panel_of was) fit order
+    (all_reported (λ row. is_reported m.plan row ≡ true) was.lanes was.core.enabled fit.sound order.classes
+    (lanes.below old station was steady.planned begins.low begins.there)) same went in
+    let x = below.moves stations lines station old new begins (lines.quiet (Below station) old steady.standing quiet) first_reported round r.answer in
+    record { moves = x.moves; busy = ap (λ (a : master.State). is_some a.request) x.master_is ∙ r.busy }
+
+pub record PassedAbove (old new : System) : Type 0 where
+  pub moves : MovesAbove first_reported old new
+  pub busy : is_some (relaying_at new Above).master.request ≡ true
+
+pub repeated_above : StationLaws → LineLaws → LaneLaws → ReportLaws → CaseLaw → (old new : System) → IsSteady old → is_quiet_on old Above ≡ true
+    → IsRound Above old new → is_repeated_on old Above ≡ true → PassedAbove old new
+repeated_above stations lines lanes reports cases old new steady quiet round again =
+    let begins : above.BeginsAbove old = above.begins_above old quiet in
+    let c = old.concentrator in
+    let m : master.State = old.centre.link.master in
+    let fit : AreFit m (middle_of c) (middle_panel c) = fit_above stations old steady begins in
+    let order : IsInOrder c.core = steady.standing.above.outstation.well.order in
+    let went : WentOn (middle_of c) =
+    went_on cases (middle_of c) m steady.standing.links.above steady.standing.above.outstation steady.standing.above.master
+    steady.standing.behind.above_stands (quiet_parts c.core begins.quiet).is_open fit.idle fit.seq again in
+    let r = repeated reports m old.now (middle_of c) (middle_panel c) fit order
+    (all_reported (λ row. is_reported m.plan row ≡ true) c.queue c.core.enabled fit.sound order.classes (lanes.above old steady.standing steady.planned))
+    again went in
+    let x = above.moves stations lines old new begins (lines.quiet Above old steady.standing quiet) first_reported round r.answer in
+    record { moves = x.moves; busy = ap (λ (a : master.State). is_some a.request) x.master_is ∙ r.busy }

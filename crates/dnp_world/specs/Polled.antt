@@ -9,7 +9,7 @@ use Rattle.dnp_eventbuf.specs.Stock.{Stock, without}
 use Rattle.dnp_master.specs.Calls.{Taking}
 use Rattle.dnp_master.specs.Requests.{request_for}
 use Rattle.dnp_master.specs.declared.fault.MasterFault.{MasterFault}
-use Rattle.dnp_outstation.specs.Items.{Item, lane_items}
+use Rattle.dnp_outstation.specs.Items.{Item, enabled_lanes, lane_items, no_ids}
 use Rattle.dnp_outstation.specs.Laws.{lane_numbers}
 use Rattle.dnp_outstation.specs.Layout.{headers_of}
 use Rattle.dnp_outstation.specs.Offer.{held_of, last_ids}
@@ -28,20 +28,39 @@ poll_octets seq = request_octets (request_for seq events_polled)
 abbrev pub confirm_octets : ℕ → List ℕ
 confirm_octets seq = request_octets (confirmation seq false)
 
+-- the rows of one fragment, and the last id in each lane among them, 0 where there is none
+pub record Portion : Type 0 where
+  pub rows : List Row
+  pub ids : List ℕ
+
+-- of these items as many as fit into one fragment
+abbrev pub portion_of : List Item → Portion
+portion_of items = record { rows = events_in (held_of items); ids = last_ids (held_of items) }
+
 -- all rows of the lanes, one lane after another
 abbrev pub polled_items : Stock → List Item
 polled_items lanes = lane_items lanes lane_numbers
 
--- of those as many as fit into one fragment
+abbrev pub polled : Stock → Portion
+polled lanes = portion_of (polled_items lanes)
+
+-- what an unsolicited response has: those of the enabled classes
+abbrev pub reported : Stock → List Bool → Portion
+reported lanes enabled = portion_of (lane_items lanes (enabled_lanes 0 enabled))
+
+abbrev pub no_rows : Portion
+no_rows = record { rows = []; ids = no_ids }
+
+-- ---- the parts of a poll
+
 abbrev pub polled_held : Stock → List Item
 polled_held lanes = held_of (polled_items lanes)
 
 abbrev pub polled_rows : Stock → List Row
-polled_rows lanes = events_in (polled_held lanes)
+polled_rows lanes = (polled lanes).rows
 
--- the last id in each lane among them, 0 where there is none
 abbrev pub polled_ids : Stock → List ℕ
-polled_ids lanes = last_ids (polled_held lanes)
+polled_ids lanes = (polled lanes).ids
 
 -- they are all that the lanes hold
 abbrev pub are_all_polled : Stock → Bool

@@ -24,7 +24,7 @@ use dnp_appfragment::laws::what_is_spelled_is_said;
 use dnp_outstation::laws::{a_release_takes_what_the_octets_said, octets_say_what_is_held};
 use dnp_outstation::link_laws::{
     a_confirm_releases_what_its_fragment_reported, commands_are_performed_as_they_are_asked,
-    what_is_sound_can_be_written,
+    each_case_says_what_came, what_is_sound_can_be_written,
 };
 
 /// A quiet outstation answers a READ of classes 1, 2 and 3 that isn't its last request with the first rows of its lanes, one
@@ -54,7 +54,8 @@ pub fn a_master_takes_what_it_polled()
 }
 
 /// What a clean round over a quiet link moves: the first rows of the lanes below, as many as fit into a fragment, leave them and
-/// come to the end above, in their order, and no others do.
+/// come to the end above, in their order. Where its READ is taken for the last request, as it can be behind a response of a
+/// multiple of sixteen fragments, only an unsolicited response that starts then moves its rows, and the master goes on waiting.
 pub fn a_clean_round_moves_rows()
     ensures { (on : Link) (old new : System) → IsSteady old → is_quiet_on old on ≡ true → IsRound on old new → RoundMoves on old new }
 {
@@ -63,4 +64,8 @@ pub fn a_clean_round_moves_rows()
     what_is_sound_can_be_written();
     what_is_sent_arrives();
     rows_in_lanes_are_asked_for();
+    octets_say_what_is_held();
+    a_release_takes_what_the_octets_said();
+    a_confirm_releases_what_its_fragment_reported();
+    each_case_says_what_came();
 }

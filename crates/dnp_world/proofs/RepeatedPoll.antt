@@ -1,0 +1,215 @@
+-- What comes of a poll that is taken for the last request: nothing, or an unsolicited response that starts then.
+use Rattle.std.proofs.Common.{◌≡◌, ℕ, ◌<◌, ◌≤◌, Bool, true, false, not, ◌&&◌, ◌||◌, ◌==◌, if◌then◌else◌, nat_le, nat_lt, List, length, Option, Some, is_none, is_some, option_map, Ok, Err, refl, sym, ap, ◌∙◌, subst, eq-eqb}
+use Rattle.std.specs.List.{All}
+use Rattle.std.proofs.lemmas.Bool.{and_parts}
+use Rattle.std.proofs.lemmas.Option.{none-some, same_Some}
+use Rattle.dnp_appfragment.specs.Control.{ControlBits, IsControl}
+use Rattle.dnp_appfragment.specs.Fragments.{Answered, confirmation, request_octets, response_octets}
+use Rattle.dnp_appfragment.specs.Meaning.{response_at}
+use Rattle.dnp_appfragment.specs.Table.{is_response}
+use Rattle.dnp_appfragment.specs.declared.function.Function.TheVariants as function
+use Rattle.dnp_appfragment.proofs.Controls.{octet_of_control}
+use Rattle.dnp_controls.specs.Panel.{Panel}
+use Rattle.dnp_controls.specs.Selecting.{deadline}
+use Rattle.dnp_eventbuf.specs.Sound.{IsSound}
+use Rattle.dnp_eventbuf.specs.Stock.{Stock, all_up_to, without}
+use Rattle.dnp_master.specs.Calls.{Taking, asked, asking, heard, receive_of, report_taken, unheeded}
+use Rattle.dnp_master.specs.Rows.{events_in, is_reported}
+use Rattle.dnp_master.specs.State as master
+use Rattle.dnp_master.specs.declared.fault.MasterFault.TheVariants.{Stranger}
+use Rattle.dnp_objects.specs.declared.command.Command.{Command}
+use Rattle.dnp_objects.specs.declared.limits.TheConstants.{MAX_FRAGMENT}
+use Rattle.dnp_outstation.specs.Calls.{connection_after, received, with_that}
+use Rattle.dnp_outstation.specs.Connection.{at_end, awaited_number, case_of, control_in, function_in, has_enabled_rows, is_last_request, is_number, on_again, starts, unsolicited_of}
+use Rattle.dnp_outstation.specs.Content.{Content, content_from, indications}
+use Rattle.dnp_outstation.specs.Items.{Item, enabled_lanes, lane_items}
+use Rattle.dnp_outstation.specs.Layout.{headers_of}
+use Rattle.dnp_outstation.specs.Links.{IsInOrder}
+use Rattle.dnp_outstation.specs.Links as links
+use Rattle.dnp_outstation.specs.Offer.{held_of, offered_of, pushed}
+use Rattle.dnp_outstation.specs.Said.{HaveIndexes}
+use Rattle.dnp_outstation.specs.State.{Core, State, Step, is_free, still}
+use Rattle.dnp_outstation.specs.declared.case.Case.{Case}
+use Rattle.dnp_outstation.specs.declared.case.Case.TheVariants.{Again, Asks, Confirms, ConfirmsUnsolicited, PassedOver, Stray, Waits}
+use Rattle.dnp_outstation.specs.declared.session.LastRequest.{LastRequest}
+use Rattle.dnp_outstation.specs.declared.session.Reply.{Reply}
+use Rattle.dnp_outstation.specs.declared.session.Reply.TheVariants.{Further}
+use Rattle.dnp_outstation.specs.declared.session.Unsolicited.{Unsolicited}
+use Rattle.dnp_outstation.proofs.ItemsOf.{pushed_stand}
+use Rattle.dnp_outstation.proofs.Reported.{held_fits}
+use Rattle.dnp_world.specs.Movement.{first_reported}
+use Rattle.dnp_world.specs.Polled.{Portion, no_rows, poll_octets, reported}
+use Rattle.dnp_world.specs.Rounds.{events_polled}
+use Rattle.dnp_world.proofs.PolledAnswer.{looked_at, quiet_parts}
+use Rattle.dnp_world.proofs.PolledOrder.{reported_released}
+use Rattle.dnp_world.proofs.PolledTaken.{RowsAreSaid, from_plan, polled_by}
+use Rattle.dnp_world.proofs.RoundExchange.{Answer, AreFit, Exchange, Exchanges, Frees, Passes, master_after, polled_step}
+
+-- what lower crates promise of unsolicited responses
+pub record ReportLaws : Type 0 where
+  pub rows : RowsAreSaid
+  pub read : (answered : Answered) (s : Stock) (enabled : List Bool) → answered.headers ≡ (pushed s enabled).headers → IsControl answered.control
+      → is_response answered.function ≡ true → IsSound s → length enabled ≤ 3 → HaveIndexes s → response_at (response_octets answered) ≡ Ok answered
+  pub releases : (s : State) (o : Panel) (now : ℕ) (octets : List ℕ) (w : Unsolicited) → case_of s.core octets ≡ ConfirmsUnsolicited
+      → s.core.session.unsolicited ≡ Some w → links.Releases s w.upto (connection_after s o now octets)
+
+-- ---- the last request again, behind its first fragment
+
+pub comes_again : (c : Core) (seq : ℕ) → seq < 16 → c.is_open ≡ true → is_last_request c.session (poll_octets seq) ≡ true → case_of c (poll_octets seq) ≡ Again
+comes_again c seq low opens again =
+    let octets : List ℕ = poll_octets seq in
+    let by_wait : Bool → Case = λ b. if b then Waits else Asks in
+    let by_last : Bool → Case = λ b. if b then Again else by_wait (is_some c.session.unsolicited) in
+    ap (λ (b : Bool). if not b then PassedOver else by_last (is_last_request c.session octets)) (looked_at c seq low opens) ∙ ap by_last again
+
+-- the response went past its first fragment
+pub record WentOn (s : State) : Type 0 where
+  pub last : LastRequest
+  pub is : s.core.session.last ≡ Some last
+  pub further : last.reply ≡ Further
+
+passed_over : (s : State) (o : Panel) (now seq : ℕ) → seq < 16 → s.core.is_open ≡ true → is_last_request s.core.session (poll_octets seq) ≡ true
+    → WentOn s → polled_step s o now seq ≡ at_end now (still s)
+passed_over s o now seq low opens again went =
+    let octets : List ℕ = poll_octets seq in
+    ap (received s o now octets) (comes_again s.core seq low opens again)
+    ∙ ap (λ (last : Option LastRequest). at_end now (with_that s last (on_again s now octets))) went.is
+    ∙ ap (λ (reply : Reply). at_end now (on_again s now octets (record { reply = reply; stood = went.last.stood; left = went.last.left }))) went.further
+
+-- ---- an unsolicited response
+
+abbrev report_control : ℕ → ControlBits
+report_control seq = record { fir = true; fin = true; con = true; uns = true; seq = seq }
+
+abbrev confirm_control : ℕ → ControlBits
+confirm_control seq = record { fir = true; fin = true; con = false; uns = true; seq = seq }
+
+abbrev report_confirm : ℕ → List ℕ
+report_confirm seq = request_octets (confirmation seq true)
+
+confirm_is : (seq : ℕ) → seq < 16 → control_in (report_confirm seq) ≡ confirm_control seq
+confirm_is seq low = octet_of_control (confirm_control seq) low
+
+confirms : (c : Core) (seq : ℕ) (w : Unsolicited) → seq < 16 → c.is_open ≡ true → c.session.unsolicited ≡ Some w → w.seq ≡ seq
+    → case_of c (report_confirm seq) ≡ ConfirmsUnsolicited
+confirms c seq w low opens waits same =
+    let octets : List ℕ = report_confirm seq in
+    let bits : ControlBits → Bool = λ k. (k.fir && k.fin) && (nat_lt (function_in octets) 129 && (not k.uns || function_in octets == 0)) in
+    let by_number : ControlBits → Case = λ k.
+    if is_number (awaited_number c.session k.uns) k.seq then if k.uns then ConfirmsUnsolicited else Confirms else Stray in
+    ap (λ (b : Bool). if not ((b && (nat_le 2 (length octets) && nat_le (length octets) MAX_FRAGMENT)) && bits (control_in octets)) then PassedOver
+    else by_number (control_in octets)) opens
+    ∙ ap (λ (k : ControlBits). if not ((true && (nat_le 2 (length octets) && nat_le (length octets) MAX_FRAGMENT)) && bits k) then PassedOver
+    else by_number k) (confirm_is seq low)
+    ∙ ap (λ (o : Option Unsolicited). if is_number (option_map (λ x. x.seq) o) seq then ConfirmsUnsolicited else Stray) waits
+    ∙ ap (λ (b : Bool). if b then ConfirmsUnsolicited else Stray) (eq-eqb w.seq seq same)
+
+-- what an unsolicited response of these classes is made of
+pushed_headers : (s : Stock) (enabled : List Bool) → (pushed s enabled).headers ≡ headers_of (held_of (lane_items s (enabled_lanes 0 enabled)))
+unfolding offered_of
+pushed_headers s enabled = refl
+
+pushed_ids : (s : Stock) (enabled : List Bool) → (pushed s enabled).upto ≡ (reported s enabled).ids
+unfolding offered_of
+pushed_ids s enabled = refl
+
+module _ (laws : ReportLaws) (m : master.State) (now : ℕ) (s : State) (o : Panel) (fit : AreFit m s o) (order : IsInOrder s.core)
+    (asked_for : All (λ row. is_reported m.plan row ≡ true) (reported s.lanes s.core.enabled).rows) where
+  abbrev enabled : List Bool
+  enabled = s.core.enabled
+
+  abbrev content : Content
+  content = content_from (pushed s.lanes enabled)
+
+  abbrev next : ℕ
+  next = s.core.session.next
+
+  abbrev started : Step
+  started = starts (still s) now content
+
+  abbrev waits : Unsolicited
+  waits = record { seq = next; upto = content.upto; ends = deadline now s.core.times.confirm_ms; repeats = 0 }
+
+  abbrev said : Answered
+  said = record {
+    control = report_control next;
+    function = function.UnsolicitedResponse;
+    iin = indications s content.upto content.bits;
+    headers = content.headers;
+  }
+
+  read_is : response_at (unsolicited_of s content) ≡ Ok said
+  read_is = laws.read said s.lanes enabled refl order.number refl fit.sound order.classes fit.indexes
+
+  rows_are : events_in said.headers ≡ (reported s.lanes enabled).rows
+  rows_are =
+      let items : List Item = lane_items s.lanes (enabled_lanes 0 enabled) in
+      ap events_in (pushed_headers s.lanes enabled)
+      ∙ laws.rows (held_of items) (pushed_stand s.lanes enabled fit.sound order.classes fit.indexes) (held_fits items)
+
+  abbrev taken : Taking
+  taken = report_taken (asking m now events_polled) said
+
+  taken_is : receive_of (asked m now events_polled) now (unsolicited_of s content) ≡ Ok taken
+  unfolding receive_of
+  taken_is =
+      let asked_once : master.State = asking m now events_polled in
+      let octets : List ℕ = unsolicited_of s content in
+      ap (λ (a : master.State). if a.is_open then heard a now (response_at octets) else Ok (unheeded a)) (polled_by m now fit.idle)
+      ∙ ap (λ (b : Bool). if b then heard asked_once now (response_at octets) else Ok (unheeded asked_once))
+      (and_parts m.is_open (is_none m.request) fit.idle).0
+      ∙ ap (heard asked_once now) read_is
+      ∙ ap (λ (b : Bool). if b then Ok taken else Err Stranger) (from_plan m.plan said (reported s.lanes enabled).rows rows_are asked_for)
+
+  freed : (performed : List Command) (p : Panel) → Frees (reported s.lanes enabled) s.lanes
+      (connection_after (record { core = started.state.core; lanes = started.state.lanes; performed = performed }) p now (report_confirm next))
+  freed performed p =
+      let after : State = record { core = started.state.core; lanes = started.state.lanes; performed = performed } in
+      let r = laws.releases after p now (report_confirm next) waits
+      (confirms after.core next waits order.number (quiet_parts s.core fit.quiet).is_open refl refl) refl in
+      record {
+        lanes = r.lanes ∙ ap (without s.lanes) (pushed_ids s.lanes enabled);
+        discarded = r.discarded ∙ ap (all_up_to s.lanes) (pushed_ids s.lanes enabled) ∙ reported_released s.lanes enabled fit.sound order.classes;
+      }
+
+  exchanges : polled_step s o now m.seq ≡ started → Exchange m now s o (reported s.lanes enabled)
+  exchanges is = record {
+    fragment = unsolicited_of s content;
+    sent = ap (λ (x : Step). x.does.send) is;
+    discarded = ap (λ (x : Step). x.does.discarded) is;
+    lanes = ap (λ (x : Step). x.state.lanes) is;
+    released = reported_released s.lanes enabled fit.sound order.classes;
+    taken = taken;
+    is_taken = taken_is;
+    events = rows_are;
+    confirm = Some (report_confirm next);
+    confirm_is = refl;
+    frees = λ octets e performed p.
+        subst
+        (λ (x : Step). Frees (reported s.lanes enabled) s.lanes
+        (connection_after (record { core = x.state.core; lanes = x.state.lanes; performed = performed }) p now octets))
+        (sym is)
+        (subst
+        (λ (x : List ℕ). Frees (reported s.lanes enabled) s.lanes
+        (connection_after (record { core = started.state.core; lanes = started.state.lanes; performed = performed }) p now x))
+        (same_Some (report_confirm next) octets e) (freed performed p));
+    none = λ e. absurd (none-some (report_confirm next) (sym e));
+  }
+
+  -- ---- nothing, or that
+
+  -- what comes of it, and the master waits on
+  pub record Repeated (portion : Portion) : Type 0 where
+    pub answer : Answer m now s o portion
+    pub busy : is_some (master_after m now s o portion answer).request ≡ true
+
+  abbrev starts_report : Bool
+  starts_report = s.core.times.unsolicited && (s.core.announced && (s.core.is_open && (is_free s.core && has_enabled_rows s)))
+
+  by_end : (b : Bool) → polled_step s o now m.seq ≡ (if b then started else still s) → Repeated (if b then reported s.lanes enabled else no_rows)
+  unfolding exchanges
+  by_end true is = record { answer = Exchanges (exchanges is); busy = refl }
+  by_end false is = record { answer = Passes is refl; busy = ap (λ (a : master.State). is_some a.request) (polled_by m now fit.idle) }
+
+  pub repeated : is_last_request s.core.session (poll_octets m.seq) ≡ true → WentOn s → Repeated (first_reported s)
+  repeated again went = by_end starts_report (passed_over s o now m.seq fit.seq (quiet_parts s.core fit.quiet).is_open again went)
