@@ -1,5 +1,5 @@
 -- Steps of a dialogue, one after the other, and what they wrote.
-use Rattle.std.proofs.Common.{◌≡◌, ◌⊎◌, inl, inr, ℕ, ◌+◌, ◌≤◌, Bool, true, false, List, [], ◌∷◌, ◌++◌, length, Option, Result, Ok, Err}
+use Rattle.std.proofs.Common.{◌≡◌, inl, inr, ℕ, ◌+◌, Bool, true, false, List, [], ◌∷◌, ◌++◌, length, Option, Result, Ok, Err}
 use Rattle.std.proofs.Common.{◌<◌, take, get_or, refl, sym, ap, ◌∙◌, subst, append_assoc, append-nil, length-append, arith}
 use Rattle.std.proofs.lemmas.List.{take_more}
 use Rattle.std.specs.Io.KnownBytes.{Appends}
@@ -10,11 +10,10 @@ use Rattle.dnp_master.specs.declared.outcome.Outcome.{Outcome}
 use Rattle.dnp_master.specs.declared.task.Task.{Task}
 use Rattle.dnp_daemons.specs.declared.stream.serve.ServeFault.{ServeFault}
 use Rattle.dnp_daemons.specs.declared.stream.serve.ServeFault.TheVariants.{ReadFailed, WriteFailed, TurnsSpent, Memory}
-use Rattle.dnp_daemons.specs.streams.Counts.{most}
 use Rattle.dnp_daemons.specs.streams.Dialogues.{Asking, Dialogue, Step, Beginning, Going, Hearing, Begins, Goes, Hears, Makes, MakesAll, heard_in}
 use Rattle.dnp_daemons.specs.streams.Spelled.{AreSpelled}
 use Rattle.dnp_daemons.specs.streams.Stations.{Opening, Receiving}
-use Rattle.dnp_daemons.specs.steps.Hearing.{AreWritten, ArePartlyWritten}
+use Rattle.dnp_daemons.specs.steps.Hearing.{AreWritten}
 use Rattle.dnp_daemons.specs.steps.Talking.{Puts, StepsEnd, Turns}
 use Rattle.dnp_daemons.proofs.streams.Hearing.{written_more, written_part}
 use Rattle.dnp_daemons.proofs.streams.Spelling.{spelled_none}

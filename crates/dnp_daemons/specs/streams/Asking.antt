@@ -3,7 +3,7 @@ use Rattle.std.specs.Prelude.{◌≡◌, ℕ, ◌<◌, ◌≤◌, ◌&&◌, nat_
 use Rattle.dnp_controls.specs.declared.book.Entry.{Entry}
 use Rattle.dnp_concentrator.specs.Below.{link_in}
 use Rattle.dnp_concentrator.specs.Relayed.{Tells}
-use Rattle.dnp_concentrator.specs.Relaying.{Relaying, asking, relaying_after, step_of}
+use Rattle.dnp_concentrator.specs.Relaying.{asking, relaying_after, step_of}
 use Rattle.dnp_concentrator.specs.declared.relayed.Relayed.{Relayed}
 use Rattle.dnp_concentrator.specs.declared.relayed.Relayed.TheVariants.{Nothing}
 use Rattle.dnp_master.specs.Calls.{ask_answer}

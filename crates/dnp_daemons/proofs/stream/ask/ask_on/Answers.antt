@@ -4,7 +4,6 @@ use Rattle.std.specs.Io.KnownBytes.{Consumes}
 use Rattle.std.proofs.KnownBytes.{Consumes-kept, Consumes-nil, Consumes-trans}
 use Rattle.dnp_linkframe.specs.declared.frame.Frame.{Frame}
 use Rattle.dnp_daemons.specs.declared.stream.log.Log.{Log}
-use Rattle.dnp_daemons.specs.streams.Stations.{endpoint}
 use Rattle.dnp_daemons.proofs.streams.Dialogues.{turns_then}
 use Rattle.dnp_daemons.proofs.streams.Going.{gives_none}
 use Rattle.dnp_daemons.proofs.streams.Talking.{from_unbegun, goes_on_first, goes_on_more, is_waiting, talks_ends, talks_fault, talks_stop}

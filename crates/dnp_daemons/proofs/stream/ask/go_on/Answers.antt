@@ -1,5 +1,5 @@
 use Rattle.std.proofs.Common.{◌≡◌, ◌∷◌, [], true, arith, length-append, refl, sym, ◌∙◌}
-use Rattle.dnp_daemons.specs.streams.Dialogues.{Step, Going}
+use Rattle.dnp_daemons.specs.streams.Dialogues.{Going}
 use Rattle.dnp_daemons.proofs.streams.Dialogues.{go_puts, turns_cut, turns_one, turns_then}
 use Rattle.dnp_daemons.proofs.stream.ask.go_on.Goals as goal
 

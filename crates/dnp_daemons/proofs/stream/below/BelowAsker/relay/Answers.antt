@@ -1,6 +1,5 @@
 use Rattle.std.proofs.Common.{rules, ◌<◌, length, ap}
 use Rattle.dnp_concentrator.specs.Concentrator.{core_of, indices_of, links_of, queue_of}
-use Rattle.dnp_concentrator.specs.BookOutputs.{map_in}
 use Rattle.dnp_daemons.proofs.streams.Taken.{relayed_below}
 use Rattle.dnp_daemons.proofs.stream.below.BelowAsker.relay.Goals as goal
 
