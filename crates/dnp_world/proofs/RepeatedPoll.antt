@@ -1,12 +1,12 @@
 -- What comes of a poll that is taken for the last request: nothing, or an unsolicited response that starts then.
-use Rattle.std.proofs.Common.{◌≡◌, ℕ, ◌<◌, ◌≤◌, Bool, true, false, not, ◌&&◌, ◌||◌, ◌==◌, if◌then◌else◌, nat_le, nat_lt, List, length, Option, Some, is_none, is_some, option_map, Ok, Err, refl, sym, ap, ◌∙◌, subst, eq-eqb}
+use Rattle.std.proofs.Common.{◌≡◌, ◌≢◌, ℕ, ◌<◌, ◌≤◌, Bool, true, false, not, ◌&&◌, ◌||◌, ◌==◌, if◌then◌else◌, nat_le, nat_lt, List, length, Option, Some, is_none, is_some, option_map, Ok, Err, refl, sym, ap, ◌∙◌, subst, eq-eqb}
 use Rattle.std.specs.List.{All}
 use Rattle.std.proofs.lemmas.Bool.{and_parts}
 use Rattle.std.proofs.lemmas.Option.{none-some, same_Some}
 use Rattle.dnp_appfragment.specs.Control.{ControlBits, IsControl}
 use Rattle.dnp_appfragment.specs.Fragments.{Answered, confirmation, request_octets, response_octets}
 use Rattle.dnp_appfragment.specs.Meaning.{response_at}
-use Rattle.dnp_appfragment.specs.Table.{is_response}
+use Rattle.dnp_appfragment.specs.Table.{function_octet, is_response}
 use Rattle.dnp_appfragment.specs.declared.function.Function.TheVariants as function
 use Rattle.dnp_appfragment.proofs.Controls.{octet_of_control}
 use Rattle.dnp_controls.specs.Panel.{Panel}
@@ -22,6 +22,7 @@ use Rattle.dnp_objects.specs.declared.limits.TheConstants.{MAX_FRAGMENT}
 use Rattle.dnp_outstation.specs.Calls.{connection_after, received, with_that}
 use Rattle.dnp_outstation.specs.Connection.{at_end, awaited_number, case_of, control_in, function_in, has_enabled_rows, is_last_request, is_number, on_again, starts, unsolicited_of}
 use Rattle.dnp_outstation.specs.Content.{Content, content_from, indications}
+use Rattle.dnp_outstation.specs.Controls.{is_control}
 use Rattle.dnp_outstation.specs.Items.{Item, enabled_lanes, lane_items}
 use Rattle.dnp_outstation.specs.Layout.{headers_of}
 use Rattle.dnp_outstation.specs.Links.{IsInOrder}
@@ -52,6 +53,9 @@ pub record ReportLaws : Type 0 where
       → is_response answered.function ≡ true → IsSound s → length enabled ≤ 3 → HaveIndexes s → response_at (response_octets answered) ≡ Ok answered
   pub releases : (s : State) (o : Panel) (now : ℕ) (octets : List ℕ) (w : Unsolicited) → case_of s.core octets ≡ ConfirmsUnsolicited
       → s.core.session.unsolicited ≡ Some w → links.Releases s w.upto (connection_after s o now octets)
+  pub only : (s : State) (o : Panel) (now : ℕ) (octets : List ℕ) → function_in octets ≢ function_octet function.Operate
+      → function_in octets ≢ function_octet function.DirectOperate → function_in octets ≢ function_octet function.DirectOperateNr
+      → (connection_after s o now octets).state.performed ≡ s.performed
 
 -- ---- the last request again, behind its first fragment
 
@@ -161,7 +165,7 @@ module _ (laws : ReportLaws) (m : master.State) (now : ℕ) (s : State) (o : Pan
       ∙ ap (heard asked_once now) read_is
       ∙ ap (λ (b : Bool). if b then Ok taken else Err Stranger) (from_plan m.plan said (reported s.lanes enabled).rows rows_are asked_for)
 
-  freed : (performed : List Command) (p : Panel) → Frees (reported s.lanes enabled) s.lanes
+  freed : (performed : List Command) (p : Panel) → Frees (reported s.lanes enabled) s.lanes performed
       (connection_after (record { core = started.state.core; lanes = started.state.lanes; performed = performed }) p now (report_confirm next))
   freed performed p =
       let after : State = record { core = started.state.core; lanes = started.state.lanes; performed = performed } in
@@ -170,6 +174,7 @@ module _ (laws : ReportLaws) (m : master.State) (now : ℕ) (s : State) (o : Pan
       record {
         lanes = r.lanes ∙ ap (without s.lanes) (pushed_ids s.lanes enabled);
         discarded = r.discarded ∙ ap (all_up_to s.lanes) (pushed_ids s.lanes enabled) ∙ reported_released s.lanes enabled fit.sound order.classes;
+        performed_is = laws.only after p now (report_confirm next) (λ e. cc) (λ e. cc) (λ e. cc);
       }
 
   exchanges : polled_step s o now m.seq ≡ started → Exchange m now s o (reported s.lanes enabled)
@@ -178,6 +183,7 @@ module _ (laws : ReportLaws) (m : master.State) (now : ℕ) (s : State) (o : Pan
     sent = ap (λ (x : Step). x.does.send) is;
     discarded = ap (λ (x : Step). x.does.discarded) is;
     lanes = ap (λ (x : Step). x.state.lanes) is;
+    performed = ap (λ (x : Step). x.state.performed) is;
     released = reported_released s.lanes enabled fit.sound order.classes;
     taken = taken;
     is_taken = taken_is;
@@ -186,14 +192,15 @@ module _ (laws : ReportLaws) (m : master.State) (now : ℕ) (s : State) (o : Pan
     confirm_is = refl;
     frees = λ octets e performed p.
         subst
-        (λ (x : Step). Frees (reported s.lanes enabled) s.lanes
+        (λ (x : Step). Frees (reported s.lanes enabled) s.lanes performed
         (connection_after (record { core = x.state.core; lanes = x.state.lanes; performed = performed }) p now octets))
         (sym is)
         (subst
-        (λ (x : List ℕ). Frees (reported s.lanes enabled) s.lanes
+        (λ (x : List ℕ). Frees (reported s.lanes enabled) s.lanes performed
         (connection_after (record { core = started.state.core; lanes = started.state.lanes; performed = performed }) p now x))
         (same_Some (report_confirm next) octets e) (freed performed p));
     none = λ e. absurd (none-some (report_confirm next) (sym e));
+    no_control = λ octets e. ap is_control (sym (same_Some (report_confirm next) octets e));
   }
 
   -- ---- nothing, or that

@@ -1,5 +1,5 @@
 -- A clean round over the link between concentrator and centre.
-use Rattle.std.proofs.Common.{◌≡◌, ℕ, ◌+◌, true, ◌&&◌, List, [], ◌∷◌, ◌++◌, append-nil, arith, Option, Some, None, Result, Ok, refl, sym, ap, ◌∙◌, subst}
+use Rattle.std.proofs.Common.{◌≡◌, ℕ, ◌+◌, Bool, true, false, if◌then◌else◌, ◌&&◌, List, [], ◌∷◌, ◌++◌, append-nil, arith, Option, Some, None, Result, Ok, refl, sym, ap, ◌∙◌, subst}
 use Rattle.std.specs.Prelude.{option_to_list}
 use Rattle.std.proofs.lemmas.Bool.{and_parts}
 use Rattle.dnp_concentrator.specs.BookOutputs.{all_added}
@@ -9,15 +9,21 @@ use Rattle.dnp_eventbuf.specs.Archive.{Archive, with_events}
 use Rattle.dnp_master.specs.Calls.{Taking, receive_of}
 use Rattle.dnp_master.specs.State as master
 use Rattle.dnp_master.specs.declared.fault.MasterFault.{MasterFault}
-use Rattle.dnp_outstation.specs.Calls.{connection_after, performed_in}
+use Rattle.dnp_objects.specs.declared.command.Command.{Command}
+use Rattle.dnp_objects.specs.declared.row.Row.{Row}
+use Rattle.dnp_outstation.specs.Calls.{connection_after, performed_at, performed_for, performed_in}
+use Rattle.dnp_outstation.specs.Connection.{case_of}
+use Rattle.dnp_outstation.specs.Controls.{is_control}
 use Rattle.dnp_outstation.specs.State.{State, Step, is_quiet, still}
+use Rattle.dnp_outstation.specs.declared.case.Case.{Case}
+use Rattle.dnp_outstation.specs.declared.case.Case.TheVariants.{Again, Asks, Confirms, ConfirmsUnsolicited, PassedOver, Stray, Waits}
 use Rattle.dnp_world.specs.Arriving.{Arrives, HearsAt, IsClearOn, UnderWay, confirms_of}
 use Rattle.dnp_world.specs.Channels.{ChannelState, GoDown, are_quiet}
 use Rattle.dnp_world.specs.Movement.{Leave, MovesAbove, Released, Rested}
 use Rattle.dnp_world.specs.Polled.{Portion, no_rows, poll_octets}
 use Rattle.dnp_world.specs.Rounds.{IsRound, events_polled, is_quiet_on}
 use Rattle.dnp_world.specs.SystemEvents.{LinesChange, MasterReceives, MiddleAnswers, SendsDown, centre_taken, relaying_at, taken_above, with_centre_link}
-use Rattle.dnp_world.specs.Systems.{CentreState, ConcentratorState, System, middle_of, middle_panel}
+use Rattle.dnp_world.specs.Systems.{CentreState, ConcentratorState, History, SubstationState, System, middle_of, middle_panel}
 use Rattle.dnp_world.specs.declared.event.Link.TheVariants.{Above}
 use Rattle.dnp_world.specs.declared.link_event.Way.TheVariants.{Down, Up}
 use Rattle.dnp_world.proofs.RoundBelow.{LineLaws}
@@ -37,48 +43,81 @@ concentrator_after c now fragment = record c {
   controls = all_added c.indices c.controls (performed_in c.core (middle_panel c) now fragment);
 }
 
--- the concentrator, the centre and the moment are these
-record IsNow (c : ConcentratorState) (centre : CentreState) (now : ℕ) (s : System) : Type 0 where
+-- what is no control performs nothing
+no_commands : (c : ConcentratorState) (now : ℕ) (fragment : List ℕ) → is_control fragment ≡ false → performed_in c.core (middle_panel c) now fragment ≡ []
+no_commands c now fragment none = by (case_of c.core fragment)
+  where
+    by : (x : Case) → performed_for c.core (middle_panel c) now fragment x ≡ []
+    by PassedOver = refl
+    by Confirms = refl
+    by ConfirmsUnsolicited = refl
+    by Stray = refl
+    by Again = refl
+    by Waits = refl
+    by Asks = ap (λ (b : Bool). if b then performed_at c.core (middle_panel c) now fragment else []) none
+
+-- what the round leaves alone
+record Rest : Type 0 where
+  substations : List SubstationState
+  history : History
+  now : ℕ
+
+-- the concentrator and the centre are these, and all else but lines is as it was
+record IsNow (rest : Rest) (c : ConcentratorState) (centre : CentreState) (s : System) : Type 0 where
   concentrator : s.concentrator ≡ c
   centre_is : s.centre ≡ centre
-  now_is : s.now ≡ now
+  substations : s.substations ≡ rest.substations
+  history : s.history ≡ rest.history
+  now : s.now ≡ rest.now
 
-module _ (c : ConcentratorState) (centre : CentreState) (now : ℕ) where
-  lines_change : (Change : ChannelState → ChannelState → Type 0) (old new : System) → LinesChange Above Change old new → IsNow c centre now old
-      → IsNow c centre now new
-  lines_change Change old new change h =
-      subst (IsNow c centre now) (sym change.1) (record { concentrator = h.concentrator; centre_is = h.centre_is; now_is = h.now_is })
-
-  -- the concentrator answers
-  middle_steps : (fragment : List ℕ) (old new : System) → MiddleAnswers (fragment ∷ []) old new → IsNow c centre now old
-      → IsNow (concentrator_after c now fragment) centre now new
-  middle_steps fragment old new answers h =
-      subst (IsNow (concentrator_after c now fragment) centre now) (sym answers.after) record {
-        concentrator = ap (λ (x : ConcentratorState). concentrator_after x old.now fragment) h.concentrator
-            ∙ ap (λ (n : ℕ). concentrator_after c n fragment) h.now_is;
-        centre_is = h.centre_is;
-        now_is = h.now_is;
+module _ (rest : Rest) (c : ConcentratorState) (centre : CentreState) where
+  lines_change : (Change : ChannelState → ChannelState → Type 0) (old new : System) → LinesChange Above Change old new → IsNow rest c centre old
+      → IsNow rest c centre new
+  lines_change Change old new change n =
+      subst (IsNow rest c centre) (sym change.1) record {
+        concentrator = n.concentrator;
+        centre_is = n.centre_is;
+        substations = n.substations;
+        history = n.history;
+        now = n.now;
       }
 
-  middle_sends : (fragment : List ℕ) (s : System) → IsNow c centre now s
-      → (step_in s.concentrator s.now fragment).does.send ≡ (step_in c now fragment).does.send
-  middle_sends fragment s h =
-      ap (λ (x : ConcentratorState). (step_in x s.now fragment).does.send) h.concentrator
-      ∙ ap (λ (n : ℕ). (step_in c n fragment).does.send) h.now_is
+  -- the concentrator answers
+  middle_steps : (fragment : List ℕ) (old new : System) → MiddleAnswers (fragment ∷ []) old new → IsNow rest c centre old
+      → IsNow rest (concentrator_after c rest.now fragment) centre new
+  middle_steps fragment old new answers n =
+      subst (IsNow rest (concentrator_after c rest.now fragment) centre) (sym answers.after) record {
+        concentrator = ap (λ (x : ConcentratorState). concentrator_after x old.now fragment) n.concentrator
+            ∙ ap (λ (k : ℕ). concentrator_after c k fragment) n.now;
+        centre_is = n.centre_is;
+        substations = n.substations;
+        history = n.history;
+        now = n.now;
+      }
+
+  middle_sends : (fragment : List ℕ) (s : System) → IsNow rest c centre s
+      → (step_in s.concentrator s.now fragment).does.send ≡ (step_in c rest.now fragment).does.send
+  middle_sends fragment s n =
+      ap (λ (x : ConcentratorState). (step_in x s.now fragment).does.send) n.concentrator
+      ∙ ap (λ (k : ℕ). (step_in c k fragment).does.send) n.now
 
   -- the centre takes its rows
-  rows_taken : (t : Taking) (s : System) → IsNow c centre now s → IsNow c (centre_taken centre t) now (taken_above s t)
-  rows_taken t s h = record {
-    concentrator = h.concentrator;
-    centre_is = ap (λ (x : CentreState). centre_taken x t) h.centre_is;
-    now_is = h.now_is;
+  rows_taken : (t : Taking) (s : System) → IsNow rest c centre s → IsNow rest c (centre_taken centre t) (taken_above s t)
+  rows_taken t s n = record {
+    concentrator = n.concentrator;
+    centre_is = ap (λ (x : CentreState). centre_taken x t) n.centre_is;
+    substations = n.substations;
+    history = n.history;
+    now = n.now;
   }
 
-  link_set : (r : Relaying) (s : System) → IsNow c centre now s → IsNow c (record centre { link = r }) now (with_centre_link s r)
-  link_set r s h = record {
-    concentrator = h.concentrator;
-    centre_is = ap (λ (x : CentreState). record x { link = r }) h.centre_is;
-    now_is = h.now_is;
+  link_set : (r : Relaying) (s : System) → IsNow rest c centre s → IsNow rest c (record centre { link = r }) (with_centre_link s r)
+  link_set r s n = record {
+    concentrator = n.concentrator;
+    centre_is = ap (λ (x : CentreState). record x { link = r }) n.centre_is;
+    substations = n.substations;
+    history = n.history;
+    now = n.now;
   }
 
 -- ---- what the round begins with
@@ -121,13 +160,17 @@ module _ (laws : StationLaws) (lines : LineLaws) (old new : System) (begins : Be
   abbrev centre1 : CentreState
   centre1 = record old.centre { link = asking }
 
+  abbrev rest : Rest
+  rest = record { substations = old.substations; history = old.history; now = old.now }
+
   -- the poll goes down
   sends : SendsDown Above (poll ∷ []) asking old round.asked
   sends = asks_so Above old round.asked true poll refl (laws.asks link.master begins.idle) round.asks
 
-  once_asked : IsNow c0 centre1 old.now round.asked
-  once_asked = lines_change c0 centre1 old.now (GoDown (poll ∷ [])) (with_centre_link old asking) round.asked sends
-      (link_set c0 old.centre old.now asking old (record { concentrator = refl; centre_is = refl; now_is = refl }))
+  once_asked : IsNow rest c0 centre1 round.asked
+  once_asked = lines_change rest c0 centre1 (GoDown (poll ∷ [])) (with_centre_link old asking) round.asked sends
+      (link_set rest c0 old.centre asking old
+      (record { concentrator = refl; centre_is = refl; substations = refl; history = refl; now = refl }))
 
   poll_under_way : UnderWay Above (poll ∷ []) [] round.asked
   poll_under_way = lines.asked Above (poll ∷ []) [] [] asking old round.asked clear sends
@@ -140,24 +183,40 @@ module _ (laws : StationLaws) (lines : LineLaws) (old new : System) (begins : Be
   c1 = concentrator_after c0 old.now poll
 
   record IsAnswered (answers : List (List ℕ)) : Type 0 where
-    is : IsNow c1 centre1 old.now round.answered
+    is : IsNow rest c1 centre1 round.answered
     under_way : UnderWay Above [] answers round.answered
 
   answered : (answers : List (List ℕ)) → step1.does.send ≡ answers → IsAnswered answers
   answered answers sent =
       let d = lines.down Above (poll ∷ []) [] round.asked round.answered poll_under_way round.down in
       let a : Arrives Above Down poll d.0 round.asked round.answered = one_arrives Above Down poll d.0 round.asked round.answered d.1 in
-      let heard = lines_change c0 centre1 old.now (HearsAt Down) round.asked a.heard a.hears once_asked in
-      let back : d.0 ≡ answers = a.sends ∙ middle_sends c0 centre1 old.now poll a.heard heard ∙ sent in
+      let heard = lines_change rest c0 centre1 (HearsAt Down) round.asked a.heard a.hears once_asked in
+      let back : d.0 ≡ answers = a.sends ∙ middle_sends rest c0 centre1 poll a.heard heard ∙ sent in
       record {
-        is = middle_steps c0 centre1 old.now poll a.heard round.answered a.takes heard;
+        is = middle_steps rest c0 centre1 poll a.heard round.answered a.takes heard;
         under_way = subst (λ (up : List (List ℕ)). UnderWay Above [] up round.answered) back d.2;
       }
+
+  -- what is no control leaves the book as it is
+  plain_after : (c : ConcentratorState) (fragment : List ℕ) → is_control fragment ≡ false → c ≡ record c0 { core = c.core; queue = c.queue }
+      → (let next : ConcentratorState = concentrator_after c old.now fragment in next ≡ record c0 { core = next.core; queue = next.queue })
+  plain_after c fragment none plain =
+      let step : Step = step_in c old.now fragment in
+      ap (λ (commands : List Command). record c {
+        core = step.state.core;
+        queue = step.state.lanes;
+        controls = all_added c.indices c.controls commands;
+      }) (no_commands c old.now fragment none)
+      ∙ ap (λ (x : ConcentratorState). record x { core = step.state.core; queue = step.state.lanes }) plain
+
+  plain_polled : c1 ≡ record c0 { core = c1.core; queue = c1.queue }
+  plain_polled = plain_after c0 poll refl refl
 
   -- what the round ends with
   record IsDone (c : ConcentratorState) (centre : CentreState) : Type 0 where
     left : Leave portion c0.queue c.queue
-    is : IsNow c centre old.now new
+    plain : c ≡ record c0 { core = c.core; queue = c.queue }
+    is : IsNow rest c centre new
 
   -- ---- a fragment is exchanged
   module _ (x : Exchange link.master old.now (middle_of c0) (middle_panel c0) portion) where
@@ -165,7 +224,7 @@ module _ (laws : StationLaws) (lines : LineLaws) (old new : System) (begins : Be
     centre2 = centre_taken centre1 x.taken
 
     record IsTaken : Type 0 where
-      is : IsNow c1 centre2 old.now round.taken
+      is : IsNow rest c1 centre2 round.taken
       under_way : UnderWay Above (option_to_list x.confirm) [] round.taken
 
     -- it comes, and is taken
@@ -175,18 +234,18 @@ module _ (laws : StationLaws) (lines : LineLaws) (old new : System) (begins : Be
         let before = answered (x.fragment ∷ []) x.sent in
         let u = lines.up Above [] (x.fragment ∷ []) round.answered round.taken before.under_way round.up in
         let b : Arrives Above Up x.fragment u.0 round.answered round.taken = one_arrives Above Up x.fragment u.0 round.answered round.taken u.1 in
-        let heard = lines_change c1 centre1 old.now (HearsAt Up) round.answered b.heard b.hears before.is in
+        let heard = lines_change rest c1 centre1 (HearsAt Up) round.answered b.heard b.hears before.is in
         let got : receive_of (relaying_at b.heard Above).master b.heard.now x.fragment ≡ Ok t =
         ap (λ (y : CentreState). receive_of y.link.master b.heard.now x.fragment) heard.centre_is
-        ∙ ap (λ (n : ℕ). receive_of asking.master n x.fragment) heard.now_is
+        ∙ ap (λ (n : ℕ). receive_of asking.master n x.fragment) heard.now
         ∙ x.is_taken
         in
         let received : MasterReceives Above (Ok t) b.heard round.taken =
         subst (λ (r : Result Taking MasterFault). MasterReceives Above r b.heard round.taken) got b.takes in
         let sent : u.0 ≡ option_to_list x.confirm = b.sends ∙ ap confirms_of got ∙ ap option_to_list x.confirm_is in
         record {
-          is = lines_change c1 centre2 old.now (GoDown (option_to_list t.confirm)) (taken_above b.heard t) round.taken received.1
-              (rows_taken c1 centre1 old.now t b.heard heard);
+          is = lines_change rest c1 centre2 (GoDown (option_to_list t.confirm)) (taken_above b.heard t) round.taken received.1
+              (rows_taken rest c1 centre1 t b.heard heard);
           under_way = subst (λ (down : List (List ℕ)). UnderWay Above down [] round.taken) sent u.2;
         }
 
@@ -196,16 +255,20 @@ module _ (laws : StationLaws) (lines : LineLaws) (old new : System) (begins : Be
     confirms (Some octets) is under_way =
         let d = lines.down Above (octets ∷ []) [] round.taken new under_way round.confirms in
         let a : Arrives Above Down octets d.0 round.taken new = one_arrives Above Down octets d.0 round.taken new d.1 in
-        let heard = lines_change c1 centre2 old.now (HearsAt Down) round.taken a.heard a.hears taken.is in
-        let r : Frees portion c0.queue (step_in c1 old.now octets) = x.frees octets is (middle_of c1).performed (middle_panel c1) in (
+        let heard = lines_change rest c1 centre2 (HearsAt Down) round.taken a.heard a.hears taken.is in
+        let r : Frees portion c0.queue (middle_of c1).performed (step_in c1 old.now octets) = x.frees octets is (middle_of c1).performed (middle_panel c1) in (
           concentrator_after c1 old.now octets,
-          record { left = Released x.released r.lanes; is = middle_steps c1 centre2 old.now octets a.heard new a.takes heard },
+          record {
+            left = Released x.released r.lanes;
+            plain = plain_after c1 octets (x.no_control octets is) plain_polled;
+            is = middle_steps rest c1 centre2 octets a.heard new a.takes heard;
+          },
         )
     confirms None is under_way =
         let d = lines.down Above [] [] round.taken new under_way round.confirms in
         let same : new ≡ round.taken = d.1.1 in (
           c1,
-          record { left = Rested (x.none is) x.lanes; is = subst (IsNow c1 centre2 old.now) (sym same) taken.is },
+          record { left = Rested (x.none is) x.lanes; plain = plain_polled; is = subst (IsNow rest c1 centre2) (sym same) taken.is },
         )
 
   -- ---- the poll is passed over
@@ -219,7 +282,8 @@ module _ (laws : StationLaws) (lines : LineLaws) (old new : System) (begins : Be
       let third : new ≡ round.taken = d.1.1 in
       record {
         left = Rested (ap (λ (x : Portion). x.rows) none) (ap (λ (step : Step). step.state.lanes) rests);
-        is = subst (IsNow c1 centre1 old.now) (sym (third ∙ second)) before.is;
+        plain = plain_polled;
+        is = subst (IsNow rest c1 centre1) (sym (third ∙ second)) before.is;
       }
 
   -- ---- all of it
@@ -228,20 +292,30 @@ module _ (laws : StationLaws) (lines : LineLaws) (old new : System) (begins : Be
     pub moves : MovesAbove portion_in old new
     pub master_is : (relaying_at new Above).master ≡ after
 
-  moved : (c : ConcentratorState) (centre : CentreState) → IsDone c centre → centre.journal ≡ with_events old.centre.journal portion.rows
-      → Moved centre.link.master
+  -- of the centre the link and the journal change
+  moved : (c : ConcentratorState) (centre : CentreState) → IsDone c centre
+      → centre ≡ record old.centre { link = centre.link; journal = with_events old.centre.journal portion.rows } → Moved centre.link.master
   moved c centre done journal = record {
     moves = record {
       left = subst (λ (x : ConcentratorState). Leave portion c0.queue x.queue) (sym done.is.concentrator) done.left;
-      journal = ap (λ (x : CentreState). x.journal) done.is.centre_is ∙ journal;
+      concentrator = subst (λ (x : ConcentratorState). x ≡ record c0 { core = x.core; queue = x.queue }) (sym done.is.concentrator) done.plain;
+      centre = subst (λ (x : CentreState). x ≡ record old.centre { link = x.link; journal = with_events old.centre.journal portion.rows })
+          (sym done.is.centre_is) journal;
+      substations = done.is.substations;
+      history = done.is.history;
     };
     master_is = ap (λ (x : CentreState). x.link.master) done.is.centre_is;
   }
+
+  abbrev with_journal : CentreState → Archive → CentreState
+  with_journal centre journal = record old.centre { link = centre.link; journal = journal }
 
   pub moves : (answer : Answer link.master old.now (middle_of c0) (middle_panel c0) portion)
       → Moved (master_after link.master old.now (middle_of c0) (middle_panel c0) portion answer)
   moves (Exchanges x) =
       let done = confirms x x.confirm refl (taken x).under_way in
-      moved done.0 (centre2 x) done.1 (ap (with_events old.centre.journal) x.events)
+      moved done.0 (centre2 x) done.1 (ap (λ (rows : List Row). with_journal (centre2 x) (with_events old.centre.journal rows)) x.events)
   moves (Passes rests none) =
-      moved c1 centre1 (passes rests none) (no_events old.centre.journal ∙ ap (with_events old.centre.journal) (sym (ap (λ (x : Portion). x.rows) none)))
+      moved c1 centre1 (passes rests none)
+      (ap (with_journal centre1) (no_events old.centre.journal)
+      ∙ ap (λ (rows : List Row). with_journal centre1 (with_events old.centre.journal rows)) (sym (ap (λ (x : Portion). x.rows) none)))

@@ -5,10 +5,11 @@ use Rattle.std.proofs.lemmas.Bool.{and_parts, ltb-true}
 use Rattle.std.proofs.lemmas.List.{length-set}
 use Rattle.dnp_concentrator.specs.Relaying as relaying
 use Rattle.dnp_concentrator.specs.Relaying.{Relaying}
-use Rattle.dnp_eventbuf.specs.Stock.{dropped_by, with_rows}
+use Rattle.dnp_eventbuf.specs.Stock.{Stock, dropped_by, with_rows}
 use Rattle.dnp_master.specs.Calls.{Taking, receive_of}
 use Rattle.dnp_master.specs.State as master
 use Rattle.dnp_master.specs.declared.fault.MasterFault.{MasterFault}
+use Rattle.dnp_objects.specs.declared.command.Command.{Command}
 use Rattle.dnp_objects.specs.declared.row.Row.{Row}
 use Rattle.dnp_outstation.specs.State.{State, Step, is_quiet, still}
 use Rattle.dnp_world.specs.Arriving.{Arrive, Arrives, HearsAt, IsClearOn, UnderWay, confirms_of}
@@ -18,12 +19,12 @@ use Rattle.dnp_world.specs.Polled.{Portion, no_rows, poll_octets}
 use Rattle.dnp_world.specs.Rounds.{Flushes, IsRound, events_polled, is_quiet_at, is_quiet_on}
 use Rattle.dnp_world.specs.SystemEvents.{MasterReceives, SendsDown, concentrator_taken, dropped_for, relaying_at, taken_below, with_link}
 use Rattle.dnp_world.specs.SystemStanding.{IsStanding}
-use Rattle.dnp_world.specs.Systems.{ConcentratorState, SubstationState, System, at_station, has_station, link_at}
+use Rattle.dnp_world.specs.Systems.{ConcentratorState, History, SubstationState, System, has_station, link_at}
 use Rattle.dnp_world.specs.declared.event.Link.{Link}
 use Rattle.dnp_world.specs.declared.event.Link.TheVariants.{Below}
 use Rattle.dnp_world.specs.declared.link_event.Way.TheVariants.{Down, Up}
 use Rattle.dnp_world.proofs.RoundExchange.{Answer, Exchange, Exchanges, Frees, Passes, StationLaws, master_after}
-use Rattle.dnp_world.proofs.RoundSteps.{IsNow, Parts, QuietAt, asks_so, lines_change, link_set, one_arrives, panel_in, parts_after, parts_of, parts_there, quiet_at, rows_taken, set_link, state_in, step_in, substation_sends, substation_steps}
+use Rattle.dnp_world.proofs.RoundSteps.{IsNow, Parts, QuietAt, Rest, asks_so, lines_change, link_set, one_arrives, panel_in, parts_after, parts_of, parts_there, quiet_at, rest_of, rows_taken, set_link, state_in, step_in, substation_sends, substation_steps, with_confirmed, with_dropped}
 
 -- what is promised of the lines
 pub record LineLaws : Type 0 where
@@ -83,25 +84,32 @@ module _ (laws : StationLaws) (lines : LineLaws) (station : ℕ) (old new : Syst
   abbrev portion : Portion
   portion = portion_in (state_in p0)
 
+  abbrev rest : Rest
+  rest = rest_of old
+
   abbrev c1 : ConcentratorState
   c1 = record old.concentrator { links = slice_set old.concentrator.links station asking }
 
-  abbrev confirmed : List (ℕ × Row)
-  confirmed = old.history.confirmed
-
-  abbrev dropped : List Row
-  dropped = old.history.dropped
+  abbrev h0 : History
+  h0 = old.history
 
   -- the poll goes down
   sends : SendsDown on (poll ∷ []) asking old round.asked
   sends = asks_so on old round.asked (has_station old station) poll begins.has (laws.asks link.master begins.idle) round.asks
 
-  at_first : IsNow station p0 old.concentrator confirmed dropped old.now old
-  at_first = record { parts = ap (option_map parts_of) begins.there; concentrator = refl; confirmed_is = refl; dropped_is = refl; now_is = refl }
+  at_first : IsNow station rest p0 old.concentrator h0 old
+  at_first = record {
+    parts = ap (option_map parts_of) begins.there;
+    concentrator = refl;
+    history = refl;
+    others = λ i apart. refl;
+    centre = refl;
+    now = refl;
+  }
 
-  once_asked : IsNow station p0 c1 confirmed dropped old.now round.asked
-  once_asked = lines_change station p0 c1 confirmed dropped old.now (GoDown (poll ∷ [])) (with_link old station asking) round.asked sends
-      (link_set station p0 old.concentrator confirmed dropped old.now asking old at_first)
+  once_asked : IsNow station rest p0 c1 h0 round.asked
+  once_asked = lines_change station rest p0 c1 h0 (GoDown (poll ∷ [])) (with_link old station asking) round.asked sends
+      (link_set station rest p0 old.concentrator h0 asking old at_first)
 
   poll_under_way : UnderWay on (poll ∷ []) [] round.asked
   poll_under_way = lines.asked on (poll ∷ []) [] [] asking old round.asked clear sends
@@ -113,76 +121,86 @@ module _ (laws : StationLaws) (lines : LineLaws) (station : ℕ) (old new : Syst
   abbrev p1 : Parts
   p1 = parts_after p0 step1
 
+  none_confirmed : (rows : List Row) (h : History) → rows ≡ [] → with_confirmed station rows h ≡ h
+  none_confirmed rows h none =
+      ap (λ (xs : List Row). with_confirmed station xs h) none
+      ∙ ap (λ (xs : List (ℕ × Row)). record h { confirmed = xs }) (append-nil h.confirmed)
+
   record IsAnswered (answers : List (List ℕ)) : Type 0 where
-    is : IsNow station p1 c1 confirmed dropped old.now round.answered
+    is : IsNow station rest p1 c1 h0 round.answered
     under_way : UnderWay on [] answers round.answered
 
-  answered : (answers : List (List ℕ)) → step1.does.send ≡ answers → step1.does.discarded ≡ [] → IsAnswered answers
-  answered answers sent none =
+  answered : (answers : List (List ℕ)) → step1.does.send ≡ answers → step1.does.discarded ≡ [] → step1.state.performed ≡ p0.outputs.performed
+      → IsAnswered answers
+  answered answers sent none kept =
       let d = lines.down on (poll ∷ []) [] round.asked round.answered poll_under_way round.down in
       let a : Arrives on Down poll d.0 round.asked round.answered = one_arrives on Down poll d.0 round.asked round.answered d.1 in
-      let heard = lines_change station p0 c1 confirmed dropped old.now (HearsAt Down) round.asked a.heard a.hears once_asked in
-      let back : d.0 ≡ answers = a.sends ∙ substation_sends station p0 c1 confirmed dropped old.now poll a.heard heard ∙ sent in
+      let heard = lines_change station rest p0 c1 h0 (HearsAt Down) round.asked a.heard a.hears once_asked in
+      let back : d.0 ≡ answers = a.sends ∙ substation_sends station rest p0 c1 h0 poll a.heard heard ∙ sent in
       record {
-        is = subst (λ (xs : List (ℕ × Row)). IsNow station p1 c1 xs dropped old.now round.answered)
-            (ap (λ (released : List Row). confirmed ++ at_station station released) none ∙ append-nil confirmed)
-            (substation_steps station p0 c1 confirmed dropped old.now poll a.heard round.answered a.takes heard);
+        is = subst (λ (h : History). IsNow station rest p1 c1 h round.answered) (none_confirmed step1.does.discarded h0 none)
+            (substation_steps station rest p0 c1 h0 poll a.heard round.answered a.takes heard kept);
         under_way = subst (λ (up : List (List ℕ)). UnderWay on [] up round.answered) back d.2;
       }
 
   -- what the round ends with
-  record IsDone (p : Parts) (c : ConcentratorState) (droppeds : List Row) : Type 0 where
+  record IsDone (p : Parts) (c : ConcentratorState) (h : History) : Type 0 where
     left : Leave portion p0.lanes p.lanes
-    is : IsNow station p c (confirmed ++ at_station station portion.rows) droppeds old.now new
+    outputs : p.outputs ≡ p0.outputs
+    is : IsNow station rest p c (with_confirmed station portion.rows h) new
+
+  with_performed : (xs : List Command) → xs ≡ p0.outputs.performed → record p0.outputs { performed = xs } ≡ p0.outputs
+  with_performed xs same = ap (λ (ys : List Command). record p0.outputs { performed = ys }) same
 
   -- ---- a fragment is exchanged
   module _ (x : Exchange link.master old.now (state_in p0) (panel_in p0) portion) where
     abbrev c2 : ConcentratorState
     c2 = concentrator_taken c1 station x.taken
 
-    abbrev dropped2 : List Row
-    dropped2 = dropped ++ dropped_for c1 station x.taken
+    abbrev h2 : History
+    h2 = with_dropped (dropped_for c1 station x.taken) h0
 
     record IsTaken : Type 0 where
-      is : IsNow station p1 c2 confirmed dropped2 old.now round.taken
+      is : IsNow station rest p1 c2 h2 round.taken
       under_way : UnderWay on (option_to_list x.confirm) [] round.taken
 
     -- it comes, and is taken
     taken : IsTaken
     taken =
         let t : Taking = x.taken in
-        let before = answered (x.fragment ∷ []) x.sent x.discarded in
+        let before = answered (x.fragment ∷ []) x.sent x.discarded x.performed in
         let u = lines.up on [] (x.fragment ∷ []) round.answered round.taken before.under_way round.up in
         let b : Arrives on Up x.fragment u.0 round.answered round.taken = one_arrives on Up x.fragment u.0 round.answered round.taken u.1 in
-        let heard = lines_change station p1 c1 confirmed dropped old.now (HearsAt Up) round.answered b.heard b.hears before.is in
+        let heard = lines_change station rest p1 c1 h0 (HearsAt Up) round.answered b.heard b.hears before.is in
         let got : receive_of (relaying_at b.heard on).master b.heard.now x.fragment ≡ Ok t =
         ap (λ (c : ConcentratorState). receive_of (link_at c station).master b.heard.now x.fragment) heard.concentrator
         ∙ ap (λ (r : Relaying). receive_of r.master b.heard.now x.fragment) (set_link old.concentrator.links station asking begins.low)
-        ∙ ap (λ (n : ℕ). receive_of asking.master n x.fragment) heard.now_is
+        ∙ ap (λ (n : ℕ). receive_of asking.master n x.fragment) heard.now
         ∙ x.is_taken
         in
         let received : MasterReceives on (Ok t) b.heard round.taken =
         subst (λ (r : Result Taking MasterFault). MasterReceives on r b.heard round.taken) got b.takes in
         let sent : u.0 ≡ option_to_list x.confirm = b.sends ∙ ap confirms_of got ∙ ap option_to_list x.confirm_is in
         record {
-          is = lines_change station p1 c2 confirmed dropped2 old.now (GoDown (option_to_list t.confirm)) (taken_below b.heard station t) round.taken
-              received.1 (rows_taken station p1 c1 confirmed dropped old.now t b.heard heard);
+          is = lines_change station rest p1 c2 h2 (GoDown (option_to_list t.confirm)) (taken_below b.heard station t) round.taken received.1
+              (rows_taken station rest p1 c1 h0 t b.heard heard);
           under_way = subst (λ (down : List (List ℕ)). UnderWay on down [] round.taken) sent u.2;
         }
 
     -- where it asks for a confirm that comes, and releases the rows
-    confirms : (o : Option (List ℕ)) → x.confirm ≡ o → UnderWay on (option_to_list o) [] round.taken → (p : Parts) × IsDone p c2 dropped2
+    confirms : (o : Option (List ℕ)) → x.confirm ≡ o → UnderWay on (option_to_list o) [] round.taken → (p : Parts) × IsDone p c2 h2
     confirms (Some octets) is under_way =
         let d = lines.down on (octets ∷ []) [] round.taken new under_way round.confirms in
         let a : Arrives on Down octets d.0 round.taken new = one_arrives on Down octets d.0 round.taken new d.1 in
-        let heard = lines_change station p1 c2 confirmed dropped2 old.now (HearsAt Down) round.taken a.heard a.hears taken.is in
+        let heard = lines_change station rest p1 c2 h2 (HearsAt Down) round.taken a.heard a.hears taken.is in
         let step2 : Step = step_in p1 old.now octets in
-        let r : Frees portion p0.lanes step2 = x.frees octets is (state_in p1).performed (panel_in p1) in (
+        let r : Frees portion p0.lanes p1.outputs.performed step2 = x.frees octets is p1.outputs.performed (panel_in p1) in (
           parts_after p1 step2,
           record {
             left = Released x.released r.lanes;
-            is = subst (λ (xs : List Row). IsNow station (parts_after p1 step2) c2 (confirmed ++ at_station station xs) dropped2 old.now new) r.discarded
-                (substation_steps station p1 c2 confirmed dropped2 old.now octets a.heard new a.takes heard);
+            outputs = with_performed step2.state.performed (r.performed_is ∙ x.performed);
+            is = subst (λ (xs : List Row). IsNow station rest (parts_after p1 step2) c2 (with_confirmed station xs h2) new) r.discarded
+                (substation_steps station rest p1 c2 h2 octets a.heard new a.takes heard r.performed_is);
           },
         )
     confirms None is under_way =
@@ -192,16 +210,17 @@ module _ (laws : StationLaws) (lines : LineLaws) (station : ℕ) (old new : Syst
           p1,
           record {
             left = Rested none x.lanes;
-            is = subst (λ (s : System). IsNow station p1 c2 (confirmed ++ at_station station portion.rows) dropped2 old.now s) (sym same)
-                (subst (λ (xs : List (ℕ × Row)). IsNow station p1 c2 xs dropped2 old.now round.taken)
-                (sym (ap (λ (xs : List Row). confirmed ++ at_station station xs) none ∙ append-nil confirmed)) taken.is);
+            outputs = with_performed step1.state.performed x.performed;
+            is = subst (λ (s : System). IsNow station rest p1 c2 (with_confirmed station portion.rows h2) s) (sym same)
+                (subst (λ (h : History). IsNow station rest p1 c2 h round.taken) (sym (none_confirmed portion.rows h2 none)) taken.is);
           },
         )
-    -- ---- the poll is passed over
 
-  passes : step1 ≡ still (state_in p0) → portion ≡ no_rows → IsDone p1 c1 dropped
+  -- ---- the poll is passed over
+  passes : step1 ≡ still (state_in p0) → portion ≡ no_rows → IsDone p1 c1 h0
   passes rests none =
-      let before = answered [] (ap (λ (step : Step). step.does.send) rests) (ap (λ (step : Step). step.does.discarded) rests) in
+      let kept : step1.state.performed ≡ p0.outputs.performed = ap (λ (step : Step). step.state.performed) rests in
+      let before = answered [] (ap (λ (step : Step). step.does.send) rests) (ap (λ (step : Step). step.does.discarded) rests) kept in
       let u = lines.up on [] [] round.answered round.taken before.under_way round.up in
       let second : round.taken ≡ round.answered = u.1.1 in
       let quiet : UnderWay on [] [] round.taken = subst (λ (down : List (List ℕ)). UnderWay on down [] round.taken) u.1.0 u.2 in
@@ -210,9 +229,9 @@ module _ (laws : StationLaws) (lines : LineLaws) (station : ℕ) (old new : Syst
       let no : portion.rows ≡ [] = ap (λ (x : Portion). x.rows) none in
       record {
         left = Rested no (ap (λ (step : Step). step.state.lanes) rests);
-        is = subst (λ (s : System). IsNow station p1 c1 (confirmed ++ at_station station portion.rows) dropped old.now s) (sym (third ∙ second))
-            (subst (λ (xs : List (ℕ × Row)). IsNow station p1 c1 xs dropped old.now round.answered)
-            (sym (ap (λ (xs : List Row). confirmed ++ at_station station xs) no ∙ append-nil confirmed)) before.is);
+        outputs = with_performed step1.state.performed kept;
+        is = subst (λ (s : System). IsNow station rest p1 c1 (with_confirmed station portion.rows h0) s) (sym (third ∙ second))
+            (subst (λ (h : History). IsNow station rest p1 c1 h round.answered) (sym (none_confirmed portion.rows h0 no)) before.is);
       }
 
   -- ---- all of it
@@ -221,11 +240,27 @@ module _ (laws : StationLaws) (lines : LineLaws) (station : ℕ) (old new : Syst
     pub moves : MovesBelow station portion_in old new
     pub master_is : (relaying_at new on).master ≡ after
 
-  moved : (p : Parts) (c : ConcentratorState) (droppeds : List Row) (after : master.State) → IsDone p c droppeds
-      → c.queue ≡ with_rows old.concentrator.queue (rows_queued old.concentrator station portion.rows)
-      → droppeds ≡ dropped ++ dropped_by old.concentrator.queue (rows_queued old.concentrator station portion.rows)
-      → (link_at c station).master ≡ after → Moved after
-  moved p c droppeds after done queue lost now =
+  abbrev queued : List Row → Stock
+  queued rows = with_rows old.concentrator.queue (rows_queued old.concentrator station rows)
+
+  abbrev lost : List Row → List Row
+  lost rows = dropped_by old.concentrator.queue (rows_queued old.concentrator station rows)
+
+  -- of the concentrator the points, the queue and the links change
+  only_queue : (c : ConcentratorState) → c ≡ record old.concentrator { core = c.core; queue = queued portion.rows; links = c.links }
+      → new.concentrator ≡ c → new.concentrator ≡ record old.concentrator {
+        core = new.concentrator.core;
+        queue = queued portion.rows;
+        links = new.concentrator.links;
+      }
+  only_queue c is same =
+      same ∙ is
+      ∙ ap (λ (x : ConcentratorState). record old.concentrator { core = x.core; queue = queued portion.rows; links = x.links }) (sym same)
+
+  moved : (p : Parts) (c : ConcentratorState) (h : History) (after : master.State) → IsDone p c h
+      → c ≡ record old.concentrator { core = c.core; queue = queued portion.rows; links = c.links }
+      → h ≡ with_dropped (lost portion.rows) h0 → (link_at c station).master ≡ after → Moved after
+  moved p c h after done queue dropped now =
       let s = parts_there (slice_get new.substations station) p done.is.parts in
       record {
         moves = record {
@@ -234,29 +269,27 @@ module _ (laws : StationLaws) (lines : LineLaws) (station : ℕ) (old new : Syst
           was_there = begins.there;
           is_there = s.1;
           left = subst (λ (q : Parts). Leave portion p0.lanes q.lanes) (sym s.2) done.left;
-          confirmed = done.is.confirmed_is;
-          queue = ap (λ (x : ConcentratorState). x.queue) done.is.concentrator ∙ queue;
-          dropped = done.is.dropped_is ∙ lost;
+          outputs = ap (λ (q : Parts). q.outputs) s.2 ∙ done.outputs;
+          concentrator = only_queue c queue done.is.concentrator;
+          history = done.is.history ∙ ap (with_confirmed station portion.rows) dropped;
+          others = done.is.others;
+          centre = done.is.centre;
         };
         master_is = ap (λ (x : ConcentratorState). (link_at x station).master) done.is.concentrator ∙ now;
       }
-
-  queued : (rows : List Row) → rows ≡ portion.rows → with_rows old.concentrator.queue (rows_queued old.concentrator station rows)
-      ≡ with_rows old.concentrator.queue (rows_queued old.concentrator station portion.rows)
-  queued rows same = ap (λ (xs : List Row). with_rows old.concentrator.queue (rows_queued old.concentrator station xs)) same
-
-  lost : (rows : List Row) → rows ≡ portion.rows → dropped ++ dropped_by old.concentrator.queue (rows_queued old.concentrator station rows)
-      ≡ dropped ++ dropped_by old.concentrator.queue (rows_queued old.concentrator station portion.rows)
-  lost rows same = ap (λ (xs : List Row). dropped ++ dropped_by old.concentrator.queue (rows_queued old.concentrator station xs)) same
 
   pub moves : (answer : Answer link.master old.now (state_in p0) (panel_in p0) portion)
       → Moved (master_after link.master old.now (state_in p0) (panel_in p0) portion answer)
   moves (Exchanges x) =
       let done = confirms x x.confirm refl (taken x).under_way in
       let low : station < length c1.links = omega (arith, begins.low, length-set old.concentrator.links station asking) in
-      moved done.0 (c2 x) (dropped2 x) x.taken.state done.1 (queued x.taken.events x.events) (lost x.taken.events x.events)
+      moved done.0 (c2 x) (h2 x) x.taken.state done.1
+      (ap (λ (rows : List Row). record old.concentrator { core = (c2 x).core; queue = queued rows; links = (c2 x).links }) x.events)
+      (ap (λ (rows : List Row). with_dropped (lost rows) h0) x.events)
       (ap (λ (r : Relaying). r.master) (set_link c1.links station (relaying.received (link_at c1 station) x.taken) low))
   moves (Passes rests none) =
       let no : [] ≡ portion.rows = sym (ap (λ (x : Portion). x.rows) none) in
-      moved p1 c1 dropped asking.master (passes rests none) (queued [] no) (sym (append-nil dropped) ∙ lost [] no)
+      moved p1 c1 h0 asking.master (passes rests none)
+      (ap (λ (rows : List Row). record old.concentrator { core = c1.core; queue = queued rows; links = c1.links }) no)
+      (ap (λ (rows : List Row). record h0 { dropped = rows }) (sym (append-nil h0.dropped)) ∙ ap (λ (rows : List Row). with_dropped (lost rows) h0) no)
       (ap (λ (r : Relaying). r.master) (set_link old.concentrator.links station asking begins.low))

@@ -12,6 +12,7 @@ use Rattle.dnp_objects.specs.declared.command.Command.{Command}
 use Rattle.dnp_outstation.specs.Calls.{connection_after}
 use Rattle.dnp_outstation.specs.Connection.{is_last_request}
 use Rattle.dnp_outstation.specs.Content.{source_of}
+use Rattle.dnp_outstation.specs.Controls.{is_control}
 use Rattle.dnp_outstation.specs.Items.{Source}
 use Rattle.dnp_outstation.specs.Said.{AreWritable, HaveIndexes}
 use Rattle.dnp_outstation.specs.State.{State, Step, is_quiet, still}
@@ -38,10 +39,11 @@ pub record StationLaws : Type 0 where
 abbrev pub polled_step : State → Panel → ℕ → ℕ → Step
 polled_step s o now seq = connection_after s o now (poll_octets seq)
 
--- the portion leaves the lanes
-pub record Frees (portion : Portion) (old : Stock) (step : Step) : Type 0 where
+-- the portion leaves these lanes, and nothing is performed
+pub record Frees (portion : Portion) (old : Stock) (performed : List Command) (step : Step) : Type 0 where
   pub lanes : step.state.lanes ≡ without old portion.ids
   pub discarded : step.does.discarded ≡ portion.rows
+  pub performed_is : step.state.performed ≡ performed
 
 -- One fragment is sent back, of which the master takes the portion; where it asks for a confirm, that releases the portion, whatever
 -- the outputs show by then.
@@ -50,6 +52,7 @@ pub record Exchange (m : master.State) (now : ℕ) (s : State) (o : Panel) (port
   pub sent : (polled_step s o now m.seq).does.send ≡ fragment ∷ []
   pub discarded : (polled_step s o now m.seq).does.discarded ≡ []
   pub lanes : (polled_step s o now m.seq).state.lanes ≡ s.lanes
+  pub performed : (polled_step s o now m.seq).state.performed ≡ s.performed
   pub released : all_up_to s.lanes portion.ids ≡ portion.rows
   pub taken : Taking
   pub is_taken : receive_of (asked m now events_polled) now fragment ≡ Ok taken
@@ -57,12 +60,13 @@ pub record Exchange (m : master.State) (now : ℕ) (s : State) (o : Panel) (port
   pub confirm : Option (List ℕ)
   pub confirm_is : taken.confirm ≡ confirm
   pub frees : (octets : List ℕ) → confirm ≡ Some octets → (performed : List Command) (p : Panel)
-      → Frees portion s.lanes (connection_after (record {
+      → Frees portion s.lanes performed (connection_after (record {
         core = (polled_step s o now m.seq).state.core;
         lanes = (polled_step s o now m.seq).state.lanes;
         performed = performed;
       }) p now octets)
   pub none : confirm ≡ None → portion.rows ≡ []
+  pub no_control : (octets : List ℕ) → confirm ≡ Some octets → is_control octets ≡ false
 
 -- a poll that is passed over moves no row
 pub data Answer (m : master.State) (now : ℕ) (s : State) (o : Panel) (portion : Portion) : Type 0 where
@@ -94,6 +98,7 @@ polled_exchange laws m now s o fit asked_for other = record {
   sent = offer.sent;
   discarded = offer.discarded;
   lanes = offer.lanes;
+  performed = offer.performed;
   released = released_is s.lanes fit.sound;
   taken = took.taken;
   is_taken = took.is;
@@ -102,6 +107,7 @@ polled_exchange laws m now s o fit asked_for other = record {
   confirm_is = took.confirm;
   frees = frees;
   none = λ none. offer.none (no_confirm offer.con none);
+  no_control = λ octets e. ap is_control (sym (a_confirm offer.con octets e).1);
 }
   where
     offer : Offers m.seq s (polled_step s o now m.seq)
@@ -120,7 +126,7 @@ polled_exchange laws m now s o fit asked_for other = record {
     a_confirm false octets e = absurd (none-some octets e)
 
     frees : (octets : List ℕ) → (if offer.con then Some (confirm_octets m.seq) else None) ≡ Some octets → (performed : List Command) (p : Panel)
-        → Frees (polled s.lanes) s.lanes (connection_after (record {
+        → Frees (polled s.lanes) s.lanes performed (connection_after (record {
           core = (polled_step s o now m.seq).state.core;
           lanes = (polled_step s o now m.seq).state.lanes;
           performed = performed;
@@ -134,8 +140,9 @@ polled_exchange laws m now s o fit asked_for other = record {
         let r : Releases after (connection_after after p now (confirm_octets m.seq)) =
         laws.confirmed after p now m.seq fit.seq (subst IsSound (sym offer.lanes) fit.sound) offer.is_open
         (subst (λ (lanes : Stock). Awaits m.seq (polled_ids lanes) after) (sym offer.lanes) awaits) in
-        subst (λ (x : List ℕ). Frees (polled s.lanes) s.lanes (connection_after after p now x)) both.1
+        subst (λ (x : List ℕ). Frees (polled s.lanes) s.lanes performed (connection_after after p now x)) both.1
         (record {
           lanes = r.lanes ∙ ap (λ (lanes : Stock). without lanes (polled_ids lanes)) offer.lanes;
           discarded = r.discarded ∙ ap polled_rows offer.lanes;
+          performed_is = r.performed;
         })

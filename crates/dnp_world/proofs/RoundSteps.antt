@@ -1,7 +1,8 @@
 -- What the parts of a clean round are to what it turns on: the two stations without their lines, and the lists of what became of rows.
-use Rattle.std.proofs.Common.{◌≡◌, ℕ, zero, suc, ◌<◌, Bool, true, List, [], ◌∷◌, ◌++◌, length, append-nil, Option, Some, None, Result, Ok, refl, sym, ap, ◌∙◌, subst, arith}
-use Rattle.std.specs.Prelude.{option_map, slice_get, slice_set}
+use Rattle.std.proofs.Common.{◌≡◌, ◌≢◌, ℕ, zero, suc, ◌<◌, Bool, true, List, [], ◌∷◌, ◌++◌, length, append-nil, Option, Some, None, Result, Ok, refl, sym, ap, ◌∙◌, subst, arith}
+use Rattle.std.specs.Prelude.{drop, option_map, slice_get, slice_set}
 use Rattle.std.proofs.lemmas.Bool.{and_parts}
+use Rattle.std.proofs.lemmas.List.{drop_all}
 use Rattle.std.proofs.lemmas.Option.{none-some, same_Some}
 use Rattle.dnp_concentrator.specs.Below.{link_in}
 use Rattle.dnp_concentrator.specs.Relaying as relaying
@@ -11,6 +12,7 @@ use Rattle.dnp_controls.specs.Panel.{Panel}
 use Rattle.dnp_eventbuf.specs.Stock.{Stock}
 use Rattle.dnp_master.specs.Calls.{Taking, ask_answer}
 use Rattle.dnp_master.specs.declared.fault.AskFault.{AskFault}
+use Rattle.dnp_objects.specs.declared.command.Command.{Command}
 use Rattle.dnp_objects.specs.declared.row.Row.{Row}
 use Rattle.dnp_outstation.specs.Calls.{connection_after}
 use Rattle.dnp_outstation.specs.State.{Core, State, Step, is_quiet}
@@ -19,11 +21,11 @@ use Rattle.dnp_world.specs.Arriving.{Arrive, Arrives, TakesOn, SubstationTakes, 
 use Rattle.dnp_world.specs.Channels.{ChannelState, are_quiet}
 use Rattle.dnp_world.specs.Rounds.{events_polled, is_quiet_at}
 use Rattle.dnp_world.specs.SystemEvents.{AsksOn, IfThere, LinesChange, SendsDown, concentrator_taken, dropped_for, request_of, relaying_at, taken_below, with_link}
-use Rattle.dnp_world.specs.Systems.{ConcentratorState, SubstationState, System, at_station}
+use Rattle.dnp_world.specs.Systems.{CentreState, ConcentratorState, History, SubstationState, System, at_station}
 use Rattle.dnp_world.specs.declared.event.Link.{Link}
 use Rattle.dnp_world.specs.declared.event.Link.TheVariants.{Below}
 use Rattle.dnp_world.specs.declared.link_event.Way.{Way}
-use Rattle.dnp_world.proofs.ListedAt.{set_here}
+use Rattle.dnp_world.proofs.ListedAt.{set_here, set_there}
 
 -- ---- one fragment, and none
 
@@ -69,90 +71,127 @@ step_in p now fragment = connection_after (state_in p) (panel_in p) now fragment
 abbrev pub parts_after : Parts → Step → Parts
 parts_after p step = record { core = step.state.core; lanes = step.state.lanes; outputs = record p.outputs { performed = step.state.performed } }
 
--- the substation of this number, the concentrator, the rows confirmed and dropped so far, and the moment are these
-pub record IsNow (station : ℕ) (p : Parts) (c : ConcentratorState) (confirmed : List (ℕ × Row)) (dropped : List Row) (now : ℕ) (s : System) : Type 0 where
+-- what the round leaves alone
+pub record Rest : Type 0 where
+  pub others : ℕ → Option SubstationState
+  pub centre : CentreState
+  pub now : ℕ
+
+abbrev pub rest_of : System → Rest
+rest_of s = record { others = λ i. slice_get s.substations i; centre = s.centre; now = s.now }
+
+-- rows of the substation of this number were confirmed
+abbrev pub with_confirmed : ℕ → List Row → History → History
+with_confirmed station rows h = record h { confirmed = h.confirmed ++ at_station station rows }
+
+abbrev pub with_dropped : List Row → History → History
+with_dropped rows h = record h { dropped = h.dropped ++ rows }
+
+-- the substation of this number, the concentrator and the history are these, and all else but lines is as it was
+pub record IsNow (station : ℕ) (rest : Rest) (p : Parts) (c : ConcentratorState) (h : History) (s : System) : Type 0 where
   pub parts : option_map parts_of (slice_get s.substations station) ≡ Some p
   pub concentrator : s.concentrator ≡ c
-  pub confirmed_is : s.history.confirmed ≡ confirmed
-  pub dropped_is : s.history.dropped ≡ dropped
-  pub now_is : s.now ≡ now
+  pub history : s.history ≡ h
+  pub others : (i : ℕ) → i ≢ station → slice_get s.substations i ≡ rest.others i
+  pub centre : s.centre ≡ rest.centre
+  pub now : s.now ≡ rest.now
 
 parts_same : (o : Option SubstationState) (was : SubstationState) (p : Parts) → o ≡ Some was → option_map parts_of o ≡ Some p → parts_of was ≡ p
 parts_same o was p there is = same_Some (parts_of was) p (ap (option_map parts_of) (sym there) ∙ is)
 
-module _ (station : ℕ) (p : Parts) (c : ConcentratorState) (confirmed : List (ℕ × Row)) (dropped : List Row) (now : ℕ) where
+module _ (station : ℕ) (rest : Rest) (p : Parts) (c : ConcentratorState) (h : History) where
   -- lines change
   pub lines_change : (Change : ChannelState → ChannelState → Type 0) (old new : System) → LinesChange (Below station) Change old new
-      → IsNow station p c confirmed dropped now old → IsNow station p c confirmed dropped now new
-  lines_change Change old new change h =
+      → IsNow station rest p c h old → IsNow station rest p c h new
+  lines_change Change old new change n =
       let was : SubstationState = change.was in
       let is : SubstationState = change.is in
-      subst (IsNow station p c confirmed dropped now) (sym change.after) record {
+      subst (IsNow station rest p c h) (sym change.after) record {
         parts = ap (option_map parts_of) (set_here old.substations station was is change.there)
             ∙ ap (λ (s : SubstationState). Some (parts_of s)) change.changed.1
-            ∙ ap Some (parts_same (slice_get old.substations station) was p change.there h.parts);
-        concentrator = h.concentrator;
-        confirmed_is = h.confirmed_is;
-        dropped_is = h.dropped_is;
-        now_is = h.now_is;
+            ∙ ap Some (parts_same (slice_get old.substations station) was p change.there n.parts);
+        concentrator = n.concentrator;
+        history = n.history;
+        others = λ i apart. set_there old.substations station i is apart ∙ n.others i apart;
+        centre = n.centre;
+        now = n.now;
       }
 
-  -- the substation answers
-  pub substation_steps : (fragment : List ℕ) (old new : System) → SubstationTakes station fragment old new
-      → IsNow station p c confirmed dropped now old
-      → IsNow station (parts_after p (step_in p now fragment)) c (confirmed ++ at_station station (step_in p now fragment).does.discarded) dropped now new
-  substation_steps fragment old new takes h =
+  -- the substation answers, and performs nothing
+  pub substation_steps : (fragment : List ℕ) (old new : System) → SubstationTakes station fragment old new → IsNow station rest p c h old
+      → (step_in p rest.now fragment).state.performed ≡ p.outputs.performed
+      → IsNow station rest (parts_after p (step_in p rest.now fragment)) c (with_confirmed station (step_in p rest.now fragment).does.discarded h) new
+  substation_steps fragment old new takes n kept =
       let change = takes.answers in
       let was : SubstationState = change.was in
       let is : SubstationState = change.is in
-      let of : Parts → ℕ → Step = λ q n. step_in q n fragment in
-      let same : parts_of was ≡ p = parts_same (slice_get old.substations station) was p change.there h.parts in
-      let step_is : of (parts_of was) old.now ≡ of p now = ap (λ (q : Parts). of q old.now) same ∙ ap (λ (n : ℕ). of p n) h.now_is in
-      subst (IsNow station (parts_after p (of p now)) c (confirmed ++ at_station station (of p now).does.discarded) dropped now) (sym change.after) record {
+      let of : Parts → ℕ → Step = λ q k. step_in q k fragment in
+      let step : Step = of p rest.now in
+      let same : parts_of was ≡ p = parts_same (slice_get old.substations station) was p change.there n.parts in
+      let step_is : of (parts_of was) old.now ≡ step = ap (λ (q : Parts). of q old.now) same ∙ ap (λ (k : ℕ). of p k) n.now in
+      let performed : is.outputs.performed ≡ was.outputs.performed =
+      ap (λ (s : SubstationState). s.outputs.performed) change.changed.1.after
+      ∙ ap (λ (x : Step). x.state.performed) step_is ∙ kept ∙ sym (ap (λ (q : Parts). q.outputs.performed) same)
+      in
+      let none : drop (length was.outputs.performed) is.outputs.performed ≡ [] =
+      ap (λ (xs : List Command). drop (length was.outputs.performed) xs) performed
+      ∙ drop_all (length was.outputs.performed) was.outputs.performed (omega arith)
+      in
+      let made : History → List Row → List Command → History = λ x rows commands. record x {
+        confirmed = x.confirmed ++ at_station station rows;
+        operated = x.operated ++ at_station station commands;
+      } in
+      let commands : List Command = drop (length was.outputs.performed) is.outputs.performed in
+      subst (IsNow station rest (parts_after p step) c (with_confirmed station step.does.discarded h)) (sym change.after) record {
         parts = ap (option_map parts_of) (set_here old.substations station was is change.there)
             ∙ ap (λ (s : SubstationState). Some (parts_of s)) change.changed.1.after
             ∙ ap (λ (q : Parts). Some (parts_after q (of q old.now))) same
-            ∙ ap (λ (n : ℕ). Some (parts_after p (of p n))) h.now_is;
-        concentrator = h.concentrator;
-        confirmed_is = ap (λ (rows : List (ℕ × Row)). rows ++ at_station station takes.released) h.confirmed_is
-            ∙ ap (λ (rows : List Row). confirmed ++ at_station station rows) (change.changed.0 ∙ ap (λ (x : Step). x.does.discarded) step_is);
-        dropped_is = h.dropped_is;
-        now_is = h.now_is;
+            ∙ ap (λ (k : ℕ). Some (parts_after p (of p k))) n.now;
+        concentrator = n.concentrator;
+        history = ap (λ (x : History). made x takes.released commands) n.history
+            ∙ ap (λ (rows : List Row). made h rows commands) (change.changed.0 ∙ ap (λ (x : Step). x.does.discarded) step_is)
+            ∙ ap (λ (xs : List Command). made h step.does.discarded xs) none
+            ∙ ap (λ (xs : List (ℕ × Command)). record (with_confirmed station step.does.discarded h) { operated = xs }) (append-nil h.operated);
+        others = λ i apart. set_there old.substations station i is apart ∙ n.others i apart;
+        centre = n.centre;
+        now = n.now;
       }
 
   -- what it sends back
-  pub substation_sends : (fragment : List ℕ) (s : System) → IsNow station p c confirmed dropped now s
-      → answers_below (slice_get s.substations station) s.now fragment ≡ (step_in p now fragment).does.send
-  substation_sends fragment s h = by (slice_get s.substations station) h.parts
+  pub substation_sends : (fragment : List ℕ) (s : System) → IsNow station rest p c h s
+      → answers_below (slice_get s.substations station) s.now fragment ≡ (step_in p rest.now fragment).does.send
+  substation_sends fragment s n = by (slice_get s.substations station) n.parts
     where
       by : (o : Option SubstationState) → option_map parts_of o ≡ Some p
-          → answers_below o s.now fragment ≡ (step_in p now fragment).does.send
+          → answers_below o s.now fragment ≡ (step_in p rest.now fragment).does.send
       by None is = absurd (none-some p is)
       by (Some was) is =
           ap (λ (q : Parts). (step_in q s.now fragment).does.send) (same_Some (parts_of was) p is)
-          ∙ ap (λ (n : ℕ). (step_in p n fragment).does.send) h.now_is
+          ∙ ap (λ (k : ℕ). (step_in p k fragment).does.send) n.now
 
   -- the concentrator takes its rows
-  pub rows_taken : (t : Taking) (s : System) → IsNow station p c confirmed dropped now s
-      → IsNow station p (concentrator_taken c station t) confirmed (dropped ++ dropped_for c station t) now (taken_below s station t)
-  rows_taken t s h = record {
-    parts = h.parts;
-    concentrator = ap (λ (x : ConcentratorState). concentrator_taken x station t) h.concentrator;
-    confirmed_is = h.confirmed_is;
-    dropped_is = ap (λ (rows : List Row). rows ++ dropped_for s.concentrator station t) h.dropped_is
-        ∙ ap (λ (x : ConcentratorState). dropped ++ dropped_for x station t) h.concentrator;
-    now_is = h.now_is;
+  pub rows_taken : (t : Taking) (s : System) → IsNow station rest p c h s
+      → IsNow station rest p (concentrator_taken c station t) (with_dropped (dropped_for c station t) h) (taken_below s station t)
+  rows_taken t s n = record {
+    parts = n.parts;
+    concentrator = ap (λ (x : ConcentratorState). concentrator_taken x station t) n.concentrator;
+    history = ap (with_dropped (dropped_for s.concentrator station t)) n.history
+        ∙ ap (λ (x : ConcentratorState). with_dropped (dropped_for x station t) h) n.concentrator;
+    others = n.others;
+    centre = n.centre;
+    now = n.now;
   }
 
   -- the link's master is another
-  pub link_set : (r : Relaying) (s : System) → IsNow station p c confirmed dropped now s
-      → IsNow station p (record c { links = slice_set c.links station r }) confirmed dropped now (with_link s station r)
-  link_set r s h = record {
-    parts = h.parts;
-    concentrator = ap (λ (x : ConcentratorState). record x { links = slice_set x.links station r }) h.concentrator;
-    confirmed_is = h.confirmed_is;
-    dropped_is = h.dropped_is;
-    now_is = h.now_is;
+  pub link_set : (r : Relaying) (s : System) → IsNow station rest p c h s
+      → IsNow station rest p (record c { links = slice_set c.links station r }) h (with_link s station r)
+  link_set r s n = record {
+    parts = n.parts;
+    concentrator = ap (λ (x : ConcentratorState). record x { links = slice_set x.links station r }) n.concentrator;
+    history = n.history;
+    others = n.others;
+    centre = n.centre;
+    now = n.now;
   }
 
 pub set_link : (links : List Relaying) (i : ℕ) (r : Relaying) → i < length links → link_in (slice_set links i r) i ≡ r

@@ -1,6 +1,6 @@
 -- Definition: what a clean round moves: the first rows of a station's lanes, as many as fit into one fragment, go to whoever polls
 -- (own rule for a whole system; IEEE Std 1815-2012, application layer: event classes, READ, responses, confirms).
-use Rattle.std.specs.Prelude.{◌≡◌, ℕ, Bool, true, false, ◌&&◌, if◌then◌else◌, List, [], ◌++◌, is_some, slice_get, Option, Some, None}
+use Rattle.std.specs.Prelude.{◌≡◌, ◌≢◌, ℕ, Bool, true, false, ◌&&◌, if◌then◌else◌, List, [], ◌++◌, is_some, slice_get, Option, Some, None}
 use Rattle.dnp_concentrator.specs.Mapped.{queued_rows}
 use Rattle.dnp_eventbuf.specs.Archive.{with_events}
 use Rattle.dnp_eventbuf.specs.Stock.{Stock, all_up_to, dropped_by, with_rows, without}
@@ -27,26 +27,39 @@ pub data Leave (portion : Portion) (old new : Stock) : Type 0 where
 abbrev pub rows_queued : ConcentratorState → ℕ → List Row → List LaneRow
 rows_queued c station rows = queued_rows c.indices c.core.points station rows
 
--- the rows left the substation's lanes, confirmed, and came into the queue behind all others, in their order
+-- The rows left the substation's lanes, confirmed, and came into the queue behind all others, in their order; what full lanes of the
+-- queue dropped for them is listed. All else but the link itself, and the readings above, is as it was.
 pub record MovesBelow (station : ℕ) (portion_in : State → Portion) (old new : System) : Type 0 where
   pub was : SubstationState
   pub is : SubstationState
   pub was_there : slice_get old.substations station ≡ Some was
   pub is_there : slice_get new.substations station ≡ Some is
   pub left : Leave (portion_in (station_of was)) was.lanes is.lanes
-  pub confirmed : new.history.confirmed ≡ old.history.confirmed ++ at_station station (portion_in (station_of was)).rows
-  pub queue : new.concentrator.queue
-      ≡ with_rows old.concentrator.queue (rows_queued old.concentrator station (portion_in (station_of was)).rows)
-  -- what full lanes of the queue dropped for them is listed
-  pub dropped : new.history.dropped
-      ≡ old.history.dropped ++ dropped_by old.concentrator.queue (rows_queued old.concentrator station (portion_in (station_of was)).rows)
+  pub outputs : is.outputs ≡ was.outputs
+  pub concentrator : new.concentrator ≡ record old.concentrator {
+    core = new.concentrator.core;
+    queue = with_rows old.concentrator.queue (rows_queued old.concentrator station (portion_in (station_of was)).rows);
+    links = new.concentrator.links;
+  }
+  pub history : new.history ≡ record old.history {
+    confirmed = old.history.confirmed ++ at_station station (portion_in (station_of was)).rows;
+    dropped = old.history.dropped ++ dropped_by old.concentrator.queue (rows_queued old.concentrator station (portion_in (station_of was)).rows);
+  }
+  pub others : (i : ℕ) → i ≢ station → slice_get new.substations i ≡ slice_get old.substations i
+  pub centre : new.centre ≡ old.centre
 
 -- ---- over the link between concentrator and centre
 
--- the rows left the queue, and came into the journal
+-- The rows left the queue, and came into the journal behind all others, in their order. All else but the link itself is as it was.
 pub record MovesAbove (portion_in : State → Portion) (old new : System) : Type 0 where
   pub left : Leave (portion_in (middle_of old.concentrator)) old.concentrator.queue new.concentrator.queue
-  pub journal : new.centre.journal ≡ with_events old.centre.journal (portion_in (middle_of old.concentrator)).rows
+  pub concentrator : new.concentrator ≡ record old.concentrator { core = new.concentrator.core; queue = new.concentrator.queue }
+  pub centre : new.centre ≡ record old.centre {
+    link = new.centre.link;
+    journal = with_events old.centre.journal (portion_in (middle_of old.concentrator)).rows;
+  }
+  pub substations : new.substations ≡ old.substations
+  pub history : new.history ≡ old.history
 
 -- ---- a round
 

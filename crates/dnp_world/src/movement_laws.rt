@@ -67,5 +67,6 @@ pub fn a_clean_round_moves_rows()
     octets_say_what_is_held();
     a_release_takes_what_the_octets_said();
     a_confirm_releases_what_its_fragment_reported();
+    commands_are_performed_as_they_are_asked();
     each_case_says_what_came();
 }

@@ -37,6 +37,7 @@ reports_of c = record {
   rows = c.octets_say_what_is_held.ensures.rows;
   read = c.a_release_takes_what_the_octets_said.ensures.unsolicited_read;
   releases = c.a_confirm_releases_what_its_fragment_reported.ensures.unsolicited;
+  only = c.commands_are_performed_as_they_are_asked.ensures.only;
 }
 
 moves : goal.After-each_case_says_what_came → (on : Link) (old new : System) → IsSteady old → is_quiet_on old on ≡ true → IsRound on old new
