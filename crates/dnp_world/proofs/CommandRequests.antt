@@ -50,12 +50,12 @@ order_low (Block index code count on off) (wide, few, less, ons, offs) =
 order_low (Set16 index value) h = low_bytes 2 0 (cast_unsigned w16 value)
 order_low (Set32 index value) h = low_bytes 4 0 (cast_unsigned w32 value)
 
-index_low : (command : Command) → HasWidths command → index_of command < 2 ^ 16
+pub index_low : (command : Command) → HasWidths command → index_of command < 2 ^ 16
 index_low (Block index code count on off) h = h.0
 index_low (Set16 index value) h = h.0
 index_low (Set32 index value) h = h.0
 
-in_range : (command : Command) → HasWidths command → IsInRange command
+pub in_range : (command : Command) → HasWidths command → IsInRange command
 in_range (Block index code count on off) (wide, few, less, ons, offs) = (ons, offs)
 in_range (Set16 index value) h = h.1
 in_range (Set32 index value) h = h.1
@@ -96,13 +96,13 @@ operate_octets seq command low h = asked_low seq 4 (order command 0 ∷ []) low 
 
 -- ---- what is read of them
 
-order_fits : (command : Command) → IsHeader form.Command (order command 0)
+pub order_fits : (command : Command) → IsHeader form.Command (order command 0)
 unfolding takes_of rules content_of objects
 order_fits (Block index code count on off) = record { object = refl; fits = omega arith; forward = tt; objects = refl }
 order_fits (Set16 index value) = record { object = refl; fits = omega arith; forward = tt; objects = refl }
 order_fits (Set32 index value) = record { object = refl; fits = omega arith; forward = tt; objects = refl }
 
-the_command : ReadLaws → (command : Command) → HasWidths command → command_in (order command 0) 0 ≡ Some (command, 0)
+pub the_command : ReadLaws → (command : Command) → HasWidths command → command_in (order command 0) 0 ≡ Some (command, 0)
 the_command laws command h =
     laws.is_said (order command 0) 0 (command, 0)
     (laws.is_read (order command 0) (command_item command 0 ∷ []) 0 command 0 (laws.holds command 0 (index_low command h)) (in_range command h)

@@ -120,3 +120,9 @@ mod RoundAbove
 mod RepeatedPoll
 mod RepeatedRequests
 mod RoundMoves
+mod ControlAnswers
+mod ControlAnswering
+mod ControlHearing
+mod ControlBooks
+mod ControlArrivals
+mod ControlAccepts

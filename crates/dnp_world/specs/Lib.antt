@@ -33,6 +33,8 @@ pub mod Arriving
 pub mod Opening
 pub mod Controls
 pub mod ControlSteps
+pub mod ControlAnswers
+pub mod ControlExchanges
 pub mod Happened
 pub mod Planned
 pub mod Steady

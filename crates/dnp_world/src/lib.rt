@@ -7,6 +7,7 @@
 pub mod arrival_laws;
 pub mod arriving_laws;
 mod channel;
+pub mod control_laws;
 mod ends;
 mod event;
 pub mod happened_laws;
