@@ -1,12 +1,12 @@
 -- Definition: what a step of relaying answers, and what it leaves of the book that was lent to it.
-use Rattle.std.specs.Prelude.{◌≡◌, ◌≢◌, ℕ, ◌==◌, Bool, true, false, ◌&&◌, IsTrue, List, [], ◌∷◌, ◌++◌, Option, Some, None, IfSome, Result, Err, IfErr, ⊤}
+use Rattle.std.specs.Prelude.{◌≡◌, ◌≢◌, ℕ, ◌==◌, Bool, true, false, not, ◌&&◌, IsTrue, List, [], ◌∷◌, ◌++◌, Option, Some, None, IfSome, Result, Err, IfErr, ⊤}
 use Rattle.std.specs.Option.{IsSomeAnd}
 use Rattle.dnp_objects.specs.declared.command.Command.{Command}
 use Rattle.dnp_appfragment.specs.Fragments.{request_octets}
 use Rattle.dnp_controls.specs.declared.book.Entry.{Entry}
 use Rattle.dnp_controls.specs.declared.book.State as entry
 use Rattle.dnp_controls.specs.declared.book.State.TheVariants.{Pending, Spent, Finished}
-use Rattle.dnp_controls.specs.Book.{Ledger, Has, entry_of, is_pending}
+use Rattle.dnp_controls.specs.Book.{Ledger, Has, entry_of, is_finished, is_pending}
 use Rattle.dnp_controls.specs.Moves.{AreGranted, Move, Spend, Finish, IsNext, after}
 use Rattle.dnp_master.specs.declared.task.Task.{Task}
 use Rattle.dnp_master.specs.declared.task.Task.TheVariants.{Select, Operate}
@@ -90,6 +90,13 @@ IsLeast entries target id = (entry : Entry) × (entry.id ≡ id) × IsNext entri
 abbrev pub IsOf : List Entry → ℕ → Option Progress → Type 0
 IsOf entries target progress =
     IfSome progress (λ p. IsSomeAnd (entry_of entries p.id) (λ entry. (entry.target ≡ target) × (entry.command ≡ p.command)))
+
+-- the entry is past the step: that of an OPERATE is not pending any more, and that of a finish is finished
+abbrev pub IsPast : List Entry → Step → Type 0
+IsPast entries Waits = ⊥
+IsPast entries (Selects id command) = ⊥
+IsPast entries (Operates id command) = Has entries id (λ state. not (is_pending state))
+IsPast entries (Finishes id status) = Has entries id is_finished
 
 -- ---- what a call leaves of the book that was lent to it
 

@@ -245,6 +245,8 @@ impl<J: JournalStore, B: Book> Centre<J, B> {
             → IsSomeAnd (link_of self.old).progress (λ p. entry_of (B.contents (book_of self.old)).entries p.id ≡ None) }
         ensures not_pending { B.honest (book_of self.new) → result ≡ Err BookFault.NotPending
             → IsSomeAnd (link_of self.old).progress (λ p. Has (B.contents (book_of self.old)).entries p.id (λ state. not (is_pending state))) }
+        ensures past { B.honest (book_of self.new) → result ≡ Err BookFault.NotPending
+            → says.IsPast (B.contents (book_of self.old)).entries (spec.step_of (link_of self.old) (B.contents (book_of self.old)).entries 0) }
         ensures memory { result ≡ Err BookFault.Memory → IsTrue B.asks_memory }
         // Where the step needs no book, none is asked, and nothing refused.
         ensures unasked { says.asks_book (link_of self.old) ≡ false → (book_of self.new ≡ book_of self.old) × IsOk result }

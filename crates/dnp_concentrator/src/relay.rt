@@ -207,6 +207,8 @@ impl Relay {
         ensures no_control { B.honest book.new → result ≡ Err BookFault.NoControl → entry_of (B.contents book.old).entries progress.id ≡ None }
         ensures not_pending { B.honest book.new → result ≡ Err BookFault.NotPending
             → Has (B.contents book.old).entries progress.id (λ state. not (is_pending state)) }
+        ensures past { B.honest book.new → result ≡ Err BookFault.NotPending
+            → says.IsPast (B.contents book.old).entries (spec.step_of_progress self.old.master.selected progress progress.stage) }
         ensures unasked { says.asks_stage self.old.master.selected progress progress.stage ≡ false → (book.new ≡ book.old) × IsOk result }
         ensures stopped { says.asks_stage self.old.master.selected progress progress.stage ≡ true
             → IsTrue (B.is_stopped book.old) → result ≡ Err BookFault.Device }
@@ -268,6 +270,8 @@ impl Relay {
             → IsSomeAnd self.old.progress (λ p. entry_of (B.contents book.old).entries p.id ≡ None) }
         ensures not_pending { B.honest book.new → result ≡ Err BookFault.NotPending
             → IsSomeAnd self.old.progress (λ p. Has (B.contents book.old).entries p.id (λ state. not (is_pending state))) }
+        ensures past { B.honest book.new → result ≡ Err BookFault.NotPending
+            → says.IsPast (B.contents book.old).entries (spec.step_of self.old (B.contents book.old).entries target) }
         // Where the step needs no book, none is asked, and nothing refused.
         ensures unasked { says.asks_book self.old ≡ false → (book.new ≡ book.old) × IsOk result }
         ensures stopped { says.asks_book self.old ≡ true → IsTrue (B.is_stopped book.old) → result ≡ Err BookFault.Device }

@@ -67,7 +67,7 @@ status_told book id e status found =
 -- ---- the SELECT
 
 -- the step of an idle master without a control in progress
-first_step : (target : ℕ) (entry : Entry) (ends : Ends) → CanBegin target entry ends → next_step target ends ≡ Selects entry.id entry.command
+pub first_step : (target : ℕ) (entry : Entry) (ends : Ends) → CanBegin target entry ends → next_step target ends ≡ Selects entry.id entry.command
 first_step target entry ends can = rw (can.idle, can.free, can.next) refl
 
 idle_again : (r : Relaying) (t : Task) (status : ℕ) → r.master.is_open ≡ true → is_idle (heard_status r t status).master ≡ true
@@ -99,12 +99,12 @@ stands entry ends r seq status link_is progress opens good found widths asked co
       confirms = confirms;
     }
 
-pub record Began (target : ℕ) (entry : Entry) (commands : List Command) (ends : Ends) : Type 0 where
+pub record Began (target check : ℕ) (entry : Entry) (commands : List Command) (ends : Ends) : Type 0 where
   pub none : commands ≡ []
-  pub comes : SelectComesTo target entry ends
+  pub comes : SelectComesTo target check entry ends
 
 pub select_goes : ControlLaws → (target now check : ℕ) (entry : Entry) (old selected : Ends) (commands : List Command) → check < 128
-    → CanBegin target entry old → GoesOver target now (ChecksAs entry.command check) commands old selected → Began target entry commands selected
+    → CanBegin target entry old → GoesOver target now (ChecksAs entry.command check) commands old selected → Began target check entry commands selected
 select_goes laws target now check entry old selected commands low can g =
     let c : Command = entry.command in
     let seq : ℕ = old.link.master.seq in
@@ -135,18 +135,18 @@ select_goes laws target now check entry old selected commands low can g =
     by : (link : Relaying) → link.progress ≡ Some (record { id = entry.id; command = entry.command; stage = stage.Selecting })
         → link.master.is_open ≡ true → Unmoved (heard_status link (task.Select entry.command) check) selected.link selected.going
         → WasAsked (request_octets (request_for old.link.master.seq (task.Select entry.command))) selected.station.core
-        → found_in selected.book.entries entry.id ≡ Some entry → (b : Bool) → (check == success) ≡ b → SelectComesTo target entry selected
+        → found_in selected.book.entries entry.id ≡ Some entry → (b : Bool) → (check == success) ≡ b → SelectComesTo target check entry selected
     by link progress opens unmoved asked found true e =
-        Stands (stands entry selected link old.link.master.seq check unmoved.same progress opens e found can.widths asked unmoved.are)
+        Stands (eqb-true check 0 e) (stands entry selected link old.link.master.seq check unmoved.same progress opens e found can.widths asked unmoved.are)
     by link progress opens unmoved asked found false e =
         let next : next_step target selected ≡ Finishes entry.id check = told_next target entry selected link check unmoved.same progress opens e in
-        Refused check (eqb-false check 0 e) next
+        Refused (eqb-false check 0 e) next
         (ap (λ (s : Step). status_at (ledger_after selected.book s) entry.id) next ∙ status_told selected.book entry.id entry check found)
 
 -- ---- the OPERATE
 
 -- the step of a master at which the control stands selected
-second_step : SameLaw → (target : ℕ) (entry : Entry) (ends : Ends) → HasSelected entry ends → next_step target ends ≡ Operates entry.id entry.command
+pub second_step : SameLaw → (target : ℕ) (entry : Entry) (ends : Ends) → HasSelected entry ends → next_step target ends ≡ Operates entry.id entry.command
 second_step same target entry ends has = rw (has.idle, has.progress) (rw has.selected (rw (same entry.command) refl))
 
 -- it was another request

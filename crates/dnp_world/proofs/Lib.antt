@@ -126,3 +126,9 @@ mod ControlHearing
 mod ControlBooks
 mod ControlArrivals
 mod ControlAccepts
+mod ControlsAccepted
+mod ControlsAbove
+mod ControlsBelow
+mod ControlsToSubstations
+mod ControlsClean
+mod ControlsMoved

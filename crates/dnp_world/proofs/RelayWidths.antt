@@ -83,7 +83,7 @@ with_index_fits (Set32 index value) new (wide, rest) low = (omega (arith, wide, 
 abbrev FitsOrder : ℕ × Command → Type 0
 FitsOrder order = HasWidths order.1
 
-below_fits : (spans : List Spans) (command : Command) (order : ℕ × Command) → HasWidths command → command_below spans command ≡ Some order
+pub below_fits : (spans : List Spans) (command : Command) (order : ℕ × Command) → HasWidths command → command_below spans command ≡ Some order
     → FitsOrder order
 below_fits spans command order h is = by (index_below spans (kind_of_command command) (index_of command)) refl is
   where

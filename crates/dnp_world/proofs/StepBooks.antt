@@ -148,7 +148,7 @@ step_fits book step all =
 -- ---- the control in progress after a step
 
 -- in a sound book the entry of the next one's id is that one
-next_found : (entries : List Entry) (target : ℕ) (e : Entry) → AllPairs (λ (x y : Entry). x.id < y.id) entries → next_of entries target ≡ Some e
+pub next_found : (entries : List Entry) (target : ℕ) (e : Entry) → AllPairs (λ (x y : Entry). x.id < y.id) entries → next_of entries target ≡ Some e
     → entry_of entries e.id ≡ Some e
 next_found [] target e rising is = absurd (none-some e is)
 next_found (x ∷ xs) target e rising is =

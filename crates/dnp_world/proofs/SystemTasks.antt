@@ -2,7 +2,7 @@
 use Rattle.std.proofs.Common.{◌≡◌, ℕ, ◌<◌, ◌&&◌, if◌then◌else◌, Bool, true, false, not, List, [], ◌∷◌, length, map, get_or, slice_set, ◌⊎◌, inl, inr, Option, Some, None, refl, sym, ap, ◌∙◌, subst, arith}
 use Rattle.std.specs.Option.{IsSomeAnd}
 use Rattle.arrayvec.specs.ArrayVec.{ArrayVec}
-use Rattle.dnp_concentrator.specs.Relayed.{Tells, asks_book, asks_progress, asks_stage}
+use Rattle.dnp_concentrator.specs.Relayed.{IsPast, Tells, asks_book, asks_progress, asks_stage}
 use Rattle.dnp_concentrator.specs.Relaying.{Step, Waits, Selects, Operates, Finishes}
 use Rattle.dnp_concentrator.specs.declared.relayed.Relayed.TheVariants as relayed
 use Rattle.dnp_controls.specs.Book.{Ledger, Has, entry_of, is_pending}
@@ -89,35 +89,40 @@ of_finished (Selects own command) seq id status P told = absurd told
 of_finished (Operates own command) seq id status P told = absurd told
 of_finished (Finishes own own_status) seq id status P told = tt
 
--- the book refused for its entry
-pub refused_for : (progress : Option Progress) (entries : List Entry) (fault : BookFault) → (fault ≡ NoControl) ⊎ (fault ≡ NotPending)
-    → (fault ≡ NoControl → IsSomeAnd progress (λ p. entry_of entries p.id ≡ None))
-    → (fault ≡ NotPending → IsSomeAnd progress (λ p. Has entries p.id (λ state. not (is_pending state))))
-    → IsSomeAnd progress (λ p. IsMissing entries p.id)
-refused_for None entries fault which missing spent = elim which [ inl is ↦ missing is | inr is ↦ spent is ]
-refused_for (Some p) entries fault which missing spent = elim which [ inl is ↦ inl (missing is) | inr is ↦ inr (spent is) ]
+-- an entry that is past the step refuses it
+past_refuses : (entries : List Entry) (step : Step) → IsPast entries step → IsRefused entries step
+past_refuses entries Waits past = past
+past_refuses entries (Selects id command) past = past
+past_refuses entries (Operates id command) past = inr past
+past_refuses entries (Finishes id status) past = inr past
 
--- so it refused the step, for which it was asked
-refused_by : (idle : Bool) (progress : Option Progress) (selected : Option Command) (entries : List Entry) (target : ℕ)
+-- so does one that is missing, where the book was asked
+missing_refuses : (idle : Bool) (progress : Option Progress) (selected : Option Command) (entries : List Entry) (target : ℕ)
     → ((idle && asks_progress progress selected) ≡ false → ⊥) → IsSomeAnd progress (λ p. IsMissing entries p.id)
     → IsRefused entries (if idle then step_by progress selected entries target else Waits)
-refused_by false progress selected entries target asked missing = absurd (asked refl)
-refused_by true None selected entries target asked missing = absurd missing
-refused_by true (Some p) selected entries target asked missing = by p.stage asked
+missing_refuses false progress selected entries target asked missing = absurd (asked refl)
+missing_refuses true None selected entries target asked missing = absurd missing
+missing_refuses true (Some p) selected entries target asked missing = by p.stage asked
   where
     by_selected : (b : Bool) → (b ≡ false → ⊥) → IsRefused entries (if b then Operates p.id p.command else Selects p.id p.command)
-    by_selected true asked = missing
+    by_selected true asked = inl missing
     by_selected false asked = absurd (asked refl)
 
     by : (stage : Stage) → (asks_stage selected p stage ≡ false → ⊥) → IsRefused entries (step_of_progress selected p stage)
-    by (Known status) asked = missing
+    by (Known status) asked = inl missing
     by Selected asked = by_selected (is_selected selected p.command) asked
     by Selecting asked = absurd (asked refl)
     by Operating asked = absurd (asked refl)
 
-pub refused_step : (r : Relaying) (entries : List Entry) (target : ℕ) → (asks_book r ≡ false → ⊥) → IsSomeAnd r.progress (λ p. IsMissing entries p.id)
-    → IsRefused entries (step_of r entries target)
-refused_step r entries target asked missing = refused_by (is_idle r.master) r.progress r.master.selected entries target asked missing
+-- the book refused for its entry
+pub refused_step : (r : Relaying) (entries : List Entry) (target : ℕ) (fault : BookFault) → (asks_book r ≡ false → ⊥)
+    → (fault ≡ NoControl) ⊎ (fault ≡ NotPending) → (fault ≡ NoControl → IsSomeAnd r.progress (λ p. IsMissing entries p.id))
+    → (fault ≡ NotPending → IsPast entries (step_of r entries target)) → IsRefused entries (step_of r entries target)
+refused_step r entries target fault asked which missing past =
+    elim which [
+      | inl is ↦ missing_refuses (is_idle r.master) r.progress r.master.selected entries target asked (missing is)
+      | inr is ↦ past_refuses entries (step_of r entries target) (past is)
+    ]
 
 -- ---- the stations
 

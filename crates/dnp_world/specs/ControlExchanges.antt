@@ -106,11 +106,12 @@ pub record HasSelected (entry : Entry) (ends : Ends) : Type 0 where
   pub asked : WasAsked (request_octets (request_for seq (task.Select entry.command))) ends.station.core
   pub confirms : All ConfirmsReport ends.going
 
--- What a SELECT comes to: it was answered SUCCESS, or with another status, which the book is told next.
-pub data SelectComesTo (target : ℕ) (entry : Entry) (ends : Ends) : Type 0 where
-  Stands : HasSelected entry ends → SelectComesTo target entry ends
-  Refused : (status : ℕ) → status ≢ success → next_step target ends ≡ relaying.Finishes entry.id status
-      → status_at (told_to target ends) entry.id ≡ Some status → SelectComesTo target entry ends
+-- What a SELECT comes to, where the outputs have this status for its command: it stands selected where that is SUCCESS, and else the
+-- book is told the status next.
+pub data SelectComesTo (target check : ℕ) (entry : Entry) (ends : Ends) : Type 0 where
+  Stands : check ≡ success → HasSelected entry ends → SelectComesTo target check entry ends
+  Refused : check ≢ success → next_step target ends ≡ relaying.Finishes entry.id check
+      → status_at (told_to target ends) entry.id ≡ Some check → SelectComesTo target check entry ends
 
 -- What an OPERATE comes to: it was answered with this status, which the book is told next, and performed its command where that is
 -- SUCCESS.

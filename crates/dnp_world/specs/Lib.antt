@@ -35,6 +35,7 @@ pub mod Controls
 pub mod ControlSteps
 pub mod ControlAnswers
 pub mod ControlExchanges
+pub mod ControlMoves
 pub mod Happened
 pub mod Planned
 pub mod Steady

@@ -10,7 +10,7 @@ use Rattle.dnp_objects.specs.declared.limits.TheConstants.{MAX_ID}
 use Rattle.dnp_pointdb.specs.declared.reading.Reading.{Reading}
 use Rattle.dnp_pointdb.specs.declared.fault.ChangeFault.{ChangeFault}
 use Rattle.dnp_pointdb.specs.Database.{answer_of}
-use Rattle.dnp_controls.specs.Book.{added, entry_of, Has, is_pending}
+use Rattle.dnp_controls.specs.Book.{added, entry_of, Has, is_finished, is_pending}
 use Rattle.dnp_controls.specs.declared.book.Entry.{Entry}
 use Rattle.dnp_eventbuf.specs.Archive.{with_events}
 use Rattle.dnp_eventbuf.specs.Stock.{exhausts, with_rows, dropped_by, without_all, rows_in}
@@ -335,16 +335,17 @@ IfOperates (relaying.Selects id command) P = ⊤
 IfOperates (relaying.Operates id command) P = P id
 IfOperates (relaying.Finishes id status) P = ⊤
 
--- the book has not this control, or not as pending
+-- the book has not this control
 abbrev pub IsMissing : List Entry → ℕ → Type 0
-IsMissing entries id = (entry_of entries id ≡ None) ⊎ Has entries id (λ state. not (is_pending state))
+IsMissing entries id = entry_of entries id ≡ None
 
--- the book refuses the step, which it is asked for an OPERATE and for what becomes of a control
+-- The book refuses the step, which it is asked for an OPERATE and for what becomes of a control: it has no such control, or has it past
+-- the step, spent or finished.
 abbrev pub IsRefused : List Entry → relaying.Step → Type 0
 IsRefused entries relaying.Waits = ⊥
 IsRefused entries (relaying.Selects id command) = ⊥
-IsRefused entries (relaying.Operates id command) = IsMissing entries id
-IsRefused entries (relaying.Finishes id status) = IsMissing entries id
+IsRefused entries (relaying.Operates id command) = IsMissing entries id ⊎ Has entries id (λ state. not (is_pending state))
+IsRefused entries (relaying.Finishes id status) = IsMissing entries id ⊎ Has entries id is_finished
 
 -- an OPERATE goes out for a control that is pending; a step that the book refuses for its entry does nothing
 pub data RelaysOn (on : Link) (old new : System) : Type 0 where

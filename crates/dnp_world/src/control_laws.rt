@@ -16,15 +16,29 @@ ghost use Rattle.dnp_outstation.specs.Calls.{connection_after, performed_in};
 ghost use Rattle.dnp_outstation.specs.State.{State};
 ghost use Rattle.dnp_world.specs.CommandWidths.{HasWidths};
 ghost use Rattle.dnp_world.specs.ControlAnswers.{Answers, Awaits, CanAnswer, HearsStatus, LeavesRequest, PassesReport, Repeats, WasAsked, operated_by};
+ghost use Rattle.dnp_world.specs.Controls.{CanGo, IsControl};
+ghost use Rattle.dnp_world.specs.ControlsInStep.{InStep};
+ghost use Rattle.dnp_world.specs.ControlMoves.{ControlMoves, IsUnasked};
+ghost use Rattle.dnp_world.specs.SystemStanding.{IsStanding};
 ghost use Rattle.dnp_world.specs.ControlExchanges.{CanBegin, ChecksAs, Ends, GoesOver, HasSelected, OperateComesTo, SelectComesTo};
 ghost use Rattle.dnp_world.specs.Octets.{uns_in};
+ghost use Rattle.dnp_world.specs.Systems.{System};
 
+use crate::arriving_laws::what_is_sent_arrives;
 use dnp_appfragment::laws::{
     a_header_holds_what_was_put, what_is_held_is_read, what_is_spelled_is_said,
     what_is_there_is_said,
 };
+use dnp_concentrator::laws::commands_are_undone;
+use dnp_controls::laws::ids_go_on;
+use dnp_eventbuf::laws::a_release_conserves_rows;
 use dnp_objects::Command;
 use dnp_objects::laws::equality_is_decided;
+use dnp_outstation::link_laws::{
+    a_confirm_releases_what_its_fragment_reported, a_repeated_request_executes_nothing,
+    commands_are_performed_as_they_are_asked, content_leaves_the_connection_alone,
+    each_case_says_what_came,
+};
 
 /// An open outstation that is asked a SELECT which isn't its last request again repeats its command with the status of its outputs,
 /// and performs nothing.
@@ -88,7 +102,7 @@ pub fn a_master_hears_its_control()
 pub fn an_accepted_control_operates()
     ensures selects { (target now check : ℕ) (entry : EntryValue) (old selected : Ends) (commands : List CommandValue) → check < 128
         → CanBegin target entry old → GoesOver target now (ChecksAs entry.command check) commands old selected
-        → (commands ≡ []) × SelectComesTo target entry selected }
+        → (commands ≡ []) × SelectComesTo target check entry selected }
     ensures operates { (target now check : ℕ) (entry : EntryValue) (selected operated : Ends) (commands : List CommandValue) → check < 128
         → HasSelected entry selected → GoesOver target now (ChecksAs entry.command check) commands selected operated
         → OperateComesTo target entry commands operated }
@@ -98,4 +112,26 @@ pub fn an_accepted_control_operates()
     what_is_there_is_said();
     what_is_spelled_is_said();
     equality_is_decided::<u64, Command>();
+}
+
+/// A control that goes all the way from a system whose links are quiet, and where it comes next, has moved its command: the substation
+/// that it is for has performed it, once, and both books say SUCCESS of it.
+pub fn a_clean_control_operates()
+    ensures { (id : ℕ) (old new : System) → IsStanding old → InStep old → IsUnasked old → CanGo id old → IsControl id old new
+        → ControlMoves id old new }
+{
+    a_header_holds_what_was_put();
+    what_is_held_is_read();
+    what_is_there_is_said();
+    what_is_spelled_is_said();
+    equality_is_decided::<u64, Command>();
+    what_is_sent_arrives();
+    ids_go_on();
+    content_leaves_the_connection_alone();
+    each_case_says_what_came();
+    a_confirm_releases_what_its_fragment_reported();
+    a_release_conserves_rows();
+    commands_are_performed_as_they_are_asked();
+    a_repeated_request_executes_nothing();
+    commands_are_undone();
 }

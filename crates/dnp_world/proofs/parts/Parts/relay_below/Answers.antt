@@ -13,7 +13,7 @@ use Rattle.dnp_world.specs.SystemParts.{system_of, substation_of}
 use Rattle.dnp_world.specs.Systems.{link_at}
 use Rattle.dnp_world.proofs.OneLinkRuns.{any_err}
 use Rattle.dnp_world.proofs.SystemPlaces.{unchanged_at}
-use Rattle.dnp_world.proofs.SystemTasks.{down_of, finished, none_down_of, of_finished, of_selecting, of_sent, of_waited, refused_for, refused_step, relays_below, selecting, sent, unmoved_below, waited}
+use Rattle.dnp_world.proofs.SystemTasks.{down_of, finished, none_down_of, of_finished, of_selecting, of_sent, of_waited, refused_step, relays_below, selecting, sent, unmoved_below, waited}
 use Rattle.dnp_world.proofs.parts.Parts.relay_below.Goals as goal
 
 pub returns-in_err-reserve_down-clause-stopped : goal.returns-in_err-reserve_down-clause-stopped
@@ -110,10 +110,10 @@ returns-in-None-clause-done g c = λ well.
     let old = system_of stock g.J.JournalStore.archive ledger g.B.Book.contents c.args.self.now in
     let refused = c.in-Err.ensures in
     Refuses
-    (refused_step (link_at old.concentrator c.args.station) old.concentrator.controls.entries c.args.station (λ none. absurd (both_ways false refl (refused.unasked none).1))
-    (refused_for (link_at old.concentrator c.args.station).progress old.concentrator.controls.entries c.in-Err.fault c.in-None.ensures
+    (refused_step (link_at old.concentrator c.args.station) old.concentrator.controls.entries c.args.station c.in-Err.fault
+    (λ none. absurd (both_ways false refl (refused.unasked none).1)) c.in-None.ensures
     (λ is. refused.no_control well.controls_is (ap (λ (e : BookFault). Err e) is))
-    (λ is. refused.not_pending well.controls_is (ap (λ (e : BookFault). Err e) is))))
+    (λ is. refused.past well.controls_is (ap (λ (e : BookFault). Err e) is)))
     (unmoved_below stock ledger old c.args.self.now.concentrator c.relay.new.self c.args.station c.from.result c.args.self.now.substations.items
     c.index_mut.result.now c.reserve_down.new.self c.from.ensures c.requires c.index_mut.ensures.value c.in-Err.ensures.unchanged
     (c.in-Err.ensures.book.unchanged well.controls_is) c.relay.ensures.core c.relay.ensures.queue c.relay.ensures.indices c.reserve_down.ensures.same)

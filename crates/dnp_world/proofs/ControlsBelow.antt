@@ -1,0 +1,314 @@
+-- Fragments that arrive at the ends of the link to a substation, as fragments that come to its two stations, and what they leave alone.
+use Rattle.std.proofs.Common.{◌≡◌, ℕ, ◌<◌, ◌≤◌, true, false, Bool, ◌&&◌, List, [], ◌∷◌, ◌++◌, length, drop, map, Option, Some, None, Result, Ok, Err, refl, sym, ap, ◌∙◌, subst, append_assoc, append-nil, arith}
+use Rattle.std.specs.Prelude.{nat_lt, option_to_list, slice_get, slice_set, if◌then◌else◌}
+use Rattle.std.proofs.lemmas.List.{map-append}
+use Rattle.std.proofs.lemmas.Option.{none-some, same_Some}
+use Rattle.dnp_concentrator.specs.Relaying.{Relaying, relaying_after}
+use Rattle.dnp_concentrator.specs.Relaying as relaying
+use Rattle.dnp_concentrator.specs.declared.span.Spans.{Spans}
+use Rattle.dnp_controls.specs.Book.{Ledger}
+use Rattle.dnp_controls.specs.Latches.{PlainState, plain_check}
+use Rattle.dnp_controls.specs.Panel.{Panel}
+use Rattle.dnp_master.specs.Calls.{Taking, receive_of}
+use Rattle.dnp_master.specs.declared.fault.MasterFault.{MasterFault}
+use Rattle.dnp_objects.specs.declared.command.Command.{Command}
+use Rattle.dnp_objects.specs.declared.row.Row.{Row}
+use Rattle.dnp_outstation.specs.Calls.{connection_after, performed_in}
+use Rattle.dnp_outstation.specs.State.{Core, State, Step}
+use Rattle.dnp_world.specs.Arriving.{Arrive, Arrives, SubstationTakes, answers_below, confirms_of}
+use Rattle.dnp_world.specs.Channels.{ChannelState}
+use Rattle.dnp_world.specs.ControlExchanges.{AnswersAll, ChecksAs, Hears, HearsAll}
+use Rattle.dnp_world.specs.SystemEvents.{MasterReceives, SubstationAnswers, SubstationSteps, with_substation}
+use Rattle.dnp_world.specs.Systems.{CentreState, ConcentratorState, SubstationState, System, at_station, in_state, link_at, panel_of, station_of}
+use Rattle.dnp_world.specs.declared.event.Link.TheVariants.{Below}
+use Rattle.dnp_world.specs.declared.link_event.Way.TheVariants as way
+use Rattle.dnp_world.proofs.ArrivingLinks.{length_set}
+use Rattle.dnp_world.proofs.ListedAt.{set_here}
+use Rattle.dnp_world.proofs.SystemPlans.{link_here}
+
+-- ---- what the link to a substation leaves alone
+
+-- and what the substation performed is listed
+pub record KeptBelow (station : ℕ) (commands : List Command) (old new : System) : Type 0 where
+  pub indices : new.indices ≡ old.indices
+  pub now : new.now ≡ old.now
+  pub centre : new.centre ≡ old.centre
+  pub spans : new.concentrator.indices ≡ old.concentrator.indices
+  pub links : length new.concentrator.links ≡ length old.concentrator.links
+  pub operated : new.history.operated ≡ old.history.operated ++ at_station station commands
+
+pub join_below : (station : ℕ) (first more : List Command) (a b c : System) → KeptBelow station first a b → KeptBelow station more b c
+    → KeptBelow station (first ++ more) a c
+join_below station first more a b c h k = record {
+  indices = k.indices ∙ h.indices;
+  now = k.now ∙ h.now;
+  centre = k.centre ∙ h.centre;
+  spans = k.spans ∙ h.spans;
+  links = k.links ∙ h.links;
+  operated = k.operated
+      ∙ ap (λ (xs : List (ℕ × Command)). xs ++ at_station station more) h.operated
+      ∙ append_assoc a.history.operated (at_station station first) (at_station station more)
+      ∙ ap (λ (xs : List (ℕ × Command)). a.history.operated ++ xs) (sym (map-append (λ (x : Command). (station, x)) first more));
+}
+
+pub same_below : (station : ℕ) (old new : System) → new.indices ≡ old.indices → new.now ≡ old.now → new.centre ≡ old.centre
+    → new.concentrator.indices ≡ old.concentrator.indices → length new.concentrator.links ≡ length old.concentrator.links
+    → new.history.operated ≡ old.history.operated → KeptBelow station [] old new
+same_below station old new indices now centre spans links operated = record {
+  indices = indices;
+  now = now;
+  centre = centre;
+  spans = spans;
+  links = links;
+  operated = operated ∙ sym (append-nil old.history.operated);
+}
+
+-- the substation with these lines
+abbrev pub on_lines : SubstationState → ChannelState → SubstationState
+on_lines s lines = record s { channel = lines }
+
+-- ---- down
+
+-- what the crate of outstations promises of what is performed
+abbrev pub PerformsLaw : Type 0
+PerformsLaw = (s : State) (o : Panel) (now : ℕ) (octets : List ℕ)
+    → (connection_after s o now octets).state.performed ≡ s.performed ++ performed_in s.core o now octets
+
+drop_front : {A : Type 0} (xs ys : List A) → drop (length xs) (xs ++ ys) ≡ ys
+drop_front [] ys = refl
+drop_front (x ∷ xs) ys = drop_front xs ys
+
+-- its outputs are as many
+pub record HasAsMany (was is : SubstationState) : Type 0 where
+  pub outputs : is.outputs.outputs ≡ was.outputs.outputs
+  pub setpoints : is.outputs.setpoints ≡ was.outputs.setpoints
+
+pub record DownBelow (station : ℕ) (command : Command) (was : SubstationState) (fragments answers : List (List ℕ)) (old new : System) : Type 0 where
+  pub is : SubstationState
+  pub there : slice_get new.substations station ≡ Some is
+  pub commands : List Command
+  pub all : AnswersAll old.now (ChecksAs command (plain_check was.outputs.outputs was.outputs.setpoints command)) fragments (station_of was)
+      (station_of is) answers commands
+  pub many : HasAsMany was is
+  pub kept : KeptBelow station commands old new
+  pub concentrator : new.concentrator ≡ old.concentrator
+
+-- one fragment
+record OneDown (station : ℕ) (fragment : List ℕ) (was : SubstationState) (old new : System) : Type 0 where
+  is : SubstationState
+  there : slice_get new.substations station ≡ Some is
+  core : is.core ≡ (connection_after (station_of was) (panel_of was) old.now fragment).state.core
+  many : HasAsMany was is
+  kept : KeptBelow station (performed_in was.core (panel_of was) old.now fragment) old new
+  concentrator : new.concentrator ≡ old.concentrator
+
+down_from : PerformsLaw → (station : ℕ) (fragment : List ℕ) (was : SubstationState) (old new : System) (lines : ChannelState)
+    → slice_get old.substations station ≡ Some was → SubstationTakes station fragment (with_substation old station (on_lines was lines)) new
+    → OneDown station fragment was old new
+down_from law station fragment was old new lines there takes =
+    let mid : SubstationState = on_lines was lines in
+    let a = takes.answers in
+    let step : Step = connection_after (station_of was) (panel_of was) old.now fragment in
+    let here : slice_get (slice_set old.substations station mid) station ≡ Some mid = set_here old.substations station was mid there in
+    let same : a.was ≡ mid = same_Some a.was mid (sym a.there ∙ here) in
+    let changed : SubstationAnswers (fragment ∷ []) old.now takes.released mid a.is =
+    subst (λ (x : SubstationState). SubstationAnswers (fragment ∷ []) old.now takes.released x a.is) same a.changed in
+    let is_as : a.is ≡ on_lines (in_state mid step.state) a.is.channel = changed.1.after in
+    let performed : a.is.outputs.performed ≡ was.outputs.performed ++ performed_in was.core (panel_of was) old.now fragment =
+    ap (λ (x : SubstationState). x.outputs.performed) is_as ∙ law (station_of was) (panel_of was) old.now fragment in
+    let grown : drop (length a.was.outputs.performed) a.is.outputs.performed ≡ performed_in was.core (panel_of was) old.now fragment =
+    ap (λ (x : SubstationState). drop (length x.outputs.performed) a.is.outputs.performed) same
+    ∙ ap (λ (xs : List Command). drop (length was.outputs.performed) xs) performed
+    ∙ drop_front was.outputs.performed (performed_in was.core (panel_of was) old.now fragment) in
+    record {
+      is = a.is;
+      there = ap (λ (s : System). slice_get s.substations station) a.after
+          ∙ set_here (slice_set old.substations station mid) station mid a.is here;
+      core = ap (λ (x : SubstationState). x.core) is_as;
+      many = record {
+        outputs = ap (λ (x : SubstationState). x.outputs.outputs) is_as;
+        setpoints = ap (λ (x : SubstationState). x.outputs.setpoints) is_as;
+      };
+      kept = record {
+        indices = ap (λ (s : System). s.indices) a.after;
+        now = ap (λ (s : System). s.now) a.after;
+        centre = ap (λ (s : System). s.centre) a.after;
+        spans = ap (λ (s : System). s.concentrator.indices) a.after;
+        links = ap (λ (s : System). length s.concentrator.links) a.after;
+        operated = ap (λ (s : System). s.history.operated) a.after
+            ∙ ap (λ (xs : List Command). old.history.operated ++ at_station station xs) grown;
+      };
+      concentrator = ap (λ (s : System). s.concentrator) a.after;
+    }
+
+-- what was heard on the way there
+heard_as : (station : ℕ) (was : SubstationState) (old heard : System) (from is : SubstationState) → slice_get old.substations station ≡ Some was
+    → slice_get old.substations station ≡ Some from → is ≡ on_lines from is.channel → heard ≡ with_substation old station is
+    → heard ≡ with_substation old station (on_lines was is.channel)
+heard_as station was old heard from is there found is_as after =
+    after
+    ∙ ap (λ (x : SubstationState). with_substation old station x)
+    (is_as ∙ ap (λ (x : SubstationState). on_lines x is.channel) (same_Some from was (sym found ∙ there)))
+
+one_down : PerformsLaw → (station : ℕ) (fragment : List ℕ) (answers : List (List ℕ)) (was : SubstationState) (old new : System)
+    → slice_get old.substations station ≡ Some was → Arrives (Below station) way.Down fragment answers old new → OneDown station fragment was old new
+one_down law station fragment answers was old new there a =
+    let h = a.hears in
+    down_from law station fragment was old new h.is.channel there
+    (subst (λ (s : System). SubstationTakes station fragment s new) (heard_as station was old a.heard h.was h.is there h.there h.changed.1 h.after) a.takes)
+
+one_sends : (station : ℕ) (fragment : List ℕ) (answers : List (List ℕ)) (was : SubstationState) (old new : System)
+    → slice_get old.substations station ≡ Some was → Arrives (Below station) way.Down fragment answers old new
+    → answers ≡ (connection_after (station_of was) (panel_of was) old.now fragment).does.send
+one_sends station fragment answers was old new there a =
+    let h = a.hears in
+    a.sends
+    ∙ ap (λ (s : System). answers_below (slice_get s.substations station) s.now fragment)
+    (heard_as station was old a.heard h.was h.is there h.there h.changed.1 h.after)
+    ∙ ap (λ (o : Option SubstationState). answers_below o old.now fragment)
+    (set_here old.substations station was (on_lines was h.is.channel) there)
+
+pub below_down : PerformsLaw → (station : ℕ) (command : Command) (was : SubstationState) (fragments answers : List (List ℕ)) (old new : System)
+    → slice_get old.substations station ≡ Some was → Arrive (Below station) way.Down fragments answers old new
+    → DownBelow station command was fragments answers old new
+below_down law station command was [] answers old new there (answers_is, new_is) = record {
+  is = was;
+  there = ap (λ (s : System). slice_get s.substations station) new_is ∙ there;
+  commands = [];
+  all = (refl, answers_is, refl);
+  many = record { outputs = refl; setpoints = refl };
+  kept = subst (KeptBelow station [] old) (sym new_is) (same_below station old old refl refl refl refl refl refl);
+  concentrator = ap (λ (s : System). s.concentrator) new_is;
+}
+below_down law station command was (f ∷ fs) answers old new there (first, more, next, arrives, rest, answers_is) =
+    let one : OneDown station f was old next = one_down law station f first was old next there arrives in
+    let h : DownBelow station command one.is fs more next new = below_down law station command one.is fs more next new one.there rest in
+    let these : List Command = performed_in was.core (panel_of was) old.now f in
+    let check : ℕ = plain_check was.outputs.outputs was.outputs.setpoints command in
+    let same_check : plain_check one.is.outputs.outputs one.is.outputs.setpoints command ≡ check =
+    ap (λ (n : ℕ). plain_check n one.is.outputs.setpoints command) one.many.outputs
+    ∙ ap (λ (n : ℕ). plain_check was.outputs.outputs n command) one.many.setpoints in
+    record {
+      is = h.is;
+      there = h.there;
+      commands = these ++ h.commands;
+      all = (
+        panel_of was,
+        station_of one.is,
+        more,
+        h.commands,
+        record { some = omega arith; check = refl },
+        one.core,
+        answers_is ∙ ap (λ (xs : List (List ℕ)). xs ++ more) (one_sends station f first was old next there arrives),
+        refl,
+        subst (λ (n : ℕ). AnswersAll n (ChecksAs command check) fs (station_of one.is) (station_of h.is) more h.commands) one.kept.now
+            (subst (λ (n : ℕ). AnswersAll next.now (ChecksAs command n) fs (station_of one.is) (station_of h.is) more h.commands) same_check h.all),
+      );
+      many = record { outputs = h.many.outputs ∙ one.many.outputs; setpoints = h.many.setpoints ∙ one.many.setpoints };
+      kept = join_below station these h.commands old next new one.kept h.kept;
+      concentrator = h.concentrator ∙ one.concentrator;
+    }
+
+-- ---- up
+
+pub record UpBelow (station : ℕ) (was : SubstationState) (fragments answers : List (List ℕ)) (old new : System) : Type 0 where
+  pub is : SubstationState
+  pub there : slice_get new.substations station ≡ Some is
+  pub stays : station_of is ≡ station_of was
+  pub many : HasAsMany was is
+  pub all : HearsAll old.now fragments (link_at old.concentrator station) (link_at new.concentrator station) answers
+  pub kept : KeptBelow station [] old new
+  pub controls : new.concentrator.controls ≡ old.concentrator.controls
+
+record OneUp (station : ℕ) (r : Result Taking MasterFault) (was : SubstationState) (old new : System) : Type 0 where
+  is : SubstationState
+  there : slice_get new.substations station ≡ Some is
+  is_as : is ≡ on_lines was is.channel
+  hears : Hears r (link_at old.concentrator station) (link_at new.concentrator station) (confirms_of r)
+  kept : KeptBelow station [] old new
+  controls : new.concentrator.controls ≡ old.concentrator.controls
+
+up_from : (station : ℕ) (r : Result Taking MasterFault) (was : SubstationState) (old new : System) (lines : ChannelState)
+    → slice_get old.substations station ≡ Some was → station < length old.concentrator.links
+    → MasterReceives (Below station) r (with_substation old station (on_lines was lines)) new → OneUp station r was old new
+up_from station (Ok t) was old new lines there long (numbers, b) =
+    let mid : SubstationState = on_lines was lines in
+    let here : slice_get (slice_set old.substations station mid) station ≡ Some mid = set_here old.substations station was mid there in
+    let same : b.was ≡ mid = same_Some b.was mid (sym b.there ∙ here) in
+    let next : Relaying = relaying.received (link_at old.concentrator station) t in
+    record {
+      is = b.is;
+      there = ap (λ (s : System). slice_get s.substations station) b.after ∙ set_here (slice_set old.substations station mid) station mid b.is here;
+      is_as = b.changed.1 ∙ ap (λ (x : SubstationState). on_lines x b.is.channel) same;
+      hears = (
+        ap (λ (s : System). link_at s.concentrator station) b.after ∙ link_here old.concentrator.links station next long,
+        refl,
+      );
+      kept = same_below station old new (ap (λ (s : System). s.indices) b.after) (ap (λ (s : System). s.now) b.after)
+          (ap (λ (s : System). s.centre) b.after) (ap (λ (s : System). s.concentrator.indices) b.after)
+          (ap (λ (s : System). length s.concentrator.links) b.after ∙ length_set old.concentrator.links station next)
+          (ap (λ (s : System). s.history.operated) b.after);
+      controls = ap (λ (s : System). s.concentrator.controls) b.after;
+    }
+up_from station (Err fault) was old new lines there long same =
+    let mid : SubstationState = on_lines was lines in
+    record {
+      is = mid;
+      there = ap (λ (s : System). slice_get s.substations station) same ∙ set_here old.substations station was mid there;
+      is_as = refl;
+      hears = (ap (λ (s : System). link_at s.concentrator station) same, refl);
+      kept = same_below station old new (ap (λ (s : System). s.indices) same) (ap (λ (s : System). s.now) same) (ap (λ (s : System). s.centre) same)
+          (ap (λ (s : System). s.concentrator.indices) same) (ap (λ (s : System). length s.concentrator.links) same)
+          (ap (λ (s : System). s.history.operated) same);
+      controls = ap (λ (s : System). s.concentrator.controls) same;
+    }
+
+one_up : (station : ℕ) (fragment : List ℕ) (answers : List (List ℕ)) (was : SubstationState) (old new : System)
+    → slice_get old.substations station ≡ Some was → station < length old.concentrator.links
+    → Arrives (Below station) way.Up fragment answers old new
+    → OneUp station (receive_of (link_at old.concentrator station).master old.now fragment) was old new
+one_up station fragment answers was old new there long a =
+    let h = a.hears in
+    up_from station (receive_of (link_at old.concentrator station).master old.now fragment) was old new h.is.channel there long
+    (subst (λ (s : System). MasterReceives (Below station) (receive_of (link_at s.concentrator station).master s.now fragment) s new)
+    (heard_as station was old a.heard h.was h.is there h.there h.changed.1 h.after) a.takes)
+
+pub below_up : (station : ℕ) (was : SubstationState) (fragments answers : List (List ℕ)) (old new : System) → slice_get old.substations station ≡ Some was
+    → station < length old.concentrator.links → Arrive (Below station) way.Up fragments answers old new → UpBelow station was fragments answers old new
+below_up station was [] answers old new there long (answers_is, new_is) = record {
+  is = was;
+  there = ap (λ (s : System). slice_get s.substations station) new_is ∙ there;
+  stays = refl;
+  many = record { outputs = refl; setpoints = refl };
+  all = (ap (λ (s : System). link_at s.concentrator station) new_is, answers_is);
+  kept = subst (KeptBelow station [] old) (sym new_is) (same_below station old old refl refl refl refl refl refl);
+  controls = ap (λ (s : System). s.concentrator.controls) new_is;
+}
+below_up station was (f ∷ fs) answers old new there long (first, more, next, arrives, rest, answers_is) =
+    let r : Result Taking MasterFault = receive_of (link_at old.concentrator station).master old.now f in
+    let one : OneUp station r was old next = one_up station f first was old next there long arrives in
+    let h : UpBelow station one.is fs more next new = below_up station one.is fs more next new one.there (omega (arith, long, one.kept.links)) rest in
+    let a = arrives.hears in
+    let sends : first ≡ confirms_of r =
+    arrives.sends
+    ∙ ap (λ (s : System). confirms_of (receive_of (link_at s.concentrator station).master s.now f))
+    (heard_as station was old arrives.heard a.was a.is there a.there a.changed.1 a.after) in
+    record {
+      is = h.is;
+      there = h.there;
+      stays = h.stays ∙ ap station_of one.is_as;
+      many = record {
+        outputs = h.many.outputs ∙ ap (λ (x : SubstationState). x.outputs.outputs) one.is_as;
+        setpoints = h.many.setpoints ∙ ap (λ (x : SubstationState). x.outputs.setpoints) one.is_as;
+      };
+      all = (
+        link_at next.concentrator station,
+        first,
+        more,
+        subst (Hears r (link_at old.concentrator station) (link_at next.concentrator station)) (sym sends) one.hears,
+        answers_is,
+        subst (λ (n : ℕ). HearsAll n fs (link_at next.concentrator station) (link_at new.concentrator station) more) one.kept.now h.all,
+      );
+      kept = join_below station [] [] old next new one.kept h.kept;
+      controls = h.controls ∙ one.controls;
+    }

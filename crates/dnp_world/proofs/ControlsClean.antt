@@ -1,0 +1,184 @@
+-- A clean control: above, and then below for the entry that the concentrator added.
+use Rattle.std.proofs.Common.{◌≡◌, ℕ, ◌+◌, ◌<◌, ◌≤◌, true, false, Bool, ◌&&◌, ◌==◌, cond, List, [], ◌∷◌, ◌++◌, length, ◌⊎◌, inl, inr, Option, Some, None, IfSome, refl, sym, ap, ◌∙◌, subst, arith, eqb-true, eq-eqb}
+use Rattle.std.specs.Prelude.{is_none, is_some, nat_lt, slice_get, if◌then◌else◌}
+use Rattle.std.specs.Option.{option_and_then, option_map, option_or}
+use Rattle.std.specs.List.{All}
+use Rattle.std.proofs.lemmas.Bool.{and_parts, ltb-true}
+use Rattle.std.proofs.lemmas.List.Folds.{find-append}
+use Rattle.std.proofs.lemmas.Option.{none-some, same_Some}
+use Rattle.dnp_appfragment.specs.Fragments.{request_octets}
+use Rattle.dnp_concentrator.specs.BookOutputs.{added_for, can_relay, relay_check}
+use Rattle.dnp_concentrator.specs.Mapped.{command_below}
+use Rattle.dnp_concentrator.specs.Relaying.{Relaying}
+use Rattle.dnp_concentrator.specs.declared.progress.Progress.{Progress}
+use Rattle.dnp_concentrator.specs.declared.span.Spans.{Spans}
+use Rattle.dnp_controls.specs.Book.{Ledger, IsSound, added, entry_of, is_pending, next_of}
+use Rattle.dnp_controls.specs.Latches.{can_perform, plain_check}
+use Rattle.dnp_controls.specs.declared.book.Entry.{Entry}
+use Rattle.dnp_controls.specs.declared.book.State.TheVariants.{Pending}
+use Rattle.dnp_master.specs.Requests.{request_for}
+use Rattle.dnp_master.specs.State.{is_idle}
+use Rattle.dnp_master.specs.declared.task.Task.TheVariants as task
+use Rattle.dnp_objects.specs.Status.{success}
+use Rattle.dnp_objects.specs.declared.command.Command.{Command}
+use Rattle.dnp_outstation.specs.Connection.{is_last_request}
+use Rattle.dnp_outstation.specs.State.{Core, is_free, is_quiet}
+use Rattle.dnp_world.specs.Arriving.{IsClearOn, UnderWay, channel_at, channel_on}
+use Rattle.dnp_world.specs.Channels.{ChannelState, are_quiet}
+use Rattle.dnp_world.specs.CommandWidths.{HasWidths}
+use Rattle.dnp_world.specs.ControlExchanges.{CanBegin, Ends, status_at}
+use Rattle.dnp_world.specs.ControlMoves.{IsUnasked}
+use Rattle.dnp_world.specs.Controls.{CanGo, IsAccepted, IsControl, IsControlFor, are_quiet_for, found_in, is_entry, is_free_below, is_free_for, is_next, is_next_for, next_below, station_in, status_on}
+use Rattle.dnp_world.specs.ControlsInStep.{InStep}
+use Rattle.dnp_world.specs.Rounds.{is_quiet_at, is_quiet_on}
+use Rattle.dnp_world.specs.SystemStanding.{IsJoinedBelow, IsStanding}
+use Rattle.dnp_world.specs.Systems.{SubstationState, System, has_station, link_at}
+use Rattle.dnp_world.specs.declared.event.Link.{Link}
+use Rattle.dnp_world.specs.declared.event.Link.TheVariants.{Above, Below}
+use Rattle.dnp_world.proofs.BelowKeeps.{some_of}
+use Rattle.dnp_world.proofs.ControlArrivals.{ControlLaws}
+use Rattle.dnp_world.proofs.ControlBooks.{next_found as next_is_found}
+use Rattle.dnp_world.proofs.ControlsAbove.{AboveKeeps, ArrivingLaws, KeptAbove, SeenAbove, ends_above, over_above}
+use Rattle.dnp_world.proofs.ControlsAccepted.{Accepted, accepted_over}
+use Rattle.dnp_world.proofs.ControlsBelow.{KeptBelow, PerformsLaw}
+use Rattle.dnp_world.proofs.ControlsToSubstations.{SeenBelow, ends_below, over_below, under_has}
+use Rattle.dnp_world.proofs.RelaySteps.{next_has}
+use Rattle.dnp_world.proofs.RelayWidths.{below_fits}
+use Rattle.dnp_world.proofs.StepBooks.{SoundLaw, added_carries, next_found}
+
+-- what laws promise of a control that goes all the way
+pub record CleanLaws : Type 0 where
+  pub controls : ControlLaws
+  pub arriving : ArrivingLaws
+  pub quiet : (on : Link) (s : System) → IsStanding s → is_quiet_on s on ≡ true → IsClearOn on s
+  pub performs : PerformsLaw
+  pub sound : SoundLaw
+
+-- ---- statuses
+
+pub relay_low : (spans : List Spans) (command : Command) → relay_check spans command < 128
+relay_low spans command = by (can_relay spans command)
+  where
+    by : (b : Bool) → (if b then 0 else 4) < 128
+    by true = omega arith
+    by false = omega arith
+
+pub plain_low : (outputs setpoints : ℕ) (command : Command) → plain_check outputs setpoints command < 128
+plain_low outputs setpoints command = by (can_perform outputs setpoints command)
+  where
+    by : (b : Bool) → (if b then 0 else 4) < 128
+    by true = omega arith
+    by false = omega arith
+
+-- what is relayed with SUCCESS is for a substation
+pub relayed_some : (spans : List Spans) (command : Command) → relay_check spans command ≡ success → command_below spans command ≡ None → ⊥
+relayed_some spans command good none =
+    let never : 4 ≡ 0 = sym (rw none refl) ∙ good in
+    omega (arith, never)
+
+-- ---- the control that comes next
+
+pub record NextAbove (s : System) (id : ℕ) : Type 0 where
+  pub entry : Entry
+  pub next : next_of s.centre.orders.entries 0 ≡ Some entry
+  pub id_is : entry.id ≡ id
+
+next_entry : (o : Option Entry) (id : ℕ) → is_entry id o ≡ true → (e : Entry) × (o ≡ Some e) × (e.id ≡ id)
+next_entry None id is = absurd (cc)
+next_entry (Some e) id is = (e, refl, eqb-true e.id id is)
+
+pub next_above : (s : System) (id : ℕ) → is_next s id ≡ true → NextAbove s id
+next_above s id is =
+    let parts = and_parts (is_entry id (next_of s.centre.orders.entries 0)) (is_free_for id s.centre.link.progress && is_free_below s (station_in s id)) is in
+    let (e, next, same) = next_entry (next_of s.centre.orders.entries 0) id parts.0 in
+    record { entry = e; next = next; id_is = same }
+
+-- the concentrator is free for it
+pub free_below : (s : System) (id : ℕ) → is_next s id ≡ true → is_free_below s (station_in s id) ≡ true
+free_below s id is =
+    let parts = and_parts (is_entry id (next_of s.centre.orders.entries 0)) (is_free_for id s.centre.link.progress && is_free_below s (station_in s id)) is in
+    (and_parts (is_free_for id s.centre.link.progress) (is_free_below s (station_in s id)) parts.1).1
+
+pub none_is : {A : Type 0} (o : Option A) → is_none o ≡ true → o ≡ None
+none_is None e = refl
+none_is (Some x) e = absurd (cc)
+
+pub none_mapped : {A B : Type 0} (f : A → B) (o : Option A) → is_none (option_map f o) ≡ true → o ≡ None
+none_mapped f None e = refl
+none_mapped f (Some x) e = absurd (cc)
+
+-- ---- above
+
+pub above_begins : (s : System) (entry : Entry) → IsStanding s → InStep s → IsUnasked s → is_quiet_on s Above ≡ true
+    → next_of s.centre.orders.entries 0 ≡ Some entry → CanBegin 0 entry (ends_above s [])
+above_begins s entry h steps other quiet next =
+    let parts = and_parts (is_idle s.centre.link.master) (is_quiet s.concentrator.core && are_quiet s.above) quiet in
+    let core = and_parts (is_quiet s.concentrator.core) (are_quiet s.above) parts.1 in
+    record {
+      idle = parts.0;
+      number = h.above.number;
+      free = other.free;
+      next = next;
+      sound = steps.orders;
+      widths = (next_has (λ (e : Entry). HasWidths e.command) s.centre.orders.entries 0 entry steps.widths next).0;
+      is_open = (and_parts s.concentrator.core.is_open (is_free s.concentrator.core) core.0).0;
+      reports = h.above.outstation.well.order.number;
+      other = other.above entry.command;
+      clear = refl;
+    }
+
+-- ---- below
+
+-- the entry that was added comes next, where none was pending for its target
+pub added_next : (book : Ledger) (station : ℕ) (command : Command) → next_of book.entries station ≡ None
+    → next_of (added book station command).entries station
+    ≡ Some (record { id = book.last_id + 1; target = station; command = command; state = Pending })
+added_next book station command none =
+    let e : Entry = record { id = book.last_id + 1; target = station; command = command; state = Pending } in
+    find-append (λ (x : Entry). is_pending x.state && x.target == station) book.entries (e ∷ [])
+    ∙ ap (λ (o : Option Entry). option_or o (next_of (e ∷ []) station)) none
+    ∙ ap (λ (b : Bool). cond b (Some e) None) (eq-eqb station station refl)
+
+pub below_begins : (old s : System) (station : ℕ) (was : SubstationState) (entry : Entry) → IsStanding old → IsUnasked old → is_quiet_on old (Below station) ≡ true
+    → slice_get old.substations station ≡ Some was → (link_at old.concentrator station).progress ≡ None
+    → s.concentrator.links ≡ old.concentrator.links → next_of s.concentrator.controls.entries station ≡ Some entry → IsSound s.concentrator.controls
+    → HasWidths entry.command → CanBegin station entry (ends_below station s was [])
+below_begins old s station was entry h other quiet there free links next sound widths =
+    let link : link_at s.concentrator station ≡ link_at old.concentrator station =
+    ap (λ (xs : List Relaying). link_at (record s.concentrator { links = xs }) station) links in
+    let parts = and_parts (has_station old station) (is_idle (link_at old.concentrator station).master && is_quiet_at (slice_get old.substations station)) quiet in
+    let ends = and_parts (is_idle (link_at old.concentrator station).master) (is_quiet_at (slice_get old.substations station)) parts.1 in
+    let rests : is_quiet_at (Some was) ≡ true = subst (λ (o : Option SubstationState). is_quiet_at o ≡ true) there ends.1 in
+    let core = and_parts (is_quiet was.core) (are_quiet was.channel) rests in
+    let j : IsJoinedBelow old.now (link_at old.concentrator station) (h.links.below station) was =
+    some_of (IsJoinedBelow old.now (link_at old.concentrator station) (h.links.below station)) (slice_get old.substations station) was there
+    (h.below station) in
+    record {
+      idle = rw link ends.0;
+      number = rw link j.joined.number;
+      free = ap (λ (r : Relaying). r.progress) link ∙ free;
+      next = next;
+      sound = sound;
+      widths = widths;
+      is_open = (and_parts was.core.is_open (is_free was.core) core.0).0;
+      reports = j.joined.outstation.well.order.number;
+      other = ap (λ (r : Relaying). is_last_request was.core.session (request_octets (request_for r.master.seq (task.Select entry.command)))) link
+          ∙ other.below station was entry.command there;
+      clear = refl;
+    }
+
+-- the lines of a link to a substation are those of the substation
+abbrev lines_by : List SubstationState → List Relaying → ℕ → Option ChannelState
+lines_by substations links station =
+    if nat_lt station (length substations) && nat_lt station (length links) then channel_at (slice_get substations station) else None
+
+pub same_lines : (old s : System) (station : ℕ) → s.substations ≡ old.substations → s.concentrator.links ≡ old.concentrator.links
+    → channel_on s (Below station) ≡ channel_on old (Below station)
+same_lines old s station substations links =
+    ap (λ (xs : List SubstationState). lines_by xs s.concentrator.links station) substations
+    ∙ ap (λ (xs : List Relaying). lines_by old.substations xs station) links
+
+pub there_of : (s : System) (station : ℕ) (o : Option SubstationState) → slice_get s.substations station ≡ o → is_quiet_at o ≡ true
+    → (was : SubstationState) × (slice_get s.substations station ≡ Some was)
+there_of s station None found quiet = absurd (cc)
+there_of s station (Some was) found quiet = (was, found)

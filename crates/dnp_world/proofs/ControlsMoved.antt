@@ -1,0 +1,179 @@
+-- What a clean control has moved.
+use Rattle.std.proofs.Common.{◌≡◌, ℕ, ◌+◌, ◌<◌, true, false, Bool, ◌&&◌, List, [], ◌∷◌, ◌++◌, length, Option, Some, None, refl, sym, ap, ◌∙◌, subst, arith}
+use Rattle.std.specs.Prelude.{nat_lt, slice_get}
+use Rattle.std.specs.Option.{option_and_then, option_map}
+use Rattle.std.proofs.lemmas.Bool.{and_parts, ltb-true}
+use Rattle.std.proofs.lemmas.Option.{none-some, same_Some}
+use Rattle.dnp_concentrator.specs.BookOutputs.{added_for, all_added, relay_check}
+use Rattle.dnp_concentrator.specs.Mapped.{command_below}
+use Rattle.dnp_concentrator.specs.Relaying.{Relaying}
+use Rattle.dnp_concentrator.specs.declared.span.Spans.{Spans}
+use Rattle.dnp_controls.specs.Book.{Ledger, IsSound, added, entry_of, is_pending, next_of}
+use Rattle.dnp_controls.specs.Latches.{plain_check}
+use Rattle.dnp_controls.specs.declared.book.Entry.{Entry}
+use Rattle.dnp_controls.specs.declared.book.State.TheVariants.{Pending}
+use Rattle.dnp_objects.specs.Status.{success}
+use Rattle.dnp_objects.specs.declared.command.Command.{Command}
+use Rattle.dnp_world.specs.Arriving.{UnderWay}
+use Rattle.dnp_world.specs.CommandWidths.{HasWidths}
+use Rattle.dnp_world.specs.ControlExchanges.{status_at}
+use Rattle.dnp_world.specs.ControlMoves.{ControlMoves, IsUnasked}
+use Rattle.dnp_world.specs.Controls.{CanGo, IsAccepted, IsControl, IsControlFor, are_quiet_for, found_in, is_free_below, is_next, next_below, station_in}
+use Rattle.dnp_world.specs.ControlsInStep.{InStep}
+use Rattle.dnp_world.specs.Rounds.{is_quiet_at, is_quiet_on}
+use Rattle.dnp_world.specs.SystemStanding.{IsStanding}
+use Rattle.dnp_world.specs.Systems.{CentreState, History, SubstationState, System, has_station, link_at}
+use Rattle.dnp_world.specs.declared.event.Link.TheVariants.{Above, Below}
+use Rattle.dnp_world.proofs.ControlBooks.{next_found as next_is_found}
+use Rattle.dnp_world.proofs.ControlsAbove.{AboveKeeps, KeptAbove, SeenAbove, ends_above, over_above}
+use Rattle.dnp_world.proofs.ControlsAccepted.{Accepted, accepted_over}
+use Rattle.dnp_world.proofs.ControlsBelow.{KeptBelow}
+use Rattle.dnp_world.proofs.ControlsClean.{CleanLaws, above_begins, added_next, below_begins, free_below, next_above, none_is, none_mapped, plain_low, relay_low, relayed_some, same_lines, there_of}
+use Rattle.dnp_world.proofs.ControlsToSubstations.{SeenBelow, ends_below, over_below, under_has}
+use Rattle.dnp_world.proofs.RelaySteps.{next_has}
+use Rattle.dnp_world.proofs.RelayWidths.{below_fits}
+use Rattle.dnp_world.proofs.StepBooks.{added_carries, next_found}
+
+module _ (laws : CleanLaws) (old : System) (standing : IsStanding old) (steps : InStep old) (others : IsUnasked old)
+    (entry : Entry) (next : next_of old.centre.orders.entries 0 ≡ Some entry) where
+  widths : HasWidths entry.command
+  widths = (next_has (λ (e : Entry). HasWidths e.command) old.centre.orders.entries 0 entry steps.widths next).0
+
+  pending : is_pending entry.state ≡ true
+  pending = (next_has (λ (e : Entry). HasWidths e.command) old.centre.orders.entries 0 entry steps.widths next).1
+
+  -- ---- above
+
+  abbrev AcceptedAbove : System → Type 0
+  AcceptedAbove above =
+      Accepted entry.id (relay_check old.indices entry.command) entry.command (KeptAbove old.indices) (λ s. s.centre.orders) old above
+
+  above_accepted : (above : System) → is_quiet_on old Above ≡ true → IsAccepted Above (Some entry.id) old above → AcceptedAbove above
+  unfolding over_above
+  above_accepted above quiet a =
+      accepted_over laws.controls Above 0 (relay_check old.indices entry.command) entry (over_above laws.arriving old.indices entry.id entry.command)
+      (relay_low old.indices entry.command) old above (ends_above old [])
+      (record { going = []; is = refl; under = laws.quiet Above old standing quiet; spans_are = standing.of_plan.middle_indices })
+      (above_begins old entry standing steps others quiet next) (next_found old.centre.orders.entries 0 entry steps.orders.rising next) pending a
+
+  -- ---- below
+
+  module _ (station : ℕ) (command : Command) (is : command_below old.indices entry.command ≡ Some (station, command)) (above : System)
+      (accepted : AcceptedAbove above) (empty : next_of old.concentrator.controls.entries station ≡ None)
+      (free : (link_at old.concentrator station).progress ≡ None) (quiet : is_quiet_on old (Below station) ≡ true) (was : SubstationState)
+      (there : slice_get old.substations station ≡ Some was) where
+    -- the concentrator's entry for it
+    its : Entry
+    its = record { id = old.concentrator.controls.last_id + 1; target = station; command = command; state = Pending }
+
+    keeps : AboveKeeps old above
+    keeps = accepted.kept.keeps
+
+    controls : above.concentrator.controls ≡ added old.concentrator.controls station command
+    controls = accepted.kept.controls ∙ ap (added_for old.concentrator.controls) is
+
+    its_next : next_of above.concentrator.controls.entries station ≡ Some its
+    unfolding its
+    its_next = ap (λ (b : Ledger). next_of b.entries station) controls ∙ added_next old.concentrator.controls station command empty
+
+    its_id : next_below above station ≡ Some its.id
+    its_id = ap (option_map (λ (e : Entry). e.id)) its_next
+
+    under : UnderWay (Below station) [] [] above
+    under =
+        let clear : UnderWay (Below station) [] [] old = laws.quiet (Below station) old standing quiet in
+        record {
+          channel = clear.channel;
+          there = same_lines old above station keeps.substations keeps.links ∙ clear.there;
+          down_is = clear.down_is;
+          up_is = clear.up_is;
+        }
+
+    long : station < length above.concentrator.links
+    long =
+        ltb-true station (length above.concentrator.links)
+        ((and_parts (nat_lt station (length above.substations)) (nat_lt station (length above.concentrator.links)) (under_has station [] [] above under)).1)
+
+    below_accepted : (new : System) → IsAccepted (Below station) (Some its.id) above new
+        → Accepted its.id (plain_check was.outputs.outputs was.outputs.setpoints command) command (KeptBelow station) (λ s. s.concentrator.controls) above new
+    unfolding its over_below
+    below_accepted new a =
+        accepted_over laws.controls (Below station) station (plain_check was.outputs.outputs was.outputs.setpoints command) its
+        (over_below laws.arriving laws.performs station its.id command was.outputs.outputs was.outputs.setpoints)
+        (plain_low was.outputs.outputs was.outputs.setpoints command) above new (ends_below station above was [])
+        (record {
+          was = was;
+          there = ap (λ (xs : List SubstationState). slice_get xs station) keeps.substations ∙ there;
+          going = [];
+          is = refl;
+          under = under;
+          long = long;
+          outputs_are = refl;
+          setpoints_are = refl;
+        })
+        (below_begins old above station was its standing others quiet there free keeps.links its_next
+        (subst (λ (b : Ledger). IsSound b) (sym controls) ((added_carries laws.sound old.concentrator.controls station command).sound steps.controls))
+        (below_fits old.indices entry.command (station, command) widths is))
+        (next_found above.concentrator.controls.entries station its
+        (subst (λ (b : Ledger). IsSound b) (sym controls) ((added_carries laws.sound old.concentrator.controls station command).sound steps.controls)).rising
+        its_next) refl a
+
+    moved : (new : System) → found_in old.centre.orders.entries entry.id ≡ Some entry
+        → IsAccepted (Below station) (next_below above station) above new → ControlMoves entry.id old new
+    unfolding its
+    moved new found a =
+        let b = below_accepted new (subst (λ (o : Option ℕ). IsAccepted (Below station) o above new) its_id a) in
+        record {
+          station = station;
+          command = command;
+          ordered = ap (option_and_then (λ (e : Entry). command_below old.indices e.command)) found ∙ is;
+          operated = b.kept.operated ∙ ap (λ (h : History). h.operated ++ (station, command) ∷ []) keeps.history;
+          above = ap (λ (c : CentreState). status_at c.orders entry.id) b.kept.centre ∙ accepted.says;
+          below = b.says;
+        }
+
+  -- ---- all of it
+
+  found : found_in old.centre.orders.entries entry.id ≡ Some entry
+  found = next_is_found old.centre.orders.entries 0 entry steps.orders.rising steps.orders.from_1 next
+
+  goes_below : (station : ℕ) (command : Command) (new : System) → command_below old.indices entry.command ≡ Some (station, command)
+      → are_quiet_for old (Some station) ≡ true → is_free_below old (Some station) ≡ true → IsControlFor (Some station) entry.id old new
+      → ControlMoves entry.id old new
+  goes_below station command new is quiet free (above, first, second) =
+      let both = and_parts (is_quiet_on old Above) (is_quiet_on old (Below station)) quiet in
+      let frees = and_parts _ _ free in
+      let ends = and_parts (has_station old station) _ both.1 in
+      let rests = and_parts _ (is_quiet_at (slice_get old.substations station)) ends.1 in
+      let (was, there) = there_of old station (slice_get old.substations station) refl rests.1 in
+      moved station command is above (above_accepted above both.0 first) (none_mapped (λ (e : Entry). e.id) (next_of old.concentrator.controls.entries station) frees.0)
+      (none_is (link_at old.concentrator station).progress frees.1) both.1 was there new found second
+
+  clean_entry : (new : System) → are_quiet_for old (station_in old entry.id) ≡ true → is_free_below old (station_in old entry.id) ≡ true
+      → IsControl entry.id old new → ControlMoves entry.id old new
+  clean_entry new quiet free control = by (command_below old.indices entry.command) refl
+    where
+      -- the substation that it is for
+      station_is : (o : Option (ℕ × Command)) → command_below old.indices entry.command ≡ o
+          → station_in old entry.id ≡ option_map (λ (p : ℕ × Command). p.0) o
+      station_is o e =
+          ap (option_and_then (λ (x : Entry). option_map (λ (p : ℕ × Command). p.0) (command_below old.indices x.command))) found
+          ∙ ap (option_map (λ (p : ℕ × Command). p.0)) e
+
+      by : (o : Option (ℕ × Command)) → command_below old.indices entry.command ≡ o → ControlMoves entry.id old new
+      by None e =
+          let above : AcceptedAbove new =
+          above_accepted new (subst (λ (x : Option ℕ). are_quiet_for old x ≡ true) (station_is None e) quiet)
+          (subst (λ (x : Option ℕ). IsControlFor x entry.id old new) (station_is None e) control) in
+          absurd (relayed_some old.indices entry.command above.checks e)
+      by (Some p) e =
+          goes_below p.0 p.1 new e (subst (λ (x : Option ℕ). are_quiet_for old x ≡ true) (station_is (Some p) e) quiet)
+          (subst (λ (x : Option ℕ). is_free_below old x ≡ true) (station_is (Some p) e) free)
+          (subst (λ (x : Option ℕ). IsControlFor x entry.id old new) (station_is (Some p) e) control)
+
+pub clean_moves : CleanLaws → (id : ℕ) (old new : System) → IsStanding old → InStep old → IsUnasked old
+    → CanGo id old → IsControl id old new → ControlMoves id old new
+clean_moves laws id old new standing steps others can control =
+    let n = next_above old id can.1 in
+    subst (λ (i : ℕ). CanGo i old → IsControl i old new → ControlMoves i old new) n.id_is
+    (λ can control. clean_entry laws old standing steps others n.entry n.next new can.0 (free_below old n.entry.id can.1) control) can control

@@ -1,0 +1,185 @@
+-- A step of relaying to a substation, and what comes of it.
+use Rattle.std.proofs.Common.{◌≡◌, ℕ, ◌<◌, true, false, Bool, ◌&&◌, List, [], ◌∷◌, ◌++◌, length, Option, Some, None, refl, sym, ap, ◌∙◌, subst, arith}
+use Rattle.std.specs.Prelude.{nat_lt, slice_get, slice_set, if◌then◌else◌}
+use Rattle.std.proofs.lemmas.Bool.{and_parts}
+use Rattle.std.proofs.lemmas.Option.{none-some, same_Some}
+use Rattle.dnp_concentrator.specs.Relaying.{Relaying, Step, relaying_after}
+use Rattle.dnp_controls.specs.Book.{Ledger}
+use Rattle.dnp_controls.specs.Latches.{plain_check}
+use Rattle.dnp_controls.specs.Panel.{Panel}
+use Rattle.dnp_objects.specs.declared.command.Command.{Command}
+use Rattle.dnp_outstation.specs.State.{State}
+use Rattle.dnp_world.specs.Arriving.{UnderWay, channel_at}
+use Rattle.dnp_world.specs.Channels.{ChannelState}
+use Rattle.dnp_world.specs.ControlExchanges.{AnswersAll, ChecksAs, Ends, HearsAll, next_step, status_at, told_to}
+use Rattle.dnp_world.specs.Controls.{Passes, PassesBack}
+use Rattle.dnp_world.specs.SystemEvents.{IfThere, Refuses, RelaysOn, Steps, requests_of, told}
+use Rattle.dnp_world.specs.Systems.{SubstationState, System, has_station, link_at, station_of}
+use Rattle.dnp_world.specs.declared.event.Link.TheVariants.{Below}
+use Rattle.dnp_world.proofs.ArrivingLinks.{length_set}
+use Rattle.dnp_world.proofs.ControlsAbove.{ArrivingLaws}
+use Rattle.dnp_world.proofs.ControlsAccepted.{Back, IsTaken, Last, OverLink, SaysSuccess}
+use Rattle.dnp_world.proofs.ControlsBelow.{DownBelow, HasAsMany, KeptBelow, PerformsLaw, UpBelow, below_down, below_up, join_below, on_lines, same_below}
+use Rattle.dnp_world.proofs.ListedAt.{set_here}
+use Rattle.dnp_world.proofs.SystemPlans.{link_here}
+
+-- ---- what a system shows of the link
+
+-- what is under way is so on a link of the plan
+pub under_has : (station : ℕ) (down up : List (List ℕ)) (s : System) → UnderWay (Below station) down up s → has_station s station ≡ true
+under_has station down up s u = by (has_station s station) u.there
+  where
+    by : (b : Bool) → (if b then channel_at (slice_get s.substations station) else None) ≡ Some u.channel → b ≡ true
+    by true there = refl
+    by false there = absurd (none-some u.channel there)
+
+abbrev pub ends_below : ℕ → System → SubstationState → List (List ℕ) → Ends
+ends_below station s was going =
+    record { link = link_at s.concentrator station; book = s.concentrator.controls; station = station_of was; going = going }
+
+-- its outputs are so many
+pub record SeenBelow (station outputs setpoints : ℕ) (s : System) (ends : Ends) : Type 0 where
+  pub was : SubstationState
+  pub there : slice_get s.substations station ≡ Some was
+  pub going : List (List ℕ)
+  pub is : ends ≡ ends_below station s was going
+  pub under : UnderWay (Below station) going [] s
+  pub long : station < length s.concentrator.links
+  pub outputs_are : was.outputs.outputs ≡ outputs
+  pub setpoints_are : was.outputs.setpoints ≡ setpoints
+
+-- ---- a step of relaying
+
+record RelayedBelow (station : ℕ) (was : SubstationState) (going : List (List ℕ)) (old relayed : System) : Type 0 where
+  is : SubstationState
+  there : slice_get relayed.substations station ≡ Some is
+  is_as : is ≡ on_lines was is.channel
+  under : UnderWay (Below station) (going ++ requests_of (next_step station (ends_below station old was going)) (link_at old.concentrator station).master.seq)
+      [] relayed
+  link : link_at relayed.concentrator station
+      ≡ relaying_after (link_at old.concentrator station) old.now (next_step station (ends_below station old was going))
+  controls : relayed.concentrator.controls ≡ told_to station (ends_below station old was going)
+  kept : KeptBelow station [] old relayed
+
+happens : (station : ℕ) (old relayed : System) → has_station old station ≡ true
+    → IfThere (has_station old station) (RelaysOn (Below station)) old relayed → RelaysOn (Below station) old relayed
+happens station old relayed has relays = subst (λ (b : Bool). IfThere b (RelaysOn (Below station)) old relayed) has relays
+
+relayed_below : ArrivingLaws → (station : ℕ) (was : SubstationState) (old relayed : System) (going : List (List ℕ))
+    → slice_get old.substations station ≡ Some was → station < length old.concentrator.links → UnderWay (Below station) going [] old
+    → RelaysOn (Below station) old relayed → IsTaken station (ends_below station old was going) → RelayedBelow station was going old relayed
+relayed_below laws station was old relayed going there long under (Refuses refused same) taken = absurd (taken refused)
+relayed_below laws station was old relayed going there long under (Steps pending sends) taken =
+    let step : Step = next_step station (ends_below station old was going) in
+    let requests : List (List ℕ) = requests_of step (link_at old.concentrator station).master.seq in
+    let link : Relaying = relaying_after (link_at old.concentrator station) old.now step in
+    let still : UnderWay (Below station) going [] (told old (Below station) step) =
+    record { channel = under.channel; there = under.there; down_is = under.down_is; up_is = under.up_is } in
+    let from : sends.was ≡ was = same_Some sends.was was (sym sends.there ∙ there) in
+    record {
+      is = sends.is;
+      there = ap (λ (s : System). slice_get s.substations station) sends.after ∙ set_here old.substations station was sends.is there;
+      is_as = sends.changed.1 ∙ ap (λ (x : SubstationState). on_lines x sends.is.channel) from;
+      under = laws.asked (Below station) requests going [] link (told old (Below station) step) relayed still sends;
+      link = ap (λ (s : System). link_at s.concentrator station) sends.after ∙ link_here old.concentrator.links station link long;
+      controls = ap (λ (s : System). s.concentrator.controls) sends.after;
+      kept = same_below station old relayed (ap (λ (s : System). s.indices) sends.after) (ap (λ (s : System). s.now) sends.after)
+          (ap (λ (s : System). s.centre) sends.after) (ap (λ (s : System). s.concentrator.indices) sends.after)
+          (ap (λ (s : System). length s.concentrator.links) sends.after ∙ length_set old.concentrator.links station link)
+          (ap (λ (s : System). s.history.operated) sends.after);
+    }
+
+told_below : (station id : ℕ) (old relayed : System) (ends : Ends) → Passes (Below station) (Some id) old relayed
+    → relayed.concentrator.controls ≡ told_to station ends → SaysSuccess (told_to station ends) id
+told_below station id old relayed ends p controls status says = p.passes status (ap (λ (b : Ledger). status_at b id) controls ∙ says)
+
+pub back_from : ArrivingLaws → PerformsLaw → (station id : ℕ) (command : Command) (outputs setpoints : ℕ) (was : SubstationState) (old new : System)
+    (going : List (List ℕ)) → slice_get old.substations station ≡ Some was → station < length old.concentrator.links
+    → UnderWay (Below station) going [] old → was.outputs.outputs ≡ outputs → was.outputs.setpoints ≡ setpoints
+    → PassesBack (Below station) (Some id) old new → IsTaken station (ends_below station old was going)
+    → Back (SeenBelow station outputs setpoints) (KeptBelow station) station id (plain_check outputs setpoints command) command old new
+    (ends_below station old was going)
+back_from laws law station id command outputs setpoints was old new going there long under outputs_are setpoints_are p taken =
+    let has : has_station old station ≡ true = under_has station going [] old under in
+    let r : RelayedBelow station was going old p.relayed =
+    relayed_below laws station was old p.relayed going there long under (happens station old p.relayed has p.step.relays) taken in
+    let step : Step = next_step station (ends_below station old was going) in
+    let requests : List (List ℕ) = requests_of step (link_at old.concentrator station).master.seq in
+    let link : Relaying = relaying_after (link_at old.concentrator station) old.now step in
+    let (answers, arrive, under') = laws.down (Below station) (going ++ requests) [] p.relayed p.answered r.under p.down in
+    let d : DownBelow station command r.is (going ++ requests) answers p.relayed p.answered =
+    below_down law station command r.is (going ++ requests) answers p.relayed p.answered r.there arrive in
+    let (confirms, arrive_up, under_up) = laws.up (Below station) [] answers p.answered new under' p.up in
+    let long' : station < length p.answered.concentrator.links = omega (arith, long, r.kept.links, d.kept.links) in
+    let u : UpBelow station d.is answers confirms p.answered new = below_up station d.is answers confirms p.answered new d.there long' arrive_up in
+    let check : ℕ = plain_check outputs setpoints command in
+    let counts : r.is.outputs ≡ was.outputs = ap (λ (x : SubstationState). x.outputs) r.is_as in
+    let outputs_is : r.is.outputs.outputs ≡ outputs = ap (λ o. o.outputs) counts ∙ outputs_are in
+    let setpoints_is : r.is.outputs.setpoints ≡ setpoints = ap (λ o. o.setpoints) counts ∙ setpoints_are in
+    let check_is : plain_check r.is.outputs.outputs r.is.outputs.setpoints command ≡ check =
+    ap (λ (n : ℕ). plain_check n r.is.outputs.setpoints command) outputs_is ∙ ap (λ (n : ℕ). plain_check outputs n command) setpoints_is in
+    let Kinds : ℕ → Panel → Type 0 = λ n. ChecksAs command n in
+    record {
+      after = ends_below station new u.is confirms;
+      now = old.now;
+      commands = d.commands;
+      view = record {
+        was = u.is;
+        there = u.there;
+        going = confirms;
+        is = refl;
+        under = under_up;
+        long = omega (arith, long', u.kept.links);
+        outputs_are = u.many.outputs ∙ d.many.outputs ∙ outputs_is;
+        setpoints_are = u.many.setpoints ∙ d.many.setpoints ∙ setpoints_is;
+      };
+      goes = record {
+        sent = answers;
+        answered = subst (λ (n : ℕ). AnswersAll n (Kinds check) (going ++ requests) (station_of was) (station_of u.is) answers d.commands) r.kept.now
+            (subst (λ (x : State). AnswersAll p.relayed.now (Kinds check) (going ++ requests) x (station_of u.is) answers d.commands)
+            (ap station_of r.is_as)
+            (subst (λ (x : State). AnswersAll p.relayed.now (Kinds check) (going ++ requests) (station_of r.is) x answers d.commands) (sym u.stays)
+            (subst (λ (n : ℕ). AnswersAll p.relayed.now (Kinds n) (going ++ requests) (station_of r.is) (station_of d.is) answers d.commands) check_is d.all)));
+        heard = subst (λ (n : ℕ). HearsAll n answers link (link_at new.concentrator station) confirms) (d.kept.now ∙ r.kept.now)
+            (subst (λ (x : Relaying). HearsAll p.answered.now answers x (link_at new.concentrator station) confirms)
+            (ap (λ c. link_at c station) d.concentrator ∙ r.link) u.all);
+        told = u.controls ∙ ap (λ c. c.controls) d.concentrator ∙ r.controls;
+      };
+      kept = subst (λ (xs : List Command). KeptBelow station xs old new) (nothing_behind d.commands)
+          (join_below station d.commands [] old p.answered new (join_below station [] d.commands old p.relayed p.answered r.kept d.kept) u.kept);
+      told = told_below station id old p.relayed (ends_below station old was going) p.step r.controls;
+    }
+  where
+    nothing_behind : (xs : List Command) → xs ++ [] ≡ xs
+    nothing_behind [] = refl
+    nothing_behind (x ∷ xs) = ap (λ (ys : List Command). x ∷ ys) (nothing_behind xs)
+
+pub last_from : ArrivingLaws → (station id : ℕ) (was : SubstationState) (old new : System) (going : List (List ℕ))
+    → slice_get old.substations station ≡ Some was → station < length old.concentrator.links → UnderWay (Below station) going [] old
+    → Passes (Below station) (Some id) old new → IsTaken station (ends_below station old was going)
+    → Last (KeptBelow station) station id (λ s. s.concentrator.controls) old new (ends_below station old was going)
+last_from laws station id was old new going there long under p taken =
+    let has : has_station old station ≡ true = under_has station going [] old under in
+    let r : RelayedBelow station was going old new =
+    relayed_below laws station was old new going there long under (happens station old new has p.relays) taken in
+    record {
+      kept = r.kept;
+      told = told_below station id old new (ends_below station old was going) p r.controls;
+      is = r.controls;
+    }
+
+unfoldable pub over_below : ArrivingLaws → PerformsLaw → (station id : ℕ) (command : Command) (outputs setpoints : ℕ)
+    → OverLink (Below station) station id (plain_check outputs setpoints command) command
+over_below laws law station id command outputs setpoints = record {
+  View = SeenBelow station outputs setpoints;
+  Kept = KeptBelow station;
+  book = λ s. s.concentrator.controls;
+  join = join_below station;
+  back = λ old new ends seen p taken.
+      subst (Back (SeenBelow station outputs setpoints) (KeptBelow station) station id (plain_check outputs setpoints command) command old new) (sym seen.is)
+      (back_from laws law station id command outputs setpoints seen.was old new seen.going seen.there seen.long seen.under seen.outputs_are
+      seen.setpoints_are p (subst (IsTaken station) seen.is taken));
+  last = λ old new ends seen p taken.
+      subst (Last (KeptBelow station) station id (λ s. s.concentrator.controls) old new) (sym seen.is)
+      (last_from laws station id seen.was old new seen.going seen.there seen.long seen.under p (subst (IsTaken station) seen.is taken));
+}
