@@ -1,6 +1,6 @@
 -- Definition: what the law of a link sees of the fragments that an outstation sends, and of what it performs and
 -- releases (IEEE Std 1815-2012, application layer: responses, unsolicited responses, confirms, select before operate).
-use Rattle.std.specs.Prelude.{◌≡◌, ◌≢◌, ◌⊎◌, ℕ, ◌≤◌, ◌<◌, Bool, true, false, if◌then◌else◌, List, [], ◌++◌, length, map, filter, None, Some, IsSome, Result, Ok, Err}
+use Rattle.std.specs.Prelude.{◌≡◌, ◌≢◌, ◌⊎◌, ℕ, ◌≤◌, ◌<◌, Bool, true, false, if◌then◌else◌, ◌||◌, List, [], ◌++◌, length, map, filter, Option, None, Some, IsSome, is_some, Result, Ok, Err}
 use Rattle.std.specs.List.Sorted.{IsPermutation}
 use Rattle.dnp_objects.specs.Counts.{IsCoveredBy}
 use Rattle.dnp_objects.specs.declared.command.Command.{Command}
@@ -17,6 +17,9 @@ use Rattle.dnp_eventbuf.specs.Buffered.{buffered_in, buffered_row, id_limit, is_
 use Rattle.dnp_eventbuf.specs.Stock.{Stock, without, all_up_to}
 use Rattle.dnp_outstation.specs.declared.case.Case.{Case}
 use Rattle.dnp_outstation.specs.declared.case.Case.TheVariants.{PassedOver, Confirms, ConfirmsUnsolicited, Stray, Again, Waits, Asks}
+use Rattle.dnp_outstation.specs.declared.session.LastRequest.{LastRequest}
+use Rattle.dnp_outstation.specs.declared.session.Reply.{Reply}
+use Rattle.dnp_outstation.specs.declared.session.Reply.TheVariants.{Held, Silent, First, Further}
 use Rattle.dnp_outstation.specs.declared.session.Unsolicited.{Unsolicited}
 use Rattle.dnp_outstation.specs.Offer.{pushed}
 use Rattle.dnp_outstation.specs.Said.{rows_said}
@@ -185,9 +188,21 @@ CaseSays c octets Asks = ComesOther c octets × (function_in octets ≡ function
 
 -- ---- what stands at all times
 
+-- more than one fragment of the response to the last request was sent, or is still to be sent
+abbrev pub has_more : Option LastRequest → Bool
+has_more None = false
+has_more (Some last) = is_some last.left || is_further last.reply
+  where
+    is_further : Reply → Bool
+    is_further Held = false
+    is_further Silent = false
+    is_further (First f) = false
+    is_further Further = true
+
 -- the number of the next unsolicited response has four bits, no more classes are enabled than there are, and what is
--- held is a READ
+-- held is a READ, as is what has a response of several fragments
 pub record IsInOrder (c : Core) : Type 0 where
   pub number : c.session.next < 16
   pub classes : length c.enabled ≤ 3
   pub held : holds_read c.session.last ≡ true → function_in c.session.request ≡ function_octet function.Read
+  pub several : has_more c.session.last ≡ true → function_in c.session.request ≡ function_octet function.Read

@@ -258,7 +258,7 @@ pub fn an_operate_needs_its_select()
 }
 
 /// So it is at all times: the next unsolicited number has four bits, no more classes are enabled than there are,
-/// and what is held is a READ.
+/// and what is held is a READ, as is what has a response of several fragments.
 pub fn calls_keep_a_connection_in_order()
     ensures opened { (s : State) (now : ℕ) → IsInOrder s.core → IsInOrder (opened_of s now).state.core }
     ensures received { (s : State) (o : Panel) (now : ℕ) (octets : List ℕ) → IsInOrder s.core

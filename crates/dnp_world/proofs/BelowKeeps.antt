@@ -101,7 +101,12 @@ points_set s l database sound j = record {
       lanes = j.outstation.well.lanes;
       indexes = j.outstation.well.indexes;
       points = sound;
-      order = record { number = j.outstation.well.order.number; classes = j.outstation.well.order.classes; held = j.outstation.well.order.held };
+      order = record {
+        number = j.outstation.well.order.number;
+        classes = j.outstation.well.order.classes;
+        held = j.outstation.well.order.held;
+        several = j.outstation.well.order.several;
+      };
       tidy = record { awaited = j.outstation.well.tidy.awaited; first = j.outstation.well.tidy.first; unsolicited = j.outstation.well.tidy.unsolicited };
       ids = j.outstation.well.ids;
     };

@@ -27,11 +27,10 @@ use Rattle.dnp_world.specs.Arriving.{IsClearOn, UnderWay, channel_at, channel_on
 use Rattle.dnp_world.specs.Channels.{ChannelState, are_quiet}
 use Rattle.dnp_world.specs.CommandWidths.{HasWidths}
 use Rattle.dnp_world.specs.ControlExchanges.{CanBegin, Ends, status_at}
-use Rattle.dnp_world.specs.ControlMoves.{IsUnasked}
 use Rattle.dnp_world.specs.Controls.{CanGo, IsAccepted, IsControl, IsControlFor, are_quiet_for, found_in, is_entry, is_free_below, is_free_for, is_next, is_next_for, next_below, station_in, status_on}
 use Rattle.dnp_world.specs.ControlsInStep.{InStep}
 use Rattle.dnp_world.specs.Rounds.{is_quiet_at, is_quiet_on}
-use Rattle.dnp_world.specs.SystemStanding.{IsJoinedBelow, IsStanding}
+use Rattle.dnp_world.specs.SystemStanding.{IsJoinedBelow, IsStanding, lists_of, seen_above, seen_below}
 use Rattle.dnp_world.specs.Systems.{SubstationState, System, has_station, link_at}
 use Rattle.dnp_world.specs.declared.event.Link.{Link}
 use Rattle.dnp_world.specs.declared.event.Link.TheVariants.{Above, Below}
@@ -41,6 +40,7 @@ use Rattle.dnp_world.proofs.ControlBooks.{next_found as next_is_found}
 use Rattle.dnp_world.proofs.ControlsAbove.{AboveKeeps, ArrivingLaws, KeptAbove, SeenAbove, ends_above, over_above}
 use Rattle.dnp_world.proofs.ControlsAccepted.{Accepted, accepted_over}
 use Rattle.dnp_world.proofs.ControlsBelow.{KeptBelow, PerformsLaw}
+use Rattle.dnp_world.proofs.ControlsOther.{other_select}
 use Rattle.dnp_world.proofs.ControlsToSubstations.{SeenBelow, ends_below, over_below, under_has}
 use Rattle.dnp_world.proofs.RelaySteps.{next_has}
 use Rattle.dnp_world.proofs.RelayWidths.{below_fits}
@@ -109,21 +109,22 @@ none_mapped f (Some x) e = absurd (cc)
 
 -- ---- above
 
-pub above_begins : (s : System) (entry : Entry) → IsStanding s → InStep s → IsUnasked s → is_quiet_on s Above ≡ true
+pub above_begins : (s : System) (entry : Entry) → IsStanding s → InStep s → is_quiet_on s Above ≡ true → s.centre.link.progress ≡ None
     → next_of s.centre.orders.entries 0 ≡ Some entry → CanBegin 0 entry (ends_above s [])
-above_begins s entry h steps other quiet next =
+above_begins s entry h steps quiet free next =
     let parts = and_parts (is_idle s.centre.link.master) (is_quiet s.concentrator.core && are_quiet s.above) quiet in
     let core = and_parts (is_quiet s.concentrator.core) (are_quiet s.above) parts.1 in
+    let opens : s.concentrator.core.is_open ≡ true = (and_parts s.concentrator.core.is_open (is_free s.concentrator.core) core.0).0 in
     record {
       idle = parts.0;
       number = h.above.number;
-      free = other.free;
+      free = free;
       next = next;
       sound = steps.orders;
       widths = (next_has (λ (e : Entry). HasWidths e.command) s.centre.orders.entries 0 entry steps.widths next).0;
-      is_open = (and_parts s.concentrator.core.is_open (is_free s.concentrator.core) core.0).0;
+      is_open = opens;
       reports = h.above.outstation.well.order.number;
-      other = other.above entry.command;
+      other = other_select [] (seen_above s (lists_of h.links.above)) h.links.above entry.command h.above h.behind.above_stands parts.0 opens;
       clear = refl;
     }
 
@@ -139,17 +140,18 @@ added_next book station command none =
     ∙ ap (λ (o : Option Entry). option_or o (next_of (e ∷ []) station)) none
     ∙ ap (λ (b : Bool). cond b (Some e) None) (eq-eqb station station refl)
 
-pub below_begins : (old s : System) (station : ℕ) (was : SubstationState) (entry : Entry) → IsStanding old → IsUnasked old → is_quiet_on old (Below station) ≡ true
+pub below_begins : (old s : System) (station : ℕ) (was : SubstationState) (entry : Entry) → IsStanding old → is_quiet_on old (Below station) ≡ true
     → slice_get old.substations station ≡ Some was → (link_at old.concentrator station).progress ≡ None
     → s.concentrator.links ≡ old.concentrator.links → next_of s.concentrator.controls.entries station ≡ Some entry → IsSound s.concentrator.controls
     → HasWidths entry.command → CanBegin station entry (ends_below station s was [])
-below_begins old s station was entry h other quiet there free links next sound widths =
+below_begins old s station was entry h quiet there free links next sound widths =
     let link : link_at s.concentrator station ≡ link_at old.concentrator station =
     ap (λ (xs : List Relaying). link_at (record s.concentrator { links = xs }) station) links in
     let parts = and_parts (has_station old station) (is_idle (link_at old.concentrator station).master && is_quiet_at (slice_get old.substations station)) quiet in
     let ends = and_parts (is_idle (link_at old.concentrator station).master) (is_quiet_at (slice_get old.substations station)) parts.1 in
     let rests : is_quiet_at (Some was) ≡ true = subst (λ (o : Option SubstationState). is_quiet_at o ≡ true) there ends.1 in
     let core = and_parts (is_quiet was.core) (are_quiet was.channel) rests in
+    let opens : was.core.is_open ≡ true = (and_parts was.core.is_open (is_free was.core) core.0).0 in
     let j : IsJoinedBelow old.now (link_at old.concentrator station) (h.links.below station) was =
     some_of (IsJoinedBelow old.now (link_at old.concentrator station) (h.links.below station)) (slice_get old.substations station) was there
     (h.below station) in
@@ -160,10 +162,11 @@ below_begins old s station was entry h other quiet there free links next sound w
       next = next;
       sound = sound;
       widths = widths;
-      is_open = (and_parts was.core.is_open (is_free was.core) core.0).0;
+      is_open = opens;
       reports = j.joined.outstation.well.order.number;
       other = ap (λ (r : Relaying). is_last_request was.core.session (request_octets (request_for r.master.seq (task.Select entry.command)))) link
-          ∙ other.below station was entry.command there;
+          ∙ other_select [] (seen_below old.now (link_at old.concentrator station) was (lists_of (h.links.below station))) (h.links.below station)
+          entry.command j.joined (h.behind.below_stands station) ends.0 opens;
       clear = refl;
     }
 

@@ -17,7 +17,7 @@ use Rattle.dnp_objects.specs.declared.command.Command.{Command}
 use Rattle.dnp_world.specs.Arriving.{UnderWay}
 use Rattle.dnp_world.specs.CommandWidths.{HasWidths}
 use Rattle.dnp_world.specs.ControlExchanges.{status_at}
-use Rattle.dnp_world.specs.ControlMoves.{ControlMoves, IsUnasked}
+use Rattle.dnp_world.specs.ControlMoves.{ControlMoves}
 use Rattle.dnp_world.specs.Controls.{CanGo, IsAccepted, IsControl, IsControlFor, are_quiet_for, found_in, is_free_below, is_next, next_below, station_in}
 use Rattle.dnp_world.specs.ControlsInStep.{InStep}
 use Rattle.dnp_world.specs.Rounds.{is_quiet_at, is_quiet_on}
@@ -34,7 +34,7 @@ use Rattle.dnp_world.proofs.RelaySteps.{next_has}
 use Rattle.dnp_world.proofs.RelayWidths.{below_fits}
 use Rattle.dnp_world.proofs.StepBooks.{added_carries, next_found}
 
-module _ (laws : CleanLaws) (old : System) (standing : IsStanding old) (steps : InStep old) (others : IsUnasked old)
+module _ (laws : CleanLaws) (old : System) (standing : IsStanding old) (steps : InStep old) (none : old.centre.link.progress ≡ None)
     (entry : Entry) (next : next_of old.centre.orders.entries 0 ≡ Some entry) where
   widths : HasWidths entry.command
   widths = (next_has (λ (e : Entry). HasWidths e.command) old.centre.orders.entries 0 entry steps.widths next).0
@@ -54,7 +54,7 @@ module _ (laws : CleanLaws) (old : System) (standing : IsStanding old) (steps : 
       accepted_over laws.controls Above 0 (relay_check old.indices entry.command) entry (over_above laws.arriving old.indices entry.id entry.command)
       (relay_low old.indices entry.command) old above (ends_above old [])
       (record { going = []; is = refl; under = laws.quiet Above old standing quiet; spans_are = standing.of_plan.middle_indices })
-      (above_begins old entry standing steps others quiet next) (next_found old.centre.orders.entries 0 entry steps.orders.rising next) pending a
+      (above_begins old entry standing steps quiet none next) (next_found old.centre.orders.entries 0 entry steps.orders.rising next) pending a
 
   -- ---- below
 
@@ -111,7 +111,7 @@ module _ (laws : CleanLaws) (old : System) (standing : IsStanding old) (steps : 
           outputs_are = refl;
           setpoints_are = refl;
         })
-        (below_begins old above station was its standing others quiet there free keeps.links its_next
+        (below_begins old above station was its standing quiet there free keeps.links its_next
         (subst (λ (b : Ledger). IsSound b) (sym controls) ((added_carries laws.sound old.concentrator.controls station command).sound steps.controls))
         (below_fits old.indices entry.command (station, command) widths is))
         (next_found above.concentrator.controls.entries station its
@@ -171,9 +171,9 @@ module _ (laws : CleanLaws) (old : System) (standing : IsStanding old) (steps : 
           (subst (λ (x : Option ℕ). is_free_below old x ≡ true) (station_is (Some p) e) free)
           (subst (λ (x : Option ℕ). IsControlFor x entry.id old new) (station_is (Some p) e) control)
 
-pub clean_moves : CleanLaws → (id : ℕ) (old new : System) → IsStanding old → InStep old → IsUnasked old
+pub clean_moves : CleanLaws → (id : ℕ) (old new : System) → IsStanding old → InStep old → old.centre.link.progress ≡ None
     → CanGo id old → IsControl id old new → ControlMoves id old new
-clean_moves laws id old new standing steps others can control =
+clean_moves laws id old new standing steps none can control =
     let n = next_above old id can.1 in
     subst (λ (i : ℕ). CanGo i old → IsControl i old new → ControlMoves i old new) n.id_is
-    (λ can control. clean_entry laws old standing steps others n.entry n.next new can.0 (free_below old n.entry.id can.1) control) can control
+    (λ can control. clean_entry laws old standing steps none n.entry n.next new can.0 (free_below old n.entry.id can.1) control) can control

@@ -130,5 +130,6 @@ mod ControlsAccepted
 mod ControlsAbove
 mod ControlsBelow
 mod ControlsToSubstations
+mod ControlsOther
 mod ControlsClean
 mod ControlsMoved

@@ -22,7 +22,7 @@ Law = (s : State) (now : ℕ) (task : Task) → IfOk (ask_answer s task) (λ oct
 -- ---- asking
 
 -- a request has its number, and is no CONFIRM
-asked_seq : (seq : ℕ) (task : Task) → seq < 16 → seq_in (request_octets (request_for seq task)) ≡ seq
+pub asked_seq : (seq : ℕ) (task : Task) → seq < 16 → seq_in (request_octets (request_for seq task)) ≡ seq
 unfolding seq_in
 asked_seq seq task low = omega (arith, low)
 

@@ -157,7 +157,12 @@ points_shown s database l sound shows = record {
     lanes = shows.well.lanes;
     indexes = shows.well.indexes;
     points = sound;
-    order = record { number = shows.well.order.number; classes = shows.well.order.classes; held = shows.well.order.held };
+    order = record {
+      number = shows.well.order.number;
+      classes = shows.well.order.classes;
+      held = shows.well.order.held;
+      several = shows.well.order.several;
+    };
     tidy = record { awaited = shows.well.tidy.awaited; first = shows.well.tidy.first; unsolicited = shows.well.tidy.unsolicited };
     ids = shows.well.ids;
   };

@@ -40,7 +40,7 @@ new_shown database times lanes performed sound_points sound indexes = record {
     lanes = sound;
     indexes = indexes;
     points = sound_points;
-    order = record { number = omega arith; classes = omega arith; held = λ holds. absurd (cc) };
+    order = record { number = omega arith; classes = omega arith; held = λ holds. absurd (cc); several = λ more. absurd (cc) };
     tidy = record { awaited = tt; first = tt; unsolicited = tt };
     ids = record { awaited = tt; first = tt };
   };

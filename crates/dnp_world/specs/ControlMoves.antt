@@ -1,16 +1,12 @@
 -- Definition: what a control that went all the way has moved: its command was performed once, and both books say so (IEEE Std
 -- 1815-2012, application layer: SELECT and OPERATE).
-use Rattle.std.specs.Prelude.{◌≡◌, ℕ, ◌+◌, false, List, [], ◌∷◌, ◌++◌, slice_get, Option, Some, None}
+use Rattle.std.specs.Prelude.{◌≡◌, ℕ, ◌+◌, List, [], ◌∷◌, ◌++◌, Option, Some}
 use Rattle.std.specs.Option.{option_and_then}
-use Rattle.dnp_appfragment.specs.Fragments.{request_octets}
 use Rattle.dnp_concentrator.specs.Mapped.{command_below}
-use Rattle.dnp_master.specs.Requests.{request_for}
-use Rattle.dnp_master.specs.declared.task.Task.TheVariants as task
 use Rattle.dnp_objects.specs.Status.{success}
 use Rattle.dnp_objects.specs.declared.command.Command.{Command}
-use Rattle.dnp_outstation.specs.Connection.{is_last_request}
 use Rattle.dnp_world.specs.Controls.{found_in, status_on}
-use Rattle.dnp_world.specs.Systems.{SubstationState, System, link_at}
+use Rattle.dnp_world.specs.Systems.{System}
 use Rattle.dnp_world.specs.declared.event.Link.TheVariants.{Below, Above}
 
 -- the substation and the command there, with the substation's own index, that a control of the centre's book stands for
@@ -26,11 +22,3 @@ pub record ControlMoves (id : ℕ) (old new : System) : Type 0 where
   pub operated : new.history.operated ≡ old.history.operated ++ (station, command) ∷ []
   pub above : status_on new Above (Some id) ≡ Some success
   pub below : status_on new (Below station) (Some (old.concentrator.controls.last_id + 1)) ≡ Some success
-
--- No control is in progress above, and no outstation was asked last what a SELECT would ask it now.
-pub record IsUnasked (s : System) : Type 0 where
-  pub free : s.centre.link.progress ≡ None
-  pub above : (command : Command)
-      → is_last_request s.concentrator.core.session (request_octets (request_for s.centre.link.master.seq (task.Select command))) ≡ false
-  pub below : (station : ℕ) (was : SubstationState) (command : Command) → slice_get s.substations station ≡ Some was
-      → is_last_request was.core.session (request_octets (request_for (link_at s.concentrator station).master.seq (task.Select command))) ≡ false
