@@ -1,7 +1,7 @@
 //! Laws of a control on its way over a link: what an outstation answers to the requests of a command, how a master hears it, and what
 //! comes of it. Each function does nothing, and its contract is a law.
 
-ghost use Rattle.std.specs.Prelude.{◌≡◌, ◌<◌, ℕ, true, [], List, IfOk, IsOk, Some, None};
+ghost use Rattle.std.specs.Prelude.{◌≡◌, ◌<◌, ℕ, true, [], List, IfOk, IsOk, Some};
 ghost use Rattle.dnp_appfragment.specs.Fragments.{confirmation, request_octets};
 ghost use Rattle.dnp_controls.specs.Panel.{Panel};
 ghost use Rattle.dnp_controls.specs.declared.book.Entry.{Entry as EntryValue};
@@ -18,7 +18,7 @@ ghost use Rattle.dnp_world.specs.CommandWidths.{HasWidths};
 ghost use Rattle.dnp_world.specs.ControlAnswers.{Answers, Awaits, CanAnswer, HearsStatus, LeavesRequest, PassesReport, Repeats, WasAsked, operated_by};
 ghost use Rattle.dnp_world.specs.Controls.{CanGo, IsControl};
 ghost use Rattle.dnp_world.specs.ControlsInStep.{InStep};
-ghost use Rattle.dnp_world.specs.ControlMoves.{ControlMoves};
+ghost use Rattle.dnp_world.specs.ControlMoves.{ControlMoves, IsFreeAbove};
 ghost use Rattle.dnp_world.specs.SystemStanding.{IsStanding};
 ghost use Rattle.dnp_world.specs.ControlExchanges.{CanBegin, ChecksAs, Ends, GoesOver, HasSelected, OperateComesTo, SelectComesTo};
 ghost use Rattle.dnp_world.specs.Octets.{uns_in};
@@ -117,7 +117,7 @@ pub fn an_accepted_control_operates()
 /// A control that goes all the way from a system whose links are quiet, where it comes next and none is in progress above, has moved its
 /// command: the substation that it is for has performed it, once, and both books say SUCCESS of it.
 pub fn a_clean_control_operates()
-    ensures { (id : ℕ) (old new : System) → IsStanding old → InStep old → old.centre.link.progress ≡ None → CanGo id old
+    ensures { (id : ℕ) (old new : System) → IsStanding old → InStep old → IsFreeAbove old → CanGo id old
         → IsControl id old new → ControlMoves id old new }
 {
     a_header_holds_what_was_put();

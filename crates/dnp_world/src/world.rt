@@ -11,6 +11,7 @@ ghost use Rattle.dnp_world.specs.NewSystems.{AreEmpty};
 ghost use Rattle.dnp_world.specs.Opening.{OpensQuiet};
 ghost use Rattle.dnp_world.specs.ReportShown.{Shows, lists_of};
 ghost use Rattle.dnp_world.specs.Reports.{Holds, IsFate};
+ghost use Rattle.dnp_world.specs.ControlMoves.{ControlMoves, IsFreeAbove};
 ghost use Rattle.dnp_world.specs.Controls.{ControlEnds};
 ghost use Rattle.dnp_world.specs.Rounds.{IsOfRound, IsRound, StopsIn, is_quiet_on};
 ghost use Rattle.dnp_world.specs.Shown.{StoresAreWell};
@@ -20,6 +21,7 @@ ghost use Rattle.dnp_world.specs.Systems.{front_on, standing_on};
 ghost use Rattle.dnp_world.specs.declared.parts.report.TheConstants.{NUMBERS};
 
 use crate::channel::Channel;
+use crate::control_laws::a_clean_control_operates;
 use crate::event::{Event, Link};
 use crate::headline_laws::{rounds_and_controls_keep_a_system_steady, steady_systems_stay_steady};
 use crate::history::History;
@@ -186,14 +188,18 @@ impl<Q: Lanes, J: JournalStore, A: Book, B: Book> World<Q, J, A, B> {
     /// Refused is, first of all, a link on its way that isn't quiet (`NotQuiet`), and then a control that isn't the centre's
     /// next one, or one that another is before, at the centre or at the concentrator (`NotNext`). A status other than
     /// SUCCESS ends it (`Refused`), and so does an event that stops (`Fault`): the events before that happened.
+    ///
+    /// Where no control was in progress above, the substation has then performed it, once, and both books say SUCCESS.
     pub fn clean_control(&mut self, alloc: Global, id: u64) -> Result<(), ControlFault>
         ensures held { StoresAreWell Q.honest J.honest A.honest A.is_stopped B.honest B.is_stopped self.new.stores → StoresAreWell Q.honest J.honest A.honest A.is_stopped B.honest B.is_stopped self.old.stores }
         ensures ends { StoresAreWell Q.honest J.honest A.honest A.is_stopped B.honest B.is_stopped self.new.stores → ControlEnds id self.old.system result self.new.system }
+        ensures operates { StoresAreWell Q.honest J.honest A.honest A.is_stopped B.honest B.is_stopped self.new.stores → IsFreeAbove self.old.system → OnOk result ∥ ControlMoves id self.old.system self.new.system ∥₁ }
         ensures fate { StoresAreWell Q.honest J.honest A.honest A.is_stopped B.honest B.is_stopped self.new.stores → IsFate (λ i. []) (report_of self.old.system) (report_of self.new.system) }
         ensures holds { StoresAreWell Q.honest J.honest A.honest A.is_stopped B.honest B.is_stopped self.new.stores → Holds (report_of self.new.system) }
     {
         steady_systems_stay_steady();
         rounds_and_controls_keep_a_system_steady();
+        a_clean_control_operates();
         self.parts.clean_control(alloc, id)
     }
 

@@ -1,5 +1,12 @@
--- What is left is steady, and no row was made.
+-- What is left is steady, and no row was made; what went all the way has moved its command.
 use Rattle.std.proofs.Common.{[]}
+use Rattle.std.proofs.Math.Logic.{∥∥₁_map}
+use Rattle.std.specs.Prelude.{ℕ, OnOk, Result, Ok, Err, ⊤}
+use Rattle.dnp_world.specs.ControlMoves.{ControlMoves, IsFreeAbove}
+use Rattle.dnp_world.specs.Controls.{CanGo, ControlEnds, IsControl}
+use Rattle.dnp_world.specs.Steady.{IsSteady}
+use Rattle.dnp_world.specs.Systems.{System}
+use Rattle.dnp_world.specs.declared.round_fault.ControlFault.{ControlFault}
 use Rattle.dnp_world.specs.SystemParts.{system_of}
 use Rattle.dnp_world.proofs.Lasting.{fate_of, steady_of}
 use Rattle.dnp_world.proofs.world.World.clean_control.Goals as goal
@@ -22,6 +29,21 @@ returns-clause-fate g c = λ well.
     rw (← c.self.view_is)
     (fate_of (λ i. []) old new (c.self.invariant (c.clean_control.ensures.held well))
     (λ s. c.rounds_and_controls_keep_a_system_steady.ensures.control c.args.id old new c.clean_control.result s ends))
+
+moved : (id : ℕ) (old new : System) (result : Result ⊤ ControlFault) → ∥ IsSteady old ∥₁
+    → (IsSteady old → CanGo id old → IsControl id old new → ControlMoves id old new)
+    → ControlEnds id old result new → OnOk result ∥ ControlMoves id old new ∥₁
+moved id old new (Ok done) some law (can, whole) = ∥∥₁_map some (λ s. law s can whole)
+moved id old new (Err fault) some law ends = tt
+
+pub returns-clause-operates : goal.returns-clause-operates
+returns-clause-operates g c = λ well.
+    let system = system_of g.Q.Lanes.contents g.J.JournalStore.archive g.A.Book.contents g.B.Book.contents in
+    let old = system c.self.inside.parts in
+    let new = system c.clean_control.new.self in
+    rw (← c.self.view_is)
+    (λ free. moved c.args.id old new c.clean_control.result (c.self.invariant (c.clean_control.ensures.held well))
+    (λ s. c.a_clean_control_operates.ensures c.args.id old new s.standing s.controls free) (c.clean_control.ensures.ends well))
 
 pub returns-clause-holds : goal.returns-clause-holds
 returns-clause-holds g c = λ well.
