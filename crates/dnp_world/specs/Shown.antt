@@ -15,7 +15,7 @@ pub record Shown (Q J A B : Type 0) : Type 0 where
   pub system : System
   pub stores : Stores Q J A B
 
--- they are honest, and no book has answered Device
+-- the stores are honest, and no book has answered Device
 pub record StoresAreWell {Q J A B : Type 0} (queue : Q → Type 0) (journal : J → Type 0) (controls : A → Type 0) (controls_stopped : A → Bool)
     (orders : B → Type 0) (orders_stopped : B → Bool) (stores : Stores Q J A B) : Type 0 where
   pub queue_is : queue stores.queue
