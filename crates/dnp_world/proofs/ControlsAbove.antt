@@ -22,7 +22,7 @@ use Rattle.dnp_world.specs.Systems.{CentreState, ConcentratorState, History, Sub
 use Rattle.dnp_world.specs.declared.event.Link.{Link}
 use Rattle.dnp_world.specs.declared.event.Link.TheVariants.{Above}
 use Rattle.dnp_world.specs.declared.link_event.Way.TheVariants as way
-use Rattle.dnp_world.proofs.ControlsAccepted.{Back, IsTaken, Last, OverLink, SaysSuccess}
+use Rattle.dnp_world.proofs.ControlsAccepted.{Back, IsTaken, OverLink, SaysSuccess, Told}
 
 -- ---- what the link above leaves alone
 
@@ -310,14 +310,13 @@ back_from laws spans id command old new going under spans_are p taken =
       told = told_above id old p.relayed going p.step r.orders;
     }
 
-pub last_from : ArrivingLaws → (spans : List Spans) (id : ℕ) (old new : System) (going : List (List ℕ)) → UnderWay Above going [] old
-    → Passes Above (Some id) old new → IsTaken 0 (ends_above old going)
-    → Last (KeptAbove spans) 0 id (λ s. s.centre.orders) old new (ends_above old going)
-last_from laws spans id old new going under p taken =
-    let r : RelayedAbove going old new = relayed_above laws old new going under p.relays taken in
+pub step_from : ArrivingLaws → (spans : List Spans) (old new : System) (going : List (List ℕ)) → UnderWay Above going [] old
+    → RelaysOn Above old new → IsTaken 0 (ends_above old going)
+    → Told (KeptAbove spans) 0 (λ s. s.centre.orders) old new (ends_above old going)
+step_from laws spans old new going under relays taken =
+    let r : RelayedAbove going old new = relayed_above laws old new going under relays taken in
     record {
       kept = record { keeps = r.keeps; controls = ap (λ (c : ConcentratorState). c.controls) r.concentrator };
-      told = told_above id old new going p r.orders;
       is = r.orders;
     }
 
@@ -330,7 +329,8 @@ over_above laws spans id command = record {
   back = λ old new ends seen p taken.
       subst (Back (SeenAbove spans) (KeptAbove spans) 0 id (relay_check spans command) command old new) (sym seen.is)
       (back_from laws spans id command old new seen.going seen.under seen.spans_are p (subst (IsTaken 0) seen.is taken));
-  last = λ old new ends seen p taken.
-      subst (Last (KeptAbove spans) 0 id (λ s. s.centre.orders) old new) (sym seen.is)
-      (last_from laws spans id old new seen.going seen.under p (subst (IsTaken 0) seen.is taken));
+  step = λ old new ends seen relays taken.
+      subst (Told (KeptAbove spans) 0 (λ s. s.centre.orders) old new) (sym seen.is)
+      (step_from laws spans old new seen.going seen.under relays (subst (IsTaken 0) seen.is taken));
+  says = λ s. refl;
 }

@@ -1,5 +1,5 @@
 -- A control that goes all the way over one link, whichever it is: its command is performed once, and its book says SUCCESS.
-use Rattle.std.proofs.Common.{◌≡◌, ℕ, ◌<◌, ◌==◌, true, false, Bool, not, cond, List, [], ◌∷◌, ◌++◌, ◌⊎◌, inl, inr, Option, Some, None, refl, sym, ap, ◌∙◌, subst, append-nil}
+use Rattle.std.proofs.Common.{eqb-true, if◌then◌else◌, ◌≡◌, ℕ, ◌<◌, ◌==◌, true, false, Bool, not, cond, List, [], ◌∷◌, ◌++◌, ◌⊎◌, inl, inr, Option, Some, None, refl, sym, ap, ◌∙◌, subst, append-nil}
 use Rattle.std.specs.Prelude.{◌≢◌, IsTrue}
 use Rattle.std.specs.Option.{IsSomeAnd}
 use Rattle.std.proofs.lemmas.Option.{none-some, same_Some}
@@ -12,9 +12,10 @@ use Rattle.dnp_objects.specs.Status.{success}
 use Rattle.dnp_objects.specs.declared.command.Command.{Command}
 use Rattle.dnp_world.specs.ControlAnswers.{operated_by}
 use Rattle.dnp_world.specs.ControlExchanges.{CanBegin, ChecksAs, Ends, GoesOver, HasSelected, OperateComesTo, Refused, SelectComesTo, Stands, next_step, status_at, told_to}
-use Rattle.dnp_world.specs.Controls.{IsAccepted, Passes, PassesBack}
-use Rattle.dnp_world.specs.SystemEvents.{IsMissing, IsRefused}
+use Rattle.dnp_world.specs.Controls.{First, IsAccepted, IsRefusedOn, IsTold, Passes, PassesBack, Second, Third, status_on}
+use Rattle.dnp_world.specs.SystemEvents.{Happens, IsMissing, IsRefused}
 use Rattle.dnp_world.specs.Systems.{System}
+use Rattle.dnp_world.specs.declared.event.Event.TheVariants.{Relay}
 use Rattle.dnp_world.specs.declared.event.Link.{Link}
 use Rattle.dnp_world.proofs.Books.{put}
 use Rattle.dnp_world.proofs.ControlAccepts.{Began, first_step, operate_goes, second_step, select_goes}
@@ -40,10 +41,9 @@ pub record Back (View : System → Ends → Type 0) (Kept : List Command → Sys
   pub kept : Kept commands old new
   pub told : SaysSuccess (told_to target ends) id
 
--- the last step
-pub record Last (Kept : List Command → System → System → Type 0) (target id : ℕ) (book : System → Ledger) (old new : System) (ends : Ends) : Type 0 where
+-- a step of relaying alone
+pub record Told (Kept : List Command → System → System → Type 0) (target : ℕ) (book : System → Ledger) (old new : System) (ends : Ends) : Type 0 where
   pub kept : Kept [] old new
-  pub told : SaysSuccess (told_to target ends) id
   pub is : book new ≡ told_to target ends
 
 -- What there is of one link: what a system shows of its ends, what is kept where commands were performed, its book, and what comes of a
@@ -55,8 +55,8 @@ pub record OverLink (on : Link) (target id check : ℕ) (command : Command) : Ty
   pub join : (first more : List Command) (a b c : System) → Kept first a b → Kept more b c → Kept (first ++ more) a c
   pub back : (old new : System) (ends : Ends) → View old ends → PassesBack on (Some id) old new → IsTaken target ends
       → Back View Kept target id check command old new ends
-  pub last : (old new : System) (ends : Ends) → View old ends → Passes on (Some id) old new → IsTaken target ends
-      → Last Kept target id book old new ends
+  pub step : (old new : System) (ends : Ends) → View old ends → Happens old (Relay on) new → IsTaken target ends → Told Kept target book old new ends
+  pub says : (s : System) → status_on s on (Some id) ≡ status_at (book s) id
 
 -- ---- steps that are taken
 
@@ -119,9 +119,10 @@ module _ (laws : ControlLaws) (on : Link) (target check : ℕ) (entry : Entry) (
       let book : second.after.book ≡ spent ends.book entry.id = second.goes.told ∙ ap (ledger_after ends.book) step in
       let spent_is : entry_of second.after.book.entries entry.id ≡ Some (put Spent entry) =
       ap (λ (b : Ledger). entry_of b.entries entry.id) book ∙ entry_put ends.book.entries entry.id entry Spent there in
-      let last = over.last operated new second.after second.view finishes
+      let last = over.step operated new second.after second.view finishes.relays
       (finish_taken target entry.id op.status (put Spent entry) second.after op.next spent_is refl) in
-      let good : op.status ≡ success = last.told op.status op.told in
+      let good : op.status ≡ success =
+      finishes.passes op.status (over.says new ∙ ap (λ (b : Ledger). status_at b entry.id) last.is ∙ op.told) in
       let performs : [] ++ (second.commands ++ []) ≡ entry.command ∷ [] =
       append-nil second.commands ∙ op.performs ∙ ap (λ (n : ℕ). operated_by n entry.command) good in
       record {
@@ -149,3 +150,67 @@ module _ (laws : ControlLaws) (on : Link) (target check : ℕ) (entry : Entry) (
           let second = over.back a.selected a.operated e seen a.operates
           (finish_taken target entry.id check entry e next here (pending_open entry.state pending)) in
           absurd (other (second.told check told))
+
+  -- ---- a status ends it
+
+  -- what its OPERATE came to, where that is told and is no SUCCESS
+  operate_rests : (mid operated new : System) (ends : Ends) (status : ℕ) → over.View mid ends → HasSelected entry ends
+      → entry_of ends.book.entries entry.id ≡ Some entry → is_pending entry.state ≡ true → PassesBack on (Some entry.id) mid operated
+      → IsTold on (Some entry.id) status operated new → over.Kept [] mid new
+  operate_rests mid operated new ends status view has there pending operates told =
+      let step : next_step target ends ≡ Operates entry.id entry.command = second_step laws.same target entry ends has in
+      let second = over.back mid operated ends view operates (operate_taken target entry ends step there pending) in
+      let op : OperateComesTo target entry second.commands second.after =
+      operate_goes laws target second.now check entry ends second.after second.commands low has second.goes in
+      let book : second.after.book ≡ spent ends.book entry.id = second.goes.told ∙ ap (ledger_after ends.book) step in
+      let spent_is : entry_of second.after.book.entries entry.id ≡ Some (put Spent entry) =
+      ap (λ (b : Ledger). entry_of b.entries entry.id) book ∙ entry_put ends.book.entries entry.id entry Spent there in
+      let last = over.step operated new second.after second.view told.relays
+      (finish_taken target entry.id op.status (put Spent entry) second.after op.next spent_is refl) in
+      let says : Some op.status ≡ Some status =
+      sym (over.says new ∙ ap (λ (b : Ledger). status_at b entry.id) last.is ∙ op.told) ∙ told.says in
+      let other : op.status ≢ success = λ good. told.other (sym (same_Some op.status status says) ∙ good) in
+      let performs : second.commands ++ [] ≡ [] = append-nil second.commands ∙ op.performs ∙ none_operated op.status other in
+      subst (λ (xs : List Command). over.Kept xs mid new) performs (over.join second.commands [] mid operated new second.kept last.kept)
+    where
+      none_operated : (status : ℕ) → status ≢ success → operated_by status entry.command ≡ []
+      none_operated status other = by (status == success) refl
+        where
+          by : (b : Bool) → (status == success) ≡ b → (if b then entry.command ∷ [] else []) ≡ []
+          by true e = absurd (other (eqb-true status 0 e))
+          by false e = refl
+
+  -- so nothing is performed
+  pub refused_over : (old new : System) (ends : Ends) (status : ℕ) → over.View old ends → CanBegin target entry ends
+      → entry_of ends.book.entries entry.id ≡ Some entry → is_pending entry.state ≡ true → IsRefusedOn on (Some entry.id) status old new
+      → over.Kept [] old new
+  refused_over old new ends status view can there pending (First told) =
+      (over.step old new ends view told.relays (select_taken target entry ends can)).kept
+  refused_over old new ends status view can there pending (Second selected selects told) =
+      let first = over.back old selected ends view selects (select_taken target entry ends can) in
+      let began : Began target check entry first.commands first.after =
+      select_goes laws target first.now check entry ends first.after first.commands low can first.goes in
+      let book : first.after.book ≡ ends.book = first.goes.told ∙ ap (ledger_after ends.book) (first_step target entry ends can) in
+      let there' : entry_of first.after.book.entries entry.id ≡ Some entry = ap (λ (b : Ledger). entry_of b.entries entry.id) book ∙ there in
+      let kept : over.Kept [] old selected = subst (λ (xs : List Command). over.Kept xs old selected) began.none first.kept in
+      over.join [] [] old selected new kept (over.step selected new first.after first.view told.relays (taken first.after there' began.comes)).kept
+    where
+      taken : (e : Ends) → entry_of e.book.entries entry.id ≡ Some entry → SelectComesTo target check entry e → IsTaken target e
+      taken e here (Stands good has) = operate_taken target entry e (second_step laws.same target entry e has) here pending
+      taken e here (Refused other next says) = finish_taken target entry.id check entry e next here (pending_open entry.state pending)
+  refused_over old new ends status view can there pending (Third selected operated selects operates told) =
+      let first = over.back old selected ends view selects (select_taken target entry ends can) in
+      let began : Began target check entry first.commands first.after =
+      select_goes laws target first.now check entry ends first.after first.commands low can first.goes in
+      let book : first.after.book ≡ ends.book = first.goes.told ∙ ap (ledger_after ends.book) (first_step target entry ends can) in
+      let there' : entry_of first.after.book.entries entry.id ≡ Some entry = ap (λ (b : Ledger). entry_of b.entries entry.id) book ∙ there in
+      let kept : over.Kept [] old selected = subst (λ (xs : List Command). over.Kept xs old selected) began.none first.kept in
+      over.join [] [] old selected new kept (rests first.after first.view there' began.comes)
+    where
+      rests : (e : Ends) → over.View selected e → entry_of e.book.entries entry.id ≡ Some entry → SelectComesTo target check entry e
+          → over.Kept [] selected new
+      rests e seen here (Stands good has) = operate_rests selected operated new e status seen has here pending operates told
+      rests e seen here (Refused other next says) =
+          let second = over.back selected operated e seen operates
+          (finish_taken target entry.id check entry e next here (pending_open entry.state pending)) in
+          absurd (other (second.told check says))

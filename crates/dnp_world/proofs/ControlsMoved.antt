@@ -1,5 +1,5 @@
 -- What a clean control has moved.
-use Rattle.std.proofs.Common.{◌≡◌, ℕ, ◌+◌, ◌<◌, true, false, Bool, ◌&&◌, List, [], ◌∷◌, ◌++◌, length, Option, Some, None, refl, sym, ap, ◌∙◌, subst, arith}
+use Rattle.std.proofs.Common.{◌≡◌, ℕ, ◌+◌, ◌<◌, true, false, Bool, ◌&&◌, List, [], ◌∷◌, ◌++◌, length, Option, Some, None, refl, sym, ap, ◌∙◌, subst, append-nil, arith}
 use Rattle.std.specs.Prelude.{nat_lt, slice_get}
 use Rattle.std.specs.Option.{option_and_then, option_map}
 use Rattle.std.proofs.lemmas.Bool.{and_parts, ltb-true}
@@ -18,7 +18,7 @@ use Rattle.dnp_world.specs.Arriving.{UnderWay}
 use Rattle.dnp_world.specs.CommandWidths.{HasWidths}
 use Rattle.dnp_world.specs.ControlExchanges.{status_at}
 use Rattle.dnp_world.specs.ControlMoves.{ControlMoves}
-use Rattle.dnp_world.specs.Controls.{CanGo, IsAccepted, IsControl, IsControlFor, are_quiet_for, found_in, is_free_below, is_next, next_below, station_in}
+use Rattle.dnp_world.specs.Controls.{AtCentre, AtConcentrator, CanGo, IsAccepted, IsControl, IsControlFor, IsRefusedControl, IsRefusedOn, are_quiet_for, found_in, is_free_below, is_next, next_below, station_in}
 use Rattle.dnp_world.specs.ControlsInStep.{InStep}
 use Rattle.dnp_world.specs.Rounds.{is_quiet_at, is_quiet_on}
 use Rattle.dnp_world.specs.SystemStanding.{IsStanding}
@@ -26,7 +26,7 @@ use Rattle.dnp_world.specs.Systems.{CentreState, History, SubstationState, Syste
 use Rattle.dnp_world.specs.declared.event.Link.TheVariants.{Above, Below}
 use Rattle.dnp_world.proofs.ControlBooks.{next_found as next_is_found}
 use Rattle.dnp_world.proofs.ControlsAbove.{AboveKeeps, KeptAbove, SeenAbove, ends_above, over_above}
-use Rattle.dnp_world.proofs.ControlsAccepted.{Accepted, accepted_over}
+use Rattle.dnp_world.proofs.ControlsAccepted.{Accepted, accepted_over, refused_over}
 use Rattle.dnp_world.proofs.ControlsBelow.{KeptBelow}
 use Rattle.dnp_world.proofs.ControlsClean.{CleanLaws, above_begins, added_next, below_begins, free_below, next_above, none_is, none_mapped, plain_low, relay_low, relayed_some, same_lines, there_of}
 use Rattle.dnp_world.proofs.ControlsToSubstations.{SeenBelow, ends_below, over_below, under_has}
@@ -55,6 +55,18 @@ module _ (laws : CleanLaws) (old : System) (standing : IsStanding old) (steps : 
       (relay_low old.indices entry.command) old above (ends_above old [])
       (record { going = []; is = refl; under = laws.quiet Above old standing quiet; spans_are = standing.of_plan.middle_indices })
       (above_begins old entry standing steps quiet none next) (next_found old.centre.orders.entries 0 entry steps.orders.rising next) pending a
+
+  -- what a status above ends has operated nothing
+  above_rests : (new : System) (status : ℕ) → is_quiet_on old Above ≡ true → IsRefusedOn Above (Some entry.id) status old new
+      → new.history.operated ≡ old.history.operated
+  unfolding over_above
+  above_rests new status quiet refused =
+      let kept : KeptAbove old.indices [] old new =
+      refused_over laws.controls Above 0 (relay_check old.indices entry.command) entry (over_above laws.arriving old.indices entry.id entry.command)
+      (relay_low old.indices entry.command) old new (ends_above old []) status
+      (record { going = []; is = refl; under = laws.quiet Above old standing quiet; spans_are = standing.of_plan.middle_indices })
+      (above_begins old entry standing steps quiet none next) (next_found old.centre.orders.entries 0 entry steps.orders.rising next) pending refused in
+      ap (λ (h : History). h.operated) kept.keeps.history
 
   -- ---- below
 
@@ -118,6 +130,33 @@ module _ (laws : CleanLaws) (old : System) (standing : IsStanding old) (steps : 
         (subst (λ (b : Ledger). IsSound b) (sym controls) ((added_carries laws.sound old.concentrator.controls station command).sound steps.controls)).rising
         its_next) refl a
 
+    -- what a status below ends, too
+    below_rests : (new : System) (status : ℕ) → IsRefusedOn (Below station) (next_below above station) status above new
+        → new.history.operated ≡ old.history.operated
+    unfolding its over_below
+    below_rests new status refused =
+        let kept : KeptBelow station [] above new =
+        refused_over laws.controls (Below station) station (plain_check was.outputs.outputs was.outputs.setpoints command) its
+        (over_below laws.arriving laws.performs station its.id command was.outputs.outputs was.outputs.setpoints)
+        (plain_low was.outputs.outputs was.outputs.setpoints command) above new (ends_below station above was []) status
+        (record {
+          was = was;
+          there = ap (λ (xs : List SubstationState). slice_get xs station) keeps.substations ∙ there;
+          going = [];
+          is = refl;
+          under = under;
+          long = long;
+          outputs_are = refl;
+          setpoints_are = refl;
+        })
+        (below_begins old above station was its standing quiet there free keeps.links its_next
+        (subst (λ (b : Ledger). IsSound b) (sym controls) ((added_carries laws.sound old.concentrator.controls station command).sound steps.controls))
+        (below_fits old.indices entry.command (station, command) widths is))
+        (next_found above.concentrator.controls.entries station its
+        (subst (λ (b : Ledger). IsSound b) (sym controls) ((added_carries laws.sound old.concentrator.controls station command).sound steps.controls)).rising
+        its_next) refl (subst (λ (o : Option ℕ). IsRefusedOn (Below station) o status above new) its_id refused) in
+        kept.operated ∙ append-nil above.history.operated ∙ ap (λ (h : History). h.operated) keeps.history
+
     moved : (new : System) → found_in old.centre.orders.entries entry.id ≡ Some entry
         → IsAccepted (Below station) (next_below above station) above new → ControlMoves entry.id old new
     unfolding its
@@ -149,17 +188,47 @@ module _ (laws : CleanLaws) (old : System) (standing : IsStanding old) (steps : 
       moved station command is above (above_accepted above both.0 first) (none_mapped (λ (e : Entry). e.id) (next_of old.concentrator.controls.entries station) frees.0)
       (none_is (link_at old.concentrator station).progress frees.1) both.1 was there new found second
 
+  rests_below : (station : ℕ) (command : Command) (above new : System) (status : ℕ) → command_below old.indices entry.command ≡ Some (station, command)
+      → are_quiet_for old (Some station) ≡ true → is_free_below old (Some station) ≡ true → IsAccepted Above (Some entry.id) old above
+      → IsRefusedOn (Below station) (next_below above station) status above new → new.history.operated ≡ old.history.operated
+  rests_below station command above new status is quiet free first refused =
+      let both = and_parts (is_quiet_on old Above) (is_quiet_on old (Below station)) quiet in
+      let frees = and_parts _ _ free in
+      let ends = and_parts (has_station old station) _ both.1 in
+      let rests = and_parts _ (is_quiet_at (slice_get old.substations station)) ends.1 in
+      let (was, there) = there_of old station (slice_get old.substations station) refl rests.1 in
+      below_rests station command is above (above_accepted above both.0 first)
+      (none_mapped (λ (e : Entry). e.id) (next_of old.concentrator.controls.entries station) frees.0)
+      (none_is (link_at old.concentrator station).progress frees.1) both.1 was there new status refused
+
+  -- the substation that it is for
+  station_is : (o : Option (ℕ × Command)) → command_below old.indices entry.command ≡ o
+      → station_in old entry.id ≡ option_map (λ (p : ℕ × Command). p.0) o
+  station_is o e =
+      ap (option_and_then (λ (x : Entry). option_map (λ (p : ℕ × Command). p.0) (command_below old.indices x.command))) found
+      ∙ ap (option_map (λ (p : ℕ × Command). p.0)) e
+
+  above_quiet : (o : Option ℕ) → are_quiet_for old o ≡ true → is_quiet_on old Above ≡ true
+  above_quiet None quiet = quiet
+  above_quiet (Some station) quiet = (and_parts (is_quiet_on old Above) (is_quiet_on old (Below station)) quiet).0
+
+  refused_entry : (new : System) (status : ℕ) → are_quiet_for old (station_in old entry.id) ≡ true → is_free_below old (station_in old entry.id) ≡ true
+      → IsRefusedControl entry.id status old new → new.history.operated ≡ old.history.operated
+  refused_entry new status quiet free (AtCentre refused) = above_rests new status (above_quiet (station_in old entry.id) quiet) refused
+  refused_entry new status quiet free (AtConcentrator its above is first refused) = by (command_below old.indices entry.command) refl
+    where
+      by : (o : Option (ℕ × Command)) → command_below old.indices entry.command ≡ o → new.history.operated ≡ old.history.operated
+      by None e = absurd (none-some its (sym (station_is None e) ∙ is))
+      by (Some p) e =
+          let same : its ≡ p.0 = same_Some its p.0 (sym is ∙ station_is (Some p) e) in
+          rests_below p.0 p.1 above new status e (subst (λ (x : Option ℕ). are_quiet_for old x ≡ true) (station_is (Some p) e) quiet)
+          (subst (λ (x : Option ℕ). is_free_below old x ≡ true) (station_is (Some p) e) free) first
+          (subst (λ (n : ℕ). IsRefusedOn (Below n) (next_below above n) status above new) same refused)
+
   clean_entry : (new : System) → are_quiet_for old (station_in old entry.id) ≡ true → is_free_below old (station_in old entry.id) ≡ true
       → IsControl entry.id old new → ControlMoves entry.id old new
   clean_entry new quiet free control = by (command_below old.indices entry.command) refl
     where
-      -- the substation that it is for
-      station_is : (o : Option (ℕ × Command)) → command_below old.indices entry.command ≡ o
-          → station_in old entry.id ≡ option_map (λ (p : ℕ × Command). p.0) o
-      station_is o e =
-          ap (option_and_then (λ (x : Entry). option_map (λ (p : ℕ × Command). p.0) (command_below old.indices x.command))) found
-          ∙ ap (option_map (λ (p : ℕ × Command). p.0)) e
-
       by : (o : Option (ℕ × Command)) → command_below old.indices entry.command ≡ o → ControlMoves entry.id old new
       by None e =
           let above : AcceptedAbove new =
@@ -177,3 +246,10 @@ clean_moves laws id old new standing steps none can control =
     let n = next_above old id can.1 in
     subst (λ (i : ℕ). CanGo i old → IsControl i old new → ControlMoves i old new) n.id_is
     (λ can control. clean_entry laws old standing steps none n.entry n.next new can.0 (free_below old n.entry.id can.1) control) can control
+
+pub refused_rests : CleanLaws → (id status : ℕ) (old new : System) → IsStanding old → InStep old → old.centre.link.progress ≡ None → CanGo id old
+    → IsRefusedControl id status old new → new.history.operated ≡ old.history.operated
+refused_rests laws id status old new standing steps none can control =
+    let n = next_above old id can.1 in
+    subst (λ (i : ℕ). CanGo i old → IsRefusedControl i status old new → new.history.operated ≡ old.history.operated) n.id_is
+    (λ can control. refused_entry laws old standing steps none n.entry n.next new status can.0 (free_below old n.entry.id can.1) control) can control

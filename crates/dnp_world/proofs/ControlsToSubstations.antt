@@ -18,7 +18,7 @@ use Rattle.dnp_world.specs.Systems.{SubstationState, System, has_station, link_a
 use Rattle.dnp_world.specs.declared.event.Link.TheVariants.{Below}
 use Rattle.dnp_world.proofs.ArrivingLinks.{length_set}
 use Rattle.dnp_world.proofs.ControlsAbove.{ArrivingLaws}
-use Rattle.dnp_world.proofs.ControlsAccepted.{Back, IsTaken, Last, OverLink, SaysSuccess}
+use Rattle.dnp_world.proofs.ControlsAccepted.{Back, IsTaken, OverLink, SaysSuccess, Told}
 use Rattle.dnp_world.proofs.ControlsBelow.{DownBelow, HasAsMany, KeptBelow, PerformsLaw, UpBelow, below_down, below_up, join_below, on_lines, same_below}
 use Rattle.dnp_world.proofs.ListedAt.{set_here}
 use Rattle.dnp_world.proofs.SystemPlans.{link_here}
@@ -154,19 +154,15 @@ back_from laws law station id command outputs setpoints was old new going there 
     nothing_behind [] = refl
     nothing_behind (x ∷ xs) = ap (λ (ys : List Command). x ∷ ys) (nothing_behind xs)
 
-pub last_from : ArrivingLaws → (station id : ℕ) (was : SubstationState) (old new : System) (going : List (List ℕ))
+pub step_from : ArrivingLaws → (station : ℕ) (was : SubstationState) (old new : System) (going : List (List ℕ))
     → slice_get old.substations station ≡ Some was → station < length old.concentrator.links → UnderWay (Below station) going [] old
-    → Passes (Below station) (Some id) old new → IsTaken station (ends_below station old was going)
-    → Last (KeptBelow station) station id (λ s. s.concentrator.controls) old new (ends_below station old was going)
-last_from laws station id was old new going there long under p taken =
+    → IfThere (has_station old station) (RelaysOn (Below station)) old new → IsTaken station (ends_below station old was going)
+    → Told (KeptBelow station) station (λ s. s.concentrator.controls) old new (ends_below station old was going)
+step_from laws station was old new going there long under relays taken =
     let has : has_station old station ≡ true = under_has station going [] old under in
     let r : RelayedBelow station was going old new =
-    relayed_below laws station was old new going there long under (happens station old new has p.relays) taken in
-    record {
-      kept = r.kept;
-      told = told_below station id old new (ends_below station old was going) p r.controls;
-      is = r.controls;
-    }
+    relayed_below laws station was old new going there long under (happens station old new has relays) taken in
+    record { kept = r.kept; is = r.controls }
 
 unfoldable pub over_below : ArrivingLaws → PerformsLaw → (station id : ℕ) (command : Command) (outputs setpoints : ℕ)
     → OverLink (Below station) station id (plain_check outputs setpoints command) command
@@ -179,7 +175,8 @@ over_below laws law station id command outputs setpoints = record {
       subst (Back (SeenBelow station outputs setpoints) (KeptBelow station) station id (plain_check outputs setpoints command) command old new) (sym seen.is)
       (back_from laws law station id command outputs setpoints seen.was old new seen.going seen.there seen.long seen.under seen.outputs_are
       seen.setpoints_are p (subst (IsTaken station) seen.is taken));
-  last = λ old new ends seen p taken.
-      subst (Last (KeptBelow station) station id (λ s. s.concentrator.controls) old new) (sym seen.is)
-      (last_from laws station id seen.was old new seen.going seen.there seen.long seen.under p (subst (IsTaken station) seen.is taken));
+  step = λ old new ends seen relays taken.
+      subst (Told (KeptBelow station) station (λ s. s.concentrator.controls) old new) (sym seen.is)
+      (step_from laws station seen.was old new seen.going seen.there seen.long seen.under relays (subst (IsTaken station) seen.is taken));
+  says = λ s. refl;
 }

@@ -16,7 +16,7 @@ ghost use Rattle.dnp_outstation.specs.Calls.{connection_after, performed_in};
 ghost use Rattle.dnp_outstation.specs.State.{State};
 ghost use Rattle.dnp_world.specs.CommandWidths.{HasWidths};
 ghost use Rattle.dnp_world.specs.ControlAnswers.{Answers, Awaits, CanAnswer, HearsStatus, LeavesRequest, PassesReport, Repeats, WasAsked, operated_by};
-ghost use Rattle.dnp_world.specs.Controls.{CanGo, IsControl};
+ghost use Rattle.dnp_world.specs.Controls.{CanGo, IsControl, IsRefusedControl};
 ghost use Rattle.dnp_world.specs.ControlsInStep.{InStep};
 ghost use Rattle.dnp_world.specs.ControlMoves.{ControlMoves, IsFreeAbove};
 ghost use Rattle.dnp_world.specs.SystemStanding.{IsStanding};
@@ -115,10 +115,13 @@ pub fn an_accepted_control_operates()
 }
 
 /// A control that goes all the way from a system whose links are quiet, where it comes next and none is in progress above, has moved its
-/// command: the substation that it is for has performed it, once, and both books say SUCCESS of it.
+/// command: the substation that it is for has performed it, once, and both books say SUCCESS of it. One that a status ends has operated
+/// nothing.
 pub fn a_clean_control_operates()
-    ensures { (id : ℕ) (old new : System) → IsStanding old → InStep old → IsFreeAbove old → CanGo id old
+    ensures moves { (id : ℕ) (old new : System) → IsStanding old → InStep old → IsFreeAbove old → CanGo id old
         → IsControl id old new → ControlMoves id old new }
+    ensures rests { (id status : ℕ) (old new : System) → IsStanding old → InStep old → IsFreeAbove old → CanGo id old
+        → IsRefusedControl id status old new → new.history.operated ≡ old.history.operated }
 {
     a_header_holds_what_was_put();
     what_is_held_is_read();

@@ -1,6 +1,6 @@
 //! A whole system: substations, a concentrator and a centre, with lines between them.
 
-ghost use Rattle.std.specs.Prelude.{option_copied, ◌≡◌, ◌≢◌, ◌↔◌, ◌^◌, ◌<◌, ◌≤◌, [], false, length, take, Err, IfErr, IfOk, OnOk};
+ghost use Rattle.std.specs.Prelude.{option_copied, ℕ, ◌≡◌, ◌≢◌, ◌↔◌, ◌^◌, ◌<◌, ◌≤◌, [], false, length, take, Err, IfErr, IfOk, OnOk};
 ghost use Rattle.dnp_concentrator.specs.IndexMap.{IsTooWide, Overlaps};
 ghost use Rattle.dnp_concentrator.specs.Plan.{KeepsLimits, map_of};
 ghost use Rattle.dnp_eventbuf.specs.Stock.{lost_in};
@@ -189,11 +189,13 @@ impl<Q: Lanes, J: JournalStore, A: Book, B: Book> World<Q, J, A, B> {
     /// next one, or one that another is before, at the centre or at the concentrator (`NotNext`). A status other than
     /// SUCCESS ends it (`Refused`), and so does an event that stops (`Fault`): the events before that happened.
     ///
-    /// Where no control was in progress above, the substation has then performed it, once, and both books say SUCCESS.
+    /// Where no control was in progress above, the substation has performed it, once, and both books say SUCCESS if it is done; and
+    /// where a status ends it no substation has performed anything.
     pub fn clean_control(&mut self, alloc: Global, id: u64) -> Result<(), ControlFault>
         ensures held { StoresAreWell Q.honest J.honest A.honest A.is_stopped B.honest B.is_stopped self.new.stores → StoresAreWell Q.honest J.honest A.honest A.is_stopped B.honest B.is_stopped self.old.stores }
         ensures ends { StoresAreWell Q.honest J.honest A.honest A.is_stopped B.honest B.is_stopped self.new.stores → ControlEnds id self.old.system result self.new.system }
         ensures operates { StoresAreWell Q.honest J.honest A.honest A.is_stopped B.honest B.is_stopped self.new.stores → IsFreeAbove self.old.system → OnOk result ∥ ControlMoves id self.old.system self.new.system ∥₁ }
+        ensures rests { StoresAreWell Q.honest J.honest A.honest A.is_stopped B.honest B.is_stopped self.new.stores → IsFreeAbove self.old.system → (status : ℕ) → result ≡ Err (ControlFault.Refused status) → self.new.system.history.operated ≡ self.old.system.history.operated }
         ensures fate { StoresAreWell Q.honest J.honest A.honest A.is_stopped B.honest B.is_stopped self.new.stores → IsFate (λ i. []) (report_of self.old.system) (report_of self.new.system) }
         ensures holds { StoresAreWell Q.honest J.honest A.honest A.is_stopped B.honest B.is_stopped self.new.stores → Holds (report_of self.new.system) }
     {

@@ -3,7 +3,7 @@ use Rattle.std.proofs.Common.{refl}
 use Rattle.dnp_world.proofs.AboveSteps.{ComingLaws, performs_as}
 use Rattle.dnp_world.proofs.ControlArrivals.{ControlLaws}
 use Rattle.dnp_world.proofs.ControlsClean.{CleanLaws}
-use Rattle.dnp_world.proofs.ControlsMoved.{clean_moves}
+use Rattle.dnp_world.proofs.ControlsMoved.{clean_moves, refused_rests}
 use Rattle.dnp_world.proofs.control_laws.a_clean_control_operates.Goals as goal
 
 coming_of : goal.After-commands_are_undone → ComingLaws
@@ -45,5 +45,8 @@ laws_of c = record {
   sound = c.ids_go_on.ensures.sound;
 }
 
-pub returns : goal.returns
-returns c = clean_moves (laws_of c)
+pub returns-clause-moves : goal.returns-clause-moves
+returns-clause-moves c = clean_moves (laws_of c)
+
+pub returns-clause-rests : goal.returns-clause-rests
+returns-clause-rests c = refused_rests (laws_of c)

@@ -1,12 +1,15 @@
--- What is left is steady, and no row was made; what went all the way has moved its command.
-use Rattle.std.proofs.Common.{[]}
-use Rattle.std.proofs.Math.Logic.{∥∥₁_map}
-use Rattle.std.specs.Prelude.{ℕ, OnOk, Result, Ok, Err, ⊤}
+-- What is left is steady, and no row was made; what went all the way has moved its command, and what a status ends has moved none.
+use Rattle.std.proofs.Common.{◌≡◌, ℕ, List, [], subst}
+use Rattle.std.proofs.Math.Logic.{∥∥₁_elim, ∥∥₁_map}
+use Rattle.std.proofs.Props.{props}
+use Rattle.std.specs.Prelude.{OnOk, Result, Ok, Err, ⊤}
+use Rattle.dnp_objects.specs.declared.command.Command.{Command}
 use Rattle.dnp_world.specs.ControlMoves.{ControlMoves, IsFreeAbove}
 use Rattle.dnp_world.specs.Controls.{CanGo, ControlEnds, IsControl}
 use Rattle.dnp_world.specs.Steady.{IsSteady}
 use Rattle.dnp_world.specs.Systems.{System}
 use Rattle.dnp_world.specs.declared.round_fault.ControlFault.{ControlFault}
+use Rattle.dnp_world.specs.declared.round_fault.ControlFault.TheVariants as control
 use Rattle.dnp_world.specs.SystemParts.{system_of}
 use Rattle.dnp_world.proofs.Lasting.{fate_of, steady_of}
 use Rattle.dnp_world.proofs.world.World.clean_control.Goals as goal
@@ -43,7 +46,22 @@ returns-clause-operates g c = λ well.
     let new = system c.clean_control.new.self in
     rw (← c.self.view_is)
     (λ free. moved c.args.id old new c.clean_control.result (c.self.invariant (c.clean_control.ensures.held well))
-    (λ s. c.a_clean_control_operates.ensures c.args.id old new s.standing s.controls free) (c.clean_control.ensures.ends well))
+    (λ s. c.a_clean_control_operates.ensures.moves c.args.id old new s.standing s.controls free) (c.clean_control.ensures.ends well))
+
+same_once : (xs ys : List (ℕ × Command)) → IsProp (xs ≡ ys)
+same_once xs ys = hlevel props
+
+pub returns-clause-rests : goal.returns-clause-rests
+returns-clause-rests g c = λ well.
+    let system = system_of g.Q.Lanes.contents g.J.JournalStore.archive g.A.Book.contents g.B.Book.contents in
+    let old = system c.self.inside.parts in
+    let new = system c.clean_control.new.self in
+    rw (← c.self.view_is)
+    (λ free status is.
+    let ends : ControlEnds c.args.id old (Err (control.Refused status)) new =
+    subst (λ (r : Result ⊤ ControlFault). ControlEnds c.args.id old r new) is (c.clean_control.ensures.ends well) in
+    ∥∥₁_elim (c.self.invariant (c.clean_control.ensures.held well)) (same_once new.history.operated old.history.operated)
+    (λ s. c.a_clean_control_operates.ensures.rests c.args.id status old new s.standing s.controls free ends.0 ends.1))
 
 pub returns-clause-holds : goal.returns-clause-holds
 returns-clause-holds g c = λ well.
