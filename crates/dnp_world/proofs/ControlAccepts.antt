@@ -1,28 +1,25 @@
 -- A control that goes over one link in whole fragments: what its two steps perform, and what the book is told.
-use Rattle.std.proofs.Common.{◌≡◌, ℕ, ◌+◌, ◌%◌, ◌<◌, Bool, true, false, ◌&&◌, ◌==◌, if◌then◌else◌, List, [], ◌∷◌, ◌++◌, Option, Some, None, Result, Ok, Err, refl, sym, ap, ◌∙◌, subst, arith, eqb-true}
+use Rattle.std.proofs.Common.{◌≡◌, ℕ, ◌<◌, Bool, true, false, ◌==◌, List, [], ◌∷◌, ◌++◌, Option, Some, None, Ok, refl, ap, ◌∙◌, subst, arith, eqb-true}
 use Rattle.std.specs.Prelude.{◌≢◌, is_none, is_some, slice_index}
 use Rattle.std.specs.Option.{option_and_then}
 use Rattle.std.proofs.lemmas.Bool.{and_parts, eqb-false}
 use Rattle.dnp_appfragment.specs.Fragments.{request_octets}
 use Rattle.dnp_appfragment.specs.declared.function.Function.TheVariants as function
-use Rattle.dnp_concentrator.specs.Relaying.{Relaying, Step, Waits, Selects, Operates, Finishes, ledger_after, progress_heard, relaying_after, select_heard, sending, step_by, step_of, step_of_entry, step_of_progress}
-use Rattle.dnp_concentrator.specs.declared.progress.Progress.{Progress}
+use Rattle.dnp_concentrator.specs.Relaying.{Relaying, Step, Selects, Operates, Finishes, ledger_after, relaying_after, step_of}
 use Rattle.dnp_concentrator.specs.declared.progress.Stage.{Stage}
 use Rattle.dnp_concentrator.specs.declared.progress.Stage.TheVariants as stage
-use Rattle.dnp_controls.specs.Book.{Ledger, finished, in_state, next_of, spent}
+use Rattle.dnp_controls.specs.Book.{Ledger, finished, spent}
 use Rattle.dnp_controls.specs.declared.book.Entry.{Entry}
 use Rattle.dnp_controls.specs.declared.book.State.TheVariants.{Spent, Finished}
 use Rattle.dnp_master.specs.Calls.{ask_answer, asked, asked_by, asking, is_selected, may_follow}
 use Rattle.dnp_master.specs.Requests.{is_good, request_for}
 use Rattle.dnp_master.specs.State as master
 use Rattle.dnp_master.specs.State.{is_idle}
-use Rattle.dnp_master.specs.declared.outcome.Echo.TheVariants as echo
 use Rattle.dnp_master.specs.declared.request.OpenRequest.{OpenRequest}
 use Rattle.dnp_master.specs.declared.task.Task.{Task}
 use Rattle.dnp_master.specs.declared.task.Task.TheVariants as task
 use Rattle.dnp_objects.specs.Status.{success}
 use Rattle.dnp_objects.specs.declared.command.Command.{Command}
-use Rattle.dnp_outstation.specs.State.{State}
 use Rattle.dnp_world.specs.CommandWidths.{HasWidths}
 use Rattle.dnp_world.specs.ControlAnswers.{Awaits, WasAsked}
 use Rattle.dnp_world.specs.ControlExchanges.{AnswersAll, CanBegin, ChecksAs, Ends, GoesOver, HasSelected, HearsAll, OperateComesTo, Refused, SelectComesTo, Stands, next_step, status_at}

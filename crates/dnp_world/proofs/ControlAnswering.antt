@@ -1,5 +1,5 @@
 -- What an outstation answers to a SELECT and to an OPERATE, and what the confirm of an unsolicited response leaves alone.
-use Rattle.std.proofs.Common.{◌≡◌, ℕ, ◌<◌, ◌≤◌, Bool, true, false, ◌==◌, if◌then◌else◌, List, [], ◌∷◌, ◌++◌, Option, Some, None, Result, Ok, Err, refl, sym, ap, ◌∙◌, subst, append-nil, arith}
+use Rattle.std.proofs.Common.{◌≡◌, ℕ, ◌<◌, ◌≤◌, Bool, true, false, ◌==◌, if◌then◌else◌, List, [], ◌∷◌, ◌++◌, Option, Some, None, Ok, refl, sym, ap, ◌∙◌, subst, arith}
 use Rattle.std.specs.Prelude.{nat_lt}
 use Rattle.std.proofs.lemmas.Bool.Decides.{nat_tests}
 use Rattle.dnp_objects.specs.Status.{success, too_many_objs}
@@ -13,7 +13,7 @@ use Rattle.dnp_appfragment.proofs.Controls.{octet_of_control}
 use Rattle.dnp_controls.specs.Panel.{Panel}
 use Rattle.dnp_controls.specs.Selecting.{Select, answer, deadline, goes_with}
 use Rattle.dnp_outstation.specs.Calls.{connection_after, performed_for, performed_in, received, with_that}
-use Rattle.dnp_outstation.specs.Connection.{answers_held, asked, at_end, awaited_number, case_of, control_in, discarding, is_last_request, is_looked_at, is_number, new_request, on_request, on_unsolicited_confirm, replied}
+use Rattle.dnp_outstation.specs.Connection.{answers_held, asked, at_end, awaited_number, case_of, control_in, discarding, is_last_request, is_looked_at, is_number, on_unsolicited_confirm, replied}
 use Rattle.dnp_outstation.specs.Content.{Executed, answered, plain}
 use Rattle.dnp_outstation.specs.Controls.{Outcome, alike, are_too_many, checked, content_at, headers_with, is_control, is_silent, number_in, objects_in, operates_by, operates_selected, outcome_at, selects, with_select}
 use Rattle.dnp_outstation.specs.Links.{unsolicited_confirmed}

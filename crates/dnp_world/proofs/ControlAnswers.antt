@@ -1,29 +1,24 @@
 -- What an outstation answers to the requests of a command, and what the end of its call adds.
-use Rattle.std.proofs.Common.{◌≡◌, ℕ, ◌+◌, ◌-◌, ◌%◌, ◌<◌, Bool, true, false, not, ◌&&◌, ◌||◌, ◌==◌, cond, if◌then◌else◌, List, [], ◌∷◌, ◌++◌, length, option_to_list, Option, Some, None, Result, Ok, Err, refl, sym, ap, ◌∙◌, subst, append-nil, arith}
-use Rattle.std.specs.Prelude.{nat_le, nat_lt, is_some}
-use Rattle.std.specs.List.{All}
+use Rattle.std.proofs.Common.{◌≡◌, ℕ, ◌-◌, ◌<◌, Bool, true, false, not, ◌&&◌, ◌||◌, ◌==◌, if◌then◌else◌, List, [], ◌∷◌, ◌++◌, length, option_to_list, Option, Some, Ok, refl, sym, ap, ◌∙◌, subst, append-nil, arith}
+use Rattle.std.specs.Prelude.{nat_le, nat_lt}
 use Rattle.std.specs.Option.{option_map}
-use Rattle.std.proofs.lemmas.Bool.Decides.{nat_tests}
-use Rattle.std.proofs.lemmas.List.Elements.{All-nil, All-cons, All-append}
+use Rattle.std.proofs.lemmas.List.Elements.{All-nil, All-cons}
 use Rattle.dnp_objects.specs.Objects.{objects, content_of}
-use Rattle.dnp_objects.specs.Status as status
 use Rattle.dnp_objects.specs.declared.command.Command.{Command}
 use Rattle.dnp_objects.specs.declared.command.Command.TheVariants.{Block, Set16, Set32}
 use Rattle.dnp_objects.specs.declared.limits.TheConstants.{MAX_FRAGMENT}
-use Rattle.dnp_appfragment.specs.Control.{ControlBits, IsControl, control_octet}
-use Rattle.dnp_appfragment.specs.Fragments.{Asked, Answered, request_octets, response_octets}
+use Rattle.dnp_appfragment.specs.Control.{ControlBits, IsControl}
+use Rattle.dnp_appfragment.specs.Fragments.{Answered, request_octets, response_octets}
 use Rattle.dnp_appfragment.specs.Headers.{Head, AreHeaders, IsHeader, begin}
-use Rattle.dnp_appfragment.specs.Meaning.{request_at, response_at, command_in, control_of}
-use Rattle.dnp_appfragment.specs.Table.{is_response, function_octet, rules, takes_of}
+use Rattle.dnp_appfragment.specs.Meaning.{response_at}
+use Rattle.dnp_appfragment.specs.Table.{is_response, rules, takes_of}
 use Rattle.dnp_appfragment.specs.Written.{order}
 use Rattle.dnp_appfragment.specs.declared.function.Function.{Function}
 use Rattle.dnp_appfragment.specs.declared.function.Function.TheVariants as function
 use Rattle.dnp_appfragment.specs.declared.iin.Iin.{Iin}
 use Rattle.dnp_appfragment.specs.declared.table.Form.TheVariants as form
 use Rattle.dnp_appfragment.proofs.Controls.{octet_of_control}
-use Rattle.dnp_controls.specs.Panel.{Panel}
-use Rattle.dnp_outstation.specs.Calls.{connection_after, performed_in}
-use Rattle.dnp_outstation.specs.Connection.{asked, at_end, case_of, control_in, function_in, has_enabled_rows, is_last_request, is_looked_at, on_request, starts, unsolicited_of}
+use Rattle.dnp_outstation.specs.Connection.{at_end, case_of, control_in, function_in, has_enabled_rows, is_last_request, is_looked_at, starts, unsolicited_of}
 use Rattle.dnp_outstation.specs.Content.{Content, content_from}
 use Rattle.dnp_outstation.specs.Controls.{commands_in, headers_with, object_in, with_status}
 use Rattle.dnp_outstation.specs.Offer.{pushed}

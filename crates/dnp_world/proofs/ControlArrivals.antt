@@ -1,15 +1,13 @@
 -- Fragments that come to an outstation and to a master, one after the other, while a control goes over their link.
-use Rattle.std.proofs.Common.{◌≡◌, ℕ, ◌<◌, ◌≤◌, Bool, true, false, List, [], ◌∷◌, ◌++◌, ◌⊎◌, inl, inr, Option, Some, None, Result, Ok, Err, refl, sym, ap, ◌∙◌, subst, append_assoc, append-nil, arith}
+use Rattle.std.proofs.Common.{◌≡◌, ℕ, ◌<◌, Bool, true, false, List, [], ◌∷◌, ◌++◌, Option, Some, None, Result, Ok, Err, refl, sym, ap, ◌∙◌, subst, append_assoc, append-nil}
 use Rattle.std.specs.Prelude.{IfSome, ◌≢◌, bytes_eq, is_some, option_to_list, ◌&&◌}
 use Rattle.std.specs.List.{All}
 use Rattle.std.proofs.lemmas.List.Elements.{All-nil, All-cons, All-append, All-head, All-tail}
 use Rattle.std.proofs.lemmas.Slice.Eq.{bytes_eq-Decides}
-use Rattle.dnp_appfragment.specs.Fragments.{confirmation, request_octets}
 use Rattle.dnp_appfragment.specs.declared.function.Function.TheVariants as function
 use Rattle.dnp_concentrator.specs.Relaying as relaying
 use Rattle.dnp_concentrator.specs.Relaying.{Relaying, progress_heard}
 use Rattle.dnp_concentrator.specs.declared.progress.Progress.{Progress}
-use Rattle.dnp_controls.specs.Panel.{Panel}
 use Rattle.dnp_master.specs.Calls.{Taking, receive_of}
 use Rattle.dnp_master.specs.Outcomes.{command_for, selected_by}
 use Rattle.dnp_master.specs.State as master
@@ -21,7 +19,7 @@ use Rattle.dnp_master.specs.declared.task.Task.{Task}
 use Rattle.dnp_objects.specs.declared.command.Command.{Command}
 use Rattle.dnp_outstation.specs.Calls.{connection_after, performed_in}
 use Rattle.dnp_outstation.specs.Connection.{is_last_request}
-use Rattle.dnp_outstation.specs.State.{Core, State, Step, holds_read}
+use Rattle.dnp_outstation.specs.State.{Core, State}
 use Rattle.dnp_world.specs.CommandWidths.{HasWidths}
 use Rattle.dnp_world.specs.ControlAnswers.{AreReports, Awaits, ConfirmsReport, HearsStatus, PassesReport, Repeats, WasAsked, operated_by}
 use Rattle.dnp_world.specs.ControlExchanges.{AnswersAll, ChecksAs, Hears, HearsAll}

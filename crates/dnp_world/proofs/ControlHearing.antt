@@ -1,5 +1,5 @@
 -- What a master makes of the answer to its command, and of an unsolicited response.
-use Rattle.std.proofs.Common.{◌≡◌, ℕ, ◌<◌, Bool, true, false, not, ◌&&◌, ◌==◌, if◌then◌else◌, List, [], ◌∷◌, Option, Some, None, Result, Ok, Err, refl, sym, ap, ◌∙◌, subst, arith, eq-eqb}
+use Rattle.std.proofs.Common.{◌≡◌, ℕ, ◌<◌, Bool, true, false, if◌then◌else◌, List, [], ◌∷◌, Some, None, Result, Ok, Err, refl, ap, ◌∙◌, subst, arith, eq-eqb}
 use Rattle.std.specs.Prelude.{IfSome}
 use Rattle.dnp_objects.specs.Equality.{command_eq}
 use Rattle.dnp_objects.specs.declared.command.Command.{Command}
@@ -14,7 +14,7 @@ use Rattle.dnp_appfragment.specs.declared.function.Function.{Function}
 use Rattle.dnp_appfragment.specs.declared.function.Function.TheVariants as function
 use Rattle.dnp_appfragment.specs.declared.iin.Iin.{Iin}
 use Rattle.dnp_master.specs.Calls.{Taking, confirm_for, ended, heard, is_report, is_solicited, receive_of, report_taken, response_of, unheeded}
-use Rattle.dnp_master.specs.Outcomes.{command_for, echo_after, repeated_by}
+use Rattle.dnp_master.specs.Outcomes.{command_for, echo_after}
 use Rattle.dnp_master.specs.Rows.{is_from_plan}
 use Rattle.dnp_master.specs.State.{State}
 use Rattle.dnp_master.specs.declared.fault.MasterFault.{MasterFault}

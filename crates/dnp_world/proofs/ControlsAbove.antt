@@ -1,6 +1,5 @@
 -- Fragments that arrive at the ends of the link above, as fragments that come to its two stations, and what they leave alone.
-use Rattle.std.proofs.Common.{◌≡◌, ℕ, List, [], ◌∷◌, ◌++◌, Option, Some, None, Result, Ok, Err, refl, sym, ap, ◌∙◌, subst, arith}
-use Rattle.std.specs.Prelude.{option_to_list}
+use Rattle.std.proofs.Common.{◌≡◌, ℕ, List, [], ◌∷◌, ◌++◌, Some, Result, Ok, Err, refl, sym, ap, ◌∙◌, subst, arith}
 use Rattle.dnp_concentrator.specs.BookOutputs.{added_for, all_added, relay_check}
 use Rattle.dnp_concentrator.specs.Mapped.{command_below}
 use Rattle.dnp_concentrator.specs.Relaying.{Relaying, Step, relaying_after}
@@ -11,14 +10,13 @@ use Rattle.dnp_master.specs.Calls.{Taking, receive_of}
 use Rattle.dnp_master.specs.declared.fault.MasterFault.{MasterFault}
 use Rattle.dnp_objects.specs.declared.command.Command.{Command}
 use Rattle.dnp_outstation.specs.Calls.{connection_after, performed_in}
-use Rattle.dnp_outstation.specs.State.{Core, State}
 use Rattle.dnp_world.specs.Arriving.{Arrive, Arrives, UnderWay, confirms_of}
 use Rattle.dnp_world.specs.Channels.{ChannelState}
 use Rattle.dnp_world.specs.ControlExchanges.{AnswersAll, ChecksAs, Ends, Hears, HearsAll, next_step, status_at, told_to}
 use Rattle.dnp_world.specs.Controls.{Passes, PassesBack}
 use Rattle.dnp_world.specs.Rounds.{Flushes}
 use Rattle.dnp_world.specs.SystemEvents.{MasterReceives, MiddleAnswers, Refuses, RelaysOn, SendsDown, Steps, requests_of, told}
-use Rattle.dnp_world.specs.Systems.{CentreState, ConcentratorState, History, SubstationState, System, middle_of, middle_panel}
+use Rattle.dnp_world.specs.Systems.{CentreState, ConcentratorState, System, middle_of, middle_panel}
 use Rattle.dnp_world.specs.declared.event.Link.{Link}
 use Rattle.dnp_world.specs.declared.event.Link.TheVariants.{Above}
 use Rattle.dnp_world.specs.declared.link_event.Way.TheVariants as way

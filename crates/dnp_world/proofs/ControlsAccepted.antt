@@ -1,5 +1,5 @@
 -- A control that goes all the way over one link, whichever it is: its command is performed once, and its book says SUCCESS.
-use Rattle.std.proofs.Common.{eqb-true, if◌then◌else◌, ◌≡◌, ℕ, ◌<◌, ◌==◌, true, false, Bool, not, cond, List, [], ◌∷◌, ◌++◌, ◌⊎◌, inl, inr, Option, Some, None, refl, sym, ap, ◌∙◌, subst, append-nil}
+use Rattle.std.proofs.Common.{eqb-true, if◌then◌else◌, ◌≡◌, ℕ, ◌<◌, ◌==◌, true, false, Bool, not, cond, List, [], ◌∷◌, ◌++◌, ◌⊎◌, inl, inr, Option, Some, refl, sym, ap, ◌∙◌, subst, append-nil}
 use Rattle.std.specs.Prelude.{◌≢◌, IsTrue}
 use Rattle.std.specs.Option.{IsSomeAnd}
 use Rattle.std.proofs.lemmas.Option.{none-some, same_Some}

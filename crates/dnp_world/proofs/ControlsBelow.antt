@@ -1,25 +1,22 @@
 -- Fragments that arrive at the ends of the link to a substation, as fragments that come to its two stations, and what they leave alone.
-use Rattle.std.proofs.Common.{◌≡◌, ℕ, ◌<◌, ◌≤◌, true, false, Bool, ◌&&◌, List, [], ◌∷◌, ◌++◌, length, drop, map, Option, Some, None, Result, Ok, Err, refl, sym, ap, ◌∙◌, subst, append_assoc, append-nil, arith}
-use Rattle.std.specs.Prelude.{nat_lt, option_to_list, slice_get, slice_set, if◌then◌else◌}
+use Rattle.std.proofs.Common.{◌≡◌, ℕ, ◌<◌, List, [], ◌∷◌, ◌++◌, length, drop, Option, Some, Result, Ok, Err, refl, sym, ap, ◌∙◌, subst, append_assoc, append-nil, arith}
+use Rattle.std.specs.Prelude.{slice_get, slice_set}
 use Rattle.std.proofs.lemmas.List.{map-append}
-use Rattle.std.proofs.lemmas.Option.{none-some, same_Some}
+use Rattle.std.proofs.lemmas.Option.{same_Some}
 use Rattle.dnp_concentrator.specs.Relaying.{Relaying, relaying_after}
 use Rattle.dnp_concentrator.specs.Relaying as relaying
-use Rattle.dnp_concentrator.specs.declared.span.Spans.{Spans}
-use Rattle.dnp_controls.specs.Book.{Ledger}
-use Rattle.dnp_controls.specs.Latches.{PlainState, plain_check}
+use Rattle.dnp_controls.specs.Latches.{plain_check}
 use Rattle.dnp_controls.specs.Panel.{Panel}
 use Rattle.dnp_master.specs.Calls.{Taking, receive_of}
 use Rattle.dnp_master.specs.declared.fault.MasterFault.{MasterFault}
 use Rattle.dnp_objects.specs.declared.command.Command.{Command}
-use Rattle.dnp_objects.specs.declared.row.Row.{Row}
 use Rattle.dnp_outstation.specs.Calls.{connection_after, performed_in}
-use Rattle.dnp_outstation.specs.State.{Core, State, Step}
+use Rattle.dnp_outstation.specs.State.{State, Step}
 use Rattle.dnp_world.specs.Arriving.{Arrive, Arrives, SubstationTakes, answers_below, confirms_of}
 use Rattle.dnp_world.specs.Channels.{ChannelState}
 use Rattle.dnp_world.specs.ControlExchanges.{AnswersAll, ChecksAs, Hears, HearsAll}
-use Rattle.dnp_world.specs.SystemEvents.{MasterReceives, SubstationAnswers, SubstationSteps, with_substation}
-use Rattle.dnp_world.specs.Systems.{CentreState, ConcentratorState, SubstationState, System, at_station, in_state, link_at, panel_of, station_of}
+use Rattle.dnp_world.specs.SystemEvents.{MasterReceives, SubstationAnswers, with_substation}
+use Rattle.dnp_world.specs.Systems.{SubstationState, System, at_station, in_state, link_at, panel_of, station_of}
 use Rattle.dnp_world.specs.declared.event.Link.TheVariants.{Below}
 use Rattle.dnp_world.specs.declared.link_event.Way.TheVariants as way
 use Rattle.dnp_world.proofs.ArrivingLinks.{length_set}

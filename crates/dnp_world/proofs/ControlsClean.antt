@@ -1,18 +1,15 @@
 -- A clean control: above, and then below for the entry that the concentrator added.
-use Rattle.std.proofs.Common.{◌≡◌, ℕ, ◌+◌, ◌<◌, ◌≤◌, true, false, Bool, ◌&&◌, ◌==◌, cond, List, [], ◌∷◌, ◌++◌, length, ◌⊎◌, inl, inr, Option, Some, None, IfSome, refl, sym, ap, ◌∙◌, subst, arith, eqb-true, eq-eqb}
-use Rattle.std.specs.Prelude.{is_none, is_some, nat_lt, slice_get, if◌then◌else◌}
-use Rattle.std.specs.Option.{option_and_then, option_map, option_or}
-use Rattle.std.specs.List.{All}
-use Rattle.std.proofs.lemmas.Bool.{and_parts, ltb-true}
+use Rattle.std.proofs.Common.{◌≡◌, ℕ, ◌+◌, ◌<◌, true, false, Bool, ◌&&◌, ◌==◌, cond, List, [], ◌∷◌, length, Option, Some, None, refl, sym, ap, ◌∙◌, subst, arith, eqb-true, eq-eqb}
+use Rattle.std.specs.Prelude.{is_none, nat_lt, slice_get, if◌then◌else◌}
+use Rattle.std.specs.Option.{option_map, option_or}
+use Rattle.std.proofs.lemmas.Bool.{and_parts}
 use Rattle.std.proofs.lemmas.List.Folds.{find-append}
-use Rattle.std.proofs.lemmas.Option.{none-some, same_Some}
 use Rattle.dnp_appfragment.specs.Fragments.{request_octets}
-use Rattle.dnp_concentrator.specs.BookOutputs.{added_for, can_relay, relay_check}
+use Rattle.dnp_concentrator.specs.BookOutputs.{can_relay, relay_check}
 use Rattle.dnp_concentrator.specs.Mapped.{command_below}
 use Rattle.dnp_concentrator.specs.Relaying.{Relaying}
-use Rattle.dnp_concentrator.specs.declared.progress.Progress.{Progress}
 use Rattle.dnp_concentrator.specs.declared.span.Spans.{Spans}
-use Rattle.dnp_controls.specs.Book.{Ledger, IsSound, added, entry_of, is_pending, next_of}
+use Rattle.dnp_controls.specs.Book.{Ledger, IsSound, added, is_pending, next_of}
 use Rattle.dnp_controls.specs.Latches.{can_perform, plain_check}
 use Rattle.dnp_controls.specs.declared.book.Entry.{Entry}
 use Rattle.dnp_controls.specs.declared.book.State.TheVariants.{Pending}
@@ -22,12 +19,12 @@ use Rattle.dnp_master.specs.declared.task.Task.TheVariants as task
 use Rattle.dnp_objects.specs.Status.{success}
 use Rattle.dnp_objects.specs.declared.command.Command.{Command}
 use Rattle.dnp_outstation.specs.Connection.{is_last_request}
-use Rattle.dnp_outstation.specs.State.{Core, is_free, is_quiet}
-use Rattle.dnp_world.specs.Arriving.{IsClearOn, UnderWay, channel_at, channel_on}
+use Rattle.dnp_outstation.specs.State.{is_free, is_quiet}
+use Rattle.dnp_world.specs.Arriving.{IsClearOn, channel_at, channel_on}
 use Rattle.dnp_world.specs.Channels.{ChannelState, are_quiet}
 use Rattle.dnp_world.specs.CommandWidths.{HasWidths}
-use Rattle.dnp_world.specs.ControlExchanges.{CanBegin, Ends, status_at}
-use Rattle.dnp_world.specs.Controls.{CanGo, IsAccepted, IsControl, IsControlFor, are_quiet_for, found_in, is_entry, is_free_below, is_free_for, is_next, is_next_for, next_below, station_in, status_on}
+use Rattle.dnp_world.specs.ControlExchanges.{CanBegin}
+use Rattle.dnp_world.specs.Controls.{is_entry, is_free_below, is_free_for, is_next, station_in}
 use Rattle.dnp_world.specs.ControlsInStep.{InStep}
 use Rattle.dnp_world.specs.Rounds.{is_quiet_at, is_quiet_on}
 use Rattle.dnp_world.specs.SystemStanding.{IsJoinedBelow, IsStanding, lists_of, seen_above, seen_below}
@@ -36,15 +33,12 @@ use Rattle.dnp_world.specs.declared.event.Link.{Link}
 use Rattle.dnp_world.specs.declared.event.Link.TheVariants.{Above, Below}
 use Rattle.dnp_world.proofs.BelowKeeps.{some_of}
 use Rattle.dnp_world.proofs.ControlArrivals.{ControlLaws}
-use Rattle.dnp_world.proofs.ControlBooks.{next_found as next_is_found}
-use Rattle.dnp_world.proofs.ControlsAbove.{AboveKeeps, ArrivingLaws, KeptAbove, SeenAbove, ends_above, over_above}
-use Rattle.dnp_world.proofs.ControlsAccepted.{Accepted, accepted_over}
-use Rattle.dnp_world.proofs.ControlsBelow.{KeptBelow, PerformsLaw}
+use Rattle.dnp_world.proofs.ControlsAbove.{ArrivingLaws, ends_above}
+use Rattle.dnp_world.proofs.ControlsBelow.{PerformsLaw}
 use Rattle.dnp_world.proofs.ControlsOther.{other_select}
-use Rattle.dnp_world.proofs.ControlsToSubstations.{SeenBelow, ends_below, over_below, under_has}
+use Rattle.dnp_world.proofs.ControlsToSubstations.{ends_below}
 use Rattle.dnp_world.proofs.RelaySteps.{next_has}
-use Rattle.dnp_world.proofs.RelayWidths.{below_fits}
-use Rattle.dnp_world.proofs.StepBooks.{SoundLaw, added_carries, next_found}
+use Rattle.dnp_world.proofs.StepBooks.{SoundLaw}
 
 -- what laws promise of a control that goes all the way
 pub record CleanLaws : Type 0 where

@@ -1,35 +1,32 @@
 -- What a clean control has moved.
-use Rattle.std.proofs.Common.{◌≡◌, ℕ, ◌+◌, ◌<◌, true, false, Bool, ◌&&◌, List, [], ◌∷◌, ◌++◌, length, Option, Some, None, refl, sym, ap, ◌∙◌, subst, append-nil, arith}
+use Rattle.std.proofs.Common.{◌≡◌, ℕ, ◌+◌, ◌<◌, true, List, [], ◌∷◌, ◌++◌, length, Option, Some, None, refl, sym, ap, ◌∙◌, subst, append-nil}
 use Rattle.std.specs.Prelude.{nat_lt, slice_get}
 use Rattle.std.specs.Option.{option_and_then, option_map}
 use Rattle.std.proofs.lemmas.Bool.{and_parts, ltb-true}
 use Rattle.std.proofs.lemmas.Option.{none-some, same_Some}
-use Rattle.dnp_concentrator.specs.BookOutputs.{added_for, all_added, relay_check}
+use Rattle.dnp_concentrator.specs.BookOutputs.{added_for, relay_check}
 use Rattle.dnp_concentrator.specs.Mapped.{command_below}
-use Rattle.dnp_concentrator.specs.Relaying.{Relaying}
-use Rattle.dnp_concentrator.specs.declared.span.Spans.{Spans}
-use Rattle.dnp_controls.specs.Book.{Ledger, IsSound, added, entry_of, is_pending, next_of}
+use Rattle.dnp_controls.specs.Book.{Ledger, IsSound, added, is_pending, next_of}
 use Rattle.dnp_controls.specs.Latches.{plain_check}
 use Rattle.dnp_controls.specs.declared.book.Entry.{Entry}
 use Rattle.dnp_controls.specs.declared.book.State.TheVariants.{Pending}
-use Rattle.dnp_objects.specs.Status.{success}
 use Rattle.dnp_objects.specs.declared.command.Command.{Command}
 use Rattle.dnp_world.specs.Arriving.{UnderWay}
 use Rattle.dnp_world.specs.CommandWidths.{HasWidths}
 use Rattle.dnp_world.specs.ControlExchanges.{status_at}
 use Rattle.dnp_world.specs.ControlMoves.{ControlMoves}
-use Rattle.dnp_world.specs.Controls.{AtCentre, AtConcentrator, CanGo, IsAccepted, IsControl, IsControlFor, IsRefusedControl, IsRefusedOn, are_quiet_for, found_in, is_free_below, is_next, next_below, station_in}
+use Rattle.dnp_world.specs.Controls.{AtCentre, AtConcentrator, CanGo, IsAccepted, IsControl, IsControlFor, IsRefusedControl, IsRefusedOn, are_quiet_for, found_in, is_free_below, next_below, station_in}
 use Rattle.dnp_world.specs.ControlsInStep.{InStep}
 use Rattle.dnp_world.specs.Rounds.{is_quiet_at, is_quiet_on}
 use Rattle.dnp_world.specs.SystemStanding.{IsStanding}
 use Rattle.dnp_world.specs.Systems.{CentreState, History, SubstationState, System, has_station, link_at}
 use Rattle.dnp_world.specs.declared.event.Link.TheVariants.{Above, Below}
 use Rattle.dnp_world.proofs.ControlBooks.{next_found as next_is_found}
-use Rattle.dnp_world.proofs.ControlsAbove.{AboveKeeps, KeptAbove, SeenAbove, ends_above, over_above}
+use Rattle.dnp_world.proofs.ControlsAbove.{AboveKeeps, KeptAbove, ends_above, over_above}
 use Rattle.dnp_world.proofs.ControlsAccepted.{Accepted, accepted_over, refused_over}
 use Rattle.dnp_world.proofs.ControlsBelow.{KeptBelow}
 use Rattle.dnp_world.proofs.ControlsClean.{CleanLaws, above_begins, added_next, below_begins, free_below, next_above, none_is, none_mapped, plain_low, relay_low, relayed_some, same_lines, there_of}
-use Rattle.dnp_world.proofs.ControlsToSubstations.{SeenBelow, ends_below, over_below, under_has}
+use Rattle.dnp_world.proofs.ControlsToSubstations.{ends_below, over_below, under_has}
 use Rattle.dnp_world.proofs.RelaySteps.{next_has}
 use Rattle.dnp_world.proofs.RelayWidths.{below_fits}
 use Rattle.dnp_world.proofs.StepBooks.{added_carries, next_found}

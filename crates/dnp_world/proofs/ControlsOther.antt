@@ -1,13 +1,10 @@
 -- On a quiet link the request of a command is another than the last one: it has the number that follows, or another function.
-use Rattle.std.proofs.Common.{◌≡◌, ℕ, ◌+◌, ◌%◌, ◌<◌, ◌&&◌, ◌||◌, true, false, Bool, List, [], ◌∷◌, Option, Some, None, IfSome, refl, sym, ap, ◌∙◌, subst, arith, option_map}
-use Rattle.std.specs.Prelude.{◌≢◌, bytes_eq, is_none, is_some, slice_get, slice_index}
+use Rattle.std.proofs.Common.{◌≡◌, ℕ, ◌<◌, ◌&&◌, ◌||◌, true, false, Bool, List, Option, Some, None, IfSome, refl, sym, ap, ◌∙◌, subst, arith, option_map}
+use Rattle.std.specs.Prelude.{bytes_eq, is_none, is_some}
 use Rattle.std.proofs.lemmas.Bool.{and_parts}
 use Rattle.std.proofs.lemmas.Slice.Eq.{bytes_eq-Decides}
 use Rattle.dnp_appfragment.specs.Fragments.{request_octets}
-use Rattle.dnp_appfragment.specs.Table.{function_octet}
-use Rattle.dnp_appfragment.specs.declared.function.Function.TheVariants as function
 use Rattle.dnp_master.specs.Requests.{request_for}
-use Rattle.dnp_master.specs.State as master
 use Rattle.dnp_master.specs.State.{is_idle}
 use Rattle.dnp_master.specs.declared.request.OpenRequest.{OpenRequest}
 use Rattle.dnp_master.specs.declared.task.Task.TheVariants as task
@@ -15,7 +12,6 @@ use Rattle.dnp_objects.specs.declared.command.Command.{Command}
 use Rattle.dnp_objects.specs.declared.row.Row.{Row}
 use Rattle.dnp_outstation.specs.Connection.{function_in, is_last_request}
 use Rattle.dnp_outstation.specs.Links.{has_more}
-use Rattle.dnp_outstation.specs.State.{Core, is_free}
 use Rattle.dnp_outstation.specs.declared.session.LastRequest.{LastRequest}
 use Rattle.dnp_outstation.specs.declared.session.Reply.{Reply}
 use Rattle.dnp_outstation.specs.declared.session.Reply.TheVariants.{Held, Silent, First, Further}
@@ -23,7 +19,6 @@ use Rattle.dnp_outstation.specs.declared.session.Session.{Session}
 use Rattle.dnp_world.specs.Joined.{Joined}
 use Rattle.dnp_world.specs.Link as link
 use Rattle.dnp_world.specs.Link.{Link, Outstation, Master, Phase, Idle, Requested, Received, Responding, Continuing, seq_of}
-use Rattle.dnp_world.specs.MasterSeen.{master_of}
 use Rattle.dnp_world.specs.Octets.{after, seq_in}
 use Rattle.dnp_world.specs.OneLinkEvents.{LinkState}
 use Rattle.dnp_world.specs.OutstationSeen.{last_seen, reply_seen}

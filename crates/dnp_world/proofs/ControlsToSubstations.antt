@@ -1,7 +1,6 @@
 -- A step of relaying to a substation, and what comes of it.
-use Rattle.std.proofs.Common.{◌≡◌, ℕ, ◌<◌, true, false, Bool, ◌&&◌, List, [], ◌∷◌, ◌++◌, length, Option, Some, None, refl, sym, ap, ◌∙◌, subst, arith}
-use Rattle.std.specs.Prelude.{nat_lt, slice_get, slice_set, if◌then◌else◌}
-use Rattle.std.proofs.lemmas.Bool.{and_parts}
+use Rattle.std.proofs.Common.{◌≡◌, ℕ, ◌<◌, true, false, Bool, List, [], ◌∷◌, ◌++◌, length, Some, None, refl, sym, ap, ◌∙◌, subst, arith}
+use Rattle.std.specs.Prelude.{slice_get, if◌then◌else◌}
 use Rattle.std.proofs.lemmas.Option.{none-some, same_Some}
 use Rattle.dnp_concentrator.specs.Relaying.{Relaying, Step, relaying_after}
 use Rattle.dnp_controls.specs.Book.{Ledger}
@@ -10,7 +9,6 @@ use Rattle.dnp_controls.specs.Panel.{Panel}
 use Rattle.dnp_objects.specs.declared.command.Command.{Command}
 use Rattle.dnp_outstation.specs.State.{State}
 use Rattle.dnp_world.specs.Arriving.{UnderWay, channel_at}
-use Rattle.dnp_world.specs.Channels.{ChannelState}
 use Rattle.dnp_world.specs.ControlExchanges.{AnswersAll, ChecksAs, Ends, HearsAll, next_step, status_at, told_to}
 use Rattle.dnp_world.specs.Controls.{Passes, PassesBack}
 use Rattle.dnp_world.specs.SystemEvents.{IfThere, Refuses, RelaysOn, Steps, requests_of, told}
@@ -19,7 +17,7 @@ use Rattle.dnp_world.specs.declared.event.Link.TheVariants.{Below}
 use Rattle.dnp_world.proofs.ArrivingLinks.{length_set}
 use Rattle.dnp_world.proofs.ControlsAbove.{ArrivingLaws}
 use Rattle.dnp_world.proofs.ControlsAccepted.{Back, IsTaken, OverLink, SaysSuccess, Told}
-use Rattle.dnp_world.proofs.ControlsBelow.{DownBelow, HasAsMany, KeptBelow, PerformsLaw, UpBelow, below_down, below_up, join_below, on_lines, same_below}
+use Rattle.dnp_world.proofs.ControlsBelow.{DownBelow, KeptBelow, PerformsLaw, UpBelow, below_down, below_up, join_below, on_lines, same_below}
 use Rattle.dnp_world.proofs.ListedAt.{set_here}
 use Rattle.dnp_world.proofs.SystemPlans.{link_here}
 

@@ -1,11 +1,11 @@
 -- Requests that go down, as what a step of relaying answers tells them.
-use Rattle.std.proofs.Common.{◌≡◌, ℕ, ◌<◌, ◌&&◌, if◌then◌else◌, Bool, true, false, not, List, [], ◌∷◌, length, map, get_or, slice_set, ◌⊎◌, inl, inr, Option, Some, None, refl, sym, ap, ◌∙◌, subst, arith}
+use Rattle.std.proofs.Common.{◌≡◌, ℕ, ◌<◌, ◌&&◌, if◌then◌else◌, Bool, true, false, List, [], ◌∷◌, length, map, get_or, slice_set, ◌⊎◌, inl, inr, Option, Some, None, refl, sym, ap, ◌∙◌, subst, arith}
 use Rattle.std.specs.Option.{IsSomeAnd}
 use Rattle.arrayvec.specs.ArrayVec.{ArrayVec}
 use Rattle.dnp_concentrator.specs.Relayed.{IsPast, Tells, asks_book, asks_progress, asks_stage}
 use Rattle.dnp_concentrator.specs.Relaying.{Step, Waits, Selects, Operates, Finishes}
 use Rattle.dnp_concentrator.specs.declared.relayed.Relayed.TheVariants as relayed
-use Rattle.dnp_controls.specs.Book.{Ledger, Has, entry_of, is_pending}
+use Rattle.dnp_controls.specs.Book.{Ledger, Has, is_pending}
 use Rattle.dnp_controls.specs.declared.book.BookFault.{BookFault}
 use Rattle.dnp_controls.specs.declared.book.BookFault.TheVariants.{NoControl, NotPending}
 use Rattle.dnp_controls.specs.declared.book.Entry.{Entry}

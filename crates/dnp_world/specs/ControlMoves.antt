@@ -1,6 +1,6 @@
 -- Definition: what a control that went all the way has moved: its command was performed once, and both books say so (IEEE Std
 -- 1815-2012, application layer: SELECT and OPERATE).
-use Rattle.std.specs.Prelude.{◌≡◌, ℕ, ◌+◌, List, [], ◌∷◌, ◌++◌, Option, Some, None}
+use Rattle.std.specs.Prelude.{◌≡◌, ℕ, ◌+◌, [], ◌∷◌, ◌++◌, Option, Some, None}
 use Rattle.std.specs.Option.{option_and_then}
 use Rattle.dnp_concentrator.specs.Mapped.{command_below}
 use Rattle.dnp_objects.specs.Status.{success}

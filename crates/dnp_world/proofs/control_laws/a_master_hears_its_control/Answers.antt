@@ -7,7 +7,7 @@ use Rattle.dnp_master.specs.declared.fault.MasterFault.{MasterFault}
 use Rattle.dnp_world.specs.ControlAnswers.{HearsStatus, PassesReport}
 use Rattle.dnp_world.specs.Octets.{uns_in}
 use Rattle.dnp_world.proofs.CommandRequests.{ReadLaws}
-use Rattle.dnp_world.proofs.ControlHearing.{Heard, SameLaw, answer_heard, report_heard}
+use Rattle.dnp_world.proofs.ControlHearing.{SameLaw, answer_heard, report_heard}
 use Rattle.dnp_world.proofs.control_laws.a_master_hears_its_control.Goals as goal
 
 laws_of : goal.After-equality_is_decided → ReadLaws

@@ -4,7 +4,7 @@ use Rattle.std.proofs.Math.Logic.{∥∥₁_elim, ∥∥₁_map}
 use Rattle.std.proofs.Props.{props}
 use Rattle.std.specs.Prelude.{OnOk, Result, Ok, Err, ⊤}
 use Rattle.dnp_objects.specs.declared.command.Command.{Command}
-use Rattle.dnp_world.specs.ControlMoves.{ControlMoves, IsFreeAbove}
+use Rattle.dnp_world.specs.ControlMoves.{ControlMoves}
 use Rattle.dnp_world.specs.Controls.{CanGo, ControlEnds, IsControl}
 use Rattle.dnp_world.specs.Steady.{IsSteady}
 use Rattle.dnp_world.specs.Systems.{System}
