@@ -113,6 +113,7 @@ mod PolledNone
 mod PolledAnswer
 mod PolledConfirm
 mod PolledTaken
+mod Settling
 mod RoundSteps
 mod RoundExchange
 mod RoundBelow

@@ -38,5 +38,6 @@ pub mod ControlExchanges
 pub mod ControlMoves
 pub mod Happened
 pub mod Planned
+pub mod Settled
 pub mod Steady
 pub mod Shown

@@ -30,6 +30,7 @@ pub mod relay_laws;
 mod report;
 mod round_fault;
 mod sending;
+pub mod settled_laws;
 pub mod standing_laws;
 mod station_list;
 mod stopped;
