@@ -1,9 +1,10 @@
 -- Clean rounds over quiet links of steady systems.
-use Rattle.std.proofs.Common.{◌≡◌, ℕ, ◌<◌, ◌≤◌, suc, Bool, true, false, List, [], ◌∷◌, ◌++◌, length, Option, Some, IfSome, is_some, sym, ap, ◌∙◌, subst, arith}
+use Rattle.std.proofs.Common.{◌≡◌, ℕ, ◌<◌, ◌≤◌, suc, Bool, true, false, if◌then◌else◌, List, [], ◌∷◌, ◌++◌, length, Option, Some, IfSome, is_some, sym, ap, ◌∙◌, subst, arith}
 use Rattle.std.specs.Prelude.{map, nat_le, slice_get}
 use Rattle.std.specs.List.{All, filter}
 use Rattle.std.proofs.lemmas.List.{get_or_append_left, length-append}
 use Rattle.std.proofs.lemmas.List.Elements.{All-append, All-cons, All-filter, All-head, All-map, All-nil, All-tail}
+use Rattle.dnp_controls.specs.Panel.{Panel}
 use Rattle.dnp_eventbuf.specs.Sound.{IsSound}
 use Rattle.dnp_eventbuf.specs.Stock.{LaneState, Stock, lane_rows, lanes_up_to, row_of, rows_in, up_to}
 use Rattle.dnp_eventbuf.specs.declared.numbered.Numbered.{Numbered}
@@ -13,11 +14,13 @@ use Rattle.dnp_objects.specs.declared.row.Row.{Row}
 use Rattle.dnp_outstation.specs.Connection.{is_last_request}
 use Rattle.dnp_outstation.specs.Content.{source_of}
 use Rattle.dnp_outstation.specs.Links.{IsInOrder}
-use Rattle.dnp_world.specs.Movement.{MovesAbove, MovesBelow, first_reported, first_rows, is_repeated_at, is_repeated_on}
+use Rattle.dnp_outstation.specs.State.{State}
+use Rattle.dnp_world.specs.Movement.{MovesAbove, MovesBelow, first_reported, first_rows, passed_rows, is_repeated_at, is_repeated_on}
 use Rattle.dnp_world.specs.OutstationSeen.{IsWell, ShowOctets}
 use Rattle.dnp_world.specs.Planned.{IsAsPlanned}
-use Rattle.dnp_world.specs.Polled.{poll_octets, polled_rows, reported}
+use Rattle.dnp_world.specs.Polled.{Portion, no_rows, poll_octets, polled_rows, reported}
 use Rattle.dnp_world.specs.Rounds.{IsRound, is_quiet_on}
+use Rattle.dnp_world.specs.Settled.{IsSettled, may_report}
 use Rattle.dnp_world.specs.Steady.{IsSteady}
 use Rattle.dnp_world.specs.SystemEvents.{relaying_at}
 use Rattle.dnp_world.specs.SystemStanding.{IsJoinedBelow, IsStanding}
@@ -30,7 +33,7 @@ use Rattle.dnp_world.proofs.RepeatedRequests.{CaseLaw, went_on}
 use Rattle.dnp_world.proofs.RoundAbove as above
 use Rattle.dnp_world.proofs.RoundBelow as below
 use Rattle.dnp_world.proofs.RoundBelow.{LineLaws}
-use Rattle.dnp_world.proofs.RoundExchange.{AreFit, Exchanges, StationLaws, polled_exchange}
+use Rattle.dnp_world.proofs.RoundExchange.{Answer, AreFit, Exchanges, StationLaws, master_after, polled_exchange}
 
 -- the rows in the lanes are asked for at the other end
 pub record LaneLaws : Type 0 where
@@ -142,10 +145,23 @@ polled_above stations lines lanes old new steady quiet round other =
 
 -- ---- a poll that is taken for the last request
 
--- the master waits on, and at most an unsolicited response moved its rows
+-- the master waits on, and nothing moved, since the substation has started what it may
 pub record PassedBelow (station : ℕ) (old new : System) : Type 0 where
-  pub moves : MovesBelow station first_reported old new
+  pub moves : MovesBelow station (passed_rows (Below station)) old new
   pub busy : is_some (relaying_at new (Below station)).master.request ≡ true
+
+-- the answer to a poll that is passed over
+record Passed (m : master.State) (now : ℕ) (s : State) (o : Panel) (portion : Portion) : Type 0 where
+  answer : Answer m now s o portion
+  busy : is_some (master_after m now s o portion answer).request ≡ true
+
+passed_below : StationLaws → LineLaws → (station : ℕ) (old new : System) → IsSteady old → is_quiet_on old (Below station) ≡ true
+    → IsRound (Below station) old new → (begins : below.BeginsBelow station old)
+    → Passed (link_at old.concentrator station).master old.now (station_of begins.was) (panel_of begins.was) no_rows → PassedBelow station old new
+passed_below stations lines station old new steady quiet round begins passed =
+    let x = below.moves stations lines station old new begins (lines.quiet (Below station) old steady.standing quiet) (passed_rows (Below station)) round
+    passed.answer in
+    record { moves = x.moves; busy = ap (λ (a : master.State). is_some a.request) x.master_is ∙ passed.busy }
 
 pub repeated_below : StationLaws → LineLaws → LaneLaws → ReportLaws → CaseLaw → (station : ℕ) (old new : System) → IsSteady old
     → is_quiet_on old (Below station) ≡ true → IsRound (Below station) old new → is_repeated_on old (Below station) ≡ true
@@ -165,9 +181,14 @@ repeated_below stations lines lanes reports cases station old new steady quiet r
     let r = repeated reports m old.now (station_of was) (panel_of was) fit order
     (all_reported (λ row. is_reported m.plan row ≡ true) was.lanes was.core.enabled fit.sound order.classes
     (lanes.below old station was steady.planned begins.low begins.there)) same went in
-    let x = below.moves stations lines station old new begins (lines.quiet (Below station) old steady.standing quiet) first_reported round r.answer in
-    record { moves = x.moves; busy = ap (λ (a : master.State). is_some a.request) x.master_is ∙ r.busy }
+    let settled : may_report (station_of was) ≡ false =
+    subst (λ (o : Option SubstationState). IfSome o IsSettled) begins.there (steady.settled station) in
+    let none : first_reported (station_of was) ≡ no_rows =
+    ap (λ (b : Bool). if b then reported was.lanes was.core.enabled else no_rows) settled in
+    passed_below stations lines station old new steady quiet round begins
+    (subst (λ (x : Portion). Passed m old.now (station_of was) (panel_of was) x) none (record { answer = r.answer; busy = r.busy }))
 
+-- here at most an unsolicited response moved its rows
 pub record PassedAbove (old new : System) : Type 0 where
   pub moves : MovesAbove first_reported old new
   pub busy : is_some (relaying_at new Above).master.request ≡ true

@@ -28,7 +28,6 @@ pub mod NewSystems
 pub mod ReportShown
 pub mod Rounds
 pub mod Polled
-pub mod Movement
 pub mod Arriving
 pub mod Opening
 pub mod Controls
@@ -39,5 +38,6 @@ pub mod ControlMoves
 pub mod Happened
 pub mod Planned
 pub mod Settled
+pub mod Movement
 pub mod Steady
 pub mod Shown

@@ -1,14 +1,15 @@
 -- Definition: what a clean round moves: the first rows of a station's lanes, as many as fit into one fragment, go to whoever polls
 -- (own rule for a whole system; IEEE Std 1815-2012, application layer: event classes, READ, responses, confirms).
-use Rattle.std.specs.Prelude.{◌≡◌, ◌≢◌, ℕ, Bool, true, false, ◌&&◌, if◌then◌else◌, List, [], ◌++◌, is_some, slice_get, Option, Some, None}
+use Rattle.std.specs.Prelude.{◌≡◌, ◌≢◌, ℕ, Bool, true, false, if◌then◌else◌, List, [], ◌++◌, is_some, slice_get, Option, Some, None}
 use Rattle.dnp_concentrator.specs.Mapped.{queued_rows}
 use Rattle.dnp_eventbuf.specs.Archive.{with_events}
 use Rattle.dnp_eventbuf.specs.Stock.{Stock, all_up_to, dropped_by, with_rows, without}
 use Rattle.dnp_objects.specs.declared.lane.LaneRow.{LaneRow}
 use Rattle.dnp_objects.specs.declared.row.Row.{Row}
-use Rattle.dnp_outstation.specs.Connection.{has_enabled_rows, is_last_request}
-use Rattle.dnp_outstation.specs.State.{State, is_free}
+use Rattle.dnp_outstation.specs.Connection.{is_last_request}
+use Rattle.dnp_outstation.specs.State.{State}
 use Rattle.dnp_world.specs.Polled.{Portion, no_rows, poll_octets, polled, reported}
+use Rattle.dnp_world.specs.Settled.{may_report}
 use Rattle.dnp_world.specs.SystemEvents.{relaying_at}
 use Rattle.dnp_world.specs.Systems.{ConcentratorState, SubstationState, System, at_station, middle_of, station_of}
 use Rattle.dnp_world.specs.declared.event.Link.{Link}
@@ -75,9 +76,12 @@ first_rows s = polled s.lanes
 
 -- those of an unsolicited response that the outstation starts at the end of a call, if it starts one
 abbrev pub first_reported : State → Portion
-first_reported s =
-    if s.core.times.unsolicited && (s.core.announced && (s.core.is_open && (is_free s.core && has_enabled_rows s)))
-    then reported s.lanes s.core.enabled else no_rows
+first_reported s = if may_report s then reported s.lanes s.core.enabled else no_rows
+
+-- what moves where the READ is passed over: below nothing, and above the rows of an unsolicited response that the concentrator starts
+abbrev pub passed_rows : Link → State → Portion
+passed_rows (Below station) s = no_rows
+passed_rows Above s = first_reported s
 
 -- the READ is, octet for octet, the last request that the outstation remembers of the connection, as it can be where the response to
 -- that had sixteen fragments, or a multiple of sixteen
@@ -89,9 +93,8 @@ abbrev pub is_repeated_on : System → Link → Bool
 is_repeated_on s (Below station) = is_repeated_at (slice_get s.substations station) (poll_octets (relaying_at s (Below station)).master.seq)
 is_repeated_on s Above = is_last_request s.concentrator.core.session (poll_octets (relaying_at s Above).master.seq)
 
--- What a round moves. A READ that is taken for the last request is passed over: the master goes on waiting for its answer, and at
--- most an unsolicited response, which the outstation starts then, moves its rows.
+-- What a round moves. A READ that is taken for the last request is passed over, and the master goes on waiting for its answer.
 pub record RoundMoves (on : Link) (old new : System) : Type 0 where
   pub polled : is_repeated_on old on ≡ false → MovesOn on first_rows old new
-  pub repeated : is_repeated_on old on ≡ true → MovesOn on first_reported old new
+  pub repeated : is_repeated_on old on ≡ true → MovesOn on (passed_rows on) old new
   pub busy : is_repeated_on old on ≡ true → is_some (relaying_at new on).master.request ≡ true

@@ -11,6 +11,7 @@ use Rattle.dnp_world.specs.Joined.{rows_made_by}
 use Rattle.dnp_world.specs.Kept.{report_of}
 use Rattle.dnp_world.specs.Planned.{IsAsPlanned}
 use Rattle.dnp_world.specs.Reports.{IsFate}
+use Rattle.dnp_world.specs.Settled.{AreSettled}
 use Rattle.dnp_world.specs.SystemEvents.{Happens}
 use Rattle.dnp_world.specs.SystemStanding.{IsStanding}
 use Rattle.dnp_world.specs.Systems.{SubstationState, System, has_station}
@@ -18,12 +19,13 @@ use Rattle.dnp_world.specs.declared.event.Event.{Event}
 use Rattle.dnp_world.specs.declared.event.Event.TheVariants as event
 use Rattle.dnp_world.specs.declared.link_event.LinkEvent.TheVariants as link_event
 
--- Links of the law stand behind it, what happened at its substations can be reported, it is of a plan, and its controls are in step
--- with their books.
+-- Links of the law stand behind it, what happened at its substations can be reported, it is of a plan, its substations have started
+-- what they may, and its controls are in step with their books.
 pub record IsSteady (s : System) : Type 0 where
   pub standing : IsStanding s
   pub happened : HappenedAsEvents s
   pub planned : IsAsPlanned s
+  pub settled : AreSettled s
   pub controls : InStep s
 
 -- ---- what happens at the substations

@@ -22,6 +22,7 @@ use crate::arrival_laws::what_comes_from_a_substation_keeps_what_stands;
 use crate::happened_laws::what_happened_can_be_reported;
 use crate::planned_laws::systems_stay_as_planned;
 use crate::relay_laws::{controls_stay_in_step, relaying_keeps_what_stands};
+use crate::settled_laws::substations_stay_settled;
 use crate::standing_laws::{a_new_system_stands, what_comes_to_the_concentrator_keeps_what_stands};
 use crate::system_laws::{
     a_restart_of_the_concentrator_keeps_what_stands, calls_below_keep_what_stands,
@@ -47,6 +48,7 @@ pub fn every_event_keeps_a_system_steady()
     what_happened_can_be_reported();
     controls_stay_in_step();
     systems_stay_as_planned();
+    substations_stay_settled();
 }
 
 /// So do lists of events, also one that stops, and they make the rows of their readings; a new system over empty stores is steady; and
@@ -69,6 +71,7 @@ pub fn steady_systems_stay_steady()
     what_happened_can_be_reported();
     controls_stay_in_step();
     systems_stay_as_planned();
+    substations_stay_settled();
     what_stands_is_shown();
 }
 

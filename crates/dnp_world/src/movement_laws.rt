@@ -54,8 +54,9 @@ pub fn a_master_takes_what_it_polled()
 }
 
 /// What a clean round over a quiet link moves: the first rows of the lanes below, as many as fit into a fragment, leave them and
-/// come to the end above, in their order. Where its READ is taken for the last request, as it can be behind a response of a
-/// multiple of sixteen fragments, only an unsolicited response that starts then moves its rows, and the master goes on waiting.
+/// come to the end above, in their order, and nothing else moves. Where its READ is taken for the last request, as it can be behind
+/// a response of a multiple of sixteen fragments, nothing moves, but for an unsolicited response that the concentrator starts then,
+/// and the master goes on waiting.
 pub fn a_clean_round_moves_rows()
     ensures { (on : Link) (old new : System) → IsSteady old → is_quiet_on old on ≡ true → IsRound on old new → RoundMoves on old new }
 {

@@ -162,7 +162,7 @@ impl<Q: Lanes, J: JournalStore, A: Book, B: Book> World<Q, J, A, B> {
     ///
     /// So the first rows of the lanes below, as many as fit into one fragment, leave them and come to the end above: from a
     /// substation into the queue, and from there into the journal. A poll that is, octet for octet, the last request of the
-    /// connection is passed over, and then at most an unsolicited response that starts moves rows.
+    /// connection is passed over, and then nothing moves, but for an unsolicited response that the concentrator starts.
     ///
     /// Refused is a link that isn't quiet (`NotQuiet`): one outside the plan, or one of whose ends is closed, or awaits an
     /// answer, or whose lines carry anything or are broken. Where an event stops (`Fault`), those before it happened.

@@ -21,27 +21,28 @@ use Rattle.dnp_line.specs.Lines.{delivered_on, repeated_on}
 use Rattle.dnp_world.proofs.headline_laws.every_event_keeps_a_system_steady.Goals as goal
 
 -- what keeps links behind a system, with no row made
-none : goal.After-systems_stay_as_planned → (old new : System) (event : Event) → IsSteady old → Happens old event new → (station : ℕ)
+none : goal.After-substations_stay_settled → (old new : System) (event : Event) → IsSteady old → Happens old event new → (station : ℕ)
     → Keeps station [] old new → Goes (λ i. []) old new
 none c old new event s h station k = record {
   steady = record {
     standing = k.standing;
     happened = c.what_happened_can_be_reported.ensures.kept old new station s.happened k;
     planned = c.systems_stay_as_planned.ensures.kept old new station event s.planned h k;
+    settled = c.substations_stay_settled.ensures.event old new event s.settled h;
     controls = c.controls_stay_in_step.ensures.event old new event h s.standing s.controls;
   };
   fate = k.fate;
 }
 
 -- an event of what the plan has, or has not
-there : goal.After-systems_stay_as_planned → (b : Bool) (Change : System → System → Type 0) (old new : System) (event : Event) → IsSteady old
+there : goal.After-substations_stay_settled → (b : Bool) (Change : System → System → Type 0) (old new : System) (event : Event) → IsSteady old
     → Happens old event new → (station : ℕ) → (b ≡ true → Change old new → Keeps station [] old new) → IfThere b Change old new → Goes (λ i. []) old new
 there c true Change old new event s h station keeps change = none c old new event s h station (keeps refl change)
 there c false Change old new event s h station keeps same =
     none c old new event s h station (c.other_events_keep_what_stands.ensures.passed old new old.now station s.standing same)
 
 -- the row that a reading makes
-reads : goal.After-systems_stay_as_planned → (b : Bool) (old new : System) (station : ℕ) (kind : Kind) (index : ℕ) (reading : Reading) → IsSteady old
+reads : goal.After-substations_stay_settled → (b : Bool) (old new : System) (station : ℕ) (kind : Kind) (index : ℕ) (reading : Reading) → IsSteady old
     → Happens old (event.Change station kind index reading) new → IfThere b (Reads station kind index reading) old new
     → Goes (λ i. if b then made_at station (read_at (slice_get old.substations station) kind index reading) i else []) old new
 reads c true old new station kind index reading s h r =
@@ -51,6 +52,7 @@ reads c true old new station kind index reading s h r =
         standing = k.standing;
         happened = c.what_happened_can_be_reported.ensures.read old new station r.was.core.points (link_event.Change kind index reading ∷ []) s.happened k;
         planned = c.systems_stay_as_planned.ensures.read old new station kind index reading s.planned h r k;
+        settled = c.substations_stay_settled.ensures.event old new (event.Change station kind index reading) s.settled h;
         controls = c.controls_stay_in_step.ensures.event old new (event.Change station kind index reading) h s.standing s.controls;
       };
       fate = rw r.there k.fate;
@@ -59,7 +61,7 @@ reads c false old new station kind index reading s h same =
     none c old new (event.Change station kind index reading) s h station
     (c.other_events_keep_what_stands.ensures.passed old new old.now station s.standing same)
 
-goes : goal.After-systems_stay_as_planned → (old new : System) (event : Event) → IsSteady old → Happens old event new → Goes (made_by old event) old new
+goes : goal.After-substations_stay_settled → (old new : System) (event : Event) → IsSteady old → Happens old event new → Goes (made_by old event) old new
 goes c old new (event.Open (Below station)) s h =
     there c (has_station old station) (OpensOn (Below station)) old new (event.Open (Below station)) s h station
     (λ is e. c.calls_below_keep_what_stands.ensures.opened old new station is s.standing e) h

@@ -23,6 +23,7 @@ returns-clause-at_first c = λ plan queue journal controls orders begins empty. 
   standing = c.a_new_system_stands.ensures.stands plan queue journal controls orders begins empty;
   happened = c.what_happened_can_be_reported.ensures.at_first plan queue journal controls orders;
   planned = c.systems_stay_as_planned.ensures.at_first plan queue journal controls orders begins.limits;
+  settled = c.substations_stay_settled.ensures.at_first plan queue journal controls orders;
   controls = c.controls_stay_in_step.ensures.at_first plan queue journal controls orders empty.no_controls empty.no_orders;
 }
 
