@@ -45,7 +45,7 @@ pub record IsAsked {S : Type 0} (is_idle : S → Bool) (t : Talk S) (at_end : Ty
   pub answered : t.unwritten ≡ []
   pub ended : t.ended.is_over ≡ false → (at_end × IsWaiting is_idle t) ⊎ (most ≤ length t.steps)
 
--- for want of memory: for the frames of what was read last, all others being heard; or for an outcome that the next step might bring
+-- out of memory: for the frames of what was read last, all others being heard; or for an outcome that the next step might bring
 pub record IsWanting {S : Type 0} (t : Talk S) : Type 0 where
   pub goes_on : t.ended.is_over ≡ false
   pub answered : t.unwritten ≡ []
