@@ -33,6 +33,7 @@ ghost use Rattle.dnp_world.specs.Kept.{Kept, commands_below, nothing_kept, order
 ghost use Rattle.dnp_world.specs.ReportShown.{Shows, lists_of};
 ghost use Rattle.dnp_world.specs.OneLinkEvents.{is_own};
 ghost use Rattle.dnp_world.specs.Reports.{Holds, IsFate, Report as ReportValue};
+ghost use Rattle.dnp_world.specs.Steady.{IsSteady};
 ghost use Rattle.dnp_world.specs.SystemStanding.{IsStanding, Keeps};
 ghost use Rattle.dnp_world.specs.SystemEvents.{AsksOn, ComesDownBelow, ComesUp, HangsUpOn, IssuesBy, LinesChange, LosesOn, MasterTicks, OpensOn, OutstationTicks, Reads, SubstationRestarts, concentrator_restarted};
 ghost use Rattle.dnp_world.specs.Systems.{System, at_station, has_station};
@@ -79,13 +80,13 @@ pub fn what_stands_is_shown()
 }
 
 /// A report that shows a system has what the system keeps: the rows of the queue in another order, and all else as it is, as far
-/// as its numbers reach. So while links of the law stand behind the system, what holds at every moment holds of the report.
+/// as its numbers reach. They reach far enough for a steady system, which has no more substations than a plan, and counts as many
+/// rows as lost as stand in a list of the report. So what holds at every moment holds of the report.
 pub fn what_a_report_shows_is_kept()
     ensures queue { (s : System) (r : Shown) → Shows s r → IsPermutation r.queue (report_of s).queue }
     ensures others { (s : System) (r : Shown) → Shows s r → length s.substations ≤ NUMBERS → lost_in s.concentrator.queue < 2 ^ 64
         → lists_of r ≡ record (report_of s) { queue = r.queue } }
-    ensures holds { (s : System) (r : Shown) → Shows s r → length s.substations ≤ NUMBERS → lost_in s.concentrator.queue < 2 ^ 64
-        → ∥ IsStanding s ∥₁ → Holds (lists_of r) }
+    ensures holds { (s : System) (r : Shown) → Shows s r → length r.dropped < 2 ^ 64 → ∥ IsSteady s ∥₁ → Holds (lists_of r) }
 {
     lists_are_of_links();
     what_stands_is_shown();

@@ -1,9 +1,8 @@
 //! A whole system: substations, a concentrator and a centre, with lines between them.
 
-ghost use Rattle.std.specs.Prelude.{option_copied, ℕ, ◌≡◌, ◌≢◌, ◌↔◌, ◌^◌, ◌<◌, ◌≤◌, [], false, length, take, Err, IfErr, IfOk, OnOk};
+ghost use Rattle.std.specs.Prelude.{option_copied, ℕ, ◌≡◌, ◌≢◌, ◌↔◌, [], false, take, Err, IfErr, IfOk, OnOk};
 ghost use Rattle.dnp_concentrator.specs.IndexMap.{IsTooWide, Overlaps};
 ghost use Rattle.dnp_concentrator.specs.Plan.{KeepsLimits, map_of};
-ghost use Rattle.dnp_eventbuf.specs.Stock.{lost_in};
 ghost use Rattle.dnp_world.specs.FreshSystems.{fresh_system};
 ghost use Rattle.dnp_world.specs.Kept.{report_of};
 ghost use Rattle.dnp_world.specs.Movement.{RoundMoves};
@@ -18,7 +17,6 @@ ghost use Rattle.dnp_world.specs.Shown.{StoresAreWell};
 ghost use Rattle.dnp_world.specs.Steady.{Lasts};
 ghost use Rattle.dnp_world.specs.SystemEvents.{RunsTo, StopsAfter};
 ghost use Rattle.dnp_world.specs.Systems.{front_on, standing_on};
-ghost use Rattle.dnp_world.specs.declared.parts.report.TheConstants.{NUMBERS};
 
 use crate::channel::Channel;
 use crate::control_laws::a_clean_control_operates;
@@ -205,13 +203,12 @@ impl<Q: Lanes, J: JournalStore, A: Book, B: Book> World<Q, J, A, B> {
         self.parts.clean_control(alloc, id)
     }
 
-    /// What became of all rows and commands so far. It changes nothing.
+    /// What became of all rows and commands so far. It changes nothing, and what holds at every moment holds of it.
     pub fn report(&mut self, alloc: Global) -> Result<Report, Cause>
         ensures held { StoresAreWell Q.honest J.honest A.honest A.is_stopped B.honest B.is_stopped self.new.stores → StoresAreWell Q.honest J.honest A.honest A.is_stopped B.honest B.is_stopped self.old.stores }
         ensures same { StoresAreWell Q.honest J.honest A.honest A.is_stopped B.honest B.is_stopped self.new.stores → self.new.system ≡ self.old.system }
         ensures shows { StoresAreWell Q.honest J.honest A.honest A.is_stopped B.honest B.is_stopped self.new.stores → IfOk result (Shows self.old.system) }
-        ensures holds { StoresAreWell Q.honest J.honest A.honest A.is_stopped B.honest B.is_stopped self.new.stores → length self.old.system.substations ≤ NUMBERS → lost_in self.old.system.concentrator.queue < 2 ^ 64
-            → IfOk result (λ report. Holds (lists_of report)) }
+        ensures holds { StoresAreWell Q.honest J.honest A.honest A.is_stopped B.honest B.is_stopped self.new.stores → IfOk result (λ report. Holds (lists_of report)) }
     {
         what_a_report_shows_is_kept();
         self.parts.report(alloc)

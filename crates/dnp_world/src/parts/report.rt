@@ -1,6 +1,6 @@
 //! What became of all rows and commands.
 
-ghost use Rattle.std.specs.Prelude.{◌≡◌, ◌++◌, List, IfOk, OnOk, map as all_of, take};
+ghost use Rattle.std.specs.Prelude.{◌≡◌, ◌++◌, ◌^◌, ◌<◌, List, IfOk, OnOk, length, map as all_of, take};
 ghost use Rattle.dnp_eventbuf.specs.Stock.{row_of};
 ghost use Rattle.dnp_eventbuf.specs.declared.numbered.Numbered.{Numbered as NumberedValue};
 ghost use Rattle.dnp_world.specs.Kept.{lane_rows_of, rows_below as mapped_below};
@@ -87,14 +87,16 @@ impl<Q: Lanes, J: JournalStore, A: Book, B: Book> Parts<Q, J, A, B> {
         ensures held { AreWell Q.honest J.honest A.honest A.is_stopped B.honest B.is_stopped self.new → AreWell Q.honest J.honest A.honest A.is_stopped B.honest B.is_stopped self.old }
         ensures same { AreWell Q.honest J.honest A.honest A.is_stopped B.honest B.is_stopped self.new → system_of Q.contents J.archive A.contents B.contents self.new ≡ system_of Q.contents J.archive A.contents B.contents self.old }
         ensures shows { AreWell Q.honest J.honest A.honest A.is_stopped B.honest B.is_stopped self.new → IfOk result (Shows (system_of Q.contents J.archive A.contents B.contents self.old)) }
+        ensures counted { IfOk result (λ report. length report.dropped < 2 ^ 64) }
     {
         let journal = self.journal_below(alloc)?;
         let queue = self.queue_below(alloc)?;
         let buffered = buffered_rows(alloc, &mut self.substations)?;
+        let dropped = rows_below(alloc, &self.map, self.history.dropped.as_slice())?;
         Ok(Report {
             journal: Listed::new(journal),
             queue: Listed::new(queue),
-            dropped: Listed::new(rows_below(alloc, &self.map, self.history.dropped.as_slice())?),
+            dropped: Listed::new(dropped),
             confirmed: copied(alloc, self.history.confirmed.as_slice())?,
             buffered: Listed::new(buffered),
             overwritten: copied(alloc, self.history.overwritten.as_slice())?,

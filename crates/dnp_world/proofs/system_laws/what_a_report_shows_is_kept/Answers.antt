@@ -1,12 +1,19 @@
--- A sorted list that is filtered is a filtered list in another order; the rest is the same.
-use Rattle.std.proofs.Common.{◌≡◌, ◌∙◌, ◌<◌, ◌≤◌, ◌^◌, ◌-◌, ℕ, List, length, map, min, sym, ap, subst, arith}
+-- A sorted list that is filtered is a filtered list in another order; the rest is the same, as the numbers reach far enough.
+use Rattle.std.proofs.Common.{◌≡◌, ◌∙◌, ◌<◌, ◌≤◌, ◌^◌, ◌-◌, ◌⊎◌, inl, inr, ℕ, List, length, get_or, map, min, Option, Some, None, sym, ap, subst, arith}
+use Rattle.std.specs.Prelude.{IfSome, slice_get}
 use Rattle.std.specs.List.Sorted.{IsPermutation}
+use Rattle.std.specs.Option.{IsSomeAnd}
+use Rattle.std.proofs.Math.Logic.{∥∥₁_elim, ∥∥₁_map}
+use Rattle.std.proofs.Props.{props}
 use Rattle.std.proofs.lemmas.List.{take_all}
 use Rattle.std.proofs.lemmas.List.Sorted.{IsPermutation-map, IsPermutation-sym}
+use Rattle.std.proofs.lemmas.Option.{slice_get_cases, slice_get_past}
+use Rattle.dnp_concentrator.specs.declared.plan.SubPlan.{SubPlan}
 use Rattle.dnp_concentrator.specs.Mapped.{row_below}
 use Rattle.dnp_eventbuf.specs.Stock.{lost_in, row_of}
 use Rattle.dnp_objects.specs.declared.row.Row.{Row}
 use Rattle.dnp_world.specs.Kept.{lane_rows_of, report_of, rows_below}
+use Rattle.dnp_world.specs.Planned.{HasClassesBelow, IsAsPlanned}
 use Rattle.dnp_world.specs.ReportShown.{Shows, all_in, lists_of}
 use Rattle.dnp_world.specs.Reports as lists
 use Rattle.dnp_world.specs.Reports.{Holds}
@@ -50,7 +57,37 @@ returns-clause-queue c = in_another_order
 pub returns-clause-others : goal.returns-clause-others
 returns-clause-others c = same_others
 
+-- ---- the numbers reach far enough
+
+-- each substation has its place in the plan, and a plan has few
+few_substations : (s : System) → IsAsPlanned s → length s.substations ≤ NUMBERS
+few_substations s planned = by (slice_get_cases s.substations NUMBERS).1
+  where
+    Planned : Option SubPlan → Option SubstationState → Type 0
+    Planned plan was = IfSome was (λ substation. IsSomeAnd plan (λ sub. HasClassesBelow sub substation.core.points))
+
+    past : slice_get planned.plan.substations NUMBERS ≡ None
+    past = slice_get_past planned.plan.substations NUMBERS (omega (arith, planned.limits.few))
+
+    by : ((was : SubstationState) × (NUMBERS < length s.substations) × (slice_get s.substations NUMBERS ≡ Some was) × (get_or s.substations NUMBERS was ≡ was))
+        ⊎ ((length s.substations ≤ NUMBERS) × (slice_get s.substations NUMBERS ≡ None)) → length s.substations ≤ NUMBERS
+    by (inl (was, low, there, is)) =
+        absurd (subst (λ (plan : Option SubPlan). Planned plan (Some was)) past
+        (subst (λ (o : Option SubstationState). Planned (slice_get planned.plan.substations NUMBERS) o) there (planned.happened.points NUMBERS)))
+    by (inr end) = end.0
+
+few_once : (s : System) → IsProp (length s.substations ≤ NUMBERS)
+few_once s = hlevel props
+
+-- as many rows count as lost as stand in the report's list
+few_lost : (s : System) (r : Report) → Shows s r → Holds (report_of s) → length r.dropped < 2 ^ 64 → lost_in s.concentrator.queue < 2 ^ 64
+few_lost s r shows holds counted =
+    let long : length r.dropped ≡ length (report_of s).dropped = ap (λ (rows : List (ℕ × Row)). length rows) shows.dropped in
+    omega (arith, counted, long, holds.lost_is_counted)
+
 pub returns-clause-holds : goal.returns-clause-holds
-returns-clause-holds c = λ s r shows few counted some.
-    subst (λ (l : lists.Report). Holds l) (sym (same_others s r shows few counted))
-    (c.lists_are_of_links.ensures.reordered (report_of s) r.queue (in_another_order s r shows) (c.what_stands_is_shown.ensures s some))
+returns-clause-holds c = λ s r shows counted some.
+    let holds : Holds (report_of s) = c.what_stands_is_shown.ensures s (∥∥₁_map some (λ steady. steady.standing)) in
+    let few : length s.substations ≤ NUMBERS = ∥∥₁_elim some (few_once s) (λ steady. few_substations s steady.planned) in
+    subst (λ (l : lists.Report). Holds l) (sym (same_others s r shows few (few_lost s r shows holds counted)))
+    (c.lists_are_of_links.ensures.reordered (report_of s) r.queue (in_another_order s r shows) holds)

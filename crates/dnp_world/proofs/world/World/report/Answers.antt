@@ -1,15 +1,22 @@
--- What the report shows holds, as the system is steady.
-use Rattle.std.proofs.Math.Logic.{∥∥₁_map}
-use Rattle.std.proofs.lemmas.Result.{IfOk-weaker}
+-- What the report shows holds, as the system is steady and the list of dropped rows can be counted.
+use Rattle.std.proofs.Common.{◌<◌, ◌^◌, length, IfOk, Result, Ok, Err}
 use Rattle.dnp_world.specs.ReportShown.{Shows, lists_of}
 use Rattle.dnp_world.specs.Reports.{Holds}
+use Rattle.dnp_world.specs.Steady.{IsSteady}
 use Rattle.dnp_world.specs.SystemParts.{system_of}
+use Rattle.dnp_world.specs.Systems.{System}
+use Rattle.dnp_world.specs.declared.report.Report.{Report}
 use Rattle.dnp_world.proofs.world.World.report.Goals as goal
+
+-- what a report says holds, where two things are said of it
+of_both : {Fault : Type 0} (s : System) → ((report : Report) → Shows s report → length report.dropped < 2 ^ 64 → Holds (lists_of report))
+    → (r : Result Report Fault) → IfOk r (Shows s) → IfOk r (λ report. length report.dropped < 2 ^ 64) → IfOk r (λ report. Holds (lists_of report))
+of_both s law (Ok report) shows counted = law report shows counted
+of_both s law (Err fault) shows counted = tt
 
 pub returns-clause-holds : goal.returns-clause-holds
 returns-clause-holds g c = λ well.
-    let old = system_of g.Q.Lanes.contents g.J.JournalStore.archive g.A.Book.contents g.B.Book.contents c.self.inside.parts in
-    let standing = ∥∥₁_map (c.self.invariant (c.report.ensures.held well)) (λ steady. steady.standing) in
-    rw (← c.self.view_is)
-    (λ few counted. IfOk-weaker c.report.result (Shows old) (λ report. Holds (lists_of report))
-    (λ report shows. c.what_a_report_shows_is_kept.ensures.holds old report shows few counted standing) (c.report.ensures.shows well))
+    let old : System = system_of g.Q.Lanes.contents g.J.JournalStore.archive g.A.Book.contents g.B.Book.contents c.self.inside.parts in
+    let steady : ∥ IsSteady old ∥₁ = c.self.invariant (c.report.ensures.held well) in
+    of_both old (λ report shows counted. c.what_a_report_shows_is_kept.ensures.holds old report shows counted steady)
+    c.report.result (c.report.ensures.shows well) c.report.ensures.counted
