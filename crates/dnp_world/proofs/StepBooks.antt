@@ -19,7 +19,7 @@ use Rattle.dnp_concentrator.specs.declared.progress.Progress.{Progress}
 use Rattle.dnp_concentrator.specs.declared.progress.Stage.TheVariants.{Selecting, Operating}
 use Rattle.dnp_concentrator.specs.declared.span.Spans.{Spans}
 use Rattle.dnp_world.specs.CommandWidths.{HasWidths}
-use Rattle.dnp_world.specs.ControlsInStep.{GoesWith, IsOfEntry}
+use Rattle.dnp_world.specs.ControlsInStep.{GoesWith, IsOfEntry, IsUnspent}
 use Rattle.dnp_world.specs.Kept.{command_of, commands_in}
 use Rattle.dnp_world.proofs.Books.{put}
 use Rattle.dnp_world.proofs.RelayLinks.{book_same}
@@ -99,12 +99,15 @@ all_added_carries sound spans book (command ∷ commands) =
 
 -- ---- an entry comes into a state
 
--- it has the command and the target that it had
-put_entry : (entries : List Entry) (other : ℕ) (state : State) (target : ℕ) (p : Progress) → IfSome (entry_of entries p.id) (IsOfEntry target p)
+-- it has the command and the target that it had, and is pending no more
+put_entry : (entries : List Entry) (other : ℕ) (state : State) → is_pending state ≡ false → (target : ℕ) (p : Progress) → IfSome (entry_of entries p.id) (IsOfEntry target p)
     → IfSome (entry_of (in_state entries other state) p.id) (IsOfEntry target p)
-put_entry [] other state target p h = h
-put_entry (e ∷ entries) other state target p h = by (e.id == other) (put_entry entries other state target p)
+put_entry [] other state past target p h = h
+put_entry (e ∷ entries) other state past target p h = by (e.id == other) (put_entry entries other state past target p)
   where
+    never : is_pending state ≡ true → ⊥
+    never pending = let both : false ≡ true = sym past ∙ pending in cc
+
     found : (b : Bool) (x : Entry) → (IsOfEntry target p e → IsOfEntry target p x)
         → (IfSome (entry_of entries p.id) (IsOfEntry target p) → IfSome (entry_of (in_state entries other state) p.id) (IsOfEntry target p))
         → IfSome (cond b (Some e) (entry_of entries p.id)) (IsOfEntry target p)
@@ -115,7 +118,7 @@ put_entry (e ∷ entries) other state target p h = by (e.id == other) (put_entry
     by : (b : Bool)
         → (IfSome (entry_of entries p.id) (IsOfEntry target p) → IfSome (entry_of (in_state entries other state) p.id) (IsOfEntry target p))
         → IfSome (entry_of (cond b (put state e) e ∷ in_state entries other state) p.id) (IsOfEntry target p)
-    by true later = found (e.id == p.id) (put state e) (λ k. k) later h
+    by true later = found (e.id == p.id) (put state e) (λ k. (k.0, k.1, λ pending. absurd (never pending))) later h
     by false later = found (e.id == p.id) e (λ k. k) later h
 
 pub step_carries : SoundLaw → (book : Ledger) (step : Step) → Carries book (ledger_after book step)
@@ -123,12 +126,12 @@ step_carries sound book Waits = carried_same book
 step_carries sound book (Selects id command) = carried_same book
 step_carries sound book (Operates id command) = record {
   given = omega arith;
-  entry = λ target p low h. put_entry book.entries id Spent target p h;
+  entry = λ target p low h. put_entry book.entries id Spent refl target p h;
   sound = sound book (Spend id ∷ []);
 }
 step_carries sound book (Finishes id status) = record {
   given = omega arith;
-  entry = λ target p low h. put_entry book.entries id (Finished status) target p h;
+  entry = λ target p low h. put_entry book.entries id (Finished status) refl target p h;
   sound = sound book (Finish id status ∷ []);
 }
 
@@ -171,16 +174,35 @@ next_found (x ∷ xs) target e rising is =
         ∙ ap (λ (y : Entry). Some y) is
     by false same later = here (x.id == e.id) (Decides-eqb x.id e.id).0 (later_id same) ∙ later same
 
--- another of the same id and command
-renamed : (book : Ledger) (target : ℕ) (p q : Progress) → p.id ≡ q.id → p.command ≡ q.command
+-- another of the same id and command, at a stage before its OPERATE where this one is
+renamed : (book : Ledger) (target : ℕ) (p q : Progress) → p.id ≡ q.id → p.command ≡ q.command → IsUnspent q.stage
     → IfSome (entry_of book.entries p.id) (IsOfEntry target p)
     → IfSome (entry_of book.entries q.id) (IsOfEntry target q)
-renamed book target p q ids commands h =
+renamed book target p q ids commands unspent h =
     subst (λ (id : ℕ). IfSome (entry_of book.entries id) (IsOfEntry target q)) ids (by (entry_of book.entries p.id) h)
   where
     by : (o : Option Entry) → IfSome o (IsOfEntry target p) → IfSome o (IsOfEntry target q)
     by None k = k
-    by (Some e) k = (k.0, k.1 ∙ commands)
+    by (Some e) k = (k.0, k.1 ∙ commands, λ pending. unspent)
+
+-- an entry that comes into a state is in it
+state_put : (entries : List Entry) (id : ℕ) (state : State) → IfSome (entry_of (in_state entries id state) id) (λ e. e.state ≡ state)
+state_put [] id state = tt
+state_put (x ∷ xs) id state = by (x.id == id) refl (state_put xs id state)
+  where
+    by : (b : Bool) → (x.id == id) ≡ b → IfSome (entry_of (in_state xs id state) id) (λ e. e.state ≡ state)
+        → IfSome (entry_of (cond b (put state x) x ∷ in_state xs id state) id) (λ e. e.state ≡ state)
+    by true one later = rw one refl
+    by false other later = rw other later
+
+-- one whose entry is spent may be at any stage
+spent_goes : (target : ℕ) (p q : Progress) → p.command ≡ q.command → (o : Option Entry) → IfSome o (IsOfEntry target p) → IfSome o (λ e. e.state ≡ Spent)
+    → IfSome o (IsOfEntry target q)
+spent_goes target p q commands None k spent = tt
+spent_goes target p q commands (Some e) k spent = (k.0, k.1 ∙ commands, λ pending. absurd (never pending))
+  where
+    never : is_pending e.state ≡ true → ⊥
+    never pending = let both : false ≡ true = sym (ap is_pending spent) ∙ pending in cc
 
 pub step_in_progress : SoundLaw → (r : Relaying) (now : ℕ) (book : Ledger) (target : ℕ) (step : Step) → step_of r book.entries target ≡ step
     → IsInStep r book target → IfSome (relaying_after r now step).progress (GoesWith (ledger_after book step) target)
@@ -194,7 +216,7 @@ step_in_progress sound r now book target (Selects id command) is h =
         let g : GoesWith book target p = in_progress r book target p there h.control in
         record {
           given = subst (λ (n : ℕ). n ≤ book.last_id) ids g.given;
-          entry = renamed book target p (record { id = id; command = command; stage = Selecting }) ids commands g.entry;
+          entry = renamed book target p (record { id = id; command = command; stage = Selecting }) ids commands tt g.entry;
           widths = widths;
         }
     by (inr (e, next, ids, commands)) widths =
@@ -203,17 +225,19 @@ step_in_progress sound r now book target (Selects id command) is h =
           given = subst (λ (n : ℕ). n ≤ book.last_id) ids
               (next_has (λ (x : Entry). x.id ≤ book.last_id) book.entries target e h.sound.up_to_last next).0;
           entry = subst (λ (o : Option Entry). IfSome o (IsOfEntry target (record { id = id; command = command; stage = Selecting })))
-              (sym (ap (entry_of book.entries) (sym ids) ∙ next_found book.entries target e h.sound.rising next)) (of_target, commands);
+              (sym (ap (entry_of book.entries) (sym ids) ∙ next_found book.entries target e h.sound.rising next)) (of_target, commands, λ pending. tt);
           widths = widths;
         }
 step_in_progress sound r now book target (Operates id command) is h =
     let (idle, chosen, (p, there, ids, commands)) = operates_from r book.entries target id command is in
     let g : GoesWith book target p = in_progress r book target p there h.control in
-    carried book (ledger_after book (Operates id command)) target (Some (record { id = id; command = command; stage = Operating }))
-    (step_carries sound book (Operates id command))
-    (record {
+    let stays : IfSome (entry_of (in_state book.entries id Spent) id) (IsOfEntry target p) =
+    subst (λ (n : ℕ). IfSome (entry_of (in_state book.entries id Spent) n) (IsOfEntry target p)) ids
+    (put_entry book.entries id Spent refl target p g.entry) in
+    record {
       given = subst (λ (n : ℕ). n ≤ book.last_id) ids g.given;
-      entry = renamed book target p (record { id = id; command = command; stage = Operating }) ids commands g.entry;
+      entry = spent_goes target p (record { id = id; command = command; stage = Operating }) commands (entry_of (in_state book.entries id Spent) id) stays
+          (state_put book.entries id Spent);
       widths = step_widths r book target (Operates id command) is h;
-    })
+    }
 step_in_progress sound r now book target (Finishes id status) is h = tt

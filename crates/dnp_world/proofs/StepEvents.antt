@@ -1,19 +1,24 @@
 -- The controls in progress stay in step with the books at each event.
-use Rattle.std.proofs.Common.{◌≡◌, ℕ, zero, suc, List, [], ◌∷◌, Option, Some, None, IfSome, refl, sym, ap, subst}
-use Rattle.std.specs.Prelude.{slice_set}
+use Rattle.std.proofs.Common.{◌≡◌, ℕ, zero, suc, ◌==◌, Bool, true, false, List, [], ◌∷◌, Option, Some, None, IfSome, refl, sym, ap, subst}
+use Rattle.std.specs.Prelude.{if◌then◌else◌, slice_set}
 use Rattle.std.specs.List.{All}
+use Rattle.std.proofs.lemmas.Bool.{eqb-false}
 use Rattle.dnp_objects.specs.declared.command.Command.{Command}
-use Rattle.dnp_controls.specs.Book.{Ledger, IsSound}
+use Rattle.dnp_controls.specs.Book.{Ledger, IsSound, entry_of}
+use Rattle.dnp_controls.specs.declared.book.Entry.{Entry}
 use Rattle.dnp_concentrator.specs.Below.{link_in}
 use Rattle.dnp_concentrator.specs.BookOutputs.{all_added}
-use Rattle.dnp_concentrator.specs.Relaying.{Relaying, progress_heard}
+use Rattle.dnp_concentrator.specs.Relaying.{Relaying, heard, progress_heard, status_of}
 use Rattle.dnp_concentrator.specs.declared.progress.Progress.{Progress}
+use Rattle.dnp_concentrator.specs.declared.progress.Stage.{Stage}
+use Rattle.dnp_concentrator.specs.declared.progress.Stage.TheVariants.{Selecting, Selected, Operating, Known}
 use Rattle.dnp_master.specs.declared.outcome.Outcome.{Outcome}
+use Rattle.dnp_objects.specs.Status.{success}
 use Rattle.dnp_outstation.specs.State as outstation
 use Rattle.dnp_world.specs.declared.event.Link.{Link}
 use Rattle.dnp_world.specs.declared.event.Link.TheVariants.{Below, Above}
 use Rattle.dnp_world.specs.Channels.{ChannelState}
-use Rattle.dnp_world.specs.ControlsInStep.{GoesWith, InStep}
+use Rattle.dnp_world.specs.ControlsInStep.{GoesWith, InStep, IsOfEntry, IsUnspent}
 use Rattle.dnp_world.specs.SystemEvents.{LinesChange, MiddleSteps}
 use Rattle.dnp_world.specs.Systems.{System}
 use Rattle.dnp_world.proofs.RelayWidths.{FitsEntry}
@@ -105,9 +110,24 @@ middle_steps sound step commands lines old new m h =
 
 -- ---- masters
 
+-- an answer to a SELECT spends nothing
+heard_unspent : (stage : Stage) (outcome : Outcome) → IsUnspent stage → IsUnspent (heard stage outcome)
+heard_unspent Selecting outcome unspent = by (status_of outcome == success) refl
+  where
+    by : (b : Bool) → (status_of outcome == success) ≡ b → IsUnspent (if b then Selected else Known (status_of outcome))
+    by true e = tt
+    by false e = eqb-false (status_of outcome) 0 e
+heard_unspent Selected outcome unspent = tt
+heard_unspent Operating outcome unspent = absurd unspent
+heard_unspent (Known status) outcome unspent = unspent
+
 -- an outcome changes how far a control is
 pub heard_goes : (book : Ledger) (target : ℕ) (o : Option Progress) (outcome : Option Outcome) → IfSome o (GoesWith book target)
     → IfSome (progress_heard o outcome) (GoesWith book target)
 heard_goes book target None outcome h = h
 heard_goes book target (Some p) None h = h
-heard_goes book target (Some p) (Some outcome) h = record { given = h.given; entry = h.entry; widths = h.widths }
+heard_goes book target (Some p) (Some outcome) h = record { given = h.given; entry = by (entry_of book.entries p.id) h.entry; widths = h.widths }
+  where
+    by : (o : Option Entry) → IfSome o (IsOfEntry target p) → IfSome o (IsOfEntry target (record p { stage = heard p.stage outcome }))
+    by None k = tt
+    by (Some e) k = (k.0, k.1, λ pending. heard_unspent p.stage outcome (k.2 pending))
