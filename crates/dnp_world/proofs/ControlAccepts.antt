@@ -1,14 +1,14 @@
 -- A control that goes over one link in whole fragments: what its two steps perform, and what the book is told.
-use Rattle.std.proofs.Common.{◌≡◌, ℕ, ◌<◌, Bool, true, false, ◌==◌, List, [], ◌∷◌, ◌++◌, Option, Some, None, Ok, refl, ap, ◌∙◌, subst, arith, eqb-true}
-use Rattle.std.specs.Prelude.{◌≢◌, is_none, is_some, slice_index}
+use Rattle.std.proofs.Common.{◌≡◌, ℕ, ◌<◌, Bool, true, false, ◌==◌, List, [], ◌∷◌, ◌++◌, Option, Some, None, Ok, refl, ap, ◌∙◌, subst, append-nil, arith, eqb-true}
+use Rattle.std.specs.Prelude.{◌≢◌, if◌then◌else◌, is_none, is_some, slice_index}
 use Rattle.std.specs.Option.{option_and_then}
 use Rattle.std.proofs.lemmas.Bool.{and_parts, eqb-false}
 use Rattle.dnp_appfragment.specs.Fragments.{request_octets}
 use Rattle.dnp_appfragment.specs.declared.function.Function.TheVariants as function
-use Rattle.dnp_concentrator.specs.Relaying.{Relaying, Step, Selects, Operates, Finishes, ledger_after, relaying_after, step_of}
+use Rattle.dnp_concentrator.specs.Relaying.{Relaying, Step, Waits, Selects, Operates, Finishes, ledger_after, relaying_after, step_by, step_of, step_of_entry}
 use Rattle.dnp_concentrator.specs.declared.progress.Stage.{Stage}
 use Rattle.dnp_concentrator.specs.declared.progress.Stage.TheVariants as stage
-use Rattle.dnp_controls.specs.Book.{Ledger, finished, spent}
+use Rattle.dnp_controls.specs.Book.{Ledger, finished, next_of, spent}
 use Rattle.dnp_controls.specs.declared.book.Entry.{Entry}
 use Rattle.dnp_controls.specs.declared.book.State.TheVariants.{Spent, Finished}
 use Rattle.dnp_master.specs.Calls.{ask_answer, asked, asked_by, asking, is_selected, may_follow}
@@ -25,11 +25,11 @@ use Rattle.dnp_world.specs.ControlAnswers.{Awaits, WasAsked}
 use Rattle.dnp_world.specs.ControlExchanges.{AnswersAll, CanBegin, ChecksAs, Ends, GoesOver, HasSelected, HearsAll, OperateComesTo, Refused, SelectComesTo, Stands, next_step, status_at}
 use Rattle.dnp_world.specs.Controls.{found_in, status_in}
 use Rattle.dnp_world.specs.Octets.{after}
-use Rattle.dnp_world.specs.SystemEvents.{requests_of}
+use Rattle.dnp_world.specs.SystemEvents.{IsRefused, requests_of}
 use Rattle.dnp_world.proofs.Books.{put}
 use Rattle.dnp_world.proofs.ControlAnswers.{asking as request_as}
-use Rattle.dnp_world.proofs.ControlArrivals.{AreConfirms, ControlLaws, Operated, Selected, Unmoved, hears_answer, heard_status, operate_comes, select_comes}
-use Rattle.dnp_world.proofs.ControlBooks.{found_put, next_found}
+use Rattle.dnp_world.proofs.ControlArrivals.{AreConfirms, ControlLaws, Operated, Quiet, Selected, Unmoved, confirms_come, hears_answer, hears_reports, heard_status, operate_comes, other_asked, select_comes}
+use Rattle.dnp_world.proofs.ControlBooks.{found_put}
 use Rattle.dnp_world.proofs.ControlHearing.{SameLaw}
 
 -- ---- a master that is asked
@@ -57,15 +57,11 @@ sending_it r now t id command stage = record { master = asking r.master now t; p
 
 -- ---- the book
 
-status_told : (book : Ledger) (id : ℕ) (e : Entry) (status : ℕ) → found_in book.entries id ≡ Some e → status_at (finished book id status) id ≡ Some status
+pub status_told : (book : Ledger) (id : ℕ) (e : Entry) (status : ℕ) → found_in book.entries id ≡ Some e → status_at (finished book id status) id ≡ Some status
 status_told book id e status found =
     ap (λ (o : Option Entry). option_and_then (λ (e : Entry). status_in e.state) o) (found_put book.entries id e (Finished status) found)
 
 -- ---- the SELECT
-
--- the step of an idle master without a control in progress
-pub first_step : (target : ℕ) (entry : Entry) (ends : Ends) → CanBegin target entry ends → next_step target ends ≡ Selects entry.id entry.command
-first_step target entry ends can = rw (can.idle, can.free, can.next) refl
 
 idle_again : (r : Relaying) (t : Task) (status : ℕ) → r.master.is_open ≡ true → is_idle (heard_status r t status).master ≡ true
 idle_again r t status opens = rw opens refl
@@ -76,6 +72,10 @@ told_next : (target : ℕ) (entry : Entry) (ends : Ends) (r : Relaying) (status 
     → (status == success) ≡ false → next_step target ends ≡ Finishes entry.id status
 told_next target entry ends r status link_is progress opens other =
     ap (λ (x : Relaying). step_of x ends.book.entries target) link_is ∙ rw (opens, progress) (rw other refl)
+
+-- an OPERATE is another request
+not_select : (seq number : ℕ) (command : Command) → request_as seq function.Operate command ≢ request_octets (request_for number (task.Select command))
+not_select seq number command e = let codes : 4 ≡ 3 = ap (λ (xs : List ℕ). slice_index xs 1) e in omega (arith, codes)
 
 stands : (entry : Entry) (ends : Ends) (r : Relaying) (seq status : ℕ) → ends.link ≡ heard_status r (task.Select entry.command) status
     → r.progress ≡ Some (record { id = entry.id; command = entry.command; stage = stage.Selecting }) → r.master.is_open ≡ true
@@ -91,8 +91,13 @@ stands entry ends r seq status link_is progress opens good found widths asked co
       selected = ap (λ (x : Relaying). x.master.selected) link_is ∙ rw (eqb-true status 0 good) refl;
       found = found;
       widths = widths;
-      seq = seq;
-      asked = asked;
+      new = record {
+        is_open = asked.is_open;
+        other = other_asked ends.station.core (request_as ends.link.master.seq function.Operate entry.command)
+            (request_octets (request_for seq (task.Select entry.command))) asked (not_select ends.link.master.seq seq entry.command);
+        holds_none = asked.holds_none;
+        number = asked.number;
+      };
       confirms = confirms;
     }
 
@@ -106,7 +111,7 @@ select_goes laws target now check entry old selected commands low can g =
     let c : Command = entry.command in
     let seq : ℕ = old.link.master.seq in
     let q : List ℕ = request_as seq function.Select c in
-    let step_is : next_step target old ≡ Selects entry.id c = first_step target entry old can in
+    let step_is : next_step target old ≡ Selects entry.id c = can.selects in
     let link : Relaying = sending_it old.link now (task.Select c) entry.id c stage.Selecting in
     let link_is : relaying_after old.link now (next_step target old) ≡ link =
     ap (relaying_after old.link now) step_is
@@ -126,7 +131,7 @@ select_goes laws target now check entry old selected commands low can g =
     let opens : old.link.master.is_open ≡ true = (and_parts old.link.master.is_open (is_none old.link.master.request) can.idle).0 in
     let book_is : selected.book ≡ old.book = g.told ∙ ap (ledger_after old.book) step_is in
     let found : found_in selected.book.entries entry.id ≡ Some entry =
-    ap (λ (b : Ledger). found_in b.entries entry.id) book_is ∙ next_found old.book.entries target entry can.sound.rising can.sound.from_1 can.next in
+    ap (λ (b : Ledger). found_in b.entries entry.id) book_is ∙ can.found in
     record { none = sel.none; comes = by link refl opens unmoved sel.sends.asked found (check == success) refl }
   where
     by : (link : Relaying) → link.progress ≡ Some (record { id = entry.id; command = entry.command; stage = stage.Selecting })
@@ -134,7 +139,7 @@ select_goes laws target now check entry old selected commands low can g =
         → WasAsked (request_octets (request_for old.link.master.seq (task.Select entry.command))) selected.station.core
         → found_in selected.book.entries entry.id ≡ Some entry → (b : Bool) → (check == success) ≡ b → SelectComesTo target check entry selected
     by link progress opens unmoved asked found true e =
-        Stands (eqb-true check 0 e) (stands entry selected link old.link.master.seq check unmoved.same progress opens e found can.widths asked unmoved.are)
+        Stands (eqb-true check 0 e) old.link.master.seq asked (stands entry selected link old.link.master.seq check unmoved.same progress opens e found can.widths asked unmoved.are)
     by link progress opens unmoved asked found false e =
         let next : next_step target selected ≡ Finishes entry.id check = told_next target entry selected link check unmoved.same progress opens e in
         Refused (eqb-false check 0 e) next
@@ -146,10 +151,6 @@ select_goes laws target now check entry old selected commands low can g =
 pub second_step : SameLaw → (target : ℕ) (entry : Entry) (ends : Ends) → HasSelected entry ends → next_step target ends ≡ Operates entry.id entry.command
 second_step same target entry ends has = rw (has.idle, has.progress) (rw has.selected (rw (same entry.command) refl))
 
--- it was another request
-not_select : (seq number : ℕ) (command : Command) → request_as seq function.Operate command ≢ request_octets (request_for number (task.Select command))
-not_select seq number command e = let codes : 4 ≡ 3 = ap (λ (xs : List ℕ). slice_index xs 1) e in omega (arith, codes)
-
 finishing : (target : ℕ) (entry : Entry) (ends : Ends) (r : Relaying) (status : ℕ) → ends.link ≡ heard_status r (task.Operate entry.command) status
     → r.progress ≡ Some (record { id = entry.id; command = entry.command; stage = stage.Operating }) → r.master.is_open ≡ true
     → next_step target ends ≡ Finishes entry.id status
@@ -158,7 +159,7 @@ finishing target entry ends r status link_is progress opens =
 
 pub operate_goes : ControlLaws → (target now check : ℕ) (entry : Entry) (selected operated : Ends) (commands : List Command) → check < 128
     → HasSelected entry selected → GoesOver target now (ChecksAs entry.command check) commands selected operated
-    → OperateComesTo target entry commands operated
+    → OperateComesTo target check entry commands operated
 operate_goes laws target now check entry selected operated commands low has g =
     let c : Command = entry.command in
     let seq : ℕ = selected.link.master.seq in
@@ -172,9 +173,8 @@ operate_goes laws target now check entry selected operated commands low has g =
     (asked_is selected.link.master now (task.Operate c) has.idle follows refl) in
     let fragments_are : selected.going ++ requests_of (next_step target selected) seq ≡ selected.going ++ q ∷ [] =
     ap (λ (s : Step). selected.going ++ requests_of s seq) step_is in
-    let op : Operated c seq operated.station g.sent commands =
-    operate_comes laws now seq check c (request_octets (request_for has.seq (task.Select c))) selected.going selected.station operated.station g.sent commands
-    has.number has.widths low has.confirms has.asked (not_select seq has.seq c)
+    let op : Operated c seq check operated.station g.sent commands =
+    operate_comes laws now seq check c selected.going selected.station operated.station g.sent commands has.number has.widths low has.confirms has.new
     (subst (λ (xs : List (List ℕ)). AnswersAll now (ChecksAs c check) xs selected.station operated.station g.sent commands) fragments_are g.answered) in
     let heard : HearsAll now (op.sends.before ++ op.sends.response ∷ op.sends.behind) link operated.link operated.going =
     subst (λ (xs : List (List ℕ)). HearsAll now xs link operated.link operated.going) op.sends.is
@@ -190,7 +190,53 @@ operate_goes laws target now check entry selected operated commands low has g =
     record {
       status = op.status;
       performs = op.those;
+      checks = op.checks;
       next = next;
       told = ap (λ (s : Step). status_at (ledger_after operated.book s) entry.id) next
           ∙ status_told operated.book entry.id (put Spent entry) op.status found;
+      seq = seq;
+      asked = op.sends.asked;
+      confirms = unmoved.are;
     }
+
+-- ---- what became of it
+
+-- a step that the book takes, and that leaves it alone
+pub record LeavesBook (book : Ledger) (step : Step) : Type 0 where
+  pub same : ledger_after book step ≡ book
+  pub taken : IsRefused book.entries step → ⊥
+
+-- as each step does of a link without a control in progress
+pub free_leaves : (book : Ledger) (r : Relaying) (target : ℕ) → r.progress ≡ None → LeavesBook book (step_of r book.entries target)
+free_leaves book r target none = by (is_idle r.master)
+  where
+    of_entry : (o : Option Entry) → LeavesBook book (step_of_entry o)
+    of_entry None = record { same = refl; taken = λ refused. refused }
+    of_entry (Some e) = record { same = refl; taken = λ refused. refused }
+
+    by : (b : Bool) → LeavesBook book (if b then step_by r.progress r.master.selected book.entries target else Waits)
+    by true = rw none (of_entry (next_of book.entries target))
+    by false = record { same = refl; taken = λ refused. refused }
+
+pub record Finishing (target : ℕ) (commands : List Command) (ends : Ends) : Type 0 where
+  pub none : commands ≡ []
+  pub leaves : LeavesBook ends.book (next_step target ends)
+
+pub finish_goes : (target now check : ℕ) (entry : Entry) (operates commands : List Command) (operated new : Ends)
+    → OperateComesTo target check entry operates operated → GoesOver target now (ChecksAs entry.command check) commands operated new
+    → Finishing target commands new
+finish_goes target now check entry operates commands operated new op g =
+    let seq : ℕ = operated.link.master.seq in
+    let fragments_are : operated.going ++ requests_of (next_step target operated) seq ≡ operated.going =
+    ap (λ (s : Step). operated.going ++ requests_of s seq) op.next ∙ append-nil operated.going in
+    let quiet : Quiet g.sent commands =
+    confirms_come now (ChecksAs entry.command check) (request_octets (request_for op.seq (task.Operate entry.command))) operated.going operated.station
+    new.station g.sent commands op.confirms op.asked
+    (subst (λ (xs : List (List ℕ)). AnswersAll now (ChecksAs entry.command check) xs operated.station new.station g.sent commands) fragments_are
+    g.answered) in
+    let link : Relaying = record operated.link { progress = None } in
+    let link_is : relaying_after operated.link now (next_step target operated) ≡ link = ap (relaying_after operated.link now) op.next in
+    let unmoved : Unmoved link new.link new.going =
+    hears_reports now g.sent link new.link new.going quiet.reports
+    (subst (λ (r : Relaying). HearsAll now g.sent r new.link new.going) link_is g.heard) in
+    record { none = quiet.none; leaves = free_leaves new.book new.link target (ap (λ (r : Relaying). r.progress) unmoved.same) }

@@ -1,6 +1,7 @@
 -- What an outstation answers to a SELECT and to an OPERATE, and what the confirm of an unsolicited response leaves alone.
 use Rattle.std.proofs.Common.{◌≡◌, ℕ, ◌<◌, ◌≤◌, Bool, true, false, ◌==◌, if◌then◌else◌, List, [], ◌∷◌, ◌++◌, Option, Some, None, Ok, refl, sym, ap, ◌∙◌, subst, arith}
 use Rattle.std.specs.Prelude.{nat_lt}
+use Rattle.std.proofs.lemmas.Bool.{eqb-false}
 use Rattle.std.proofs.lemmas.Bool.Decides.{nat_tests}
 use Rattle.dnp_objects.specs.Status.{success, too_many_objs}
 use Rattle.dnp_objects.specs.declared.command.Command.{Command}
@@ -51,7 +52,7 @@ answers_with law now seq command code octets x headers before performs low few a
       are_reports = end.are_reports;
       sends = end.sends;
       performed = end.performed ∙ performed;
-      asked = record { is_open = end.is_open ∙ opens; request = end.request ∙ request; holds_none = end.holds; number = end.number };
+      asked = record { is_open = end.is_open ∙ opens; request = end.request ∙ request; holds_none = ap holds_read end.last; number = end.number };
     }
 
 -- one command is not too many
@@ -100,28 +101,30 @@ select_answers laws law s o now seq command low widths opens number other some f
 
 -- ---- an OPERATE
 
--- what it comes to: its status, and the command where that is SUCCESS
-record CameTo (command : Command) (x : Outcome) : Type 0 where
+-- what it comes to: its status, and the command where that is SUCCESS, which the outputs have for it then
+record CameTo (o : Panel) (command : Command) (x : Outcome) : Type 0 where
   code : ℕ
   low : code < 128
+  checks : code ≡ success → o.check command ≡ success
   performs : x.performs ≡ operated_by code command
   said : x.code command ≡ code
 
 came_to : (code : ℕ) (o : Panel) (command : Command) → code < 128 → o.check command < 128 → 1 ≤ o.most
-    → CameTo command (operates_by code o (command ∷ []))
+    → CameTo o command (operates_by code o (command ∷ []))
 came_to code o command low few some = by (code == success) refl
   where
     accepted_is : (b : Bool) → (o.check command == success) ≡ b → (if b then command ∷ [] else []) ≡ operated_by (o.check command) command
     accepted_is b e = ap (λ (x : Bool). if x then command ∷ [] else []) (sym e)
 
-    by : (b : Bool) → (code == success) ≡ b → CameTo command (operates_by code o (command ∷ []))
+    by : (b : Bool) → (code == success) ≡ b → CameTo o command (operates_by code o (command ∷ []))
     by true e = rw e (record {
       code = o.check command;
       low = few;
+      checks = λ good. good;
       performs = rw (one_fits o command some) refl;
       said = ap (λ (f : Command → ℕ). f command) (check_is o command some);
     })
-    by false e = rw e (record { code = code; low = low; performs = rw e refl; said = refl })
+    by false e = rw e (record { code = code; low = low; checks = λ good. absurd (eqb-false code 0 e good); performs = rw e refl; said = refl })
 
 answer_low : (select : Option Select) (now seq : ℕ) (octets : List ℕ) (time : ℕ) → answer select now seq octets time < 128
 answer_low None now seq octets time = omega arith
@@ -134,6 +137,7 @@ answer_low (Some select) now seq octets time = by (goes_with select seq octets) 
 
 pub record OperateFacts (s : State) (o : Panel) (now seq : ℕ) (command : Command) (octets : List ℕ) : Type 0 where
   pub code : ℕ
+  pub checks : code ≡ success → o.check command ≡ success
   pub answers : Answers command seq code octets s.performed (operated_by code command) (connection_after s o now octets)
   pub performs : performed_in s.core o now octets ≡ operated_by code command
 
@@ -160,7 +164,7 @@ operate_answers laws law s o now seq command low widths opens number other some 
     (ap (λ (cs : List Command). Ok (operates_selected select time o now q cs, headers)) (the_commands laws command widths)
     ∙ ap (λ (y : Outcome). Ok (y, headers)) by_answer)) in
     let content_is = carried t o now q x headers refl refl outcome_is in
-    let came : CameTo command x = came_to found o command (answer_low select now (number_in q) (objects_in q) time) few some in
+    let came : CameTo o command x = came_to found o command (answer_low select now (number_in q) (objects_in q) time) few some in
     let after : State = record (with_select t x.select) { performed = t.performed ++ x.performs } in
     let code_is : headers_with x.code headers ≡ order command came.code ∷ [] =
     order_repeated laws x.code command widths ∙ ap (λ (n : ℕ). order command n ∷ []) came.said in
@@ -170,6 +174,7 @@ operate_answers laws law s o now seq command low widths opens number other some 
     ∙ ap (λ (n : ℕ). at_end now (replied now n (answered after (plain 0 (headers_with x.code headers))))) (ap (λ c. c.seq) control_is) in
     record {
       code = came.code;
+      checks = came.checks;
       answers = subst (λ (step : Step). Answers command seq came.code q s.performed (operated_by came.code command) step) (sym step_is)
           (answers_with law now seq command came.code q after (headers_with x.code headers) s.performed (operated_by came.code command) low came.low code_is
           opens refl number (ap (λ (cs : List Command). s.performed ++ cs) came.performs));
@@ -188,7 +193,7 @@ settled octets before now step silent performed was =
       asked = record {
         is_open = end.is_open ∙ was.is_open;
         request = end.request ∙ was.request;
-        holds_none = end.holds ∙ was.holds_none;
+        holds_none = ap holds_read end.last ∙ was.holds_none;
         number = end.number;
       };
     }
@@ -214,8 +219,17 @@ unsolicited_settles s o now octets (Some w) was =
     (settled octets s.performed now (discarding s w.upto (still after)) refl refl
     (record { is_open = was.is_open; request = was.request; holds_none = was.holds_none; number = was.number }))
 
+-- the last request stays
+unsolicited_last : (s : State) (o : Panel) (now : ℕ) (u : Option Unsolicited) → holds_read s.core.session.last ≡ false → s.core.session.next < 16
+    → (at_end now (with_that s u (on_unsolicited_confirm s o now))).state.core.session.last ≡ s.core.session.last
+unsolicited_last s o now None free low = (end_keeps now (still s) low).last
+unsolicited_last s o now (Some w) free low =
+    let after : State = unsolicited_confirmed s w in
+    rw (held_none after o now s.core.session.last free) (end_keeps now (discarding s w.upto (still after)) low).last
+
 pub record ConfirmFacts (s : State) (o : Panel) (now : ℕ) (last octets : List ℕ) : Type 0 where
   pub leaves : LeavesRequest last s.performed (connection_after s o now octets)
+  pub last_is : (connection_after s o now octets).state.core.session.last ≡ s.core.session.last
   pub performs : performed_in s.core o now octets ≡ []
 
 pub confirm_leaves : (s : State) (o : Panel) (now seq : ℕ) (octets : List ℕ) → seq < 16 → WasAsked octets s.core
@@ -236,6 +250,8 @@ confirm_leaves s o now seq octets low was =
         record {
           leaves = subst (LeavesRequest octets s.performed) (sym (ap (received s o now q) case_is))
               (unsolicited_settles s o now octets s.core.session.unsolicited was);
+          last_is = ap (λ (step : Step). step.state.core.session.last) (ap (received s o now q) case_is)
+              ∙ unsolicited_last s o now s.core.session.unsolicited was.holds_none was.number;
           performs = ap (performed_for s.core o now q) case_is;
         }
     by looked_is uns_is false e =
@@ -244,5 +260,6 @@ confirm_leaves s o now seq octets low was =
         record {
           leaves = subst (LeavesRequest octets s.performed) (sym (ap (received s o now q) case_is))
               (settled octets s.performed now (still s) refl refl was);
+          last_is = ap (λ (step : Step). step.state.core.session.last) (ap (received s o now q) case_is) ∙ (end_keeps now (still s) was.number).last;
           performs = ap (performed_for s.core o now q) case_is;
         }

@@ -22,7 +22,7 @@ use Rattle.dnp_outstation.specs.Connection.{at_end, case_of, control_in, functio
 use Rattle.dnp_outstation.specs.Content.{Content, content_from}
 use Rattle.dnp_outstation.specs.Controls.{commands_in, headers_with, object_in, with_status}
 use Rattle.dnp_outstation.specs.Offer.{pushed}
-use Rattle.dnp_outstation.specs.State.{Core, State, Step, holds_read, is_free}
+use Rattle.dnp_outstation.specs.State.{Core, State, Step, is_free}
 use Rattle.dnp_outstation.specs.declared.case.Case.TheVariants.{Asks}
 use Rattle.dnp_world.specs.CommandWidths.{HasWidths}
 use Rattle.dnp_world.specs.ControlAnswers.{AreReports, Repeats}
@@ -135,7 +135,7 @@ pub record EndKeeps (before after : Step) : Type 0 where
   pub performed : after.state.performed ≡ before.state.performed
   pub is_open : after.state.core.is_open ≡ before.state.core.is_open
   pub request : after.state.core.session.request ≡ before.state.core.session.request
-  pub holds : holds_read after.state.core.session.last ≡ holds_read before.state.core.session.last
+  pub last : after.state.core.session.last ≡ before.state.core.session.last
   pub number : after.state.core.session.next < 16
 
 -- an unsolicited response has UNS set
@@ -154,7 +154,7 @@ starting_keeps now step content low = record {
   performed = refl;
   is_open = refl;
   request = refl;
-  holds = refl;
+  last = refl;
   number = omega arith;
 }
 
@@ -166,7 +166,7 @@ staying_keeps step low = record {
   performed = refl;
   is_open = refl;
   request = refl;
-  holds = refl;
+  last = refl;
   number = low;
 }
 

@@ -4,6 +4,7 @@ use Rattle.std.specs.Prelude.{IfSome, ◌≢◌, bytes_eq, is_some, option_to_li
 use Rattle.std.specs.List.{All}
 use Rattle.std.proofs.lemmas.List.Elements.{All-nil, All-cons, All-append, All-head, All-tail}
 use Rattle.std.proofs.lemmas.Slice.Eq.{bytes_eq-Decides}
+use Rattle.dnp_appfragment.specs.Fragments.{confirmation, request_octets}
 use Rattle.dnp_appfragment.specs.declared.function.Function.TheVariants as function
 use Rattle.dnp_concentrator.specs.Relaying as relaying
 use Rattle.dnp_concentrator.specs.Relaying.{Relaying, progress_heard}
@@ -16,12 +17,15 @@ use Rattle.dnp_master.specs.declared.outcome.Echo.TheVariants as echo
 use Rattle.dnp_master.specs.declared.outcome.Outcome.{Outcome}
 use Rattle.dnp_master.specs.declared.outcome.Outcome.TheVariants as outcome
 use Rattle.dnp_master.specs.declared.task.Task.{Task}
+use Rattle.dnp_objects.specs.Status.{success}
 use Rattle.dnp_objects.specs.declared.command.Command.{Command}
+use Rattle.dnp_controls.specs.Panel.{Panel}
 use Rattle.dnp_outstation.specs.Calls.{connection_after, performed_in}
 use Rattle.dnp_outstation.specs.Connection.{is_last_request}
 use Rattle.dnp_outstation.specs.State.{Core, State}
+use Rattle.dnp_outstation.specs.declared.session.LastRequest.{LastRequest}
 use Rattle.dnp_world.specs.CommandWidths.{HasWidths}
-use Rattle.dnp_world.specs.ControlAnswers.{AreReports, Awaits, ConfirmsReport, HearsStatus, PassesReport, Repeats, WasAsked, operated_by}
+use Rattle.dnp_world.specs.ControlAnswers.{AreReports, Awaits, ConfirmsReport, HearsStatus, IsNewTo, PassesReport, Repeats, WasAsked, operated_by}
 use Rattle.dnp_world.specs.ControlExchanges.{AnswersAll, ChecksAs, Hears, HearsAll}
 use Rattle.dnp_world.specs.Octets.{after, uns_in}
 use Rattle.dnp_world.proofs.CommandRequests.{ReadLaws}
@@ -96,7 +100,7 @@ select_comes laws now seq status command s new sent commands low widths few open
     }
 
 -- other octets than those asked last
-other_asked : (c : Core) (octets last : List ℕ) → WasAsked last c → octets ≢ last → is_last_request c.session octets ≡ false
+pub other_asked : (c : Core) (octets last : List ℕ) → WasAsked last c → octets ≢ last → is_last_request c.session octets ≡ false
 other_asked c octets last was differs = by (is_some c.session.last) (bytes_eq octets c.session.request) refl
   where
     by : (a b : Bool) → bytes_eq octets c.session.request ≡ b → (a && b) ≡ false
@@ -104,24 +108,49 @@ other_asked c octets last was differs = by (is_some c.session.last) (bytes_eq oc
     by true false is = refl
     by true true is = absurd (differs ((bytes_eq-Decides octets c.session.request).0 is ∙ was.request))
 
-pub record Operated (command : Command) (seq : ℕ) (new : State) (sent : List (List ℕ)) (commands : List Command) : Type 0 where
+-- a core that is the same takes them for new, too
+is_new : (octets : List ℕ) (c d : Core) → d ≡ c → IsNewTo octets c → IsNewTo octets d
+is_new octets c d e new = subst (IsNewTo octets) (sym e) new
+
+-- octets that are new stay so behind the confirm of a report
+pub stays_new : (s : State) (o : Panel) (now number : ℕ) (octets : List ℕ) → number < 16 → IsNewTo octets s.core
+    → IsNewTo octets (connection_after s o now (request_octets (confirmation number true))).state.core
+stays_new s o now number octets four new =
+    let last : List ℕ = s.core.session.request in
+    let q : List ℕ = request_octets (confirmation number true) in
+    let facts : ConfirmFacts s o now last q =
+    confirm_leaves s o now number last four
+    (record { is_open = new.is_open; request = refl; holds_none = new.holds_none; number = new.number }) in
+    let after : Core = (connection_after s o now q).state.core in
+    let asked : WasAsked last after = facts.leaves.asked in
+    record {
+      is_open = asked.is_open;
+      other = ap (λ (x : Option LastRequest). is_some x && bytes_eq octets after.session.request) facts.last_is
+          ∙ ap (λ (xs : List ℕ). is_some s.core.session.last && bytes_eq octets xs) asked.request
+          ∙ new.other;
+      holds_none = asked.holds_none;
+      number = asked.number;
+    }
+
+pub record Operated (command : Command) (seq check : ℕ) (new : State) (sent : List (List ℕ)) (commands : List Command) : Type 0 where
   pub status : ℕ
+  pub checks : status ≡ success → check ≡ success
   pub sends : Sent command seq status (asking seq function.Operate command) new sent
   pub those : commands ≡ operated_by status command
 
-operate_arrives : ControlLaws → (now seq status : ℕ) (command : Command) (last : List ℕ) (s new : State) (sent : List (List ℕ)) (commands : List Command)
-    → seq < 16 → HasWidths command → status < 128 → WasAsked last s.core → asking seq function.Operate command ≢ last
+operate_arrives : ControlLaws → (now seq status : ℕ) (command : Command) (s new : State) (sent : List (List ℕ)) (commands : List Command)
+    → seq < 16 → HasWidths command → status < 128 → IsNewTo (asking seq function.Operate command) s.core
     → AnswersAll now (ChecksAs command status) (asking seq function.Operate command ∷ []) s new sent commands
-    → Operated command seq new sent commands
-operate_arrives laws now seq status command last s new sent commands low widths few was differs
+    → Operated command seq status new sent commands
+operate_arrives laws now seq status command s new sent commands low widths few is
     (o, next, later, more, checks, core_is, sent_is, commands_is, (new_is, later_is, more_is)) =
     let q : List ℕ = asking seq function.Operate command in
     let facts : OperateFacts s o now seq command q =
-    operate_answers laws.reads laws.response s o now seq command low widths was.is_open was.number (other_asked s.core q last was differs) checks.some
-    (rw checks.check few) in
+    operate_answers laws.reads laws.response s o now seq command low widths is.is_open is.number is.other checks.some (rw checks.check few) in
     let a = facts.answers in
     record {
       status = facts.code;
+      checks = λ good. sym checks.check ∙ facts.checks good;
       sends = record {
         before = [];
         response = a.response;
@@ -137,10 +166,11 @@ operate_arrives laws now seq status command last s new sent commands low widths 
     }
 
 -- reports go in front of what is sent
-sent_behind : (command : Command) (seq : ℕ) (new : State) (first later sent : List (List ℕ)) (none more commands : List Command) → AreReports first
-    → sent ≡ first ++ later → none ≡ [] → commands ≡ none ++ more → Operated command seq new later more → Operated command seq new sent commands
-sent_behind command seq new first later sent none more commands reports sent_is none_is commands_is h = record {
+sent_behind : (command : Command) (seq check : ℕ) (new : State) (first later sent : List (List ℕ)) (none more commands : List Command) → AreReports first
+    → sent ≡ first ++ later → none ≡ [] → commands ≡ none ++ more → Operated command seq check new later more → Operated command seq check new sent commands
+sent_behind command seq check new first later sent none more commands reports sent_is none_is commands_is h = record {
   status = h.status;
+  checks = h.checks;
   sends = record {
     before = first ++ h.sends.before;
     response = h.sends.response;
@@ -157,23 +187,50 @@ sent_behind command seq new first later sent none more commands reports sent_is 
 }
 
 -- an OPERATE comes behind confirms of reports
-pub operate_comes : ControlLaws → (now seq status : ℕ) (command : Command) (last : List ℕ) (going : List (List ℕ)) (s new : State) (sent : List (List ℕ))
-    (commands : List Command) → seq < 16 → HasWidths command → status < 128 → AreConfirms going → WasAsked last s.core
-    → asking seq function.Operate command ≢ last
+pub operate_comes : ControlLaws → (now seq status : ℕ) (command : Command) (going : List (List ℕ)) (s new : State) (sent : List (List ℕ))
+    (commands : List Command) → seq < 16 → HasWidths command → status < 128 → AreConfirms going → IsNewTo (asking seq function.Operate command) s.core
     → AnswersAll now (ChecksAs command status) (going ++ asking seq function.Operate command ∷ []) s new sent commands
-    → Operated command seq new sent commands
-operate_comes laws now seq status command last [] s new sent commands low widths few confirms was differs all =
-    operate_arrives laws now seq status command last s new sent commands low widths few was differs all
-operate_comes laws now seq status command last (f ∷ fs) s new sent commands low widths few confirms was differs
+    → Operated command seq status new sent commands
+operate_comes laws now seq status command [] s new sent commands low widths few confirms is all =
+    operate_arrives laws now seq status command s new sent commands low widths few is all
+operate_comes laws now seq status command (f ∷ fs) s new sent commands low widths few confirms is
+    (o, next, later, more, checks, core_is, sent_is, commands_is, rest) =
+    let (number, four, f_is) = All-head ConfirmsReport f fs confirms in
+    let q : List ℕ = asking seq function.Operate command in
+    let last : List ℕ = s.core.session.request in
+    let facts : ConfirmFacts s o now last f =
+    subst (ConfirmFacts s o now last) (sym f_is)
+    (confirm_leaves s o now number last four (record { is_open = is.is_open; request = refl; holds_none = is.holds_none; number = is.number })) in
+    let stays : IsNewTo q (connection_after s o now f).state.core =
+    subst (λ (x : List ℕ). IsNewTo q (connection_after s o now x).state.core) (sym f_is) (stays_new s o now number q four is) in
+    let h : Operated command seq status new later more =
+    operate_comes laws now seq status command fs next new later more low widths few (All-tail ConfirmsReport f fs confirms)
+    (is_new q (connection_after s o now f).state.core next.core core_is stays) rest in
+    sent_behind command seq status new (connection_after s o now f).does.send later sent (performed_in s.core o now f) more commands facts.leaves.are_reports sent_is
+    facts.performs commands_is h
+
+-- confirms of reports perform nothing, and reports alone come of them
+pub record Quiet (sent : List (List ℕ)) (commands : List Command) : Type 0 where
+  pub none : commands ≡ []
+  pub reports : AreReports sent
+
+pub confirms_come : (now : ℕ) (IsOutputs : Panel → Type 0) (last : List ℕ) (going : List (List ℕ)) (s new : State) (sent : List (List ℕ))
+    (commands : List Command) → AreConfirms going → WasAsked last s.core → AnswersAll now IsOutputs going s new sent commands → Quiet sent commands
+confirms_come now IsOutputs last [] s new sent commands confirms was (new_is, sent_is, commands_is) =
+    record { none = commands_is; reports = subst AreReports (sym sent_is) no_reports }
+confirms_come now IsOutputs last (f ∷ fs) s new sent commands confirms was
     (o, next, later, more, checks, core_is, sent_is, commands_is, rest) =
     let (number, four, f_is) = All-head ConfirmsReport f fs confirms in
     let facts : ConfirmFacts s o now last f =
     subst (ConfirmFacts s o now last) (sym f_is) (confirm_leaves s o now number last four was) in
-    let h : Operated command seq new later more =
-    operate_comes laws now seq status command last fs next new later more low widths few (All-tail ConfirmsReport f fs confirms)
-    (was_asked last (connection_after s o now f).state.core next.core core_is facts.leaves.asked) differs rest in
-    sent_behind command seq new (connection_after s o now f).does.send later sent (performed_in s.core o now f) more commands facts.leaves.are_reports sent_is
-    facts.performs commands_is h
+    let h : Quiet later more =
+    confirms_come now IsOutputs last fs next new later more (All-tail ConfirmsReport f fs confirms)
+    (was_asked last (connection_after s o now f).state.core next.core core_is facts.leaves.asked) rest in
+    record {
+      none = commands_is ∙ ap (λ (xs : List Command). performed_in s.core o now f ++ xs) h.none ∙ append-nil (performed_in s.core o now f) ∙ facts.performs;
+      reports = subst AreReports (sym sent_is)
+          (All-append (λ (x : List ℕ). uns_in x ≡ true) (connection_after s o now f).does.send later facts.leaves.are_reports h.reports);
+    }
 
 -- ---- up
 

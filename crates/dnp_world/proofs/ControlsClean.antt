@@ -7,7 +7,7 @@ use Rattle.std.proofs.lemmas.List.Folds.{find-append}
 use Rattle.dnp_appfragment.specs.Fragments.{request_octets}
 use Rattle.dnp_concentrator.specs.BookOutputs.{can_relay, relay_check}
 use Rattle.dnp_concentrator.specs.Mapped.{command_below}
-use Rattle.dnp_concentrator.specs.Relaying.{Relaying}
+use Rattle.dnp_concentrator.specs.Relaying.{Relaying, step_of}
 use Rattle.dnp_concentrator.specs.declared.span.Spans.{Spans}
 use Rattle.dnp_controls.specs.Book.{Ledger, IsSound, added, is_pending, next_of}
 use Rattle.dnp_controls.specs.Latches.{can_perform, plain_check}
@@ -16,6 +16,8 @@ use Rattle.dnp_controls.specs.declared.book.State.TheVariants.{Pending}
 use Rattle.dnp_master.specs.Requests.{request_for}
 use Rattle.dnp_master.specs.State.{is_idle}
 use Rattle.dnp_master.specs.declared.task.Task.TheVariants as task
+use Rattle.dnp_objects.specs.Counts.{IsEqualityTest}
+use Rattle.dnp_objects.specs.Equality.{command_eq}
 use Rattle.dnp_objects.specs.Status.{success}
 use Rattle.dnp_objects.specs.declared.command.Command.{Command}
 use Rattle.dnp_outstation.specs.Connection.{is_last_request}
@@ -25,24 +27,24 @@ use Rattle.dnp_world.specs.Channels.{ChannelState, are_quiet}
 use Rattle.dnp_world.specs.CommandWidths.{HasWidths}
 use Rattle.dnp_world.specs.ControlExchanges.{CanBegin}
 use Rattle.dnp_world.specs.Controls.{is_entry, is_free_below, is_free_for, is_next, station_in}
-use Rattle.dnp_world.specs.ControlsInStep.{InStep}
 use Rattle.dnp_world.specs.Rounds.{is_quiet_at, is_quiet_on}
-use Rattle.dnp_world.specs.SystemStanding.{IsJoinedBelow, IsStanding, lists_of, seen_above, seen_below}
+use Rattle.dnp_world.specs.SystemStanding.{IsJoinedBelow, IsStanding, lists_of, seen_below}
 use Rattle.dnp_world.specs.Systems.{SubstationState, System, has_station, link_at}
 use Rattle.dnp_world.specs.declared.event.Link.{Link}
-use Rattle.dnp_world.specs.declared.event.Link.TheVariants.{Above, Below}
+use Rattle.dnp_world.specs.declared.event.Link.TheVariants.{Below}
 use Rattle.dnp_world.proofs.BelowKeeps.{some_of}
 use Rattle.dnp_world.proofs.ControlArrivals.{ControlLaws}
-use Rattle.dnp_world.proofs.ControlsAbove.{ArrivingLaws, ends_above}
+use Rattle.dnp_world.proofs.ControlBooks.{next_found}
+use Rattle.dnp_world.proofs.ControlsAbove.{ArrivingLaws}
 use Rattle.dnp_world.proofs.ControlsBelow.{PerformsLaw}
 use Rattle.dnp_world.proofs.ControlsOther.{other_select}
 use Rattle.dnp_world.proofs.ControlsToSubstations.{ends_below}
-use Rattle.dnp_world.proofs.RelaySteps.{next_has}
 use Rattle.dnp_world.proofs.StepBooks.{SoundLaw}
 
 -- what laws promise of a control that goes all the way
 pub record CleanLaws : Type 0 where
   pub controls : ControlLaws
+  pub decides : IsEqualityTest command_eq
   pub arriving : ArrivingLaws
   pub quiet : (on : Link) (s : System) → IsStanding s → is_quiet_on s on ≡ true → IsClearOn on s
   pub performs : PerformsLaw
@@ -87,6 +89,12 @@ next_above s id is =
     let (e, next, same) = next_entry (next_of s.centre.orders.entries 0) id parts.0 in
     record { entry = e; next = next; id_is = same }
 
+-- none is in progress above, or this one
+pub free_above : (s : System) (id : ℕ) → is_next s id ≡ true → is_free_for id s.centre.link.progress ≡ true
+free_above s id is =
+    let parts = and_parts (is_entry id (next_of s.centre.orders.entries 0)) (is_free_for id s.centre.link.progress && is_free_below s (station_in s id)) is in
+    (and_parts (is_free_for id s.centre.link.progress) (is_free_below s (station_in s id)) parts.1).0
+
 -- the concentrator is free for it
 pub free_below : (s : System) (id : ℕ) → is_next s id ≡ true → is_free_below s (station_in s id) ≡ true
 free_below s id is =
@@ -100,27 +108,6 @@ none_is (Some x) e = absurd (cc)
 pub none_mapped : {A B : Type 0} (f : A → B) (o : Option A) → is_none (option_map f o) ≡ true → o ≡ None
 none_mapped f None e = refl
 none_mapped f (Some x) e = absurd (cc)
-
--- ---- above
-
-pub above_begins : (s : System) (entry : Entry) → IsStanding s → InStep s → is_quiet_on s Above ≡ true → s.centre.link.progress ≡ None
-    → next_of s.centre.orders.entries 0 ≡ Some entry → CanBegin 0 entry (ends_above s [])
-above_begins s entry h steps quiet free next =
-    let parts = and_parts (is_idle s.centre.link.master) (is_quiet s.concentrator.core && are_quiet s.above) quiet in
-    let core = and_parts (is_quiet s.concentrator.core) (are_quiet s.above) parts.1 in
-    let opens : s.concentrator.core.is_open ≡ true = (and_parts s.concentrator.core.is_open (is_free s.concentrator.core) core.0).0 in
-    record {
-      idle = parts.0;
-      number = h.above.number;
-      free = free;
-      next = next;
-      sound = steps.orders;
-      widths = (next_has (λ (e : Entry). HasWidths e.command) s.centre.orders.entries 0 entry steps.widths next).0;
-      is_open = opens;
-      reports = h.above.outstation.well.order.number;
-      other = other_select [] (seen_above s (lists_of h.links.above)) h.links.above entry.command h.above h.behind.above_stands parts.0 opens;
-      clear = refl;
-    }
 
 -- ---- below
 
@@ -152,9 +139,8 @@ below_begins old s station was entry h quiet there free links next sound widths 
     record {
       idle = rw link ends.0;
       number = rw link j.joined.number;
-      free = ap (λ (r : Relaying). r.progress) link ∙ free;
-      next = next;
-      sound = sound;
+      selects = ap (λ (r : Relaying). step_of r s.concentrator.controls.entries station) link ∙ rw (ends.0, free, next) refl;
+      found = next_found s.concentrator.controls.entries station entry sound.rising sound.from_1 next;
       widths = widths;
       is_open = opens;
       reports = j.joined.outstation.well.order.number;

@@ -15,7 +15,7 @@ use Rattle.dnp_world.specs.Arriving.{UnderWay}
 use Rattle.dnp_world.specs.CommandWidths.{HasWidths}
 use Rattle.dnp_world.specs.ControlExchanges.{status_at}
 use Rattle.dnp_world.specs.ControlMoves.{ControlMoves}
-use Rattle.dnp_world.specs.Controls.{AtCentre, AtConcentrator, CanGo, IsAccepted, IsControl, IsControlFor, IsRefusedControl, IsRefusedOn, are_quiet_for, found_in, is_free_below, next_below, station_in}
+use Rattle.dnp_world.specs.Controls.{AtCentre, AtConcentrator, CanGo, IsAccepted, IsControl, IsControlFor, IsRefusedControl, IsRefusedOn, are_quiet_for, found_in, is_free_below, is_free_for, next_below, station_in}
 use Rattle.dnp_world.specs.ControlsInStep.{InStep}
 use Rattle.dnp_world.specs.Rounds.{is_quiet_at, is_quiet_on}
 use Rattle.dnp_world.specs.SystemStanding.{IsStanding}
@@ -23,16 +23,18 @@ use Rattle.dnp_world.specs.Systems.{CentreState, History, SubstationState, Syste
 use Rattle.dnp_world.specs.declared.event.Link.TheVariants.{Above, Below}
 use Rattle.dnp_world.proofs.ControlBooks.{next_found as next_is_found}
 use Rattle.dnp_world.proofs.ControlsAbove.{AboveKeeps, KeptAbove, ends_above, over_above}
-use Rattle.dnp_world.proofs.ControlsAccepted.{Accepted, accepted_over, refused_over}
+use Rattle.dnp_world.proofs.ControlsAccepted.{Accepted, Begins, accepted_over}
 use Rattle.dnp_world.proofs.ControlsBelow.{KeptBelow}
-use Rattle.dnp_world.proofs.ControlsClean.{CleanLaws, above_begins, added_next, below_begins, free_below, next_above, none_is, none_mapped, plain_low, relay_low, relayed_some, same_lines, there_of}
+use Rattle.dnp_world.proofs.ControlsClean.{CleanLaws, added_next, below_begins, free_above, free_below, next_above, none_is, none_mapped, plain_low, relay_low, relayed_some, same_lines, there_of}
+use Rattle.dnp_world.proofs.ControlsRefused.{refused_over}
+use Rattle.dnp_world.proofs.ControlsStarting.{above_starts}
 use Rattle.dnp_world.proofs.ControlsToSubstations.{ends_below, over_below, under_has}
 use Rattle.dnp_world.proofs.RelaySteps.{next_has}
 use Rattle.dnp_world.proofs.RelayWidths.{below_fits}
 use Rattle.dnp_world.proofs.StepBooks.{added_carries, next_found}
 
-module _ (laws : CleanLaws) (old : System) (standing : IsStanding old) (steps : InStep old) (none : old.centre.link.progress ≡ None)
-    (entry : Entry) (next : next_of old.centre.orders.entries 0 ≡ Some entry) where
+module _ (laws : CleanLaws) (old : System) (standing : IsStanding old) (steps : InStep old) (entry : Entry)
+    (next : next_of old.centre.orders.entries 0 ≡ Some entry) (goes : is_free_for entry.id old.centre.link.progress ≡ true) where
   widths : HasWidths entry.command
   widths = (next_has (λ (e : Entry). HasWidths e.command) old.centre.orders.entries 0 entry steps.widths next).0
 
@@ -51,7 +53,7 @@ module _ (laws : CleanLaws) (old : System) (standing : IsStanding old) (steps : 
       accepted_over laws.controls Above 0 (relay_check old.indices entry.command) entry (over_above laws.arriving old.indices entry.id entry.command)
       (relay_low old.indices entry.command) old above (ends_above old [])
       (record { going = []; is = refl; under = laws.quiet Above old standing quiet; spans_are = standing.of_plan.middle_indices })
-      (above_begins old entry standing steps quiet none next) (next_found old.centre.orders.entries 0 entry steps.orders.rising next) pending a
+      (above_starts laws.decides old entry standing steps quiet next goes) (next_found old.centre.orders.entries 0 entry steps.orders.rising next) pending a
 
   -- what a status above ends has operated nothing
   above_rests : (new : System) (status : ℕ) → is_quiet_on old Above ≡ true → IsRefusedOn Above (Some entry.id) status old new
@@ -62,7 +64,7 @@ module _ (laws : CleanLaws) (old : System) (standing : IsStanding old) (steps : 
       refused_over laws.controls Above 0 (relay_check old.indices entry.command) entry (over_above laws.arriving old.indices entry.id entry.command)
       (relay_low old.indices entry.command) old new (ends_above old []) status
       (record { going = []; is = refl; under = laws.quiet Above old standing quiet; spans_are = standing.of_plan.middle_indices })
-      (above_begins old entry standing steps quiet none next) (next_found old.centre.orders.entries 0 entry steps.orders.rising next) pending refused in
+      (above_starts laws.decides old entry standing steps quiet next goes) (next_found old.centre.orders.entries 0 entry steps.orders.rising next) pending refused in
       ap (λ (h : History). h.operated) kept.keeps.history
 
   -- ---- below
@@ -120,9 +122,9 @@ module _ (laws : CleanLaws) (old : System) (standing : IsStanding old) (steps : 
           outputs_are = refl;
           setpoints_are = refl;
         })
-        (below_begins old above station was its standing quiet there free keeps.links its_next
+        (Begins (below_begins old above station was its standing quiet there free keeps.links its_next
         (subst (λ (b : Ledger). IsSound b) (sym controls) ((added_carries laws.sound old.concentrator.controls station command).sound steps.controls))
-        (below_fits old.indices entry.command (station, command) widths is))
+        (below_fits old.indices entry.command (station, command) widths is)))
         (next_found above.concentrator.controls.entries station its
         (subst (λ (b : Ledger). IsSound b) (sym controls) ((added_carries laws.sound old.concentrator.controls station command).sound steps.controls)).rising
         its_next) refl a
@@ -146,9 +148,9 @@ module _ (laws : CleanLaws) (old : System) (standing : IsStanding old) (steps : 
           outputs_are = refl;
           setpoints_are = refl;
         })
-        (below_begins old above station was its standing quiet there free keeps.links its_next
+        (Begins (below_begins old above station was its standing quiet there free keeps.links its_next
         (subst (λ (b : Ledger). IsSound b) (sym controls) ((added_carries laws.sound old.concentrator.controls station command).sound steps.controls))
-        (below_fits old.indices entry.command (station, command) widths is))
+        (below_fits old.indices entry.command (station, command) widths is)))
         (next_found above.concentrator.controls.entries station its
         (subst (λ (b : Ledger). IsSound b) (sym controls) ((added_carries laws.sound old.concentrator.controls station command).sound steps.controls)).rising
         its_next) refl (subst (λ (o : Option ℕ). IsRefusedOn (Below station) o status above new) its_id refused) in
@@ -237,16 +239,15 @@ module _ (laws : CleanLaws) (old : System) (standing : IsStanding old) (steps : 
           (subst (λ (x : Option ℕ). is_free_below old x ≡ true) (station_is (Some p) e) free)
           (subst (λ (x : Option ℕ). IsControlFor x entry.id old new) (station_is (Some p) e) control)
 
-pub clean_moves : CleanLaws → (id : ℕ) (old new : System) → IsStanding old → InStep old → old.centre.link.progress ≡ None
-    → CanGo id old → IsControl id old new → ControlMoves id old new
-clean_moves laws id old new standing steps none can control =
+pub clean_moves : CleanLaws → (id : ℕ) (old new : System) → IsStanding old → InStep old → CanGo id old → IsControl id old new → ControlMoves id old new
+clean_moves laws id old new standing steps can control =
     let n = next_above old id can.1 in
     subst (λ (i : ℕ). CanGo i old → IsControl i old new → ControlMoves i old new) n.id_is
-    (λ can control. clean_entry laws old standing steps none n.entry n.next new can.0 (free_below old n.entry.id can.1) control) can control
+    (λ can control. clean_entry laws old standing steps n.entry n.next (free_above old n.entry.id can.1) new can.0 (free_below old n.entry.id can.1) control) can control
 
-pub refused_rests : CleanLaws → (id status : ℕ) (old new : System) → IsStanding old → InStep old → old.centre.link.progress ≡ None → CanGo id old
+pub refused_rests : CleanLaws → (id status : ℕ) (old new : System) → IsStanding old → InStep old → CanGo id old
     → IsRefusedControl id status old new → new.history.operated ≡ old.history.operated
-refused_rests laws id status old new standing steps none can control =
+refused_rests laws id status old new standing steps can control =
     let n = next_above old id can.1 in
     subst (λ (i : ℕ). CanGo i old → IsRefusedControl i status old new → new.history.operated ≡ old.history.operated) n.id_is
-    (λ can control. refused_entry laws old standing steps none n.entry n.next new status can.0 (free_below old n.entry.id can.1) control) can control
+    (λ can control. refused_entry laws old standing steps n.entry n.next (free_above old n.entry.id can.1) new status can.0 (free_below old n.entry.id can.1) control) can control

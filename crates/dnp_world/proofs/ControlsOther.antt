@@ -7,6 +7,7 @@ use Rattle.dnp_appfragment.specs.Fragments.{request_octets}
 use Rattle.dnp_master.specs.Requests.{request_for}
 use Rattle.dnp_master.specs.State.{is_idle}
 use Rattle.dnp_master.specs.declared.request.OpenRequest.{OpenRequest}
+use Rattle.dnp_master.specs.declared.task.Task.{Task}
 use Rattle.dnp_master.specs.declared.task.Task.TheVariants as task
 use Rattle.dnp_objects.specs.declared.command.Command.{Command}
 use Rattle.dnp_objects.specs.declared.row.Row.{Row}
@@ -58,16 +59,18 @@ low_number : (octets : List ℕ) → seq_in octets < 16
 unfolding seq_in
 low_number octets = omega arith
 
-pub other_select : {Sink : Type 0} (others : List Row) (s : LinkState Sink) (l : Link) (command : Command) → Joined others s l → Stands l
+-- a request that isn't a READ
+other_request : {Sink : Type 0} (others : List Row) (s : LinkState Sink) (l : Link) (t : Task)
+    → (function_in (request_octets (request_for s.master.seq t)) ≡ 1 → ⊥) → Joined others s l → Stands l
     → is_idle s.master ≡ true → s.outstation.core.is_open ≡ true
-    → is_last_request s.outstation.core.session (request_octets (request_for s.master.seq (task.Select command))) ≡ false
-other_select others s l command j stands idle opens = by s.outstation.core.session.last refl
+    → is_last_request s.outstation.core.session (request_octets (request_for s.master.seq t)) ≡ false
+other_request others s l t is_no_read j stands idle opens = by s.outstation.core.session.last refl
   where
     session : Session
     session = s.outstation.core.session
 
     q : List ℕ
-    q = request_octets (request_for s.master.seq (task.Select command))
+    q = request_octets (request_for s.master.seq t)
 
     parts : (s.master.is_open ≡ true) × (is_none s.master.request ≡ true)
     parts = and_parts s.master.is_open (is_none s.master.request) idle
@@ -94,8 +97,7 @@ other_select others s l command j stands idle opens = by s.outstation.core.sessi
     read : (last : LastRequest) → session.last ≡ Some last → last.reply ≡ Further → q ≡ session.request → ⊥
     read last there further same =
         let more : has_more session.last ≡ true = ap has_more there ∙ ap (λ (r : Reply). has_more (Some (record last { reply = r }))) further ∙ either (is_some last.left) in
-        let code : 3 ≡ 1 = ap function_in same ∙ j.outstation.well.order.several more in
-        omega (arith, code)
+        is_no_read (ap function_in same ∙ j.outstation.well.order.several more)
       where
         either : (b : Bool) → (b || true) ≡ true
         either true = refl
@@ -106,7 +108,7 @@ other_select others s l command j stands idle opens = by s.outstation.core.sessi
     by_reply last there Held is reply same = let never : Idle ≡ Received session.request = sym agrees.0 ∙ reply in absurd (cc)
     by_reply last there Silent is reply same = let never : Idle ≡ Received session.request = sym agrees.0 ∙ reply in absurd (cc)
     by_reply last there (First f) is (octets, ids, seq, fin) same =
-        let own : seq_in q ≡ s.master.seq = asked_seq s.master.seq (task.Select command) j.number in
+        let own : seq_in q ≡ s.master.seq = asked_seq s.master.seq t j.number in
         follows_other (seq_of l.current) s.master.seq number (seq ∙ ap seq_in (sym same) ∙ own) (low_number l.current.octets)
     by_reply last there Further is reply same = read last there is same
 
@@ -115,3 +117,15 @@ other_select others s l command j stands idle opens = by s.outstation.core.sessi
     by (Some last) there =
         same_request session q last there
         (by_reply last there last.reply refl (replied last there))
+
+pub other_select : {Sink : Type 0} (others : List Row) (s : LinkState Sink) (l : Link) (command : Command) → Joined others s l → Stands l
+    → is_idle s.master ≡ true → s.outstation.core.is_open ≡ true
+    → is_last_request s.outstation.core.session (request_octets (request_for s.master.seq (task.Select command))) ≡ false
+other_select others s l command =
+    other_request others s l (task.Select command) (λ same. let code : 3 ≡ 1 = same in omega (arith, code))
+
+pub other_operate : {Sink : Type 0} (others : List Row) (s : LinkState Sink) (l : Link) (command : Command) → Joined others s l → Stands l
+    → is_idle s.master ≡ true → s.outstation.core.is_open ≡ true
+    → is_last_request s.outstation.core.session (request_octets (request_for s.master.seq (task.Operate command))) ≡ false
+other_operate others s l command =
+    other_request others s l (task.Operate command) (λ same. let code : 4 ≡ 1 = same in omega (arith, code))

@@ -132,5 +132,7 @@ mod ControlsAbove
 mod ControlsBelow
 mod ControlsToSubstations
 mod ControlsOther
+mod ControlsRefused
+mod ControlsStarting
 mod ControlsClean
 mod ControlsMoved

@@ -28,6 +28,14 @@ pub record WasAsked (octets : List ℕ) (c : Core) : Type 0 where
   pub holds_none : holds_read c.session.last ≡ false
   pub number : c.session.next < 16
 
+-- it is open and holds no READ, and these octets are another request than its last one; the number of its next unsolicited response has
+-- four bits
+pub record IsNewTo (octets : List ℕ) (c : Core) : Type 0 where
+  pub is_open : c.is_open ≡ true
+  pub other : is_last_request c.session octets ≡ false
+  pub holds_none : holds_read c.session.last ≡ false
+  pub number : c.session.next < 16
+
 -- it is open, these octets are another request than its last one, and its outputs may carry out a request of one command, for which
 -- they have a status
 pub record CanAnswer (octets : List ℕ) (command : Command) (s : State) (o : Panel) : Type 0 where

@@ -1,12 +1,12 @@
 -- Definition: what is sent over a link in whole fragments, from either end to the other, while a control goes over it (IEEE Std
 -- 1815-2012, application layer: requests, responses, confirms).
-use Rattle.std.specs.Prelude.{◌≡◌, ◌≢◌, ℕ, ◌<◌, ◌≤◌, true, false, List, [], ◌∷◌, ◌++◌, All, Option, None, Some, option_to_list, Result, Ok, Err}
+use Rattle.std.specs.Prelude.{◌≡◌, ◌≢◌, ℕ, ◌<◌, ◌≤◌, true, false, List, [], ◌∷◌, ◌++◌, All, Option, Some, option_to_list, Result, Ok, Err}
 use Rattle.std.specs.Option.{option_and_then}
 use Rattle.dnp_concentrator.specs.Relaying as relaying
 use Rattle.dnp_concentrator.specs.Relaying.{Relaying, Step}
 use Rattle.dnp_appfragment.specs.Fragments.{request_octets}
 use Rattle.dnp_concentrator.specs.declared.progress.Stage.TheVariants as stage
-use Rattle.dnp_controls.specs.Book.{Ledger, IsSound, next_of}
+use Rattle.dnp_controls.specs.Book.{Ledger}
 use Rattle.dnp_controls.specs.declared.book.Entry.{Entry}
 use Rattle.dnp_controls.specs.Panel.{Panel}
 use Rattle.dnp_master.specs.Calls.{Taking, receive_of}
@@ -20,7 +20,7 @@ use Rattle.dnp_objects.specs.Status.{success}
 use Rattle.dnp_outstation.specs.Connection.{is_last_request}
 use Rattle.dnp_outstation.specs.State.{State}
 use Rattle.dnp_world.specs.CommandWidths.{HasWidths}
-use Rattle.dnp_world.specs.ControlAnswers.{ConfirmsReport, WasAsked, operated_by}
+use Rattle.dnp_world.specs.ControlAnswers.{ConfirmsReport, IsNewTo, WasAsked, operated_by}
 use Rattle.dnp_world.specs.Controls.{found_in, status_in}
 use Rattle.dnp_world.specs.SystemEvents.{requests_of}
 
@@ -79,14 +79,13 @@ pub record GoesOver (target now : ℕ) (IsOutputs : Panel → Type 0) (commands 
 abbrev pub status_at : Ledger → ℕ → Option ℕ
 status_at book id = option_and_then (λ entry. status_in entry.state) (found_in book.entries id)
 
--- An idle master whose next control is this one, and none is in progress; and an open outstation that holds no READ, and was not
--- asked this very SELECT last. Nothing is on its way.
+-- An idle master whose next step is the SELECT of this control, which the book has; and an open outstation that was not asked this very
+-- SELECT last. Nothing is on its way.
 pub record CanBegin (target : ℕ) (entry : Entry) (ends : Ends) : Type 0 where
   pub idle : is_idle ends.link.master ≡ true
   pub number : ends.link.master.seq < 16
-  pub free : ends.link.progress ≡ None
-  pub next : next_of ends.book.entries target ≡ Some entry
-  pub sound : IsSound ends.book
+  pub selects : next_step target ends ≡ relaying.Selects entry.id entry.command
+  pub found : found_in ends.book.entries entry.id ≡ Some entry
   pub widths : HasWidths entry.command
   pub is_open : ends.station.core.is_open ≡ true
   pub reports : ends.station.core.session.next < 16
@@ -94,7 +93,7 @@ pub record CanBegin (target : ℕ) (entry : Entry) (ends : Ends) : Type 0 where
   pub clear : ends.going ≡ []
 
 -- Its SELECT was answered SUCCESS: it is in progress at an idle master, at which its command stands selected, and the book has it; the
--- outstation was asked that SELECT last. At most confirms of unsolicited responses are on their way.
+-- outstation was not asked this very OPERATE last. At most confirms of unsolicited responses are on their way.
 pub record HasSelected (entry : Entry) (ends : Ends) : Type 0 where
   pub idle : is_idle ends.link.master ≡ true
   pub number : ends.link.master.seq < 16
@@ -102,21 +101,26 @@ pub record HasSelected (entry : Entry) (ends : Ends) : Type 0 where
   pub selected : ends.link.master.selected ≡ Some entry.command
   pub found : found_in ends.book.entries entry.id ≡ Some entry
   pub widths : HasWidths entry.command
-  pub seq : ℕ
-  pub asked : WasAsked (request_octets (request_for seq (task.Select entry.command))) ends.station.core
+  pub new : IsNewTo (request_octets (request_for ends.link.master.seq (task.Operate entry.command))) ends.station.core
   pub confirms : All ConfirmsReport ends.going
 
--- What a SELECT comes to, where the outputs have this status for its command: it stands selected where that is SUCCESS, and else the
--- book is told the status next.
+-- What a SELECT comes to, where the outputs have this status for its command: it stands selected where that is SUCCESS, with the
+-- outstation asked it last, and else the book is told the status next.
 pub data SelectComesTo (target check : ℕ) (entry : Entry) (ends : Ends) : Type 0 where
-  Stands : check ≡ success → HasSelected entry ends → SelectComesTo target check entry ends
+  Stands : check ≡ success → (seq : ℕ) → WasAsked (request_octets (request_for seq (task.Select entry.command))) ends.station.core
+      → HasSelected entry ends → SelectComesTo target check entry ends
   Refused : check ≢ success → next_step target ends ≡ relaying.Finishes entry.id check
       → status_at (told_to target ends) entry.id ≡ Some check → SelectComesTo target check entry ends
 
 -- What an OPERATE comes to: it was answered with this status, which the book is told next, and performed its command where that is
--- SUCCESS.
-pub record OperateComesTo (target : ℕ) (entry : Entry) (commands : List Command) (ends : Ends) : Type 0 where
+-- SUCCESS, as the outputs have it for the command then. The outstation was asked it last, and at most confirms of unsolicited responses
+-- are on their way.
+pub record OperateComesTo (target check : ℕ) (entry : Entry) (commands : List Command) (ends : Ends) : Type 0 where
   pub status : ℕ
   pub performs : commands ≡ operated_by status entry.command
+  pub checks : status ≡ success → check ≡ success
   pub next : next_step target ends ≡ relaying.Finishes entry.id status
   pub told : status_at (told_to target ends) entry.id ≡ Some status
+  pub seq : ℕ
+  pub asked : WasAsked (request_octets (request_for seq (task.Operate entry.command))) ends.station.core
+  pub confirms : All ConfirmsReport ends.going

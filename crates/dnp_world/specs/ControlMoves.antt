@@ -1,6 +1,6 @@
 -- Definition: what a control that went all the way has moved: its command was performed once, and both books say so (IEEE Std
 -- 1815-2012, application layer: SELECT and OPERATE).
-use Rattle.std.specs.Prelude.{◌≡◌, ℕ, ◌+◌, [], ◌∷◌, ◌++◌, Option, Some, None}
+use Rattle.std.specs.Prelude.{◌≡◌, ℕ, ◌+◌, [], ◌∷◌, ◌++◌, Option, Some}
 use Rattle.std.specs.Option.{option_and_then}
 use Rattle.dnp_concentrator.specs.Mapped.{command_below}
 use Rattle.dnp_objects.specs.Status.{success}
@@ -22,7 +22,3 @@ pub record ControlMoves (id : ℕ) (old new : System) : Type 0 where
   pub operated : new.history.operated ≡ old.history.operated ++ (station, command) ∷ []
   pub above : status_on new Above (Some id) ≡ Some success
   pub below : status_on new (Below station) (Some (old.concentrator.controls.last_id + 1)) ≡ Some success
-
--- no control is in progress above
-abbrev pub IsFreeAbove : System → Type 0
-IsFreeAbove s = s.centre.link.progress ≡ None

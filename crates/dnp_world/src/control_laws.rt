@@ -18,7 +18,7 @@ ghost use Rattle.dnp_world.specs.CommandWidths.{HasWidths};
 ghost use Rattle.dnp_world.specs.ControlAnswers.{Answers, Awaits, CanAnswer, HearsStatus, LeavesRequest, PassesReport, Repeats, WasAsked, operated_by};
 ghost use Rattle.dnp_world.specs.Controls.{CanGo, IsControl, IsRefusedControl};
 ghost use Rattle.dnp_world.specs.ControlsInStep.{InStep};
-ghost use Rattle.dnp_world.specs.ControlMoves.{ControlMoves, IsFreeAbove};
+ghost use Rattle.dnp_world.specs.ControlMoves.{ControlMoves};
 ghost use Rattle.dnp_world.specs.SystemStanding.{IsStanding};
 ghost use Rattle.dnp_world.specs.ControlExchanges.{CanBegin, ChecksAs, Ends, GoesOver, HasSelected, OperateComesTo, SelectComesTo};
 ghost use Rattle.dnp_world.specs.Octets.{uns_in};
@@ -105,7 +105,7 @@ pub fn an_accepted_control_operates()
         → (commands ≡ []) × SelectComesTo target check entry selected }
     ensures operates { (target now check : ℕ) (entry : EntryValue) (selected operated : Ends) (commands : List CommandValue) → check < 128
         → HasSelected entry selected → GoesOver target now (ChecksAs entry.command check) commands selected operated
-        → OperateComesTo target entry commands operated }
+        → OperateComesTo target check entry commands operated }
 {
     a_header_holds_what_was_put();
     what_is_held_is_read();
@@ -114,13 +114,13 @@ pub fn an_accepted_control_operates()
     equality_is_decided::<u64, Command>();
 }
 
-/// A control that goes all the way from a system whose links are quiet, where it comes next and none is in progress above, has moved its
-/// command: the substation that it is for has performed it, once, and both books say SUCCESS of it. One that a status ends has operated
-/// nothing.
+/// A control that goes all the way from a system whose links are quiet, where it comes next, has moved its command, whether or not it was
+/// in progress above: the substation that it is for has performed it, once, and both books say SUCCESS of it. One that a status
+/// ends has operated nothing.
 pub fn a_clean_control_operates()
-    ensures moves { (id : ℕ) (old new : System) → IsStanding old → InStep old → IsFreeAbove old → CanGo id old
+    ensures moves { (id : ℕ) (old new : System) → IsStanding old → InStep old → CanGo id old
         → IsControl id old new → ControlMoves id old new }
-    ensures rests { (id status : ℕ) (old new : System) → IsStanding old → InStep old → IsFreeAbove old → CanGo id old
+    ensures rests { (id status : ℕ) (old new : System) → IsStanding old → InStep old → CanGo id old
         → IsRefusedControl id status old new → new.history.operated ≡ old.history.operated }
 {
     a_header_holds_what_was_put();

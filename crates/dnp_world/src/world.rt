@@ -10,7 +10,7 @@ ghost use Rattle.dnp_world.specs.NewSystems.{AreEmpty};
 ghost use Rattle.dnp_world.specs.Opening.{OpensQuiet};
 ghost use Rattle.dnp_world.specs.ReportShown.{Shows, lists_of};
 ghost use Rattle.dnp_world.specs.Reports.{Holds, IsFate};
-ghost use Rattle.dnp_world.specs.ControlMoves.{ControlMoves, IsFreeAbove};
+ghost use Rattle.dnp_world.specs.ControlMoves.{ControlMoves};
 ghost use Rattle.dnp_world.specs.Controls.{ControlEnds};
 ghost use Rattle.dnp_world.specs.Rounds.{IsOfRound, IsRound, StopsIn, is_quiet_on};
 ghost use Rattle.dnp_world.specs.Shown.{StoresAreWell};
@@ -187,13 +187,13 @@ impl<Q: Lanes, J: JournalStore, A: Book, B: Book> World<Q, J, A, B> {
     /// next one, or one that another is before, at the centre or at the concentrator (`NotNext`). A status other than
     /// SUCCESS ends it (`Refused`), and so does an event that stops (`Fault`): the events before that happened.
     ///
-    /// Where no control was in progress above, the substation has performed it, once, and both books say SUCCESS if it is done; and
-    /// where a status ends it no substation has performed anything.
+    /// So the substation has performed it, once, and both books say SUCCESS if it is done; and where a status ends it no substation has
+    /// performed anything.
     pub fn clean_control(&mut self, alloc: Global, id: u64) -> Result<(), ControlFault>
         ensures held { StoresAreWell Q.honest J.honest A.honest A.is_stopped B.honest B.is_stopped self.new.stores → StoresAreWell Q.honest J.honest A.honest A.is_stopped B.honest B.is_stopped self.old.stores }
         ensures ends { StoresAreWell Q.honest J.honest A.honest A.is_stopped B.honest B.is_stopped self.new.stores → ControlEnds id self.old.system result self.new.system }
-        ensures operates { StoresAreWell Q.honest J.honest A.honest A.is_stopped B.honest B.is_stopped self.new.stores → IsFreeAbove self.old.system → OnOk result ∥ ControlMoves id self.old.system self.new.system ∥₁ }
-        ensures rests { StoresAreWell Q.honest J.honest A.honest A.is_stopped B.honest B.is_stopped self.new.stores → IsFreeAbove self.old.system → (status : ℕ) → result ≡ Err (ControlFault.Refused status) → self.new.system.history.operated ≡ self.old.system.history.operated }
+        ensures operates { StoresAreWell Q.honest J.honest A.honest A.is_stopped B.honest B.is_stopped self.new.stores → OnOk result ∥ ControlMoves id self.old.system self.new.system ∥₁ }
+        ensures rests { StoresAreWell Q.honest J.honest A.honest A.is_stopped B.honest B.is_stopped self.new.stores → (status : ℕ) → result ≡ Err (ControlFault.Refused status) → self.new.system.history.operated ≡ self.old.system.history.operated }
         ensures fate { StoresAreWell Q.honest J.honest A.honest A.is_stopped B.honest B.is_stopped self.new.stores → IsFate (λ i. []) (report_of self.old.system) (report_of self.new.system) }
         ensures holds { StoresAreWell Q.honest J.honest A.honest A.is_stopped B.honest B.is_stopped self.new.stores → Holds (report_of self.new.system) }
     {

@@ -35,6 +35,7 @@ controls_of c = record {
 laws_of : goal.After-commands_are_undone → CleanLaws
 laws_of c = record {
   controls = controls_of c;
+  decides = c.equality_is_decided.ensures.commands;
   arriving = record {
     asked = c.what_is_sent_arrives.ensures.asked;
     down = c.what_is_sent_arrives.ensures.down;

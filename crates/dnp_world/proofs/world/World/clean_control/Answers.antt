@@ -45,8 +45,8 @@ returns-clause-operates g c = λ well.
     let old = system c.self.inside.parts in
     let new = system c.clean_control.new.self in
     rw (← c.self.view_is)
-    (λ free. moved c.args.id old new c.clean_control.result (c.self.invariant (c.clean_control.ensures.held well))
-    (λ s. c.a_clean_control_operates.ensures.moves c.args.id old new s.standing s.controls free) (c.clean_control.ensures.ends well))
+    (moved c.args.id old new c.clean_control.result (c.self.invariant (c.clean_control.ensures.held well))
+    (λ s. c.a_clean_control_operates.ensures.moves c.args.id old new s.standing s.controls) (c.clean_control.ensures.ends well))
 
 same_once : (xs ys : List (ℕ × Command)) → IsProp (xs ≡ ys)
 same_once xs ys = hlevel props
@@ -57,11 +57,11 @@ returns-clause-rests g c = λ well.
     let old = system c.self.inside.parts in
     let new = system c.clean_control.new.self in
     rw (← c.self.view_is)
-    (λ free status is.
+    (λ status is.
     let ends : ControlEnds c.args.id old (Err (control.Refused status)) new =
     subst (λ (r : Result ⊤ ControlFault). ControlEnds c.args.id old r new) is (c.clean_control.ensures.ends well) in
     ∥∥₁_elim (c.self.invariant (c.clean_control.ensures.held well)) (same_once new.history.operated old.history.operated)
-    (λ s. c.a_clean_control_operates.ensures.rests c.args.id status old new s.standing s.controls free ends.0 ends.1))
+    (λ s. c.a_clean_control_operates.ensures.rests c.args.id status old new s.standing s.controls ends.0 ends.1))
 
 pub returns-clause-holds : goal.returns-clause-holds
 returns-clause-holds g c = λ well.
