@@ -12,15 +12,9 @@ use Rattle.dnp_world.specs.declared.event.Link.{Link}
 use Rattle.dnp_world.specs.declared.event.Link.TheVariants.{Below, Above}
 use Rattle.dnp_world.specs.declared.link_event.Way.{Way}
 use Rattle.dnp_world.specs.declared.link_event.Way.TheVariants.{Down, Up}
-use Rattle.dnp_world.proofs.ListedAt.{set_here}
+use Rattle.dnp_world.proofs.ListedAt.{set_again, set_here}
 
 -- ---- lists
-
--- a place that was written can be written again
-pub set_again : {A : Type 0} (xs : List A) (i : ℕ) (a b : A) → slice_set (slice_set xs i a) i b ≡ slice_set xs i b
-set_again [] i a b = refl
-set_again (x ∷ xs) zero a b = refl
-set_again {A} (x ∷ xs) (suc i) a b = ap (λ (ys : List A). x ∷ ys) (set_again xs i a b)
 
 pub length_set : {A : Type 0} (xs : List A) (i : ℕ) (a : A) → length (slice_set xs i a) ≡ length xs
 length_set [] i a = refl
@@ -49,10 +43,6 @@ heard_at Up c line port = record c { up = line; master_port = port }
 pub line_heard : (way : Way) (c : ChannelState) (line : LineState) (port : PortState) → line_of way (heard_at way c line port) ≡ line
 line_heard Down c line port = refl
 line_heard Up c line port = refl
-
-pub receiver_heard : (way : Way) (c : ChannelState) (line : LineState) (port : PortState) → receiver_at way (heard_at way c line port) ≡ port
-receiver_heard Down c line port = refl
-receiver_heard Up c line port = refl
 
 pub heard_again : (way : Way) (c : ChannelState) (line line' : LineState) (port port' : PortState)
     → heard_at way (heard_at way c line port) line' port' ≡ heard_at way c line' port'

@@ -26,10 +26,10 @@ use Rattle.dnp_world.specs.declared.event.Link.TheVariants.{Below, Above}
 use Rattle.dnp_world.specs.declared.link_event.Way.{Way}
 use Rattle.dnp_world.specs.declared.link_event.Way.TheVariants.{Down, Up}
 use Rattle.dnp_world.proofs.ArrivingLines.{spelled_length}
-use Rattle.dnp_world.proofs.ArrivingLinks.{LinesGo, WentTo, heard_again, heard_at, line_heard, linked, lines_as, lines_both, lines_go, receiver_at, set_again}
+use Rattle.dnp_world.proofs.ArrivingLinks.{LinesGo, WentTo, heard_again, heard_at, line_heard, linked, lines_as, lines_both, lines_go, receiver_at}
 use Rattle.dnp_world.proofs.ArrivingPorts.{HasTaken, WillGive, cuts_will_give, delivered_from, has_taken, heard_front}
 use Rattle.dnp_world.proofs.BelowEvents.{no_performs}
-use Rattle.dnp_world.proofs.ListedAt.{set_here}
+use Rattle.dnp_world.proofs.ListedAt.{set_again, set_here}
 
 -- ---- one delivery
 

@@ -1,6 +1,6 @@
 -- What comes from a substation to the concentrator keeps what stands behind the system.
-use Rattle.std.proofs.Common.{◌≡◌, ℕ, zero, suc, ◌<◌, true, List, [], ◌∷◌, ◌++◌, length, Some, Result, Ok, Err, IfOk, refl, sym, ap, ◌∙◌, subst}
-use Rattle.std.specs.Prelude.{nat_lt, option_to_list, slice_get, slice_set, ⊤}
+use Rattle.std.proofs.Common.{◌≡◌, ℕ, ◌<◌, true, List, [], ◌∷◌, ◌++◌, length, Some, Result, Ok, Err, IfOk, refl, sym, ap, ◌∙◌, subst}
+use Rattle.std.specs.Prelude.{nat_lt, option_to_list, slice_get, ⊤}
 use Rattle.std.proofs.lemmas.Bool.{and_parts, ltb-true}
 use Rattle.std.proofs.lemmas.Option.{same_Some}
 use Rattle.dnp_concentrator.specs.Below.{link_in}
@@ -34,7 +34,7 @@ use Rattle.dnp_world.specs.SystemStanding.{RowLists, lists_of, no_sink, seen, se
 use Rattle.dnp_world.proofs.BelowEvents.{few_outputs, quiet, seen_at, shown_with}
 use Rattle.dnp_world.proofs.BelowKeeps.{Grounds}
 use Rattle.dnp_world.proofs.BelowTakes.{ArrivalLaws, queued_for, taken_with, takes_keep}
-use Rattle.dnp_world.proofs.ListedAt.{set_here}
+use Rattle.dnp_world.proofs.ListedAt.{set_again, set_here}
 use Rattle.dnp_world.proofs.TakenPlans.{IsMasterOf, master_there, receiving_keeps_plan}
 
 -- ---- the lines and the list of substations
@@ -46,12 +46,6 @@ heard_at left port s = record s { channel = record s.channel { up = left s.chann
 -- what makes an event of the link by itself of what comes up
 abbrev pub IsComing : (LineState → LineState) → LinkEvent → Type 0
 IsComing left e = (s s' : LinkState ⊤) (panel : Panel) → one.ComesUp no_sink (left s.up) s s' → HappensOn no_sink panel s e s'
-
--- a place that was written can be written again
-set_again : {A : Type 0} (xs : List A) (i : ℕ) (a b : A) → slice_set (slice_set xs i a) i b ≡ slice_set xs i b
-set_again [] i a b = refl
-set_again (x ∷ xs) zero a b = refl
-set_again {A} (x ∷ xs) (suc i) a b = ap (λ (ys : List A). x ∷ ys) (set_again xs i a b)
 
 has_link_to : (s : System) (station : ℕ) → has_station s station ≡ true → station < length s.concentrator.links
 has_link_to s station has =

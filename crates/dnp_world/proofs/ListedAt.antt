@@ -21,6 +21,12 @@ set_there (x ∷ xs) zero (suc j) is other = refl
 set_there (x ∷ xs) (suc i) zero is other = refl
 set_there (x ∷ xs) (suc i) (suc j) is other = set_there xs i j is (λ same. other (ap (λ (n : ℕ). suc n) same))
 
+-- a place that was written can be written again
+pub set_again : {A : Type 0} (xs : List A) (i : ℕ) (a b : A) → slice_set (slice_set xs i a) i b ≡ slice_set xs i b
+set_again [] i a b = refl
+set_again (x ∷ xs) zero a b = refl
+set_again {A} (x ∷ xs) (suc i) a b = ap (λ (ys : List A). x ∷ ys) (set_again xs i a b)
+
 -- ---- what one of them has
 
 abbrev pub things_at : {S A : Type 0} → (S → List A) → Option S → List A

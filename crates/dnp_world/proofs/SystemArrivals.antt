@@ -1,5 +1,5 @@
 -- What comes up the lines of a system.
-use Rattle.std.proofs.Common.{◌≡◌, ℕ, zero, suc, ◌<◌, true, length, List, [], ◌∷◌, ◌++◌, map, get_or, slice_set, Some, Result, Ok, Err, refl, sym, ap, ◌∙◌, subst, append-nil}
+use Rattle.std.proofs.Common.{◌≡◌, ℕ, ◌<◌, true, length, List, [], ◌∷◌, ◌++◌, map, get_or, slice_set, Some, Result, Ok, Err, refl, sym, ap, ◌∙◌, subst, append-nil}
 use Rattle.std.specs.Prelude.{slice_get}
 use Rattle.std.proofs.lemmas.List.{map-set}
 use Rattle.dnp_objects.specs.declared.row.Row.{Row}
@@ -14,6 +14,7 @@ use Rattle.dnp_world.specs.Systems.{CentreState, ConcentratorState, SubstationSt
 use Rattle.dnp_world.specs.declared.channel.Channel.{Channel}
 use Rattle.dnp_world.specs.declared.event.Link.TheVariants.{Above, Below}
 use Rattle.dnp_world.specs.declared.substation.Substation.{Substation}
+use Rattle.dnp_world.proofs.ListedAt.{set_again, set_here}
 use Rattle.dnp_world.proofs.SystemPlaces.{is_there, there}
 
 -- ---- to the centre
@@ -93,17 +94,6 @@ below_same old station was middle between lines dropped is same =
     ∙ ap (λ (k : ConcentratorState). with_below old station (record was { channel = between }) k dropped) same.0
     ∙ ap (λ (rows : List Row). with_below old station (record was { channel = between }) old.concentrator rows) same.1
 
--- a place that was written holds what was written, and can be written again
-set_there : {A : Type 0} (xs : List A) (i : ℕ) (a b : A) → slice_get xs i ≡ Some a → slice_get (slice_set xs i b) i ≡ Some b
-set_there [] i a b is = absurd (cc)
-set_there (x ∷ xs) zero a b is = refl
-set_there (x ∷ xs) (suc i) a b is = set_there xs i a b is
-
-set_again : {A : Type 0} (xs : List A) (i : ℕ) (a b : A) → slice_set (slice_set xs i a) i b ≡ slice_set xs i b
-set_again [] i a b = refl
-set_again (x ∷ xs) zero a b = refl
-set_again {A} (x ∷ xs) (suc i) a b = ap (λ (ys : List A). x ∷ ys) (set_again xs i a b)
-
 below_by : (old : System) (station : ℕ) (was : SubstationState) (middle : ConcentratorState) (between lines : ChannelState) (dropped : List Row)
     (r : Result Taking MasterFault) → slice_get old.substations station ≡ Some was
     → TakesBy r (MiddleTakes old station middle dropped) (MiddleSame old middle dropped) between lines
@@ -117,7 +107,7 @@ below_by old station was middle between lines dropped (Ok t) at (down, took) =
       record {
         was = mid;
         is = is;
-        there = set_there old.substations station was mid at;
+        there = set_here old.substations station was mid at;
         changed = (down, refl);
         after =
             ap (λ (k : ConcentratorState). with_below old station is k dropped) took.0.1
