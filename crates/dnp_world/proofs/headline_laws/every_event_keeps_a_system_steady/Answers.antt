@@ -122,7 +122,9 @@ goes c old new (event.Relay (Below station)) s h =
     (λ is e. c.relaying_keeps_what_stands.ensures.below old new station is s.standing s.controls e) h
 goes c old new (event.Relay Above) s h =
     none c old new (event.Relay Above) s h 0 (c.relaying_keeps_what_stands.ensures.above old new 0 s.standing s.controls h)
-goes c old new (event.Pass ms) s h = none c old new (event.Pass ms) s h 0 (c.other_events_keep_what_stands.ensures.passed old new (min (old.now + ms) (2 ^ 64 - 1)) 0 s.standing h)
+goes c old new (event.Pass ms) s h =
+    none c old new (event.Pass ms) s h 0
+    (c.other_events_keep_what_stands.ensures.passed old new (min (old.now + ms) (2 ^ 64 - 1)) 0 s.standing h)
 goes c old new (event.Tick (Below station) end.Master) s h =
     there c (has_station old station) (MasterTicks (Below station)) old new (event.Tick (Below station) end.Master) s h station
     (λ is e. c.calls_below_keep_what_stands.ensures.ticked old new station is s.standing e) h
