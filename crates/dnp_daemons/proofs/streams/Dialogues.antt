@@ -3,7 +3,6 @@ use Rattle.std.proofs.Common.{◌≡◌, inl, inr, ℕ, ◌+◌, Bool, true, fal
 use Rattle.std.proofs.Common.{◌<◌, take, get_or, refl, sym, ap, ◌∙◌, subst, append_assoc, append-nil, length-append, arith}
 use Rattle.std.proofs.lemmas.List.{take_more}
 use Rattle.std.specs.Io.KnownBytes.{Appends}
-use Rattle.std.proofs.KnownBytes.{Appends-nil}
 use Rattle.dnp_linkframe.specs.declared.frame.Frame.{Frame}
 use Rattle.dnp_line.specs.Ports.{PortState}
 use Rattle.dnp_master.specs.declared.outcome.Outcome.{Outcome}
@@ -16,7 +15,6 @@ use Rattle.dnp_daemons.specs.streams.Stations.{Opening, Receiving}
 use Rattle.dnp_daemons.specs.steps.Hearing.{AreWritten}
 use Rattle.dnp_daemons.specs.steps.Talking.{Puts, StepsEnd, Turns}
 use Rattle.dnp_daemons.proofs.streams.Hearing.{written_more, written_part}
-use Rattle.dnp_daemons.proofs.streams.Spelling.{spelled_none}
 
 -- a dialogue is as its parts are
 pub dialogue_is : {S : Type 0} (station station' : S) (port port' : PortState) (left left' : List Task) (rows rows' : ℕ) (outcomes outcomes' : List Outcome)
@@ -101,30 +99,6 @@ pub next_is : (frames : List Frame) (n : ℕ) (frame : Frame) → n < length fra
 next_is frames n frame low is = take_more frames n frame low ∙ ap (λ (f : Frame). take n frames ++ f ∷ []) (sym is)
 
 -- ---- turns
-
--- nothing yet
-pub turns_none : {S : Type 0} (opens : Opening S) (receives : Receiving S) (asking : Asking S) (now : ℕ) (old : Dialogue S) (held : Option (List ℕ))
-    → Turns opens receives asking now old [] (Ok false) held held old
-turns_none opens receives asking now old held = record {
-  steps = [];
-  sent = [];
-  makes = (refl, refl);
-  unheard = [];
-  split = refl;
-  ends = (record { octets = []; spelled = spelled_none; appended = Appends-nil held }, refl);
-}
-
--- nothing yet, and no memory for what might come
-pub turns_short : {S : Type 0} (opens : Opening S) (receives : Receiving S) (asking : Asking S) (now : ℕ) (old : Dialogue S) (frames : List Frame) (held : Option (List ℕ))
-    → old.is_over ≡ false → Turns opens receives asking now old frames (Err Memory) held held old
-turns_short opens receives asking now old frames held goes_on = record {
-  steps = [];
-  sent = [];
-  makes = (refl, refl);
-  unheard = frames;
-  split = refl;
-  ends = (record { octets = []; spelled = spelled_none; appended = Appends-nil held }, goes_on);
-}
 
 -- one step is made
 pub makes_one : {S : Type 0} (opens : Opening S) (receives : Receiving S) (asking : Asking S) (now : ℕ) (old new : Dialogue S) (step : Step) (sent : List Frame)

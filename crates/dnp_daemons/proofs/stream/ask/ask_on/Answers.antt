@@ -1,17 +1,12 @@
-use Rattle.std.proofs.Common.{rules, ◌≡◌, ℕ, ◌+◌, ◌<◌, ◌++◌, List, [], take, length, inl, refl, sym, ap, ◌∙◌, subst, arith}
+use Rattle.std.proofs.Common.{rules, ◌≡◌, ℕ, ◌+◌, ◌<◌, ◌++◌, [], take, length, inl, refl, ap, ◌∙◌, subst, arith}
 use Rattle.std.proofs.lemmas.List.{length-take}
 use Rattle.std.specs.Io.KnownBytes.{Consumes}
 use Rattle.std.proofs.KnownBytes.{Consumes-kept, Consumes-nil, Consumes-trans}
-use Rattle.dnp_linkframe.specs.declared.frame.Frame.{Frame}
 use Rattle.dnp_daemons.specs.declared.stream.log.Log.{Log}
 use Rattle.dnp_daemons.proofs.streams.Dialogues.{turns_then}
-use Rattle.dnp_daemons.proofs.streams.Going.{gives_none}
+use Rattle.dnp_daemons.proofs.streams.Going.{given_to, gives_none}
 use Rattle.dnp_daemons.proofs.streams.Talking.{from_unbegun, goes_on_first, goes_on_more, is_waiting, talks_ends, talks_fault, talks_stop}
 use Rattle.dnp_daemons.proofs.stream.ask.ask_on.Goals as goal
-
--- frames that were put behind none
-given_to : (out none frames : List Frame) → frames ≡ out → none ≡ [] → out ≡ none ++ frames
-given_to out none frames same empty = sym same ∙ sym (ap (λ (fs : List Frame). fs ++ frames) empty)
 
 pub returns-in-Ok-true-clause-talks : goal.returns-in-Ok-true-clause-talks
 returns-in-Ok-true-clause-talks g c honest =

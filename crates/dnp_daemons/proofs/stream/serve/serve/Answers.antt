@@ -1,16 +1,11 @@
-use Rattle.std.proofs.Common.{rules, ◌≡◌, ℕ, ◌+◌, ◌<◌, ◌++◌, List, [], take, length, refl, sym, ap, ◌∙◌, subst, arith}
+use Rattle.std.proofs.Common.{rules, ◌≡◌, ℕ, ◌+◌, ◌<◌, [], take, length, refl, ap, ◌∙◌, subst, arith}
 use Rattle.std.proofs.lemmas.List.{length-take}
 use Rattle.std.specs.Io.KnownBytes.{Consumes}
 use Rattle.std.proofs.KnownBytes.{Consumes-kept, Consumes-nil}
-use Rattle.dnp_linkframe.specs.declared.frame.Frame.{Frame}
 use Rattle.dnp_daemons.specs.declared.stream.log.Log.{Log}
-use Rattle.dnp_daemons.proofs.streams.Going.{greets_first, going_first, closed_first, failed_first}
+use Rattle.dnp_daemons.proofs.streams.Going.{given_to, greets_first, going_first, closed_first, failed_first}
 use Rattle.dnp_daemons.proofs.streams.Going.{going_open, going_ends, going_closes, going_write_fails, going_on}
 use Rattle.dnp_daemons.proofs.stream.serve.serve.Goals as goal
-
--- frames that were put behind none
-given_to : (out none frames : List Frame) → frames ≡ out → none ≡ [] → out ≡ none ++ frames
-given_to out none frames same empty = sym same ∙ sym (ap (λ (fs : List Frame). fs ++ frames) empty)
 
 pub returns-in-Err-clause-serves : goal.returns-in-Err-clause-serves
 returns-in-Err-clause-serves g c honest =
