@@ -11,6 +11,7 @@ pub mod Outstations
 pub mod Masters
 pub mod Centres
 pub mod Concentrators
+pub mod Lent
 pub mod Dialogues
 pub mod Asking
 pub mod Talking

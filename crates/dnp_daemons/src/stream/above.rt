@@ -1,5 +1,8 @@
 //! The outstation of a concentrator, towards the station above, on a stream.
 
+ghost use Rattle.std.specs.Prelude.{◌≡◌};
+ghost use Rattle.dnp_daemons.specs.streams.Lent.{lent_above};
+
 use crate::stream::outstation::answer_with;
 use crate::stream::station::{Answer, Station, StationFault};
 use dnp_concentrator::Concentrator;
@@ -18,7 +21,10 @@ pub struct Above<'a, Q, B> {
 
 impl<'a, Q: Lanes, B: Book> Above<'a, Q, B> {
     /// The outstation of the concentrator.
-    pub fn new(concentrator: &'a mut Concentrator<Q, B>) -> Self {
+    pub fn new(concentrator: &'a mut Concentrator<Q, B>) -> Self
+        ensures lent { (lent_above result).now ≡ concentrator.old }
+        ensures same_reference { (lent_above result).ghost_name ≡ concentrator.entry.ghost_name }
+    {
         Above { concentrator }
     }
 }
@@ -29,12 +35,13 @@ impl<'a, Q: Lanes, B: Book> Station for Above<'a, Q, B> {
     ghost use Rattle.dnp_daemons.specs.streams.Dialogues.{asks_nothing};
     ghost use Rattle.dnp_daemons.specs.streams.Outstations.{Seen, IsOpened, Receives, hung_up_of};
     ghost use Rattle.dnp_daemons.specs.streams.Concentrators.{above_seen};
+    ghost use Rattle.dnp_daemons.specs.streams.Lent.{lent_above};
 
     ghost State = { Seen };
 
-    ghost state = { λ s. above_seen Q.contents B.contents s.concentrator.now };
+    ghost state = { λ s. above_seen Q.contents B.contents (lent_above s).now };
 
-    ghost honest = { λ s. Q.honest (queue_of s.concentrator.now) × IsBookWell B.honest B.is_stopped s.concentrator.now };
+    ghost honest = { λ s. Q.honest (queue_of (lent_above s).now) × IsBookWell B.honest B.is_stopped (lent_above s).now };
 
     ghost opens = { IsOpened };
 

@@ -2,6 +2,7 @@
 
 ghost use Rattle.std.specs.Prelude.{◌≡◌, nat_lt, length};
 ghost use Rattle.dnp_concentrator.specs.Concentrator.{links_of};
+ghost use Rattle.dnp_daemons.specs.streams.Lent.{lent_below, substation_of};
 
 use crate::stream::asker::Asker;
 use crate::stream::master::{answer_taking, fault_of, nothing};
@@ -24,13 +25,17 @@ pub struct Below<'a, Q, B> {
 
 impl<'a, Q: Lanes, B: Book> Below<'a, Q, B> {
     /// The link of the concentrator to the substation with this number.
-    pub fn new(concentrator: &'a mut Concentrator<Q, B>, link: u8) -> Self {
+    pub fn new(concentrator: &'a mut Concentrator<Q, B>, link: u8) -> Self
+        ensures lent { (lent_below result).now ≡ concentrator.old }
+        ensures same_reference { (lent_below result).ghost_name ≡ concentrator.entry.ghost_name }
+        ensures substation { substation_of result ≡ link }
+    {
         Below { concentrator, link }
     }
 
     /// Whether the concentrator's plan has the substation.
     fn is_there(&self) -> bool
-        ensures { result ≡ nat_lt self.now.link (length (links_of self.now.concentrator.now)) }
+        ensures { result ≡ nat_lt (substation_of self.now) (length (links_of (lent_below self.now).now)) }
     {
         usize::from(self.link) < self.concentrator.substations()
     }
@@ -40,12 +45,13 @@ impl<'a, Q: Lanes, B: Book> Station for Below<'a, Q, B> {
     ghost use Rattle.dnp_concentrator.specs.Concentrator.{book_of, queue_of};
     ghost use Rattle.dnp_daemons.specs.streams.Asking.{below_asking};
     ghost use Rattle.dnp_daemons.specs.streams.Concentrators.{BelowSeen, OpensBelow, BelowReceives, below_hung_up, below_seen};
+    ghost use Rattle.dnp_daemons.specs.streams.Lent.{lent_below, substation_of};
 
     ghost State = { BelowSeen };
 
-    ghost state = { λ s. below_seen Q.contents s.concentrator.now s.link };
+    ghost state = { λ s. below_seen Q.contents (lent_below s).now (substation_of s) };
 
-    ghost honest = { λ s. Q.honest (queue_of s.concentrator.now) × B.honest (book_of s.concentrator.now) };
+    ghost honest = { λ s. Q.honest (queue_of (lent_below s).now) × B.honest (book_of (lent_below s).now) };
 
     ghost opens = { OpensBelow };
 

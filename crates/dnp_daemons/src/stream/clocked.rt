@@ -1,6 +1,10 @@
 //! A station whose steps are at the moments of a clock.
 
-ghost use Rattle.std.specs.Prelude.{◌≡◌};
+ghost use Rattle.std.specs.Prelude.{◌≡◌, ◌+◌, ◌<◌, min, length, All, IfOk, OnErr};
+ghost use Rattle.dnp_daemons.specs.streams.Clocks.{OpensSometime, ReceivesSometime};
+ghost use Rattle.dnp_daemons.specs.streams.Counts.{most};
+ghost use Rattle.dnp_daemons.specs.streams.Lent.{clock_of, fragments_given, lent_station, moment_of};
+ghost use Rattle.dnp_daemons.specs.streams.Stations.{answer_of};
 
 use crate::stream::station::{Answer, Station, StationFault};
 use std::alloc::Global;
@@ -23,7 +27,13 @@ pub struct Clocked<'a, S, C> {
 
 impl<'a, S: Station, C: Clock> Clocked<'a, S, C> {
     /// A station and a clock, of which nothing was asked yet.
-    pub fn new(station: &'a mut S, clock: &'a C) -> Self {
+    pub fn new(station: &'a mut S, clock: &'a C) -> Self
+        ensures lent { (lent_station result).now ≡ station.old }
+        ensures same_reference { (lent_station result).ghost_name ≡ station.entry.ghost_name }
+        ensures clock { clock_of result ≡ clock.now }
+        ensures unmoved { moment_of result ≡ 0 }
+        ensures given { fragments_given result ≡ 0 }
+    {
         Clocked {
             station,
             clock,
@@ -33,7 +43,9 @@ impl<'a, S: Station, C: Clock> Clocked<'a, S, C> {
     }
 
     /// How many fragments the station was given since. The count stops at the largest number.
-    pub fn fragments(&self) -> u64 {
+    pub fn fragments(&self) -> u64
+        ensures { result ≡ fragments_given self.entry.now }
+    {
         self.fragments
     }
 
@@ -52,12 +64,13 @@ impl<'a, S: Station, C: Clock> Clocked<'a, S, C> {
 impl<'a, S: Station, C: Clock> Station for Clocked<'a, S, C> {
     ghost use Rattle.dnp_daemons.specs.streams.Dialogues.{asks_nothing};
     ghost use Rattle.dnp_daemons.specs.streams.Clocks.{OpensSometime, ReceivesSometime};
+    ghost use Rattle.dnp_daemons.specs.streams.Lent.{lent_station};
 
     ghost State = { S.State };
 
-    ghost state = { λ s. S.state s.station.now };
+    ghost state = { λ s. S.state (lent_station s).now };
 
-    ghost honest = { λ s. S.honest s.station.now };
+    ghost honest = { λ s. S.honest (lent_station s).now };
 
     ghost opens = { OpensSometime S.opens };
 
@@ -67,18 +80,36 @@ impl<'a, S: Station, C: Clock> Station for Clocked<'a, S, C> {
 
     ghost hung_up_of = { S.hung_up_of };
 
-    fn opened(&mut self, alloc: Global, _now: u64) -> Result<Answer, StationFault> {
+    fn opened(&mut self, alloc: Global, _now: u64) -> Result<Answer, StationFault>
+        ensures held { S.honest (lent_station self.new).now → S.honest (lent_station self.old).now }
+        ensures answered { S.honest (lent_station self.new).now → IfOk result (λ answer. OpensSometime S.opens (S.state (lent_station self.old).now)
+            _now (answer_of answer) (S.state (lent_station self.new).now)) }
+        ensures unchanged { S.honest (lent_station self.new).now → OnErr result (S.state (lent_station self.new).now ≡ S.state (lent_station self.old).now) }
+        ensures some { IfOk result (λ answer. All (λ fragment. 0 < length fragment) (answer_of answer).send) }
+        ensures given { fragments_given self.new ≡ fragments_given self.old }
+    {
         let now = self.moment();
         self.station.opened(alloc, now)
     }
 
-    fn receive(&mut self, alloc: Global, _now: u64, octets: &[u8]) -> Result<Answer, StationFault> {
+    fn receive(&mut self, alloc: Global, _now: u64, octets: &[u8]) -> Result<Answer, StationFault>
+        ensures held { S.honest (lent_station self.new).now → S.honest (lent_station self.old).now }
+        ensures answered { S.honest (lent_station self.new).now → IfOk result (λ answer. ReceivesSometime S.receives (S.state (lent_station self.old).now)
+            _now octets.now (answer_of answer) (S.state (lent_station self.new).now)) }
+        ensures unchanged { S.honest (lent_station self.new).now → OnErr result (S.state (lent_station self.new).now ≡ S.state (lent_station self.old).now) }
+        ensures some { IfOk result (λ answer. All (λ fragment. 0 < length fragment) (answer_of answer).send) }
+        ensures given { fragments_given self.new ≡ min (fragments_given self.old + 1) most }
+    {
         let now = self.moment();
         self.fragments = self.fragments.saturating_add(1);
         self.station.receive(alloc, now, octets)
     }
 
-    fn hung_up(&mut self) {
+    fn hung_up(&mut self)
+        ensures held { S.honest (lent_station self.new).now → S.honest (lent_station self.old).now }
+        ensures hung_up { S.honest (lent_station self.new).now → S.state (lent_station self.new).now ≡ S.hung_up_of (S.state (lent_station self.old).now) }
+        ensures given { fragments_given self.new ≡ fragments_given self.old }
+    {
         self.station.hung_up();
     }
 }
