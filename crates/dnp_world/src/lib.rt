@@ -6,6 +6,7 @@
 
 pub mod arrival_laws;
 pub mod arriving_laws;
+mod carrier;
 mod channel;
 pub mod control_laws;
 mod ends;
@@ -38,6 +39,7 @@ mod substation;
 pub mod system_laws;
 mod world;
 
+pub use carrier::{Carrier, InMemory};
 pub use event::{Damaged, Event, Link, Place};
 pub use link_event::{End, LinkEvent, Way};
 pub use one_link::OneLink;

@@ -18,15 +18,13 @@ ghost use Rattle.dnp_world.specs.Steady.{Lasts};
 ghost use Rattle.dnp_world.specs.SystemEvents.{RunsTo, StopsAfter};
 ghost use Rattle.dnp_world.specs.Systems.{front_on, standing_on};
 
+use crate::carrier::InMemory;
 use crate::channel::Channel;
-use crate::control_laws::a_clean_control_operates;
 use crate::event::{Event, Link};
-use crate::headline_laws::{rounds_and_controls_keep_a_system_steady, steady_systems_stay_steady};
+use crate::headline_laws::steady_systems_stay_steady;
 use crate::history::History;
 use crate::link_event::Way;
-use crate::movement_laws::a_clean_round_moves_rows;
 use crate::new_substations::new_substations;
-use crate::opening_laws::an_opened_link_is_quiet;
 use crate::parts::Parts;
 use crate::report::Report;
 use crate::round_fault::{ControlFault, RoundFault};
@@ -39,6 +37,8 @@ use dnp_eventbuf::{JournalStore, Lanes};
 use dnp_outstation::Actions;
 use std::alloc::Global;
 use std::marker::Model;
+
+mod carried;
 
 /// The link address of the centre.
 pub(crate) const CENTRE: u16 = 1;
@@ -150,9 +150,7 @@ impl<Q: Lanes, J: JournalStore, A: Book, B: Book> World<Q, J, A, B> {
         ensures holds { StoresAreWell Q.honest J.honest A.honest A.is_stopped B.honest B.is_stopped self.new.stores → Holds (report_of self.new.system) }
         ensures opens { StoresAreWell Q.honest J.honest A.honest A.is_stopped B.honest B.is_stopped self.new.stores → OnOk result (OpensQuiet events.now self.new.system) }
     {
-        steady_systems_stay_steady();
-        an_opened_link_is_quiet();
-        self.parts.run(alloc, events)
+        self.run_by(alloc, events, &mut InMemory)
     }
 
     /// A clean round over a quiet link: events of classes 1, 2 and 3 are polled, and what comes of it is delivered, down
@@ -174,10 +172,7 @@ impl<Q: Lanes, J: JournalStore, A: Book, B: Book> World<Q, J, A, B> {
         ensures fate { StoresAreWell Q.honest J.honest A.honest A.is_stopped B.honest B.is_stopped self.new.stores → IsFate (λ i. []) (report_of self.old.system) (report_of self.new.system) }
         ensures holds { StoresAreWell Q.honest J.honest A.honest A.is_stopped B.honest B.is_stopped self.new.stores → Holds (report_of self.new.system) }
     {
-        steady_systems_stay_steady();
-        rounds_and_controls_keep_a_system_steady();
-        a_clean_round_moves_rows();
-        self.parts.clean_round(alloc, on)
+        self.clean_round_by(alloc, on, &mut InMemory)
     }
 
     /// The control of this id in the centre's book goes to its substation over quiet links: three steps of relaying above
@@ -197,10 +192,7 @@ impl<Q: Lanes, J: JournalStore, A: Book, B: Book> World<Q, J, A, B> {
         ensures fate { StoresAreWell Q.honest J.honest A.honest A.is_stopped B.honest B.is_stopped self.new.stores → IsFate (λ i. []) (report_of self.old.system) (report_of self.new.system) }
         ensures holds { StoresAreWell Q.honest J.honest A.honest A.is_stopped B.honest B.is_stopped self.new.stores → Holds (report_of self.new.system) }
     {
-        steady_systems_stay_steady();
-        rounds_and_controls_keep_a_system_steady();
-        a_clean_control_operates();
-        self.parts.clean_control(alloc, id)
+        self.clean_control_by(alloc, id, &mut InMemory)
     }
 
     /// What became of all rows and commands so far. It changes nothing, and what holds at every moment holds of it.

@@ -10,6 +10,7 @@ ghost use Rattle.dnp_world.specs.SystemParts.{AreWell, system_of};
 ghost use Rattle.dnp_world.specs.Systems.{has_station};
 
 use super::Parts;
+use crate::carrier::Carrier;
 use crate::event::{Event, Link};
 use crate::link_event::Way;
 use crate::round_fault::ControlFault;
@@ -212,53 +213,71 @@ impl<Q: Lanes, J: JournalStore, A: Book, B: Book> Parts<Q, J, A, B> {
     }
 
     /// A step of relaying over the link, and what comes of it there and back.
-    fn exchange(&mut self, alloc: Global, on: Link, id: Option<u64>) -> Result<(), ControlFault>
+    fn exchange<C: Carrier>(
+        &mut self,
+        alloc: Global,
+        on: Link,
+        id: Option<u64>,
+        carrier: &mut C,
+    ) -> Result<(), ControlFault>
         ensures held { AreWell Q.honest J.honest A.honest A.is_stopped B.honest B.is_stopped self.new → AreWell Q.honest J.honest A.honest A.is_stopped B.honest B.is_stopped self.old }
         ensures done { AreWell Q.honest J.honest A.honest A.is_stopped B.honest B.is_stopped self.new → OnOk result (PassesBack on id (system_of Q.contents J.archive A.contents B.contents self.old) (system_of Q.contents J.archive A.contents B.contents self.new)) }
         ensures ended { AreWell Q.honest J.honest A.honest A.is_stopped B.honest B.is_stopped self.new → IfErr result (EndsBy (λ status. IsTold on id status (system_of Q.contents J.archive A.contents B.contents self.old) (system_of Q.contents J.archive A.contents B.contents self.new)) (StopsIn IsOfControl (system_of Q.contents J.archive A.contents B.contents self.old) (system_of Q.contents J.archive A.contents B.contents self.new))) }
     {
         self.relay_one(alloc, on, id)?;
-        self.flush(alloc, on, Way::Down)?;
-        self.flush(alloc, on, Way::Up)?;
+        self.flush(alloc, on, Way::Down, carrier)?;
+        self.flush(alloc, on, Way::Up, carrier)?;
         Ok(())
     }
 
     /// Three steps of relaying over the link: the SELECT, the OPERATE, and what became of it.
-    fn relay_through(
+    fn relay_through<C: Carrier>(
         &mut self,
         alloc: Global,
         on: Link,
         id: Option<u64>,
+        carrier: &mut C,
     ) -> Result<(), ControlFault>
         ensures held { AreWell Q.honest J.honest A.honest A.is_stopped B.honest B.is_stopped self.new → AreWell Q.honest J.honest A.honest A.is_stopped B.honest B.is_stopped self.old }
         ensures done { AreWell Q.honest J.honest A.honest A.is_stopped B.honest B.is_stopped self.new → OnOk result (IsAccepted on id (system_of Q.contents J.archive A.contents B.contents self.old) (system_of Q.contents J.archive A.contents B.contents self.new)) }
         ensures ended { AreWell Q.honest J.honest A.honest A.is_stopped B.honest B.is_stopped self.new → IfErr result (EndsBy (λ status. IsRefusedOn on id status (system_of Q.contents J.archive A.contents B.contents self.old) (system_of Q.contents J.archive A.contents B.contents self.new)) (StopsIn IsOfControl (system_of Q.contents J.archive A.contents B.contents self.old) (system_of Q.contents J.archive A.contents B.contents self.new))) }
     {
-        self.exchange(alloc, on, id)?;
-        self.exchange(alloc, on, id)?;
+        self.exchange(alloc, on, id, carrier)?;
+        self.exchange(alloc, on, id, carrier)?;
         self.relay_one(alloc, on, id)?;
         Ok(())
     }
 
     /// The control of this id goes over the link above, and then over the one to its substation.
-    fn relay_all(&mut self, alloc: Global, id: u64, station: Option<u8>) -> Result<(), ControlFault>
+    fn relay_all<C: Carrier>(
+        &mut self,
+        alloc: Global,
+        id: u64,
+        station: Option<u8>,
+        carrier: &mut C,
+    ) -> Result<(), ControlFault>
         ensures held { AreWell Q.honest J.honest A.honest A.is_stopped B.honest B.is_stopped self.new → AreWell Q.honest J.honest A.honest A.is_stopped B.honest B.is_stopped self.old }
         ensures done { AreWell Q.honest J.honest A.honest A.is_stopped B.honest B.is_stopped self.new → OnOk result (IsControlFor station id (system_of Q.contents J.archive A.contents B.contents self.old) (system_of Q.contents J.archive A.contents B.contents self.new)) }
         ensures ended { AreWell Q.honest J.honest A.honest A.is_stopped B.honest B.is_stopped self.new → IfErr result (EndsBy (λ status. IsRefusedFor station id status (system_of Q.contents J.archive A.contents B.contents self.old) (system_of Q.contents J.archive A.contents B.contents self.new)) (StopsIn IsOfControl (system_of Q.contents J.archive A.contents B.contents self.old) (system_of Q.contents J.archive A.contents B.contents self.new))) }
     {
-        self.relay_through(alloc, Link::Above, Some(id))?;
+        self.relay_through(alloc, Link::Above, Some(id), carrier)?;
         let Some(station) = station else {
             return Ok(());
         };
         let queued = self.next_below(alloc, station)?;
-        self.relay_through(alloc, Link::Below(station), queued)?;
+        self.relay_through(alloc, Link::Below(station), queued, carrier)?;
         Ok(())
     }
 
     /// The control of this id goes from the centre to its substation, over quiet links. Refused, with nothing changed, is
     /// first of all a link on its way that isn't quiet, and then a control that isn't the centre's next one, or one that
-    /// another is before.
-    pub(crate) fn clean_control(&mut self, alloc: Global, id: u64) -> Result<(), ControlFault>
+    /// another is before. Each unit is carried.
+    pub(crate) fn clean_control<C: Carrier>(
+        &mut self,
+        alloc: Global,
+        id: u64,
+        carrier: &mut C,
+    ) -> Result<(), ControlFault>
         ensures held { AreWell Q.honest J.honest A.honest A.is_stopped B.honest B.is_stopped self.new → AreWell Q.honest J.honest A.honest A.is_stopped B.honest B.is_stopped self.old }
         ensures ends { AreWell Q.honest J.honest A.honest A.is_stopped B.honest B.is_stopped self.new → ControlEnds id (system_of Q.contents J.archive A.contents B.contents self.old) result (system_of Q.contents J.archive A.contents B.contents self.new) }
     {
@@ -269,6 +288,6 @@ impl<Q: Lanes, J: JournalStore, A: Book, B: Book> Parts<Q, J, A, B> {
         if !self.is_next(alloc, id, station)? {
             return Err(ControlFault::NotNext);
         }
-        self.relay_all(alloc, id, station)
+        self.relay_all(alloc, id, station, carrier)
     }
 }

@@ -8,6 +8,7 @@ ghost use Rattle.dnp_world.specs.declared.event.Event.TheVariants as event;
 ghost use Rattle.dnp_line.specs.Lines.{delivered_on};
 
 use super::Parts;
+use crate::carrier::Carrier;
 use crate::event::{Event, Link, Place};
 use crate::link_event::{End, Way};
 use crate::stopped::{Cause, Stopped};
@@ -73,15 +74,51 @@ impl<Q: Lanes, J: JournalStore, A: Book, B: Book> Parts<Q, J, A, B> {
         Ok(())
     }
 
+    /// Carries the unit at the front of this way of the link, if there is one.
+    fn carry<C: Carrier>(&self, on: Link, way: Way, carrier: &mut C) -> Result<(), Cause> {
+        match self.front(on, way) {
+            Some(unit) => carrier.carry(on, way, unit),
+            None => Ok(()),
+        }
+    }
+
+    /// One event happens; where it is the end of a unit, the unit is carried before. One that can't be carried is lost.
+    pub(crate) fn happen_by<C: Carrier>(
+        &mut self,
+        alloc: Global,
+        event: &Event,
+        carrier: &mut C,
+    ) -> Result<(), Cause>
+        ensures held { AreWell Q.honest J.honest A.honest A.is_stopped B.honest B.is_stopped self.new → AreWell Q.honest J.honest A.honest A.is_stopped B.honest B.is_stopped self.old }
+        ensures done { AreWell Q.honest J.honest A.honest A.is_stopped B.honest B.is_stopped self.new → OnOk result (Happens (system_of Q.contents J.archive A.contents B.contents self.old) event.now (system_of Q.contents J.archive A.contents B.contents self.new)) }
+        ensures stopped { AreWell Q.honest J.honest A.honest A.is_stopped B.honest B.is_stopped self.new → OnErr result (CountsFor (system_of Q.contents J.archive A.contents B.contents self.old) event.now (system_of Q.contents J.archive A.contents B.contents self.new)) }
+        ensures named { OnErr result (may_stop event.now ≡ true) }
+    {
+        if let Event::Deliver(on, way) = event
+            && let Err(cause) = self.carry(*on, *way, carrier)
+        {
+            if self.has(*on) {
+                self.lose(*on, *way);
+            }
+            return Err(cause);
+        }
+        self.happen(alloc, event)
+    }
+
     /// The events happen, one after the other, up to the first at which a store or a request for memory refuses. That one
-    /// counts as `Lose` if it is `Deliver`, and else it is left out.
-    pub(crate) fn run(&mut self, alloc: Global, events: &[Event]) -> Result<(), Stopped>
+    /// counts as `Lose` if it is `Deliver`, and else it is left out. A unit is carried before it comes to its end.
+    pub(crate) fn run<C: Carrier>(
+        &mut self,
+        alloc: Global,
+        events: &[Event],
+        carrier: &mut C,
+    ) -> Result<(), Stopped>
         ensures held { AreWell Q.honest J.honest A.honest A.is_stopped B.honest B.is_stopped self.new → AreWell Q.honest J.honest A.honest A.is_stopped B.honest B.is_stopped self.old }
         ensures done { AreWell Q.honest J.honest A.honest A.is_stopped B.honest B.is_stopped self.new → OnOk result (RunsTo (system_of Q.contents J.archive A.contents B.contents self.old) events.now (system_of Q.contents J.archive A.contents B.contents self.new)) }
         ensures stopped { AreWell Q.honest J.honest A.honest A.is_stopped B.honest B.is_stopped self.new → IfErr result (λ stopped. StopsAfter (system_of Q.contents J.archive A.contents B.contents self.old) events.now stopped.done (system_of Q.contents J.archive A.contents B.contents self.new)) }
     {
         for (done, event) in events.iter().enumerate() {
-            if let Err(cause) = self.happen(alloc, event) {
+            if let Err(cause) = self.happen_by(alloc, event, carrier) {
                 return Err(Stopped { done, cause });
             }
         }

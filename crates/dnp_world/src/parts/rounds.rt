@@ -6,6 +6,7 @@ ghost use Rattle.dnp_world.specs.SystemParts.{AreWell, system_of};
 ghost use Rattle.dnp_world.specs.declared.event.Event.TheVariants as event;
 
 use super::Parts;
+use crate::carrier::Carrier;
 use crate::event::{Event, Link};
 use crate::link_event::Way;
 use crate::round_fault::RoundFault;
@@ -36,34 +37,50 @@ impl<Q: Lanes, J: JournalStore, A: Book, B: Book> Parts<Q, J, A, B> {
     }
 
     /// What stands on the line of this way of the link is delivered, one unit after the other.
-    pub(crate) fn flush(&mut self, alloc: Global, on: Link, way: Way) -> Result<(), Cause>
+    pub(crate) fn flush<C: Carrier>(
+        &mut self,
+        alloc: Global,
+        on: Link,
+        way: Way,
+        carrier: &mut C,
+    ) -> Result<(), Cause>
         ensures held { AreWell Q.honest J.honest A.honest A.is_stopped B.honest B.is_stopped self.new → AreWell Q.honest J.honest A.honest A.is_stopped B.honest B.is_stopped self.old }
         ensures done { AreWell Q.honest J.honest A.honest A.is_stopped B.honest B.is_stopped self.new → OnOk result (Flushes on way (system_of Q.contents J.archive A.contents B.contents self.old) (system_of Q.contents J.archive A.contents B.contents self.new)) }
         ensures stopped { AreWell Q.honest J.honest A.honest A.is_stopped B.honest B.is_stopped self.new → OnErr result (StopsIn (λ e. e ≡ event.Deliver on way) (system_of Q.contents J.archive A.contents B.contents self.old) (system_of Q.contents J.archive A.contents B.contents self.new)) }
     {
         for _ in 0..self.standing(on, way) {
-            self.happen(alloc, &Event::Deliver(on, way))?;
+            self.happen_by(alloc, &Event::Deliver(on, way), carrier)?;
         }
         Ok(())
     }
 
     /// Events of classes 1, 2 and 3 are polled over the link, and all that comes of it is delivered: the request, the
     /// response, and the confirm.
-    fn poll_round(&mut self, alloc: Global, on: Link) -> Result<(), Cause>
+    fn poll_round<C: Carrier>(
+        &mut self,
+        alloc: Global,
+        on: Link,
+        carrier: &mut C,
+    ) -> Result<(), Cause>
         ensures held { AreWell Q.honest J.honest A.honest A.is_stopped B.honest B.is_stopped self.new → AreWell Q.honest J.honest A.honest A.is_stopped B.honest B.is_stopped self.old }
         ensures done { AreWell Q.honest J.honest A.honest A.is_stopped B.honest B.is_stopped self.new → OnOk result (IsRound on (system_of Q.contents J.archive A.contents B.contents self.old) (system_of Q.contents J.archive A.contents B.contents self.new)) }
         ensures stopped { AreWell Q.honest J.honest A.honest A.is_stopped B.honest B.is_stopped self.new → OnErr result (StopsIn (IsOfRound on) (system_of Q.contents J.archive A.contents B.contents self.old) (system_of Q.contents J.archive A.contents B.contents self.new)) }
     {
         let classes = Classes([false, true, true, true]);
         self.happen(alloc, &Event::Ask(on, Task::Poll(classes)))?;
-        self.flush(alloc, on, Way::Down)?;
-        self.flush(alloc, on, Way::Up)?;
-        self.flush(alloc, on, Way::Down)?;
+        self.flush(alloc, on, Way::Down, carrier)?;
+        self.flush(alloc, on, Way::Up, carrier)?;
+        self.flush(alloc, on, Way::Down, carrier)?;
         Ok(())
     }
 
-    /// A round over a quiet link. Refused, with nothing changed, is a link that isn't quiet.
-    pub(crate) fn clean_round(&mut self, alloc: Global, on: Link) -> Result<(), RoundFault>
+    /// A round over a quiet link. Refused, with nothing changed, is a link that isn't quiet. Each unit is carried.
+    pub(crate) fn clean_round<C: Carrier>(
+        &mut self,
+        alloc: Global,
+        on: Link,
+        carrier: &mut C,
+    ) -> Result<(), RoundFault>
         ensures held { AreWell Q.honest J.honest A.honest A.is_stopped B.honest B.is_stopped self.new → AreWell Q.honest J.honest A.honest A.is_stopped B.honest B.is_stopped self.old }
         ensures not_quiet { (result ≡ Err RoundFault.NotQuiet) ↔ (is_quiet_on (system_of Q.contents J.archive A.contents B.contents self.old) on ≡ false) }
         ensures unchanged { result ≡ Err RoundFault.NotQuiet → self.new ≡ self.old }
@@ -73,7 +90,7 @@ impl<Q: Lanes, J: JournalStore, A: Book, B: Book> Parts<Q, J, A, B> {
         if !self.quiet(on) {
             return Err(RoundFault::NotQuiet);
         }
-        self.poll_round(alloc, on)?;
+        self.poll_round(alloc, on, carrier)?;
         Ok(())
     }
 }

@@ -14,24 +14,24 @@ pub loop-preserved : goal.loop-preserved
 loop-preserved g c =
     let system = system_of g.Q.Lanes.contents g.J.JournalStore.archive g.A.Book.contents g.B.Book.contents in
     record {
-      held = λ well. c.loop.invariant.held (c.happen.ensures.held well);
+      held = λ well. c.loop.invariant.held (c.happen_by.ensures.held well);
       ran = λ well.
-          one_delivered (system c.args.self.now) (system c.loop.self) (system c.happen.new.self) c.loop.counter c.args.on c.args.way
-          (c.loop.invariant.ran (c.happen.ensures.held well)) (c.in_ok-happen.ensures.done well);
+          one_delivered (system c.args.self.now) (system c.loop.self) (system c.happen_by.new.self) c.loop.counter c.args.on c.args.way
+          (c.loop.invariant.ran (c.happen_by.ensures.held well)) (c.in_ok-happen_by.ensures.done well);
     }
 
-pub returns-in_err-happen-clause-stopped : goal.returns-in_err-happen-clause-stopped
-returns-in_err-happen-clause-stopped g c = λ well.
+pub returns-in_err-happen_by-clause-stopped : goal.returns-in_err-happen_by-clause-stopped
+returns-in_err-happen_by-clause-stopped g c = λ well.
     let system = system_of g.Q.Lanes.contents g.J.JournalStore.archive g.A.Book.contents g.B.Book.contents in
     let on = c.args.on in
     let way = c.args.way in
     let old = system c.args.self.now in
     let mid = system c.loop.self in
-    let new = system c.happen.new.self in
+    let new = system c.happen_by.new.self in
     any_err c.from_residual.result _
     (stops_after (λ (e : Event). e ≡ Deliver on way) (λ (e : Event). e ≡ Deliver on way) old mid new (λ e is. is)
-    (delivered c.loop.counter on way old mid (c.loop.invariant.ran (c.happen.ensures.held well)))
-    (stops_at (λ (e : Event). e ≡ Deliver on way) mid new (Deliver on way) refl refl (c.in_err-happen.ensures.stopped well)))
+    (delivered c.loop.counter on way old mid (c.loop.invariant.ran (c.happen_by.ensures.held well)))
+    (stops_at (λ (e : Event). e ≡ Deliver on way) mid new (Deliver on way) refl refl (c.in_err-happen_by.ensures.stopped well)))
 
 pub returns-clause-done : goal.returns-clause-done
 returns-clause-done g c = λ well.

@@ -11,7 +11,7 @@ use Rattle.dnp_world.specs.declared.event.Link.{Link}
 use Rattle.dnp_world.specs.declared.round_fault.RoundFault.{RoundFault}
 use Rattle.dnp_world.specs.declared.round_fault.RoundFault.TheVariants.{NotQuiet}
 use Rattle.dnp_world.proofs.Lasting.{calm_round, fate_of, steady_of}
-use Rattle.dnp_world.proofs.world.World.clean_round.Goals as goal
+use Rattle.dnp_world.proofs.world.World.clean_round_by.Goals as goal
 
 pub invariant_of-self : goal.invariant_of-self
 invariant_of-self g c = λ well.

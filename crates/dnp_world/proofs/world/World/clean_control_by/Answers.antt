@@ -12,7 +12,7 @@ use Rattle.dnp_world.specs.declared.round_fault.ControlFault.{ControlFault}
 use Rattle.dnp_world.specs.declared.round_fault.ControlFault.TheVariants as control
 use Rattle.dnp_world.specs.SystemParts.{system_of}
 use Rattle.dnp_world.proofs.Lasting.{fate_of, steady_of}
-use Rattle.dnp_world.proofs.world.World.clean_control.Goals as goal
+use Rattle.dnp_world.proofs.world.World.clean_control_by.Goals as goal
 
 pub invariant_of-self : goal.invariant_of-self
 invariant_of-self g c = λ well.

@@ -1,7 +1,7 @@
 -- What is left is steady, done or stopped.
 use Rattle.dnp_world.specs.SystemParts.{system_of}
 use Rattle.dnp_world.proofs.Lasting.{lasts_if_done, lasts_if_stopped, steady_after}
-use Rattle.dnp_world.proofs.world.World.run.Goals as goal
+use Rattle.dnp_world.proofs.world.World.run_by.Goals as goal
 
 pub invariant_of-self : goal.invariant_of-self
 invariant_of-self g c = λ well.

@@ -1,0 +1,93 @@
+//! The calls of a whole system whose units are carried from one station to another.
+
+ghost use Rattle.std.specs.Prelude.{ℕ, ◌≡◌, ◌≢◌, ◌↔◌, [], false, take, Err, IfErr, OnOk};
+ghost use Rattle.dnp_world.specs.ControlMoves.{ControlMoves, IsFreeAbove};
+ghost use Rattle.dnp_world.specs.Controls.{ControlEnds};
+ghost use Rattle.dnp_world.specs.Kept.{report_of};
+ghost use Rattle.dnp_world.specs.Movement.{RoundMoves};
+ghost use Rattle.dnp_world.specs.Opening.{OpensQuiet};
+ghost use Rattle.dnp_world.specs.Reports.{Holds, IsFate};
+ghost use Rattle.dnp_world.specs.Rounds.{IsOfRound, IsRound, StopsIn, is_quiet_on};
+ghost use Rattle.dnp_world.specs.Shown.{StoresAreWell};
+ghost use Rattle.dnp_world.specs.Steady.{Lasts};
+ghost use Rattle.dnp_world.specs.SystemEvents.{RunsTo, StopsAfter};
+
+use crate::carrier::Carrier;
+use crate::control_laws::a_clean_control_operates;
+use crate::event::{Event, Link};
+use crate::headline_laws::{rounds_and_controls_keep_a_system_steady, steady_systems_stay_steady};
+use crate::movement_laws::a_clean_round_moves_rows;
+use crate::opening_laws::an_opened_link_is_quiet;
+use crate::round_fault::{ControlFault, RoundFault};
+use crate::stopped::Stopped;
+use crate::world::World;
+use dnp_controls::Book;
+use dnp_eventbuf::{JournalStore, Lanes};
+use std::alloc::Global;
+
+impl<Q: Lanes, J: JournalStore, A: Book, B: Book> World<Q, J, A, B> {
+    /// The events happen as [`World::run`] says, and each unit is carried before it comes to its end. One that the carrier
+    /// refuses is lost, and the list stops there: its `Deliver` counts as `Lose`.
+    pub fn run_by<C: Carrier>(
+        &mut self,
+        alloc: Global,
+        events: &[Event],
+        carrier: &mut C,
+    ) -> Result<(), Stopped>
+        ensures held { StoresAreWell Q.honest J.honest A.honest A.is_stopped B.honest B.is_stopped self.new.stores → StoresAreWell Q.honest J.honest A.honest A.is_stopped B.honest B.is_stopped self.old.stores }
+        ensures done { StoresAreWell Q.honest J.honest A.honest A.is_stopped B.honest B.is_stopped self.new.stores → OnOk result (RunsTo self.old.system events.now self.new.system) }
+        ensures stopped { StoresAreWell Q.honest J.honest A.honest A.is_stopped B.honest B.is_stopped self.new.stores → IfErr result (λ stopped. StopsAfter self.old.system events.now stopped.done self.new.system) }
+        ensures lasts { StoresAreWell Q.honest J.honest A.honest A.is_stopped B.honest B.is_stopped self.new.stores → OnOk result (Lasts events.now self.old.system self.new.system) }
+        ensures lasts_so_far { StoresAreWell Q.honest J.honest A.honest A.is_stopped B.honest B.is_stopped self.new.stores → IfErr result (λ stopped. Lasts (take stopped.done events.now) self.old.system self.new.system) }
+        ensures holds { StoresAreWell Q.honest J.honest A.honest A.is_stopped B.honest B.is_stopped self.new.stores → Holds (report_of self.new.system) }
+        ensures opens { StoresAreWell Q.honest J.honest A.honest A.is_stopped B.honest B.is_stopped self.new.stores → OnOk result (OpensQuiet events.now self.new.system) }
+    {
+        steady_systems_stay_steady();
+        an_opened_link_is_quiet();
+        self.parts.run(alloc, events, carrier)
+    }
+
+    /// A clean round as [`World::clean_round`] says, each of whose units is carried before it comes to its end. One that the
+    /// carrier refuses is lost, and the round stops there (`Fault`).
+    pub fn clean_round_by<C: Carrier>(
+        &mut self,
+        alloc: Global,
+        on: Link,
+        carrier: &mut C,
+    ) -> Result<(), RoundFault>
+        ensures held { StoresAreWell Q.honest J.honest A.honest A.is_stopped B.honest B.is_stopped self.new.stores → StoresAreWell Q.honest J.honest A.honest A.is_stopped B.honest B.is_stopped self.old.stores }
+        ensures not_quiet { (result ≡ Err RoundFault.NotQuiet) ↔ (is_quiet_on self.old.system on ≡ false) }
+        ensures unchanged { result ≡ Err RoundFault.NotQuiet → self.new ≡ self.old }
+        ensures done { StoresAreWell Q.honest J.honest A.honest A.is_stopped B.honest B.is_stopped self.new.stores → OnOk result (IsRound on self.old.system self.new.system) }
+        ensures stopped { StoresAreWell Q.honest J.honest A.honest A.is_stopped B.honest B.is_stopped self.new.stores → IfErr result (λ fault. fault ≢ RoundFault.NotQuiet → StopsIn (IsOfRound on) self.old.system self.new.system) }
+        ensures moves { StoresAreWell Q.honest J.honest A.honest A.is_stopped B.honest B.is_stopped self.new.stores → OnOk result ∥ RoundMoves on self.old.system self.new.system ∥₁ }
+        ensures fate { StoresAreWell Q.honest J.honest A.honest A.is_stopped B.honest B.is_stopped self.new.stores → IsFate (λ i. []) (report_of self.old.system) (report_of self.new.system) }
+        ensures holds { StoresAreWell Q.honest J.honest A.honest A.is_stopped B.honest B.is_stopped self.new.stores → Holds (report_of self.new.system) }
+    {
+        steady_systems_stay_steady();
+        rounds_and_controls_keep_a_system_steady();
+        a_clean_round_moves_rows();
+        self.parts.clean_round(alloc, on, carrier)
+    }
+
+    /// A clean control as [`World::clean_control`] says, each of whose units is carried before it comes to its end. One that
+    /// the carrier refuses is lost, and the control stops there (`Fault`).
+    pub fn clean_control_by<C: Carrier>(
+        &mut self,
+        alloc: Global,
+        id: u64,
+        carrier: &mut C,
+    ) -> Result<(), ControlFault>
+        ensures held { StoresAreWell Q.honest J.honest A.honest A.is_stopped B.honest B.is_stopped self.new.stores → StoresAreWell Q.honest J.honest A.honest A.is_stopped B.honest B.is_stopped self.old.stores }
+        ensures ends { StoresAreWell Q.honest J.honest A.honest A.is_stopped B.honest B.is_stopped self.new.stores → ControlEnds id self.old.system result self.new.system }
+        ensures operates { StoresAreWell Q.honest J.honest A.honest A.is_stopped B.honest B.is_stopped self.new.stores → IsFreeAbove self.old.system → OnOk result ∥ ControlMoves id self.old.system self.new.system ∥₁ }
+        ensures rests { StoresAreWell Q.honest J.honest A.honest A.is_stopped B.honest B.is_stopped self.new.stores → IsFreeAbove self.old.system → (status : ℕ) → result ≡ Err (ControlFault.Refused status) → self.new.system.history.operated ≡ self.old.system.history.operated }
+        ensures fate { StoresAreWell Q.honest J.honest A.honest A.is_stopped B.honest B.is_stopped self.new.stores → IsFate (λ i. []) (report_of self.old.system) (report_of self.new.system) }
+        ensures holds { StoresAreWell Q.honest J.honest A.honest A.is_stopped B.honest B.is_stopped self.new.stores → Holds (report_of self.new.system) }
+    {
+        steady_systems_stay_steady();
+        rounds_and_controls_keep_a_system_steady();
+        a_clean_control_operates();
+        self.parts.clean_control(alloc, id, carrier)
+    }
+}
