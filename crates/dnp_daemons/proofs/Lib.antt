@@ -9,6 +9,7 @@ mod PlannedPoints
 mod ReportLists
 mod Numbers
 mod Opened
+mod RoundResults
 mod Said
 mod Scripts
 mod ScriptReporting

@@ -15,31 +15,32 @@ use Rattle.dnp_daemons.specs.declared.run.ScriptStop.TheVariants as stop
 use Rattle.dnp_daemons.specs.declared.script.ScriptLine.{ScriptLine}
 use Rattle.dnp_daemons.specs.Judgements.{AreGood, IsRefusal, refused_line}
 use Rattle.dnp_daemons.specs.Simulations.{Run, AreUnfinished, RefusalCut, Begun, Unrun, PlanEnds, Unmade, Made, TextsEnd}
+use Rattle.dnp_daemons.specs.ScriptLines.{LineReader}
 use Rattle.dnp_daemons.specs.ScriptReports.{ReportEnds}
 use Rattle.dnp_daemons.specs.ScriptWorlds.{law_of_worlds, plain_system}
 use Rattle.dnp_daemons.specs.steps.Judging.{SaysRefused}
 use Rattle.dnp_world.specs.Systems.{System}
 
 -- a refusal that was not written to its end
-pub cut_refusal : (plan script name : List ℕ) (number : ℕ) (by : ScriptStop) (held held' : Option (List ℕ))
-    → IsRefusal plan script (refused_line name number) → SaysRefused name number (Err by) held held' → AreUnfinished plan script by held held'
-cut_refusal plan script name number stop.WriteFailed held held' refusal said =
-    RefusalCut said.0 said.1 (subst (IsRefusal plan script) said.2 refusal) refl said.3
-cut_refusal plan script name number (stop.Stopped n) held held' refusal said = absurd said
-cut_refusal plan script name number (stop.Fault cause) held held' refusal said = absurd said
+pub cut_refusal : (reads : LineReader) (plan script name : List ℕ) (number : ℕ) (by : ScriptStop) (held held' : Option (List ℕ))
+    → IsRefusal reads plan script (refused_line name number) → SaysRefused name number (Err by) held held' → AreUnfinished reads plan script by held held'
+cut_refusal reads plan script name number stop.WriteFailed held held' refusal said =
+    RefusalCut said.0 said.1 (subst (IsRefusal reads plan script) said.2 refusal) refl said.3
+cut_refusal reads plan script name number (stop.Stopped n) held held' refusal said = absurd said
+cut_refusal reads plan script name number (stop.Fault cause) held held' refusal said = absurd said
 
 -- a script that was run to its report
-pub run_done : (plan script : List ℕ) (of : Plan) (lines : List ScriptLine) (done : ⊤) (held held' : Option (List ℕ)) → AreGood plan script of lines
-    → PlanEnds of lines (Ok done) held held' → TextsEnd plan script (Ok 0) held held'
-run_done plan script of lines done held held' good (Unmade is same) = absurd (cc)
-run_done plan script of lines done held held' good (Made new ends) = (ends.0, Run of lines new good ends.1 refl, ends.2)
+pub run_done : (reads : LineReader) (plan script : List ℕ) (of : Plan) (lines : List ScriptLine) (done : ⊤) (held held' : Option (List ℕ)) → AreGood reads plan script of lines
+    → PlanEnds of lines (Ok done) held held' → TextsEnd reads plan script (Ok 0) held held'
+run_done reads plan script of lines done held held' good (Unmade is same) = absurd (cc)
+run_done reads plan script of lines done held held' good (Made new ends) = (ends.0, Run of lines new good ends.1 refl, ends.2)
 
 -- one that was not
-pub run_cut : (plan script : List ℕ) (of : Plan) (lines : List ScriptLine) (by : ScriptStop) (held held' : Option (List ℕ)) → AreGood plan script of lines
-    → PlanEnds of lines (Err by) held held' → AreUnfinished plan script by held held'
-run_cut plan script of lines by held held' good (Unmade is same) =
+pub run_cut : (reads : LineReader) (plan script : List ℕ) (of : Plan) (lines : List ScriptLine) (by : ScriptStop) (held held' : Option (List ℕ)) → AreGood reads plan script of lines
+    → PlanEnds of lines (Err by) held held' → AreUnfinished reads plan script by held held'
+run_cut reads plan script of lines by held held' good (Unmade is same) =
     let why : by ≡ stop.Fault cause.Memory = cc in Unrun why same
-run_cut plan script of lines by held held' good (Made new ends) = Begun of lines new good ends
+run_cut reads plan script of lines by held held' good (Made new ends) = Begun of lines new good ends
 
 -- a script that was run on a system that was new
 pub on_new : (of : Plan) (lines : List ScriptLine) (result : Result ⊤ ScriptStop) (old new : System) (held held' : Option (List ℕ)) → old ≡ plain_system of

@@ -7,7 +7,7 @@ use Rattle.dnp_daemons.specs.declared.plan_text.PlanTextFault.{PlanTextFault}
 use Rattle.dnp_daemons.specs.declared.plan_text.PlanTextFault.TheVariants.{Syntax, Field, Range, Class, TooWide, Overlap, Memory}
 use Rattle.dnp_daemons.specs.declared.script.ScriptLine.{ScriptLine}
 use Rattle.dnp_daemons.specs.PlanText.{IsPlanOf, IsRefusedFor}
-use Rattle.dnp_daemons.specs.ScriptLines.{first_misfit, reading_of}
+use Rattle.dnp_daemons.specs.ScriptLines.{LineReader, first_unread}
 use Rattle.dnp_daemons.specs.Words.{lines_of}
 
 -- a text is refused, by this number
@@ -32,17 +32,17 @@ pub record HasNoPlan (plan : List ℕ) (number : ℕ) : Type 0 where
   pub number_is : number ≡ fault_number fault
 
 -- the text says a plan, and this line of the script is the first that doesn't fit
-pub record HasNoScript (plan script : List ℕ) (line : ℕ) : Type 0 where
+pub record HasNoScript (reads : LineReader) (plan script : List ℕ) (line : ℕ) : Type 0 where
   pub of : Plan
   pub said : IsPlanOf plan of
-  pub misfit : first_misfit (length of.substations) (lines_of script) ≡ Some line
+  pub misfit : first_unread (reads (length of.substations)) (lines_of script) ≡ Some line
 
 -- the texts say this plan, and this script for it
-pub record AreGood (plan script : List ℕ) (of : Plan) (lines : List ScriptLine) : Type 0 where
+pub record AreGood (reads : LineReader) (plan script : List ℕ) (of : Plan) (lines : List ScriptLine) : Type 0 where
   pub said : IsPlanOf plan of
-  pub read : map (reading_of (length of.substations)) (lines_of script) ≡ map Some lines
+  pub read : map (reads (length of.substations)) (lines_of script) ≡ map Some lines
 
 -- one of the texts is refused, and this is printed
-pub data IsRefusal (plan script text : List ℕ) : Type 0 where
-  NoPlan : (number : ℕ) → HasNoPlan plan number → text ≡ refused_line (codes "plan") number → IsRefusal plan script text
-  NoScript : (line : ℕ) → HasNoScript plan script line → text ≡ refused_line (codes "line") line → IsRefusal plan script text
+pub data IsRefusal (reads : LineReader) (plan script text : List ℕ) : Type 0 where
+  NoPlan : (number : ℕ) → HasNoPlan plan number → text ≡ refused_line (codes "plan") number → IsRefusal reads plan script text
+  NoScript : (line : ℕ) → HasNoScript reads plan script line → text ≡ refused_line (codes "line") line → IsRefusal reads plan script text

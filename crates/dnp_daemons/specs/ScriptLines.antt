@@ -1,5 +1,5 @@
 -- Definition: the lines of a script, by their words.
-use Rattle.std.specs.Prelude.{ℕ, ◌+◌, ◌^◌, not, if◌then◌else◌, List, [], ◌∷◌, Option, Some, None, codes, position}
+use Rattle.std.specs.Prelude.{ℕ, ◌+◌, ◌^◌, Bool, true, false, not, if◌then◌else◌, List, [], ◌∷◌, Option, Some, None, codes, position}
 use Rattle.std.specs.Option.{option_map, is_some}
 use Rattle.dnp_master.specs.declared.task.Task.TheVariants.{Poll, ClearRestart, Enable, Disable, WriteTime}
 use Rattle.dnp_objects.specs.declared.command.Command.{Command}
@@ -147,6 +147,29 @@ line_named n (verb ∷ substation ∷ form ∷ index ∷ value ∷ more) = at_in
 abbrev pub reading_of : ℕ → List ℕ → Option ScriptLine
 reading_of substations line = line_named substations (words_of line)
 
--- the first of the lines that doesn't fit, counted from 1
+-- it loses, repeats and damages no unit
+abbrev pub is_lossless : ScriptLine → Bool
+is_lossless (One (Lose link way)) = false
+is_lossless (One (Repeat link way)) = false
+is_lossless (One (Damage link way octets)) = false
+is_lossless _ = true
+
+abbrev pub if_lossless : Option ScriptLine → Option ScriptLine
+if_lossless None = None
+if_lossless (Some line) = if is_lossless line then Some line else None
+
+-- what a line says, if it fits where units are carried
+abbrev pub lossless_reading_of : ℕ → List ℕ → Option ScriptLine
+lossless_reading_of substations line = if_lossless (reading_of substations line)
+
+-- what lines say, for a plan of so many substations, where they fit
+abbrev pub LineReader : Type 0
+LineReader = ℕ → List ℕ → Option ScriptLine
+
+-- the first of the lines that reads as none, counted from 1
+abbrev pub first_unread : (List ℕ → Option ScriptLine) → List (List ℕ) → Option ℕ
+first_unread reading lines = option_map (λ k. k + 1) (position (λ line. not (is_some (reading line))) lines)
+
+-- the first of the lines that doesn't fit
 abbrev pub first_misfit : ℕ → List (List ℕ) → Option ℕ
-first_misfit substations lines = option_map (λ k. k + 1) (position (λ line. not (is_some (reading_of substations line))) lines)
+first_misfit substations lines = first_unread (reading_of substations) lines

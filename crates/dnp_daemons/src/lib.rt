@@ -30,7 +30,7 @@ pub use planned::{MASTER_BELOW, PlannedOutstation, outstation_address, planned_o
 pub use report_text::{PrintFault, print_report};
 pub use run::{ScriptStop, Scripted, run_script};
 pub use script::{ScriptFault, ScriptLine, number_in, read_script};
-pub use sim::sim_text;
+pub use sim::{loop_text, sim_text};
 pub use stream::{
     Above, Answer, Asked, Asker, Below, Clocked, Log, ServeFault, Served, Station, StationFault,
     ask_noted, ask_stream, serve_noted, serve_stream,

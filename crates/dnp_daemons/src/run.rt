@@ -12,6 +12,7 @@ use std::alloc::Global;
 use std::io::Write;
 use thiserror::Error;
 
+pub(crate) mod carried;
 mod line;
 pub(crate) mod printing;
 pub(crate) mod reporting;

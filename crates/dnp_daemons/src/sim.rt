@@ -1,9 +1,12 @@
 //! A plan and a script, judged and then run.
 
 ghost use Rattle.dnp_concentrator.specs.Plan.{KeepsLimits};
+ghost use Rattle.dnp_daemons.specs.ScriptLines.{lossless_reading_of, reading_of};
 ghost use Rattle.dnp_daemons.specs.Simulations.{PlanEnds, TextsEnd};
+ghost use Rattle.dnp_daemons.specs.steps.Judging.{reading_by};
 
 use crate::run::ScriptStop;
+use crate::run::carried::Carried;
 use crate::run::reporting::run_to_report;
 use crate::script::ScriptLine;
 use crate::sim::judging::{Judged, judge, print_refusal};
@@ -12,7 +15,7 @@ use dnp_controls::PlainBook;
 use dnp_eventbuf::laws::lanes_stay_sound;
 use dnp_eventbuf::{PlainJournal, PlainLanes};
 use dnp_world::standing_laws::plans_have_all_lanes;
-use dnp_world::{Cause, World};
+use dnp_world::{Carrier, Cause, InMemory, World};
 use std::alloc::Global;
 use std::io::Write;
 
@@ -25,10 +28,11 @@ const DONE: u8 = 0;
 const REFUSED: u8 = 1;
 
 /// Runs a script on a new system of the plan, over stores in memory, and prints the report at its end.
-fn simulate<W: Write>(
+fn simulate<C: Carrier + Drop, W: Write>(
     alloc: Global,
     plan: &Plan,
     script: &[ScriptLine],
+    carrier: C,
     out: &mut W,
 ) -> Result<(), ScriptStop>
     requires { KeepsLimits plan.now }
@@ -48,8 +52,42 @@ fn simulate<W: Write>(
         PlainBook::new(alloc),
     );
     match made {
-        Ok(mut world) => run_to_report(alloc, &mut world, script, out),
+        Ok(world) => {
+            let mut carried = Carried { world, carrier };
+            run_to_report(alloc, &mut carried, script, out)
+        }
         Err(_) => Err(ScriptStop::Fault(Cause::Memory)),
+    }
+}
+
+/// Runs a script on a new system of a plan, whose units may be carried, and prints the report at its end.
+fn texts_by<C: Carrier + Drop, W: Write>(
+    alloc: Global,
+    plan: &str,
+    script: &str,
+    carried: bool,
+    carrier: C,
+    out: &mut W,
+) -> Result<u8, ScriptStop>
+    ensures { TextsEnd (reading_by carried) plan.now script.now result (W.contents out.old) (W.contents out.new) }
+{
+    let judged = match judge(alloc, plan, script, carried) {
+        Ok(judged) => judged,
+        Err(stop) => return Err(stop),
+    };
+    match judged {
+        Judged::Good(plan, script) => match simulate(alloc, &plan, &script, carrier, out) {
+            Ok(()) => Ok(DONE),
+            Err(stop) => Err(stop),
+        },
+        Judged::NoPlan(number) => match print_refusal(b"plan", number, out) {
+            Ok(()) => Ok(REFUSED),
+            Err(stop) => Err(stop),
+        },
+        Judged::NoScript(number) => match print_refusal(b"line", number, out) {
+            Ok(()) => Ok(REFUSED),
+            Err(stop) => Err(stop),
+        },
     }
 }
 
@@ -65,24 +103,23 @@ pub fn sim_text<W: Write>(
     script: &str,
     out: &mut W,
 ) -> Result<u8, ScriptStop>
-    ensures { TextsEnd plan.now script.now result (W.contents out.old) (W.contents out.new) }
+    ensures { TextsEnd reading_of plan.now script.now result (W.contents out.old) (W.contents out.new) }
 {
-    let judged = match judge(alloc, plan, script) {
-        Ok(judged) => judged,
-        Err(stop) => return Err(stop),
-    };
-    match judged {
-        Judged::Good(plan, script) => match simulate(alloc, &plan, &script, out) {
-            Ok(()) => Ok(DONE),
-            Err(stop) => Err(stop),
-        },
-        Judged::NoPlan(number) => match print_refusal(b"plan", number, out) {
-            Ok(()) => Ok(REFUSED),
-            Err(stop) => Err(stop),
-        },
-        Judged::NoScript(number) => match print_refusal(b"line", number, out) {
-            Ok(()) => Ok(REFUSED),
-            Err(stop) => Err(stop),
-        },
-    }
+    texts_by(alloc, plan, script, false, InMemory, out)
+}
+
+/// Runs a script as [`sim_text`] does, and carries each unit of the system's lines before it comes to its end.
+///
+/// A line that loses, repeats or damages a unit is refused as one that doesn't fit. Where the carrier refuses a unit, the
+/// script stops.
+pub fn loop_text<C: Carrier + Drop, W: Write>(
+    alloc: Global,
+    plan: &str,
+    script: &str,
+    carrier: C,
+    out: &mut W,
+) -> Result<u8, ScriptStop>
+    ensures { TextsEnd lossless_reading_of plan.now script.now result (W.contents out.old) (W.contents out.new) }
+{
+    texts_by(alloc, plan, script, true, carrier, out)
 }

@@ -2,12 +2,12 @@
 
 ghost use Rattle.std.specs.Prelude.{◌≡◌, IfErr, IfOk};
 ghost use Rattle.dnp_world.specs.declared.stopped.Cause.TheVariants.{Memory};
-ghost use Rattle.dnp_daemons.specs.steps.Judging.{IsJudged, SaysRefused};
+ghost use Rattle.dnp_daemons.specs.steps.Judging.{IsJudged, SaysRefused, reading_by};
 
 use crate::plan_text::{PlanTextFault, read_plan};
 use crate::run::ScriptStop;
 use crate::run::printing::write_parts;
-use crate::script::{ScriptFault, ScriptLine, read_script};
+use crate::script::{ScriptFault, ScriptLine, read_lines};
 use dnp_concentrator::Plan;
 use dnp_world::Cause;
 use itoa::Buffer;
@@ -25,9 +25,14 @@ pub(crate) enum Judged {
     NoScript(usize),
 }
 
-/// Judges the text of a plan, and then the text of a script for it.
-pub(crate) fn judge(alloc: Global, plan: &str, script: &str) -> Result<Judged, ScriptStop>
-    ensures judged { IfOk result (IsJudged plan.now script.now) }
+/// Judges the text of a plan, and then the text of a script for it, whose units may be carried.
+pub(crate) fn judge(
+    alloc: Global,
+    plan: &str,
+    script: &str,
+    carried: bool,
+) -> Result<Judged, ScriptStop>
+    ensures judged { IfOk result (IsJudged (reading_by carried) plan.now script.now) }
     ensures unjudged { IfErr result (λ stop. stop ≡ ScriptStop.Fault Memory) }
 {
     let plan = match read_plan(alloc, plan) {
@@ -35,7 +40,7 @@ pub(crate) fn judge(alloc: Global, plan: &str, script: &str) -> Result<Judged, S
         Err(PlanTextFault::Memory) => return Err(ScriptStop::Fault(Cause::Memory)),
         Err(fault) => return Ok(Judged::NoPlan(fault as usize)),
     };
-    match read_script(alloc, script, &plan) {
+    match read_lines(alloc, script, &plan, carried) {
         Ok(script) => Ok(Judged::Good(plan, script)),
         Err(ScriptFault::Line(number)) => Ok(Judged::NoScript(number)),
         Err(ScriptFault::Memory) => Err(ScriptStop::Fault(Cause::Memory)),

@@ -1,20 +1,21 @@
 use Rattle.std.proofs.Common.{codes, refl}
 use Rattle.dnp_daemons.specs.Judgements.{NoPlan, NoScript, refused_line}
 use Rattle.dnp_daemons.specs.Simulations.{Refused}
+use Rattle.dnp_daemons.specs.steps.Judging.{reading_by}
 use Rattle.dnp_daemons.proofs.Simulating.{cut_refusal, run_cut, run_done}
-use Rattle.dnp_daemons.proofs.sim.sim_text.Goals as goal
+use Rattle.dnp_daemons.proofs.sim.texts_by.Goals as goal
 
 pub returns-in-Ok-simulate : goal.returns-in-Ok-simulate
 returns-in-Ok-simulate g c =
     let good = rw c.in-Good.is at c.in-Ok.ensures.judged in
     let ends = rw c.deref.ensures.value at c.in-Ok-simulate.ensures in
-    run_done c.args.plan.now c.args.script.now _ _ c.in-Ok-simulate.field-0 _ _ good ends
+    run_done (reading_by c.args.carried) c.args.plan.now c.args.script.now _ _ c.in-Ok-simulate.field-0 _ _ good ends
 
 pub returns-in-Good : goal.returns-in-Good
 returns-in-Good g c =
     let good = rw c.in-Good.is at c.in-Ok.ensures.judged in
     let ends = rw c.deref.ensures.value at c.in-Err-simulate.ensures in
-    run_cut c.args.plan.now c.args.script.now _ _ c.in-Err-simulate.stop _ _ good ends
+    run_cut (reading_by c.args.carried) c.args.plan.now c.args.script.now _ _ c.in-Err-simulate.stop _ _ good ends
 
 pub returns-in-Ok-print_refusal : goal.returns-in-Ok-print_refusal
 returns-in-Ok-print_refusal g c =
@@ -27,7 +28,7 @@ returns-in-Ok-print_refusal g c =
 pub returns-in-NoPlan : goal.returns-in-NoPlan
 returns-in-NoPlan g c =
     let none = rw c.in-NoPlan.is at c.in-Ok.ensures.judged in
-    cut_refusal c.args.plan.now c.args.script.now (codes "plan") c.in-NoPlan.number c.in-Err-print_refusal.stop _ _
+    cut_refusal (reading_by c.args.carried) c.args.plan.now c.args.script.now (codes "plan") c.in-NoPlan.number c.in-Err-print_refusal.stop _ _
     (NoPlan c.in-NoPlan.number none refl) c.in-Err-print_refusal.ensures
 
 pub returns-in-Ok-print_refusal-2 : goal.returns-in-Ok-print_refusal-2
@@ -41,5 +42,5 @@ returns-in-Ok-print_refusal-2 g c =
 pub returns : goal.returns
 returns g c =
     let none = rw c.in-NoScript.is at c.in-Ok.ensures.judged in
-    cut_refusal c.args.plan.now c.args.script.now (codes "line") c.in-NoScript.number c.in-Err-print_refusal-2.stop _ _
+    cut_refusal (reading_by c.args.carried) c.args.plan.now c.args.script.now (codes "line") c.in-NoScript.number c.in-Err-print_refusal-2.stop _ _
     (NoScript c.in-NoScript.number none refl) c.in-Err-print_refusal-2.ensures

@@ -1,0 +1,57 @@
+//! A script over a system whose units are carried.
+
+use crate::run::scripted::Scripted;
+use dnp_controls::Book;
+use dnp_eventbuf::{JournalStore, Lanes};
+use dnp_world::{Carrier, Cause, ControlFault, Event, Link, Report, RoundFault, Way, World};
+use std::alloc::Global;
+use std::slice;
+
+/// A system, and what carries the units of its lines from one station to another.
+#[derive(Drop)]
+pub(crate) struct Carried<Q: Lanes, J: JournalStore, A: Book, B: Book, C> {
+    /// The system.
+    pub world: World<Q, J, A, B>,
+    /// What carries its units.
+    pub carrier: C,
+}
+
+impl<Q: Lanes, J: JournalStore, A: Book, B: Book, C: Carrier> Scripted for Carried<Q, J, A, B, C> {
+    ghost use Rattle.dnp_daemons.specs.ScriptWorlds.{law_of_worlds};
+    ghost use Rattle.dnp_world.specs.Shown.{StoresAreWell};
+    ghost use Rattle.dnp_world.specs.Systems.{System};
+
+    ghost State = { System };
+
+    ghost state = { λ s. s.world.system };
+
+    ghost honest = { λ s. StoresAreWell Q.honest J.honest A.honest A.is_stopped B.honest B.is_stopped s.world.stores };
+
+    ghost law = { law_of_worlds };
+
+    fn happen(&mut self, alloc: Global, event: &Event) -> Result<(), Cause> {
+        match self
+            .world
+            .run_by(alloc, slice::from_ref(event), &mut self.carrier)
+        {
+            Ok(()) => Ok(()),
+            Err(stopped) => Err(stopped.cause),
+        }
+    }
+
+    fn standing(&self, link: Link, way: Way) -> usize {
+        self.world.standing(link, way)
+    }
+
+    fn clean_round(&mut self, alloc: Global, link: Link) -> Result<(), RoundFault> {
+        self.world.clean_round_by(alloc, link, &mut self.carrier)
+    }
+
+    fn clean_control(&mut self, alloc: Global, id: u64) -> Result<(), ControlFault> {
+        self.world.clean_control_by(alloc, id, &mut self.carrier)
+    }
+
+    fn report(&mut self, alloc: Global) -> Result<Report, Cause> {
+        self.world.report(alloc)
+    }
+}
