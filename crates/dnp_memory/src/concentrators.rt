@@ -1,6 +1,8 @@
-//! A centre and a concentrator: an event that comes from a substation, and a control that goes towards it.
+//! A centre and a concentrator: an event that comes from a substation, by direct calls or on a stream, and a control that
+//! goes towards it.
 
 use crate::outstations::with_digits;
+use crate::streams;
 use dnp_concentrator::{Centre, Concentrator, Listed, Plan, Relayed, SubPlan};
 use dnp_controls::PlainBook;
 use dnp_eventbuf::{PlainJournal, PlainLanes};
@@ -174,10 +176,14 @@ fn go(alloc: Global, pair: &mut Pair) -> Option<u64> {
     Some(number)
 }
 
-/// Does the same with stations of its own, and takes them apart in the end: that their stores are dropped is proved sooner
-/// than that of whole stations.
-fn finish(alloc: Global, mut pair: Pair) -> Option<u64> {
-    let number = go(alloc, &mut pair);
+/// Does the same with stations of its own, or asks on a stream, and takes them apart in the end: that their stores are
+/// dropped is proved sooner than that of whole stations.
+fn finish(alloc: Global, mut pair: Pair, is_on_stream: bool) -> Option<u64> {
+    let number = if is_on_stream {
+        streams::ask(alloc, &mut pair.concentrator)
+    } else {
+        go(alloc, &mut pair)
+    };
     let Pair {
         concentrator,
         centre,
@@ -188,10 +194,11 @@ fn finish(alloc: Global, mut pair: Pair) -> Option<u64> {
 }
 
 /// Lets an event go up and a control go down. The number has two digits for each: how many rows the queue drops, how long
-/// the response is, how many events the centre takes, how long the answers to its SELECT and OPERATE are.
-pub(crate) fn run(alloc: Global) -> Option<u64> {
+/// the response is, how many events the centre takes, how long the answers to its SELECT and OPERATE are. Or asks for
+/// events on a stream, with the number of that.
+pub(crate) fn run(alloc: Global, is_on_stream: bool) -> Option<u64> {
     match begin(alloc) {
-        Some(pair) => finish(alloc, pair),
-        None => finish(alloc, begin(alloc)?),
+        Some(pair) => finish(alloc, pair, is_on_stream),
+        None => finish(alloc, begin(alloc)?, is_on_stream),
     }
 }

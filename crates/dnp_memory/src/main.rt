@@ -1,7 +1,8 @@
 //! Cases for tests/memory, which runs this program with each of its requests for memory refused in
 //! turn. Each case makes a number of what its calls answer. A call that was refused is made once
-//! more, and has to do then what it would have done: a refusal changes nothing. So what is printed
-//! is the same whichever request is refused, as `stdout` has it. Printing asks for no memory.
+//! more, and has to do then what it would have done: a refusal changes nothing. A stream on which a
+//! call was refused is served once more from its beginning. So what is printed is the same whichever
+//! request is refused, as `stdout` has it. Printing asks for no memory.
 #![tactic(auto)]
 
 mod concentrators;
@@ -13,7 +14,10 @@ mod lines;
 mod masters;
 mod outstations;
 mod points;
+mod streams;
+mod texts;
 
+use crate::outstations::Case;
 use std::io;
 
 /// Runs each case and prints its line.
@@ -27,9 +31,17 @@ fn main(rt: HostRuntime) -> io::Result<()> {
     print(&rt, "master", masters::poll(alloc))?;
     print(&rt, "book", controls::add_and_list(alloc))?;
     print(&rt, "outputs", controls::operate(alloc))?;
-    print(&rt, "outstation", outstations::run(alloc, false))?;
-    print(&rt, "unsolicited", outstations::run(alloc, true))?;
-    print(&rt, "concentrator", concentrators::run(alloc))
+    print(&rt, "outstation", outstations::run(alloc, Case::Polled))?;
+    print(
+        &rt,
+        "unsolicited",
+        outstations::run(alloc, Case::Unsolicited),
+    )?;
+    print(&rt, "concentrator", concentrators::run(alloc, false))?;
+    print(&rt, "serve_stream", outstations::run(alloc, Case::Served))?;
+    print(&rt, "ask_stream", concentrators::run(alloc, true))?;
+    print(&rt, "plan", texts::plan_text(alloc))?;
+    print(&rt, "script", texts::script_text(alloc))
 }
 
 /// Prints a case's name and its number, or that it took a wrong turn.

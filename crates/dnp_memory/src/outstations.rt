@@ -1,5 +1,6 @@
-//! An outstation that is polled, and one that sends unsolicited responses and operates.
+//! An outstation that is polled, one that sends unsolicited responses and operates, and one on a stream.
 
+use crate::streams;
 use dnp_controls::PlainOutputs;
 use dnp_eventbuf::{Lane, LaneRow, Lanes, PlainLanes, is_carried};
 use dnp_objects::{Kind, Row};
@@ -7,7 +8,19 @@ use dnp_outstation::{Actions, Outstation};
 use dnp_pointdb::{Block, Point, PointDb, PointPlan, Points, Reading, Times};
 use std::alloc::Global;
 
-type Station = Outstation<PlainLanes, PlainOutputs>;
+/// The outstation of each case.
+pub(crate) type Station = Outstation<PlainLanes, PlainOutputs>;
+
+/// What the outstation does.
+#[derive(Clone, Copy, PartialEq, Eq)]
+pub(crate) enum Case {
+    /// It is polled.
+    Polled,
+    /// It sends unsolicited responses, and operates.
+    Unsolicited,
+    /// It is polled on a stream.
+    Served,
+}
 
 const TIMES: Times = Times {
     confirm_ms: 5_000,
@@ -37,7 +50,7 @@ fn station(alloc: Global, is_unsolicited: bool) -> Option<Station> {
 }
 
 /// The binary changes.
-fn change(alloc: Global, station: &mut Station, value: i64) -> Option<Actions> {
+pub(crate) fn change(alloc: Global, station: &mut Station, value: i64) -> Option<Actions> {
     let reading = Reading {
         value,
         flags: 1,
@@ -156,19 +169,34 @@ fn report(alloc: Global, station: &mut Station) -> Option<u64> {
     operate(alloc, station, number)
 }
 
-/// Opens an outstation, and polls it, or has it send unsolicited responses and operate.
-pub(crate) fn run(alloc: Global, is_unsolicited: bool) -> Option<u64> {
+/// Opens the outstation.
+fn open(alloc: Global, station: &mut Station) -> Option<()> {
+    if station.opened(alloc, 0).is_err() {
+        station.opened(alloc, 0).ok()?;
+    }
+    Some(())
+}
+
+/// Does with the outstation what the case says.
+fn go(alloc: Global, station: &mut Station, case: Case) -> Option<u64> {
+    if case == Case::Served {
+        return streams::serve(alloc, station);
+    }
+    open(alloc, station)?;
+    if case == Case::Unsolicited {
+        report(alloc, station)
+    } else {
+        poll(alloc, station)
+    }
+}
+
+/// Makes an outstation, and does with it what the case says.
+pub(crate) fn run(alloc: Global, case: Case) -> Option<u64> {
+    let is_unsolicited = case == Case::Unsolicited;
     let mut made = station(alloc, is_unsolicited);
     if made.is_none() {
         made = station(alloc, is_unsolicited);
     }
     let mut station = made?;
-    if station.opened(alloc, 0).is_err() {
-        station.opened(alloc, 0).ok()?;
-    }
-    if is_unsolicited {
-        report(alloc, &mut station)
-    } else {
-        poll(alloc, &mut station)
-    }
+    go(alloc, &mut station, case)
 }
