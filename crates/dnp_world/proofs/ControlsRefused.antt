@@ -14,7 +14,7 @@ use Rattle.dnp_world.specs.Systems.{System}
 use Rattle.dnp_world.specs.declared.event.Link.{Link}
 use Rattle.dnp_world.proofs.ControlAccepts.{Began, second_step, select_goes}
 use Rattle.dnp_world.proofs.ControlArrivals.{ControlLaws}
-use Rattle.dnp_world.proofs.ControlsAccepted.{Answered, Begins, Ended, IsSelected, IsTaken, OverLink, Starts, Tells, answered_over, ended_good, ended_over, ended_says, finish_taken, operate_taken, pending_open, select_taken, told_of}
+use Rattle.dnp_world.proofs.ControlsAccepted.{Answered, Begins, IsSelected, IsTaken, OverLink, Starts, Tells, answered_over, ended_good, ended_over, ended_says, finish_taken, operate_taken, pending_open, select_taken, told_of}
 
 none_operated : (status : ℕ) (command : Command) → status ≢ success → operated_by status command ≡ []
 none_operated status command other = by (status == success) refl
