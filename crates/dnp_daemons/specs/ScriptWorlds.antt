@@ -7,7 +7,7 @@ use Rattle.dnp_world.specs.FreshSystems.{fresh_system}
 use Rattle.dnp_world.specs.ReportShown.{Shows}
 use Rattle.dnp_world.specs.Controls.{ControlEnds}
 use Rattle.dnp_world.specs.Rounds.{IsOfRound, IsRound, StopsIn, is_quiet_on}
-use Rattle.dnp_world.specs.SystemEvents.{RunsTo, StopsAfter}
+use Rattle.dnp_world.specs.SystemRuns.{RunsTo, StopsAfter}
 use Rattle.dnp_world.specs.Systems.{System, standing_on}
 use Rattle.dnp_world.specs.declared.event.Link.{Link}
 use Rattle.dnp_world.specs.declared.round_fault.RoundFault.{RoundFault}

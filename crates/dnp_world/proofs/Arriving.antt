@@ -13,7 +13,8 @@ use Rattle.dnp_line.specs.steps.Lower.{Lower}
 use Rattle.dnp_world.specs.Arriving.{AreInUnits, Arrive, Arrives, HearsAt, StandOn, UnderWay, answers_on, channel_on}
 use Rattle.dnp_world.specs.Channels.{ChannelState, GoDown, GoUp, line_of}
 use Rattle.dnp_world.specs.Rounds.{Flushes, deliveries}
-use Rattle.dnp_world.specs.SystemEvents.{LinesChange, RunsTo, SendsDown, with_relaying}
+use Rattle.dnp_world.specs.SystemEvents.{LinesChange, SendsDown, with_relaying}
+use Rattle.dnp_world.specs.SystemRuns.{RunsTo}
 use Rattle.dnp_world.specs.Systems.{SubstationState, System, standing_on, units_at}
 use Rattle.dnp_world.specs.declared.event.Link.{Link}
 use Rattle.dnp_world.specs.declared.event.Link.TheVariants.{Below, Above}

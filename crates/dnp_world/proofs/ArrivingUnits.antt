@@ -18,7 +18,8 @@ use Rattle.dnp_line.specs.steps.Lower.{Lower}
 use Rattle.dnp_world.specs.Arriving.{IsInUnits, TakesOn, channel_on}
 use Rattle.dnp_world.specs.Channels.{ChannelState, line_of}
 use Rattle.dnp_world.specs.Rounds.{deliveries}
-use Rattle.dnp_world.specs.SystemEvents.{ComesDownAbove, ComesDownBelow, ComesOn, ComesUp, Happens, IfThere, IsHeardUp, LinesChange, MasterTakes, MiddleAnswers, RunsTo, SubstationAnswers, with_substation}
+use Rattle.dnp_world.specs.SystemEvents.{ComesDownAbove, ComesDownBelow, ComesOn, ComesUp, IsHeardUp, LinesChange, MasterTakes, MiddleAnswers, SubstationAnswers, with_substation}
+use Rattle.dnp_world.specs.SystemRuns.{Happens, IfThere, RunsTo}
 use Rattle.dnp_world.specs.Systems.{SubstationState, System, at_station}
 use Rattle.dnp_world.specs.declared.event.Event.TheVariants.{Deliver}
 use Rattle.dnp_world.specs.declared.event.Link.{Link}

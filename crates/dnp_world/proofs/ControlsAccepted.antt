@@ -13,7 +13,8 @@ use Rattle.dnp_objects.specs.declared.command.Command.{Command}
 use Rattle.dnp_world.specs.ControlAnswers.{operated_by}
 use Rattle.dnp_world.specs.ControlExchanges.{CanBegin, ChecksAs, Ends, GoesOver, HasSelected, OperateComesTo, Refused, SelectComesTo, Stands, next_step, status_at, told_to}
 use Rattle.dnp_world.specs.Controls.{IsAccepted, Passes, PassesBack, status_on}
-use Rattle.dnp_world.specs.SystemEvents.{Happens, IsMissing, IsRefused}
+use Rattle.dnp_world.specs.SystemEvents.{IsMissing, IsRefused}
+use Rattle.dnp_world.specs.SystemRuns.{Happens}
 use Rattle.dnp_world.specs.Systems.{System}
 use Rattle.dnp_world.specs.declared.event.Event.TheVariants.{Relay}
 use Rattle.dnp_world.specs.declared.event.Link.{Link}

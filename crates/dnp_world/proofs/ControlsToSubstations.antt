@@ -11,7 +11,8 @@ use Rattle.dnp_outstation.specs.State.{State}
 use Rattle.dnp_world.specs.Arriving.{UnderWay, channel_at}
 use Rattle.dnp_world.specs.ControlExchanges.{AnswersAll, ChecksAs, Ends, HearsAll, next_step, status_at, told_to}
 use Rattle.dnp_world.specs.Controls.{Passes, PassesBack}
-use Rattle.dnp_world.specs.SystemEvents.{IfThere, Refuses, RelaysOn, Steps, requests_of, told}
+use Rattle.dnp_world.specs.SystemEvents.{Refuses, RelaysOn, Steps, requests_of, told}
+use Rattle.dnp_world.specs.SystemRuns.{IfThere}
 use Rattle.dnp_world.specs.Systems.{SubstationState, System, has_station, link_at, station_of}
 use Rattle.dnp_world.specs.declared.event.Link.TheVariants.{Below}
 use Rattle.dnp_world.proofs.ArrivingLinks.{length_set}

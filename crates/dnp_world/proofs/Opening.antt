@@ -16,7 +16,8 @@ use Rattle.dnp_pointdb.specs.declared.times.Times.{Times}
 use Rattle.dnp_world.specs.Channels.{ChannelState, GoUp, are_quiet, cleared, is_quiet_line}
 use Rattle.dnp_world.specs.Opening.{OpensQuiet, reports_at, reports_on}
 use Rattle.dnp_world.specs.Rounds.{is_quiet_at, is_quiet_on}
-use Rattle.dnp_world.specs.SystemEvents.{Happens, IfThere, OpensOn, RunsTo, with_link, with_substation}
+use Rattle.dnp_world.specs.SystemEvents.{OpensOn, with_link, with_substation}
+use Rattle.dnp_world.specs.SystemRuns.{Happens, IfThere, RunsTo}
 use Rattle.dnp_world.specs.Systems.{SubstationState, System, has_link, has_station, link_at, middle_of, station_of}
 use Rattle.dnp_world.specs.declared.event.Event.{Event}
 use Rattle.dnp_world.specs.declared.event.Event.TheVariants.{Open}

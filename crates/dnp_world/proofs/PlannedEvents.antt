@@ -21,7 +21,8 @@ use Rattle.dnp_pointdb.specs.declared.reading.Reading.{Reading}
 use Rattle.dnp_world.specs.Channels.{ChannelState, DamagesAt, GoDown, cleared, lost_at}
 use Rattle.dnp_world.specs.OneLinkEvents.{is_own}
 use Rattle.dnp_world.specs.Systems.{SubstationState, System, has_link, has_station, link_at, panel_of, station_of}
-use Rattle.dnp_world.specs.SystemEvents.{AsksOn, ChangesAt, ComesDownBelow, ComesOn, ComesUp, Happens, HangsUpOn, IfThere, IssuesBy, LinesChange, LosesOn, MasterReceives, MasterTakes, MasterTicks, MiddleAnswers, MiddleSteps, OpensOn, OutstationTicks, Reads, ReadsBy, RelaysOn, Steps, Refuses, SubstationAnswers, SubstationRestarts, SubstationSteps, concentrator_restarted, master_gone, step_on, taken_on, told, with_lost, with_link, with_relaying, with_substation}
+use Rattle.dnp_world.specs.SystemEvents.{AsksOn, ChangesAt, ComesDownBelow, ComesOn, ComesUp, HangsUpOn, IssuesBy, LinesChange, LosesOn, MasterReceives, MasterTakes, MasterTicks, MiddleAnswers, MiddleSteps, OpensOn, OutstationTicks, Reads, ReadsBy, RelaysOn, Steps, Refuses, SubstationAnswers, SubstationRestarts, SubstationSteps, concentrator_restarted, master_gone, step_on, taken_on, told, with_lost, with_link, with_relaying, with_substation}
+use Rattle.dnp_world.specs.SystemRuns.{Happens, IfThere}
 use Rattle.dnp_world.specs.declared.event.Event.{Event}
 use Rattle.dnp_world.specs.declared.event.Event.TheVariants as event
 use Rattle.dnp_world.specs.declared.event.Link.{Link}

@@ -25,7 +25,8 @@ use Rattle.dnp_pointdb.specs.declared.fault.ChangeFault.{ChangeFault}
 use Rattle.dnp_pointdb.specs.declared.reading.Reading.{Reading}
 use Rattle.dnp_world.specs.Channels.{ChannelState, DamagesAt, GoDown, lost_at}
 use Rattle.dnp_world.specs.OneLinkEvents.{is_own}
-use Rattle.dnp_world.specs.SystemEvents.{AsksOn, ChangesAt, ComesOn, ComesUp, Happens, HangsUpOn, IfThere, IssuesBy, LinesChange, LosesOn, MasterReceives, MasterTakes, MasterTicks, MiddleAnswers, OpensOn, OutstationTicks, Reads, ReadsBy, Refuses, RelaysOn, Steps, SubstationRestarts, relaying_at, step_on, taken_on, told, with_link, with_lost, with_relaying, with_substation}
+use Rattle.dnp_world.specs.SystemEvents.{AsksOn, ChangesAt, ComesOn, ComesUp, HangsUpOn, IssuesBy, LinesChange, LosesOn, MasterReceives, MasterTakes, MasterTicks, MiddleAnswers, OpensOn, OutstationTicks, Reads, ReadsBy, Refuses, RelaysOn, Steps, SubstationRestarts, relaying_at, step_on, taken_on, told, with_link, with_lost, with_relaying, with_substation}
+use Rattle.dnp_world.specs.SystemRuns.{Happens, IfThere}
 use Rattle.dnp_world.specs.SystemStanding.{points_asked}
 use Rattle.dnp_world.specs.Systems.{SubstationState, System, has_link, has_station, link_at}
 use Rattle.dnp_world.specs.declared.event.Event.{Event}

@@ -20,7 +20,8 @@ use Rattle.dnp_outstation.specs.Station.{state_of}
 use Rattle.dnp_world.specs.Arriving.{Arrive, Arrives, TakesOn, SubstationTakes, answers_below}
 use Rattle.dnp_world.specs.Channels.{ChannelState, are_quiet}
 use Rattle.dnp_world.specs.Rounds.{events_polled, is_quiet_at}
-use Rattle.dnp_world.specs.SystemEvents.{AsksOn, IfThere, LinesChange, SendsDown, concentrator_taken, dropped_for, request_of, relaying_at, taken_below, with_link}
+use Rattle.dnp_world.specs.SystemEvents.{AsksOn, LinesChange, SendsDown, concentrator_taken, dropped_for, request_of, relaying_at, taken_below, with_link}
+use Rattle.dnp_world.specs.SystemRuns.{IfThere}
 use Rattle.dnp_world.specs.Systems.{CentreState, ConcentratorState, History, SubstationState, System, at_station}
 use Rattle.dnp_world.specs.declared.event.Link.{Link}
 use Rattle.dnp_world.specs.declared.event.Link.TheVariants.{Below}

@@ -30,7 +30,8 @@ use Rattle.dnp_world.specs.FreshSystems.{fresh_substation, fresh_substations}
 use Rattle.dnp_world.specs.OneLinkEvents.{is_own}
 use Rattle.dnp_world.specs.Settled.{AreSettled, IsSettled, may_report}
 use Rattle.dnp_world.specs.Systems.{SubstationState, System, has_link, has_station, link_at, panel_of, station_of}
-use Rattle.dnp_world.specs.SystemEvents.{AsksOn, ChangesAt, ComesOn, ComesUp, Happens, HangsUpOn, IfThere, IssuesBy, LinesChange, LosesOn, MasterReceives, MasterTakes, MasterTicks, MiddleAnswers, OpensOn, OutstationTicks, Reads, ReadsBy, Refuses, RelaysOn, Steps, SubstationAnswers, SubstationRestarts, SubstationSteps, master_gone, step_on, taken_on, told, with_lost, with_link, with_relaying, with_substation}
+use Rattle.dnp_world.specs.SystemEvents.{AsksOn, ChangesAt, ComesOn, ComesUp, HangsUpOn, IssuesBy, LinesChange, LosesOn, MasterReceives, MasterTakes, MasterTicks, MiddleAnswers, OpensOn, OutstationTicks, Reads, ReadsBy, Refuses, RelaysOn, Steps, SubstationAnswers, SubstationRestarts, SubstationSteps, master_gone, step_on, taken_on, told, with_lost, with_link, with_relaying, with_substation}
+use Rattle.dnp_world.specs.SystemRuns.{Happens, IfThere}
 use Rattle.dnp_world.specs.declared.event.Event.{Event}
 use Rattle.dnp_world.specs.declared.event.Event.TheVariants as event
 use Rattle.dnp_world.specs.declared.event.Link.{Link}

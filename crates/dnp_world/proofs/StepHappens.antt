@@ -49,7 +49,8 @@ use Rattle.dnp_world.specs.CommandWidths.{HasWidths}
 use Rattle.dnp_world.specs.ControlsInStep.{GoesWith, InStep}
 use Rattle.dnp_world.specs.FreshSystems.{fresh_system}
 use Rattle.dnp_world.specs.OneLinkEvents.{is_own}
-use Rattle.dnp_world.specs.SystemEvents.{AsksOn, ComesDownAbove, ComesOn, ComesUp, HangsUpOn, Happens, IfThere, IssuesBy, MasterReceives, MasterTakes, MasterTicks, MiddleAnswers, OpensOn, OutstationTicks, Reads, ReadsBy, Refuses, RelaysOn, Steps, SubstationRestarts, concentrator_restarted, relaying_at, request_of, requests_of, taken_above, taken_below, taken_on, told, with_centre_link, with_link, with_lost}
+use Rattle.dnp_world.specs.SystemEvents.{AsksOn, ComesDownAbove, ComesOn, ComesUp, HangsUpOn, IssuesBy, MasterReceives, MasterTakes, MasterTicks, MiddleAnswers, OpensOn, OutstationTicks, Reads, ReadsBy, Refuses, RelaysOn, Steps, SubstationRestarts, concentrator_restarted, relaying_at, request_of, requests_of, taken_above, taken_below, taken_on, told, with_centre_link, with_link, with_lost}
+use Rattle.dnp_world.specs.SystemRuns.{Happens, IfThere}
 use Rattle.dnp_world.specs.SystemStanding.{IsStanding}
 use Rattle.dnp_world.specs.Systems.{System, has_link, has_station, link_at, middle_of, middle_panel}
 use Rattle.dnp_world.proofs.RelayKeeps.{above_in_step, below_in_step}

@@ -4,7 +4,7 @@ use Rattle.std.specs.Prelude.{IfErr, OnOk, ⊤}
 use Rattle.dnp_world.specs.ControlSteps.{EndsBy}
 use Rattle.dnp_world.specs.Controls.{CanGo, ControlEnds, IsAccepted, IsControlFor, IsOfControl, IsRefusedFor, IsRefusedOn, Passes, PassesBack, station_in}
 use Rattle.dnp_world.specs.Rounds.{Flushes, StopsIn}
-use Rattle.dnp_world.specs.SystemEvents.{CountsFor}
+use Rattle.dnp_world.specs.SystemRuns.{CountsFor}
 use Rattle.dnp_world.specs.Systems.{System}
 use Rattle.dnp_world.specs.declared.event.Event.{Event}
 use Rattle.dnp_world.specs.declared.event.Event.TheVariants.{Deliver, Relay}

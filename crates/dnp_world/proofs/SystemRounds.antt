@@ -3,7 +3,7 @@ use Rattle.std.proofs.Common.{◌≡◌, ℕ, true, zero, suc, ◌+◌, List, []
 use Rattle.std.specs.Prelude.{All, replicate, slice_get}
 use Rattle.std.proofs.lemmas.List.{replicate_more}
 use Rattle.dnp_world.specs.Rounds.{Flushes, IsOfRound, StopsIn, deliveries}
-use Rattle.dnp_world.specs.SystemEvents.{CountsFor, Happens, RunsTo, may_stop}
+use Rattle.dnp_world.specs.SystemRuns.{CountsFor, Happens, RunsTo, may_stop}
 use Rattle.dnp_world.specs.Systems.{System, standing_on}
 use Rattle.dnp_world.specs.declared.event.Event.{Event}
 use Rattle.dnp_world.specs.declared.event.Event.TheVariants.{Deliver}

@@ -2,7 +2,7 @@
 use Rattle.std.proofs.Common.{◌≡◌, ℕ, suc, ◌+◌, ◌<◌, ◌≤◌, Bool, true, List, [], ◌∷◌, ◌++◌, length, take, get_or, Some, refl, sym, ap, ◌∙◌, subst, arith}
 use Rattle.std.proofs.lemmas.List.{take_all}
 use Rattle.dnp_world.specs.declared.event.Event.{Event}
-use Rattle.dnp_world.specs.SystemEvents.{CountsFor, Happens, RunsTo, StopsAfter, may_stop}
+use Rattle.dnp_world.specs.SystemRuns.{CountsFor, Happens, RunsTo, StopsAfter, may_stop}
 use Rattle.dnp_world.specs.SystemParts.{AreWell, controls_of, journal_of, orders_of, queue_of}
 use Rattle.dnp_world.specs.Systems.{System}
 use Rattle.dnp_world.specs.declared.parts.Parts.{Parts}

@@ -10,7 +10,8 @@ use Rattle.dnp_concentrator.specs.Mapped.{command_below}
 use Rattle.dnp_concentrator.specs.declared.progress.Progress.{Progress}
 use Rattle.dnp_objects.specs.Status.{success}
 use Rattle.dnp_world.specs.Rounds.{Flushes, StopsIn, is_quiet_on}
-use Rattle.dnp_world.specs.SystemEvents.{Happens, entries_on}
+use Rattle.dnp_world.specs.SystemEvents.{entries_on}
+use Rattle.dnp_world.specs.SystemRuns.{Happens}
 use Rattle.dnp_world.specs.Systems.{System, link_at}
 use Rattle.dnp_world.specs.declared.event.Event.{Event}
 use Rattle.dnp_world.specs.declared.event.Event.TheVariants.{Deliver, Relay}

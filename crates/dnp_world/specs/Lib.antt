@@ -22,6 +22,7 @@ pub mod SystemStanding
 pub mod CommandWidths
 pub mod ControlsInStep
 pub mod SystemEvents
+pub mod SystemRuns
 pub mod SystemParts
 pub mod FreshSystems
 pub mod NewSystems

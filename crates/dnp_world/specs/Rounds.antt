@@ -6,7 +6,7 @@ use Rattle.dnp_master.specs.declared.task.Task.{Task}
 use Rattle.dnp_master.specs.declared.task.Task.TheVariants.{Poll}
 use Rattle.dnp_outstation.specs.State.{is_quiet}
 use Rattle.dnp_world.specs.Channels.{are_quiet}
-use Rattle.dnp_world.specs.SystemEvents.{Happens, RunsTo, StopsAfter}
+use Rattle.dnp_world.specs.SystemRuns.{Happens, RunsTo, StopsAfter}
 use Rattle.dnp_world.specs.Systems.{SubstationState, System, has_station, link_at, standing_on}
 use Rattle.dnp_world.specs.declared.event.Event.{Event}
 use Rattle.dnp_world.specs.declared.event.Event.TheVariants.{Ask, Deliver}

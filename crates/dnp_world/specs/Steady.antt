@@ -12,7 +12,7 @@ use Rattle.dnp_world.specs.Kept.{report_of}
 use Rattle.dnp_world.specs.Planned.{IsAsPlanned}
 use Rattle.dnp_world.specs.Reports.{IsFate}
 use Rattle.dnp_world.specs.Settled.{AreSettled}
-use Rattle.dnp_world.specs.SystemEvents.{Happens}
+use Rattle.dnp_world.specs.SystemRuns.{Happens}
 use Rattle.dnp_world.specs.SystemStanding.{IsStanding}
 use Rattle.dnp_world.specs.Systems.{SubstationState, System, has_station}
 use Rattle.dnp_world.specs.declared.event.Event.{Event}

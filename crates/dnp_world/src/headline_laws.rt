@@ -15,7 +15,7 @@ ghost use Rattle.dnp_world.specs.NewSystems.{AreEmpty, CanBegin};
 ghost use Rattle.dnp_world.specs.Reports.{Holds};
 ghost use Rattle.dnp_world.specs.Rounds.{IsOfRound, IsRound, StopsIn};
 ghost use Rattle.dnp_world.specs.Steady.{Goes, IsSteady, Lasts, made_by};
-ghost use Rattle.dnp_world.specs.SystemEvents.{Happens, RunsTo, StopsAfter};
+ghost use Rattle.dnp_world.specs.SystemRuns.{Happens, RunsTo, StopsAfter};
 ghost use Rattle.dnp_world.specs.Systems.{System};
 
 use crate::arrival_laws::what_comes_from_a_substation_keeps_what_stands;

@@ -3,7 +3,7 @@
 ghost use Rattle.std.specs.Prelude.{◌≡◌, List, true, false};
 ghost use Rattle.dnp_world.specs.Opening.{OpensQuiet, reports_on};
 ghost use Rattle.dnp_world.specs.Rounds.{is_quiet_on};
-ghost use Rattle.dnp_world.specs.SystemEvents.{Happens, RunsTo};
+ghost use Rattle.dnp_world.specs.SystemRuns.{Happens, RunsTo};
 ghost use Rattle.dnp_world.specs.Systems.{System, has_link};
 ghost use Rattle.dnp_world.specs.declared.event.Event.{Event};
 ghost use Rattle.dnp_world.specs.declared.event.Event.TheVariants.{Open};

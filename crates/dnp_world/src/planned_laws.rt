@@ -16,7 +16,8 @@ ghost use Rattle.dnp_world.specs.FreshSystems.{fresh_system};
 ghost use Rattle.dnp_world.specs.Happened.{HappenedAsEvents};
 ghost use Rattle.dnp_world.specs.Joined.{rows_made_by};
 ghost use Rattle.dnp_world.specs.Planned.{HappenedAsPlanned, HavePlannedPoints, IsAsPlanned};
-ghost use Rattle.dnp_world.specs.SystemEvents.{Happens, Reads};
+ghost use Rattle.dnp_world.specs.SystemEvents.{Reads};
+ghost use Rattle.dnp_world.specs.SystemRuns.{Happens};
 ghost use Rattle.dnp_world.specs.SystemStanding.{IsStanding, Keeps};
 ghost use Rattle.dnp_world.specs.Systems.{SubstationState, System, link_at};
 

@@ -21,7 +21,8 @@ ghost use Rattle.dnp_world.specs.Joined.{Follows, Joined};
 ghost use Rattle.dnp_world.specs.Link.{Link};
 ghost use Rattle.dnp_world.specs.Octets.{commands_in};
 ghost use Rattle.dnp_world.specs.OneLinkEvents.{IsAsked, LinkState};
-ghost use Rattle.dnp_world.specs.SystemEvents.{Happens, RelaysOn};
+ghost use Rattle.dnp_world.specs.SystemEvents.{RelaysOn};
+ghost use Rattle.dnp_world.specs.SystemRuns.{Happens};
 ghost use Rattle.dnp_world.specs.SystemStanding.{IsStanding, Keeps};
 ghost use Rattle.dnp_world.specs.Systems.{System, has_station};
 

@@ -6,7 +6,7 @@ ghost use Rattle.dnp_eventbuf.specs.Archive.{Archive};
 ghost use Rattle.dnp_eventbuf.specs.Stock.{Stock};
 ghost use Rattle.dnp_world.specs.FreshSystems.{fresh_system};
 ghost use Rattle.dnp_world.specs.Settled.{AreSettled};
-ghost use Rattle.dnp_world.specs.SystemEvents.{Happens};
+ghost use Rattle.dnp_world.specs.SystemRuns.{Happens};
 ghost use Rattle.dnp_world.specs.Systems.{System};
 ghost use Rattle.dnp_world.specs.declared.event.Event.{Event};
 

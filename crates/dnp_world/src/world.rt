@@ -15,7 +15,7 @@ ghost use Rattle.dnp_world.specs.Controls.{ControlEnds};
 ghost use Rattle.dnp_world.specs.Rounds.{IsOfRound, IsRound, StopsIn, is_quiet_on};
 ghost use Rattle.dnp_world.specs.Shown.{StoresAreWell};
 ghost use Rattle.dnp_world.specs.Steady.{Lasts};
-ghost use Rattle.dnp_world.specs.SystemEvents.{RunsTo, StopsAfter};
+ghost use Rattle.dnp_world.specs.SystemRuns.{RunsTo, StopsAfter};
 ghost use Rattle.dnp_world.specs.Systems.{front_on, standing_on};
 
 use crate::carrier::InMemory;

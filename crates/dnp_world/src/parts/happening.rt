@@ -1,7 +1,8 @@
 //! One event of a system after the other.
 
 ghost use Rattle.std.specs.Prelude.{◌≡◌, true, IfErr, OnErr, OnOk};
-ghost use Rattle.dnp_world.specs.SystemEvents.{ComesOn, CountsFor, Happens, RunsTo, StopsAfter, may_stop};
+ghost use Rattle.dnp_world.specs.SystemEvents.{ComesOn};
+ghost use Rattle.dnp_world.specs.SystemRuns.{CountsFor, Happens, RunsTo, StopsAfter, may_stop};
 ghost use Rattle.dnp_world.specs.SystemParts.{AreWell, system_of};
 ghost use Rattle.dnp_world.specs.Systems.{has_link};
 ghost use Rattle.dnp_world.specs.declared.event.Event.TheVariants as event;

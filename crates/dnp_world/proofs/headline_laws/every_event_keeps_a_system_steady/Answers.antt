@@ -7,7 +7,8 @@ use Rattle.dnp_world.specs.Behind.{made_at}
 use Rattle.dnp_world.specs.Channels.{DamagesAt}
 use Rattle.dnp_world.specs.OneLinkEvents.{is_own}
 use Rattle.dnp_world.specs.Steady.{Goes, IsSteady, made_by, read_at}
-use Rattle.dnp_world.specs.SystemEvents.{AsksOn, ComesDownBelow, ComesUp, Happens, HangsUpOn, IfThere, LinesChange, LosesOn, MasterTicks, OpensOn, OutstationTicks, Reads, RelaysOn, SubstationRestarts}
+use Rattle.dnp_world.specs.SystemEvents.{AsksOn, ComesDownBelow, ComesUp, HangsUpOn, LinesChange, LosesOn, MasterTicks, OpensOn, OutstationTicks, Reads, RelaysOn, SubstationRestarts}
+use Rattle.dnp_world.specs.SystemRuns.{Happens, IfThere}
 use Rattle.dnp_world.specs.SystemStanding.{Keeps}
 use Rattle.dnp_world.specs.Systems.{System, has_station}
 use Rattle.dnp_world.specs.declared.event.Event.{Event}

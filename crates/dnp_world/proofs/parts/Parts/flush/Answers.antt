@@ -1,7 +1,7 @@
 -- One unit more is delivered, or the list stops at it.
 use Rattle.std.proofs.Common.{◌≡◌, ℕ, refl, subst, arith}
 use Rattle.dnp_world.specs.Rounds.{deliveries}
-use Rattle.dnp_world.specs.SystemEvents.{RunsTo}
+use Rattle.dnp_world.specs.SystemRuns.{RunsTo}
 use Rattle.dnp_world.specs.SystemParts.{system_of}
 use Rattle.dnp_world.specs.Systems.{standing_on}
 use Rattle.dnp_world.specs.declared.event.Event.{Event}

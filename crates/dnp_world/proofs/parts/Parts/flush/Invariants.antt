@@ -1,5 +1,5 @@
 use Rattle.dnp_world.specs.Rounds.{deliveries}
-use Rattle.dnp_world.specs.SystemEvents.{RunsTo}
+use Rattle.dnp_world.specs.SystemRuns.{RunsTo}
 use Rattle.dnp_world.specs.SystemParts.{AreWell, system_of}
 use Rattle.dnp_world.proofs.parts.Parts.flush.Given as goal
 

@@ -1,5 +1,5 @@
 use Rattle.std.proofs.Common.{take}
-use Rattle.dnp_world.specs.SystemEvents.{RunsTo}
+use Rattle.dnp_world.specs.SystemRuns.{RunsTo}
 use Rattle.dnp_world.specs.SystemParts.{AreWell, system_of}
 use Rattle.dnp_world.proofs.parts.Parts.run.Given as goal
 

@@ -1,0 +1,81 @@
+-- Definition: what an event makes of a system, by what events of its kind do, and lists of events (own rule: IEEE Std 1815-2012
+-- speaks of one link at a time).
+use Rattle.std.specs.Prelude.{◌≡◌, ℕ, ◌+◌, ◌^◌, ◌-◌, Bool, true, false, List, [], ◌∷◌, min, take, slice_get, Some}
+use Rattle.dnp_line.specs.Lines.{delivered_on, repeated_on}
+use Rattle.dnp_concentrator.specs.Mapped.{command_above}
+use Rattle.dnp_world.specs.Channels.{DamagesAt}
+use Rattle.dnp_world.specs.OneLinkEvents.{is_own}
+use Rattle.dnp_world.specs.Systems.{System, has_station, has_link}
+use Rattle.dnp_world.specs.SystemEvents.{LinesChange, OpensOn, HangsUpOn, concentrator_restarted, SubstationRestarts, ComesOn, LosesOn, Reads, AsksOn, RelaysOn, IssuesBy, MasterTicks, OutstationTicks}
+use Rattle.dnp_world.specs.declared.event.Event.{Event}
+use Rattle.dnp_world.specs.declared.event.Event.TheVariants as event
+use Rattle.dnp_world.specs.declared.event.Link.TheVariants.{Above}
+use Rattle.dnp_world.specs.declared.event.Place.TheVariants as place
+use Rattle.dnp_world.specs.declared.link_event.End.TheVariants as end
+
+-- ---- the events
+
+-- an event of a link of the plan
+abbrev pub IfThere : Bool → (System → System → Type 0) → System → System → Type 0
+IfThere true Change old new = Change old new
+IfThere false Change old new = new ≡ old
+
+-- the event makes `new` of `old`; one that names nothing in the plan does nothing
+abbrev pub Happens : System → Event → System → Type 0
+Happens old (event.Open on) new = IfThere (has_link old on) (OpensOn on) old new
+Happens old (event.HangUp on end) new = IfThere (has_link old on) (HangsUpOn on end) old new
+Happens old (event.Deliver on way) new = IfThere (has_link old on) (ComesOn delivered_on on way) old new
+Happens old (event.Repeat on way) new = IfThere (has_link old on) (ComesOn repeated_on on way) old new
+Happens old (event.Lose on way) new = IfThere (has_link old on) (LosesOn on way) old new
+Happens old (event.Damage on way octets) new = IfThere (has_link old on) (LinesChange on (DamagesAt way octets)) old new
+Happens old (event.Change station kind index reading) new = IfThere (has_station old station) (Reads station kind index reading) old new
+Happens old (event.Ask on task) new = IfThere (has_link old on) (AsksOn (is_own task) on task) old new
+Happens old (event.Issue station command) new =
+    IssuesBy (command_above old.centre.indices station command) station command old new
+Happens old (event.Relay on) new = IfThere (has_link old on) (RelaysOn on) old new
+Happens old (event.Pass ms) new = new ≡ record old { now = min (old.now + ms) (2 ^ 64 - 1) }
+Happens old (event.Tick on end.Master) new = IfThere (has_link old on) (MasterTicks on) old new
+Happens old (event.Tick on end.Outstation) new = IfThere (has_link old on) (OutstationTicks on) old new
+Happens old (event.Restart place.Centre) new = HangsUpOn Above end.Master old new
+Happens old (event.Restart place.Concentrator) new = new ≡ concentrator_restarted old
+Happens old (event.Restart (place.Substation station)) new = IfThere (has_station old station) (SubstationRestarts station) old new
+
+-- ---- lists of events
+
+-- they happen one after the other
+abbrev pub RunsTo : System → List Event → System → Type 0
+RunsTo old [] new = new ≡ old
+RunsTo old (event ∷ events) new = (next : System) × Happens old event next × RunsTo next events new
+
+-- an event at which a list stops is lost if it is a delivery, and else left out
+abbrev pub CountsFor : System → Event → System → Type 0
+CountsFor old (event.Deliver on way) new = Happens old (event.Lose on way) new
+CountsFor old event new = new ≡ old
+
+-- the events at which a store, or a request for memory, is asked
+abbrev pub may_stop : Event → Bool
+may_stop (event.Open on) = true
+may_stop (event.HangUp on end) = false
+may_stop (event.Deliver on way) = true
+may_stop (event.Repeat on way) = true
+may_stop (event.Lose on way) = false
+may_stop (event.Damage on way octets) = false
+may_stop (event.Change station kind index reading) = true
+may_stop (event.Ask on task) = true
+may_stop (event.Issue station command) = true
+may_stop (event.Relay on) = true
+may_stop (event.Pass ms) = false
+may_stop (event.Tick on end.Master) = false
+may_stop (event.Tick on end.Outstation) = true
+may_stop (event.Restart place.Centre) = false
+may_stop (event.Restart place.Concentrator) = false
+may_stop (event.Restart (place.Substation station)) = true
+
+-- so many events were done, and the list stopped at the one behind them, whose refusal has changed nothing
+pub record StopsAfter (old : System) (events : List Event) (done : ℕ) (new : System) : Type 0 where
+  pub before : System
+  pub ran : RunsTo old (take done events) before
+  pub event : Event
+  pub next : slice_get events done ≡ Some event
+  pub may : may_stop event ≡ true
+  pub counts : CountsFor before event new
