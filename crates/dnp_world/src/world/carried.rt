@@ -10,7 +10,7 @@ ghost use Rattle.dnp_world.specs.Reports.{Holds, IsFate};
 ghost use Rattle.dnp_world.specs.Rounds.{IsOfRound, IsRound, StopsIn, is_quiet_on};
 ghost use Rattle.dnp_world.specs.Shown.{StoresAreWell};
 ghost use Rattle.dnp_world.specs.Steady.{Lasts};
-ghost use Rattle.dnp_world.specs.SystemEvents.{RunsTo, StopsAfter};
+ghost use Rattle.dnp_world.specs.SystemRuns.{RunsTo, StopsAfter};
 
 use crate::carrier::Carrier;
 use crate::control_laws::a_clean_control_operates;
