@@ -69,7 +69,8 @@ few_substations s planned = by (slice_get_cases s.substations NUMBERS).1
     past : slice_get planned.plan.substations NUMBERS ≡ None
     past = slice_get_past planned.plan.substations NUMBERS (omega (arith, planned.limits.few))
 
-    by : ((was : SubstationState) × (NUMBERS < length s.substations) × (slice_get s.substations NUMBERS ≡ Some was) × (get_or s.substations NUMBERS was ≡ was))
+    by : ((was : SubstationState) × (NUMBERS < length s.substations) × (slice_get s.substations NUMBERS ≡ Some was)
+        × (get_or s.substations NUMBERS was ≡ was))
         ⊎ ((length s.substations ≤ NUMBERS) × (slice_get s.substations NUMBERS ≡ None)) → length s.substations ≤ NUMBERS
     by (inl (was, low, there, is)) =
         absurd (subst (λ (plan : Option SubPlan). Planned plan (Some was)) past
