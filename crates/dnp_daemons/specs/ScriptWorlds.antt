@@ -6,7 +6,7 @@ use Rattle.dnp_eventbuf.specs.Stock.{empty_stock}
 use Rattle.dnp_world.specs.FreshSystems.{fresh_system}
 use Rattle.dnp_world.specs.ReportShown.{Shows}
 use Rattle.dnp_world.specs.Controls.{ControlEnds}
-use Rattle.dnp_world.specs.Rounds.{IsOfRound, IsRound, StopsIn, is_quiet_on}
+use Rattle.dnp_world.specs.Rounds.{IsRound, StopsInRound, is_quiet_on}
 use Rattle.dnp_world.specs.SystemRuns.{RunsTo, StopsAfter}
 use Rattle.dnp_world.specs.Systems.{System, standing_on}
 use Rattle.dnp_world.specs.declared.event.Link.{Link}
@@ -18,7 +18,7 @@ use Rattle.dnp_daemons.specs.Scripted.{Law}
 abbrev pub RoundEnds : System → Link → Result ⊤ RoundFault → System → Type 0
 RoundEnds old link (Ok done) new = (is_quiet_on old link ≡ true) × IsRound link old new
 RoundEnds old link (Err round.NotQuiet) new = (is_quiet_on old link ≡ false) × (new ≡ old)
-RoundEnds old link (Err (round.Fault cause)) new = StopsIn (IsOfRound link) old new
+RoundEnds old link (Err (round.Fault cause)) new = (is_quiet_on old link ≡ true) × StopsInRound link old new
 
 abbrev pub law_of_worlds : Law System
 law_of_worlds = record {

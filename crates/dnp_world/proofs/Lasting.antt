@@ -7,7 +7,7 @@ use Rattle.dnp_objects.specs.declared.row.Row.{Row}
 use Rattle.dnp_world.specs.Controls.{ControlEnds, IsControlFor, IsOfControl, IsRefusedFor, AtCentre, AtConcentrator, IsRefusedOn, First, Second, Third, IsTold, next_below, station_in}
 use Rattle.dnp_world.specs.Kept.{report_of}
 use Rattle.dnp_world.specs.Reports.{IsFate, Report, happened}
-use Rattle.dnp_world.specs.Rounds.{IsOfRound, IsRound, StopsIn, events_polled}
+use Rattle.dnp_world.specs.Rounds.{IsRound, StopsIn, StopsInRound}
 use Rattle.dnp_world.specs.Stations.{HasSameCounts, of_station}
 use Rattle.dnp_world.specs.Steady.{Goes, IsSteady, Lasts, Makes, made_by}
 use Rattle.dnp_world.specs.SystemRuns.{CountsFor, Happens, RunsTo, StopsAfter}
@@ -24,7 +24,7 @@ use Rattle.dnp_world.specs.declared.stopped.Stopped.{Stopped}
 use Rattle.dnp_world.specs.declared.round_fault.ControlFault.TheVariants as fault
 use Rattle.dnp_world.proofs.Counting.{count_by-append}
 use Rattle.dnp_world.proofs.SystemControls.{ran_accepted, ran_back, ran_twice}
-use Rattle.dnp_world.proofs.SystemRounds.{Ran, ran_both, ran_flush, ran_one}
+use Rattle.dnp_world.proofs.SystemRounds.{IsOfRound, Ran, ran_both, ran_flush, ran_one, ran_poll}
 
 -- what the laws of one event and of lists promise
 pub record LastingLaws : Type 0 where
@@ -187,7 +187,7 @@ pub ran_round : (on : Link) (old new : System) → IsRound on old new → Ran (I
 ran_round on old new r =
     ran_both (IsOfRound on) old r.taken new
     (ran_both (IsOfRound on) old r.answered r.taken
-    (ran_both (IsOfRound on) old r.asked r.answered (ran_one (IsOfRound on) old r.asked (event.Ask on events_polled) (inl refl) r.asks)
+    (ran_both (IsOfRound on) old r.asked r.answered (ran_poll on old r.asked r.asks)
     (ran_flush (IsOfRound on) on Down r.asked r.answered (inr (Down, refl)) r.down))
     (ran_flush (IsOfRound on) on Up r.answered r.taken (inr (Up, refl)) r.up))
     (ran_flush (IsOfRound on) on Down r.taken new (inr (Down, refl)) r.confirms)
@@ -248,8 +248,8 @@ lasts_if_stopped events old new (Err stopped_by) stopped some stop = stopped sto
 
 -- what a clean round leaves
 pub calm_round : (on : Link) (old new : System) (r : Result ⊤ RoundFault) → (IsRound on old new → Goes (λ i. []) old new)
-    → (StopsIn (IsOfRound on) old new → Goes (λ i. []) old new) → (new ≡ old → Goes (λ i. []) old new) → OnOk r (IsRound on old new)
-    → IfErr r (λ fault. fault ≢ round.NotQuiet → StopsIn (IsOfRound on) old new) → (r ≡ Err round.NotQuiet → new ≡ old) → Goes (λ i. []) old new
+    → (StopsInRound on old new → Goes (λ i. []) old new) → (new ≡ old → Goes (λ i. []) old new) → OnOk r (IsRound on old new)
+    → IfErr r (λ fault. fault ≢ round.NotQuiet → StopsInRound on old new) → (r ≡ Err round.NotQuiet → new ≡ old) → Goes (λ i. []) old new
 calm_round on old new (Ok done) whole stop same all some none = whole all
 calm_round on old new (Err round.NotQuiet) whole stop same all some none = same (none refl)
 calm_round on old new (Err (round.Fault cause)) whole stop same all some none = stop (some (λ e. cc))

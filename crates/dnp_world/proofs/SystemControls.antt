@@ -3,18 +3,17 @@ use Rattle.std.proofs.Common.{◌≡◌, ℕ, Option, Result, Ok, Err, inl, inr,
 use Rattle.std.specs.Prelude.{IfErr, OnOk, ⊤}
 use Rattle.dnp_world.specs.ControlSteps.{EndsBy}
 use Rattle.dnp_world.specs.Controls.{CanGo, ControlEnds, IsAccepted, IsControlFor, IsOfControl, IsRefusedFor, IsRefusedOn, Passes, PassesBack, station_in}
-use Rattle.dnp_world.specs.Rounds.{Flushes, StopsIn}
+use Rattle.dnp_world.specs.Rounds.{Flushes, StopsFlushing, StopsIn}
 use Rattle.dnp_world.specs.SystemRuns.{CountsFor}
 use Rattle.dnp_world.specs.Systems.{System}
-use Rattle.dnp_world.specs.declared.event.Event.{Event}
-use Rattle.dnp_world.specs.declared.event.Event.TheVariants.{Deliver, Relay}
+use Rattle.dnp_world.specs.declared.event.Event.TheVariants.{Relay}
 use Rattle.dnp_world.specs.declared.event.Link.{Link}
 use Rattle.dnp_world.specs.declared.event.Link.TheVariants.{Above}
 use Rattle.dnp_world.specs.declared.link_event.Way.{Way}
 use Rattle.dnp_world.specs.declared.link_event.Way.TheVariants.{Down, Up}
 use Rattle.dnp_world.specs.declared.round_fault.ControlFault.{ControlFault}
 use Rattle.dnp_world.specs.declared.round_fault.ControlFault.TheVariants.{NotQuiet, NotNext, Refused, Fault}
-use Rattle.dnp_world.proofs.SystemRounds.{Ran, ran_both, ran_flush, ran_one, stops_after, stops_at}
+use Rattle.dnp_world.proofs.SystemRounds.{Ran, ran_both, ran_flush, ran_one, stops_after, stops_at, stops_flushing}
 
 -- ---- what was done
 
@@ -48,12 +47,12 @@ pub stops_still : (old new : System) → new ≡ old → StopsIn IsOfControl old
 stops_still old new is = stops_relaying Above old new is
 
 pub stops_behind : (old mid new : System) → Ran IsOfControl old mid → StopsIn IsOfControl mid new → StopsIn IsOfControl old new
-stops_behind old mid new first s = stops_after IsOfControl IsOfControl old mid new (λ e is. is) first s
+stops_behind old mid new first s = stops_after IsOfControl old mid new first s
 
-pub stops_delivering : (on : Link) (way : Way) (old mid new : System) → Ran IsOfControl old mid → StopsIn (λ (e : Event). e ≡ Deliver on way) mid new
+pub stops_delivering : (on : Link) (way : Way) (old mid new : System) → Ran IsOfControl old mid → StopsFlushing on way mid new
     → StopsIn IsOfControl old new
 stops_delivering on way old mid new first s =
-    stops_after IsOfControl (λ (e : Event). e ≡ Deliver on way) old mid new (λ e is. (on, inr (way, is))) first s
+    stops_after IsOfControl old mid new first (stops_flushing IsOfControl on way (on, inr (way, refl)) mid new s)
 
 -- ---- how it ended
 

@@ -1,14 +1,15 @@
--- Rounds: lists of events that were done one after the other.
-use Rattle.std.proofs.Common.{◌≡◌, ℕ, true, zero, suc, ◌+◌, List, [], ◌∷◌, ◌++◌, length, take, get_or, inr, refl, sym, ap, ◌∙◌, subst, zero-add, arith}
-use Rattle.std.specs.Prelude.{All, replicate, slice_get}
-use Rattle.std.proofs.lemmas.List.{replicate_more}
-use Rattle.dnp_world.specs.Rounds.{Flushes, IsOfRound, StopsIn, deliveries}
-use Rattle.dnp_world.specs.SystemRuns.{CountsFor, Happens, RunsTo, may_stop}
+-- Rounds: lists of events that were done one after the other, and where they stop.
+use Rattle.std.proofs.Common.{◌≡◌, ℕ, true, zero, suc, ◌+◌, ◌<◌, List, [], ◌∷◌, ◌++◌, length, take, inl, inr, Some, refl, sym, ap, ◌∙◌, subst, zero-add, arith}
+use Rattle.std.specs.Prelude.{◌⊎◌, All, replicate, slice_get}
+use Rattle.std.proofs.lemmas.List.{replicate_more, take-replicate}
+use Rattle.dnp_world.specs.Rounds.{Flushes, StopsFlushing, StopsFlushingAll, StopsIn, StopsInRound, StopsInTurn, deliveries, events_polled}
+use Rattle.dnp_world.specs.SystemRuns.{CountsFor, Happens, RunsTo, StopsAfter, may_stop}
 use Rattle.dnp_world.specs.Systems.{System, standing_on}
 use Rattle.dnp_world.specs.declared.event.Event.{Event}
-use Rattle.dnp_world.specs.declared.event.Event.TheVariants.{Deliver}
+use Rattle.dnp_world.specs.declared.event.Event.TheVariants.{Ask, Deliver}
 use Rattle.dnp_world.specs.declared.event.Link.{Link}
 use Rattle.dnp_world.specs.declared.link_event.Way.{Way}
+use Rattle.dnp_world.specs.declared.link_event.Way.TheVariants.{Down, Up}
 use Rattle.dnp_world.proofs.SystemRuns.{runs_more}
 
 -- ---- lists
@@ -39,6 +40,11 @@ all_same : {A : Type 0} (P : A → Type 0) (x : A) (n : ℕ) → P x → All P (
 all_same P x zero p k d low = absurd (omega (arith, low))
 all_same P x (suc n) p zero d low = p
 all_same P x (suc n) p (suc k) d low = all_same P x n p k d (omega (arith, low))
+
+get_same : {A : Type 0} (x : A) (n k : ℕ) → k < n → slice_get (replicate n x) k ≡ Some x
+get_same x zero k low = absurd (omega (arith, low))
+get_same x (suc n) zero low = refl
+get_same x (suc n) (suc k) low = get_same x n k (omega (arith, low))
 
 -- ---- lists of events that were done
 
@@ -85,11 +91,11 @@ stops_at P old new event is may counts = record {
 }
 
 -- after another was done
-pub stops_after : (R P : Event → Type 0) (old mid new : System) → ((event : Event) → P event → R event) → Ran R old mid → StopsIn P mid new → StopsIn R old new
-stops_after R P old mid new more first s = record {
+pub stops_after : (P : Event → Type 0) (old mid new : System) → Ran P old mid → StopsIn P mid new → StopsIn P old new
+stops_after P old mid new first s = record {
   events = first.events ++ s.events;
   done = length first.events + s.done;
-  all = all_joined R first.events s.events first.all (λ k d low. more (get_or s.events k d) (s.all k d low));
+  all = all_joined P first.events s.events first.all s.all;
   stops = record {
     before = s.stops.before;
     ran = subst (λ (es : List Event). RunsTo old es s.stops.before) (sym (take_past first.events s.events s.done))
@@ -101,6 +107,13 @@ stops_after R P old mid new more first s = record {
   };
 }
 
+-- a part, or the rest after it
+pub stops_in_turn : (P : Event → Type 0) (Stops Done Rest : System → System → Type 0) → ((old new : System) → Stops old new → StopsIn P old new)
+    → ((old new : System) → Done old new → Ran P old new) → ((old new : System) → Rest old new → StopsIn P old new)
+    → (old new : System) → StopsInTurn Stops Done Rest old new → StopsIn P old new
+stops_in_turn P Stops Done Rest stops done rest old new (inl s) = stops old new s
+stops_in_turn P Stops Done Rest stops done rest old new (inr (next, d, r)) = stops_after P old next new (done old next d) (rest next new r)
+
 -- ---- deliveries
 
 -- one unit more was delivered
@@ -109,14 +122,45 @@ pub one_delivered : (old mid new : System) (n : ℕ) (on : Link) (way : Way) →
 one_delivered old mid new n on way ran h =
     subst (λ (es : List Event). RunsTo old es new) (replicate_more n (Deliver on way)) (runs_more old mid new (deliveries n on way) (Deliver on way) ran h)
 
--- so many were
-pub delivered : (n : ℕ) (on : Link) (way : Way) (old mid : System) → RunsTo old (deliveries n on way) mid → Ran (λ e. e ≡ Deliver on way) old mid
-delivered n on way old mid ran = record {
-  events = deliveries n on way;
-  all = all_same (λ (e : Event). e ≡ Deliver on way) (Deliver on way) n refl;
-  ran = ran;
+-- so many of all were, and the next one stopped
+pub stops_delivering : (old mid new : System) (n all : ℕ) (on : Link) (way : Way) → n < all → RunsTo old (deliveries n on way) mid
+    → CountsFor mid (Deliver on way) new → StopsAfter old (deliveries all on way) n new
+stops_delivering old mid new n all on way low ran counts = record {
+  before = mid;
+  ran = subst (λ (es : List Event). RunsTo old es mid) (sym (take-replicate n all (Deliver on way) (omega (arith, low)))) ran;
+  event = Deliver on way;
+  next = get_same (Deliver on way) all n low;
+  may = refl;
+  counts = counts;
 }
 
--- a delivery of a round
-pub of_round : (on : Link) (way : Way) (event : Event) → event ≡ Deliver on way → IsOfRound on event
-of_round on way event is = inr (way, is)
+pub stops_flushing : (P : Event → Type 0) (on : Link) (way : Way) → P (Deliver on way) → (old new : System) → StopsFlushing on way old new → StopsIn P old new
+stops_flushing P on way is old new (done, stops) = record {
+  events = deliveries (standing_on old on way) on way;
+  done = done;
+  all = all_same P (Deliver on way) (standing_on old on way) is;
+  stops = stops;
+}
+
+pub stops_flushing_all : (P : Event → Type 0) (on : Link) → ((way : Way) → P (Deliver on way)) → (ways : List Way) (old new : System)
+    → StopsFlushingAll on ways old new → StopsIn P old new
+stops_flushing_all P on is [] old new s = absurd s
+stops_flushing_all P on is (way ∷ ways) old new s =
+    stops_in_turn P (StopsFlushing on way) (Flushes on way) (StopsFlushingAll on ways) (stops_flushing P on way (is way))
+    (λ a b. ran_flush P on way a b (is way)) (stops_flushing_all P on is ways) old new s
+
+-- ---- rounds
+
+-- an event of a round
+abbrev pub IsOfRound : Link → Event → Type 0
+IsOfRound on event = (event ≡ Ask on events_polled) ⊎ ((way : Way) × (event ≡ Deliver on way))
+
+-- the poll
+pub ran_poll : (on : Link) (old new : System) → Happens old (Ask on events_polled) new → Ran (IsOfRound on) old new
+ran_poll on old new h = ran_one (IsOfRound on) old new (Ask on events_polled) (inl refl) h
+
+pub stops_round : (on : Link) (old new : System) → StopsInRound on old new → StopsIn (IsOfRound on) old new
+stops_round on old new s =
+    stops_in_turn (IsOfRound on) (λ a b. CountsFor a (Ask on events_polled) b) (λ a b. Happens a (Ask on events_polled) b)
+    (StopsFlushingAll on (Down ∷ Up ∷ Down ∷ [])) (λ a b. stops_at (IsOfRound on) a b (Ask on events_polled) (inl refl) refl) (ran_poll on)
+    (stops_flushing_all (IsOfRound on) on (λ way. inr (way, refl)) (Down ∷ Up ∷ Down ∷ [])) old new s

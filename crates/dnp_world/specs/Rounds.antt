@@ -1,12 +1,12 @@
 -- Definition: clean rounds: a poll over a quiet link, with all that comes of it delivered (IEEE Std 1815-2012, application layer: a
 -- request, its response, and the confirm).
-use Rattle.std.specs.Prelude.{◌≡◌, ℕ, Bool, true, false, ◌&&◌, ◌⊎◌, List, [], ◌∷◌, replicate, All, slice_get, Option, Some, None}
+use Rattle.std.specs.Prelude.{ℕ, Bool, true, false, ◌&&◌, ◌⊎◌, List, [], ◌∷◌, replicate, All, slice_get, Option, Some, None}
 use Rattle.dnp_master.specs.State.{is_idle}
 use Rattle.dnp_master.specs.declared.task.Task.{Task}
 use Rattle.dnp_master.specs.declared.task.Task.TheVariants.{Poll}
 use Rattle.dnp_outstation.specs.State.{is_quiet}
 use Rattle.dnp_world.specs.Channels.{are_quiet}
-use Rattle.dnp_world.specs.SystemRuns.{Happens, RunsTo, StopsAfter}
+use Rattle.dnp_world.specs.SystemRuns.{CountsFor, Happens, RunsTo, StopsAfter}
 use Rattle.dnp_world.specs.Systems.{SubstationState, System, has_station, link_at, standing_on}
 use Rattle.dnp_world.specs.declared.event.Event.{Event}
 use Rattle.dnp_world.specs.declared.event.Event.TheVariants.{Ask, Deliver}
@@ -51,13 +51,30 @@ pub record IsRound (on : Link) (old new : System) : Type 0 where
   pub up : Flushes on Up answered taken
   pub confirms : Flushes on Down taken new
 
+-- ---- where a round stops
+
+-- the first part stops, or it is done and the rest stops
+abbrev pub StopsInTurn : (Stops Done Rest : System → System → Type 0) → System → System → Type 0
+StopsInTurn Stops Done Rest old new = Stops old new ⊎ ((next : System) × Done old next × Rest next new)
+
+-- some of the units that stood on the line are delivered, and the next delivery stops
+abbrev pub StopsFlushing : Link → Way → System → System → Type 0
+StopsFlushing on way old new = (done : ℕ) × StopsAfter old (deliveries (standing_on old on way) on way) done new
+
+-- so do the deliveries of one of these ways, which follow one another
+abbrev pub StopsFlushingAll : Link → List Way → System → System → Type 0
+StopsFlushingAll on [] old new = ⊥
+StopsFlushingAll on (way ∷ ways) old new = StopsInTurn (StopsFlushing on way) (Flushes on way) (StopsFlushingAll on ways) old new
+
+-- the poll stops, or it is done and the units of the request stop, those of the response, or those of the confirm
+abbrev pub StopsInRound : Link → System → System → Type 0
+StopsInRound on old new =
+    CountsFor old (Ask on events_polled) new
+    ⊎ ((asked : System) × Happens old (Ask on events_polled) asked × StopsFlushingAll on (Down ∷ Up ∷ Down ∷ []) asked new)
+
 -- a list of such events stopped
 pub record StopsIn (IsOne : Event → Type 0) (old new : System) : Type 0 where
   pub events : List Event
   pub done : ℕ
   pub all : All IsOne events
   pub stops : StopsAfter old events done new
-
--- an event of a round
-abbrev pub IsOfRound : Link → Event → Type 0
-IsOfRound on event = (event ≡ Ask on events_polled) ⊎ ((way : Way) × (event ≡ Deliver on way))

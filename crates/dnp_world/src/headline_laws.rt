@@ -13,7 +13,7 @@ ghost use Rattle.dnp_world.specs.FreshSystems.{fresh_system};
 ghost use Rattle.dnp_world.specs.Kept.{report_of};
 ghost use Rattle.dnp_world.specs.NewSystems.{AreEmpty, CanBegin};
 ghost use Rattle.dnp_world.specs.Reports.{Holds};
-ghost use Rattle.dnp_world.specs.Rounds.{IsOfRound, IsRound, StopsIn};
+ghost use Rattle.dnp_world.specs.Rounds.{IsRound, StopsInRound};
 ghost use Rattle.dnp_world.specs.Steady.{Goes, IsSteady, Lasts, made_by};
 ghost use Rattle.dnp_world.specs.SystemRuns.{Happens, RunsTo, StopsAfter};
 ghost use Rattle.dnp_world.specs.Systems.{System};
@@ -79,7 +79,7 @@ pub fn steady_systems_stay_steady()
 pub fn rounds_and_controls_keep_a_system_steady()
     ensures rests { (old new : System) → IsSteady old → new ≡ old → Goes (λ i. []) old new }
     ensures round { (on : Link) (old new : System) → IsSteady old → IsRound on old new → Goes (λ i. []) old new }
-    ensures round_stopped { (on : Link) (old new : System) → IsSteady old → StopsIn (IsOfRound on) old new → Goes (λ i. []) old new }
+    ensures round_stopped { (on : Link) (old new : System) → IsSteady old → StopsInRound on old new → Goes (λ i. []) old new }
     ensures control { (id : ℕ) (old new : System) (result : Result ⊤ ControlFault) → IsSteady old → ControlEnds id old result new
         → Goes (λ i. []) old new }
 {

@@ -12,7 +12,7 @@ ghost use Rattle.dnp_world.specs.ReportShown.{Shows, lists_of};
 ghost use Rattle.dnp_world.specs.Reports.{Holds, IsFate};
 ghost use Rattle.dnp_world.specs.ControlMoves.{ControlMoves};
 ghost use Rattle.dnp_world.specs.Controls.{ControlEnds};
-ghost use Rattle.dnp_world.specs.Rounds.{IsOfRound, IsRound, StopsIn, is_quiet_on};
+ghost use Rattle.dnp_world.specs.Rounds.{IsRound, StopsInRound, is_quiet_on};
 ghost use Rattle.dnp_world.specs.Shown.{StoresAreWell};
 ghost use Rattle.dnp_world.specs.Steady.{Lasts};
 ghost use Rattle.dnp_world.specs.SystemRuns.{RunsTo, StopsAfter};
@@ -167,7 +167,7 @@ impl<Q: Lanes, J: JournalStore, A: Book, B: Book> World<Q, J, A, B> {
         ensures not_quiet { (result ≡ Err RoundFault.NotQuiet) ↔ (is_quiet_on self.old.system on ≡ false) }
         ensures unchanged { result ≡ Err RoundFault.NotQuiet → self.new ≡ self.old }
         ensures done { StoresAreWell Q.honest J.honest A.honest A.is_stopped B.honest B.is_stopped self.new.stores → OnOk result (IsRound on self.old.system self.new.system) }
-        ensures stopped { StoresAreWell Q.honest J.honest A.honest A.is_stopped B.honest B.is_stopped self.new.stores → IfErr result (λ fault. fault ≢ RoundFault.NotQuiet → StopsIn (IsOfRound on) self.old.system self.new.system) }
+        ensures stopped { StoresAreWell Q.honest J.honest A.honest A.is_stopped B.honest B.is_stopped self.new.stores → IfErr result (λ fault. fault ≢ RoundFault.NotQuiet → StopsInRound on self.old.system self.new.system) }
         ensures moves { StoresAreWell Q.honest J.honest A.honest A.is_stopped B.honest B.is_stopped self.new.stores → OnOk result ∥ RoundMoves on self.old.system self.new.system ∥₁ }
         ensures fate { StoresAreWell Q.honest J.honest A.honest A.is_stopped B.honest B.is_stopped self.new.stores → IsFate (λ i. []) (report_of self.old.system) (report_of self.new.system) }
         ensures holds { StoresAreWell Q.honest J.honest A.honest A.is_stopped B.honest B.is_stopped self.new.stores → Holds (report_of self.new.system) }

@@ -1,9 +1,8 @@
 //! Polls over quiet links, with all that comes of them.
 
 ghost use Rattle.std.specs.Prelude.{◌≡◌, ◌≢◌, ◌↔◌, false, Err, IfErr, OnErr, OnOk};
-ghost use Rattle.dnp_world.specs.Rounds.{Flushes, IsOfRound, IsRound, StopsIn, is_quiet_on};
+ghost use Rattle.dnp_world.specs.Rounds.{Flushes, IsRound, StopsFlushing, StopsInRound, is_quiet_on};
 ghost use Rattle.dnp_world.specs.SystemParts.{AreWell, system_of};
-ghost use Rattle.dnp_world.specs.declared.event.Event.TheVariants as event;
 
 use super::Parts;
 use crate::carrier::Carrier;
@@ -46,7 +45,7 @@ impl<Q: Lanes, J: JournalStore, A: Book, B: Book> Parts<Q, J, A, B> {
     ) -> Result<(), Cause>
         ensures held { AreWell Q.honest J.honest A.honest A.is_stopped B.honest B.is_stopped self.new → AreWell Q.honest J.honest A.honest A.is_stopped B.honest B.is_stopped self.old }
         ensures done { AreWell Q.honest J.honest A.honest A.is_stopped B.honest B.is_stopped self.new → OnOk result (Flushes on way (system_of Q.contents J.archive A.contents B.contents self.old) (system_of Q.contents J.archive A.contents B.contents self.new)) }
-        ensures stopped { AreWell Q.honest J.honest A.honest A.is_stopped B.honest B.is_stopped self.new → OnErr result (StopsIn (λ e. e ≡ event.Deliver on way) (system_of Q.contents J.archive A.contents B.contents self.old) (system_of Q.contents J.archive A.contents B.contents self.new)) }
+        ensures stopped { AreWell Q.honest J.honest A.honest A.is_stopped B.honest B.is_stopped self.new → OnErr result (StopsFlushing on way (system_of Q.contents J.archive A.contents B.contents self.old) (system_of Q.contents J.archive A.contents B.contents self.new)) }
     {
         for _ in 0..self.standing(on, way) {
             self.happen_by(alloc, &Event::Deliver(on, way), carrier)?;
@@ -64,7 +63,7 @@ impl<Q: Lanes, J: JournalStore, A: Book, B: Book> Parts<Q, J, A, B> {
     ) -> Result<(), Cause>
         ensures held { AreWell Q.honest J.honest A.honest A.is_stopped B.honest B.is_stopped self.new → AreWell Q.honest J.honest A.honest A.is_stopped B.honest B.is_stopped self.old }
         ensures done { AreWell Q.honest J.honest A.honest A.is_stopped B.honest B.is_stopped self.new → OnOk result (IsRound on (system_of Q.contents J.archive A.contents B.contents self.old) (system_of Q.contents J.archive A.contents B.contents self.new)) }
-        ensures stopped { AreWell Q.honest J.honest A.honest A.is_stopped B.honest B.is_stopped self.new → OnErr result (StopsIn (IsOfRound on) (system_of Q.contents J.archive A.contents B.contents self.old) (system_of Q.contents J.archive A.contents B.contents self.new)) }
+        ensures stopped { AreWell Q.honest J.honest A.honest A.is_stopped B.honest B.is_stopped self.new → OnErr result (StopsInRound on (system_of Q.contents J.archive A.contents B.contents self.old) (system_of Q.contents J.archive A.contents B.contents self.new)) }
     {
         let classes = Classes([false, true, true, true]);
         self.happen(alloc, &Event::Ask(on, Task::Poll(classes)))?;
@@ -85,7 +84,7 @@ impl<Q: Lanes, J: JournalStore, A: Book, B: Book> Parts<Q, J, A, B> {
         ensures not_quiet { (result ≡ Err RoundFault.NotQuiet) ↔ (is_quiet_on (system_of Q.contents J.archive A.contents B.contents self.old) on ≡ false) }
         ensures unchanged { result ≡ Err RoundFault.NotQuiet → self.new ≡ self.old }
         ensures done { AreWell Q.honest J.honest A.honest A.is_stopped B.honest B.is_stopped self.new → OnOk result (IsRound on (system_of Q.contents J.archive A.contents B.contents self.old) (system_of Q.contents J.archive A.contents B.contents self.new)) }
-        ensures stopped { AreWell Q.honest J.honest A.honest A.is_stopped B.honest B.is_stopped self.new → IfErr result (λ fault. fault ≢ RoundFault.NotQuiet → StopsIn (IsOfRound on) (system_of Q.contents J.archive A.contents B.contents self.old) (system_of Q.contents J.archive A.contents B.contents self.new)) }
+        ensures stopped { AreWell Q.honest J.honest A.honest A.is_stopped B.honest B.is_stopped self.new → IfErr result (λ fault. fault ≢ RoundFault.NotQuiet → StopsInRound on (system_of Q.contents J.archive A.contents B.contents self.old) (system_of Q.contents J.archive A.contents B.contents self.new)) }
     {
         if !self.quiet(on) {
             return Err(RoundFault::NotQuiet);

@@ -1,6 +1,6 @@
 -- Their events make no row.
-use Rattle.dnp_world.specs.Rounds.{IsOfRound}
 use Rattle.dnp_world.proofs.Lasting.{LastingLaws, calm_control, calm_run, calm_stop, ran_round, rests, round_makes_none}
+use Rattle.dnp_world.proofs.SystemRounds.{IsOfRound, stops_round}
 use Rattle.dnp_world.proofs.headline_laws.rounds_and_controls_keep_a_system_steady.Goals as goal
 
 laws_of : goal.After-lists_are_of_links → LastingLaws
@@ -13,7 +13,8 @@ pub returns-clause-round : goal.returns-clause-round
 returns-clause-round c = λ on old new s round. calm_run (laws_of c) (IsOfRound on) (round_makes_none on) old new s (ran_round on old new round)
 
 pub returns-clause-round_stopped : goal.returns-clause-round_stopped
-returns-clause-round_stopped c = λ on old new s stop. calm_stop (laws_of c) (IsOfRound on) (round_makes_none on) old new s stop
+returns-clause-round_stopped c = λ on old new s stop.
+    calm_stop (laws_of c) (IsOfRound on) (round_makes_none on) old new s (stops_round on old new stop)
 
 pub returns-clause-control : goal.returns-clause-control
 returns-clause-control c = λ id old new result s ends. calm_control (laws_of c) id old new result s ends

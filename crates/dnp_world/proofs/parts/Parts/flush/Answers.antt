@@ -1,13 +1,11 @@
 -- One unit more is delivered, or the list stops at it.
-use Rattle.std.proofs.Common.{◌≡◌, ℕ, refl, subst, arith}
-use Rattle.dnp_world.specs.Rounds.{deliveries}
+use Rattle.std.proofs.Common.{◌≡◌, ◌<◌, ℕ, subst, arith}
+use Rattle.dnp_world.specs.Rounds.{StopsFlushing, deliveries}
 use Rattle.dnp_world.specs.SystemRuns.{RunsTo}
 use Rattle.dnp_world.specs.SystemParts.{system_of}
 use Rattle.dnp_world.specs.Systems.{standing_on}
-use Rattle.dnp_world.specs.declared.event.Event.{Event}
-use Rattle.dnp_world.specs.declared.event.Event.TheVariants.{Deliver}
 use Rattle.dnp_world.proofs.OneLinkRuns.{any_err}
-use Rattle.dnp_world.proofs.SystemRounds.{delivered, one_delivered, stops_after, stops_at}
+use Rattle.dnp_world.proofs.SystemRounds.{one_delivered, stops_delivering}
 use Rattle.dnp_world.proofs.parts.Parts.flush.Goals as goal
 
 pub loop-preserved : goal.loop-preserved
@@ -28,10 +26,10 @@ returns-in_err-happen_by-clause-stopped g c = λ well.
     let old = system c.args.self.now in
     let mid = system c.loop.self in
     let new = system c.happen_by.new.self in
-    any_err c.from_residual.result _
-    (stops_after (λ (e : Event). e ≡ Deliver on way) (λ (e : Event). e ≡ Deliver on way) old mid new (λ e is. is)
-    (delivered c.loop.counter on way old mid (c.loop.invariant.ran (c.happen_by.ensures.held well)))
-    (stops_at (λ (e : Event). e ≡ Deliver on way) mid new (Deliver on way) refl refl (c.in_err-happen_by.ensures.stopped well)))
+    let more : c.loop.counter < standing_on old on way = omega arith in
+    any_err c.from_residual.result (StopsFlushing on way old new)
+    (c.loop.counter, stops_delivering old mid new c.loop.counter (standing_on old on way) on way more
+    (c.loop.invariant.ran (c.happen_by.ensures.held well)) (c.in_err-happen_by.ensures.stopped well))
 
 pub returns-clause-done : goal.returns-clause-done
 returns-clause-done g c = λ well.
