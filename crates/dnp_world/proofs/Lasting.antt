@@ -4,10 +4,10 @@ use Rattle.std.specs.Prelude.{◌≢◌, All, IfErr, OnOk, ⊤}
 use Rattle.std.proofs.Math.Logic.{∥∥₁_elim, ∥∥₁_map}
 use Rattle.std.proofs.Props.{props}
 use Rattle.dnp_objects.specs.declared.row.Row.{Row}
-use Rattle.dnp_world.specs.Controls.{ControlEnds, IsControlFor, IsOfControl, IsRefusedFor, AtCentre, AtConcentrator, IsRefusedOn, First, Second, Third, IsTold, next_below, station_in}
+use Rattle.dnp_world.specs.Controls.{ControlEnds, IsControlFor, IsRefusedFor, AtCentre, AtConcentrator, IsRefusedOn, First, Second, Third, IsTold, next_below, station_in}
 use Rattle.dnp_world.specs.Kept.{report_of}
 use Rattle.dnp_world.specs.Reports.{IsFate, Report, happened}
-use Rattle.dnp_world.specs.Rounds.{IsRound, StopsIn, StopsInRound}
+use Rattle.dnp_world.specs.Rounds.{IsRound, StopsInRound}
 use Rattle.dnp_world.specs.Stations.{HasSameCounts, of_station}
 use Rattle.dnp_world.specs.Steady.{Goes, IsSteady, Lasts, Makes, made_by}
 use Rattle.dnp_world.specs.SystemRuns.{CountsFor, Happens, RunsTo, StopsAfter}
@@ -23,8 +23,8 @@ use Rattle.dnp_world.specs.declared.round_fault.RoundFault.TheVariants as round
 use Rattle.dnp_world.specs.declared.stopped.Stopped.{Stopped}
 use Rattle.dnp_world.specs.declared.round_fault.ControlFault.TheVariants as fault
 use Rattle.dnp_world.proofs.Counting.{count_by-append}
-use Rattle.dnp_world.proofs.SystemControls.{ran_accepted, ran_back, ran_twice}
-use Rattle.dnp_world.proofs.SystemRounds.{IsOfRound, Ran, ran_both, ran_flush, ran_one, ran_poll}
+use Rattle.dnp_world.proofs.SystemControls.{IsOfControl, ran_accepted, ran_back, ran_twice, stops_for}
+use Rattle.dnp_world.proofs.SystemRounds.{IsOfRound, Ran, StopsIn, ran_both, ran_flush, ran_one, ran_poll}
 
 -- what the laws of one event and of lists promise
 pub record LastingLaws : Type 0 where
@@ -222,7 +222,9 @@ calm_control laws id old new (Err fault.NotQuiet) s (loud, same) = rests old new
 calm_control laws id old new (Err fault.NotNext) s (quiet, waits, same) = rests old new s same
 calm_control laws id old new (Err (fault.Refused status)) s (can, refused) =
     calm_run laws IsOfControl control_makes_none old new s (ran_refused_for (station_in old id) id status old new refused)
-calm_control laws id old new (Err (fault.Fault cause)) s stop = calm_stop laws IsOfControl control_makes_none old new s stop
+calm_control laws id old new (Err (fault.Fault cause)) s (inl same) = rests old new s same
+calm_control laws id old new (Err (fault.Fault cause)) s (inr (can, stop)) =
+    calm_stop laws IsOfControl control_makes_none old new s (stops_for (station_in old id) id old new stop)
 
 -- ---- calls
 

@@ -1,21 +1,25 @@
 -- Controls: what was done on their way, and where they stop.
-use Rattle.std.proofs.Common.{◌≡◌, ℕ, Option, Result, Ok, Err, inl, inr, refl, subst}
-use Rattle.std.specs.Prelude.{IfErr, OnOk, ⊤}
+use Rattle.std.proofs.Common.{◌≡◌, ℕ, [], ◌∷◌, Option, Some, None, Result, Ok, Err, inl, inr, refl, subst}
+use Rattle.std.specs.Prelude.{◌⊎◌, IfErr, OnOk, ⊤}
 use Rattle.dnp_world.specs.ControlSteps.{EndsBy}
-use Rattle.dnp_world.specs.Controls.{CanGo, ControlEnds, IsAccepted, IsControlFor, IsOfControl, IsRefusedFor, IsRefusedOn, Passes, PassesBack, station_in}
-use Rattle.dnp_world.specs.Rounds.{Flushes, StopsFlushing, StopsIn}
-use Rattle.dnp_world.specs.SystemRuns.{CountsFor}
+use Rattle.dnp_world.specs.Controls.{CanGo, ControlEnds, IsAccepted, IsControlFor, IsRefusedFor, IsRefusedOn, Passes, PassesBack, StopsBack, StopsFor, StopsOn, StopsRelaying, next_below, station_in}
+use Rattle.dnp_world.specs.Rounds.{Flushes, StopsFlushingAll, StopsInTurn}
 use Rattle.dnp_world.specs.Systems.{System}
-use Rattle.dnp_world.specs.declared.event.Event.TheVariants.{Relay}
+use Rattle.dnp_world.specs.declared.event.Event.{Event}
+use Rattle.dnp_world.specs.declared.event.Event.TheVariants.{Deliver, Relay}
 use Rattle.dnp_world.specs.declared.event.Link.{Link}
-use Rattle.dnp_world.specs.declared.event.Link.TheVariants.{Above}
+use Rattle.dnp_world.specs.declared.event.Link.TheVariants.{Below, Above}
 use Rattle.dnp_world.specs.declared.link_event.Way.{Way}
 use Rattle.dnp_world.specs.declared.link_event.Way.TheVariants.{Down, Up}
 use Rattle.dnp_world.specs.declared.round_fault.ControlFault.{ControlFault}
 use Rattle.dnp_world.specs.declared.round_fault.ControlFault.TheVariants.{NotQuiet, NotNext, Refused, Fault}
-use Rattle.dnp_world.proofs.SystemRounds.{Ran, ran_both, ran_flush, ran_one, stops_after, stops_at, stops_flushing}
+use Rattle.dnp_world.proofs.SystemRounds.{Ran, StopsIn, ran_both, ran_flush, ran_one, stops_after, stops_at, stops_flushing_all, stops_in_turn}
 
 -- ---- what was done
+
+-- an event on a control's way
+abbrev pub IsOfControl : Event → Type 0
+IsOfControl event = (on : Link) × ((event ≡ Relay on) ⊎ ((way : Way) × (event ≡ Deliver on way)))
 
 pub ran_step : (on : Link) (id : Option ℕ) (old new : System) → Passes on id old new → Ran IsOfControl old new
 ran_step on id old new p = ran_one IsOfControl old new (Relay on) (on, inl refl) p.relays
@@ -38,21 +42,32 @@ ran_accepted on id old new p =
 
 -- ---- where it stopped
 
--- at a step of relaying
-pub stops_relaying : (on : Link) (old new : System) → CountsFor old (Relay on) new → StopsIn IsOfControl old new
-stops_relaying on old new counts = stops_at IsOfControl old new (Relay on) (on, inl refl) refl counts
+-- before its next step
+stops_still : (on : Link) (old new : System) → new ≡ old → StopsIn IsOfControl old new
+stops_still on old new same = stops_at IsOfControl old new (Relay on) (on, inl refl) refl same
 
--- nothing has happened: it stopped before its next step
-pub stops_still : (old new : System) → new ≡ old → StopsIn IsOfControl old new
-stops_still old new is = stops_relaying Above old new is
+stops_relaying : (on : Link) (old new : System) → StopsRelaying on old new → StopsIn IsOfControl old new
+stops_relaying on old new (inl counts) = stops_still on old new counts
+stops_relaying on old new (inr h) =
+    stops_after IsOfControl old new new (ran_one IsOfControl old new (Relay on) (on, inl refl) h) (stops_still on new new refl)
 
-pub stops_behind : (old mid new : System) → Ran IsOfControl old mid → StopsIn IsOfControl mid new → StopsIn IsOfControl old new
-stops_behind old mid new first s = stops_after IsOfControl old mid new first s
+stops_back : (on : Link) (id : Option ℕ) (old new : System) → StopsBack on id old new → StopsIn IsOfControl old new
+stops_back on id old new s =
+    stops_in_turn IsOfControl (StopsRelaying on) (Passes on id) (StopsFlushingAll on (Down ∷ Up ∷ [])) (stops_relaying on) (ran_step on id)
+    (stops_flushing_all IsOfControl on (λ way. (on, inr (way, refl))) (Down ∷ Up ∷ [])) old new s
 
-pub stops_delivering : (on : Link) (way : Way) (old mid new : System) → Ran IsOfControl old mid → StopsFlushing on way mid new
-    → StopsIn IsOfControl old new
-stops_delivering on way old mid new first s =
-    stops_after IsOfControl old mid new first (stops_flushing IsOfControl on way (on, inr (way, refl)) mid new s)
+stops_on : (on : Link) (id : Option ℕ) (old new : System) → StopsOn on id old new → StopsIn IsOfControl old new
+stops_on on id old new s =
+    stops_in_turn IsOfControl (StopsBack on id) (PassesBack on id) (StopsInTurn (StopsBack on id) (PassesBack on id) (StopsRelaying on))
+    (stops_back on id) (ran_back on id)
+    (stops_in_turn IsOfControl (StopsBack on id) (PassesBack on id) (StopsRelaying on) (stops_back on id) (ran_back on id) (stops_relaying on)) old new s
+
+pub stops_for : (station : Option ℕ) (id : ℕ) (old new : System) → StopsFor station id old new → StopsIn IsOfControl old new
+stops_for None id old new s = stops_on Above (Some id) old new s
+stops_for (Some station) id old new s =
+    stops_in_turn IsOfControl (StopsOn Above (Some id)) (IsAccepted Above (Some id))
+    (λ (above new : System). StopsOn (Below station) (next_below above station) above new) (stops_on Above (Some id)) (ran_accepted Above (Some id))
+    (λ above new. stops_on (Below station) (next_below above station) above new) old new s
 
 -- ---- how it ended
 
@@ -74,12 +89,16 @@ pub refused_from : (on : Link) (its id : Option ℕ) (status : ℕ) (old mid new
 refused_from on its id status old mid new same is refused =
     subst (λ (s : System). IsRefusedOn on id status s new) same (subst (λ (x : Option ℕ). IsRefusedOn on x status mid new) is refused)
 
+pub stops_from : (on : Link) (its id : Option ℕ) (old mid new : System) → mid ≡ old → its ≡ id → StopsOn on its mid new → StopsOn on id old new
+stops_from on its id old mid new same is stops =
+    subst (λ (s : System). StopsOn on id s new) same (subst (λ (x : Option ℕ). StopsOn on x mid new) is stops)
+
 -- how the whole way ends is how the call ends
 pub control_of : (id : ℕ) (station : Option ℕ) (old new : System) (result : Result ⊤ ControlFault) → CanGo id old → station ≡ station_in old id
     → OnOk result (IsControlFor station id old new)
-    → IfErr result (EndsBy (λ (status : ℕ). IsRefusedFor station id status old new) (StopsIn IsOfControl old new)) → ControlEnds id old result new
+    → IfErr result (EndsBy (λ (status : ℕ). IsRefusedFor station id status old new) (StopsFor station id old new)) → ControlEnds id old result new
 control_of id station old new (Ok done) can is whole ended = (can, subst (λ (x : Option ℕ). IsControlFor x id old new) is whole)
 control_of id station old new (Err NotQuiet) can is whole ended = absurd ended
 control_of id station old new (Err NotNext) can is whole ended = absurd ended
 control_of id station old new (Err (Refused status)) can is whole ended = (can, subst (λ (x : Option ℕ). IsRefusedFor x id status old new) is ended)
-control_of id station old new (Err (Fault cause)) can is whole ended = ended
+control_of id station old new (Err (Fault cause)) can is whole ended = inr (can, subst (λ (x : Option ℕ). StopsFor x id old new) is ended)

@@ -2,7 +2,7 @@
 use Rattle.std.proofs.Common.{◌≡◌, ℕ, true, zero, suc, ◌+◌, ◌<◌, List, [], ◌∷◌, ◌++◌, length, take, inl, inr, Some, refl, sym, ap, ◌∙◌, subst, zero-add, arith}
 use Rattle.std.specs.Prelude.{◌⊎◌, All, replicate, slice_get}
 use Rattle.std.proofs.lemmas.List.{replicate_more, take-replicate}
-use Rattle.dnp_world.specs.Rounds.{Flushes, StopsFlushing, StopsFlushingAll, StopsIn, StopsInRound, StopsInTurn, deliveries, events_polled}
+use Rattle.dnp_world.specs.Rounds.{Flushes, StopsFlushing, StopsFlushingAll, StopsInRound, StopsInTurn, deliveries, events_polled}
 use Rattle.dnp_world.specs.SystemRuns.{CountsFor, Happens, RunsTo, StopsAfter, may_stop}
 use Rattle.dnp_world.specs.Systems.{System, standing_on}
 use Rattle.dnp_world.specs.declared.event.Event.{Event}
@@ -80,6 +80,13 @@ ran_both P old mid new first more = record {
 
 -- ---- lists that stopped
 
+-- a list of such events stopped
+pub record StopsIn (IsOne : Event → Type 0) (old new : System) : Type 0 where
+  pub events : List Event
+  pub done : ℕ
+  pub all : All IsOne events
+  pub stops : StopsAfter old events done new
+
 -- at their first event
 pub stops_at : (P : Event → Type 0) (old new : System) (event : Event) → P event → may_stop event ≡ true → CountsFor old event new
     → StopsIn P old new
@@ -134,7 +141,7 @@ stops_delivering old mid new n all on way low ran counts = record {
   counts = counts;
 }
 
-pub stops_flushing : (P : Event → Type 0) (on : Link) (way : Way) → P (Deliver on way) → (old new : System) → StopsFlushing on way old new → StopsIn P old new
+stops_flushing : (P : Event → Type 0) (on : Link) (way : Way) → P (Deliver on way) → (old new : System) → StopsFlushing on way old new → StopsIn P old new
 stops_flushing P on way is old new (done, stops) = record {
   events = deliveries (standing_on old on way) on way;
   done = done;

@@ -9,15 +9,13 @@ use Rattle.dnp_controls.specs.declared.book.State.TheVariants.{Pending, Spent, F
 use Rattle.dnp_concentrator.specs.Mapped.{command_below}
 use Rattle.dnp_concentrator.specs.declared.progress.Progress.{Progress}
 use Rattle.dnp_objects.specs.Status.{success}
-use Rattle.dnp_world.specs.Rounds.{Flushes, StopsIn, is_quiet_on}
+use Rattle.dnp_world.specs.Rounds.{Flushes, StopsFlushingAll, StopsInTurn, is_quiet_on}
 use Rattle.dnp_world.specs.SystemEvents.{entries_on}
-use Rattle.dnp_world.specs.SystemRuns.{Happens}
+use Rattle.dnp_world.specs.SystemRuns.{CountsFor, Happens}
 use Rattle.dnp_world.specs.Systems.{System, link_at}
-use Rattle.dnp_world.specs.declared.event.Event.{Event}
-use Rattle.dnp_world.specs.declared.event.Event.TheVariants.{Deliver, Relay}
+use Rattle.dnp_world.specs.declared.event.Event.TheVariants.{Relay}
 use Rattle.dnp_world.specs.declared.event.Link.{Link}
 use Rattle.dnp_world.specs.declared.event.Link.TheVariants.{Below, Above}
-use Rattle.dnp_world.specs.declared.link_event.Way.{Way}
 use Rattle.dnp_world.specs.declared.link_event.Way.TheVariants.{Down, Up}
 use Rattle.dnp_world.specs.declared.round_fault.ControlFault.{ControlFault}
 use Rattle.dnp_world.specs.declared.round_fault.ControlFault.TheVariants as control
@@ -138,17 +136,36 @@ pub data IsRefusedFor (station : Option ℕ) (id status : ℕ) (old new : System
 abbrev pub IsRefusedControl : ℕ → ℕ → System → System → Type 0
 IsRefusedControl id status old new = IsRefusedFor (station_in old id) id status old new
 
+-- ---- where a control stops
+
+-- the step of relaying stops, or it is done and what became of the control can't be read
+abbrev pub StopsRelaying : Link → System → System → Type 0
+StopsRelaying on old new = CountsFor old (Relay on) new ⊎ Happens old (Relay on) new
+
+-- the step, or what comes of it there or back
+abbrev pub StopsBack : Link → Option ℕ → System → System → Type 0
+StopsBack on id old new = StopsInTurn (StopsRelaying on) (Passes on id) (StopsFlushingAll on (Down ∷ Up ∷ [])) old new
+
+-- the SELECT, the OPERATE, or the step that tells what became of it
+abbrev pub StopsOn : Link → Option ℕ → System → System → Type 0
+StopsOn on id old new =
+    StopsInTurn (StopsBack on id) (PassesBack on id) (StopsInTurn (StopsBack on id) (PassesBack on id) (StopsRelaying on)) old new
+
+-- over the link above, or else over the one to its substation
+abbrev pub StopsFor : Option ℕ → ℕ → System → System → Type 0
+StopsFor None id old new = StopsOn Above (Some id) old new
+StopsFor (Some station) id old new =
+    StopsInTurn (StopsOn Above (Some id)) (IsAccepted Above (Some id))
+    (λ (above new : System). StopsOn (Below station) (next_below above station) above new) old new
+
 -- ---- how a call ends
 
--- an event on a control's way
-abbrev pub IsOfControl : Event → Type 0
-IsOfControl event = (on : Link) × ((event ≡ Relay on) ⊎ ((way : Way) × (event ≡ Deliver on way)))
-
 -- Refused is, first of all, a link on its way that isn't quiet, and then a control that isn't next; nothing has happened. Else it
--- goes all the way, or a status ends it, or a store, or a request for memory, refuses.
+-- goes all the way, or a status ends it, or a store, or a request for memory, refuses: also where the call looks whether it can
+-- go, and then nothing has happened.
 abbrev pub ControlEnds : ℕ → System → Result ⊤ ControlFault → System → Type 0
 ControlEnds id old (Ok done) new = CanGo id old × IsControl id old new
 ControlEnds id old (Err control.NotQuiet) new = (are_quiet_for old (station_in old id) ≡ false) × (new ≡ old)
 ControlEnds id old (Err control.NotNext) new = (are_quiet_for old (station_in old id) ≡ true) × (is_next old id ≡ false) × (new ≡ old)
 ControlEnds id old (Err (control.Refused status)) new = CanGo id old × IsRefusedControl id status old new
-ControlEnds id old (Err (control.Fault cause)) new = StopsIn IsOfControl old new
+ControlEnds id old (Err (control.Fault cause)) new = (new ≡ old) ⊎ (CanGo id old × StopsFor (station_in old id) id old new)

@@ -1,6 +1,6 @@
 -- Definition: clean rounds: a poll over a quiet link, with all that comes of it delivered (IEEE Std 1815-2012, application layer: a
 -- request, its response, and the confirm).
-use Rattle.std.specs.Prelude.{ℕ, Bool, true, false, ◌&&◌, ◌⊎◌, List, [], ◌∷◌, replicate, All, slice_get, Option, Some, None}
+use Rattle.std.specs.Prelude.{ℕ, Bool, true, false, ◌&&◌, ◌⊎◌, List, [], ◌∷◌, replicate, slice_get, Option, Some, None}
 use Rattle.dnp_master.specs.State.{is_idle}
 use Rattle.dnp_master.specs.declared.task.Task.{Task}
 use Rattle.dnp_master.specs.declared.task.Task.TheVariants.{Poll}
@@ -71,10 +71,3 @@ abbrev pub StopsInRound : Link → System → System → Type 0
 StopsInRound on old new =
     CountsFor old (Ask on events_polled) new
     ⊎ ((asked : System) × Happens old (Ask on events_polled) asked × StopsFlushingAll on (Down ∷ Up ∷ Down ∷ []) asked new)
-
--- a list of such events stopped
-pub record StopsIn (IsOne : Event → Type 0) (old new : System) : Type 0 where
-  pub events : List Event
-  pub done : ℕ
-  pub all : All IsOne events
-  pub stops : StopsAfter old events done new

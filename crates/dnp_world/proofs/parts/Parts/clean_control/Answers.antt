@@ -1,26 +1,22 @@
 -- The control goes, or a book can't be read before it does.
-use Rattle.std.proofs.Common.{◌≡◌, true, rules, sym, ◌∙◌, subst}
+use Rattle.std.proofs.Common.{◌≡◌, true, inl, rules, sym, ◌∙◌, subst}
 use Rattle.std.specs.Prelude.{Option, ℕ}
 use Rattle.std.proofs.lemmas.Result.{err_from_is_err_and}
 use Rattle.dnp_world.specs.Controls.{CanGo, ControlEnds, are_quiet_for, is_next_for, station_in}
 use Rattle.dnp_world.specs.SystemParts.{system_of}
 use Rattle.dnp_world.specs.Systems.{System}
-use Rattle.dnp_world.proofs.SystemControls.{control_of, stops_still}
+use Rattle.dnp_world.proofs.SystemControls.{control_of}
 use Rattle.dnp_world.proofs.parts.Parts.clean_control.Goals as goal
 
 pub returns-in_err-station-clause-ends : goal.returns-in_err-station-clause-ends
 returns-in_err-station-clause-ends g c = λ well.
-    let system = system_of g.Q.Lanes.contents g.J.JournalStore.archive g.A.Book.contents g.B.Book.contents in
     let p = err_from_is_err_and c.from_residual.result c.from_residual.ensures.1 in
-    rw (p.1, p.2) (stops_still (system c.args.self.now) (system c.station_of.new.self) (c.station_of.ensures.same well))
+    rw (p.1, p.2) (inl (c.station_of.ensures.same well))
 
 pub returns-in_err-is_next-clause-ends : goal.returns-in_err-is_next-clause-ends
 returns-in_err-is_next-clause-ends g c = λ well.
-    let system = system_of g.Q.Lanes.contents g.J.JournalStore.archive g.A.Book.contents g.B.Book.contents in
     let p = err_from_is_err_and c.from_residual-in_err-is_next.result c.from_residual-in_err-is_next.ensures.1 in
-    rw (p.1, p.2)
-    (stops_still (system c.args.self.now) (system c.is_next.new.self)
-    (c.is_next.ensures.same well ∙ c.station_of.ensures.same (c.is_next.ensures.held well)))
+    rw (p.1, p.2) (inl (c.is_next.ensures.same well ∙ c.station_of.ensures.same (c.is_next.ensures.held well)))
 
 pub returns-clause-ends : goal.returns-clause-ends
 returns-clause-ends g c = λ well.

@@ -1,13 +1,17 @@
 -- The way above, and then the way below, or where one of them ends.
-use Rattle.std.proofs.Common.{◌≡◌, ℕ, Some, subst}
+use Rattle.std.proofs.Common.{◌≡◌, ℕ, Option, Some, None, inl, inr, sym}
 use Rattle.std.proofs.lemmas.Result.{err_from_is_err_and}
-use Rattle.dnp_world.specs.Controls.{IsOfControl, IsRefusedFor, IsRefusedOn, AtCentre, AtConcentrator, next_below}
-use Rattle.dnp_world.specs.Rounds.{StopsIn}
+use Rattle.dnp_world.specs.Controls.{IsRefusedFor, IsRefusedOn, AtCentre, AtConcentrator, StopsFor, StopsOn, next_below}
 use Rattle.dnp_world.specs.SystemParts.{system_of}
 use Rattle.dnp_world.specs.Systems.{System}
 use Rattle.dnp_world.specs.declared.event.Link.TheVariants.{Below, Above}
-use Rattle.dnp_world.proofs.SystemControls.{accepted_from, ends_of, ran_accepted, refused_from, stops_behind, stops_still}
+use Rattle.dnp_world.proofs.SystemControls.{accepted_from, ends_of, refused_from, stops_from}
 use Rattle.dnp_world.proofs.parts.Parts.relay_all.Goals as goal
+
+-- wherever the control is for
+stops_above : (station : Option ℕ) (id : ℕ) (old new : System) → StopsOn Above (Some id) old new → StopsFor station id old new
+stops_above None id old new stops = stops
+stops_above (Some its) id old new stops = inl stops
 
 pub returns-in_err-relay_through-clause-ended : goal.returns-in_err-relay_through-clause-ended
 returns-in_err-relay_through-clause-ended g c = λ well.
@@ -19,19 +23,16 @@ returns-in_err-relay_through-clause-ended g c = λ well.
     let p = err_from_is_err_and c.from_residual.result c.from_residual.ensures.1 in
     rw (p.1, p.2)
     (ends_of (λ (status : ℕ). IsRefusedOn Above (Some id) status old new) (λ (status : ℕ). IsRefusedFor station id status old new)
-    (StopsIn IsOfControl old new) (StopsIn IsOfControl old new) c.in_err-relay_through.field-0.0 (λ status refused. AtCentre refused) (λ s. s)
-    (c.in_err-relay_through.ensures.ended well))
+    (StopsOn Above (Some id) old new) (StopsFor station id old new) c.in_err-relay_through.field-0.0 (λ status refused. AtCentre refused)
+    (stops_above station id old new) (c.in_err-relay_through.ensures.ended well))
 
 pub returns-in_err-queued-clause-ended : goal.returns-in_err-queued-clause-ended
 returns-in_err-queued-clause-ended g c = λ well.
     let system = system_of g.Q.Lanes.contents g.J.JournalStore.archive g.A.Book.contents g.B.Book.contents in
-    let old = system c.args.self.now in
     let above = system c.relay_through.new.self in
-    let new = system c.next_below.new.self in
+    let first = c.in_ok-relay_through.ensures.done (c.next_below.ensures.held well) in
     let p = err_from_is_err_and c.from_residual-in_err-queued.result c.from_residual-in_err-queued.ensures.1 in
-    rw (p.1, p.2)
-    (stops_behind old above new (ran_accepted Above (Some c.args.id) old above (c.in_ok-relay_through.ensures.done (c.next_below.ensures.held well)))
-    (stops_still above new (c.next_below.ensures.same well)))
+    rw (p.1, p.2) (rw c.in-Some.is (inr (above, first, inl (inl (inl (c.next_below.ensures.same well))))))
 
 pub returns-in_err-relay_through-2-clause-ended : goal.returns-in_err-relay_through-2-clause-ended
 returns-in_err-relay_through-2-clause-ended g c = λ well.
@@ -51,10 +52,10 @@ returns-in_err-relay_through-2-clause-ended g c = λ well.
     let p = err_from_is_err_and c.from_residual-in_err-relay_through-2.result c.from_residual-in_err-relay_through-2.ensures.1 in
     rw (p.1, p.2)
     (ends_of (λ (status : ℕ). IsRefusedOn (Below its) queued status read new) (λ (status : ℕ). IsRefusedFor station id status old new)
-    (StopsIn IsOfControl read new) (StopsIn IsOfControl old new) c.in_err-relay_through-2.field-0.0
+    (StopsOn (Below its) queued read new) (StopsFor station id old new) c.in_err-relay_through-2.field-0.0
     (λ status refused. AtConcentrator its above c.in-Some.is first (refused_from (Below its) queued (next_below above its) status above read new same is refused))
-    (λ stops. stops_behind old above new (ran_accepted Above (Some id) old above first)
-    (subst (λ (s : System). StopsIn IsOfControl s new) same stops)) (c.in_err-relay_through-2.ensures.ended well))
+    (λ stops. rw c.in-Some.is (inr (above, first, stops_from (Below its) queued (next_below above its) above read new same is stops)))
+    (c.in_err-relay_through-2.ensures.ended well))
 
 pub returns-clause-done : goal.returns-clause-done
 returns-clause-done g c = λ well.
