@@ -1,7 +1,7 @@
 -- A step stops at its event, or before the book is read.
 use Rattle.std.proofs.Common.{inl, inr, sym, subst}
 use Rattle.std.proofs.lemmas.Result.{err_from_is_err_and}
-use Rattle.dnp_world.specs.SystemEvents.{Happens}
+use Rattle.dnp_world.specs.SystemRuns.{Happens}
 use Rattle.dnp_world.specs.SystemParts.{system_of}
 use Rattle.dnp_world.specs.Systems.{System}
 use Rattle.dnp_world.specs.declared.event.Event.TheVariants.{Relay}
