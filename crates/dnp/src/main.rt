@@ -6,11 +6,14 @@
 mod answer;
 mod exit;
 mod fault;
+mod loopback;
 mod numbers;
 mod outstation;
 mod plan_file;
 mod serving;
 mod sim;
+mod texts;
+mod wire;
 
 use crate::fault::lost;
 use clap::error::ErrorKind;
@@ -76,6 +79,7 @@ fn command<'a>(alloc: Global) -> Result<Command<'a>, AllocError> {
         .subcommand_required(true)
         .arg_required_else_help(true)
         .subcommand(answer::command(alloc)?)?
+        .subcommand(loopback::command(alloc)?)?
         .subcommand(outstation::command(alloc)?)?
         .subcommand(sim::command(alloc)?)
 }
@@ -88,6 +92,7 @@ where
 {
     match matches.subcommand() {
         Some((answer::NAME, given)) => answer::run(rt, given),
+        Some((loopback::NAME, given)) => loopback::run(rt, given),
         Some((outstation::NAME, given)) => outstation::run(rt, given),
         Some((sim::NAME, given)) => sim::run(rt, given),
         // `clap` refuses a missing or an unknown subcommand before this.

@@ -1,15 +1,14 @@
 //! `dnp sim`: a whole system of a plan, run by a script.
 
-use crate::exit;
-use crate::fault::{Noted, lost};
-use crate::plan_file::{plan_text, refused};
+use crate::fault::Noted;
+use crate::texts::{finish, read_texts};
 use clap::{Arg, ArgMatches, Command};
-use dnp_daemons::{PlanTextFault, ScriptStop, read_plan, sim_text};
+use dnp_daemons::sim_text;
 use std::alloc::{AllocError, Global};
-use std::io::{BufWriter, Read, Write};
+use std::io;
+use std::io::BufWriter;
 use std::process::ExitCode;
 use std::rt::Files;
-use std::{io, str};
 
 /// The subcommand's name.
 pub const NAME: &str = "sim";
@@ -73,47 +72,16 @@ pub(crate) fn run<R: AllocGlobal + Input + Print + Eprint + Files>(
     rt: &R,
     given: &ArgMatches<'_>,
 ) -> anyhow::Result<ExitCode> {
-    let octets = match plan_text(rt, given.get_str("plan").unwrap_or("")) {
-        Ok(octets) => octets,
+    let texts = match read_texts(rt, given.get_str("plan").unwrap_or(""))? {
+        Ok(texts) => texts,
         Err(status) => return Ok(status),
     };
-    let Ok(plan) = str::from_utf8(octets.as_slice()) else {
-        return Ok(refused(rt, PlanTextFault::Syntax));
-    };
-    // Judged before the script is read, so that nobody writes one for a plan that is refused.
-    if let Err(fault) = read_plan(rt.alloc(), plan) {
-        return Ok(refused(rt, fault));
-    }
-    let mut script = Vec::new(rt.alloc());
-    if let Err(cause) = rt.reader().read_to_end(&mut script) {
-        return Ok(lost(rt, "standard input", &cause));
-    }
-    // What is not UTF-8 becomes a character that fits nowhere, so its line is the one that is refused.
-    let script = String::from_utf8_lossy(rt.alloc(), script.as_slice())?;
-    simulate(rt, plan, script.as_str())
-}
-
-/// Runs the script, and tells the exit status.
-fn simulate<R: AllocGlobal + Print + Eprint>(
-    rt: &R,
-    plan: &str,
-    script: &str,
-) -> anyhow::Result<ExitCode> {
     let mut out = BufWriter::new(rt.alloc(), Noted::new(io::writer(rt)))?;
-    let ended = sim_text(rt.alloc(), plan, script, &mut out);
-    let flushed = out.flush();
-    if let Some(cause) = out.get_ref().cause() {
-        return Ok(lost(rt, "standard output", cause));
-    }
-    flushed?;
-    match ended {
-        Ok(status) => Ok(ExitCode::from(status)),
-        Err(stop) => Ok(stopped(rt, stop)),
-    }
-}
-
-/// Says on standard error why the script was not run to its report, and gives the exit status of a fault.
-fn stopped<R: Eprint>(rt: &R, stop: ScriptStop) -> ExitCode {
-    let _ = eprintln!(rt; "dnp: {stop}");
-    ExitCode::from(exit::FAULT)
+    let ended = sim_text(
+        rt.alloc(),
+        texts.plan.as_str(),
+        texts.script.as_str(),
+        &mut out,
+    );
+    finish(rt, &mut out, ended)
 }

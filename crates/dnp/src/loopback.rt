@@ -1,0 +1,94 @@
+//! `dnp loopback`: a whole system of a plan, run by a script, whose units go over TCP to the program itself.
+
+use crate::fault::{Noted, lost};
+use crate::texts::{Texts, finish, read_texts};
+use crate::wire::Wire;
+use clap::{Arg, ArgMatches, Command};
+use dnp_daemons::loop_text;
+use std::alloc::{AllocError, Global};
+use std::io;
+use std::io::BufWriter;
+use std::net::{Net, TcpListener, TcpStream};
+use std::process::ExitCode;
+use std::rt::Files;
+
+/// The subcommand's name.
+pub const NAME: &str = "loopback";
+
+/// What it does, in a line.
+const ABOUT: &str =
+    "Run a script as 'sim' does, with each unit going over TCP to the program itself";
+
+/// What is said to have failed where the wire did.
+const WIRE: &str = "the connection to this program itself";
+
+/// What its help text says after the options.
+const AFTER: &str = "\
+INPUT
+  A plan and a script as for 'dnp sim', but the script loses, repeats and damages nothing: lines
+  'lose', 'repeat' and 'damage' are refused as lines that don't fit.
+
+THE LINES
+  Each unit that comes to the end of a line is first written to a TCP connection of the program to
+  itself, on the loopback interface, and read from its other end: what comes has to be what went.
+  It listens on a port of the machine's choice, for that connection alone.
+
+OUTPUT
+  What 'dnp sim' prints for the same plan and script. Where the connection fails, 'stopped N', N
+  lines of the script having been done.
+
+EXIT STATUS
+  0  the script was run, and the report was printed
+  1  the plan or the script was refused
+  2  the command line is wrong
+  3  the program failed: the plan can't be read, no connection can be had, or it failed, out of
+     memory, or the input or the output was lost; a line on standard error says which, and why";
+
+/// What `clap` has to know of `dnp loopback`.
+pub(crate) fn command<'a>(alloc: Global) -> Result<Command<'a>, AllocError> {
+    let plan = Arg::new(alloc, "plan")
+        .long("plan")
+        .value_name("FILE")
+        .required(true)
+        .help("The plan of the system, as TOML");
+    Command::new(alloc, NAME)
+        .about(ABOUT)
+        .after_help(AFTER)
+        .arg(plan)
+}
+
+/// Runs the script on standard input by the given words, and tells the exit status.
+pub(crate) fn run<R>(rt: &R, given: &ArgMatches<'_>) -> anyhow::Result<ExitCode>
+where
+    R: AllocGlobal + Input + Print + Eprint + Files,
+    R: Net<Listener = TcpListener, Stream = TcpStream>,
+{
+    let texts = match read_texts(rt, given.get_str("plan").unwrap_or(""))? {
+        Ok(texts) => texts,
+        Err(status) => return Ok(status),
+    };
+    match Wire::new(rt) {
+        Ok(mut wire) => carry(rt, &texts, &mut wire),
+        Err(cause) => Ok(lost(rt, WIRE, &cause)),
+    }
+}
+
+/// Runs the script over the wire, and tells the exit status.
+fn carry<R: AllocGlobal + Print + Eprint>(
+    rt: &R,
+    texts: &Texts,
+    wire: &mut Wire,
+) -> anyhow::Result<ExitCode> {
+    let mut out = BufWriter::new(rt.alloc(), Noted::new(io::writer(rt)))?;
+    let ended = loop_text(
+        rt.alloc(),
+        texts.plan.as_str(),
+        texts.script.as_str(),
+        &mut *wire,
+        &mut out,
+    );
+    if let Some(cause) = wire.cause() {
+        lost(rt, WIRE, cause);
+    }
+    finish(rt, &mut out, ended)
+}

@@ -1,0 +1,42 @@
+#!/bin/bash
+# `dnp loopback` from the shell: it prints what `dnp sim` prints, and refuses lines that lose, repeat or damage a unit.
+. "$(dirname "${BASH_SOURCE[0]}")/../expect.bash"
+
+lf=$'\n'
+examples=$top/examples
+plan=$examples/plan.toml
+
+# The scripts of examples/, each on the plan of its name, or else on plan.toml; those that lose, repeat or damage a unit are
+# refused at the first line that does
+for script in "$examples"/*.script; do
+    name=${script##*/} && name=${name%.script}
+    of=$examples/$name.toml
+    [ -e "$of" ] || of=$plan
+    status=0 got=0
+    "$dnp" sim --plan "$of" <"$script" >simulated 2>err || echo "FAILED to-simulate:$name"
+    line=$(grep -nE '^(lose|repeat|damage) ' "$script" | head -n 1 | cut -d: -f1)
+    [ -z "$line" ] || { status=1 && echo "refused line $line" >simulated; }
+    "$dnp" loopback --plan "$of" <"$script" >out 2>err || got=$?
+    judge "carries-or-refuses:$name" "$status" "$(<simulated)" "$got"
+done
+
+# refuses NAME LINE INPUT
+refuses() {
+    expect "refuses-$1" 1 "refused line $2" "$3" loopback --plan "$plan"
+}
+fits="open 0$lf"
+refuses a-loss 2 "${fits}lose 0 up$lf$fits"
+refuses a-repeat 2 "${fits}repeat 0 up$lf"
+refuses damage 2 "${fits}damage 0 up 00$lf"
+refuses a-loss-before-what-does-not-fit 2 "${fits}lose 0 up${lf}open$lf"
+refuses what-does-not-fit-before-a-loss 2 "${fits}open${lf}lose 0 up$lf"
+
+expect wants-a-plan 2 '' '' loopback
+expect has-no-such-file 3 '' "$fits" loopback --plan absent.toml
+expect tells-how-to-use-it 0 "$(<"$top/crates/dnp/help/loopback")" '' loopback --help
+
+# With room for the listener and one end alone
+got=0
+printf '%s' "$fits" | (ulimit -n 5 && exec "$top/crates/dnp/out/dnp" loopback --plan "$plan") >out 2>err || got=$?
+judge fails-with-no-connection 3 '' "$got"
+says says-that-there-is-no-connection 'dnp: the connection to this program itself: Too many open files (os error 24)'
