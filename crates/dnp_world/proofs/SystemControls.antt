@@ -21,10 +21,10 @@ use Rattle.dnp_world.proofs.SystemRounds.{Ran, StopsIn, ran_both, ran_flush, ran
 abbrev pub IsOfControl : Event → Type 0
 IsOfControl event = (on : Link) × ((event ≡ Relay on) ⊎ ((way : Way) × (event ≡ Deliver on way)))
 
-pub ran_step : (on : Link) (id : Option ℕ) (old new : System) → Passes on id old new → Ran IsOfControl old new
+ran_step : (on : Link) (id : Option ℕ) (old new : System) → Passes on id old new → Ran IsOfControl old new
 ran_step on id old new p = ran_one IsOfControl old new (Relay on) (on, inl refl) p.relays
 
-pub ran_flushed : (on : Link) (way : Way) (old new : System) → Flushes on way old new → Ran IsOfControl old new
+ran_flushed : (on : Link) (way : Way) (old new : System) → Flushes on way old new → Ran IsOfControl old new
 ran_flushed on way old new flushes = ran_flush IsOfControl on way old new (on, inr (way, refl)) flushes
 
 pub ran_back : (on : Link) (id : Option ℕ) (old new : System) → PassesBack on id old new → Ran IsOfControl old new
@@ -60,7 +60,8 @@ stops_on : (on : Link) (id : Option ℕ) (old new : System) → StopsOn on id ol
 stops_on on id old new s =
     stops_in_turn IsOfControl (StopsBack on id) (PassesBack on id) (StopsInTurn (StopsBack on id) (PassesBack on id) (StopsRelaying on))
     (stops_back on id) (ran_back on id)
-    (stops_in_turn IsOfControl (StopsBack on id) (PassesBack on id) (StopsRelaying on) (stops_back on id) (ran_back on id) (stops_relaying on)) old new s
+    (stops_in_turn IsOfControl (StopsBack on id) (PassesBack on id) (StopsRelaying on) (stops_back on id) (ran_back on id) (stops_relaying on))
+    old new s
 
 pub stops_for : (station : Option ℕ) (id : ℕ) (old new : System) → StopsFor station id old new → StopsIn IsOfControl old new
 stops_for None id old new s = stops_on Above (Some id) old new s

@@ -141,7 +141,8 @@ stops_delivering old mid new n all on way low ran counts = record {
   counts = counts;
 }
 
-stops_flushing : (P : Event → Type 0) (on : Link) (way : Way) → P (Deliver on way) → (old new : System) → StopsFlushing on way old new → StopsIn P old new
+stops_flushing : (P : Event → Type 0) (on : Link) (way : Way) → P (Deliver on way) → (old new : System) → StopsFlushing on way old new
+    → StopsIn P old new
 stops_flushing P on way is old new (done, stops) = record {
   events = deliveries (standing_on old on way) on way;
   done = done;

@@ -31,8 +31,11 @@ returns-in_err-flush-2-clause-ended g c = λ well.
     let before = c.flush-2.ensures.held well in
     let p = err_from_is_err_and c.from_residual-in_err-flush-2.result c.from_residual-in_err-flush-2.ensures.1 in
     rw (p.1, p.2)
-    (inr (system c.relay_one.new.self, c.in_ok-relay_one.ensures.done (c.flush.ensures.held before),
-    inr (system c.flush.new.self, c.in_ok-flush.ensures.done before, inl (c.in_err-flush-2.ensures.stopped well))))
+    (inr (
+      system c.relay_one.new.self,
+      c.in_ok-relay_one.ensures.done (c.flush.ensures.held before),
+      inr (system c.flush.new.self, c.in_ok-flush.ensures.done before, inl (c.in_err-flush-2.ensures.stopped well)),
+    ))
 
 pub returns-clause-done : goal.returns-clause-done
 returns-clause-done g c = λ well.

@@ -27,9 +27,11 @@ returns-in_err-happen_by-clause-stopped g c = λ well.
     let mid = system c.loop.self in
     let new = system c.happen_by.new.self in
     let more : c.loop.counter < standing_on old on way = omega arith in
-    any_err c.from_residual.result (StopsFlushing on way old new)
-    (c.loop.counter, stops_delivering old mid new c.loop.counter (standing_on old on way) on way more
-    (c.loop.invariant.ran (c.happen_by.ensures.held well)) (c.in_err-happen_by.ensures.stopped well))
+    any_err c.from_residual.result (StopsFlushing on way old new) (
+      c.loop.counter,
+      stops_delivering old mid new c.loop.counter (standing_on old on way) on way more
+          (c.loop.invariant.ran (c.happen_by.ensures.held well)) (c.in_err-happen_by.ensures.stopped well),
+    )
 
 pub returns-clause-done : goal.returns-clause-done
 returns-clause-done g c = λ well.

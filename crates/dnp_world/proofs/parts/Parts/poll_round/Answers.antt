@@ -22,8 +22,11 @@ returns-in_err-flush-2-clause-stopped g c = λ well.
     let system = system_of g.Q.Lanes.contents g.J.JournalStore.archive g.A.Book.contents g.B.Book.contents in
     let before = c.flush-2.ensures.held well in
     any_err c.from_residual-in_err-flush-2.result (StopsInRound c.args.on (system c.args.self.now) (system c.flush-2.new.self))
-    (inr (system c.happen.new.self, c.in_ok-happen.ensures.done (c.flush.ensures.held before),
-    inr (system c.flush.new.self, c.in_ok-flush.ensures.done before, inl (c.in_err-flush-2.ensures.stopped well))))
+    (inr (
+      system c.happen.new.self,
+      c.in_ok-happen.ensures.done (c.flush.ensures.held before),
+      inr (system c.flush.new.self, c.in_ok-flush.ensures.done before, inl (c.in_err-flush-2.ensures.stopped well)),
+    ))
 
 pub returns-in_err-flush-3-clause-stopped : goal.returns-in_err-flush-3-clause-stopped
 returns-in_err-flush-3-clause-stopped g c = λ well.
@@ -31,9 +34,15 @@ returns-in_err-flush-3-clause-stopped g c = λ well.
     let before = c.flush-3.ensures.held well in
     let first = c.flush-2.ensures.held before in
     any_err c.from_residual-in_err-flush-3.result (StopsInRound c.args.on (system c.args.self.now) (system c.flush-3.new.self))
-    (inr (system c.happen.new.self, c.in_ok-happen.ensures.done (c.flush.ensures.held first),
-    inr (system c.flush.new.self, c.in_ok-flush.ensures.done first,
-    inr (system c.flush-2.new.self, c.in_ok-flush-2.ensures.done before, inl (c.in_err-flush-3.ensures.stopped well)))))
+    (inr (
+      system c.happen.new.self,
+      c.in_ok-happen.ensures.done (c.flush.ensures.held first),
+      inr (
+        system c.flush.new.self,
+        c.in_ok-flush.ensures.done first,
+        inr (system c.flush-2.new.self, c.in_ok-flush-2.ensures.done before, inl (c.in_err-flush-3.ensures.stopped well)),
+      ),
+    ))
 
 pub returns-clause-done : goal.returns-clause-done
 returns-clause-done g c = λ well.

@@ -1,5 +1,5 @@
 -- The way above, and then the way below, or where one of them ends.
-use Rattle.std.proofs.Common.{◌≡◌, ℕ, Option, Some, None, inl, inr, sym}
+use Rattle.std.proofs.Common.{◌≡◌, ℕ, Option, Some, None, inl, inr}
 use Rattle.std.proofs.lemmas.Result.{err_from_is_err_and}
 use Rattle.dnp_world.specs.Controls.{IsRefusedFor, IsRefusedOn, AtCentre, AtConcentrator, StopsFor, StopsOn, next_below}
 use Rattle.dnp_world.specs.SystemParts.{system_of}
@@ -53,7 +53,8 @@ returns-in_err-relay_through-2-clause-ended g c = λ well.
     rw (p.1, p.2)
     (ends_of (λ (status : ℕ). IsRefusedOn (Below its) queued status read new) (λ (status : ℕ). IsRefusedFor station id status old new)
     (StopsOn (Below its) queued read new) (StopsFor station id old new) c.in_err-relay_through-2.field-0.0
-    (λ status refused. AtConcentrator its above c.in-Some.is first (refused_from (Below its) queued (next_below above its) status above read new same is refused))
+    (λ status refused. AtConcentrator its above c.in-Some.is first
+    (refused_from (Below its) queued (next_below above its) status above read new same is refused))
     (λ stops. rw c.in-Some.is (inr (above, first, stops_from (Below its) queued (next_below above its) above read new same is stops)))
     (c.in_err-relay_through-2.ensures.ended well))
 
