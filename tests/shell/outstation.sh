@@ -161,7 +161,8 @@ for name in concentrate centre; do
     expect "is-not-there-yet:$name" 2 '' '' $name --plan plan.toml --port "$port"
 done
 
-# What Debian's tshark reads in a capture of what the station sends, where it is installed and may capture
+# What Debian's tshark reads in a capture of what the station sends, where it is installed and may capture. Debian's nmap
+# (7.93) has no script for DNP3 among its 604, so none is tried.
 if tshark -D 2>/dev/null | grep -qw lo; then
     serve
     tshark -i lo -f "tcp port $port" -a duration:8 -w capture >/dev/null 2>watched &
