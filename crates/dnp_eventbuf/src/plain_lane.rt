@@ -92,6 +92,9 @@ impl PlainLane {
         ensures rows { IfOk result (λ rows. rows.items ≡ take most (filter (λ x. nat_lt after x.id) self.now.rows)) }
         ensures memory { OnErr result (take most (filter (λ x. nat_lt after x.id) self.now.rows) ≢ []) }
     {
+        if !self.has_over(after) {
+            return Ok(Vec::new(alloc));
+        }
         let (front, back) = self.rows.as_slices();
         first_of(alloc, cut(front, after).1, cut(back, after).1, most)
     }
