@@ -117,27 +117,24 @@ fn poll(
     Some(sum)
 }
 
-/// The analog changes so often, each time to another value.
+/// The analog changes once: `event` says which change of this turn it is, each to another value.
 fn change(
     actions: &mut Actions,
     alloc: Global,
     station: &mut Station,
     turn: u64,
-    events: u16,
+    event: u16,
 ) -> Option<()> {
     let turn = turn % 65_536;
-    for event in 0..events {
-        let value = turn as i64 * 256 + i64::from(event) + 1;
-        let reading = Reading {
-            value,
-            flags: 1,
-            time: Some(1_000 + turn),
-        };
-        station
-            .change_into(actions, alloc, 0, Kind::Analog, 0, reading)
-            .ok()?;
-    }
-    Some(())
+    let value = turn as i64 * 256 + i64::from(event) + 1;
+    let reading = Reading {
+        value,
+        flags: 1,
+        time: Some(1_000 + turn),
+    };
+    station
+        .change_into(actions, alloc, 0, Kind::Analog, 0, reading)
+        .ok()
 }
 
 /// `count` polls of classes 1, 2 and 3, before each of which an analog of class 1 changes `events`
@@ -154,8 +151,10 @@ pub extern "C" fn dnp_bench_poll_events(alloc: Global, count: u64, events: u16) 
         let read = [
             control, 0x01, 0x3C, 0x02, 0x06, 0x3C, 0x03, 0x06, 0x3C, 0x04, 0x06,
         ];
-        if change(&mut actions, alloc, &mut station, turn, events).is_none() {
-            return u64::MAX;
+        for event in 0..events {
+            if change(&mut actions, alloc, &mut station, turn, event).is_none() {
+                return u64::MAX;
+            }
         }
         let Some(number) = poll(&mut actions, alloc, &mut station, &read, 2) else {
             return u64::MAX;
@@ -196,7 +195,7 @@ fn report(
     turn: u64,
     sum: u64,
 ) -> Option<u64> {
-    change(changed, alloc, station, turn, 1)?;
+    change(changed, alloc, station, turn, 0)?;
     let lost = changed.overwritten.as_slice().len() as u64;
     let sum = sum.wrapping_mul(31).wrapping_add(lost);
     let Some((number, Some(seq))) = taken(&changed.send) else {

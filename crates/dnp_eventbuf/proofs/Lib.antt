@@ -5,6 +5,7 @@ pub mod ByLanes
 pub mod Conserved
 pub mod Drops
 pub mod Ids
+pub mod InOrder
 pub mod InPlace
 pub mod LaneNumbers
 pub mod LatestRows

@@ -4,6 +4,7 @@
 
 mod arriving;
 mod carried;
+mod in_order;
 mod journal;
 pub mod journal_laws;
 mod lanes;

@@ -1,7 +1,7 @@
 //! Lanes in memory.
 
 ghost use Rattle.std.specs.Prelude.{◌≡◌, ◌≢◌, ◌^◌, ◌<◌, ◌≤◌, ◌+◌, ◌-◌, slice_get, option_map, Bool, true, false, IfOk, IfErr, IfSome, IfNone, OnOk, OnErr, IsTrue, All, List, length, map, [], ◌∷◌, ◌++◌, vec_len, vec_capacity, ⊤};
-ghost use Rattle.std.specs.List.{list_any};
+ghost use Rattle.std.specs.List.{AllPairs, list_any};
 ghost use Rattle.dnp_objects.specs.Lanes.{lane_number};
 ghost use Rattle.dnp_eventbuf.specs.Carried.{IsCarried};
 ghost use Rattle.dnp_eventbuf.specs.Latest.{numbered_for};
@@ -184,7 +184,7 @@ impl PlainLanes {
         ensures without { self.new ≡ without self.old upto.now }
     {
         cut_all(&mut self.lanes, upto);
-        self.overflow &= any_full(&self.lanes);
+        self.overflow = self.overflow && any_full(&self.lanes);
     }
 
     /// All rows, lane by lane.
@@ -271,6 +271,7 @@ fn push_all_up_to(
     upto: &Upto,
     out: &mut Vec<Row>,
 ) -> Result<(), AllocError>
+    requires rising { All (λ lane. AllPairs (λ x y. x.id < y.id) lane.rows) lanes.now }
     ensures rows { OnOk result (out.new.items ≡ out.old.items ++ lanes_up_to lanes.now upto.now) }
     ensures memory { OnErr result (lanes_up_to lanes.now upto.now ≢ []) }
 {
@@ -282,6 +283,7 @@ fn push_all_up_to(
 
 /// Takes the rows of each lane with ids up to its number out.
 fn cut_all(lanes: &mut [PlainLane; LANES], upto: &Upto)
+    requires rising { All (λ lane. AllPairs (λ x y. x.id < y.id) lane.rows) lanes.old }
     ensures { lanes.new ≡ lanes_above lanes.old upto.now }
 {
     for k in 0..LANES {

@@ -1,11 +1,12 @@
 //! One lane in memory.
 
 ghost use Rattle.std.specs.Prelude.{not, ◌&&◌, false, ◌≡◌, ◌≢◌, ◌^◌, ◌+◌, ◌-◌, ◌<◌, ◌≤◌, ◌++◌, slice_get, option_map, IfOk, OnOk, OnErr, [], length, map, nat_le, nat_lt, vec_len, vec_capacity, filter, take};
-ghost use Rattle.std.specs.List.{list_any};
+ghost use Rattle.std.specs.List.{AllPairs, list_any};
 ghost use Rattle.std.specs.VecDeque.{deque_len, deque_capacity};
 ghost use Rattle.dnp_eventbuf.specs.Stock.{is_full, put_in, dropped_from, empty_lane, emptied, above, up_to, last_of, row_of};
 ghost use Rattle.dnp_eventbuf.specs.Tallies.{tally_of};
 
+use crate::in_order::{cut, first_of, push_rows};
 use crate::numbered::Numbered;
 use crate::tally::Tally;
 use dnp_objects::{MAX_ID, Row};
@@ -79,45 +80,48 @@ impl PlainLane {
         if self.rows.len() >= self.capacity as usize {
             self.lost += 1;
             if let Some(oldest) = self.rows.pop_front() {
-                let _ = dropped.push(oldest.row);
+                dropped.push_reserved(oldest.row);
             }
         }
         self.rows.push_back_reserved(x);
     }
 
-    /// The first rows with an id over `after`, at most `most`.
+    /// The first rows with an id over `after`, at most `most`. Memory is asked for once, for just as many.
     pub fn offer(&self, alloc: Global, after: u64, most: usize) -> Result<Vec<Numbered>, AllocError>
+        requires rising { AllPairs (λ x y. x.id < y.id) self.now.rows }
         ensures rows { IfOk result (λ rows. rows.items ≡ take most (filter (λ x. nat_lt after x.id) self.now.rows)) }
         ensures memory { OnErr result (take most (filter (λ x. nat_lt after x.id) self.now.rows) ≢ []) }
     {
-        if most == 0 || !self.has_over(after) {
+        if !self.has_over(after) {
             return Ok(Vec::new(alloc));
         }
-        self.rows
-            .iter()
-            .copied()
-            .filter(|x| after < x.id)
-            .take(most)
-            .collect(alloc)
+        let (front, back) = self.rows.as_slices();
+        first_of(alloc, cut(front, after).1, cut(back, after).1, most)
     }
 
-    /// Whether a row has an id over this.
+    /// Whether a row has an id over this: the last one has, if any.
     fn has_over(&self, after: u64) -> bool
+        requires rising { AllPairs (λ x y. x.id < y.id) self.now.rows }
         ensures { result ≡ list_any (λ x. nat_lt after x.id) self.now.rows }
     {
-        self.rows.iter().any(|x| after < x.id)
+        after < self.last()
     }
 
-    /// Adds the rows with ids up to this.
+    /// Adds the rows with ids up to this. Memory is asked for once at most, before any is added.
     pub fn push_up_to(&self, upto: u64, out: &mut Vec<Row>) -> Result<(), AllocError>
+        requires rising { AllPairs (λ x y. x.id < y.id) self.now.rows }
         ensures rows { OnOk result (out.new.items ≡ out.old.items ++ up_to upto self.now) }
         ensures memory { OnErr result (up_to upto self.now ≢ []) }
     {
-        for x in self.rows.iter() {
-            if x.id <= upto {
-                out.push(x.row)?;
-            }
+        if self.len() == 0 {
+            return Ok(());
         }
+        let (front, back) = self.rows.as_slices();
+        let front = cut(front, upto).0;
+        let back = cut(back, upto).0;
+        out.reserve(front.len() + back.len())?;
+        push_rows(front, out);
+        push_rows(back, out);
         Ok(())
     }
 
@@ -134,6 +138,7 @@ impl PlainLane {
 
     /// Takes the rows with ids up to this out.
     pub fn cut(&mut self, upto: u64)
+        requires rising { AllPairs (λ x y. x.id < y.id) self.old.rows }
         ensures { self.new ≡ above upto self.old }
     {
         if self.len() == 0 {

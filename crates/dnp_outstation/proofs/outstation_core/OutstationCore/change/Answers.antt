@@ -30,14 +30,14 @@ returns-then-is_ready-clause-changed g c = λ honest.
     let kind = c.args.kind in
     let index = c.args.index in
     let reading = c.args.reading in
-    let made = c.made-made.result in
+    let made = c.made-row.result in
     let last : Step = record {
       state = state_of c.change_reported.new.self (g.L.Lanes.contents c.change_reported.new.lanes) panel;
       does = actions_of c.change_reported.new.actions;
     } in
     let is : change_of s now kind index reading made ≡ last = c.in_ok-change_reported.ensures.changed honest panel in
     let answer_is : Ok made ≡ answer_of c.args.self.now.points kind index reading =
-    sym c.made-made.ensures.answer ∙ ap (λ (k : Core). answer_of k.points kind index reading) c.self.view_is in
+    sym c.made-row.ensures.answer ∙ ap (λ (k : Core). answer_of k.points kind index reading) c.self.view_is in
     subst (λ (r : Result (Option LaneRow) ChangeFault). IfOk r (λ m. change_of s now kind index reading m ≡ last)) answer_is is
 
 pub returns-clause-changed : goal.returns-clause-changed

@@ -1,0 +1,73 @@
+-- Rows whose ids rise, cut at an id.
+use Rattle.std.proofs.Common.{◌≡◌, ℕ, zero, suc, ◌<◌, ◌≤◌, Bool, true, false, cond, List, [], ◌∷◌, ◌++◌, take, drop, length, get_or, sym, ap, ◌∙◌, arith, refl, nat_lt, nat_le, inl, inr}
+use Rattle.std.specs.List.{filter}
+use Rattle.std.specs.List.Sorted.{IsNonDecreasingBy, IsPartitionPoint}
+use Rattle.std.proofs.lemmas.Bool.{cases_lt}
+use Rattle.std.proofs.lemmas.Bool.Decides.{nat_tests}
+use Rattle.dnp_eventbuf.specs.declared.numbered.Numbered.{Numbered}
+use Rattle.dnp_eventbuf.proofs.Offers.{Rises}
+
+-- the test that parts rows at an id
+abbrev pub is_up_to : ℕ → Numbered → Bool
+is_up_to upto x = nat_le x.id upto
+
+abbrev pub is_over : ℕ → Numbered → Bool
+is_over upto x = nat_lt upto x.id
+
+over_not_up_to : (upto : ℕ) (x : Numbered) → is_up_to upto x ≡ true → is_over upto x ≡ false
+over_not_up_to upto x h = grind (arith, nat_tests)
+
+over_else : (upto : ℕ) (x : Numbered) → is_up_to upto x ≡ false → is_over upto x ≡ true
+over_else upto x h = grind (arith, nat_tests)
+
+-- where the first n pass and no other does, they are what a filter keeps
+pub take-passes : {A : Type 0} (p : A → Bool) (xs : List A) (n : ℕ) → ((k : ℕ) (d : A) → k < n → k < length xs → p (get_or xs k d) ≡ true)
+    → ((k : ℕ) (d : A) → n ≤ k → k < length xs → p (get_or xs k d) ≡ false) → take n xs ≡ filter p xs
+take-passes p [] zero front back = refl
+take-passes p [] (suc n) front back = refl
+take-passes p (x ∷ xs) zero front back =
+    let here : p x ≡ false = back 0 x (omega arith) (omega arith) in
+    take-passes p xs zero (λ k d low lt. absurd (omega arith)) (λ k d low lt. back (suc k) d (omega arith) (omega arith))
+    ∙ sym (ap (λ (b : Bool). cond b (x ∷ filter p xs) (filter p xs)) here)
+take-passes p (x ∷ xs) (suc n) front back =
+    let here : p x ≡ true = front 0 x (omega arith) (omega arith) in
+    ap (λ l. x ∷ l) (take-passes p xs n (λ k d low lt. front (suc k) d (omega arith) (omega arith)) (λ k d low lt. back (suc k) d (omega arith) (omega arith)))
+    ∙ sym (ap (λ (b : Bool). cond b (x ∷ filter p xs) (filter p xs)) here)
+
+-- where the first n don't pass and all others do, these are what a filter keeps
+pub drop-passes : {A : Type 0} (p : A → Bool) (xs : List A) (n : ℕ) → ((k : ℕ) (d : A) → k < n → k < length xs → p (get_or xs k d) ≡ false)
+    → ((k : ℕ) (d : A) → n ≤ k → k < length xs → p (get_or xs k d) ≡ true) → drop n xs ≡ filter p xs
+drop-passes p [] zero front back = refl
+drop-passes p [] (suc n) front back = refl
+drop-passes p (x ∷ xs) zero front back =
+    let here : p x ≡ true = back 0 x (omega arith) (omega arith) in
+    ap (λ l. x ∷ l) (drop-passes p xs zero (λ k d low lt. absurd (omega arith)) (λ k d low lt. back (suc k) d (omega arith) (omega arith)))
+    ∙ sym (ap (λ (b : Bool). cond b (x ∷ filter p xs) (filter p xs)) here)
+drop-passes p (x ∷ xs) (suc n) front back =
+    let here : p x ≡ false = front 0 x (omega arith) (omega arith) in
+    drop-passes p xs n (λ k d low lt. front (suc k) d (omega arith) (omega arith)) (λ k d low lt. back (suc k) d (omega arith) (omega arith))
+    ∙ sym (ap (λ (b : Bool). cond b (x ∷ filter p xs) (filter p xs)) here)
+
+-- ---- rows that rise don't fall, and neither do parts of them
+
+pub no_fall : (rows : List Numbered) → Rises rows → IsNonDecreasingBy (λ x. x.id) rows
+no_fall rows rising i j d le low =
+    elim (cases_lt i j) [
+      | inl before ↦ (let less = rising i j d before low in omega arith)
+      | inr same ↦ (let e : i ≡ j = omega arith in let f : (get_or rows i d).id ≡ (get_or rows j d).id = ap (λ k. (get_or rows k d).id) e in omega arith)
+    ]
+
+pub rises_back : (xs ys : List Numbered) → Rises (xs ++ ys) → Rises ys
+rises_back [] ys rising = rising
+rises_back (x ∷ xs) ys rising = rises_back xs ys (λ i j d less low. rising (suc i) (suc j) d (omega arith) (omega arith))
+
+-- what a bisection answers parts the rows into those that a filter keeps and those that it leaves
+pub front_kept : (upto n : ℕ) (rows : List Numbered) → IsPartitionPoint (λ x. is_up_to upto x ≡ true) (λ x. is_up_to upto x ≡ false) rows n
+    → take n rows ≡ filter (λ x. nat_le x.id upto) rows
+front_kept upto n rows split = take-passes (is_up_to upto) rows n (λ k d low lt. split.0 k d (omega arith) low) (λ k d low lt. split.1 k d low lt)
+
+pub back_kept : (upto n : ℕ) (rows : List Numbered) → IsPartitionPoint (λ x. is_up_to upto x ≡ true) (λ x. is_up_to upto x ≡ false) rows n
+    → drop n rows ≡ filter (λ x. nat_lt upto x.id) rows
+back_kept upto n rows split = drop-passes (is_over upto) rows n
+    (λ k d low lt. over_not_up_to upto (get_or rows k d) (split.0 k d (omega arith) low))
+    (λ k d low lt. over_else upto (get_or rows k d) (split.1 k d low lt))
