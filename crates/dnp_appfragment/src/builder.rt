@@ -231,12 +231,12 @@ impl Builder {
 
     /// How many octets of objects fit into the fragment where an object of this run is put: under the
     /// last header, if it joins that, or else under a new one.
-    fn room_for(&self, begun: Run) -> usize
-        ensures { result ≡ MAX_FRAGMENT - built.size (built.with_object self.now (run_head [] begun)) }
+    fn room_for(&self, object: Run) -> usize
+        ensures { result ≡ MAX_FRAGMENT - built.size (built.with_object self.now (run_head [] object)) }
     {
-        match longer(self.run, begun) {
+        match longer(self.run, object) {
             Some(_) => self.left(),
-            None => self.left().saturating_sub(3 + range_size(begun.range)),
+            None => self.left().saturating_sub(3 + range_size(object.range)),
         }
     }
 
@@ -254,6 +254,7 @@ impl Builder {
         requires in_order { written.InOrder first (R.rows rows) }
         requires narrow { first + length (R.rows rows) ≤ 2 ^ 16 }
         ensures count { result ≡ built.objects_put self.old (map (row_head GROUP VARIATION) (R.rows rows)) }
+        ensures few { result ≤ length (R.rows rows) }
         ensures put { self.new ≡ built.with_objects self.old (map (row_head GROUP VARIATION) (R.rows rows)) }
         ensures function { self.new.function ≡ self.old.function }
     {
@@ -289,6 +290,7 @@ impl Builder {
         requires in_order { written.InOrder first (R.rows rows) }
         requires narrow { first + length (R.rows rows) ≤ 2 ^ 16 }
         ensures count { result ≡ built.objects_put self.old (map (written.point group) (R.rows rows)) }
+        ensures few { result ≤ length (R.rows rows) }
         ensures put { self.new ≡ built.with_objects self.old (map (written.point group) (R.rows rows)) }
         ensures function { self.new.function ≡ self.old.function }
     {

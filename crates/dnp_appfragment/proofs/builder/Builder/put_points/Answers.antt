@@ -144,3 +144,6 @@ returns-clause-put g c =
     (is_put g at.After-put (small g at.After-min-count (c.args.first + (c.min-count.result - 1)) (omega (arith, c.if-count-eq0.false))))
     c.put.ensures.ok
     ∙ sym (put g at.After-min-count (omega (arith, c.if-count-eq0.false))).put
+
+pub returns-clause-few : goal.returns-clause-few
+returns-clause-few g c = (fit g (goal.at.returns-clause-few g c).After-min-count).0
