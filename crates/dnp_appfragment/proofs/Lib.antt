@@ -18,6 +18,7 @@ pub mod ReadBack
 pub mod Requests
 pub mod Responses
 pub mod ResponseRows
+pub mod Spans
 pub mod TableLines
 pub mod There
 pub mod Walk

@@ -113,7 +113,7 @@ event_header f k time i octets response sized =
     subst (λ (x : Form). IsHeader x (indexed (event_object k time).0 (event_object k time).1 i octets)) (sym (response_form f response))
     (indexed_header form.Response _ _ i octets (event_in_table k time) refl sized)
 
-point_in_table : (g : ℕ) → IsTrue (is_point_group g) → IsInTable form.Response g (point_variation g) 0x01
+pub point_in_table : (g : ℕ) → IsTrue (is_point_group g) → IsInTable form.Response g (point_variation g) 0x01
 unfolding takes_of rules objects
 point_in_table g is =
     one 1 (1 == g) refl refl (λ a.

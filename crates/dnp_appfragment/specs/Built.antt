@@ -1,7 +1,8 @@
 -- Definition: a fragment that is being built, and what a call puts into it (IEEE Std 1815-2012, application
 -- layer: fragments, object headers).
-use Rattle.std.specs.Prelude.{ℕ, ◌+◌, Bool, ◌||◌, if◌then◌else◌, List, [], ◌∷◌, ◌++◌, length, option_to_list, Option, Some, None}
+use Rattle.std.specs.Prelude.{ℕ, ◌+◌, nat_le, Bool, ◌||◌, if◌then◌else◌, List, [], ◌∷◌, ◌++◌, length, option_to_list, Option, Some, None}
 use Rattle.std.specs.Option.{option_and_then}
+use Rattle.dnp_objects.specs.declared.limits.TheConstants.{MAX_FRAGMENT}
 use Rattle.dnp_appfragment.specs.declared.function.Function.{Function}
 use Rattle.dnp_appfragment.specs.declared.iin.Iin.{Iin}
 use Rattle.dnp_appfragment.specs.Control.{ControlBits}
@@ -47,6 +48,18 @@ with_run built None object = record { function = built.function; ended = heads b
 
 unfoldable pub with_object : Built → Head → Built
 with_object built object = with_run built (option_and_then (λ run. joined run object) built.run) object
+
+-- objects one by one, up to the first that doesn't fit into a fragment: what is built then
+abbrev pub with_objects : Built → List Head → Built
+with_objects built [] = built
+with_objects built (object ∷ objects) =
+    if nat_le (size (with_object built object)) MAX_FRAGMENT then with_objects (with_object built object) objects else built
+
+-- how many of them are put
+abbrev pub objects_put : Built → List Head → ℕ
+objects_put built [] = 0
+objects_put built (object ∷ objects) =
+    if nat_le (size (with_object built object)) MAX_FRAGMENT then objects_put (with_object built object) objects + 1 else 0
 
 -- the functions whose fragments carry commands: those that select and operate, and the responses
 abbrev pub carries_commands : Function → Bool

@@ -1,6 +1,6 @@
 -- Definition: what rows and commands are written as in a fragment, each as a header of its own (IEEE Std
 -- 1815-2012, application layer: object headers; object library).
-use Rattle.std.specs.Prelude.{ℕ, Bool, true, IsTrue, ◌==◌, ◌||◌, if◌then◌else◌, List, [], ◌∷◌, ◌++◌}
+use Rattle.std.specs.Prelude.{◌≡◌, ℕ, ◌+◌, ⊤, Bool, true, IsTrue, ◌==◌, ◌||◌, if◌then◌else◌, List, [], ◌∷◌, ◌++◌}
 use Rattle.std.specs.List.{list_any}
 use Rattle.dnp_objects.specs.Rows.{Fits, written}
 use Rattle.dnp_objects.specs.Events.{event_object}
@@ -45,6 +45,11 @@ pub record FitsPoint (group : ℕ) (row : Row) : Type 0 where
 
 abbrev pub point : ℕ → Row → Head
 point group row = spanned group (point_variation group) row.index (written group (point_variation group) row)
+
+-- the rows have the indexes from this one on
+abbrev pub InOrder : ℕ → List Row → Type 0
+InOrder index [] = ⊤
+InOrder index (row ∷ rows) = (row.index ≡ index) × InOrder (index + 1) rows
 
 -- ---- commands
 

@@ -4,15 +4,16 @@ use crate::control::Control;
 use crate::function::Function;
 use crate::header::Header;
 use crate::iin::Iin;
+use crate::points::{PointRows, Points};
 use crate::putting::{
     header_size, push_front, push_header, push_run, range_size, write_front, write_number,
 };
 use crate::run::{Run, longer};
 use crate::table::{Form, form_of};
-use crate::written::{Event, Indexed, Object, Point};
+use crate::written::{Event, Indexed, Object, Point, span_of};
 use arrayvec::ArrayVec;
 use dnp_objects::laws::a_written_row_fills_its_object;
-use dnp_objects::{Command, Kind, MAX_FRAGMENT, Row, Status, write_command};
+use dnp_objects::{Command, Kind, MAX_FRAGMENT, Row, Status, object_size, write_command};
 use std::marker::Model;
 use thiserror::Error;
 
@@ -47,8 +48,12 @@ impl Model for Builder {
 }
 
 impl Builder {
-    ghost use Rattle.std.specs.Prelude.{◌≡◌, ◌≤◌, ◌<◌, ◌↔◌, ◌+◌, ◌^◌, [], length, IsErr, IsSome, IsTrue, true, false, OnOk, OnErr, None};
+    ghost use Rattle.std.specs.Prelude.{◌≡◌, ◌≤◌, ◌<◌, ◌↔◌, ◌+◌, ◌-◌, ◌^◌, [], length, map, All, IsErr, IsSome, IsTrue, true, false, OnOk, OnErr, None};
     ghost use Rattle.std.specs.Borrow.{sem};
+    ghost use Rattle.std.specs.Option.{IsSomeAnd};
+    ghost use Rattle.dnp_objects.specs.Rows.{Fits};
+    ghost use Rattle.dnp_appfragment.specs.Building.{run_head};
+    ghost use Rattle.dnp_appfragment.specs.Spans.{row_head};
     ghost use Rattle.dnp_objects.specs.Objects.{object_size};
     ghost use Rattle.dnp_objects.specs.Events.{IsEvent};
     ghost use Rattle.dnp_appfragment.specs.Table as table;
@@ -222,6 +227,80 @@ impl Builder {
         // (a law, for the proof: it does nothing)
         a_written_row_fills_its_object();
         self.put(&Point { group, row: *row })
+    }
+
+    /// How many octets of objects fit into the fragment where an object of this run is put: under the
+    /// last header, if it joins that, or else under a new one.
+    fn room_for(&self, object: Run) -> usize
+        ensures { result ≡ MAX_FRAGMENT - built.size (built.with_object self.now (run_head [] object)) }
+    {
+        match longer(self.run, object) {
+            Some(_) => self.left(),
+            None => self.left().saturating_sub(3 + range_size(object.range)),
+        }
+    }
+
+    /// Puts rows as present values of this object, as many as fit; answers how many.
+    #[inline(always)]
+    fn put_points<R: PointRows + Copy, const GROUP: u8, const VARIATION: u8>(
+        &mut self,
+        first: u16,
+        rows: R,
+    ) -> usize
+        requires response { IsTrue (table.is_response self.old.function) }
+        requires object { table.IsInTable Form.Response GROUP VARIATION 1 }
+        requires sized { IsSomeAnd (object_size GROUP VARIATION) (λ size. 1 ≤ size) }
+        requires fits { All (Fits GROUP VARIATION) (R.rows rows) }
+        requires in_order { written.InOrder first (R.rows rows) }
+        requires narrow { first + length (R.rows rows) ≤ 2 ^ 16 }
+        ensures count { result ≡ built.objects_put self.old (map (row_head GROUP VARIATION) (R.rows rows)) }
+        ensures few { result ≤ length (R.rows rows) }
+        ensures put { self.new ≡ built.with_objects self.old (map (row_head GROUP VARIATION) (R.rows rows)) }
+        ensures function { self.new.function ≡ self.old.function }
+    {
+        // (a law, for the proof: it does nothing)
+        a_written_row_fills_its_object();
+        let begun = Run {
+            group: GROUP,
+            variation: VARIATION,
+            range: span_of(first, first),
+        };
+        let size = object_size(GROUP, VARIATION).unwrap();
+        let count = rows.len().min(self.room_for(begun) / size);
+        if count == 0 {
+            return 0;
+        }
+        let last = first + (count - 1) as u16;
+        let points = Points::<R, GROUP, VARIATION> {
+            rows: &rows,
+            count,
+            first,
+            last,
+        };
+        self.put(&points).unwrap();
+        count
+    }
+
+    /// Puts rows of consecutive indexes into a response as present values of this group, one by one as
+    /// `point` puts them, up to the first that does not fit; answers how many are put. `first` is the
+    /// index of the first row.
+    pub fn points<R: PointRows + Copy>(&mut self, group: u8, first: u16, rows: R) -> usize
+        requires response { IsTrue (table.is_response self.old.function) }
+        requires fits { All (written.FitsPoint group) (R.rows rows) }
+        requires in_order { written.InOrder first (R.rows rows) }
+        requires narrow { first + length (R.rows rows) ≤ 2 ^ 16 }
+        ensures count { result ≡ built.objects_put self.old (map (written.point group) (R.rows rows)) }
+        ensures few { result ≤ length (R.rows rows) }
+        ensures put { self.new ≡ built.with_objects self.old (map (written.point group) (R.rows rows)) }
+        ensures function { self.new.function ≡ self.old.function }
+    {
+        match group {
+            1 => self.put_points::<R, 1, 2>(first, rows),
+            10 => self.put_points::<R, 10, 2>(first, rows),
+            20 => self.put_points::<R, 20, 1>(first, rows),
+            30 => self.put_points::<R, 30, 1>(first, rows),
+            _ => 0,
+        }
     }
 
     /// Puts a command with its status, after its index, into a fragment that carries commands:

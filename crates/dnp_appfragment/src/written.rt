@@ -62,7 +62,7 @@ pub(crate) trait Object {
     fn size(&self) -> usize
         requires { can_put self.now }
         ensures value { result ≡ length (head self.now).octets }
-        ensures small { result ≤ 13 };
+        ensures small { result ≤ MAX_FRAGMENT };
 
     /// Appends its octets.
     fn append(&self, octets: &mut ArrayVec<u8, MAX_FRAGMENT>)
@@ -108,16 +108,16 @@ impl<'a, const GROUP: u8, const VARIATION: u8> Object for Event<'a, GROUP, VARIA
     }
 }
 
-/// The range of this index alone: qualifier 01.
+/// The range from an index to an index: qualifier 01.
 #[inline]
-fn span_of(index: u16) -> Range
-    ensures value { result ≡ range.Span true index index }
+pub(crate) fn span_of(first: u16, last: u16) -> Range
+    ensures value { result ≡ range.Span true first last }
     ensures fits { NumbersFit result }
 {
     Range::Span {
         wide: true,
-        first: index,
-        last: index,
+        first,
+        last,
     }
 }
 
@@ -139,7 +139,7 @@ impl Object for Point {
         Run {
             group: self.group,
             variation: point_variation(self.group),
-            range: span_of(self.row.index),
+            range: span_of(self.row.index, self.row.index),
         }
     }
 

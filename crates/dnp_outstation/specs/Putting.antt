@@ -1,10 +1,14 @@
 -- Private steps: how a writer comes of another by items that are put into it.
-use Rattle.std.specs.Prelude.{◌≢◌, IsTrue, IfErr, Result, Err, [], ◌≡◌, ℕ, Bool, false, ◌++◌, if◌then◌else◌, List, map, drop}
+use Rattle.std.specs.Prelude.{◌≢◌, IsTrue, IfErr, Result, Err, [], ◌∷◌, ◌≡◌, ℕ, ◌+◌, ◌-◌, ◌^◌, ◌==◌, min, Bool, false, ◌++◌, if◌then◌else◌, List, map, drop}
 use Rattle.dnp_objects.specs.declared.row.Kind.{Kind}
+use Rattle.dnp_objects.specs.declared.row.Row.{Row}
 use Rattle.dnp_objects.specs.declared.store.StoreFault.{StoreFault}
 use Rattle.dnp_objects.specs.declared.store.StoreFault.TheVariants.{Exhausted, Memory, Device}
 use Rattle.dnp_eventbuf.specs.Stock.{Stock, rows_in}
 use Rattle.dnp_objects.specs.declared.row.Kind.TheVariants.{Binary, Counter, Analog}
+use Rattle.dnp_pointdb.specs.declared.state.PointState.{PointState}
+use Rattle.dnp_pointdb.specs.Events.{row_of}
+use Rattle.dnp_outstation.specs.declared.offer.place.Place.{Place}
 use Rattle.dnp_outstation.specs.declared.offer.writer.Writer.{Writer}
 use Rattle.dnp_outstation.specs.Items.{Item, Static, present_of}
 use Rattle.dnp_outstation.specs.Filling.{fill, ended}
@@ -16,6 +20,19 @@ Puts w items fit w' = (more : List Item) → fill w (items ++ more) ≡ (if fit 
 -- what a header gives of present values but for the first so many
 abbrev pub presents : ℕ → ℕ → List Static → List Item
 presents header skip statics = map (present_of header) (drop skip statics)
+
+-- the rows of points of a kind, of which the first has this index
+abbrev pub rows_from : Kind → ℕ → List PointState → List Row
+rows_from kind index [] = []
+rows_from kind index (p ∷ ps) = row_of kind index p.reading ∷ rows_from kind (index + 1) ps
+
+-- where a READ has come to once so many present values of a header were given
+abbrev pub passed_by : Place → ℕ → ℕ → Place
+passed_by place header count = record {
+  header = header;
+  count = min ((if place.header == header then place.count else 0) + count) (2 ^ 32 - 1);
+  given = place.given;
+}
 
 -- the group of the present values of a kind
 abbrev pub group_of : Kind → ℕ

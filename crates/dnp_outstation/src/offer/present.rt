@@ -7,10 +7,12 @@ ghost use Rattle.dnp_appfragment.specs.Written.{FitsPoint};
 ghost use Rattle.dnp_pointdb.specs.Events.{row_of};
 ghost use Rattle.dnp_pointdb.specs.Sound.{IsSoundPoint, IsSoundBlock, AreSound};
 ghost use Rattle.dnp_outstation.specs.Items.{present_of, static_at, is_within, in_range, statics_from, statics_in, output_row, outputs_from, statics_of, Source, Static, given_after};
-ghost use Rattle.dnp_outstation.specs.Putting.{Puts, presents, group_of};
+ghost use Rattle.dnp_outstation.specs.Filling.{built_for};
+ghost use Rattle.dnp_outstation.specs.Putting.{Puts, presents, group_of, rows_from, passed_by};
 
-use crate::offer::writer::Writer;
-use dnp_appfragment::Range;
+use crate::offer::place::Place;
+use crate::offer::writer::{Run, Writer};
+use dnp_appfragment::{PointRows, Range};
 use dnp_controls::Outputs;
 use dnp_objects::{Kind, Row};
 use dnp_pointdb::laws::readings_fit_their_static_objects;
@@ -54,18 +56,39 @@ fn places(range: Range, base: u16, len: usize) -> (usize, usize)
 }
 
 /// The row of a point's present value.
+#[inline]
 fn row_of(kind: Kind, index: u16, point: &PointState) -> Row
-    requires { IsSoundPoint kind point.now }
-    ensures value { result ≡ row_of kind index point.now.reading }
-    ensures fits { FitsPoint (group_of kind) result }
+    ensures { result ≡ row_of kind index point.now.reading }
 {
-    readings_fit_their_static_objects();
     Row {
         kind,
         index,
         flags: point.reading.flags,
         value: point.reading.value,
         time: point.reading.time,
+    }
+}
+
+/// The present values of points of a kind, the first with this index.
+#[derive(Clone, Copy)]
+struct PointValues<'a> {
+    kind: Kind,
+    first: usize,
+    points: &'a [PointState],
+    ghost narrow: { first + length points.now ≤ 2 ^ 16 },
+}
+
+impl<'a> PointRows for PointValues<'a> {
+    ghost rows = { λ v. rows_from v.kind v.first v.points.now };
+
+    #[inline]
+    fn len(&self) -> usize {
+        self.points.len()
+    }
+
+    #[inline]
+    fn row(&self, place: usize) -> Row {
+        row_of(self.kind, (self.first + place) as u16, &self.points[place])
     }
 }
 
@@ -84,7 +107,28 @@ fn output_row(index: u16, status: u8) -> Row
     }
 }
 
+impl Place {
+    /// So many present values of this header were given.
+    fn pass_by(&mut self, header: usize, count: u32)
+        ensures { self.new ≡ passed_by self.old header count }
+    {
+        let before = if self.header == header { self.count } else { 0 };
+        self.header = header;
+        self.count = before.saturating_add(count);
+    }
+}
+
 impl Writer {
+    /// Ends the last header, if it is not that of present values of this header of the READ, this group and
+    /// this block.
+    fn end_other_block(&mut self, header: usize, group: u8, block: usize)
+        ensures { self.new ≡ record self.old { builder = built_for self.old (Run.OfBlock header group block) } }
+    {
+        if !self.run.is_block(header, group, block) {
+            self.builder.break_run();
+        }
+    }
+
     /// Puts the points of a block from a place on, of which the first has this index, as far as they
     /// fit; answers whether all do.
     fn put_points(
@@ -102,15 +146,26 @@ impl Writer {
         ensures response { self.new.builder.function ≡ self.old.builder.function }
         ensures given { self.new.place.given ≡ self.old.place.given }
     {
-        let group = group_of(kind);
-        let mut index = first;
-        for point in points {
-            if !self.put_present(header, group, block, &row_of(kind, index as u16, point)) {
-                return false;
-            }
-            index += 1;
+        let len = points.len();
+        if len == 0 {
+            return true;
         }
-        true
+        // (laws, for the proof: they do nothing)
+        readings_fit_their_static_objects();
+        let group = group_of(kind);
+        self.end_other_block(header, group, block);
+        let values = PointValues {
+            kind,
+            first,
+            points,
+        };
+        let count = self.builder.points(group, first as u16, values);
+        if count == 0 {
+            return false;
+        }
+        self.run = Run::OfBlock(header, group, block);
+        self.place.pass_by(header, count as u32);
+        count == len
     }
 
     /// Puts the points of a block that the header asks for but for the first `skip`, as far as they

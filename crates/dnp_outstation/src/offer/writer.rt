@@ -38,7 +38,7 @@ impl Run {
     }
 
     /// Whether present values of this header of the READ, this group and this block stand there.
-    fn is_block(&self, header: usize, group: u8, block: usize) -> bool
+    pub(crate) fn is_block(&self, header: usize, group: u8, block: usize) -> bool
         ensures { result ≡ is_same_run self.now (Run.OfBlock header group block) }
     {
         match self {

@@ -1,0 +1,64 @@
+use Rattle.std.proofs.Common.{◌≡◌, ◌∙◌, ◌≤◌, ◌+◌, ◌-◌, ◌++◌, ℕ, List, ap, sym, subst, refl, length, take, drop, arith, append_assoc, length-append}
+use Rattle.std.proofs.lemmas.List.Elements.{All-get_or}
+use Rattle.dnp_objects.specs.declared.row.Row.{Row}
+use Rattle.dnp_objects.specs.declared.limits.TheConstants.{MAX_FRAGMENT}
+use Rattle.dnp_objects.specs.Rows.{Fits, written}
+use Rattle.dnp_appfragment.specs.Spans.{all_written}
+use Rattle.dnp_appfragment.proofs.Spans.{first_written}
+use Rattle.dnp_appfragment.proofs.points.PointsObject.append.Given.{Over}
+use Rattle.dnp_appfragment.proofs.points.PointsObject.append.Goals.{After-row}
+use Rattle.dnp_appfragment.proofs.points.PointsObject.append.Goals as goal
+
+fits : (g : Over) (c : After-row g) → Fits g.row.GROUP g.row.VARIATION c.row.result
+fits g c =
+    subst (λ (r : Row). Fits g.row.GROUP g.row.VARIATION r) (sym c.row.ensures)
+    (All-get_or (Fits g.row.GROUP g.row.VARIATION) (g.R.PointRows.rows c.args.self.now.rows.now) c.loop-place.place c.row.result
+    (omega (arith, c.loop-place-test.true, c.requires.can.there)) c.requires.can.each)
+
+-- the row that is written next, in front of what is left then
+next : (g : Over) (c : After-row g)
+    → all_written g.row.GROUP g.row.VARIATION (take (c.args.self.now.count - c.loop-place.place) (drop c.loop-place.place (g.R.PointRows.rows c.args.self.now.rows.now)))
+    ≡ written g.row.GROUP g.row.VARIATION c.row.result
+    ++ all_written g.row.GROUP g.row.VARIATION (take (c.args.self.now.count - (c.loop-place.place + 1)) (drop (c.loop-place.place + 1) (g.R.PointRows.rows c.args.self.now.rows.now)))
+next g c =
+    first_written g.row.GROUP g.row.VARIATION (g.R.PointRows.rows c.args.self.now.rows.now) c.loop-place.place c.args.self.now.count c.row.result
+    c.loop-place-test.true c.requires.can.there refl
+    ∙ ap (λ (r : Row). written g.row.GROUP g.row.VARIATION r
+    ++ all_written g.row.GROUP g.row.VARIATION (take (c.args.self.now.count - (c.loop-place.place + 1)) (drop (c.loop-place.place + 1) (g.R.PointRows.rows c.args.self.now.rows.now))))
+    (sym c.row.ensures)
+
+room : (g : Over) (c : After-row g)
+    → length c.loop-place.octets.items + length (written g.row.GROUP g.row.VARIATION c.row.result) ≤ MAX_FRAGMENT
+room g c =
+    let first = next g c in
+    let all = ap length c.loop-place.invariant.written in
+    let here = ap (λ (l : List ℕ). length (c.loop-place.octets.items ++ l)) first in
+    let rest = all_written g.row.GROUP g.row.VARIATION (take (c.args.self.now.count - (c.loop-place.place + 1)) (drop (c.loop-place.place + 1) (g.R.PointRows.rows c.args.self.now.rows.now))) in
+    let whole = all_written g.row.GROUP g.row.VARIATION (take c.args.self.now.count (g.R.PointRows.rows c.args.self.now.rows.now)) in
+    let row = written g.row.GROUP g.row.VARIATION c.row.result in
+    omega (
+      arith,
+      all,
+      here,
+      length-append c.loop-place.octets.items (row ++ rest),
+      length-append row rest,
+      length-append c.args.octets.now.items whole,
+      c.requires.room,
+    )
+
+pub append_object-requires : goal.append_object-requires
+append_object-requires g c =
+    let at = (goal.at.append_object-requires g c).After-row in (omega arith, (fits g at, room g at))
+
+pub loop-place-preserved : goal.loop-place-preserved
+loop-place-preserved g c =
+    let at = goal.at.loop-place-preserved g c in
+    let row = written g.row.GROUP g.row.VARIATION c.row.result in
+    let rest = all_written g.row.GROUP g.row.VARIATION (take (c.args.self.now.count - (c.loop-place.place + 1)) (drop (c.loop-place.place + 1) (g.R.PointRows.rows c.args.self.now.rows.now))) in
+    record {
+      written =
+          ap (λ (l : List ℕ). l ++ rest) c.append_object.ensures
+          ∙ append_assoc c.loop-place.octets.items row rest
+          ∙ ap (λ (l : List ℕ). c.loop-place.octets.items ++ l) (sym (next g at.After-row))
+          ∙ c.loop-place.invariant.written;
+    }

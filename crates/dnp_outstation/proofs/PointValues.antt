@@ -1,0 +1,228 @@
+-- Present values of a block that are put at once: they are what is put one by one.
+use Rattle.std.proofs.Common.{◌≡◌, ◌<◌, ℕ, zero, suc, ◌+◌, ◌-◌, ◌^◌, Bool, true, false, cond, ◌&&◌, ◌==◌, nat_le, min, List, [], ◌∷◌, ◌++◌, length, get_or, map, refl, sym, ap, ◌∙◌, arith, Some}
+use Rattle.std.specs.Prelude.{All}
+use Rattle.std.proofs.lemmas.Bool.{eq-eqb}
+use Rattle.std.proofs.lemmas.Bool.Decides.{nat_tests}
+use Rattle.std.proofs.lemmas.List.Elements.{All-head, All-nil, All-cons}
+use Rattle.dnp_objects.specs.declared.limits.TheConstants.{MAX_FRAGMENT}
+use Rattle.dnp_objects.specs.declared.row.Kind.{Kind}
+use Rattle.dnp_objects.specs.declared.row.Row.{Row}
+use Rattle.dnp_objects.specs.Rows.{Fits}
+use Rattle.dnp_appfragment.specs.Built.{Built, heads, size, broken, with_object, with_objects, objects_put}
+use Rattle.dnp_appfragment.specs.Headers.{Head}
+use Rattle.dnp_appfragment.specs.Written.{point, InOrder, FitsPoint}
+use Rattle.dnp_pointdb.specs.declared.reading.Reading.{Reading}
+use Rattle.dnp_pointdb.specs.declared.state.PointState.{PointState}
+use Rattle.dnp_pointdb.specs.Events.{row_of}
+use Rattle.dnp_pointdb.specs.Ranges.{is_carried}
+use Rattle.dnp_pointdb.specs.Sound.{IsSoundPoint, static_object}
+use Rattle.dnp_outstation.specs.declared.offer.place.Place.{Place}
+use Rattle.dnp_outstation.specs.declared.offer.writer.Run.{Run}
+use Rattle.dnp_outstation.specs.declared.offer.writer.Run.TheVariants.{OfBlock}
+use Rattle.dnp_outstation.specs.declared.offer.writer.Writer.{Writer}
+use Rattle.dnp_outstation.specs.Items.{Item, present_of, passed, static_at, statics_from}
+use Rattle.dnp_outstation.specs.Filling.{put, fits, fill, ended, built_for, is_same_run}
+use Rattle.dnp_outstation.specs.Offer.{Filled}
+use Rattle.dnp_outstation.specs.Putting.{rows_from, passed_by, group_of}
+use Rattle.dnp_outstation.proofs.OfferLemmas.{heads_broken}
+use Rattle.dnp_outstation.proofs.OfferPresent.{point_fits}
+
+-- ---- the rows
+
+pub length_rows : (kind : Kind) (index : ℕ) (ps : List PointState) → length (rows_from kind index ps) ≡ length ps
+length_rows kind index [] = refl
+length_rows kind index (p ∷ ps) = ap (λ (n : ℕ). suc n) (length_rows kind (index + 1) ps)
+
+pub row_at : (kind : Kind) (index at place : ℕ) (ps : List PointState) (p : PointState) (d : Row) → at ≡ index + place → place < length ps
+    → row_of kind at (get_or ps place p).reading ≡ get_or (rows_from kind index ps) place d
+row_at kind index at place [] p d there less = absurd (omega arith)
+row_at kind index at zero (q ∷ ps) p d there less = (λ i. row_of kind (let same : at ≡ index = omega arith in same i) q.reading)
+row_at kind index at (suc place) (q ∷ ps) p d there less = row_at kind (index + 1) at place ps p d (omega arith) (omega arith)
+
+pub rows_in_order : (kind : Kind) (index : ℕ) (ps : List PointState) → InOrder index (rows_from kind index ps)
+rows_in_order kind index [] = tt
+rows_in_order kind index (p ∷ ps) = (refl, rows_in_order kind (index + 1) ps)
+
+-- by the law that a sound point's reading fits its static object
+abbrev pub ReadingsFit : Type 0
+ReadingsFit = (kind : Kind) (index : ℕ) (reading : Reading) → is_carried kind reading ≡ true
+    → Fits (static_object kind).0 (static_object kind).1 (row_of kind index reading)
+
+pub rows_fit : ReadingsFit → (kind : Kind) (index : ℕ) (ps : List PointState) → All (IsSoundPoint kind) ps → All (FitsPoint (group_of kind)) (rows_from kind index ps)
+rows_fit law kind index [] sound = All-nil (FitsPoint (group_of kind))
+rows_fit law kind index (p ∷ ps) sound =
+    All-cons (FitsPoint (group_of kind)) (row_of kind index p.reading) (rows_from kind (index + 1) ps)
+    (point_fits kind (row_of kind index p.reading) (row_of kind index p.reading) refl
+    (law kind index p.reading (All-head (IsSoundPoint kind) p ps sound).carried))
+    (rows_fit law kind (index + 1) ps (λ k d less. sound (suc k) d (omega arith)))
+
+-- ---- the place
+
+counts_add : (c n most : ℕ) → min (min (c + 1) most + n) most ≡ min (c + (n + 1)) most
+counts_add c n most = omega arith
+
+counts_stay : (c most : ℕ) → min (min (c + 1) most + 0) most ≡ min (c + 1) most
+counts_stay c most = omega arith
+
+place_more : (place : Place) (header n : ℕ) → passed_by (passed place header) header n ≡ passed_by place header (n + 1)
+place_more place header n =
+    let before = cond (place.header == header) place.count 0 in
+    let count = ap (λ (t : Bool). min (cond t (min (before + 1) (2 ^ 32 - 1)) 0 + n) (2 ^ 32 - 1)) (eq-eqb header header refl)
+    ∙ counts_add before n (2 ^ 32 - 1) in
+    (λ i. record { header = header; count = count i; given = place.given })
+
+place_stays : (place : Place) (header : ℕ) → passed_by (passed place header) header 0 ≡ passed place header
+place_stays place header =
+    let before = cond (place.header == header) place.count 0 in
+    let count = ap (λ (t : Bool). min (cond t (min (before + 1) (2 ^ 32 - 1)) 0 + 0) (2 ^ 32 - 1)) (eq-eqb header header refl)
+    ∙ counts_stay before (2 ^ 32 - 1) in
+    (λ i. record { header = header; count = count i; given = place.given })
+
+-- ---- what is put
+
+abbrev pub heads_from : ℕ → Kind → ℕ → List PointState → List Head
+heads_from group kind index ps = map (point group) (rows_from kind index ps)
+
+-- the writer once so many were put
+abbrev pub after_points : Writer → ℕ → ℕ → ℕ → Built → ℕ → Writer
+after_points w header group block b n =
+    record { builder = b; run = OfBlock header group block; place = passed_by w.place header n; upto = w.upto }
+
+-- what is filled from there: where all were put with what comes behind, or else no more
+abbrev pub Ends : Writer → ℕ → ℕ → ℕ → List Item → Bool → Built → ℕ → Filled
+Ends w header group block more all b n =
+    cond all (fill (after_points w header group block b n) more) (ended false (after_points w header group block b n))
+
+-- the points of a block are put one by one as they are put at once, onto this
+abbrev pub PutsFrom : Writer → Built → ℕ → ℕ → ℕ → Kind → ℕ → List PointState → List Item → Type 0
+PutsFrom w b header group block kind index ps more =
+    fill w (map (present_of header) (statics_from group block kind index ps) ++ more)
+    ≡ Ends w header group block more (objects_put b (heads_from group kind index ps) == length ps)
+    (with_objects b (heads_from group kind index ps)) (objects_put b (heads_from group kind index ps))
+
+same_block : (header group block : ℕ) → is_same_run (OfBlock header group block) (OfBlock header group block) ≡ true
+same_block header group block = (λ i. eq-eqb header header refl i && (eq-eqb group group refl i && eq-eqb block block refl i))
+
+built_same : (w : Writer) (header group block : ℕ) → w.run ≡ OfBlock header group block → built_for w (OfBlock header group block) ≡ w.builder
+built_same w header group block is =
+    ap (λ (r : Run). cond (is_same_run r (OfBlock header group block)) w.builder (broken w.builder)) is
+    ∙ ap (λ (t : Bool). cond t w.builder (broken w.builder)) (same_block header group block)
+
+next_count : (n m : ℕ) → (n + 1 == suc m) ≡ (n == m)
+next_count n m = grind (arith, nat_tests)
+
+no_count : (m : ℕ) → (0 == suc m) ≡ false
+no_count m = grind (arith, nat_tests)
+
+-- the first is put, and so are the others behind it
+first_put : (w : Writer) (b : Built) (header group block : ℕ) (kind : Kind) (index : ℕ) (p : PointState) (ps : List PointState) (more : List Item)
+    → built_for w (OfBlock header group block) ≡ b → nat_le (size (with_object b (point group (row_of kind index p.reading)))) MAX_FRAGMENT ≡ true
+    → ((w' : Writer) → w'.run ≡ OfBlock header group block → passed_by w'.place header 0 ≡ w'.place
+    → PutsFrom w' w'.builder header group block kind (index + 1) ps more)
+    → PutsFrom w b header group block kind index (p ∷ ps) more
+first_put w b header group block kind index p ps more built_is fit others =
+    let h = point group (row_of kind index p.reading) in
+    let hs = heads_from group kind (index + 1) ps in
+    let x = present_of header (static_at group block kind index p) in
+    let rest = map (present_of header) (statics_from group block kind (index + 1) ps) ++ more in
+    let w' : Writer = record { builder = with_object b h; run = OfBlock header group block; place = passed w.place header; upto = w.upto } in
+    let put_is : put w x ≡ w' =
+    (λ i. record { builder = with_object (built_is i) h; run = OfBlock header group block; place = passed w.place header; upto = w.upto }) in
+    let n = objects_put (with_object b h) hs in
+    let b' = with_objects (with_object b h) hs in
+    let count : n + 1 ≡ objects_put b (h ∷ hs) = sym (ap (λ (t : Bool). cond t (n + 1) 0) fit) in
+    let builder : b' ≡ with_objects b (h ∷ hs) = sym (ap (λ (t : Bool). cond t b' b) fit) in
+    let all : (n == length ps) ≡ (objects_put b (h ∷ hs) == suc (length ps)) =
+    sym (next_count n (length ps)) ∙ ap (λ (k : ℕ). k == suc (length ps)) count in
+    ap (λ (y : Writer). cond (fits y) (fill y rest) (ended false w)) put_is
+    ∙ ap (λ (t : Bool). cond t (fill w' rest) (ended false w)) fit
+    ∙ others w' refl (place_stays w.place header)
+    ∙ (λ i.
+    let y : Writer = record { builder = b'; run = OfBlock header group block; place = place_more w.place header n i; upto = w.upto } in
+    cond (n == length ps) (fill y more) (ended false y))
+    ∙ (λ i. Ends w header group block more (all i) (builder i) (count i))
+
+-- the first doesn't fit
+none_put : (w : Writer) (b : Built) (header group block : ℕ) (kind : Kind) (index : ℕ) (p : PointState) (ps : List PointState) (more : List Item)
+    → built_for w (OfBlock header group block) ≡ b → nat_le (size (with_object b (point group (row_of kind index p.reading)))) MAX_FRAGMENT ≡ false
+    → fill w (map (present_of header) (statics_from group block kind index (p ∷ ps)) ++ more) ≡ ended false w
+none_put w b header group block kind index p ps more built_is full =
+    let x = present_of header (static_at group block kind index p) in
+    let rest = map (present_of header) (statics_from group block kind (index + 1) ps) ++ more in
+    ap (λ (y : Built). cond (nat_le (size (with_object y (point group (row_of kind index p.reading)))) MAX_FRAGMENT) (fill (put w x) rest) (ended false w)) built_is
+    ∙ ap (λ (t : Bool). cond t (fill (put w x) rest) (ended false w)) full
+
+put_behind : (w : Writer) (header group block : ℕ) (kind : Kind) (index : ℕ) (ps : List PointState) (more : List Item)
+    → w.run ≡ OfBlock header group block → passed_by w.place header 0 ≡ w.place → PutsFrom w w.builder header group block kind index ps more
+put_behind w header group block kind index [] more run_is place_is =
+    (λ i. fill (record { builder = w.builder; run = run_is i; place = sym place_is i; upto = w.upto }) more)
+put_behind w header group block kind index (p ∷ ps) more run_is place_is =
+    by_test (nat_le (size (with_object w.builder (point group (row_of kind index p.reading)))) MAX_FRAGMENT) refl
+    (λ w' run_is' place_is'. put_behind w' header group block kind (index + 1) ps more run_is' place_is')
+  where
+    h : Head
+    h = point group (row_of kind index p.reading)
+
+    hs : List Head
+    hs = heads_from group kind (index + 1) ps
+
+    by_test : (t : Bool) → nat_le (size (with_object w.builder (point group (row_of kind index p.reading)))) MAX_FRAGMENT ≡ t
+        → ((w' : Writer) → w'.run ≡ OfBlock header group block → passed_by w'.place header 0 ≡ w'.place
+        → PutsFrom w' w'.builder header group block kind (index + 1) ps more)
+        → PutsFrom w w.builder header group block kind index (p ∷ ps) more
+    by_test true fit others =
+        first_put w w.builder header group block kind index p ps more (built_same w header group block run_is) fit others
+    by_test false full others =
+        none_put w w.builder header group block kind index p ps more (built_same w header group block run_is) full
+        ∙ (λ i. ended false (record { builder = w.builder; run = run_is i; place = sym place_is i; upto = w.upto }))
+        ∙ (λ i. Ends w header group block more (sym (no_count (length ps)) i) w.builder 0)
+        ∙ (λ i. Ends w header group block more (sym (ap (λ (t : Bool). cond t (objects_put (with_object w.builder h) hs + 1) 0) full) i == suc (length ps))
+        (sym (ap (λ (t : Bool). cond t (with_objects (with_object w.builder h) hs) w.builder) full) i)
+        (sym (ap (λ (t : Bool). cond t (objects_put (with_object w.builder h) hs + 1) 0) full) i))
+
+-- ---- from any writer
+
+-- some are put
+pub some_puts : (w : Writer) (header group block : ℕ) (kind : Kind) (index : ℕ) (ps : List PointState) (more : List Item)
+    → 0 < objects_put (built_for w (OfBlock header group block)) (heads_from group kind index ps)
+    → PutsFrom w (built_for w (OfBlock header group block)) header group block kind index ps more
+some_puts w header group block kind index [] more some = absurd (omega arith)
+some_puts w header group block kind index (p ∷ ps) more some =
+    by_test (nat_le (size (with_object (built_for w (OfBlock header group block)) (point group (row_of kind index p.reading)))) MAX_FRAGMENT) refl
+  where
+    by_test : (t : Bool) → nat_le (size (with_object (built_for w (OfBlock header group block)) (point group (row_of kind index p.reading)))) MAX_FRAGMENT ≡ t
+        → PutsFrom w (built_for w (OfBlock header group block)) header group block kind index (p ∷ ps) more
+    by_test true fit =
+        first_put w (built_for w (OfBlock header group block)) header group block kind index p ps more refl fit
+        (λ w' run_is place_is. put_behind w' header group block kind (index + 1) ps more run_is place_is)
+    by_test false full =
+        let zero = ap (λ (t : Bool). cond t
+        (objects_put (with_object (built_for w (OfBlock header group block)) (point group (row_of kind index p.reading))) (heads_from group kind (index + 1) ps) + 1) 0) full in
+        absurd (omega (arith, some, zero))
+
+built_heads : (t : Bool) (b : Built) → heads (cond t b (broken b)) ≡ heads b
+built_heads true b = refl
+built_heads false b = heads_broken b
+
+-- none is
+pub none_puts : (w : Writer) (header group block : ℕ) (kind : Kind) (index : ℕ) (ps : List PointState) (more : List Item) → 0 < length ps
+    → objects_put (built_for w (OfBlock header group block)) (heads_from group kind index ps) ≡ 0
+    → fill w (map (present_of header) (statics_from group block kind index ps) ++ more)
+    ≡ ended false (let w' : Writer = record { builder = with_objects (built_for w (OfBlock header group block)) (heads_from group kind index ps); run = w.run; place = w.place; upto = w.upto } in w')
+none_puts w header group block kind index [] more some none = absurd (omega arith)
+none_puts w header group block kind index (p ∷ ps) more some none =
+    by_test (nat_le (size (with_object (built_for w (OfBlock header group block)) (point group (row_of kind index p.reading)))) MAX_FRAGMENT) refl
+  where
+    by_test : (t : Bool) → nat_le (size (with_object (built_for w (OfBlock header group block)) (point group (row_of kind index p.reading)))) MAX_FRAGMENT ≡ t
+        → fill w (map (present_of header) (statics_from group block kind index (p ∷ ps)) ++ more)
+        ≡ ended false (let w' : Writer = record { builder = with_objects (built_for w (OfBlock header group block)) (heads_from group kind index (p ∷ ps)); run = w.run; place = w.place; upto = w.upto } in w')
+    by_test true fit =
+        let one = ap (λ (t : Bool). cond t
+        (objects_put (with_object (built_for w (OfBlock header group block)) (point group (row_of kind index p.reading))) (heads_from group kind (index + 1) ps) + 1) 0) fit in
+        absurd (omega (arith, none, one))
+    by_test false full =
+        let b = built_for w (OfBlock header group block) in
+        let stays = ap (λ (t : Bool). cond t (with_objects (with_object b (point group (row_of kind index p.reading))) (heads_from group kind (index + 1) ps)) b) full in
+        none_put w b header group block kind index p ps more refl full
+        ∙ (λ i. let f : Filled = record { headers = sym (built_heads (is_same_run w.run (OfBlock header group block)) w.builder) i; upto = w.upto; left = Some w.place } in f)
+        ∙ (λ i. let f : Filled = record { headers = heads (sym stays i); upto = w.upto; left = Some w.place } in f)
