@@ -10,6 +10,7 @@ ghost use Rattle.dnp_master.specs.Rows as spec;
 ghost use Rattle.dnp_master.specs.Taking.{events_of, statics_of};
 
 use crate::fault::MasterFault;
+use crate::known::{Known, look_up};
 use dnp_appfragment::laws::{objects_say_rows_and_commands, rows_are_events};
 use dnp_appfragment::{Header, Headers, RowWalk};
 use dnp_objects::Row;
@@ -70,13 +71,6 @@ fn is_reported(plan: &PointPlan, row: &Row) -> bool
         .is_some_and(|class| class > 0)
 }
 
-/// Whether the row's point is in the plan.
-fn is_planned(plan: &PointPlan, row: &Row) -> bool
-    ensures { result ≡ spec.is_planned plan.now row.now }
-{
-    plan.class_of(row.kind, row.index).is_some()
-}
-
 /// Whether the header's objects are events.
 fn is_event_header(header: &Header<'_>) -> bool
     ensures { result ≡ spec.is_event_header (head header.now) }
@@ -108,10 +102,15 @@ fn gather_rows(
 fn gather_planned(plan: &PointPlan, rows: RowWalk<'_>, expected: usize, gathering: &mut Gathering)
     ensures { Gathers gathering.old (filter (spec.is_planned plan.now) rows.entry) gathering.new }
 {
+    let mut known = Known::nothing();
     for row in rows {
-        if is_planned(plan, &row) {
-            gathering.put(&row, expected);
+        if !known.has(&row) {
+            match look_up(plan, row.kind, row.index) {
+                Some(found) => known = found,
+                None => continue,
+            }
         }
+        gathering.put(&row, expected);
     }
 }
 
