@@ -11,7 +11,7 @@ use std::marker::Model;
 /// The most octets of a select's objects.
 pub const MAX_OCTETS: usize = MAX_FRAGMENT;
 
-/// A select that stands.
+/// The last select that was made.
 #[derive(Debug, Drop)]
 struct Kept {
     /// The moment of the select, in milliseconds.
@@ -28,8 +28,11 @@ struct Kept {
 /// A clause sees the select that stands: its moment, its sequence number and its octets.
 #[derive(Debug, Drop)]
 pub struct Selects {
-    /// The select that stands, if one does.
-    kept: Option<Kept>,
+    /// Whether it stands. To forget it costs nothing: its octets are left where they are, and the next one is
+    /// put over them.
+    stands: bool,
+    /// The last select that was made, or one of nothing.
+    kept: Kept,
 }
 
 impl Model for Selects {
@@ -40,7 +43,7 @@ impl Model for Selects {
 
     ghost use Rattle.dnp_controls.specs.Keeping.{select_of};
 
-    ghost view = { λ selects. select_of selects.kept };
+    ghost view = { λ selects. select_of selects.stands selects.kept };
 }
 
 impl Selects {
@@ -49,7 +52,14 @@ impl Selects {
         ensures nothing { result ≡ None }
         ensures stands { Stands [] result }
     {
-        Selects { kept: None }
+        Selects {
+            stands: false,
+            kept: Kept {
+                at: 0,
+                seq: 0,
+                octets: ArrayVec::new(),
+            },
+        }
     }
 
     /// Keeps a select in place of the one that stood: `now` is its moment in milliseconds, `seq` its
@@ -59,13 +69,11 @@ impl Selects {
         ensures kept { self.new ≡ Some (record { at = now; seq = seq; octets = octets.now }) }
         ensures stands { (before : List SelectCall) → Stands before self.old → Stands (Selecting (record { at = now; seq = seq; octets = octets.now }) ∷ before) self.new }
     {
-        let mut kept = ArrayVec::new();
-        kept.try_extend_from_slice(octets).unwrap();
-        self.kept = Some(Kept {
-            at: now,
-            seq,
-            octets: kept,
-        });
+        self.stands = true;
+        self.kept.at = now;
+        self.kept.seq = seq;
+        self.kept.octets.clear();
+        self.kept.octets.try_extend_from_slice(octets).unwrap();
     }
 
     /// The status of an OPERATE that comes at the moment `now` with the sequence number `seq` and these
@@ -81,9 +89,10 @@ impl Selects {
     pub fn answer(&self, now: u64, seq: u8, octets: &[u8], select_ms: u64) -> Status
         ensures { result ≡ answer self.now now seq octets.now select_ms }
     {
-        let Some(kept) = &self.kept else {
+        if !self.stands {
             return Status::NO_SELECT;
-        };
+        }
+        let kept = &self.kept;
         if seq % SEQUENCE_NUMBERS != (kept.seq % SEQUENCE_NUMBERS + 1) % SEQUENCE_NUMBERS
             || octets != kept.octets.as_slice()
         {
@@ -111,8 +120,6 @@ impl Selects {
         ensures forgotten { self.new ≡ None }
         ensures stands { (before : List SelectCall) → Stands before self.old → Stands (Forgetting ∷ before) self.new }
     {
-        if self.kept.is_some() {
-            self.kept = None;
-        }
+        self.stands = false;
     }
 }

@@ -1,6 +1,7 @@
 //! The rows of a response that the sink is given.
 
 ghost use Rattle.std.specs.Prelude.{◌≡◌, ◌≢◌, ◌≤◌, vec_len, ◌<◌, ◌^◌, ◌++◌, ◌⊎◌, true, false, [], ◌∷◌, All, IsTrue, IfOk, IfErr, filter};
+ghost use Rattle.std.specs.Vec.{vec_capacity};
 ghost use Rattle.std.specs.List.{list_all};
 ghost use Rattle.dnp_objects.specs.Events.{IsEvent};
 ghost use Rattle.dnp_appfragment.specs.Seen.{head};
@@ -9,6 +10,7 @@ ghost use Rattle.dnp_master.specs.Rows as spec;
 ghost use Rattle.dnp_master.specs.Taking.{events_of, statics_of};
 
 use crate::fault::MasterFault;
+use crate::known::{Known, look_up};
 use dnp_appfragment::laws::{objects_say_rows_and_commands, rows_are_events};
 use dnp_appfragment::{Header, Headers, RowWalk};
 use dnp_objects::Row;
@@ -24,13 +26,40 @@ pub(crate) struct Gathering {
 }
 
 impl Gathering {
-    /// Gathers a row, if there is memory for it and was for those before.
-    fn put(&mut self, row: Row)
-        ensures { Gathers self.old (row ∷ []) self.new }
+    /// Takes room for one row more, and for as many as are expected; answers whether there is any, which it isn't
+    /// from the first refusal on. It stands apart, since it is rare.
+    #[cold]
+    #[inline(never)]
+    fn take_room(&mut self, expected: usize) -> bool
+        ensures rows { self.new.rows.items ≡ self.old.rows.items }
+        ensures room { IsTrue result → vec_len self.new.rows < vec_capacity self.new.rows }
+        ensures same { IsTrue result → self.new.is_cut ≡ self.old.is_cut }
+        ensures cut { result ≡ false → self.new.is_cut ≡ true }
     {
-        if !self.is_cut && self.rows.push(row).is_err() {
+        if self.is_cut || self.rows.reserve(expected.max(1)).is_err() {
             self.is_cut = true;
+            return false;
         }
+        true
+    }
+
+    /// Gathers a row, if there is memory for it and was for those before. Of so many rows, this one among them, more
+    /// may come: where there is no room left, it is taken for all of them at once.
+    #[inline(always)]
+    fn put(&mut self, row: &Row, expected: usize)
+        ensures { Gathers self.old (row.now ∷ []) self.new }
+    {
+        if self.rows.len() == self.rows.capacity() && !self.take_room(expected) {
+            return;
+        }
+        // (field by field: a row that small stores made is slow to move as a whole)
+        self.rows.push_reserved(Row {
+            kind: row.kind,
+            index: row.index,
+            flags: row.flags,
+            value: row.value,
+            time: row.time,
+        });
     }
 }
 
@@ -42,13 +71,6 @@ fn is_reported(plan: &PointPlan, row: &Row) -> bool
         .is_some_and(|class| class > 0)
 }
 
-/// Whether the row's point is in the plan.
-fn is_planned(plan: &PointPlan, row: &Row) -> bool
-    ensures { result ≡ spec.is_planned plan.now row.now }
-{
-    plan.class_of(row.kind, row.index).is_some()
-}
-
 /// Whether the header's objects are events.
 fn is_event_header(header: &Header<'_>) -> bool
     ensures { result ≡ spec.is_event_header (head header.now) }
@@ -56,9 +78,14 @@ fn is_event_header(header: &Header<'_>) -> bool
     matches!(header.group, 2 | 22 | 32)
 }
 
-/// Gathers events, in order. Whether each is of a point that has events; where one is not, it ends
-/// there.
-fn gather_rows(plan: &PointPlan, rows: RowWalk<'_>, gathering: &mut Gathering) -> bool
+/// Gathers events, of which so many are expected, in order. Whether each is of a point that has events; where one is
+/// not, it ends there.
+fn gather_rows(
+    plan: &PointPlan,
+    rows: RowWalk<'_>,
+    expected: usize,
+    gathering: &mut Gathering,
+) -> bool
     ensures checked { result ≡ list_all (spec.is_reported plan.now) rows.entry }
     ensures gathered { IsTrue result → Gathers gathering.old rows.entry gathering.new }
 {
@@ -66,19 +93,24 @@ fn gather_rows(plan: &PointPlan, rows: RowWalk<'_>, gathering: &mut Gathering) -
         if !is_reported(plan, &row) {
             return false;
         }
-        gathering.put(row);
+        gathering.put(&row, expected);
     }
     true
 }
 
-/// Gathers the rows whose points are in the plan, in order.
-fn gather_planned(plan: &PointPlan, rows: RowWalk<'_>, gathering: &mut Gathering)
+/// Gathers the rows whose points are in the plan, in order; so many are expected.
+fn gather_planned(plan: &PointPlan, rows: RowWalk<'_>, expected: usize, gathering: &mut Gathering)
     ensures { Gathers gathering.old (filter (spec.is_planned plan.now) rows.entry) gathering.new }
 {
+    let mut known = Known::nothing();
     for row in rows {
-        if is_planned(plan, &row) {
-            gathering.put(row);
+        if !known.has(&row) {
+            match look_up(plan, row.kind, row.index) {
+                Some(found) => known = found,
+                None => continue,
+            }
         }
+        gathering.put(&row, expected);
     }
 }
 
@@ -109,7 +141,7 @@ fn gather_events(plan: &PointPlan, headers: Headers<'_>, gathering: &mut Gatheri
         if !is_event_header(&header) {
             continue;
         }
-        if !gather_rows(plan, rows_of(&header), gathering) {
+        if !gather_rows(plan, rows_of(&header), header.count(), gathering) {
             return false;
         }
     }
@@ -122,7 +154,7 @@ fn gather_statics(plan: &PointPlan, headers: Headers<'_>, gathering: &mut Gather
 {
     for header in headers {
         if !is_event_header(&header) {
-            gather_planned(plan, rows_of(&header), gathering);
+            gather_planned(plan, rows_of(&header), header.count(), gathering);
         }
     }
 }

@@ -5,6 +5,7 @@
 mod actions;
 mod fault;
 mod gathering;
+mod known;
 pub mod laws;
 mod master;
 mod outcome;
