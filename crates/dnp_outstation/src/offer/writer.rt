@@ -127,7 +127,8 @@ impl Writer {
         self.begin(Function::UnsolicitedResponse, place);
     }
 
-    /// Puts a row of a lane, if it fits; answers whether it does.
+    /// Puts a row of a lane, if it fits; answers whether it does. It stands in its callers, which are loops.
+    #[inline(always)]
     #[tactic(auto, using(crate::proofs::OfferLemmas::heads_broken))]
     pub(crate) fn put_event(&mut self, header: usize, lane: usize, x: &Numbered) -> bool
         requires lane { lane < LANES }
