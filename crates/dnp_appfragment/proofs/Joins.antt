@@ -156,7 +156,8 @@ run_longer f run objects object long is first second some =
     heads_join f (run_head objects run) object (run_head (objects ++ object.octets) long) first second some
     (joined_with_run objects run object ∙ ap (option_map (run_head (objects ++ object.octets))) is)
 
-pub size-run : (f : Function) (hs : List Head) (h : Head) → front_size f + length (spelled (hs ++ h ∷ [])) ≡ front_size f + length (spelled hs) + length (header_octets h)
+pub size-run : (f : Function) (hs : List Head) (h : Head)
+    → front_size f + length (spelled (hs ++ h ∷ [])) ≡ front_size f + length (spelled hs) + length (header_octets h)
 size-run f hs h =
     let sizes : length (spelled (hs ++ h ∷ [])) ≡ length (spelled hs) + length (header_octets h) =
     ap length (spelled-append hs (h ∷ []) ∙ ap (λ (t : List ℕ). spelled hs ++ t) (spelled-one h)) ∙ length-append (spelled hs) (header_octets h) in

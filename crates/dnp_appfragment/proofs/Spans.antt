@@ -94,7 +94,8 @@ spans_join : (g v start last next end : ℕ) (xs ys : List ℕ) → next ≡ las
     → joined (span g v start last xs) (span g v next end ys) ≡ Some (span g v start end (xs ++ ys))
 spans_join g v start last next end xs ys behind =
     (λ i. cond (eq-eqb g g refl i && eq-eqb v v refl i)
-    (option_map (join_by (span g v start last xs) (span g v next end ys)) (cond (eq-eqb (last + 1) next (sym behind) i) (Some (range.Span true start end)) None)) None)
+    (option_map (join_by (span g v start last xs) (span g v next end ys))
+    (cond (eq-eqb (last + 1) next (sym behind) i) (Some (range.Span true start end)) None)) None)
 
 pub span_more : (f : Function) (ended : List Head) (g v start last next end : ℕ) (xs ys : List ℕ) → next ≡ last + 1
     → with_object (with_span f ended g v start last xs) (span g v next end ys) ≡ with_span f ended g v start end (xs ++ ys)
@@ -197,7 +198,8 @@ joins_or_not (range.Indexed true n) first = inl (λ end. refl)
 joins_or_not (range.Span false start last) first = inl (λ end. refl)
 joins_or_not (range.Span true start last) first = by_test (last + 1 == first) refl
   where
-    by_test : (t : Bool) → (last + 1 == first) ≡ t → NoJoin (range.Span true start last) first ⊎ ((from : ℕ) × JoinsFrom (range.Span true start last) first from)
+    by_test : (t : Bool) → (last + 1 == first) ≡ t
+        → NoJoin (range.Span true start last) first ⊎ ((from : ℕ) × JoinsFrom (range.Span true start last) first from)
     by_test true is = inr (start, (λ end. ap (λ (t : Bool). cond t (Some (range.Span true start end)) None) is))
     by_test false is = inl (λ end. ap (λ (t : Bool). cond t (Some (range.Span true start end)) None) is)
 
@@ -293,7 +295,8 @@ rows_put b g v s first n (row ∷ rows) order each few some room full =
     let sized : size b' ≡ size_behind b g v first + s =
     sym (ap size (there.is first (written g v row))) ∙ size_with b g v first first (written g v row)
     ∙ ap (λ (k : ℕ). size_behind b g v first + k) (first_sized g v s row rows each) in
-    let rest = in_span b.function there.ended g v s there.start first n (there.before ++ written g v row) rows order.1 (others_sized g v s row rows each) (omega arith) (omega arith)
+    let rest = in_span b.function there.ended g v s there.start first n (there.before ++ written g v row) rows order.1
+    (others_sized g v s row rows each) (omega arith) (omega arith)
     (λ less. let big : MAX_FRAGMENT - size_behind b g v first < (suc n + 1) * s = full (omega arith) in omega arith) in
     let all = more_put b b' _ (row_head g v row) (map (row_head g v) rows) (size_behind b g v first + s) n (suc n) is sized (omega arith) rest refl in
     record {

@@ -48,7 +48,8 @@ abbrev pub ReadingsFit : Type 0
 ReadingsFit = (kind : Kind) (index : ℕ) (reading : Reading) → is_carried kind reading ≡ true
     → Fits (static_object kind).0 (static_object kind).1 (row_of kind index reading)
 
-pub rows_fit : ReadingsFit → (kind : Kind) (index : ℕ) (ps : List PointState) → All (IsSoundPoint kind) ps → All (FitsPoint (group_of kind)) (rows_from kind index ps)
+pub rows_fit : ReadingsFit → (kind : Kind) (index : ℕ) (ps : List PointState) → All (IsSoundPoint kind) ps
+    → All (FitsPoint (group_of kind)) (rows_from kind index ps)
 rows_fit law kind index [] sound = All-nil (FitsPoint (group_of kind))
 rows_fit law kind index (p ∷ ps) sound =
     All-cons (FitsPoint (group_of kind)) (row_of kind index p.reading) (rows_from kind (index + 1) ps)
@@ -149,7 +150,8 @@ none_put : (w : Writer) (b : Built) (header group block : ℕ) (kind : Kind) (in
 none_put w b header group block kind index p ps more built_is full =
     let x = present_of header (static_at group block kind index p) in
     let rest = map (present_of header) (statics_from group block kind (index + 1) ps) ++ more in
-    ap (λ (y : Built). cond (nat_le (size (with_object y (point group (row_of kind index p.reading)))) MAX_FRAGMENT) (fill (put w x) rest) (ended false w)) built_is
+    ap (λ (y : Built). cond (nat_le (size (with_object y (point group (row_of kind index p.reading)))) MAX_FRAGMENT) (fill (put w x) rest) (ended false w))
+    built_is
     ∙ ap (λ (t : Bool). cond t (fill (put w x) rest) (ended false w)) full
 
 put_behind : (w : Writer) (header group block : ℕ) (kind : Kind) (index : ℕ) (ps : List PointState) (more : List Item)
@@ -196,33 +198,38 @@ some_puts w header group block kind index (p ∷ ps) more some =
         first_put w (built_for w (OfBlock header group block)) header group block kind index p ps more refl fit
         (λ w' run_is place_is. put_behind w' header group block kind (index + 1) ps more run_is place_is)
     by_test false full =
-        let zero = ap (λ (t : Bool). cond t
-        (objects_put (with_object (built_for w (OfBlock header group block)) (point group (row_of kind index p.reading))) (heads_from group kind (index + 1) ps) + 1) 0) full in
+        let b' = with_object (built_for w (OfBlock header group block)) (point group (row_of kind index p.reading)) in
+        let zero = ap (λ (t : Bool). cond t (objects_put b' (heads_from group kind (index + 1) ps) + 1) 0) full in
         absurd (omega (arith, some, zero))
 
 built_heads : (t : Bool) (b : Built) → heads (cond t b (broken b)) ≡ heads b
 built_heads true b = refl
 built_heads false b = heads_broken b
 
+-- what is filled with this built, where no more is put
+abbrev pub ended_with : Writer → Built → Filled
+ended_with w b = record { headers = heads b; upto = w.upto; left = Some w.place }
+
 -- none is
 pub none_puts : (w : Writer) (header group block : ℕ) (kind : Kind) (index : ℕ) (ps : List PointState) (more : List Item) → 0 < length ps
     → objects_put (built_for w (OfBlock header group block)) (heads_from group kind index ps) ≡ 0
     → fill w (map (present_of header) (statics_from group block kind index ps) ++ more)
-    ≡ ended false (let w' : Writer = record { builder = with_objects (built_for w (OfBlock header group block)) (heads_from group kind index ps); run = w.run; place = w.place; upto = w.upto } in w')
+    ≡ ended_with w (with_objects (built_for w (OfBlock header group block)) (heads_from group kind index ps))
 none_puts w header group block kind index [] more some none = absurd (omega arith)
 none_puts w header group block kind index (p ∷ ps) more some none =
     by_test (nat_le (size (with_object (built_for w (OfBlock header group block)) (point group (row_of kind index p.reading)))) MAX_FRAGMENT) refl
   where
     by_test : (t : Bool) → nat_le (size (with_object (built_for w (OfBlock header group block)) (point group (row_of kind index p.reading)))) MAX_FRAGMENT ≡ t
         → fill w (map (present_of header) (statics_from group block kind index (p ∷ ps)) ++ more)
-        ≡ ended false (let w' : Writer = record { builder = with_objects (built_for w (OfBlock header group block)) (heads_from group kind index (p ∷ ps)); run = w.run; place = w.place; upto = w.upto } in w')
+        ≡ ended_with w (with_objects (built_for w (OfBlock header group block)) (heads_from group kind index (p ∷ ps)))
     by_test true fit =
-        let one = ap (λ (t : Bool). cond t
-        (objects_put (with_object (built_for w (OfBlock header group block)) (point group (row_of kind index p.reading))) (heads_from group kind (index + 1) ps) + 1) 0) fit in
+        let b' = with_object (built_for w (OfBlock header group block)) (point group (row_of kind index p.reading)) in
+        let one = ap (λ (t : Bool). cond t (objects_put b' (heads_from group kind (index + 1) ps) + 1) 0) fit in
         absurd (omega (arith, none, one))
     by_test false full =
         let b = built_for w (OfBlock header group block) in
-        let stays = ap (λ (t : Bool). cond t (with_objects (with_object b (point group (row_of kind index p.reading))) (heads_from group kind (index + 1) ps)) b) full in
+        let b' = with_object b (point group (row_of kind index p.reading)) in
+        let stays = ap (λ (t : Bool). cond t (with_objects b' (heads_from group kind (index + 1) ps)) b) full in
         none_put w b header group block kind index p ps more refl full
-        ∙ (λ i. let f : Filled = record { headers = sym (built_heads (is_same_run w.run (OfBlock header group block)) w.builder) i; upto = w.upto; left = Some w.place } in f)
-        ∙ (λ i. let f : Filled = record { headers = heads (sym stays i); upto = w.upto; left = Some w.place } in f)
+        ∙ (λ i. record { headers = sym (built_heads (is_same_run w.run (OfBlock header group block)) w.builder) i; upto = w.upto; left = Some w.place })
+        ∙ ap (ended_with w) (sym stays)

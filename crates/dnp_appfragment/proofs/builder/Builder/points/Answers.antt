@@ -46,13 +46,16 @@ put_points-requires-in-30-clause-fits g c = fits_as c.args.group 30 (g.R.PointRo
 
 none : (g : Over) (c : In_default g) → g.R.PointRows.rows c.args.rows ≡ []
 none g c =
-    no_such_group c.args.group (g.R.PointRows.rows c.args.rows) (λ (is : 1 ≡ c.args.group). absurd (omega arith)) (λ (is : 10 ≡ c.args.group). absurd (omega arith))
+    no_such_group c.args.group (g.R.PointRows.rows c.args.rows)
+    (λ (is : 1 ≡ c.args.group). absurd (omega arith)) (λ (is : 10 ≡ c.args.group). absurd (omega arith))
     (λ (is : 20 ≡ c.args.group). absurd (omega arith)) (λ (is : 30 ≡ c.args.group). absurd (omega arith)) c.requires.fits
 
 pub returns-in_default-clause-count : goal.returns-in_default-clause-count
 returns-in_default-clause-count g c =
-    sym (ap (λ (rows : List Row). objects_put c.args.self.now (map (point c.args.group) rows)) (none g (goal.at.returns-in_default-clause-count g c).In_default))
+    sym (ap (λ (rows : List Row). objects_put c.args.self.now (map (point c.args.group) rows))
+    (none g (goal.at.returns-in_default-clause-count g c).In_default))
 
 pub returns-in_default-clause-put : goal.returns-in_default-clause-put
 returns-in_default-clause-put g c =
-    sym (ap (λ (rows : List Row). with_objects c.args.self.now (map (point c.args.group) rows)) (none g (goal.at.returns-in_default-clause-put g c).In_default))
+    sym (ap (λ (rows : List Row). with_objects c.args.self.now (map (point c.args.group) rows))
+    (none g (goal.at.returns-in_default-clause-put g c).In_default))

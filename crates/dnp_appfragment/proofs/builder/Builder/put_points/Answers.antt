@@ -27,7 +27,8 @@ each g c =
 room : (g : Over) (c : After-min-count g) → c.room_for.result ≡ MAX_FRAGMENT - size_behind c.args.self.now g.row.GROUP g.row.VARIATION c.args.first
 room g c =
     c.room_for.ensures
-    ∙ ap (λ (r : Range). MAX_FRAGMENT - size (with_object c.args.self.now (record { group = g.row.GROUP; variation = g.row.VARIATION; range = r; octets = [] })))
+    ∙ ap (λ (r : Range). MAX_FRAGMENT
+    - size (with_object c.args.self.now (record { group = g.row.GROUP; variation = g.row.VARIATION; range = r; octets = [] })))
     c.span_of.ensures.value
 
 fit : (g : Over) (c : After-min-count g)
@@ -83,7 +84,8 @@ put-requires-clause-fits g c = λ numbers.
     span_header c.args.self.now.function g.row.GROUP g.row.VARIATION c.unwrap-size.result c.args.first (c.min-count.result - 1)
     (all_written g.row.GROUP g.row.VARIATION (take c.min-count.result (g.R.PointRows.rows c.args.rows)))
     (response_form c.args.self.now.function c.requires.response) c.requires.object (sized g at) numbers.1
-    (long g at ∙ ap (λ (n : ℕ). n * c.unwrap-size.result) (let one : c.min-count.result ≡ suc (c.min-count.result - 1) = omega (arith, c.if-count-eq0.false) in one))
+    (long g at
+    ∙ ap (λ (n : ℕ). n * c.unwrap-size.result) (let one : c.min-count.result ≡ suc (c.min-count.result - 1) = omega (arith, c.if-count-eq0.false) in one))
 
 ok_of : {A E : Type 0} (r : Result A E) → (IsErr r → ⊥) → IsOk r
 ok_of (Ok x) never = refl

@@ -15,16 +15,20 @@ fits g c =
     (All-get_or (Fits g.row.GROUP g.row.VARIATION) (g.R.PointRows.rows c.args.self.now.rows.now) c.loop-place.place c.row.result
     (omega (arith, c.loop-place-test.true, c.requires.can.there)) c.requires.can.each)
 
+-- what is left to write from a place on
+abbrev left : (g : Over) → After-row g → ℕ → List ℕ
+left g c place = all_written g.row.GROUP g.row.VARIATION (take (c.args.self.now.count - place) (drop place (g.R.PointRows.rows c.args.self.now.rows.now)))
+
 -- the row that is written next, in front of what is left then
 next : (g : Over) (c : After-row g)
-    → all_written g.row.GROUP g.row.VARIATION (take (c.args.self.now.count - c.loop-place.place) (drop c.loop-place.place (g.R.PointRows.rows c.args.self.now.rows.now)))
+    → left g c c.loop-place.place
     ≡ written g.row.GROUP g.row.VARIATION c.row.result
-    ++ all_written g.row.GROUP g.row.VARIATION (take (c.args.self.now.count - (c.loop-place.place + 1)) (drop (c.loop-place.place + 1) (g.R.PointRows.rows c.args.self.now.rows.now)))
+    ++ left g c (c.loop-place.place + 1)
 next g c =
     first_written g.row.GROUP g.row.VARIATION (g.R.PointRows.rows c.args.self.now.rows.now) c.loop-place.place c.args.self.now.count c.row.result
     c.loop-place-test.true c.requires.can.there refl
     ∙ ap (λ (r : Row). written g.row.GROUP g.row.VARIATION r
-    ++ all_written g.row.GROUP g.row.VARIATION (take (c.args.self.now.count - (c.loop-place.place + 1)) (drop (c.loop-place.place + 1) (g.R.PointRows.rows c.args.self.now.rows.now))))
+    ++ left g c (c.loop-place.place + 1))
     (sym c.row.ensures)
 
 room : (g : Over) (c : After-row g)
@@ -33,7 +37,7 @@ room g c =
     let first = next g c in
     let all = ap length c.loop-place.invariant.written in
     let here = ap (λ (l : List ℕ). length (c.loop-place.octets.items ++ l)) first in
-    let rest = all_written g.row.GROUP g.row.VARIATION (take (c.args.self.now.count - (c.loop-place.place + 1)) (drop (c.loop-place.place + 1) (g.R.PointRows.rows c.args.self.now.rows.now))) in
+    let rest = left g c (c.loop-place.place + 1) in
     let whole = all_written g.row.GROUP g.row.VARIATION (take c.args.self.now.count (g.R.PointRows.rows c.args.self.now.rows.now)) in
     let row = written g.row.GROUP g.row.VARIATION c.row.result in
     omega (
@@ -54,7 +58,7 @@ pub loop-place-preserved : goal.loop-place-preserved
 loop-place-preserved g c =
     let at = goal.at.loop-place-preserved g c in
     let row = written g.row.GROUP g.row.VARIATION c.row.result in
-    let rest = all_written g.row.GROUP g.row.VARIATION (take (c.args.self.now.count - (c.loop-place.place + 1)) (drop (c.loop-place.place + 1) (g.R.PointRows.rows c.args.self.now.rows.now))) in
+    let rest = left g at.After-row (c.loop-place.place + 1) in
     record {
       written =
           ap (λ (l : List ℕ). l ++ rest) c.append_object.ensures

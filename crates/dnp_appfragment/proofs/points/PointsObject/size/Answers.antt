@@ -8,10 +8,12 @@ use Rattle.dnp_appfragment.proofs.points.PointsObject.size.Goals as goal
 pub unwrap-requires : goal.unwrap-requires
 unwrap-requires g c =
     subst (λ (o : Option ℕ). IsSome o) (sym c.object_size.ensures.value)
-    (there_is_size c.a_written_row_fills_its_object.ensures g.row.GROUP g.row.VARIATION _ c.args.self.now.count c.requires.each c.requires.some c.requires.there)
+    (there_is_size c.a_written_row_fills_its_object.ensures g.row.GROUP g.row.VARIATION _ c.args.self.now.count
+    c.requires.each c.requires.some c.requires.there)
 
 long : (g : Over) (c : After-unwrap g)
-    → c.args.self.now.count * c.unwrap.result ≡ length (all_written g.row.GROUP g.row.VARIATION (take c.args.self.now.count (g.R.PointRows.rows c.args.self.now.rows.now)))
+    → c.args.self.now.count * c.unwrap.result
+    ≡ length (all_written g.row.GROUP g.row.VARIATION (take c.args.self.now.count (g.R.PointRows.rows c.args.self.now.rows.now)))
 long g c =
     sym (taken_size c.a_written_row_fills_its_object.ensures g.row.GROUP g.row.VARIATION c.unwrap.result c.args.self.now.count _
     (sym c.object_size.ensures.value ∙ c.unwrap.ensures) c.requires.each c.requires.there)
