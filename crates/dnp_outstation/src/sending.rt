@@ -111,18 +111,20 @@ impl Actions {
     }
 }
 
-/// The confirm of a fragment, if it asks for one: awaited until `ends`.
-fn awaited_for(asks_confirm: bool, seq: SequenceNumber, upto: &Upto, ends: u64) -> Option<Awaited>
-    ensures { result ≡ (if asks_confirm then Some (record { seq = seq; upto = upto.now; ends = ends }) else None) }
-{
-    if asks_confirm {
-        Some(Awaited {
-            seq,
-            upto: *upto,
-            ends,
-        })
-    } else {
-        None
+impl Session {
+    /// The confirm of a fragment, if it asks for one, is awaited until `ends`. Where it asks for none, nothing is moved.
+    fn await_confirm(&mut self, asks_confirm: bool, seq: SequenceNumber, upto: &Upto, ends: u64)
+        ensures { self.new ≡ record self.old { awaited = (if asks_confirm then Some (record { seq = seq; upto = upto.now; ends = ends }) else None) } }
+    {
+        if asks_confirm {
+            self.awaited = Some(Awaited {
+                seq,
+                upto: *upto,
+                ends,
+            });
+        } else {
+            self.awaited = None;
+        }
     }
 }
 
@@ -166,7 +168,7 @@ impl Session {
             stood: answer.stood,
             left: answer.left,
         });
-        self.awaited = awaited_for(is_awaited, seq, &writer.upto, ends);
+        self.await_confirm(is_awaited, seq, &writer.upto, ends);
     }
 
     /// The first fragment is sent again, and its confirm, where it is awaited again, until `ends`.
@@ -176,7 +178,7 @@ impl Session {
         ensures keeps { KeepsWhole self.old → KeepsWhole self.new }
     {
         if awaits {
-            self.awaited = awaited_for(true, seq, upto, ends);
+            self.await_confirm(true, seq, upto, ends);
         }
     }
 
@@ -193,7 +195,7 @@ impl Session {
             left: answer.left,
         });
         let is_awaited = asks_confirm(writer, answer);
-        self.awaited = awaited_for(is_awaited, seq, &writer.upto, ends);
+        self.await_confirm(is_awaited, seq, &writer.upto, ends);
     }
 
     /// The same as a further fragment of it. Confirmed rows leave before it.
