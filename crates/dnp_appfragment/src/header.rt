@@ -95,6 +95,7 @@ impl<'a> Header<'a> {
 
     /// Command k of the header, counted from 0, with its status, or `None` where there are fewer
     /// objects or octets, or the object is no command.
+    #[inline(always)]
     pub fn command(&self, k: usize) -> Option<(Command, Status)>
         ensures value { result ≡ command_in (head self.now) k }
         ensures found { IfSome result (IsCommand (head self.now) k) }

@@ -101,6 +101,7 @@ pub(crate) fn row_at(group: u8, variation: u8, range: Range, octets: &[u8], k: u
 }
 
 /// Command k, with its status.
+#[inline(always)]
 pub(crate) fn command_at(
     group: u8,
     variation: u8,

@@ -1,6 +1,6 @@
 //! Points that the plan has, looked up once for many rows.
 
-ghost use Rattle.std.specs.Prelude.{◌≡◌, ◌<◌, ℕ, IsTrue, IfSome, is_some};
+ghost use Rattle.std.specs.Prelude.{◌≡◌, IsTrue, IfSome, is_some};
 ghost use Rattle.dnp_pointdb.specs.Classes.{class_at};
 ghost use Rattle.dnp_master.specs.Gathering.{HasRow, IsKnown};
 ghost use Rattle.dnp_pointdb.specs.Plan.{Plan};
