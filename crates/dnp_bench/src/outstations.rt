@@ -186,7 +186,7 @@ pub extern "C" fn dnp_bench_poll_values(alloc: Global, count: u64) -> u64 {
 
 /// The analog changes once. Makes a number of the row that a full lane drops for it, or of the response
 /// that reports it and of how many rows its confirm discards. What changes do is kept apart from what confirms
-/// do: the one place keeps a fragment and the other none, so that neither is emptied or filled anew.
+/// do: the one place keeps a fragment and the other none, so that neither is emptied or filled again.
 fn report(
     changed: &mut Actions,
     confirmed: &mut Actions,
