@@ -22,8 +22,3 @@ pub take-none : {A : Type 0} (n : ℕ) (xs : List A) → xs ≡ [] → take n xs
 take-none zero xs none = refl
 take-none (suc n) [] none = refl
 take-none (suc n) (x ∷ xs) none = absurd (omega (arith, ap length none))
-
-pub take-some : {A : Type 0} (n : ℕ) (xs : List A) → 0 < n → (xs ≡ [] → ⊥) → take n xs ≡ [] → ⊥
-take-some zero xs some there none = absurd (omega arith)
-take-some (suc n) [] some there none = there refl
-take-some (suc n) (x ∷ xs) some there none = absurd (omega (arith, ap length none))

@@ -38,7 +38,9 @@ pub struct Taking {
 
 impl Taking {
     /// A writer that takes this many octets.
-    pub fn new(left: usize) -> Taking {
+    pub fn new(left: usize) -> Taking
+        ensures left { result.left ≡ left }
+    {
         Taking {
             taken: ArrayVec::new(),
             left,
