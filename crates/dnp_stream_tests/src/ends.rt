@@ -1,5 +1,7 @@
 //! Readers and writers that give and take little, and fail.
 
+ghost use Rattle.std.specs.Prelude.{◌≡◌};
+
 use arrayvec::ArrayVec;
 use std::io::{Error, ErrorKind, Read, Result, Write};
 
