@@ -124,29 +124,39 @@ static double seconds(void) {
     return now.tv_sec + now.tv_nsec / 1e9;
 }
 
-static int rounds = 7;
-static uint64_t scale = 1;
+// A machine with guests changes its speed for seconds, and each way has to meet its best. So the table is gone through
+// again and again, in short rounds, and printed at the last sweep.
+static int sweeps = 8, rounds = 15, sweep;
+static uint64_t scale = 20;
+static double bests[64][WAYS];
+static int row_number;
+
+#define TELL(...) (sweep + 1 < sweeps ? 0 : printf(__VA_ARGS__))
+
+static void keep_best(double *best, double took) {
+    if (*best == 0 || took < *best) *best = took;
+}
+
 static uint64_t all_sums;
 static int failed;
 
 // `per_time` is how many of the unit named one repetition counts for.
 static void row(const char *what, const char *unit, double per_time, uint64_t (*work)(int, uint64_t), uint64_t count) {
     count = count / scale / UNITS * UNITS;
-    double best[WAYS] = {0};
+    double *best = bests[row_number++];
     uint64_t sums[WAYS];
     for (int round = 0; round < rounds; round++)
         for (int way = 0; way < WAYS; way++) {
             double start = seconds();
             sums[way] = work(way, count);
-            double took = seconds() - start;
-            if (!round || took < best[way]) best[way] = took;
+            keep_best(&best[way], seconds() - start);
         }
-    printf("%-34s %9.1f M%s/s", what, per_time * count / best[0] / 1e6, unit);
+    TELL("%-34s %9.1f M%s/s", what, per_time * count / best[0] / 1e6, unit);
     for (int way = 1; way < WAYS; way++) {
-        printf(" %10.2f", best[way] / best[0]);
+        TELL(" %10.2f", best[way] / best[0]);
         if (sums[way] != sums[0]) failed = 1;
     }
-    printf("%s\n", sums[1] == sums[0] && sums[2] == sums[0] && sums[3] == sums[0] ? "" : "  THE SUMS DIFFER");
+    TELL("%s\n", sums[1] == sums[0] && sums[2] == sums[0] && sums[3] == sums[0] ? "" : "  THE SUMS DIFFER");
     all_sums = all_sums * 31 + sums[0];
 }
 
@@ -178,17 +188,16 @@ static uint8_t stream[STREAM];
 
 static void stream_row(const char *what, size_t size, size_t piece) {
     static uint64_t (*const feeders[2])(const uint8_t *, size_t, size_t) = {dnp_bench_feed, plain_feed};
-    double best[2] = {0};
+    double *best = bests[row_number++];
     uint64_t sums[2];
     for (int round = 0; round < rounds; round++)
         for (int way = 0; way < 2; way++) {
             double start = seconds();
             for (uint64_t i = 0; i < 20 / scale; i++)
                 sums[way] = feeders[way](stream, size, piece);
-            double took = seconds() - start;
-            if (!round || took < best[way]) best[way] = took;
+            keep_best(&best[way], seconds() - start);
         }
-    printf("%-27s %5zu %11.1f Moctet/s %10.2f%s\n", what, piece, (double)size * (20 / scale) / best[0] / 1e6, best[1] / best[0],
+    TELL("%-27s %5zu %11.1f Moctet/s %10.2f%s\n", what, piece, (double)size * (20 / scale) / best[0] / 1e6, best[1] / best[0],
            sums[0] == sums[1] ? "" : "  THE SUMS DIFFER");
     if (sums[0] != sums[1]) failed = 1;
     all_sums = all_sums * 31 + sums[0];
@@ -197,7 +206,7 @@ static void stream_row(const char *what, size_t size, size_t piece) {
 static void stream_rows(void) {
     static const size_t users[] = {15, 250}, pieces[] = {1, 64, 4096};
     char what[64];
-    printf("\n%-27s %5s %20s   beside plain Rust\n", "feed", "piece", "proved");
+    TELL("\n%-27s %5s %20s   beside plain Rust\n", "feed", "piece", "proved");
     for (int i = 0; i < 2; i++) {
         fill_frames(users[i]);
         size_t size = 0;
@@ -258,17 +267,16 @@ static uint64_t operated(int way, uint64_t count) { return (way ? plain_operate 
 
 // A row of `count` works of a kind, as fragments or polls, a round.
 static void work_row(const char *what, const char *unit, uint64_t (*work)(int, uint64_t), uint64_t count) {
-    double best[2] = {0};
+    double *best = bests[row_number++];
     uint64_t sums[2];
     count /= scale;
     for (int round = 0; round < rounds; round++)
         for (int way = 0; way < 2; way++) {
             double start = seconds();
             sums[way] = work(way, count);
-            double took = seconds() - start;
-            if (!round || took < best[way]) best[way] = took;
+            keep_best(&best[way], seconds() - start);
         }
-    printf("%-33s %11.1f K%s/s %7.2f%s\n", what, count / best[0] / 1e3, unit, best[1] / best[0], sums[0] == sums[1] ? "" : "  THE SUMS DIFFER");
+    TELL("%-33s %11.1f K%s/s %7.2f%s\n", what, count / best[0] / 1e3, unit, best[1] / best[0], sums[0] == sums[1] ? "" : "  THE SUMS DIFFER");
     if (sums[0] != sums[1]) failed = 1;
     all_sums = all_sums * 31 + sums[0];
 }
@@ -284,7 +292,7 @@ static void begin_fragment(const uint8_t *front, size_t front_size, size_t count
 static void fragment_rows(void) {
     static const uint8_t events[] = {0xE0, 0x81, 0x00, 0x00, 0x20, 0x03, 0x28, 0x9C, 0x00};
     static const uint8_t values[] = {0xC0, 0x81, 0x00, 0x00, 0x1E, 0x01, 0x01, 0x00, 0x00, 0x8F, 0x01};
-    printf("\n%-33s %23s   beside plain Rust\n", "fragments", "proved");
+    TELL("\n%-33s %23s   beside plain Rust\n", "fragments", "proved");
     begin_fragment(events, sizeof events, 156, 13);
     work_row("read: 156 analog events", "fragment", walked, 40000);
     begin_fragment(values, sizeof values, 400, 5);
@@ -304,7 +312,7 @@ static void fragment_rows(void) {
 }
 
 static void poll_rows(void) {
-    printf("\n%-33s %23s   beside plain Rust\n", "an outstation", "proved");
+    TELL("\n%-33s %23s   beside plain Rust\n", "an outstation", "proved");
     work_row("no events", "poll", polled_none, 400000);
     work_row("1 event, made and confirmed", "poll", polled_one, 400000);
     work_row("156 events, made and confirmed", "poll", polled_156, 10000);
@@ -317,7 +325,7 @@ static void poll_rows(void) {
 static void master_rows(void) {
     static const uint8_t events[] = {0xE0, 0x81, 0x00, 0x00, 0x20, 0x03, 0x28, 0x9C, 0x00};
     static const uint8_t values[] = {0xC0, 0x81, 0x00, 0x00, 0x1E, 0x01, 0x01, 0x00, 0x00, 0x8F, 0x01};
-    printf("\n%-33s %23s   beside plain Rust\n", "a master", "proved");
+    TELL("\n%-33s %23s   beside plain Rust\n", "a master", "proved");
     begin_fragment(events, sizeof events, 156, 13);
     // the points of the plan have the indices 0 to 399
     for (size_t i = 0; i < 156; i++) {
@@ -329,12 +337,10 @@ static void master_rows(void) {
     work_row("taken: 400 analog values", "fragment", taken, 40000);
 }
 
-int main(int argc, char **argv) {
-    if (argc > 1 && !strcmp(argv[1], "--quick")) rounds = 2, scale = 10;
-    if (argc > 2 && !strcmp(argv[1], "--rounds")) rounds = atoi(argv[2]), scale = 20;
-    plain_start();
-    printf("%-34s %12s   proved beside plain C (above 1: faster than it)\n", "", "proved");
-    printf("%-34s %12s   %10s %10s %10s\n", "", "", "bit by bit", "table", "16 tables");
+static void all_rows(void) {
+    row_number = 0;
+    TELL("%-34s %12s   proved beside plain C (above 1: faster than it)\n", "", "proved");
+    TELL("%-34s %12s   %10s %10s %10s\n", "", "", "bit by bit", "table", "16 tables");
     static const size_t runs[] = {8, 16, 4096}, users[] = {0, 15, 250};
     char what[64];
     for (int i = 0; i < 3; i++) {
@@ -358,6 +364,14 @@ int main(int argc, char **argv) {
     fragment_rows();
     master_rows();
     poll_rows();
+}
+
+int main(int argc, char **argv) {
+    if (argc > 1 && !strcmp(argv[1], "--quick")) sweeps = 1, rounds = 4;
+    if (argc > 2 && !strcmp(argv[1], "--rounds")) rounds = (atoi(argv[2]) + sweeps - 1) / sweeps;
+    plain_start();
+    for (sweep = 0; sweep < sweeps; sweep++)
+        all_rows();
     printf("\nsum of all that was made: %016llx, %s\n", (unsigned long long)all_sums, failed ? "AND NOT ONE FOR ALL" : "the same for all");
     return failed;
 }
