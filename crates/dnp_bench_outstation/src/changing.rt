@@ -63,7 +63,7 @@ impl<'a> Changing<'a> {
 
 impl<'a> Station for Changing<'a> {
     ghost use Rattle.std.specs.Prelude.{⊤};
-    ghost use Rattle.dnp_daemons.specs.streams.Dialogues.{asks_nothing};
+    ghost use Rattle.dnp_streams.specs.streams.Dialogues.{asks_nothing};
 
     ghost State = { ⊤ };
 

@@ -17,10 +17,16 @@ use std::alloc::Global;
 
 /// Outputs of a concentrator: a command is performed by being added to the book, for the substation that its index
 /// is of and with the substation's own index. They show no status.
-#[derive(Drop)]
 pub struct BookOutputs<B> {
     map: IndexMap,
     book: B,
+}
+
+impl<B: Drop> Drop for BookOutputs<B> {
+    /// One call for whoever lets it go: its parts are looked at here alone.
+    fn drop(self) {
+        let BookOutputs { map: _, book: _ } = self;
+    }
 }
 
 /// Whether a block obeys the code rule; a setpoint command has none.

@@ -35,12 +35,23 @@ use std::alloc::Global;
 ///
 /// A clause sees its link as `Relaying`: the master, and the control in progress. A refused call changes
 /// nothing. The moment of a call, `now`, is in milliseconds.
-#[derive(Drop)]
 pub struct Centre<J, B> {
     pub(crate) map: IndexMap,
     pub(crate) relay: Relay,
     pub(crate) journal: J,
     pub(crate) book: B,
+}
+
+impl<J: Drop, B: Drop> Drop for Centre<J, B> {
+    /// One call for whoever lets it go: its parts are looked at here alone.
+    fn drop(self) {
+        let Centre {
+            map: _,
+            relay: _,
+            journal: _,
+            book: _,
+        } = self;
+    }
 }
 
 /// The target of all controls in a centre's book: the station below.

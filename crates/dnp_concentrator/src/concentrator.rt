@@ -38,13 +38,24 @@ use std::alloc::Global;
 /// A call that ends in `_above` fills the caller's actions. One of a link below wants the number of a substation of the
 /// plan, and doesn't drive the link above. A refused call changes nothing and sends nothing; only after Device the queue
 /// and the book promise nothing of what they hold. The moment of a call, `now`, is in milliseconds.
-#[derive(Drop)]
 pub struct Concentrator<Q, B> {
     pub(crate) core: OutstationCore,
     pub(crate) queue: Q,
     pub(crate) outputs: BookOutputs<B>,
     /// The links to the substations, by their numbers.
     pub(crate) links: Vec<Relay>,
+}
+
+impl<Q: Drop, B: Drop> Drop for Concentrator<Q, B> {
+    /// One call for whoever lets it go: its parts are looked at here alone.
+    fn drop(self) {
+        let Concentrator {
+            core: _,
+            queue: _,
+            outputs: _,
+            links: _,
+        } = self;
+    }
 }
 
 impl<Q: Lanes + Drop, B: Book + Drop> Concentrator<Q, B> {

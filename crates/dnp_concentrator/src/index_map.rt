@@ -22,7 +22,7 @@ use std::marker::Model;
 /// base; an index of a substation by the substation's number.
 ///
 /// A clause sees, for each substation by its number, where its indices of each kind stand above.
-#[derive(Debug, Drop)]
+#[derive(Debug)]
 pub struct IndexMap {
     /// Where the indices of each substation stand, by its number.
     spans: Vec<Spans>,
@@ -42,6 +42,16 @@ impl Model for IndexMap {
     ghost view = { λ map. map.spans.items };
 
     ghost invariant = { λ map. IsMap map.spans.items × (length map.spans.items ≤ MAX_SUBSTATIONS) × AreOrders map.spans.items map.orders };
+}
+
+impl Drop for IndexMap {
+    /// One call for whoever lets it go: its parts are looked at here alone.
+    fn drop(self) {
+        let IndexMap {
+            spans: _,
+            orders: _,
+        } = self;
+    }
 }
 
 /// Whether the span has an index over the highest.

@@ -5,6 +5,7 @@
 
 mod below;
 mod book_outputs;
+mod cause;
 mod centre;
 mod concentrator;
 mod fault;
@@ -30,6 +31,7 @@ mod relaying_below;
 mod span;
 
 pub use book_outputs::BookOutputs;
+pub use cause::Cause;
 pub use centre::Centre;
 pub use concentrator::Concentrator;
 pub use fault::MapFault;

@@ -38,7 +38,7 @@ pub struct SubPlan {
 /// The plan of a whole system: a concentrator, the substations below it, and a centre above it.
 ///
 /// The type keeps none of the ranges below: `keeps_limits` is the test of them.
-#[derive(Debug, Drop)]
+#[derive(Debug)]
 pub struct Plan {
     /// The timers and retries of every outstation and master.
     pub times: Times,
@@ -46,6 +46,17 @@ pub struct Plan {
     pub queue: [u32; LANES],
     /// The substations, each at the place of its number: 1 to 16 of them.
     pub substations: Listed<SubPlan>,
+}
+
+impl Drop for Plan {
+    /// One call for whoever lets it go: its parts are looked at here alone.
+    fn drop(self) {
+        let Plan {
+            times: _,
+            queue: _,
+            substations: _,
+        } = self;
+    }
 }
 
 /// Whether a timer runs so long: 1 ms to an hour.

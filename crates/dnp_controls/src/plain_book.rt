@@ -12,7 +12,7 @@ use std::marker::Model;
 /// A book of controls in memory, whose ids are 1, 2, 3 and so on.
 ///
 /// A clause sees its entries, in the order in which they were added. The last id used is their number.
-#[derive(Debug, Drop)]
+#[derive(Debug)]
 pub struct PlainBook {
     /// The entries, in the order in which they were added.
     entries: Vec<Entry>,
@@ -30,6 +30,16 @@ impl Model for PlainBook {
     ghost view = { λ book. book.entries.items };
 
     ghost invariant = { λ book. IsKept book.entries.items book.first };
+}
+
+impl Drop for PlainBook {
+    /// One call for whoever lets it go: its parts are looked at here alone.
+    fn drop(self) {
+        let PlainBook {
+            entries: _,
+            first: _,
+        } = self;
+    }
 }
 
 impl PlainBook {

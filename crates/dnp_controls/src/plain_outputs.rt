@@ -15,7 +15,7 @@ use std::marker::Model;
 
 /// Outputs in memory: binary outputs and setpoints, each from index 0 on, that keep the commands which
 /// they performed.
-#[derive(Debug, Drop)]
+#[derive(Debug)]
 pub struct PlainOutputs {
     /// How many binary outputs there are.
     outputs: u16,
@@ -35,6 +35,17 @@ impl Model for PlainOutputs {
     ghost view = { λ a. record { outputs = a.outputs; setpoints = a.setpoints; performed = a.performed.commands } };
 
     ghost invariant = { λ a. (a.outputs ≤ MAX_OUTPUTS) × (a.setpoints ≤ MAX_OUTPUTS) };
+}
+
+impl Drop for PlainOutputs {
+    /// One call for whoever lets it go: its parts are looked at here alone.
+    fn drop(self) {
+        let PlainOutputs {
+            outputs: _,
+            setpoints: _,
+            performed: _,
+        } = self;
+    }
 }
 
 impl PlainOutputs {

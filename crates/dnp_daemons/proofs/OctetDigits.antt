@@ -2,7 +2,8 @@
 use Rattle.std.proofs.Common.{◌≡◌, ℕ, ◌≤◌, List, [], ◌∷◌, ◌++◌, ◌-◌, length, get_or, drop, take, Option, Some, None, refl, sym, ◌∙◌, ap, arith, append_assoc}
 use Rattle.std.specs.Option.{option_and_then, option_map}
 use Rattle.std.proofs.lemmas.List.{take_rest}
-use Rattle.dnp_daemons.specs.Names.{octet_named, octets_in_digits}
+use Rattle.dnp_streams.specs.OctetLines.{octet_named}
+use Rattle.dnp_daemons.specs.Names.{octets_in_digits}
 
 -- one octet in front
 joined : (done : List ℕ) (octet : ℕ) (o : Option (List ℕ)) →

@@ -9,7 +9,7 @@ use Rattle.std.proofs.KnownBytes.{Appends-trans}
 use Rattle.dnp_daemons.specs.declared.script.ScriptLine.{ScriptLine}
 use Rattle.dnp_daemons.specs.declared.run.ScriptStop.{ScriptStop}
 use Rattle.dnp_daemons.specs.declared.run.ScriptStop.TheVariants as stop
-use Rattle.dnp_daemons.specs.declared.writing.NotWritten.{NotWritten}
+use Rattle.dnp_streams.specs.declared.writing.NotWritten.{NotWritten}
 use Rattle.dnp_daemons.specs.Scripted.{Law}
 use Rattle.dnp_daemons.specs.ScriptRuns.{Does, DoesAll, StopsIn, StopsAt, IsCut, Done, Stopped, EndsBy}
 use Rattle.dnp_daemons.specs.ScriptTexts.{stopped_line}

@@ -9,7 +9,7 @@ use Rattle.dnp_eventbuf.specs.Sound.{IsSound}
 use Rattle.dnp_eventbuf.specs.Stock.{empty_stock, lost_in, rows_in}
 use Rattle.dnp_objects.specs.declared.limits.TheConstants.{LANES}
 use Rattle.dnp_world.specs.NewSystems.{AreEmpty}
-use Rattle.dnp_world.specs.declared.stopped.Cause.TheVariants as cause
+use Rattle.dnp_concentrator.specs.declared.cause.Cause.TheVariants as cause
 use Rattle.dnp_daemons.specs.declared.run.ScriptStop.{ScriptStop}
 use Rattle.dnp_daemons.specs.declared.run.ScriptStop.TheVariants as stop
 use Rattle.dnp_daemons.specs.declared.script.ScriptLine.{ScriptLine}

@@ -3,10 +3,10 @@ use Rattle.std.specs.Prelude.{◌≡◌, ℕ, List, [], ◌∷◌, ◌++◌, cod
 use Rattle.std.specs.Fmt.{decimal}
 use Rattle.std.specs.List.{concat}
 use Rattle.dnp_concentrator.specs.declared.plan.Plan.{Plan}
-use Rattle.dnp_daemons.specs.declared.plan_text.PlanTextFault.{PlanTextFault}
-use Rattle.dnp_daemons.specs.declared.plan_text.PlanTextFault.TheVariants.{Syntax, Field, Range, Class, TooWide, Overlap, Memory}
+use Rattle.dnp_plantext.specs.declared.plan_text.PlanTextFault.{PlanTextFault}
+use Rattle.dnp_plantext.specs.declared.plan_text.PlanTextFault.TheVariants.{Syntax, Field, Range, Class, TooWide, Overlap, Memory}
 use Rattle.dnp_daemons.specs.declared.script.ScriptLine.{ScriptLine}
-use Rattle.dnp_daemons.specs.PlanText.{IsPlanOf, IsRefusedFor}
+use Rattle.dnp_plantext.specs.PlanText.{IsPlanOf, IsRefusedFor}
 use Rattle.dnp_daemons.specs.ScriptLines.{LineReader, first_unread}
 use Rattle.dnp_daemons.specs.Words.{lines_of}
 

@@ -1,10 +1,4 @@
 -- Definitions, by which contracts promise.
-pub mod Address
-pub mod OctetLines
-pub mod TextFaults
-pub mod Units
-pub mod Station
-pub mod AnswerLine
 pub mod ReportText
 pub mod Words
 pub mod Numbers
@@ -17,9 +11,4 @@ pub mod ScriptReports
 pub mod Judgements
 pub mod ScriptWorlds
 pub mod Simulations
-pub mod streams
-pub mod PlanFields
-pub mod PlanRanges
-pub mod PlanText
-pub mod Planned
 pub mod steps

@@ -1,6 +1,5 @@
 -- Definition: what words name: links, ends, ways, kinds, stations, classes, flags, times and octets.
-use Rattle.std.specs.Prelude.{ℕ, ◌+◌, ◌*◌, ◌^◌, ◌==◌, nat_lt, nat_le, Bool, true, false, not, ◌&&◌, if◌then◌else◌, List, [], ◌∷◌, length, count_by, Option, Some, None, option_and_then, codes}
-use Rattle.std.specs.Char.{digit_value}
+use Rattle.std.specs.Prelude.{ℕ, ◌+◌, ◌*◌, ◌^◌, ◌==◌, nat_lt, nat_le, Bool, true, false, not, ◌&&◌, if◌then◌else◌, List, [], ◌∷◌, length, count_by, Option, Some, None, codes}
 use Rattle.std.specs.List.{list_all}
 use Rattle.std.specs.Str.{bytes_eq}
 use Rattle.dnp_linkframe.specs.declared.frame.TheConstants.{MAX_UNIT}
@@ -15,12 +14,9 @@ use Rattle.dnp_world.specs.declared.link_event.End.{End}
 use Rattle.dnp_world.specs.declared.link_event.End.TheVariants.{Master, Outstation}
 use Rattle.dnp_world.specs.declared.link_event.Way.{Way}
 use Rattle.dnp_world.specs.declared.link_event.Way.TheVariants.{Down, Up}
+use Rattle.dnp_streams.specs.OctetLines.{octet_named}
+use Rattle.dnp_plantext.specs.PlanFields.{◌>>=◌}
 use Rattle.dnp_daemons.specs.Numbers.{number_below}
-
--- one step after the other, each only where the one before gave something
-infixl 10 ◌>>=◌
-abbrev pub ◌>>=◌ : {A B : Type 0} → Option A → (A → Option B) → Option B
-o >>= f = option_and_then f o
 
 -- the word is this text
 abbrev pub is : List ℕ → List ℕ → Bool
@@ -75,11 +71,6 @@ classes_named word =
       three ← once word 51
       Some (record { 0 = zero ∷ one ∷ two ∷ three ∷ [] }))
     else None
-
--- the octet of two hexadecimal digits of either case
-abbrev pub octet_named : ℕ → ℕ → Option ℕ
-octet_named high low =
-    if nat_lt (digit_value high) 16 && nat_lt (digit_value low) 16 then Some (digit_value high * 16 + digit_value low) else None
 
 abbrev pub flags_named : List ℕ → Option ℕ
 flags_named (high ∷ low ∷ []) = octet_named high low

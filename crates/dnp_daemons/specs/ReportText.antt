@@ -8,7 +8,7 @@ use Rattle.dnp_objects.specs.declared.row.Row.{Row}
 use Rattle.dnp_objects.specs.declared.command.Command.{Command}
 use Rattle.dnp_objects.specs.declared.command.Command.TheVariants.{Block, Set16, Set32}
 use Rattle.dnp_world.specs.declared.report.Report.{Report}
-use Rattle.dnp_daemons.specs.OctetLines.{octet_text}
+use Rattle.dnp_streams.specs.OctetLines.{octet_text}
 
 -- words, with a space before each
 abbrev pub spaced : List (List ℕ) → List ℕ

@@ -11,7 +11,8 @@ use Rattle.dnp_daemons.specs.declared.script.ScriptLine.{ScriptLine}
 use Rattle.dnp_daemons.specs.declared.script.ScriptLine.TheVariants.{One, Flush, Round, Control}
 use Rattle.dnp_daemons.specs.Words.{words_of}
 use Rattle.dnp_daemons.specs.Numbers.{number_below, integer_within}
-use Rattle.dnp_daemons.specs.Names.{◌>>=◌, is, substation_named, link_named, place_named, end_named, way_named, kind_named, classes_named, flags_named, time_named, octets_named}
+use Rattle.dnp_plantext.specs.PlanFields.{◌>>=◌}
+use Rattle.dnp_daemons.specs.Names.{is, substation_named, link_named, place_named, end_named, way_named, kind_named, classes_named, flags_named, time_named, octets_named}
 
 -- ---- by a link
 

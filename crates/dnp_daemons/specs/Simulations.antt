@@ -4,7 +4,7 @@ use Rattle.std.specs.Prelude.{◌≡◌, ℕ, List, ◌++◌, Option, Result, Ok
 use Rattle.std.specs.Io.KnownBytes.{Appends}
 use Rattle.dnp_concentrator.specs.declared.plan.Plan.{Plan}
 use Rattle.dnp_world.specs.Systems.{System}
-use Rattle.dnp_world.specs.declared.stopped.Cause.TheVariants as cause
+use Rattle.dnp_concentrator.specs.declared.cause.Cause.TheVariants as cause
 use Rattle.dnp_daemons.specs.declared.script.ScriptLine.{ScriptLine}
 use Rattle.dnp_daemons.specs.declared.run.ScriptStop.{ScriptStop}
 use Rattle.dnp_daemons.specs.declared.run.ScriptStop.TheVariants as stop

@@ -2,12 +2,11 @@
 
 ghost use Rattle.std.specs.Prelude.{◌≡◌, ℕ, ◌∷◌, List, ◌++◌, Err, IfOk, OnOk};
 ghost use Rattle.std.specs.Io.KnownBytes.{Appends};
-ghost use Rattle.dnp_daemons.specs.OctetLines.{octet_text};
+ghost use Rattle.dnp_streams.specs.OctetLines.{octet_text};
 ghost use Rattle.dnp_daemons.specs.ReportText.{spaced, row_words, command_words, kind_word, time_word, count_line, events_text, commands_text, report_text};
 
-use crate::octets::digit_of;
-use crate::writing::write_out;
 use dnp_objects::{Command, Kind, Row};
+use dnp_streams::{digit_of, write_out};
 use dnp_world::Report;
 use itoa::{Buffer, Integer};
 use std::alloc::{AllocError, Global};

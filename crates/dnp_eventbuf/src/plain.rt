@@ -25,7 +25,6 @@ use std::marker::Model;
 pub const MAX_CAPACITY: u32 = 4096;
 
 /// Nine lanes in memory, which take their room as they are made.
-#[derive(Drop)]
 pub struct PlainLanes {
     /// The lanes, by their numbers.
     pub(crate) lanes: [PlainLane; LANES],
@@ -44,6 +43,17 @@ impl Model for PlainLanes {
     ghost view = { λ a. record { lanes = a.lanes; overflow = a.overflow; last_id = a.last_id } };
 
     ghost invariant = { λ a. IsSound (record { lanes = a.lanes; overflow = a.overflow; last_id = a.last_id }) };
+}
+
+impl Drop for PlainLanes {
+    /// One call for whoever lets it go: its parts are looked at here alone.
+    fn drop(self) {
+        let PlainLanes {
+            lanes: _,
+            overflow: _,
+            last_id: _,
+        } = self;
+    }
 }
 
 impl PlainLanes {

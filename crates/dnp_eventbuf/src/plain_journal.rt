@@ -10,7 +10,7 @@ use std::alloc::{AllocError, Global};
 use std::marker::Model;
 
 /// A journal in memory, whose ids are 1, 2, 3 and so on.
-#[derive(Debug, Drop)]
+#[derive(Debug)]
 pub struct PlainJournal {
     // The row with the id 1, that with the id 2, and so on.
     rows: Vec<Row>,
@@ -25,6 +25,13 @@ impl Model for PlainJournal {
     ghost view = { λ j. record { rows = numbered 0 j.rows.items; last_id = length j.rows.items } };
 
     ghost invariant = { λ j. IsSoundArchive (record { rows = numbered 0 j.rows.items; last_id = length j.rows.items }) };
+}
+
+impl Drop for PlainJournal {
+    /// One call for whoever lets it go: its parts are looked at here alone.
+    fn drop(self) {
+        let PlainJournal { rows: _ } = self;
+    }
 }
 
 impl PlainJournal {

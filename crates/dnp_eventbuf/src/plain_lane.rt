@@ -15,7 +15,6 @@ use std::collections::VecDeque;
 use std::marker::Model;
 
 /// One lane, whose room is taken at once.
-#[derive(Drop)]
 pub struct PlainLane {
     /// How many rows it takes.
     capacity: u32,
@@ -35,6 +34,17 @@ impl Model for PlainLane {
     ghost view = { λ a. record { capacity = a.capacity; rows = a.rows.items; lost = a.lost } };
 
     ghost invariant = { λ a. (deque_len a.rows ≤ a.capacity) × (a.capacity ≤ deque_capacity a.rows) };
+}
+
+impl Drop for PlainLane {
+    /// One call for whoever lets it go: its parts are looked at here alone.
+    fn drop(self) {
+        let PlainLane {
+            capacity: _,
+            rows: _,
+            lost: _,
+        } = self;
+    }
 }
 
 impl PlainLane {

@@ -7,7 +7,7 @@ use std::alloc::{AllocError, Global};
 use std::marker::Model;
 
 /// Rows, in order. A clause sees them as their list.
-#[derive(Debug, Drop)]
+#[derive(Debug)]
 pub struct Rows {
     pub(crate) items: Vec<Row>,
 }
@@ -19,6 +19,13 @@ impl Model for Rows {
     ghost Value = { List Row };
 
     ghost view = { λ rows. rows.items.items };
+}
+
+impl Drop for Rows {
+    /// One call for whoever lets it go: its parts are looked at here alone.
+    fn drop(self) {
+        let Rows { items: _ } = self;
+    }
 }
 
 impl Rows {

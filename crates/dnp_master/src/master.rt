@@ -16,7 +16,6 @@ use std::marker::Model;
 ///
 /// A clause sees it as a `State`: closed, or open and idle, or open with a request whose response is
 /// awaited. Nothing but `receive` asks for memory.
-#[derive(Drop)]
 pub struct Master {
     pub(crate) plan: PointPlan,
     pub(crate) times: Times,
@@ -43,6 +42,20 @@ impl Model for Master {
     } };
 
     ghost invariant = { λ m. m.seq < 16 };
+}
+
+impl Drop for Master {
+    /// One call for whoever lets it go: its parts are looked at here alone.
+    fn drop(self) {
+        let Master {
+            plan: _,
+            times: _,
+            is_open: _,
+            seq: _,
+            request: _,
+            selected: _,
+        } = self;
+    }
 }
 
 impl Master {

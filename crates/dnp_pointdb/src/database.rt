@@ -26,7 +26,7 @@ use std::marker::Model;
 ///
 /// A point is looked up by a search among the blocks of its kind, in logarithmic time. Only `new`
 /// allocates. A clause sees the blocks of each kind with the states of their points.
-#[derive(Debug, Drop)]
+#[derive(Debug)]
 pub struct PointDb {
     /// The points of each kind, by the kind's number.
     banks: [Bank; KINDS],
@@ -41,6 +41,13 @@ impl Model for PointDb {
     ghost view = { λ database. record { banks = database.banks } };
 
     ghost invariant = { λ database. IsSound (record { banks = database.banks }) };
+}
+
+impl Drop for PointDb {
+    /// One call for whoever lets it go: its parts are looked at here alone.
+    fn drop(self) {
+        let PointDb { banks: _ } = self;
+    }
 }
 
 impl PointDb {

@@ -19,7 +19,6 @@ use std::marker::Model;
 
 /// A book of controls in a SQL database, which keeps its entries in memory too: only calls that write touch
 /// the database.
-#[derive(Drop)]
 pub struct ControlBook<S: Alter> {
     /// The connection to the database, which is the book's own.
     pub(crate) conn: Connection<S>,
@@ -44,6 +43,35 @@ impl<S: Alter> Model for ControlBook<S> {
     ghost view = { λ b. record { conn = b.conn; ledger = record { entries = b.entries.items; last_id = b.last_id }; stopped = b.stopped; owned = b.owned } };
 
     ghost invariant = { λ b. Keeps S.Store b.conn (record { entries = b.entries.items; last_id = b.last_id }) b.stopped b.owned };
+}
+
+impl<S: Alter + Drop> Drop for ControlBook<S> {
+    /// One call for whoever lets it go: its parts are looked at here alone.
+    fn drop(self) {
+        let ControlBook {
+            conn: _,
+            entries: _,
+            last_id: _,
+            stopped: _,
+            owned: _,
+        } = self;
+    }
+}
+
+impl<S: Alter> ControlBook<S> {
+    /// The connection to the database, as it stands.
+    pub fn into_connection(self) -> Connection<S>
+        ensures { result ≡ self.conn }
+    {
+        let ControlBook {
+            conn,
+            entries: _,
+            last_id: _,
+            stopped: _,
+            owned: _,
+        } = self;
+        conn
+    }
 }
 
 /// Device where the store is lost, else Memory.

@@ -112,11 +112,4 @@ impl<S: Alter> ControlBook<S> {
     {
         !self.stopped
     }
-
-    /// The connection to the database, as it stands.
-    pub fn into_connection(self) -> Connection<S>
-        ensures { result ≡ self.conn }
-    {
-        self.conn
-    }
 }

@@ -19,7 +19,6 @@ use std::marker::Model;
 
 /// A journal in a SQL database, which keeps how many rows it holds and the last id in memory too: its
 /// count asks no database.
-#[derive(Drop)]
 pub struct Journal<S: Alter> {
     /// The connection to the database, which is the journal's own.
     pub(crate) conn: Connection<S>,
@@ -44,6 +43,35 @@ impl<S: Alter> Model for Journal<S> {
     ghost view = { λ j. record { conn = j.conn; last_id = j.last_id; count = j.count; stopped = j.stopped; owned = j.owned } };
 
     ghost invariant = { λ j. Keeps S.Store j.conn j.last_id j.count j.stopped j.owned };
+}
+
+impl<S: Alter + Drop> Drop for Journal<S> {
+    /// One call for whoever lets it go: its parts are looked at here alone.
+    fn drop(self) {
+        let Journal {
+            conn: _,
+            last_id: _,
+            count: _,
+            stopped: _,
+            owned: _,
+        } = self;
+    }
+}
+
+impl<S: Alter> Journal<S> {
+    /// The connection to the database, as it stands.
+    pub fn into_connection(self) -> Connection<S>
+        ensures { result ≡ self.conn }
+    {
+        let Journal {
+            conn,
+            last_id: _,
+            count: _,
+            stopped: _,
+            owned: _,
+        } = self;
+        conn
+    }
 }
 
 impl<S: Alter> Sink for Journal<S> {

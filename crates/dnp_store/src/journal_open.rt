@@ -91,13 +91,6 @@ impl<S: Alter> Journal<S> {
         }
     }
 
-    /// The connection to the database, as it stands.
-    pub fn into_connection(self) -> Connection<S>
-        ensures { result ≡ self.conn }
-    {
-        self.conn
-    }
-
     /// Whether the journal has not answered Device. If so, whatever a crash at this moment leaves holds the
     /// rows as they stand.
     pub fn serves(&self) -> bool

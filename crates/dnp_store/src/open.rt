@@ -167,11 +167,4 @@ impl<S: Alter> Queue<S> {
     {
         self.owned
     }
-
-    /// The connection to the database, as it stands.
-    pub fn into_connection(self) -> Connection<S>
-        ensures { result ≡ self.conn }
-    {
-        self.conn
-    }
 }

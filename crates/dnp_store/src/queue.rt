@@ -20,7 +20,6 @@ use std::marker::Model;
 
 /// Event lanes in a SQL database, which keep their rows in memory too: only calls that write touch the
 /// database.
-#[derive(Drop)]
 pub struct Queue<S: Alter> {
     /// The connection to the database, which is the queue's own.
     pub(crate) conn: Connection<S>,
@@ -43,6 +42,33 @@ impl<S: Alter> Model for Queue<S> {
     ghost view = { λ q. record { conn = q.conn; stock = q.lanes; stopped = q.stopped; owned = q.owned } };
 
     ghost invariant = { λ q. Keeps S.Store q.conn q.lanes q.stopped q.owned };
+}
+
+impl<S: Alter + Drop> Drop for Queue<S> {
+    /// One call for whoever lets it go: its parts are looked at here alone.
+    fn drop(self) {
+        let Queue {
+            conn: _,
+            lanes: _,
+            stopped: _,
+            owned: _,
+        } = self;
+    }
+}
+
+impl<S: Alter> Queue<S> {
+    /// The connection to the database, as it stands.
+    pub fn into_connection(self) -> Connection<S>
+        ensures { result ≡ self.conn }
+    {
+        let Queue {
+            conn,
+            lanes: _,
+            stopped: _,
+            owned: _,
+        } = self;
+        conn
+    }
 }
 
 impl<S: Alter> Lanes for Queue<S> {

@@ -3,12 +3,12 @@
 use crate::ends::{Giving, Taking};
 use crate::stations::Echo;
 use dnp_controls::NoOutputs;
-use dnp_daemons::{Log, ServeFault, Served, Station, serve_noted, serve_stream};
 use dnp_eventbuf::PlainLanes;
 use dnp_line::Port;
 use dnp_objects::LANES;
 use dnp_outstation::Outstation;
 use dnp_pointdb::{PointDb, PointPlan, Times};
+use dnp_streams::{Log, ServeFault, Served, Station, serve_noted, serve_stream};
 use std::alloc::Global;
 use std::process::Abort;
 

@@ -3,13 +3,12 @@
 use crate::ends::{Giving, Taking};
 use dnp_concentrator::{Centre, Concentrator};
 use dnp_controls::PlainBook;
-use dnp_daemons::{
-    Above, Asked, Below, ServeFault, Served, Station, ask_stream, read_plan, serve_stream,
-};
 use dnp_eventbuf::{JournalStore, Lane, Lanes, PlainJournal, PlainLanes};
 use dnp_line::Port;
 use dnp_master::{Classes, Outcome, Task};
 use dnp_objects::Kind;
+use dnp_plantext::read_plan;
+use dnp_streams::{Above, Asked, Below, ServeFault, Served, Station, ask_stream, serve_stream};
 use std::alloc::Global;
 
 /// A plan of one substation with one binary input of class 1, whose index above is 100.

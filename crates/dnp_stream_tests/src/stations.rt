@@ -2,8 +2,8 @@
 
 ghost use Rattle.std.specs.Prelude.{◌≡◌, ℕ};
 
-use dnp_daemons::{Answer, Station, StationFault};
 use dnp_outstation::Fragment;
+use dnp_streams::{Answer, Station, StationFault};
 use std::alloc::Global;
 
 /// A station that sends a fragment back, refuses one of more than four octets, and closes the connection with one whose
@@ -16,7 +16,7 @@ pub struct Echo {
 
 impl Station for Echo {
     ghost use Rattle.std.specs.Prelude.{⊤};
-    ghost use Rattle.dnp_daemons.specs.streams.Dialogues.{asks_nothing};
+    ghost use Rattle.dnp_streams.specs.streams.Dialogues.{asks_nothing};
 
     ghost State = { ⊤ };
 

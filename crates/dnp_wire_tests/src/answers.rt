@@ -1,7 +1,7 @@
 //! Texts that are lines of octets, texts that are not, and what is answered to them.
 
 use arrayvec::ArrayVec;
-use dnp_daemons::{AnswerFault, answer_line};
+use dnp_streams::{AnswerFault, answer_line};
 use std::io::{Error, ErrorKind, Result, Write};
 use std::process::Abort;
 

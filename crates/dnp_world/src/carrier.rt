@@ -2,7 +2,7 @@
 
 use crate::event::Link;
 use crate::link_event::Way;
-use crate::stopped::Cause;
+use dnp_concentrator::Cause;
 
 /// Carries units from one end of a line to the other, before they come to their ends.
 ///

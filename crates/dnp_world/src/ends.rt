@@ -16,8 +16,7 @@ ghost use Rattle.dnp_world.specs.MasterEnds.{TakesIn};
 ghost use Rattle.dnp_world.specs.SystemEvents.{HasNumbers, centre_taken, concentrator_taken, dropped_for};
 ghost use Rattle.dnp_world.specs.SystemParts.{centre_of, concentrator_of};
 
-use crate::stopped::Cause;
-use dnp_concentrator::{Centre, Concentrator};
+use dnp_concentrator::{Cause, Centre, Concentrator};
 use dnp_controls::{Book, Outputs};
 use dnp_eventbuf::{JournalStore, Lanes};
 use dnp_master::{MasterActions, MasterFault};

@@ -40,10 +40,11 @@ pub mod system_laws;
 mod world;
 
 pub use carrier::{Carrier, InMemory};
+pub use dnp_concentrator::Cause;
 pub use event::{Damaged, Event, Link, Place};
 pub use link_event::{End, LinkEvent, Way};
 pub use one_link::OneLink;
 pub use report::Report;
 pub use round_fault::{ControlFault, RoundFault};
-pub use stopped::{Cause, Stopped};
+pub use stopped::Stopped;
 pub use world::World;

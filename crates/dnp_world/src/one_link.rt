@@ -15,7 +15,8 @@ ghost use Rattle.dnp_world.specs.OneLinkParts.{link_of, lanes_of, sink_of, with_
 use crate::channel::Channel;
 use crate::joined_laws::{a_new_link_is_joined, the_law_of_one_link};
 use crate::link_event::{End, LinkEvent, Way};
-use crate::stopped::{Cause, Stopped};
+use crate::stopped::Stopped;
+use dnp_concentrator::Cause;
 use dnp_controls::NoOutputs;
 use dnp_eventbuf::{Lanes, Sink};
 use dnp_master::Master;
@@ -36,7 +37,6 @@ pub(crate) const OUTSTATION_ADDRESS: u16 = 10;
 /// An outstation without outputs and its master, with a line each way between their ports.
 ///
 /// What its events do holds where lanes and sink are honest as a call ends.
-#[derive(Drop)]
 pub struct OneLink<L, S> {
     outstation: Outstation<L, NoOutputs>,
     master: Master,
@@ -52,6 +52,23 @@ pub struct OneLink<L, S> {
     released: Vec<Row>,
     /// The events that left the lanes unconfirmed: a full lane dropped them, or a restart emptied it.
     left: Vec<Row>,
+}
+
+impl<L: Drop, S: Drop> Drop for OneLink<L, S> {
+    /// One call for whoever lets it go: its parts are looked at here alone.
+    fn drop(self) {
+        let OneLink {
+            outstation: _,
+            master: _,
+            sink: _,
+            channel: _,
+            actions: _,
+            moment: _,
+            taken: _,
+            released: _,
+            left: _,
+        } = self;
+    }
 }
 
 impl<L: Lanes + Drop, S: Sink + Drop> OneLink<L, S> {

@@ -9,8 +9,7 @@ ghost use Rattle.dnp_world.specs.Kept as kept;
 ghost use Rattle.dnp_world.specs.ReportShown.{AreById, all_in};
 ghost use Rattle.dnp_world.specs.Systems.{at_station};
 
-use crate::stopped::Cause;
-use dnp_concentrator::IndexMap;
+use dnp_concentrator::{Cause, IndexMap};
 use dnp_eventbuf::{JournalStore, Lanes, Numbered};
 use dnp_objects::{LANES, Lane, Row};
 use std::alloc::{AllocError, Global};

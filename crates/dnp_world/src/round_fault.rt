@@ -1,6 +1,6 @@
 //! Why a round, or a control that is sent in rounds, is not made.
 
-use crate::stopped::Cause;
+use dnp_concentrator::Cause;
 use dnp_objects::Status;
 use thiserror::Error;
 

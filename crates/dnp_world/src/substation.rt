@@ -19,7 +19,7 @@ use crate::link_event::{End, Way};
 use crate::listing::rows_waiting;
 use crate::sending::{FRAGMENT_UNITS, send_all};
 use crate::station_list::StationList;
-use crate::stopped::Cause;
+use dnp_concentrator::Cause;
 use dnp_controls::{MAX_COMMANDS, PlainOutputs};
 use dnp_eventbuf::PlainLanes;
 use dnp_objects::{Kind, Row};

@@ -29,9 +29,9 @@ use crate::parts::Parts;
 use crate::report::Report;
 use crate::round_fault::{ControlFault, RoundFault};
 use crate::standing_laws::plans_have_all_lanes;
-use crate::stopped::{Cause, Stopped};
+use crate::stopped::Stopped;
 use crate::system_laws::what_a_report_shows_is_kept;
-use dnp_concentrator::{Centre, Concentrator, IndexMap, MapFault, Plan};
+use dnp_concentrator::{Cause, Centre, Concentrator, IndexMap, MapFault, Plan};
 use dnp_controls::Book;
 use dnp_eventbuf::{JournalStore, Lanes};
 use dnp_outstation::Actions;
@@ -54,7 +54,6 @@ pub(crate) const CONCENTRATOR_ABOVE: u16 = 9;
 /// issued (`headline`). So long, too, its calls do what they say.
 ///
 /// A clause sees the system, by what its stores say of themselves, and the stores.
-#[derive(Drop)]
 pub struct World<Q: Lanes, J: JournalStore, A: Book, B: Book> {
     parts: Parts<Q, J, A, B>,
 }
@@ -68,6 +67,14 @@ impl<Q: Lanes, J: JournalStore, A: Book, B: Book> Model for World<Q, J, A, B> {
     ghost view = { λ w. shown_by Q.contents J.archive A.contents B.contents w.parts };
 
     ghost invariant = { λ w. IsSteadyWhileWell Q.honest J.honest A.honest A.is_stopped B.honest B.is_stopped (shown_by Q.contents J.archive A.contents B.contents w.parts) };
+}
+
+impl<Q: Lanes + Drop, J: JournalStore + Drop, A: Book + Drop, B: Book + Drop> Drop
+    for World<Q, J, A, B> {
+    /// One call for whoever lets it go: its parts are looked at here alone.
+    fn drop(self) {
+        let World { parts: _ } = self;
+    }
 }
 
 impl<Q: Lanes + Drop, J: JournalStore + Drop, A: Book + Drop, B: Book + Drop> World<Q, J, A, B> {

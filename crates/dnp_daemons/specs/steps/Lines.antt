@@ -6,7 +6,7 @@ use Rattle.dnp_daemons.specs.declared.run.ScriptStop.{ScriptStop}
 use Rattle.dnp_daemons.specs.declared.run.ScriptStop.TheVariants as stop
 use Rattle.dnp_daemons.specs.declared.run.line.LineStop.{LineStop}
 use Rattle.dnp_daemons.specs.declared.run.line.LineStop.TheVariants.{Stopped, Unwritten}
-use Rattle.dnp_daemons.specs.declared.writing.NotWritten.{NotWritten}
+use Rattle.dnp_streams.specs.declared.writing.NotWritten.{NotWritten}
 use Rattle.dnp_daemons.specs.Scripted.{Law}
 use Rattle.dnp_daemons.specs.ScriptRuns.{Does, StopsIn}
 use Rattle.dnp_daemons.specs.ScriptTexts.{stopped_line}

@@ -8,7 +8,7 @@ ghost use Rattle.dnp_daemons.specs.steps.Lines.{LineEnds, line_result};
 use crate::run::printing::{print_control, print_round};
 use crate::run::scripted::Scripted;
 use crate::script::ScriptLine;
-use crate::writing::NotWritten;
+use dnp_streams::NotWritten;
 use dnp_world::{Cause, ControlFault, Event, Link, RoundFault, Way};
 use std::alloc::Global;
 use std::io::Write;

@@ -5,7 +5,7 @@ ghost use Rattle.std.specs.List.{concat};
 ghost use Rattle.std.specs.Io.KnownBytes.{Appends};
 ghost use Rattle.dnp_daemons.specs.ScriptTexts.{outcome_line, round_line, control_line};
 
-use crate::writing::{NotWritten, write_out};
+use dnp_streams::{NotWritten, write_out};
 use dnp_world::Link;
 use itoa::Buffer;
 use std::io::Write;

@@ -5,12 +5,12 @@ ghost use Rattle.std.specs.List.{list_all};
 ghost use Rattle.std.specs.Option.{option_map};
 ghost use Rattle.dnp_daemons.specs.Names.{link_named, substation_named, end_named, way_named, kind_named, place_named, is_class_digit, once, classes_named, flags_named, time_named, octets_named};
 
-use crate::octets::octet_of;
 use crate::script::numbers::{number_in, number8_in};
 use arrayvec::ArrayVec;
 use dnp_linkframe::MAX_UNIT;
 use dnp_master::Classes;
 use dnp_objects::Kind;
+use dnp_streams::octet_of;
 use dnp_world::{End, Link, Place, Way};
 
 /// The number of a substation, below how many there are.

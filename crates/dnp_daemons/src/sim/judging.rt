@@ -1,14 +1,14 @@
 //! The texts of a plan and of a script, judged before anything runs.
 
 ghost use Rattle.std.specs.Prelude.{◌≡◌, IfErr, IfOk};
-ghost use Rattle.dnp_world.specs.declared.stopped.Cause.TheVariants.{Memory};
+ghost use Rattle.dnp_concentrator.specs.declared.cause.Cause.TheVariants.{Memory};
 ghost use Rattle.dnp_daemons.specs.steps.Judging.{IsJudged, SaysRefused, reading_by};
 
-use crate::plan_text::{PlanTextFault, read_plan};
 use crate::run::ScriptStop;
 use crate::run::printing::write_parts;
 use crate::script::{ScriptFault, ScriptLine, read_lines};
 use dnp_concentrator::Plan;
+use dnp_plantext::{PlanTextFault, read_plan};
 use dnp_world::Cause;
 use itoa::Buffer;
 use std::alloc::Global;

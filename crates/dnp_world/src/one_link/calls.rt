@@ -11,7 +11,7 @@ use super::OneLink;
 use crate::link_event::End;
 use crate::listing::rows_waiting;
 use crate::sending::{FRAGMENT_UNITS, send, send_all};
-use crate::stopped::Cause;
+use dnp_concentrator::Cause;
 use dnp_eventbuf::{Lanes, Sink};
 use dnp_master::Task;
 use dnp_objects::Kind;

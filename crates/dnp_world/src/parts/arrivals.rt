@@ -10,7 +10,7 @@ ghost use Rattle.dnp_world.specs.declared.event.Link.TheVariants as link;
 use super::Parts;
 use crate::event::Link;
 use crate::link_event::Way;
-use crate::stopped::Cause;
+use dnp_concentrator::Cause;
 use dnp_controls::Book;
 use dnp_eventbuf::{JournalStore, Lanes};
 use std::alloc::Global;

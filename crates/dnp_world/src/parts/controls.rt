@@ -13,7 +13,7 @@ use crate::carrier::Carrier;
 use crate::event::{Event, Link};
 use crate::link_event::Way;
 use crate::round_fault::ControlFault;
-use crate::stopped::Cause;
+use dnp_concentrator::Cause;
 use dnp_controls::{Book, Entry, State};
 use dnp_eventbuf::{JournalStore, Lanes};
 use dnp_objects::Status;

@@ -14,9 +14,8 @@ use crate::reading::{
     all_rows, journal_rows, lost_rows, numbered_below, put_rows_of, rows_below, rows_by_id,
 };
 use crate::report::Report;
-use crate::stopped::Cause;
 use crate::substation::Substation;
-use dnp_concentrator::Listed;
+use dnp_concentrator::{Cause, Listed};
 use dnp_controls::Book;
 use dnp_eventbuf::{JournalStore, Lanes};
 use dnp_objects::Row;

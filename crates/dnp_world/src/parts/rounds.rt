@@ -9,7 +9,7 @@ use crate::carrier::Carrier;
 use crate::event::{Event, Link};
 use crate::link_event::Way;
 use crate::round_fault::RoundFault;
-use crate::stopped::Cause;
+use dnp_concentrator::Cause;
 use dnp_controls::Book;
 use dnp_eventbuf::{JournalStore, Lanes};
 use dnp_master::{Classes, Task};

@@ -12,8 +12,7 @@ ghost use Rattle.dnp_world.specs.declared.event.Link.TheVariants as link;
 
 use super::Parts;
 use crate::event::Link;
-use crate::stopped::Cause;
-use dnp_concentrator::{IssueFault, Relayed};
+use dnp_concentrator::{Cause, IssueFault, Relayed};
 use dnp_controls::{Book, BookFault};
 use dnp_eventbuf::{JournalStore, Lanes};
 use dnp_master::Task;

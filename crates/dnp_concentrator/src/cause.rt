@@ -1,0 +1,61 @@
+//! Why a station stops at an event: what its stores and its memory refuse.
+
+use dnp_controls::BookFault;
+use dnp_objects::StoreFault;
+use dnp_outstation::Fault;
+use std::alloc::AllocError;
+use thiserror::Error;
+
+/// What an event can stop at.
+#[derive(Clone, Copy, Debug, PartialEq, Eq, Hash, Error)]
+pub enum Cause {
+    /// A store has no number left.
+    #[error("a store has no number left")]
+    Exhausted = 1,
+    /// A request for memory was refused.
+    #[error("out of memory")]
+    Memory = 2,
+    /// The device under a store failed.
+    #[error("a store's device failed")]
+    Device = 3,
+}
+
+/// A request for memory that was refused is a cause.
+impl From<AllocError> for Cause {
+    fn from(_: AllocError) -> Cause {
+        Cause::Memory
+    }
+}
+
+/// What a store under an outstation refuses is a cause. A reading that its points refuse is none, and stops nothing.
+impl From<Fault> for Cause {
+    fn from(fault: Fault) -> Cause {
+        match fault {
+            Fault::Exhausted => Cause::Exhausted,
+            Fault::Device => Cause::Device,
+            Fault::NoPoint | Fault::ValueRange | Fault::TimeRange | Fault::Memory => Cause::Memory,
+        }
+    }
+}
+
+/// What a store refuses is a cause.
+impl From<StoreFault> for Cause {
+    fn from(fault: StoreFault) -> Cause {
+        match fault {
+            StoreFault::Exhausted => Cause::Exhausted,
+            StoreFault::Memory => Cause::Memory,
+            StoreFault::Device => Cause::Device,
+        }
+    }
+}
+
+/// What a book refuses to read is a cause. What it refuses of one entry is none, and no reading is refused for it.
+impl From<BookFault> for Cause {
+    fn from(fault: BookFault) -> Cause {
+        match fault {
+            BookFault::Exhausted => Cause::Exhausted,
+            BookFault::Device => Cause::Device,
+            BookFault::NoControl | BookFault::NotPending | BookFault::Memory => Cause::Memory,
+        }
+    }
+}

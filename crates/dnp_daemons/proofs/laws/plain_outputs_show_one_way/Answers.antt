@@ -1,5 +1,0 @@
-use Rattle.dnp_daemons.proofs.streams.OutstationsOneWay.{plain_one_way}
-use Rattle.dnp_daemons.proofs.laws.plain_outputs_show_one_way.Goals as goal
-
-pub returns-clause-plain : goal.returns-clause-plain
-returns-clause-plain c = plain_one_way

@@ -1,7 +1,0 @@
-use Rattle.std.proofs.Common.{◌≡◌, ◌≤◌, ◌*◌, length, take}
-use Rattle.dnp_daemons.specs.OctetLines.{line_of}
-use Rattle.dnp_daemons.proofs.octets.line_of_octets.Given as goal
-
-abbrev pub invariant-loop-index : goal.invariant-loop-index
-invariant-loop-index l =
-    (l.line.items ≡ line_of (take l.index l.octets)) × (length l.line.items ≤ 3 * l.index)

@@ -1,7 +1,0 @@
-use Rattle.dnp_daemons.specs.PlanFields.{has_keys}
-use Rattle.dnp_daemons.proofs.PlanLists.{keys_counted}
-use Rattle.dnp_daemons.proofs.plan_text.fields.has_so_many_keys.Goals as goal
-
-pub returns-in-Some : goal.returns-in-Some
-unfolding has_keys
-returns-in-Some c = keys_counted c.args.count _ _ c.in-Some.keys.now.entries c.in-Some.ensures c.len.ensures.len

@@ -1,0 +1,3 @@
+mod PlanLists
+mod PlanNamed
+mod PlannedPoints

@@ -1,0 +1,19 @@
+use Rattle.std.proofs.Common.{rules}
+use Rattle.dnp_pointdb.specs.Plan.{IsSound, plan_of}
+use Rattle.dnp_plantext.proofs.PlannedPoints.{sound_points}
+use Rattle.dnp_plantext.proofs.planned.points_of.Goals as goal
+
+pub unwrap-requires : goal.unwrap-requires
+unwrap-requires c =
+    let here : IsSound (plan_of c.in_ok-binary.binary.items c.in_ok-counter.counter.items c.in_ok-analog.analog.items) =
+    rw (
+      c.in_ok-binary.ensures,
+      c.in_ok-counter.ensures,
+      c.in_ok-analog.ensures,
+      c.as_slice.ensures,
+      c.as_slice-2.ensures,
+      c.as_slice-3.ensures,
+      c.as_slice-4.ensures,
+    ) (sound_points c.args.substation.now c.requires) in
+    let made = c.new.ensures.only here in
+    search (rules, made)

@@ -1,0 +1,5 @@
+-- Definitions, by which contracts promise.
+pub mod PlanFields
+pub mod PlanRanges
+pub mod PlanText
+pub mod Planned

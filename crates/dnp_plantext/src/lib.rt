@@ -1,0 +1,9 @@
+//! The text of a plan, in TOML: `read_plan` reads it, and `planned_outstation` makes the outstation of one of its
+//! substations.
+#![tactic(auto)]
+
+mod plan_text;
+mod planned;
+
+pub use plan_text::{PlanTextFault, read_plan};
+pub use planned::{MASTER_BELOW, PlannedOutstation, outstation_address, planned_outstation};

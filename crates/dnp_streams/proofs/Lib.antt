@@ -1,0 +1,11 @@
+mod Heard
+mod Lines
+mod OctetText
+mod OneAnswer
+mod Opened
+mod Said
+mod Spaced
+mod SpacedPieces
+mod SpacedWriting
+mod TextPlaces
+mod streams

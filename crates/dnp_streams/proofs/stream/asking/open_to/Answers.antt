@@ -1,0 +1,30 @@
+use Rattle.std.proofs.Common.{List, [], ℕ, refl, sym, subst}
+use Rattle.dnp_streams.specs.streams.Stations.{answer_of}
+use Rattle.dnp_streams.specs.streams.Spelled.{AreSpelled, sent_frames}
+use Rattle.dnp_streams.specs.streams.Dialogues.{Opened, Unopened}
+use Rattle.dnp_streams.specs.steps.Outgoing.{ArePut}
+use Rattle.dnp_streams.proofs.streams.Dialogues.{dialogue_is}
+use Rattle.dnp_streams.proofs.streams.Spelling.{spelled_none, put_alone}
+use Rattle.dnp_streams.proofs.stream.asking.open_to.Goals as goal
+
+pub returns-in-Ok-clause-begins : goal.returns-in-Ok-clause-begins
+returns-in-Ok-clause-begins g c honest =
+    let answer = answer_of c.in-Ok.answer in
+    let frames = sent_frames c.args.port.now answer.send in
+    record {
+      sent = frames;
+      sends =
+          Opened answer (g.S.Station.state c.opened.new.self) (c.in-Ok.ensures.answered honest) refl
+          (dialogue_is _ _ _ _ _ _ _ _ _ _ _ _ _ _ _ _ refl c.put_fragments.ensures.moved refl c.count.ensures.rows c.count.ensures.outcomes c.count.ensures.faults refl refl);
+      spelled =
+          put_alone frames c.put_fragments.new.out.items
+          (subst (λ (t : List ℕ). ArePut t frames c.put_fragments.new.out.items) c.clear.ensures c.put_fragments.ensures.put);
+    }
+
+pub returns-in-Err-clause-begins : goal.returns-in-Err-clause-begins
+returns-in-Err-clause-begins g c honest = record {
+  sent = [];
+  sends = Unopened refl
+      (dialogue_is _ _ _ _ _ _ _ _ _ _ _ _ _ _ _ _ (c.in-Err.ensures.unchanged honest) refl refl c.refuse.ensures.rows c.refuse.ensures.outcomes c.refuse.ensures.faults refl refl);
+  spelled = subst (λ (t : List ℕ). AreSpelled [] t) (sym c.clear.ensures) spelled_none;
+}

@@ -1,0 +1,21 @@
+use Rattle.std.proofs.Common.{rules, ◌<◌, length, ap}
+use Rattle.std.proofs.lemmas.Result.{MatchResult-at_ok}
+use Rattle.dnp_concentrator.specs.Concentrator.{links_of, taking_at}
+use Rattle.dnp_concentrator.specs.BookOutputs.{map_in}
+use Rattle.dnp_streams.specs.streams.Concentrators.BelowReceives.{Taken}
+use Rattle.dnp_streams.proofs.streams.Taken.{taken, answered, seen}
+use Rattle.dnp_streams.proofs.stream.below.BelowStation.receive.Goals as goal
+
+pub returns-in-Ok-clause-answered : goal.returns-in-Ok-clause-answered
+returns-in-Ok-clause-answered g c honest =
+    let old = c.args.self.now.concentrator.now in
+    let at = c.args.self.now.link in
+    let told = c.in-Ok.ensures in
+    let there : at < length (links_of old) = search rules in
+    let found = taken (taking_at old at c.args.now c.args.octets.now) c.in-Ok.actions told.refused in
+    let links = MatchResult-at_ok _ _ found.0 found.1 told.link in
+    let core = MatchResult-at_ok _ _ found.0 found.1 told.readings in
+    let queue = MatchResult-at_ok _ _ found.0 found.1 (told.queued honest.0) in
+    let by = MatchResult-at_ok _ _ found.0 found.1 told.actions in
+    Taken there found.0 found.1 (answered _ _ found.0 _ c.answer_taking.ensures.answer by)
+    (seen at _ _ _ _ _ _ _ _ links core (ap (λ outputs. map_in outputs) told.outputs) queue)

@@ -1,0 +1,13 @@
+use Rattle.std.proofs.Common.{◌≡◌, false, take}
+use Rattle.dnp_streams.proofs.streams.Hearing.{HasHeard}
+use Rattle.dnp_streams.proofs.stream.serve.hear_all.Given as goal
+
+abbrev pub invariant-loop-frame : goal.invariant-loop-frame
+invariant-loop-frame g l =
+    (l.served.closed ≡ false)
+    × (l.log ≡ l.fn.log)
+    × (g.S.Station.honest l.station → g.S.Station.honest l.fn.station)
+    × (g.S.Station.honest l.station →
+    HasHeard g.S.Station.receives l.now (record { station = g.S.Station.state l.fn.station; port = l.fn.port }) (take l.frame-index l.frames)
+    (record { station = g.S.Station.state l.station; port = l.port }) l.fn.served l.served
+    (g.W.Write.contents l.fn.out) (g.W.Write.contents l.out))

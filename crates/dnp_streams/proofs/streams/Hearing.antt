@@ -1,0 +1,208 @@
+-- Frames that come one after the other.
+use Rattle.std.proofs.Common.{◌≡◌, ℕ, ◌+◌, ◌≤◌, min, Bool, true, false, ◌||◌, List, [], ◌∷◌, ◌++◌, Option, Result}
+use Rattle.std.proofs.Common.{Ok, Err, refl, sym, ap, ◌∙◌, subst, append_assoc, append-nil, arith}
+use Rattle.std.proofs.lemmas.Bool.{false≢true}
+use Rattle.std.specs.Prelude.{OnOk, OnErr, MatchResult}
+use Rattle.std.specs.Io.KnownBytes.{Appends}
+use Rattle.std.proofs.KnownBytes.{Appends-nil, Appends-trans}
+use Rattle.dnp_linkframe.specs.declared.frame.Frame.{Frame}
+use Rattle.dnp_streams.specs.declared.writing.NotWritten.{NotWritten}
+use Rattle.dnp_streams.specs.declared.stream.served.Served.{Served}
+use Rattle.dnp_streams.specs.streams.Stations.{Receiving, Endpoint}
+use Rattle.dnp_streams.specs.streams.Spelled.{AreSpelled}
+use Rattle.dnp_streams.specs.streams.Exchanges.{Output, no_output, output_with, Hears, HearsAll}
+use Rattle.dnp_streams.specs.streams.Counts.{most, served_of, Counts}
+use Rattle.dnp_streams.specs.steps.Hearing.{AreWritten, ArePartlyWritten}
+use Rattle.dnp_streams.specs.steps.Outgoing.{HearsTo}
+use Rattle.dnp_streams.proofs.streams.Spelling.{spelled_none, spelled_joined}
+
+-- ---- outputs, one after the other
+
+or_none : (b : Bool) → (b || false) ≡ b
+or_none true = refl
+or_none false = refl
+
+or_assoc : (a b c : Bool) → ((a || b) || c) ≡ (a || (b || c))
+or_assoc true b c = refl
+or_assoc false b c = refl
+
+pub or_left : (a b : Bool) → (a || b) ≡ false → a ≡ false
+or_left true b open_still = open_still
+or_left false b open_still = refl
+
+pub or_right : (a b : Bool) → (a || b) ≡ false → b ≡ false
+or_right true true open_still = open_still
+or_right true false open_still = refl
+or_right false b open_still = open_still
+
+abbrev output_of : List Frame → ℕ → ℕ → Bool → Output
+output_of frames fragments faults closed = record { frames = frames; fragments = fragments; faults = faults; closed = closed }
+
+same_output : (f g : List Frame) (m n k l : ℕ) (b c : Bool) → f ≡ g → m ≡ n → k ≡ l → b ≡ c → output_of f m k b ≡ output_of g n l c
+same_output f g m n k l b c frames fragments faults closed = cc
+
+pub with_none : (o : Output) → output_with o no_output ≡ o
+with_none o = same_output _ _ _ _ _ _ _ _ (append-nil o.frames) (omega arith) (omega arith) (or_none o.closed)
+
+pub none_with : (o : Output) → output_with no_output o ≡ o
+none_with o = same_output _ _ _ _ _ _ _ _ refl (omega arith) (omega arith) refl
+
+pub with_assoc : (a b c : Output) → output_with (output_with a b) c ≡ output_with a (output_with b c)
+with_assoc a b c =
+    same_output _ _ _ _ _ _ _ _ (append_assoc a.frames b.frames c.frames) (omega arith) (omega arith) (or_assoc a.closed b.closed c.closed)
+
+-- ---- counts that stop at the largest number
+
+min_more : (a b c m : ℕ) → min (min (a + b) m + c) m ≡ min (a + (b + c)) m
+min_more a b c m = grind arith
+
+-- what a step brought is counted
+abbrev pub Adds : Served → Served → Served → Type 0
+Adds old brought new = (output : Output) → brought ≡ served_of output → Counts old output new
+
+pub counts_more : (a b c : Served) (o p : Output) → Counts a o b → Counts b p c → Counts a (output_with o p) c
+counts_more a b c o p first second = record {
+  fragments = second.fragments ∙ ap (λ (n : ℕ). min (n + p.fragments) most) first.fragments ∙ min_more a.fragments o.fragments p.fragments most;
+  faults = second.faults ∙ ap (λ (n : ℕ). min (n + p.faults) most) first.faults ∙ min_more a.faults o.faults p.faults most;
+  closed = second.closed ∙ ap (λ (b : Bool). b || p.closed) first.closed ∙ or_assoc a.closed o.closed p.closed;
+}
+
+-- ---- what is written
+
+pub written_more : (u v w : Option (List ℕ)) (fs gs : List Frame) → AreWritten u v fs → AreWritten v w gs → AreWritten u w (fs ++ gs)
+written_more u v w fs gs first second = record {
+  octets = first.octets ++ second.octets;
+  spelled = spelled_joined fs gs first.octets second.octets first.spelled second.spelled;
+  appended = Appends-trans u v w first.octets second.octets first.appended second.appended;
+}
+
+pub written_part : (u v w : Option (List ℕ)) (fs gs : List Frame) → AreWritten u v fs → ArePartlyWritten v w gs → ArePartlyWritten u w (fs ++ gs)
+written_part u v w fs gs first second = record {
+  written = first.octets ++ second.written;
+  unwritten = second.unwritten;
+  spelled =
+      subst (λ (t : List ℕ). AreSpelled (fs ++ gs) t) (sym (append_assoc first.octets second.written second.unwritten))
+      (spelled_joined fs gs first.octets (second.written ++ second.unwritten) first.spelled second.spelled);
+  appended = Appends-trans u v w first.octets second.written first.appended second.appended;
+}
+
+-- ---- frames
+
+-- one frame more
+hears_more : {S : Type 0} (receives : Receiving S) (now : ℕ) (old mid new : Endpoint S) (frames : List Frame) (frame : Frame) (output more : Output)
+    → HearsAll receives now old frames output mid → output.closed ≡ false → Hears receives now mid frame more new
+    → HearsAll receives now old (frames ++ frame ∷ []) (output_with output more) new
+hears_more {S} receives now old mid new [] frame output more (none, same) open_still one = (
+  more,
+  new,
+  no_output,
+  subst (λ (e : Endpoint S). Hears receives now e frame more new) same one,
+  (refl, refl),
+  ap (λ (o : Output). output_with o more) none ∙ none_with more ∙ sym (with_none more),
+  λ _. refl,
+)
+hears_more {S} receives now old mid new (f ∷ frames) frame output more (first, next, later, here, others, both, stops) open_still one =
+    let parts : (first.closed || later.closed) ≡ false = sym (ap (λ (o : Output). o.closed) both) ∙ open_still in (
+      first,
+      next,
+      output_with later more,
+      here,
+      hears_more receives now next mid new frames frame later more others (or_right first.closed later.closed parts) one,
+      ap (λ (o : Output). output_with o more) both ∙ with_assoc first later more,
+      λ closed. absurd (false≢true (sym (or_left first.closed later.closed parts) ∙ closed)),
+    )
+
+-- further frames
+pub hears_then : {S : Type 0} (receives : Receiving S) (now : ℕ) (old mid new : Endpoint S) (frames others : List Frame) (output more : Output)
+    → HearsAll receives now old frames output mid → output.closed ≡ false → HearsAll receives now mid others more new
+    → HearsAll receives now old (frames ++ others) (output_with output more) new
+hears_then {S} receives now old mid new [] others output more (none, same) open_still all =
+    subst (λ (e : Endpoint S). HearsAll receives now e others (output_with output more) new) same
+    (subst (λ (o : Output). HearsAll receives now mid others o new) (sym (ap (λ (o : Output). output_with o more) none ∙ none_with more)) all)
+hears_then {S} receives now old mid new (f ∷ frames) others output more (first, next, later, here, rest, both, stops) open_still all =
+    let parts : (first.closed || later.closed) ≡ false = sym (ap (λ (o : Output). o.closed) both) ∙ open_still in (
+      first,
+      next,
+      output_with later more,
+      here,
+      hears_then receives now next mid new frames others later more rest (or_right first.closed later.closed parts) all,
+      ap (λ (o : Output). output_with o more) both ∙ with_assoc first later more,
+      λ closed. absurd (false≢true (sym (or_left first.closed later.closed parts) ∙ closed)),
+    )
+
+-- these frames came, and what they brought was counted and written
+pub record HasHeard {S : Type 0} (receives : Receiving S) (now : ℕ) (old : Endpoint S) (frames : List Frame) (new : Endpoint S) (served served' : Served)
+    (held held' : Option (List ℕ)) : Type 0 where
+  pub output : Output
+  pub hears : HearsAll receives now old frames output new
+  pub counted : Counts served output served'
+  pub written : AreWritten held held' output.frames
+
+-- the same, where the last write failed
+pub record HasHeardPartly {S : Type 0} (receives : Receiving S) (now : ℕ) (old : Endpoint S) (frames : List Frame) (new : Endpoint S)
+    (served served' : Served) (held held' : Option (List ℕ)) : Type 0 where
+  pub output : Output
+  pub hears : HearsAll receives now old frames output new
+  pub counted : Counts served output served'
+  pub written : ArePartlyWritten held held' output.frames
+
+-- what was counted is within the largest number
+abbrev pub IsWithin : Served → Type 0
+IsWithin s = (s.fragments ≤ most) × (s.faults ≤ most)
+
+pub has_heard_none : {S : Type 0} (receives : Receiving S) (now : ℕ) (old : Endpoint S) (served : Served) (held : Option (List ℕ)) → IsWithin served
+    → HasHeard receives now old [] old served served held held
+has_heard_none receives now old served held within = record {
+  output = no_output;
+  hears = (refl, refl);
+  counted = record { fragments = omega (arith, within.0); faults = omega (arith, within.1); closed = sym (or_none served.closed) };
+  written = record { octets = []; spelled = spelled_none; appended = Appends-nil held };
+}
+
+pub has_heard_more : {S : Type 0} (receives : Receiving S) (now : ℕ) (old mid new : Endpoint S) (frames all : List Frame) (frame : Frame)
+    (s t u brought : Served) (a b c : Option (List ℕ)) (octets : List ℕ)
+    → HasHeard receives now old frames mid s t a b → t.closed ≡ false → all ≡ frames ++ frame ∷ [] → HearsTo receives now mid frame new brought octets
+    → Adds t brought u → Appends b c octets
+    → HasHeard receives now old all new s u a c
+has_heard_more receives now old mid new frames all frame s t u brought a b c octets before open_still are one adds written = record {
+  output = output_with before.output one.output;
+  hears =
+      subst (λ (fs : List Frame). HearsAll receives now old fs (output_with before.output one.output) new) (sym are)
+      (hears_more receives now old mid new frames frame before.output one.output before.hears
+      (or_right s.closed before.output.closed (sym before.counted.closed ∙ open_still)) one.hearing);
+  counted = counts_more s t u before.output one.output before.counted (adds one.output one.counted);
+  written =
+      written_more a b c before.output.frames one.output.frames before.written
+      record { octets = octets; spelled = one.spelled; appended = written };
+}
+
+pub has_heard_part : {S : Type 0} (receives : Receiving S) (now : ℕ) (old mid new : Endpoint S) (frames all : List Frame) (frame : Frame)
+    (s t u brought : Served) (a b c : Option (List ℕ)) (octets part rest : List ℕ)
+    → HasHeard receives now old frames mid s t a b → t.closed ≡ false → all ≡ frames ++ frame ∷ [] → HearsTo receives now mid frame new brought octets
+    → Adds t brought u → octets ≡ part ++ rest → Appends b c part
+    → HasHeardPartly receives now old all new s u a c
+has_heard_part receives now old mid new frames all frame s t u brought a b c octets part rest before open_still are one adds split written = record {
+  output = output_with before.output one.output;
+  hears =
+      subst (λ (fs : List Frame). HearsAll receives now old fs (output_with before.output one.output) new) (sym are)
+      (hears_more receives now old mid new frames frame before.output one.output before.hears
+      (or_right s.closed before.output.closed (sym before.counted.closed ∙ open_still)) one.hearing);
+  counted = counts_more s t u before.output one.output before.counted (adds one.output one.counted);
+  written =
+      written_part a b c before.output.frames one.output.frames before.written
+      record { written = part; unwritten = rest; spelled = subst (λ (t : List ℕ). AreSpelled one.output.frames t) split one.spelled; appended = written };
+}
+
+-- what a write of spelled frames leaves, whole or not
+pub whole_or_part : (result : Result (Unit {0}) NotWritten) (frames : List Frame) (octets given : List ℕ) (held held' : Option (List ℕ))
+    → AreSpelled frames octets → given ≡ octets
+    → OnOk result (Appends held held' given) → OnErr result ((part : List ℕ) × (rest : List ℕ) × (given ≡ part ++ rest) × Appends held held' part)
+    → MatchResult result (λ _. AreWritten held held' frames) (λ _. ArePartlyWritten held held' frames)
+whole_or_part (Ok done) frames octets given held held' spelled same whole part =
+    record { octets = octets; spelled = spelled; appended = subst (λ (t : List ℕ). Appends held held' t) same whole }
+whole_or_part (Err fault) frames octets given held held' spelled same whole (part, rest, split, appended) = record {
+  written = part;
+  unwritten = rest;
+  spelled = subst (λ (t : List ℕ). AreSpelled frames t) (sym same ∙ split) spelled;
+  appended = appended;
+}

@@ -1,0 +1,54 @@
+-- What a master has taken or relayed where its call was not refused, and what a stream sees of it.
+use Rattle.std.specs.Prelude.{◌≡◌, ℕ, ◌<◌, false, List, Result, Ok, Err, IfErr, IfOk, OnOk, length, option_to_list, slice_set}
+use Rattle.std.proofs.Common.{refl, ap, ◌∙◌}
+use Rattle.dnp_objects.specs.declared.row.Row.{Row}
+use Rattle.dnp_controls.specs.declared.book.BookFault.{BookFault}
+use Rattle.dnp_controls.specs.declared.book.Entry.{Entry}
+use Rattle.dnp_master.specs.Calls.{Taking, actions_of}
+use Rattle.dnp_master.specs.declared.actions.MasterActions.{MasterActions}
+use Rattle.dnp_eventbuf.specs.Stock.{Stock}
+use Rattle.dnp_outstation.specs.State.{Core}
+use Rattle.dnp_concentrator.specs.Below.{link_in}
+use Rattle.dnp_concentrator.specs.Relayed.{Tells}
+use Rattle.dnp_concentrator.specs.Relaying.{Relaying, relaying_after, step_of}
+use Rattle.dnp_concentrator.specs.declared.relayed.Relayed.{Relayed}
+use Rattle.dnp_concentrator.specs.declared.span.Spans.{Spans}
+use Rattle.dnp_streams.specs.streams.Asking.{RelaysBelow, Stepped}
+use Rattle.dnp_streams.specs.streams.Concentrators.{BelowSeen}
+use Rattle.dnp_streams.specs.streams.Masters.{answer_taking}
+use Rattle.dnp_streams.specs.streams.Stations.{Answer}
+
+-- the call came to an end, so something is taken
+pub taken : {A T E : Type 0} (r : Result T E) (a : A) → IfErr r (λ fault. ◌≡◌ {A = Result A E} (Ok a) (Err fault)) → (t : T) × (r ≡ Ok t)
+taken (Ok t) a refused = (t, refl)
+taken (Err e) a refused = absurd (let is = refused in cc)
+
+-- the answer is that of the taking
+pub answered : (answer : Answer) (actions : MasterActions) (t : Taking) (dropped : List Row)
+    → answer ≡ record { send = option_to_list actions.send; close = false; taken = actions.taken; outcome = actions.outcome }
+    → actions ≡ actions_of t dropped → answer ≡ answer_taking t
+answered answer actions t dropped is by =
+    is ∙ ap (λ (a : MasterActions). record { send = option_to_list a.send; close = false; taken = a.taken; outcome = a.outcome }) by
+
+-- a link of a concentrator is seen as its parts are
+pub seen : (link : ℕ) (links links' : List Relaying) (core core' : Core) (indices indices' : List Spans) (queue queue' : Stock)
+    → links ≡ links' → core ≡ core' → indices ≡ indices' → queue ≡ queue'
+    → ◌≡◌ {A = BelowSeen} record { link = link; links = links; core = core; indices = indices; queue = queue }
+    record { link = link; links = links'; core = core'; indices = indices'; queue = queue' }
+seen link links links' core core' indices indices' queue queue' links_are core_is indices_are queue_is =
+    ap (λ (ls : List Relaying). record { link = link; links = ls; core = core; indices = indices; queue = queue }) links_are
+    ∙ ap (λ (k : Core). record { link = link; links = links'; core = k; indices = indices; queue = queue }) core_is
+    ∙ ap (λ (spans : List Spans). record { link = link; links = links'; core = core'; indices = spans; queue = queue }) indices_are
+    ∙ ap (λ (q : Stock). record { link = link; links = links'; core = core'; indices = indices'; queue = q }) queue_is
+
+-- a step of relaying below is seen as its parts are
+pub relayed_below : (result : Result Relayed BookFault) (entries : List Entry) (now link : ℕ) (links links' : List Relaying) (core core' : Core)
+    (indices indices' : List Spans) (queue queue' : Stock)
+    → link < length links → IfOk result (λ relayed. Tells (link_in links link).master.seq (step_of (link_in links link) entries link) relayed)
+    → OnOk result (links' ≡ slice_set links link (relaying_after (link_in links link) now (step_of (link_in links link) entries link)))
+    → core' ≡ core → indices' ≡ indices → queue' ≡ queue
+    → IfOk result (λ relayed. RelaysBelow (record { link = link; links = links; core = core; indices = indices; queue = queue }) now relayed
+    (record { link = link; links = links'; core = core'; indices = indices'; queue = queue' }))
+relayed_below (Ok relayed) entries now link links links' core core' indices indices' queue queue' there told set core_is indices_are queue_is =
+    Stepped there entries told (seen link links' _ core' core indices' indices queue' queue set core_is indices_are queue_is)
+relayed_below (Err fault) entries now link links links' core core' indices indices' queue queue' there told set core_is indices_are queue_is = told

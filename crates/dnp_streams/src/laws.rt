@@ -1,0 +1,55 @@
+//! Laws of the words of `specs/`: each function does nothing, and its contract is a law.
+ghost use Rattle.std.specs.Prelude.{◌≡◌, ℕ, Bool, List, []};
+ghost use Rattle.dnp_linkframe.specs.declared.frame.Frame.{Frame as FrameValue};
+ghost use Rattle.dnp_linkframe.specs.Stream.{Gives};
+ghost use Rattle.dnp_streams.specs.AnswerLine.{IsPrinted};
+ghost use Rattle.dnp_streams.specs.streams.Spelled.{AreSpelled};
+ghost use Rattle.dnp_streams.specs.streams.OneWay.{OpensOneWay, ReceivesOneWay, OneOutput};
+ghost use Rattle.dnp_streams.specs.streams.Outstations.{IsOpened, Receives, ShowOneWay};
+
+use crate::stream::Station;
+use dnp_controls::{NoOutputs, Outputs, PlainOutputs};
+use dnp_line::laws as lines;
+use dnp_linkframe::laws as frames;
+use dnp_transport::laws as segments;
+
+/// What is printed, and whether the text was a frame, is a function of the text and the two addresses.
+pub fn one_answer()
+    ensures { (text : List ℕ) (own peer : ℕ) (line other : List ℕ) (accepted accepted' : Bool) →
+        IsPrinted text own peer line accepted → IsPrinted text own peer other accepted' → (line ≡ other) × (accepted ≡ accepted') }
+{
+    frames::a_frame_has_one_spelling();
+    frames::a_unit_spells_one_frame();
+    frames::a_spelling_has_no_fault();
+    frames::a_unit_has_one_first_fault();
+    segments::one_fragment();
+}
+
+/// What is written to a stream is a function of the octets that are read from it, of the station, the port and the
+/// moment, where the station refuses nothing, and its steps come out in one way.
+pub fn one_output<S: Station>()
+    ensures { OpensOneWay S.opens → ReceivesOneWay S.receives → OneOutput S.opens S.receives }
+{
+    lines::a_port_takes_in_one_way();
+    frames::a_stream_gives_one_answer();
+    frames::a_frame_has_one_spelling();
+}
+
+/// The octets in which frames are written to a stream give its peer these frames, and nothing waits.
+pub fn what_is_written_is_read()
+    ensures { (frames : List FrameValue) (octets : List ℕ) → AreSpelled frames octets → Gives octets frames [] }
+{
+    frames::joined_spellings_give_their_frames();
+}
+
+/// The steps of an outstation come out in one way, where what its outputs show does.
+pub fn an_outstation_comes_out_in_one_way<O: Outputs>()
+    ensures opens { OpensOneWay IsOpened }
+    ensures receives { ShowOneWay O.panel O.performs → ReceivesOneWay (Receives O.panel O.performs) }
+{}
+
+/// What outputs in memory show after commands comes out in one way. So does what no outputs show.
+pub fn plain_outputs_show_one_way()
+    ensures plain { ShowOneWay ⟦<PlainOutputs as Outputs>⟧.panel ⟦<PlainOutputs as Outputs>⟧.performs }
+    ensures none { ShowOneWay ⟦<NoOutputs as Outputs>⟧.panel ⟦<NoOutputs as Outputs>⟧.performs }
+{}

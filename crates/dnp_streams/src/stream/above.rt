@@ -1,0 +1,75 @@
+//! The outstation of a concentrator, towards the station above, on a stream.
+
+ghost use Rattle.std.specs.Prelude.{◌≡◌};
+ghost use Rattle.dnp_streams.specs.streams.Lent.{lent_above};
+
+use crate::stream::outstation::answer_with;
+use crate::stream::station::{Answer, Station, StationFault};
+use dnp_concentrator::{Cause, Concentrator};
+use dnp_controls::Book;
+use dnp_eventbuf::Lanes;
+use dnp_outstation::Actions;
+use std::alloc::Global;
+
+/// The outstation of a lent concentrator.
+#[derive(Drop)]
+pub struct Above<'a, Q, B> {
+    /// The concentrator.
+    concentrator: &'a mut Concentrator<Q, B>,
+}
+
+impl<'a, Q: Lanes, B: Book> Above<'a, Q, B> {
+    /// The outstation of the concentrator.
+    pub fn new(concentrator: &'a mut Concentrator<Q, B>) -> Self
+        ensures lent { (lent_above result).now ≡ concentrator.old }
+        ensures same_reference { (lent_above result).ghost_name ≡ concentrator.entry.ghost_name }
+    {
+        Above { concentrator }
+    }
+}
+
+impl<'a, Q: Lanes, B: Book> Station for Above<'a, Q, B> {
+    ghost use Rattle.dnp_concentrator.specs.BookOutputs.{Performs, panel_of};
+    ghost use Rattle.dnp_concentrator.specs.Concentrator.{IsBookWell, queue_of};
+    ghost use Rattle.dnp_streams.specs.streams.Dialogues.{asks_nothing};
+    ghost use Rattle.dnp_streams.specs.streams.Outstations.{Seen, IsOpened, Receives, hung_up_of};
+    ghost use Rattle.dnp_streams.specs.streams.Concentrators.{above_seen};
+    ghost use Rattle.dnp_streams.specs.streams.Lent.{lent_above};
+
+    ghost State = { Seen };
+
+    ghost state = { λ s. above_seen Q.contents B.contents (lent_above s).now };
+
+    ghost honest = { λ s. Q.honest (queue_of (lent_above s).now) × IsBookWell B.honest B.is_stopped (lent_above s).now };
+
+    ghost opens = { IsOpened };
+
+    ghost receives = { Receives (panel_of B.contents) (Performs B.contents) };
+
+    ghost asking = { asks_nothing };
+
+    ghost hung_up_of = { hung_up_of };
+
+    fn opened(&mut self, alloc: Global, now: u64) -> Result<Answer, StationFault> {
+        let mut actions = Actions::none(alloc);
+        match self.concentrator.opened_above(&mut actions, alloc, now) {
+            Ok(()) => Ok(answer_with(actions)),
+            Err(fault) => Err(StationFault::Cause(Cause::from(fault))),
+        }
+    }
+
+    fn receive(&mut self, alloc: Global, now: u64, octets: &[u8]) -> Result<Answer, StationFault> {
+        let mut actions = Actions::none(alloc);
+        match self
+            .concentrator
+            .receive_above(&mut actions, alloc, now, octets)
+        {
+            Ok(()) => Ok(answer_with(actions)),
+            Err(fault) => Err(StationFault::Cause(Cause::from(fault))),
+        }
+    }
+
+    fn hung_up(&mut self) {
+        self.concentrator.hung_up_above();
+    }
+}

@@ -1,0 +1,297 @@
+//! Tasks that are asked on a stream.
+
+ghost use Rattle.std.specs.Prelude.{◌≡◌, [], ◌∷◌, true, false, Ok};
+ghost use Rattle.dnp_linkframe.specs.declared.frame.Frame.{Frame as FrameValue};
+ghost use Rattle.dnp_streams.specs.streams.Dialogues.{Dialogue, Makes, Step, heard_in};
+ghost use Rattle.dnp_streams.specs.streams.Logs.{new_log};
+ghost use Rattle.dnp_streams.specs.streams.Serving.{IsLeft, IsNoted};
+ghost use Rattle.dnp_streams.specs.streams.Stations.{endpoint};
+ghost use Rattle.dnp_streams.specs.streams.Talking.{Talks};
+ghost use Rattle.dnp_streams.specs.steps.Talking.{AreNoted, IsFresh, Listens, Puts, Turns, dialogue_of, told_by};
+
+use crate::stream::asked::Asked;
+use crate::stream::asker::Asker;
+use crate::stream::asking::{go_to, hear_to, open_to};
+use crate::stream::log::{Log, read_noted, write_noted};
+use crate::stream::outgoing::Outgoing;
+use crate::stream::progress::Progress;
+use crate::stream::serve::ServeFault;
+use dnp_line::Port;
+use dnp_linkframe::{Frame, FrameReader, MAX_UNIT};
+use dnp_master::Task;
+use std::alloc::Global;
+use std::io::{Read, Write};
+
+/// While the station is idle, asks and relays, and writes what each step sends. Whether the dialogue stops.
+fn go_on<S: Asker, W: Write>(
+    alloc: Global,
+    station: &mut S,
+    port: &mut Port,
+    now: u64,
+    out: &mut W,
+    progress: &mut Progress<'_>,
+    log: &mut Log,
+) -> Result<bool, ServeFault>
+    requires { progress.old.is_begun ≡ true }
+    ensures held { S.honest station.new → S.honest station.old }
+    ensures turns { S.honest station.new → Turns S.opens S.receives S.asking now (dialogue_of (S.state station.old) port.old progress.old) []
+        result (W.contents out.old) (W.contents out.new) (dialogue_of (S.state station.new) port.new progress.new) }
+    ensures listens { result ≡ Ok false → Listens S.asking.is_idle (S.state station.new) progress.new }
+    ensures noted { AreNoted result log.old log.new }
+{
+    let mut octets = Outgoing::new();
+    for _ in 0..u64::MAX {
+        if progress.is_over {
+            return Ok(true);
+        }
+        if !station.idle() {
+            return Ok(false);
+        }
+        go_to(alloc, station, port, now, &mut octets, progress);
+        match write_noted(&octets, out, log) {
+            Ok(()) => {}
+            Err(_) => return Err(ServeFault::WriteFailed),
+        }
+    }
+    Ok(true)
+}
+
+/// Writes what a step sent, and goes on. Whether the dialogue stops.
+fn finish<S: Asker, W: Write>(
+    alloc: Global,
+    station: &mut S,
+    port: &mut Port,
+    now: u64,
+    octets: &[u8],
+    out: &mut W,
+    progress: &mut Progress<'_>,
+    log: &mut Log,
+) -> Result<bool, ServeFault>
+    requires { progress.old.is_begun ≡ true }
+    ensures held { S.honest station.new → S.honest station.old }
+    ensures turns { S.honest station.new → (before : Dialogue S.State) (step : Step) → before.is_over ≡ false
+        → Puts (λ sent. Makes S.opens S.receives S.asking now before step sent (dialogue_of (S.state station.old) port.old progress.old)) octets.now
+        → Turns S.opens S.receives S.asking now before (heard_in (step ∷ []))
+        result (W.contents out.old) (W.contents out.new) (dialogue_of (S.state station.new) port.new progress.new) }
+    ensures listens { result ≡ Ok false → Listens S.asking.is_idle (S.state station.new) progress.new }
+    ensures noted { AreNoted result log.old log.new }
+{
+    match write_noted(octets, out, log) {
+        Ok(()) => {}
+        Err(_) => return Err(ServeFault::WriteFailed),
+    }
+    go_on(alloc, station, port, now, out, progress, log)
+}
+
+/// Opens the station, writes what that sends, and goes on. Whether the dialogue stops.
+fn begin<S: Asker, W: Write>(
+    alloc: Global,
+    station: &mut S,
+    port: &mut Port,
+    now: u64,
+    out: &mut W,
+    progress: &mut Progress<'_>,
+    log: &mut Log,
+) -> Result<bool, ServeFault>
+    requires begun { progress.old.is_begun ≡ false }
+    requires goes_on { progress.old.is_over ≡ false }
+    ensures held { S.honest station.new → S.honest station.old }
+    ensures turns { S.honest station.new → Turns S.opens S.receives S.asking now (dialogue_of (S.state station.old) port.old progress.old) []
+        result (W.contents out.old) (W.contents out.new) (dialogue_of (S.state station.new) port.new progress.new) }
+    ensures listens { result ≡ Ok false → Listens S.asking.is_idle (S.state station.new) progress.new }
+    ensures noted { AreNoted result log.old log.new }
+{
+    match progress.asked.make_room() {
+        Ok(()) => {}
+        Err(_) => return Err(ServeFault::Memory),
+    }
+    let mut octets = Outgoing::new();
+    open_to(alloc, station, port, now, &mut octets, progress);
+    finish(alloc, station, port, now, &octets, out, progress, log)
+}
+
+/// Hears a frame, writes what that sends, and goes on. Whether the dialogue stops.
+fn hear_one<S: Asker, W: Write>(
+    alloc: Global,
+    station: &mut S,
+    port: &mut Port,
+    now: u64,
+    frame: &Frame,
+    out: &mut W,
+    progress: &mut Progress<'_>,
+    log: &mut Log,
+) -> Result<bool, ServeFault>
+    requires { Listens S.asking.is_idle (S.state station.old) progress.old }
+    ensures held { S.honest station.new → S.honest station.old }
+    ensures turns { S.honest station.new → Turns S.opens S.receives S.asking now (dialogue_of (S.state station.old) port.old progress.old) (frame.now ∷ [])
+        result (W.contents out.old) (W.contents out.new) (dialogue_of (S.state station.new) port.new progress.new) }
+    ensures listens { result ≡ Ok false → Listens S.asking.is_idle (S.state station.new) progress.new }
+    ensures noted { AreNoted result log.old log.new }
+{
+    match progress.asked.make_room() {
+        Ok(()) => {}
+        Err(_) => return Err(ServeFault::Memory),
+    }
+    let mut octets = Outgoing::new();
+    hear_to(alloc, station, port, now, frame, &mut octets, progress);
+    finish(alloc, station, port, now, &octets, out, progress, log)
+}
+
+/// Hears frames, one after the other. Whether the dialogue stops.
+fn hear_each<S: Asker, W: Write>(
+    alloc: Global,
+    station: &mut S,
+    port: &mut Port,
+    now: u64,
+    frames: &[Frame],
+    out: &mut W,
+    progress: &mut Progress<'_>,
+    log: &mut Log,
+) -> Result<bool, ServeFault>
+    requires { Listens S.asking.is_idle (S.state station.old) progress.old }
+    ensures held { S.honest station.new → S.honest station.old }
+    ensures turns { S.honest station.new → Turns S.opens S.receives S.asking now (dialogue_of (S.state station.old) port.old progress.old) frames.now
+        result (W.contents out.old) (W.contents out.new) (dialogue_of (S.state station.new) port.new progress.new) }
+    ensures listens { result ≡ Ok false → Listens S.asking.is_idle (S.state station.new) progress.new }
+    ensures noted { AreNoted result log.old log.new }
+{
+    for frame in frames {
+        match hear_one(alloc, station, port, now, frame, out, progress, log) {
+            Ok(false) => {}
+            Ok(true) => return Ok(true),
+            Err(fault) => return Err(fault),
+        }
+    }
+    Ok(false)
+}
+
+/// Asks on a stream; a fault leaves the station open.
+fn ask_on<S: Asker, R: Read, W: Write>(
+    alloc: Global,
+    station: &mut S,
+    port: &mut Port,
+    now: u64,
+    reader: &mut R,
+    out: &mut W,
+    turns: u64,
+    progress: &mut Progress<'_>,
+    log: &mut Log,
+) -> Result<(), ServeFault>
+    requires fresh { IsFresh progress.old }
+    requires log { log.old ≡ new_log }
+    ensures held { S.honest station.new → S.honest station.old }
+    ensures talks { S.honest station.new → Talks S.opens S.receives S.asking now turns (endpoint (S.state station.old) port.old) progress.old.left.now
+        (R.remaining reader.old) (R.remaining reader.new) (W.contents out.old) (W.contents out.new)
+        (told_by result progress.new.asked) (endpoint (S.state station.new) port.new) }
+    ensures noted { IsNoted turns result log.new }
+{
+    match begin(alloc, station, port, now, out, progress, log) {
+        Ok(false) => {}
+        Ok(true) => return Ok(()),
+        Err(fault) => return Err(fault),
+    }
+    let mut stream = FrameReader::new();
+    let mut frames = Vec::new(alloc);
+    let mut piece = [0; MAX_UNIT];
+    for _ in 0..turns {
+        let count = match read_noted(reader, &mut piece, log) {
+            Ok(count) => count,
+            Err(_) => return Err(ServeFault::ReadFailed),
+        };
+        if count == 0 {
+            return Ok(());
+        }
+        frames.clear();
+        match stream.feed(&piece[..count], &mut frames) {
+            Ok(()) => {}
+            Err(_) => return Err(ServeFault::Memory),
+        }
+        match hear_each(alloc, station, port, now, &frames, out, progress, log) {
+            Ok(false) => {}
+            Ok(true) => return Ok(()),
+            Err(fault) => return Err(fault),
+        }
+    }
+    Err(ServeFault::TurnsSpent)
+}
+
+/// Asks tasks on a stream as [`ask_stream`] does, and notes in a new log what it asked of the reader and the writer.
+pub fn ask_noted<S: Asker, R: Read, W: Write>(
+    alloc: Global,
+    station: &mut S,
+    port: &mut Port,
+    now: u64,
+    tasks: &[Task],
+    reader: &mut R,
+    out: &mut W,
+    turns: u64,
+    log: &mut Log,
+) -> Result<Asked, ServeFault>
+    requires { log.old ≡ new_log }
+    ensures held { S.honest station.new → S.honest station.old }
+    ensures talks { S.honest station.new → (ended : S.State) × IsLeft S.hung_up_of result ended (S.state station.new)
+        × Talks S.opens S.receives S.asking now turns (endpoint (S.state station.old) port.old) tasks.now
+        (R.remaining reader.old) (R.remaining reader.new) (W.contents out.old) (W.contents out.new) result (endpoint ended port.new) }
+    ensures noted { IsNoted turns result log.new }
+{
+    let mut progress = Progress::new(alloc, tasks);
+    match ask_on(
+        alloc,
+        station,
+        port,
+        now,
+        reader,
+        out,
+        turns,
+        &mut progress,
+        log,
+    ) {
+        Ok(()) => Ok(progress.asked),
+        Err(fault) => {
+            station.hung_up();
+            Err(fault)
+        }
+    }
+}
+
+/// Asks the tasks on a stream of octets, one by one, each when the station is idle, and then relays controls until there
+/// is nothing left to relay; meanwhile it hands the station the fragments that come, and writes what it and its port
+/// send, to each frame the link layer's reply first.
+///
+/// A task that is refused is counted, and passed over; a refused step of relaying is counted, and ends the call with Ok.
+/// So does the end of the input, whatever is left to be asked, and a step by which the station closed the connection.
+/// Frames behind the last step are not heard.
+///
+/// A fault is ReadFailed or WriteFailed where the reader or the writer failed, WriteFailed also where the writer took
+/// none of the octets that it was given; TurnsSpent after `turns` reads; or Memory for the frames of what was read last,
+/// or for an outcome. What was written is then a beginning of what was sent, at WriteFailed, and else all of it; and
+/// the station is hung up.
+///
+/// Reader and writer are lent, and nothing is flushed.
+pub fn ask_stream<S: Asker, R: Read, W: Write>(
+    alloc: Global,
+    station: &mut S,
+    port: &mut Port,
+    now: u64,
+    tasks: &[Task],
+    reader: &mut R,
+    out: &mut W,
+    turns: u64,
+) -> Result<Asked, ServeFault>
+    ensures held { S.honest station.new → S.honest station.old }
+    ensures talks { S.honest station.new → (ended : S.State) × IsLeft S.hung_up_of result ended (S.state station.new)
+        × Talks S.opens S.receives S.asking now turns (endpoint (S.state station.old) port.old) tasks.now
+        (R.remaining reader.old) (R.remaining reader.new) (W.contents out.old) (W.contents out.new) result (endpoint ended port.new) }
+{
+    ask_noted(
+        alloc,
+        station,
+        port,
+        now,
+        tasks,
+        reader,
+        out,
+        turns,
+        &mut Log::new(),
+    )
+}

@@ -1,0 +1,70 @@
+//! What became of tasks that were asked on a stream.
+
+ghost use Rattle.std.specs.Prelude.{◌≡◌, ◌+◌, [], ◌++◌, min, OnOk, option_to_list};
+ghost use Rattle.dnp_streams.specs.streams.Counts.{most};
+ghost use Rattle.dnp_streams.specs.streams.Stations.{answer_of};
+ghost use Rattle.dnp_streams.specs.steps.Talking.{HasRoom};
+
+use crate::stream::station::Answer;
+use dnp_master::Outcome;
+use std::alloc::{AllocError, Global};
+
+/// What became of tasks that were asked on a stream.
+#[derive(Debug, Drop)]
+pub struct Asked {
+    /// How many event rows were given to the sink. The count stops at the largest number.
+    pub rows: u64,
+    /// How the tasks came out, in order, those of relayed controls among them.
+    pub outcomes: Vec<Outcome>,
+    /// How many calls the station refused: the opening, a fragment, a task, or a step of relaying. The count stops at
+    /// the largest number.
+    pub faults: u64,
+}
+
+impl Asked {
+    /// Nothing was asked yet.
+    pub(super) fn new(alloc: Global) -> Asked
+        ensures rows { result.rows ≡ 0 }
+        ensures outcomes { result.outcomes.items ≡ [] }
+        ensures faults { result.faults ≡ 0 }
+    {
+        Asked {
+            rows: 0,
+            outcomes: Vec::new(alloc),
+            faults: 0,
+        }
+    }
+
+    /// Makes room for one outcome more.
+    pub(super) fn make_room(&mut self) -> Result<(), AllocError>
+        ensures room { OnOk result (HasRoom self.new) }
+        ensures rows { self.new.rows ≡ self.old.rows }
+        ensures outcomes { self.new.outcomes.items ≡ self.old.outcomes.items }
+        ensures faults { self.new.faults ≡ self.old.faults }
+    {
+        self.outcomes.try_reserve(1)
+    }
+
+    /// Counts the rows of an answer, and keeps the outcome that it may have.
+    pub(super) fn count(&mut self, answer: &Answer)
+        requires { HasRoom self.old }
+        ensures rows { self.new.rows ≡ min (self.old.rows + (answer_of answer.now).taken) most }
+        ensures outcomes { self.new.outcomes.items ≡ self.old.outcomes.items ++ option_to_list (answer_of answer.now).outcome }
+        ensures faults { self.new.faults ≡ self.old.faults }
+    {
+        if let Some(outcome) = answer.outcome {
+            let _kept = self.outcomes.push(outcome);
+        }
+        let taken = u64::try_from(answer.taken).unwrap_or(u64::MAX);
+        self.rows = self.rows.saturating_add(taken);
+    }
+
+    /// Counts a call that was refused.
+    pub(super) fn refuse(&mut self)
+        ensures rows { self.new.rows ≡ self.old.rows }
+        ensures outcomes { self.new.outcomes.items ≡ self.old.outcomes.items }
+        ensures faults { self.new.faults ≡ min (self.old.faults + 1) most }
+    {
+        self.faults = self.faults.saturating_add(1);
+    }
+}

@@ -1,0 +1,131 @@
+//! One step of a dialogue: the opening, a frame that comes, or a step of the idle station.
+
+ghost use Rattle.std.specs.Prelude.{◌≡◌, [], true, false};
+ghost use Rattle.dnp_streams.specs.streams.Dialogues.{Begins, Hears, Goes};
+ghost use Rattle.dnp_streams.specs.steps.Talking.{HasRoom, Puts, dialogue_of};
+
+use crate::stream::asker::Asker;
+use crate::stream::outgoing::{Outgoing, put_fragments, put_reply, put_request};
+use crate::stream::progress::Progress;
+use crate::stream::station::Station;
+use dnp_concentrator::Relayed;
+use dnp_line::Port;
+use dnp_linkframe::Frame;
+use std::alloc::Global;
+
+/// Opens the station. The octets to be sent take the place of what was there.
+pub(super) fn open_to<S: Station>(
+    alloc: Global,
+    station: &mut S,
+    port: &mut Port,
+    now: u64,
+    out: &mut Outgoing,
+    progress: &mut Progress<'_>,
+)
+    requires { HasRoom progress.old.asked }
+    ensures held { S.honest station.new → S.honest station.old }
+    ensures begins { S.honest station.new → Puts (λ sent. Begins S.opens now (dialogue_of (S.state station.old) port.old progress.old) sent
+        (dialogue_of (S.state station.new) port.new progress.new)) out.new.items }
+    ensures begun { progress.new.is_begun ≡ true }
+{
+    out.clear();
+    progress.is_begun = true;
+    match station.opened(alloc, now) {
+        Ok(answer) => {
+            put_fragments(port, &answer.send, out);
+            progress.asked.count(&answer);
+            progress.is_over = answer.close;
+        }
+        Err(_) => progress.asked.refuse(),
+    }
+}
+
+/// Hands a frame to the port, and the fragment that it completes to the station. The octets to be sent, those of the
+/// link layer's reply first, take the place of what was there.
+pub(super) fn hear_to<S: Station>(
+    alloc: Global,
+    station: &mut S,
+    port: &mut Port,
+    now: u64,
+    frame: &Frame,
+    out: &mut Outgoing,
+    progress: &mut Progress<'_>,
+)
+    requires { HasRoom progress.old.asked }
+    ensures held { S.honest station.new → S.honest station.old }
+    ensures hears { S.honest station.new → Puts (λ sent. Hears S.receives now (dialogue_of (S.state station.old) port.old progress.old) frame.now sent
+        (dialogue_of (S.state station.new) port.new progress.new)) out.new.items }
+    ensures begun { progress.new.is_begun ≡ progress.old.is_begun }
+{
+    let taken = port.take(frame);
+    put_reply(&taken, out);
+    if !taken.whole {
+        return;
+    }
+    match station.receive(alloc, now, port.fragment()) {
+        Ok(answer) => {
+            put_fragments(port, &answer.send, out);
+            progress.asked.count(&answer);
+            progress.is_over = answer.close;
+        }
+        Err(_) => progress.asked.refuse(),
+    }
+}
+
+/// Relays a control, where no task is left. The octets to be sent take the place of what was there.
+fn relay_to<S: Asker>(
+    alloc: Global,
+    station: &mut S,
+    port: &mut Port,
+    now: u64,
+    out: &mut Outgoing,
+    progress: &mut Progress<'_>,
+)
+    requires { progress.old.left.now ≡ [] }
+    ensures held { S.honest station.new → S.honest station.old }
+    ensures goes { S.honest station.new → progress.old.is_over ≡ false → Puts (λ sent. Goes S.asking now (dialogue_of (S.state station.old) port.old progress.old) sent
+        (dialogue_of (S.state station.new) port.new progress.new)) out.new.items }
+    ensures begun { progress.new.is_begun ≡ progress.old.is_begun }
+{
+    out.clear();
+    match station.relay(alloc, now) {
+        Ok(Relayed::Nothing) => progress.is_over = true,
+        Ok(Relayed::Selecting(_, request)) => put_request(port, &request, out),
+        Ok(Relayed::Sent(_, request)) => put_request(port, &request, out),
+        Ok(Relayed::Finished(_, _)) => {}
+        Err(_) => {
+            progress.asked.refuse();
+            progress.is_over = true;
+        }
+    }
+}
+
+/// Asks the first of the tasks that are left, or relays a control where there is none. The octets to be sent take the
+/// place of what was there.
+pub(super) fn go_to<S: Asker>(
+    alloc: Global,
+    station: &mut S,
+    port: &mut Port,
+    now: u64,
+    out: &mut Outgoing,
+    progress: &mut Progress<'_>,
+)
+    ensures held { S.honest station.new → S.honest station.old }
+    ensures goes { S.honest station.new → progress.old.is_over ≡ false → Puts (λ sent. Goes S.asking now (dialogue_of (S.state station.old) port.old progress.old) sent
+        (dialogue_of (S.state station.new) port.new progress.new)) out.new.items }
+    ensures begun { progress.new.is_begun ≡ progress.old.is_begun }
+{
+    match progress.left.split_first() {
+        Some((task, left)) => {
+            progress.left = left;
+            match station.ask(now, *task) {
+                Ok(request) => put_request(port, &request, out),
+                Err(_) => {
+                    out.clear();
+                    progress.asked.refuse();
+                }
+            }
+        }
+        None => relay_to(alloc, station, port, now, out, progress),
+    }
+}

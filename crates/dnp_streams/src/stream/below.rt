@@ -1,0 +1,109 @@
+//! One link of a concentrator to a substation, on a stream.
+
+ghost use Rattle.std.specs.Prelude.{◌≡◌, nat_lt, length};
+ghost use Rattle.dnp_concentrator.specs.Concentrator.{links_of};
+ghost use Rattle.dnp_streams.specs.streams.Lent.{lent_below, substation_of};
+
+use crate::stream::asker::Asker;
+use crate::stream::master::{answer_taking, fault_of, nothing};
+use crate::stream::station::{Answer, Station, StationFault};
+use dnp_concentrator::{Concentrator, Relayed};
+use dnp_controls::{Book, BookFault};
+use dnp_eventbuf::Lanes;
+use dnp_master::{AskFault, Fragment, Task};
+use std::alloc::Global;
+
+/// The link of a lent concentrator to the substation with this number. Where the concentrator's plan has no such
+/// substation, the station takes nothing and does nothing.
+#[derive(Drop)]
+pub struct Below<'a, Q, B> {
+    /// The concentrator.
+    concentrator: &'a mut Concentrator<Q, B>,
+    /// The substation's number.
+    link: u8,
+}
+
+impl<'a, Q: Lanes, B: Book> Below<'a, Q, B> {
+    /// The link of the concentrator to the substation with this number.
+    pub fn new(concentrator: &'a mut Concentrator<Q, B>, link: u8) -> Self
+        ensures lent { (lent_below result).now ≡ concentrator.old }
+        ensures same_reference { (lent_below result).ghost_name ≡ concentrator.entry.ghost_name }
+        ensures substation { substation_of result ≡ link }
+    {
+        Below { concentrator, link }
+    }
+
+    /// Whether the concentrator's plan has the substation.
+    fn is_there(&self) -> bool
+        ensures { result ≡ nat_lt (substation_of self.now) (length (links_of (lent_below self.now).now)) }
+    {
+        usize::from(self.link) < self.concentrator.substations()
+    }
+}
+
+impl<'a, Q: Lanes, B: Book> Station for Below<'a, Q, B> {
+    ghost use Rattle.dnp_concentrator.specs.Concentrator.{book_of, queue_of};
+    ghost use Rattle.dnp_streams.specs.streams.Asking.{below_asking};
+    ghost use Rattle.dnp_streams.specs.streams.Concentrators.{BelowSeen, OpensBelow, BelowReceives, below_hung_up, below_seen};
+    ghost use Rattle.dnp_streams.specs.streams.Lent.{lent_below, substation_of};
+
+    ghost State = { BelowSeen };
+
+    ghost state = { λ s. below_seen Q.contents (lent_below s).now (substation_of s) };
+
+    ghost honest = { λ s. Q.honest (queue_of (lent_below s).now) × B.honest (book_of (lent_below s).now) };
+
+    ghost opens = { OpensBelow };
+
+    ghost receives = { BelowReceives };
+
+    ghost asking = { below_asking };
+
+    ghost hung_up_of = { below_hung_up };
+
+    fn opened(&mut self, _alloc: Global, _now: u64) -> Result<Answer, StationFault> {
+        if self.is_there() {
+            self.concentrator.opened_below(self.link);
+        }
+        Ok(nothing())
+    }
+
+    fn receive(&mut self, alloc: Global, now: u64, octets: &[u8]) -> Result<Answer, StationFault> {
+        if !self.is_there() {
+            return Ok(nothing());
+        }
+        match self
+            .concentrator
+            .receive_below(alloc, self.link, now, octets)
+        {
+            Ok(actions) => Ok(answer_taking(actions)),
+            Err(fault) => Err(fault_of(fault)),
+        }
+    }
+
+    fn hung_up(&mut self) {
+        if self.is_there() {
+            self.concentrator.hung_up_below(self.link);
+        }
+    }
+}
+
+impl<'a, Q: Lanes, B: Book> Asker for Below<'a, Q, B> {
+    fn ask(&mut self, now: u64, task: Task) -> Result<Fragment, AskFault> {
+        if !self.is_there() {
+            return Err(AskFault::Closed);
+        }
+        self.concentrator.ask_below(self.link, now, task)
+    }
+
+    fn relay(&mut self, alloc: Global, now: u64) -> Result<Relayed, BookFault> {
+        if !self.is_there() {
+            return Ok(Relayed::Nothing);
+        }
+        self.concentrator.relay(alloc, self.link, now)
+    }
+
+    fn idle(&self) -> bool {
+        self.is_there() && self.concentrator.idle_below(self.link)
+    }
+}

@@ -1,0 +1,73 @@
+//! What was asked of a reader and a writer. A contract sees the octets of a reader and of a writer, and neither how
+//! often they were called nor why a call failed: the calls of this module, through which a stream goes, write that down.
+
+ghost use Rattle.std.specs.Prelude.{◌≡◌, ℕ, ◌+◌, ◌-◌, ◌^◌, ◌<◌, ◌++◌, true, List, OnOk, OnErr, MatchResult};
+ghost use Rattle.std.specs.Io.{ReadsAtMost};
+ghost use Rattle.std.specs.Io.KnownBytes.{Appends, ReadConsumes};
+ghost use Rattle.dnp_streams.specs.streams.Logs.{new_log};
+
+use crate::writing::{NotWritten, write_out};
+use std::io;
+use std::io::{Read, Write};
+
+/// What was asked of a reader and a writer, and whether one of them failed.
+#[derive(Clone, Copy, Debug, PartialEq, Eq)]
+pub struct Log {
+    /// How often the reader was asked for octets.
+    pub reads: u64,
+    /// Whether it answered with a fault.
+    pub read_failed: bool,
+    /// Whether the writer answered with a fault, or took none of the octets that it was given.
+    pub write_failed: bool,
+}
+
+impl Log {
+    /// Nothing was asked yet.
+    pub fn new() -> Log
+        ensures { result ≡ new_log }
+    {
+        Log {
+            reads: 0,
+            read_failed: false,
+            write_failed: false,
+        }
+    }
+}
+
+/// Asks the reader for octets once, and notes it.
+pub(super) fn read_noted<R: Read>(
+    reader: &mut R,
+    piece: &mut [u8],
+    log: &mut Log,
+) -> io::Result<usize>
+    requires { log.old.reads < 2 ^ 64 - 1 }
+    ensures bound { ReadsAtMost result piece.new }
+    ensures octets { ReadConsumes (R.remaining reader.old) (R.remaining reader.new) result piece.new }
+    ensures noted { MatchResult result (λ _. log.new ≡ record log.old { reads = log.old.reads + 1 })
+        (λ _. log.new ≡ record log.old { reads = log.old.reads + 1; read_failed = true }) }
+{
+    log.reads += 1;
+    let result = reader.read(piece);
+    if result.is_err() {
+        log.read_failed = true;
+    }
+    result
+}
+
+/// Writes all the octets, or a beginning of them where the writer fails, and notes that.
+pub(super) fn write_noted<W: Write>(
+    octets: &[u8],
+    out: &mut W,
+    log: &mut Log,
+) -> Result<(), NotWritten>
+    ensures whole { OnOk result (Appends (W.contents out.old) (W.contents out.new) octets.now) }
+    ensures part { OnErr result ((part rest : List ℕ) × (octets.now ≡ part ++ rest)
+        × Appends (W.contents out.old) (W.contents out.new) part) }
+    ensures noted { MatchResult result (λ _. log.new ≡ log.old) (λ _. log.new ≡ record log.old { write_failed = true }) }
+{
+    let result = write_out(octets, out);
+    if result.is_err() {
+        log.write_failed = true;
+    }
+    result
+}

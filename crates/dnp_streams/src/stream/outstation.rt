@@ -1,0 +1,67 @@
+//! An outstation on a stream.
+
+ghost use Rattle.std.specs.Prelude.{◌≡◌};
+ghost use Rattle.dnp_outstation.specs.Station.{actions_of};
+ghost use Rattle.dnp_streams.specs.streams.Stations.{answer_of};
+ghost use Rattle.dnp_streams.specs.streams.Outstations.{answer_by};
+
+use crate::stream::station::{Answer, Station, StationFault};
+use dnp_concentrator::Cause;
+use dnp_controls::Outputs;
+use dnp_eventbuf::Lanes;
+use dnp_outstation::{Actions, Fault, Outstation};
+use std::alloc::Global;
+
+/// What an outstation does, as an answer: its fragments, and whether it closed the connection. The rows that left its
+/// lanes, and a time that was written, are let go.
+pub(super) fn answer_with(mut actions: Actions) -> Answer
+    ensures { answer_of result ≡ answer_by (actions_of actions) }
+{
+    let close = actions.close;
+    let first = actions.send[0].take();
+    let second = actions.send[1].take();
+    Answer {
+        send: [first, second],
+        close,
+        taken: 0,
+        outcome: None,
+    }
+}
+
+impl<L: Lanes, O: Outputs> Station for Outstation<L, O> {
+    ghost use Rattle.dnp_outstation.specs.Parts.{lanes_of, outputs_of};
+    ghost use Rattle.dnp_streams.specs.streams.Dialogues.{asks_nothing};
+    ghost use Rattle.dnp_streams.specs.streams.Outstations.{Seen, seen_of, IsOpened, Receives, hung_up_of};
+
+    ghost State = { Seen };
+
+    ghost state = { λ s. seen_of L.contents O.panel s };
+
+    ghost honest = { λ s. L.honest (lanes_of s) × O.honest (outputs_of s) };
+
+    ghost opens = { IsOpened };
+
+    ghost receives = { Receives O.panel O.performs };
+
+    ghost asking = { asks_nothing };
+
+    ghost hung_up_of = { hung_up_of };
+
+    fn opened(&mut self, alloc: Global, now: u64) -> Result<Answer, StationFault> {
+        match self.opened(alloc, now) {
+            Ok(actions) => Ok(answer_with(actions)),
+            Err(fault) => Err(StationFault::Cause(Cause::from(fault))),
+        }
+    }
+
+    fn receive(&mut self, alloc: Global, now: u64, octets: &[u8]) -> Result<Answer, StationFault> {
+        match self.receive(alloc, now, octets) {
+            Ok(actions) => Ok(answer_with(actions)),
+            Err(fault) => Err(StationFault::Cause(Cause::from(fault))),
+        }
+    }
+
+    fn hung_up(&mut self) {
+        self.hung_up();
+    }
+}

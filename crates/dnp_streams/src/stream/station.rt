@@ -1,0 +1,81 @@
+//! What a stream needs of a station.
+
+ghost use Rattle.std.specs.Prelude.{◌≡◌, ℕ, ◌<◌, List, length, All, IfOk, OnErr};
+ghost use Rattle.dnp_streams.specs.streams.Dialogues.{Asking};
+ghost use Rattle.dnp_streams.specs.streams.Stations.{Answer as AnswerValue, answer_of};
+
+use dnp_concentrator::Cause;
+use dnp_master::Outcome;
+use dnp_outstation::Fragment;
+use std::alloc::Global;
+use thiserror::Error;
+
+/// What a call of a station answers, beside what it makes of the station.
+#[derive(Drop)]
+pub struct Answer {
+    /// The fragments to be sent, in order.
+    pub send: [Option<Fragment>; 2],
+    /// Whether the station has closed the connection.
+    pub close: bool,
+    /// How many event rows were stored of what came: none by an outstation.
+    pub taken: usize,
+    /// How a task came out with what came, if one did: none does at an outstation.
+    pub outcome: Option<Outcome>,
+}
+
+/// Why a station refused a call.
+#[derive(Clone, Copy, Debug, PartialEq, Eq, Error)]
+pub enum StationFault {
+    /// What came is malformed, or has rows of points that the station doesn't know.
+    #[error("a message that the station can't take")]
+    Message,
+    /// One of its stores refused it, or memory did.
+    #[error("{0}")]
+    Cause(Cause),
+}
+
+/// A station that serves a stream of octets through a port: an outstation, or a master with a sink.
+///
+/// What a call promises of the station's state holds where the station is honest as the call ends. A refused call
+/// changes nothing and sends nothing. Moments are in milliseconds.
+pub trait Station {
+    /// What the steps of the station know of it.
+    ghost State: { Type 0 };
+
+    /// The state that it is in.
+    ghost state: { Self → State };
+
+    /// So far its stores have given back what was written to them.
+    ghost honest: { Self → Type 0 };
+
+    /// At this moment an opening answers this, and makes the second state of the first.
+    ghost opens: { State → ℕ → AnswerValue → State → Type 0 };
+
+    /// At this moment a fragment of these octets is answered this, and makes the second state of the first.
+    ghost receives: { State → ℕ → List ℕ → AnswerValue → State → Type 0 };
+
+    /// What a hang-up makes of a state.
+    ghost hung_up_of: { State → State };
+
+    /// How it asks and relays, and when it is idle, where it is an `Asker`.
+    ghost asking: { Asking State };
+
+    /// A connection begins.
+    fn opened(&mut self, alloc: Global, now: u64) -> Result<Answer, StationFault>
+        ensures held { honest self.new → honest self.old }
+        ensures answered { honest self.new → IfOk result (λ answer. opens (state self.old) now (answer_of answer) (state self.new)) }
+        ensures unchanged { honest self.new → OnErr result (state self.new ≡ state self.old) }
+        ensures some { IfOk result (λ answer. All (λ fragment. 0 < length fragment) (answer_of answer).send) };
+
+    /// A fragment came.
+    fn receive(&mut self, alloc: Global, now: u64, octets: &[u8]) -> Result<Answer, StationFault>
+        ensures held { honest self.new → honest self.old }
+        ensures answered { honest self.new → IfOk result (λ answer. receives (state self.old) now octets.now (answer_of answer) (state self.new)) }
+        ensures unchanged { honest self.new → OnErr result (state self.new ≡ state self.old) }
+        ensures some { IfOk result (λ answer. All (λ fragment. 0 < length fragment) (answer_of answer).send) };
+
+    /// The connection ends.
+    fn hung_up(&mut self)
+        ensures held { honest self.new → honest self.old }
+        ensures hung_up { honest self.new → state self.new ≡ hung_up_of (state self.old) };
+}

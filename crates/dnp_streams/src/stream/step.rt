@@ -1,0 +1,62 @@
+//! One step of a station on a stream: its opening, or a frame that comes.
+
+ghost use Rattle.std.specs.Prelude.{◌≡◌};
+ghost use Rattle.dnp_streams.specs.streams.Stations.{endpoint};
+ghost use Rattle.dnp_streams.specs.steps.Outgoing.{OpensTo, HearsTo};
+
+use crate::stream::outgoing::{Outgoing, put_fragments, put_reply};
+use crate::stream::served::Served;
+use crate::stream::station::Station;
+use dnp_line::Port;
+use dnp_linkframe::Frame;
+use std::alloc::Global;
+
+/// Opens the station, and counts what that brings. The octets to be sent take the place of what was there.
+pub(super) fn open<S: Station>(
+    alloc: Global,
+    station: &mut S,
+    port: &mut Port,
+    now: u64,
+    out: &mut Outgoing,
+) -> Served
+    ensures held { S.honest station.new → S.honest station.old }
+    ensures opened { S.honest station.new → OpensTo S.opens now (endpoint (S.state station.old) port.old)
+        (endpoint (S.state station.new) port.new) result out.new.items }
+{
+    out.clear();
+    match station.opened(alloc, now) {
+        Ok(answer) => {
+            put_fragments(port, &answer.send, out);
+            Served::of(0, 0, answer.close)
+        }
+        Err(_) => Served::of(0, 1, false),
+    }
+}
+
+/// Hands a frame to the port, and the fragment that it completes to the station, and counts what that brings. The octets
+/// to be sent, those of the link layer's reply first, take the place of what was there.
+pub(super) fn hear<S: Station>(
+    alloc: Global,
+    station: &mut S,
+    port: &mut Port,
+    now: u64,
+    frame: &Frame,
+    out: &mut Outgoing,
+) -> Served
+    ensures held { S.honest station.new → S.honest station.old }
+    ensures heard { S.honest station.new → HearsTo S.receives now (endpoint (S.state station.old) port.old) frame.now
+        (endpoint (S.state station.new) port.new) result out.new.items }
+{
+    let taken = port.take(frame);
+    put_reply(&taken, out);
+    if !taken.whole {
+        return Served::of(0, 0, false);
+    }
+    match station.receive(alloc, now, port.fragment()) {
+        Ok(answer) => {
+            put_fragments(port, &answer.send, out);
+            Served::of(1, 0, answer.close)
+        }
+        Err(_) => Served::of(1, 1, false),
+    }
+}
