@@ -181,11 +181,35 @@ done
 mkdir -p unbuilt/crates/dnp
 cp "$dnp" unbuilt/dnp
 cp -r "$top/crates/dnp/help" unbuilt/crates/dnp/help
-for words in '--help:dnp' 'answer --help:answer' 'outstation --help:outstation' '--version:version'; do
+for words in --help:dnp -h:dnp help:dnp --version:version -V:version {answer,loopback,outstation,sim}' --help:' \
+    {answer,loopback,outstation,sim}' -h:' 'help '{answer,loopback,outstation,sim}:; do
+    case $words in
+    *' '*) words=$words$(tr ' ' '\n' <<<"${words%:}" | grep -v -e help -e -h) ;;
+    esac
     got=0
     PATH=/usr/bin:/bin unbuilt/dnp ${words%:*} >out 2>err </dev/null || got=$?
     judge "helps-without-a-build:dnp ${words%:*}" 0 "$(cat "$top/crates/dnp/help/${words#*:}")" "$got"
 done
+
+# Words that are refused: what ./dnp says of them where it is not built is what the program says
+for words in '' foo help\ foo -x answer\ extra 'answer --own=3 y' sim 'sim extra' loopback 'loopback extra' \
+    outstation 'outstation --port 1' 'outstation --plan p x' 'outstation extra'; do
+    "$dnp" $words >want 2>want.err </dev/null
+    wanted=$?
+    got=0
+    PATH=/usr/bin:/bin unbuilt/dnp $words >out 2>err </dev/null || got=$?
+    if [ "$got" = "$wanted" ] && cmp -s want out && cmp -s want.err err; then
+        echo "ok refuses-without-a-build:dnp ${words:-(none)}"
+    else
+        echo "FAILED refuses-without-a-build:dnp ${words:-(none)}"
+        diff want.err err | sed 's/^/    /'
+    fi
+done
+
+got=0
+PATH=/usr/bin:/bin unbuilt/dnp answer --own 3 --far 1 >out 2>err </dev/null || got=$?
+judge refuses-an-option-without-a-build 2 '' "$got"
+grep -q "^error: unexpected argument '--far' found$" err && echo ok names-the-option-without-a-build || echo FAILED names-the-option-without-a-build
 
 # A lost input or output
 : >out
