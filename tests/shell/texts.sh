@@ -1,0 +1,23 @@
+#!/bin/bash
+# The manual page and the completions are those that the help texts make, and complete what they should.
+top=$(cd "$(dirname "${BASH_SOURCE[0]}")/../.." && pwd)
+"$top/tools/texts" --check
+
+. "$top/share/dnp.bash"
+# completes NAME WANTED WORDS..: what may stand for the last of these words
+completes() {
+    local name=$1 wanted=$2
+    shift 2
+    COMP_WORDS=(dnp "$@") COMP_CWORD=$# COMPREPLY=()
+    _dnp
+    if [ "${COMPREPLY[*]}" = "$wanted" ]; then
+        echo "ok $name"
+    else
+        printf 'FAILED %s\n    wanted %s\n    came   %s\n' "$name" "$wanted" "${COMPREPLY[*]}"
+    fi
+}
+completes completes-a-command 'sim' s
+completes completes-options '--plan --station --port --connections --help' outstation ''
+completes completes-the-one-option '--own' answer --o
+completes completes-no-number '' outstation --port ''
+completes completes-help 'answer loopback outstation sim' help ''
