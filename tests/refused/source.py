@@ -210,6 +210,8 @@ def empty(crate, kept):
         texts[path] = text[:function.body] + b"{ unreachable!() }" + text[function.end:]
         parts = function.name.split("::")
         folder = crate.folder.joinpath("proofs", *parts)
+        # (emptied, it calls itself no more)
+        shutil.rmtree(folder.with_name(f"+{parts[-1]}"), ignore_errors=True)
         folder.mkdir(parents=True, exist_ok=True)
         for name in ("Invariants.antt", "Answers.antt"):
             (folder / name).unlink(missing_ok=True)

@@ -1,11 +1,11 @@
-//! Event lanes that overflow, step by step, and the rows that they carry.
+//! Event lanes that overflow, step by step.
 
 ghost use Rattle.std.specs.Prelude.{◌≡◌, true, All};
 ghost use Rattle.dnp_eventbuf.specs.Carried.{IsCarried};
 
 use Step::{Append, Counts, Empty, Offer, Release};
 use dnp_eventbuf::{Lane, LaneRow, Lanes, PlainLanes, StoreFault, Upto, is_carried};
-use dnp_objects::{Kind, Row};
+use dnp_objects::Row;
 use std::alloc::Global;
 use std::test::Fail;
 
@@ -151,40 +151,4 @@ fn lanes_step_by_step(rt: HostRuntime) -> Result<(), Fail> {
         assert!(rt; does(&mut lanes, alloc, *step)?, "step {number}");
     }
     Ok(())
-}
-
-/// The ranges of event objects, and the lane's kind.
-#[test]
-fn rows_that_lanes_carry(rt: HostRuntime) {
-    use Kind::{Analog, Binary, Counter};
-
-    // The lane's number, the row's kind, flags, value and time, and whether it is carried.
-    #[rattlefmt::skip]
-    let cases = [
-        (0, Binary, 0x01, 1, Some(1_000), true),
-        (0, Binary, 0x01, 2, Some(1_000), false),
-        (0, Binary, 0x81, 1, Some(1_000), false),
-        (0, Binary, 0x01, 1, Some(281_474_976_710_656), false),
-        (3, Binary, 0x01, 1, None, true),
-        (1, Counter, 0xFF, 4_294_967_295, Some(281_474_976_710_655), true),
-        (1, Counter, 0xFF, 4_294_967_296, None, false),
-        (7, Counter, 0xFF, -1, None, false),
-        (8, Analog, 0x01, -2_147_483_648, None, true),
-        (2, Analog, 0x01, 2_147_483_648, Some(0), false),
-        (0, Analog, 0x01, -5, None, false),
-    ];
-    for (number, kind, flags, value, time, carried) in cases {
-        let row = Row {
-            kind,
-            index: 1,
-            flags,
-            value,
-            time,
-        };
-        let lane = Lane::numbered(number).expect(&rt, "a lane");
-        assert!(rt;
-            is_carried(&LaneRow { lane, row }) == carried,
-            "{row} in lane {number}"
-        );
-    }
 }

@@ -16,8 +16,6 @@ mod journals;
 #[cfg(test)]
 mod lanes;
 #[cfg(test)]
-mod link_runs;
-#[cfg(test)]
 mod links;
 #[cfg(test)]
 mod masters;
@@ -31,8 +29,6 @@ mod plans;
 mod points;
 #[cfg(test)]
 mod polls;
-#[cfg(test)]
-mod selects;
 #[cfg(test)]
 mod texts;
 #[cfg(test)]

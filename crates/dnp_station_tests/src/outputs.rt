@@ -1,6 +1,6 @@
-//! What outputs answer, show and perform.
+//! What outputs answer, show and perform, and which control codes are performed.
 
-use dnp_controls::{NoOutputs, Outputs, PlainOutputs};
+use dnp_controls::{Outputs, PlainOutputs, obeys_code_rule};
 use dnp_objects::{Command, Status, StoreFault};
 use std::alloc::Global;
 use std::test::Fail;
@@ -16,8 +16,7 @@ pub(crate) fn block(index: u16, code: u8, count: u8) -> Command {
     }
 }
 
-/// Whether a request of these commands is checked and answered so; no statuses where they are too
-/// many.
+/// Whether a request of these commands is checked and answered so.
 fn answers<O: Outputs>(
     outputs: &mut O,
     alloc: Global,
@@ -25,7 +24,7 @@ fn answers<O: Outputs>(
     statuses: &[Status],
 ) -> Result<bool, StoreFault> {
     if commands.len() > outputs.most() {
-        return Ok(statuses.is_empty());
+        return Ok(false);
     }
     for (command, status) in commands.iter().zip(statuses) {
         if outputs.check(command) != *status {
@@ -73,34 +72,24 @@ fn an_output_is_latched_until_it_is_unlatched(rt: HostRuntime) -> Result<(), Fai
 }
 
 #[test]
-fn commands_of_one_request_are_answered_in_order(rt: HostRuntime) -> Result<(), Fail> {
-    let mut outputs = PlainOutputs::new(rt.alloc(), 256, 0);
-    let request = [
-        block(255, 0x03, 1),
-        block(256, 0x03, 1),
-        Command::Set16 { index: 0, value: 1 },
-        block(255, 0x04, 1),
-        block(255, 0x03, 2),
-    ];
-    let statuses = [
-        Status::SUCCESS,
-        Status::NOT_SUPPORTED,
-        Status::NOT_SUPPORTED,
-        Status::SUCCESS,
-        Status::SUCCESS,
-    ];
-    assert!(rt; answers(&mut outputs, rt.alloc(), &request, &statuses)?);
-    assert!(rt; outputs.operated().len() == 3);
-    assert!(rt; shows(&outputs, 256, 255, 0x81) && shows(&outputs, 256, 300, 0x01));
-
-    // Nine are too many.
-    let nine = [block(0, 0x03, 1); 9];
-    assert!(rt; answers(&mut outputs, rt.alloc(), &nine, &[])?);
-    assert!(rt; answers(&mut outputs, rt.alloc(), &nine[..8], &[Status::SUCCESS; 8])?);
-
-    let mut none = NoOutputs;
-    assert!(rt; shows(&none, 0, 0, 0x00));
-    assert!(rt; answers(&mut none, rt.alloc(), &nine[..1], &[Status::NOT_SUPPORTED])?);
-    assert!(rt; answers(&mut none, rt.alloc(), &nine[..2], &[])?);
-    Ok(())
+fn codes_have_their_rule(rt: HostRuntime) {
+    // Code, count, and whether it is performed.
+    for (code, count, performed) in [
+        (0x00, 1, false),
+        (0x01, 1, true),
+        (0x02, 1, true),
+        (0x03, 1, true),
+        (0x04, 1, true),
+        (0x05, 1, false),
+        (0x0F, 1, false),
+        (0x13, 1, false),
+        (0x23, 1, false),
+        (0x41, 1, true),
+        (0x81, 1, true),
+        (0xC1, 1, false),
+        (0x03, 0, false),
+        (0x03, 255, true),
+    ] {
+        assert!(rt; obeys_code_rule(code, count) == performed, "code {code}");
+    }
 }

@@ -1,13 +1,10 @@
-//! Tests of the stores in SQL databases, apart from `dnp_store`, since a crate with tests is proved twice.
+//! Tests of the stores in SQL databases, apart from `dnp_store`, since a crate with tests is proved twice: which
+//! databases they open on. `dnp_store_files` walks them through their calls, in memory too.
 #![tactic(auto)]
 
 #[cfg(test)]
-mod books;
-#[cfg(test)]
 mod forms;
 #[cfg(test)]
-mod journals;
-#[cfg(test)]
-mod queues;
+mod others;
 #[cfg(test)]
 mod spoilt;

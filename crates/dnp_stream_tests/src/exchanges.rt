@@ -38,18 +38,14 @@ const ACKNOWLEDGED: [u8; 47] = [
     0x0A, 0x44, 0x01, 0x00, 0x0A, 0x00, 0x6E, 0x25, 0xC0, 0xC0, 0x81, 0x80, 0x00, 0xB3, 0xF3,
 ];
 
-/// Fragments of two, five and one octets, the last of them 0, and the first again.
-const FRAGMENTS: [u8; 62] = [
+/// A fragment of two octets, and the first of the next unit.
+const FRAGMENT: [u8; 16] = [
     0x05, 0x64, 0x08, 0xC4, 0x0A, 0x00, 0x01, 0x00, 0xFC, 0x42, 0xC0, 0x07, 0x09, 0x81, 0x68, 0x05,
-    0x64, 0x0B, 0xC4, 0x0A, 0x00, 0x01, 0x00, 0xAC, 0xD1, 0xC0, 0x01, 0x02, 0x03, 0x04, 0x05, 0x8A,
-    0x59, 0x05, 0x64, 0x07, 0xC4, 0x0A, 0x00, 0x01, 0x00, 0x1E, 0x06, 0xC0, 0x00, 0xFB, 0x4F, 0x05,
-    0x64, 0x08, 0xC4, 0x0A, 0x00, 0x01, 0x00, 0xFC, 0x42, 0xC0, 0x07, 0x09, 0x81, 0x68,
 ];
 
-/// The first and the third of them, sent back.
-const SENT_BACK: [u8; 29] = [
-    0x05, 0x64, 0x08, 0x44, 0x01, 0x00, 0x0A, 0x00, 0xD9, 0x03, 0xC0, 0x07, 0x09, 0x81, 0x68, 0x05,
-    0x64, 0x07, 0x44, 0x01, 0x00, 0x0A, 0x00, 0x3B, 0x47, 0xC1, 0x00, 0xB5, 0xE4,
+/// The fragment, sent back.
+const SENT_BACK: [u8; 15] = [
+    0x05, 0x64, 0x08, 0x44, 0x01, 0x00, 0x0A, 0x00, 0xD9, 0x03, 0xC0, 0x07, 0x09, 0x81, 0x68,
 ];
 
 /// The READ came, and nothing was refused.
@@ -135,36 +131,6 @@ fn streams_to_an_outstation(rt: HostRuntime) {
     }
 }
 
-/// A station that closes the connection hears nothing behind that; what it refuses is counted.
-#[test]
-fn a_station_that_refuses_and_closes(rt: HostRuntime) {
-    let mut station = Echo { hang_ups: 0 };
-    let mut port = Port::new(10, 1, false);
-    let mut reader = Giving {
-        octets: &FRAGMENTS,
-        most: 300,
-        fails: true,
-    };
-    let mut writer = Taking::new(128);
-    let served = serve_stream(
-        rt.alloc(),
-        &mut station,
-        &mut port,
-        0,
-        &mut reader,
-        &mut writer,
-        9,
-    );
-    let closed = Ok(Served {
-        fragments: 3,
-        faults: 1,
-        closed: true,
-    });
-    assert!(rt;
-        served == closed && writer.taken.as_slice() == SENT_BACK.as_slice() && station.hang_ups == 0
-    );
-}
-
 /// Where the reader fails, what was read before is answered, and the station is hung up.
 #[test]
 fn a_reader_that_fails(rt: HostRuntime) {
@@ -172,7 +138,7 @@ fn a_reader_that_fails(rt: HostRuntime) {
     for (octets, count) in [(0, 0), (14, 0), (15, 15), (16, 15)] {
         let mut port = Port::new(10, 1, false);
         let mut reader = Giving {
-            octets: &FRAGMENTS[..octets],
+            octets: &FRAGMENT[..octets],
             most: 300,
             fails: true,
         };

@@ -4,7 +4,7 @@ ghost use Rattle.dnp_line.specs.Comes.{Comes};
 
 use dnp_line::laws::{comes_after_another, comes_of_more, nothing_comes};
 use dnp_line::{Line, Port};
-use dnp_linkframe::{read_frame, write_frame};
+use dnp_linkframe::read_frame;
 use dnp_transport::segment_count;
 
 /// A reset of the link states from master 1024 to station 1.
@@ -57,45 +57,6 @@ fn carries_a_fragment(rt: HostRuntime) {
     master.sent(2);
     let third = read_frame(&master.unit(&fragment, 0)).expect(&rt, "a frame");
     assert!(rt; third.user.first() == Some(&0x42));
-}
-
-/// A READ of class 1 that master 1024 sends to station 1 as confirmed user data.
-#[rattlefmt::skip]
-const READ: [u8; 18] = [
-    0x05, 0x64, 0x0B, 0xF3, 0x01, 0x00, 0x00, 0x04, 0x29, 0x07,
-    0xC0, 0xC0, 0x01, 0x3C, 0x02, 0x06, 0x54, 0xE0,
-];
-
-/// The acknowledgment of station 1.
-const ACK: [u8; 10] = [0x05, 0x64, 0x05, 0x00, 0x00, 0x04, 0x01, 0x00, 0x19, 0xA6];
-
-/// Its refusal before a reset of the link states.
-const NACK: [u8; 10] = [0x05, 0x64, 0x05, 0x01, 0x00, 0x04, 0x01, 0x00, 0x1F, 0x85];
-
-/// A unit, whether it completes a fragment, and the reply.
-const UNITS: [(&[u8], bool, [u8; 10]); 4] = [
-    (&READ, false, NACK),
-    (&RESET, false, ACK),
-    (&READ, true, ACK),
-    (&READ, false, ACK),
-];
-
-/// Confirmed user data go up once, and a repeat gets its acknowledgment alone.
-#[test]
-fn takes_confirmed_data_once(rt: HostRuntime) {
-    let mut port = Port::new(1, 1024, false);
-    for (step, (unit, whole, reply)) in UNITS.into_iter().enumerate() {
-        let frame = read_frame(unit).expect(&rt, "a frame");
-        let taken = port.take(&frame);
-        assert!(rt; taken.whole == whole, "step {step}");
-        assert!(rt;
-            write_frame(&taken.reply.expect(&rt, "a reply")).as_slice() == reply.as_slice()
-        );
-    }
-    assert!(rt; port.fragment() == [0xC0, 0x01, 0x3C, 0x02, 0x06].as_slice());
-    port.reset();
-    let taken = port.take(&read_frame(&READ).expect(&rt, "a frame"));
-    assert!(rt; taken.reply == read_frame(&NACK).ok());
 }
 
 /// Whether `came` came of `sent`: the relation of the clause as a function that runs, so that a

@@ -1,8 +1,8 @@
-//! Rows and commands, their octets and their words, from worked examples.
+//! Rows and commands and their octets, from worked examples.
 
 use dnp_objects::{
-    Command, Kind, Lane, ObjectFault, Row, Status, object_size, read_command, read_row,
-    write_command, write_row,
+    Command, Kind, ObjectFault, Row, Status, object_size, read_command, read_row, write_command,
+    write_row,
 };
 
 macro_rules! row {
@@ -134,53 +134,4 @@ fn commands(rt: HostRuntime) {
             "{group}.{variation}"
         );
     }
-}
-
-/// Rows, and the words that print them.
-const ROW_WORDS: [(Row, &str); 3] = [
-    (row!(Binary, 0, 0x01, 1, Some(1_000)), "binary 0 1 01 1000"),
-    (
-        row!(Counter, 65_535, 0xAF, 4_294_967_295, None),
-        "counter 65535 4294967295 AF -",
-    ),
-    (row!(Analog, 2, 0x00, -5, Some(0)), "analog 2 -5 00 0"),
-];
-
-/// Commands, and the words that print them.
-const COMMAND_WORDS: [(Command, &str); 3] = [
-    (block!(0, 3, 1, 10, 20), "block 0 3 1 10 20"),
-    (
-        Command::Set16 {
-            index: 7,
-            value: -1,
-        },
-        "set16 7 -1",
-    ),
-    (
-        Command::Set32 {
-            index: 8,
-            value: 65_536,
-        },
-        "set32 8 65536",
-    ),
-];
-
-/// The words of rows and commands, and the lanes by number.
-#[test]
-fn words(rt: HostRuntime) {
-    for (row, words) in ROW_WORDS {
-        assert!(rt; format!(in rt.alloc(); "{row}").expect(&rt, "text").as_str() == words);
-    }
-    for (command, words) in COMMAND_WORDS {
-        assert!(rt;
-            format!(in rt.alloc(); "{command}")
-                .expect(&rt, "text")
-                .as_str()
-                == words
-        );
-    }
-    assert!(rt; Lane::numbered(3) == Lane::new(2, Kind::Binary));
-    assert!(rt; Lane::numbered(8) == Lane::new(3, Kind::Analog));
-    assert!(rt; Lane::numbered(9).is_none());
-    assert!(rt; Lane::new(1, Kind::Analog).expect(&rt, "a lane").number() == 2);
 }

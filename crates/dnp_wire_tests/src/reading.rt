@@ -1,8 +1,6 @@
 //! Worked fragments that are read, and octets that are none.
 
-use dnp_appfragment::{
-    AppFault, Control, Function, Header, Iin, Range, confirm, read_request, read_response,
-};
+use dnp_appfragment::{AppFault, Function, Header, Iin, Range, read_request, read_response};
 use dnp_objects::{Command, Kind, Row, Status};
 
 /// What is no request, its fault, and the fault's number.
@@ -50,40 +48,6 @@ fn faults(rt: HostRuntime) {
     for (case, (octets, fault)) in NO_RESPONSES.into_iter().enumerate() {
         assert!(rt; read_response(octets).err() == Some(fault), "case {case}");
     }
-}
-
-/// Control octets and what they say.
-#[rattlefmt::skip]
-const CONTROLS: [(u8, Control); 3] = [
-    (0xC1, Control { fir: true, fin: true, con: false, uns: false, seq: 1 }),
-    (0xF0, Control { fir: true, fin: true, con: true, uns: true, seq: 0 }),
-    (0xE7, Control { fir: true, fin: true, con: true, uns: false, seq: 7 }),
-];
-
-/// Control octets, confirmations, and internal indications.
-#[test]
-fn octets_of_a_front(rt: HostRuntime) {
-    for (octet, control) in CONTROLS {
-        assert!(rt; Control::read(octet) == control && control.octet() == octet);
-    }
-    assert!(rt; confirm(1, true) == [0xD1, 0x00] && confirm(15, false) == [0xCF, 0x00]);
-    let restart = Iin::DEVICE_RESTART;
-    let iin = restart
-        .with(Iin::CLASS_1_EVENTS)
-        .with(Iin::EVENT_BUFFER_OVERFLOW);
-    assert!(rt;
-        iin == Iin {
-            one: 0x82,
-            two: 0x08
-        } && iin.without(restart)
-            == Iin {
-                one: 0x02,
-                two: 0x08
-            }
-    );
-    assert!(rt;
-        iin.has(Iin::CLASS_1_EVENTS) && !iin.has(Iin::CLASS_1_EVENTS.with(Iin::OBJECT_UNKNOWN))
-    );
 }
 
 macro_rules! header {

@@ -1,0 +1,89 @@
+"""The crates of this repository and of its bench, as crates.txt and bench/crates/crates list them."""
+import os
+import re
+import shutil
+from pathlib import Path
+
+TOP = Path(__file__).resolve().parents[1]
+CRATES = TOP / "crates"
+# Sources stand here as texts, as src/lib.rt.txt.
+BENCH = TOP / "bench/crates"
+# Where copies of crates are made: on the disk of their libraries, which are linked and not copied, and where no source is
+# looked for.
+ROOMS = CRATES / "dnp/out/side"
+KIT = Path(shutil.which("rt") or "/").resolve().parents[1]
+
+
+def listing(path):
+    """Each line that lists a crate, by the crate's name."""
+    lines = path.read_text(encoding="utf-8").split("\n")
+    return {re.split(r"[ :]", line)[0]: line for line in lines if ":" in line and not line.startswith("#")}
+
+
+def lines():
+    return {**listing(TOP / "crates.txt"), **listing(BENCH / "crates")}
+
+
+def uses():
+    """What each crate stands on, libraries of the toolchain too, by its name."""
+    return {name: line.partition(":")[2].split() for name, line in lines().items()}
+
+
+def below(crate, stands_on):
+    """The crates that it stands on, lowest first."""
+    found = []
+    for name in (it for it in stands_on[crate] if it in stands_on):
+        found += [it for it in [*below(name, stands_on), name] if it not in found]
+    return found
+
+
+def side_by_side():
+    """How many checks this machine takes at a time: as many as it has cores, and 3 GiB of memory for each."""
+    free = next(line for line in Path("/proc/meminfo").read_text().split("\n") if line.startswith("MemAvailable:"))
+    return max(1, min(os.cpu_count() or 1, int(free.split()[1]) // 3145728))
+
+
+def check_words(crate, libraries):
+    """The checker's own call for a crate over libraries that `rt ci` left in LIBRARIES/NAME/out/rlib. They have no stamp
+    there, so that `rt check` would build them all again."""
+    stands_on = uses()
+    own = below(crate, stands_on)
+    missing = [name for name in own if not (libraries / name / f"out/rlib/{name}.rlib/format").is_file()]
+    if missing:
+        raise SystemExit(f"no library of {', '.join(missing)} in {libraries}: run `rt ci` first")
+    source = BENCH / crate if (BENCH / crate).is_dir() else CRATES / crate
+    root = "src/main.rt" if any(source.glob("src/main.rt*")) else "src/lib.rt"
+    words = [f"{KIT}/bin/rattle", "check", "--crate-name", crate, root]
+    for name in ["std", *(it for it in stands_on[crate] if it not in stands_on)]:
+        words += ["--extern", f"{name}={KIT}/rlibs/{name}.rlib"]
+    for name in (it for it in stands_on[crate] if it in stands_on):
+        words += ["--extern", f"{name}={libraries}/{name}/out/rlib/{name}.rlib"]
+    for folder in [f"{KIT}/rlibs", *(f"{libraries}/{name}/out/rlib" for name in own)]:
+        words += ["-L", f"dependency={folder}"]
+    if " staticlib:" in lines()[crate]:
+        words += ["--crate-type", "staticlib"]
+    return [*words, "--antt-project", f"{KIT}/rattle/logic/antt-project.json", "--logic-built", f"{KIT}/logic_built"]
+
+
+def copy_of_bench(crate, folder):
+    """Makes a crate of the bench's texts."""
+    shutil.copytree(BENCH / crate, folder)
+    for path in [it for it in folder.rglob("*.txt") if it.is_file()]:
+        path.rename(path.with_suffix(""))
+
+
+def room_of(crate, stands_on, room):
+    """A copy of a crate and of those below it, with their libraries, in which `rt` holds none of this folder's."""
+    shutil.rmtree(room, ignore_errors=True)
+    room.mkdir(parents=True)
+    shutil.copy(TOP / "HANDLES", room)
+    crates, listed = [*below(crate, stands_on), crate], lines()
+    (room / "crates.txt").write_text("".join(f"{listed[it]}\n" for it in crates), encoding="utf-8")
+    for it in crates:
+        if (BENCH / it).is_dir():
+            copy_of_bench(it, room / "crates" / it)
+        # (not what else stands in out/: a lock there is one for all who hold the file)
+        for part in ("src", "specs", "proofs", "out/rlib"):
+            if (CRATES / it / part).is_dir():
+                shutil.copytree(CRATES / it / part, room / "crates" / it / part, copy_function=os.link)
+    return room / "crates" / crate
