@@ -1,0 +1,5 @@
+-- Definitions, by which contracts promise.
+pub mod FragmentLines
+pub mod FrameLines
+pub mod StreamLines
+pub mod steps

@@ -1,0 +1,3 @@
+-- Private steps: words of clauses that no caller sees.
+pub mod Remembered
+pub mod Stepped

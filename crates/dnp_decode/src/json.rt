@@ -1,0 +1,253 @@
+//! The lines as members of JSON objects.
+
+use crate::line::Line;
+use crate::names::{fault_name, function_name, link_function};
+use crate::shown::block_place;
+use dnp_appfragment::{Control, Range};
+use dnp_linkframe::FrameFault;
+use dnp_objects::{Command, Kind, Row, Status};
+use std::fmt;
+use std::fmt::{Display, Formatter, Write};
+
+/// A line as the members of a JSON object, without its braces: `layer` says what it is of, `refused` is there where it
+/// says that something is refused, and the others have the line's numbers.
+#[derive(Clone, Copy)]
+pub struct Members(pub Line);
+
+/// The control octet of a fragment.
+#[derive(Clone, Copy)]
+struct Bits(Control);
+
+impl Display for Bits {
+    fn fmt<W: Write>(&self, f: &mut Formatter<W>) -> fmt::Result {
+        let Control {
+            fir,
+            fin,
+            con,
+            uns,
+            seq,
+        } = self.0;
+        write!(
+            f,
+            "\"seq\":{seq},\"fir\":{fir},\"fin\":{fin},\"con\":{con},\"uns\":{uns}"
+        )
+    }
+}
+
+/// Which objects a header speaks of.
+#[derive(Clone, Copy)]
+struct Objects(Range);
+
+impl Display for Objects {
+    fn fmt<W: Write>(&self, f: &mut Formatter<W>) -> fmt::Result {
+        match self.0 {
+            Range::All => f.write_str("\"range\":\"all\""),
+            Range::Span { first, last, .. } => {
+                write!(f, "\"range\":\"span\",\"first\":{first},\"last\":{last}")
+            }
+            Range::Count { n, .. } => write!(f, "\"range\":\"count\",\"count\":{n}"),
+            Range::Indexed { n, .. } => write!(f, "\"range\":\"indexed\",\"count\":{n}"),
+        }
+    }
+}
+
+/// Why a frame is refused.
+#[derive(Clone, Copy)]
+struct Refusal(FrameFault);
+
+impl Display for Refusal {
+    fn fmt<W: Write>(&self, f: &mut Formatter<W>) -> fmt::Result {
+        match self.0 {
+            FrameFault::Short => f.write_str("\"refused\":\"Short\""),
+            FrameFault::Start => f.write_str("\"refused\":\"Start\",\"octet\":0"),
+            FrameFault::HeaderCheck => f.write_str("\"refused\":\"HeaderCheck\",\"octet\":0"),
+            FrameFault::Length => f.write_str("\"refused\":\"Length\",\"octet\":2"),
+            FrameFault::Size => f.write_str("\"refused\":\"Size\""),
+            FrameFault::BlockCheck(block) => {
+                let place = block_place(block);
+                write!(
+                    f,
+                    "\"refused\":\"BlockCheck\",\"block\":{block},\"octet\":{place}"
+                )
+            }
+        }
+    }
+}
+
+/// A point's reading or event.
+#[derive(Clone, Copy)]
+struct Reading(Row);
+
+impl Display for Reading {
+    fn fmt<W: Write>(&self, f: &mut Formatter<W>) -> fmt::Result {
+        let Row {
+            kind,
+            index,
+            flags,
+            value,
+            time,
+        } = self.0;
+        let kind = match kind {
+            Kind::Binary => "binary",
+            Kind::Counter => "counter",
+            Kind::Analog => "analog",
+        };
+        write!(
+            f,
+            "\"layer\":\"row\",\"kind\":\"{kind}\",\"index\":{index},\"value\":{value},\"flags\":{flags}"
+        )?;
+        match time {
+            Some(time) => write!(f, ",\"time\":{time}"),
+            None => Ok(()),
+        }
+    }
+}
+
+/// A command with its status.
+#[derive(Clone, Copy)]
+struct Told(Command, Status);
+
+impl Display for Told {
+    fn fmt<W: Write>(&self, f: &mut Formatter<W>) -> fmt::Result {
+        let status = self.1.code();
+        match self.0 {
+            Command::Block {
+                index,
+                code,
+                count,
+                on_ms,
+                off_ms,
+            } => write!(
+                f,
+                "\"layer\":\"command\",\"index\":{index},\"code\":{code},\"count\":{count},\"on\":{on_ms},\"off\":{off_ms},\"status\":{status}"
+            ),
+            Command::Set16 { index, value } => write!(
+                f,
+                "\"layer\":\"command\",\"index\":{index},\"set\":{value},\"status\":{status}"
+            ),
+            Command::Set32 { index, value } => write!(
+                f,
+                "\"layer\":\"command\",\"index\":{index},\"set\":{value},\"status\":{status}"
+            ),
+        }
+    }
+}
+
+/// A line of the layers below fragments.
+#[derive(Clone, Copy)]
+struct Carried(Line);
+
+impl Display for Carried {
+    fn fmt<W: Write>(&self, f: &mut Formatter<W>) -> fmt::Result {
+        match self.0 {
+            Line::Noise(octets) => write!(
+                f,
+                "\"layer\":\"frame\",\"refused\":\"Noise\",\"octets\":{octets}"
+            ),
+            Line::Frame {
+                control,
+                dest,
+                source,
+                octets,
+            } => {
+                let function = link_function(control);
+                write!(
+                    f,
+                    "\"layer\":\"frame\",\"source\":{source},\"dest\":{dest},\"control\":{control},\"function\":\"{function}\",\"octets\":{octets}"
+                )
+            }
+            Line::FrameRefused {
+                control,
+                dest,
+                source,
+                fault,
+                ..
+            } => {
+                let refusal = Refusal(fault);
+                write!(
+                    f,
+                    "\"layer\":\"frame\",\"source\":{source},\"dest\":{dest},\"control\":{control},{refusal}"
+                )
+            }
+            Line::Cut(octets) => write!(
+                f,
+                "\"layer\":\"frame\",\"refused\":\"Cut\",\"octets\":{octets}"
+            ),
+            Line::Segment {
+                first,
+                last,
+                number,
+                octets,
+            } => write!(
+                f,
+                "\"layer\":\"transport\",\"fir\":{first},\"fin\":{last},\"number\":{number},\"octets\":{octets}"
+            ),
+            Line::SegmentRefused(octets) => write!(
+                f,
+                "\"layer\":\"transport\",\"refused\":\"Size\",\"octets\":{octets}"
+            ),
+            Line::SeriesDropped => f.write_str("\"layer\":\"transport\",\"refused\":\"Series\""),
+            _ => Ok(()),
+        }
+    }
+}
+
+impl Display for Members {
+    fn fmt<W: Write>(&self, f: &mut Formatter<W>) -> fmt::Result {
+        match self.0 {
+            Line::Request { control, function } => {
+                let bits = Bits(control);
+                let function = function_name(function);
+                write!(
+                    f,
+                    "\"layer\":\"request\",{bits},\"function\":\"{function}\""
+                )
+            }
+            Line::Response {
+                control,
+                function,
+                iin,
+            } => {
+                let bits = Bits(control);
+                let function = function_name(function);
+                let one = iin.one;
+                let two = iin.two;
+                write!(
+                    f,
+                    "\"layer\":\"response\",{bits},\"function\":\"{function}\",\"iin\":[{one},{two}]"
+                )
+            }
+            Line::FragmentRefused { fault, place } => {
+                let fault = fault_name(fault);
+                write!(
+                    f,
+                    "\"layer\":\"fragment\",\"refused\":\"{fault}\",\"octet\":{place}"
+                )
+            }
+            Line::Header {
+                group,
+                variation,
+                range,
+                octets,
+            } => {
+                let objects = Objects(range);
+                write!(
+                    f,
+                    "\"layer\":\"header\",\"group\":{group},\"variation\":{variation},{objects},\"octets\":{octets}"
+                )
+            }
+            Line::Row(row) => {
+                let reading = Reading(row);
+                write!(f, "{reading}")
+            }
+            Line::Command(command, status) => {
+                let told = Told(command, status);
+                write!(f, "{told}")
+            }
+            line => {
+                let carried = Carried(line);
+                write!(f, "{carried}")
+            }
+        }
+    }
+}

@@ -1,0 +1,18 @@
+//! Octets of DNP3 (IEEE Std 1815-2012) decoded for people: a line for each link frame, transport segment, fragment,
+//! object header and object of a stream, and for each thing in it that is refused.
+#![tactic(auto)]
+
+mod decoding;
+mod fragment;
+mod hearing;
+mod json;
+mod line;
+mod names;
+mod ports;
+mod shown;
+mod stream;
+mod time;
+
+pub use decoding::decode;
+pub use json::Members;
+pub use line::Line;

@@ -1,0 +1,216 @@
+//! The lines as texts, in the words of the standard.
+
+use crate::line::Line;
+use crate::names::{fault_name, function_name, link_function};
+use crate::time::Moment;
+use dnp_appfragment::{Control, Range};
+use dnp_linkframe::FrameFault;
+use dnp_objects::{Command, Row, Status};
+use std::fmt;
+use std::fmt::{Display, Formatter, Write};
+
+/// The octets of the header of a frame with its check word: its first block begins behind them.
+const CHECKED_HEADER: usize = 10;
+
+/// The octets of a whole block of user data with its check word.
+const CHECKED_BLOCK: usize = 18;
+
+/// The place of LENGTH in a frame.
+const LENGTH_PLACE: usize = 2;
+
+/// The word, if it is said.
+fn said(set: bool, word: &'static str) -> &'static str {
+    if set { word } else { "" }
+}
+
+/// The sequence number and the bits that are set of a fragment's control octet.
+#[derive(Clone, Copy)]
+struct Bits(Control);
+
+impl Display for Bits {
+    fn fmt<W: Write>(&self, f: &mut Formatter<W>) -> fmt::Result {
+        let seq = self.0.seq;
+        let fir = said(self.0.fir, " fir");
+        let fin = said(self.0.fin, " fin");
+        let con = said(self.0.con, " con");
+        let uns = said(self.0.uns, " uns");
+        write!(f, "seq {seq}{fir}{fin}{con}{uns}")
+    }
+}
+
+/// Which objects a header speaks of.
+#[derive(Clone, Copy)]
+struct Objects(Range);
+
+impl Display for Objects {
+    fn fmt<W: Write>(&self, f: &mut Formatter<W>) -> fmt::Result {
+        match self.0 {
+            Range::All => f.write_str("all"),
+            Range::Span { first, last, .. } => write!(f, "{first}..{last}"),
+            Range::Count { n, .. } | Range::Indexed { n, .. } => write!(f, "x{n}"),
+        }
+    }
+}
+
+/// Why a frame is refused, and at which octet of it.
+#[derive(Clone, Copy)]
+struct Refusal(FrameFault);
+
+/// Where the block of user data begins in a frame.
+pub(crate) fn block_place(block: usize) -> usize {
+    CHECKED_HEADER.saturating_add(block.saturating_mul(CHECKED_BLOCK))
+}
+
+impl Display for Refusal {
+    fn fmt<W: Write>(&self, f: &mut Formatter<W>) -> fmt::Result {
+        match self.0 {
+            FrameFault::Short => f.write_str("Short"),
+            FrameFault::Start => f.write_str("Start at octet 0"),
+            FrameFault::HeaderCheck => f.write_str("HeaderCheck at octet 0"),
+            FrameFault::Length => write!(f, "Length at octet {LENGTH_PLACE}"),
+            FrameFault::Size => f.write_str("Size"),
+            FrameFault::BlockCheck(block) => {
+                let place = block_place(block);
+                write!(f, "BlockCheck {block} at octet {place}")
+            }
+        }
+    }
+}
+
+/// A point's reading or event.
+#[derive(Clone, Copy)]
+struct Reading(Row);
+
+impl Display for Reading {
+    fn fmt<W: Write>(&self, f: &mut Formatter<W>) -> fmt::Result {
+        let Row {
+            index,
+            flags,
+            value,
+            time,
+            ..
+        } = self.0;
+        match time {
+            Some(time) => {
+                let moment = Moment(time);
+                write!(f, "{index} = {value} flags {flags:02X} at {moment}")
+            }
+            None => write!(f, "{index} = {value} flags {flags:02X}"),
+        }
+    }
+}
+
+/// A command with its status.
+#[derive(Clone, Copy)]
+struct Told(Command, Status);
+
+impl Display for Told {
+    fn fmt<W: Write>(&self, f: &mut Formatter<W>) -> fmt::Result {
+        let status = self.1.code();
+        match self.0 {
+            Command::Block {
+                index,
+                code,
+                count,
+                on_ms,
+                off_ms,
+            } => write!(
+                f,
+                "{index} code {code:02X} count {count} on {on_ms} off {off_ms} status {status}"
+            ),
+            Command::Set16 { index, value } => write!(f, "{index} set {value} status {status}"),
+            Command::Set32 { index, value } => write!(f, "{index} set {value} status {status}"),
+        }
+    }
+}
+
+/// A line of the layers below fragments.
+#[derive(Clone, Copy)]
+struct Carried(Line);
+
+impl Display for Carried {
+    fn fmt<W: Write>(&self, f: &mut Formatter<W>) -> fmt::Result {
+        match self.0 {
+            Line::Noise(octets) => write!(f, "{octets} octets skipped: no frame begins there"),
+            Line::Frame {
+                control,
+                dest,
+                source,
+                octets,
+            } => {
+                let function = link_function(control);
+                write!(
+                    f,
+                    "{source}>{dest} {control:02X} {function} {octets} octets, words good"
+                )
+            }
+            Line::FrameRefused {
+                dest,
+                source,
+                fault,
+                ..
+            } => {
+                let refusal = Refusal(fault);
+                write!(f, "{source}>{dest} frame refused: {refusal}")
+            }
+            Line::Cut(octets) => write!(f, "frame refused: {octets} octets, and then the end"),
+            Line::Segment {
+                first,
+                last,
+                number,
+                ..
+            } => {
+                let first = said(first, "FIR ");
+                let last = said(last, "FIN ");
+                write!(f, "transport {first}{last}{number}")
+            }
+            Line::SegmentRefused(octets) => write!(f, "transport refused: {octets} octets"),
+            Line::SeriesDropped => f.write_str("transport series dropped"),
+            _ => Ok(()),
+        }
+    }
+}
+
+impl Display for Line {
+    /// The line in the words of the standard, without the place where it was read.
+    fn fmt<W: Write>(&self, f: &mut Formatter<W>) -> fmt::Result {
+        match *self {
+            Line::Request { control, function } => {
+                let bits = Bits(control);
+                let function = function_name(function);
+                write!(f, "request {bits} {function}")
+            }
+            Line::Response { control, iin, .. } => {
+                let bits = Bits(control);
+                let one = iin.one;
+                let two = iin.two;
+                write!(f, "response {bits}, iin {one:02X} {two:02X}")
+            }
+            Line::FragmentRefused { fault, place } => {
+                let fault = fault_name(fault);
+                write!(f, "fragment refused: {fault} at octet {place}")
+            }
+            Line::Header {
+                group,
+                variation,
+                range,
+                ..
+            } => {
+                let objects = Objects(range);
+                write!(f, "{group}.{variation} {objects}")
+            }
+            Line::Row(row) => {
+                let reading = Reading(row);
+                write!(f, "{reading}")
+            }
+            Line::Command(command, status) => {
+                let told = Told(command, status);
+                write!(f, "{told}")
+            }
+            line => {
+                let carried = Carried(line);
+                write!(f, "{carried}")
+            }
+        }
+    }
+}
