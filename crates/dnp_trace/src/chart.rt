@@ -1,0 +1,352 @@
+//! A sequence chart of what units did, as SVG.
+
+use crate::log::{Course, Log, Step, Unit, What};
+use crate::phrase::say_unit;
+use crate::sheet::Sheet;
+use crate::trace::word_of;
+use std::alloc::{AllocError, Global};
+
+/// How many rows a chart has at most.
+const MAX_ROWS: usize = 1_500;
+
+/// The height of a row.
+const ROW: u32 = 22;
+
+/// Where the rows begin.
+const TOP: u32 = 64;
+
+/// Where the first station stands.
+const LEFT: u32 = 340;
+
+/// How far stations are from one another.
+const APART: u32 = 400;
+
+/// What is free on the right.
+const RIGHT: u32 = 70;
+
+/// How many characters of a phrase are shown between two stations.
+const PHRASE: usize = 58;
+
+/// How many characters of a line of the script are shown.
+const LINE: usize = 38;
+
+/// How what is drawn looks.
+const STYLE: &str = "\
+<style>
+text { font: 11px monospace; fill: #222; }
+.on { paint-order: stroke; stroke: #fff; stroke-width: 4px; }
+.head { font-weight: bold; text-anchor: middle; }
+.box { fill: #eef; stroke: #88a; }
+.life { stroke: #bbb; stroke-dasharray: 2 3; }
+.line { fill: #777; }
+.unit { stroke: #226; fill: none; }
+.again { stroke: #226; fill: none; stroke-dasharray: 6 3; }
+.bad { stroke: #b11; fill: none; }
+.end { fill: #b11; }
+.still { stroke: #888; fill: none; stroke-dasharray: 2 2; }
+</style>
+<defs><marker id=\"tip\" viewBox=\"0 0 10 10\" refX=\"10\" refY=\"5\" markerWidth=\"8\" markerHeight=\"8\" orient=\"auto\"><path d=\"M0 1 L10 5 L0 9 z\" fill=\"#226\"/></marker></defs>
+";
+
+/// Writes an attribute that is a number.
+fn attribute(sheet: &mut Sheet, name: &str, value: u32) {
+    sheet.word(" ");
+    sheet.word(name);
+    sheet.word("=\"");
+    sheet.number(value);
+    sheet.word("\"");
+}
+
+/// Writes text that XML may read as something else, in its escapes.
+fn escaped(sheet: &mut Sheet, text: &[u8]) {
+    for octet in text {
+        match *octet {
+            b'<' => sheet.word("&lt;"),
+            b'>' => sheet.word("&gt;"),
+            b'&' => sheet.word("&amp;"),
+            b'"' => sheet.word("&quot;"),
+            b'\t' | b'\n' | b' '..=b'~' => sheet.put(&[*octet]),
+            _ => sheet.word("?"),
+        }
+    }
+}
+
+/// Writes at most so many characters of a text, and all of it where the pointer rests.
+fn shown(sheet: &mut Sheet, text: &[u8], most: usize) {
+    match text.get(..most) {
+        Some(part) if part.len() < text.len() => {
+            escaped(sheet, part);
+            sheet.word("..<title>");
+            escaped(sheet, text);
+            sheet.word("</title>");
+        }
+        _ => escaped(sheet, text),
+    }
+}
+
+/// Where a row lies.
+fn row_y(row: u32) -> u32 {
+    row.saturating_mul(ROW).saturating_add(TOP)
+}
+
+/// Where the station of this column stands: the centre, the concentrator, and the substations behind them.
+fn column_x(column: u32) -> u32 {
+    column.saturating_mul(APART).saturating_add(LEFT)
+}
+
+/// From where to where the units of a line go.
+fn ends_of(course: Course) -> (u32, u32) {
+    let (master, outstation) = match course.substation {
+        Some(number) => (1, u32::from(number) + 2),
+        None => (0, 1),
+    };
+    if course.up {
+        (column_x(outstation), column_x(master))
+    } else {
+        (column_x(master), column_x(outstation))
+    }
+}
+
+/// Where the way of a unit that doesn't come to its end breaks off: before the next station.
+fn break_x(course: Course) -> u32 {
+    let (begin, end) = ends_of(course);
+    if begin < end {
+        begin.saturating_add(APART / 2)
+    } else {
+        begin.saturating_sub(APART / 2)
+    }
+}
+
+/// Begins a text.
+fn begin_text(sheet: &mut Sheet, class: &str, x: u32, y: u32, anchor: &str) {
+    sheet.word("<text class=\"");
+    sheet.word(class);
+    sheet.word("\"");
+    attribute(sheet, "x", x);
+    attribute(sheet, "y", y);
+    sheet.word(" text-anchor=\"");
+    sheet.word(anchor);
+    sheet.word("\">");
+}
+
+/// Draws a straight line.
+fn straight(sheet: &mut Sheet, class: &str, from: (u32, u32), to: (u32, u32), more: &str) {
+    sheet.word("<line class=\"");
+    sheet.word(class);
+    sheet.word("\"");
+    attribute(sheet, "x1", from.0);
+    attribute(sheet, "y1", from.1);
+    attribute(sheet, "x2", to.0);
+    attribute(sheet, "y2", to.1);
+    sheet.word(more);
+    sheet.word("/>\n");
+}
+
+/// Draws a station: its name, and the line below it.
+fn station(sheet: &mut Sheet, column: u32, height: u32) {
+    let x = column_x(column);
+    sheet.word("<rect class=\"box\"");
+    attribute(sheet, "x", x.saturating_sub(60));
+    attribute(sheet, "y", 10);
+    attribute(sheet, "width", 120);
+    attribute(sheet, "height", 24);
+    sheet.word("/>\n");
+    begin_text(sheet, "head", x, 26, "middle");
+    match column {
+        0 => sheet.word("centre"),
+        1 => sheet.word("concentrator"),
+        _ => {
+            sheet.word("substation ");
+            sheet.number(column.saturating_sub(2));
+        }
+    }
+    sheet.word("</text>\n");
+    straight(sheet, "life", (x, 34), (x, height.saturating_sub(20)), "");
+}
+
+/// Draws a cross, where a unit was lost.
+fn cross(sheet: &mut Sheet, x: u32, y: u32) {
+    let (left, right) = (x.saturating_sub(5), x.saturating_add(5));
+    let (above, below) = (y.saturating_sub(5), y.saturating_add(5));
+    straight(sheet, "bad", (left, above), (right, below), "");
+    straight(sheet, "bad", (left, below), (right, above), "");
+}
+
+/// Draws a jagged line, where a unit was damaged.
+fn jag(sheet: &mut Sheet, x: u32, y: u32) {
+    let (left, right) = (x.saturating_sub(5), x.saturating_add(5));
+    let (above, below) = (y.saturating_sub(8), y.saturating_add(8));
+    straight(sheet, "bad", (right, above), (left, y), "");
+    straight(sheet, "bad", (left, y), (right, y), "");
+    straight(sheet, "bad", (right, y), (left, below), "");
+}
+
+/// Draws a unit's way from where it was sent to where it came to this.
+fn arrow(sheet: &mut Sheet, course: Course, sent: u32, row: u32, what: What) {
+    let (begin, end) = ends_of(course);
+    let middle = break_x(course);
+    let (from, y) = ((begin, row_y(sent)), row_y(row));
+    match what {
+        What::Sent => {}
+        What::Arrives => straight(sheet, "unit", from, (end, y), " marker-end=\"url(#tip)\""),
+        What::Repeated => straight(sheet, "again", from, (end, y), " marker-end=\"url(#tip)\""),
+        What::Lost => {
+            straight(sheet, "bad", from, (middle, y), "");
+            cross(sheet, middle, y);
+        }
+        What::Damaged => {
+            straight(sheet, "bad", from, (middle, y), "");
+            jag(sheet, middle, y);
+        }
+        What::Dropped | What::Stands => straight(sheet, "still", from, (middle, y), ""),
+    }
+}
+
+/// Says beside a unit's end how it ended, where it didn't just arrive.
+fn end_word(sheet: &mut Sheet, course: Course, row: u32, what: What) {
+    if what == What::Sent || what == What::Arrives {
+        return;
+    }
+    let (_, end) = ends_of(course);
+    let (x, anchor) = match what {
+        What::Repeated if course.up => (end.saturating_add(14), "start"),
+        What::Repeated => (end.saturating_sub(14), "end"),
+        _ => (break_x(course).saturating_add(12), "start"),
+    };
+    begin_text(sheet, "on end", x, row_y(row).saturating_add(4), anchor);
+    sheet.word(word_of(what));
+    sheet.word("</text>\n");
+}
+
+/// Says what a unit says, beside where it was sent.
+fn unit_phrase(sheet: &mut Sheet, alloc: Global, row: u32, unit: &Unit) {
+    let mut phrase = Sheet::new(alloc);
+    say_unit(&mut phrase, unit.octets.as_slice());
+    let (begin, end) = ends_of(unit.course);
+    let y = row_y(row).saturating_sub(4);
+    if begin < end {
+        begin_text(sheet, "on", begin.saturating_add(6), y, "start");
+    } else {
+        begin_text(sheet, "on", begin.saturating_sub(6), y, "end");
+    }
+    shown(sheet, phrase.octets(), PHRASE);
+    sheet.word("</text>\n");
+}
+
+/// Draws the ways of all units.
+fn arrows(sheet: &mut Sheet, alloc: Global, log: &Log, steps: &[Step]) -> Result<(), AllocError> {
+    // in which row each unit was sent
+    let mut sent = Vec::new(alloc);
+    let mut row: u32 = 0;
+    for step in steps {
+        if let Step::Unit { what, unit, .. } = *step {
+            if what == What::Sent {
+                sent.push(row)?;
+            } else if let (Some(from), Some(unit)) = (sent.get(unit), log.units.get(unit)) {
+                arrow(sheet, unit.course, *from, row, what);
+            }
+        }
+        row = row.saturating_add(1);
+    }
+    Ok(())
+}
+
+/// Writes the text of a row.
+fn row_text(sheet: &mut Sheet, alloc: Global, log: &Log, row: u32, step: Step) {
+    match step {
+        Step::Line { line, .. } => {
+            if let Some(text) = log.lines.get(line) {
+                begin_text(sheet, "line", 84, row_y(row).saturating_sub(4), "start");
+                shown(sheet, text.as_slice(), LINE);
+                sheet.word("</text>\n");
+            }
+        }
+        Step::Unit { what, unit, .. } => {
+            if let Some(unit) = log.units.get(unit) {
+                if what == What::Sent {
+                    unit_phrase(sheet, alloc, row, unit);
+                }
+                end_word(sheet, unit.course, row, what);
+            }
+        }
+    }
+}
+
+/// When a step was.
+fn moment_of(step: Step) -> u64 {
+    match step {
+        Step::Line { moment, .. } | Step::Unit { moment, .. } => moment,
+    }
+}
+
+/// Writes the texts of all rows, and the moment where it is another one.
+fn texts(sheet: &mut Sheet, alloc: Global, log: &Log, steps: &[Step]) {
+    let mut row: u32 = 0;
+    let mut last = None;
+    for step in steps {
+        let moment = moment_of(*step);
+        if last != Some(moment) {
+            begin_text(sheet, "line", 6, row_y(row).saturating_sub(4), "start");
+            sheet.number(moment);
+            sheet.word(" ms</text>\n");
+            last = Some(moment);
+        }
+        row_text(sheet, alloc, log, row, *step);
+        row = row.saturating_add(1);
+    }
+}
+
+/// Begins a chart of this size.
+fn begin(sheet: &mut Sheet, width: u32, height: u32) {
+    sheet.word("<svg xmlns=\"http://www.w3.org/2000/svg\"");
+    attribute(sheet, "width", width);
+    attribute(sheet, "height", height);
+    sheet.word(" viewBox=\"0 0 ");
+    sheet.number(width);
+    sheet.word(" ");
+    sheet.number(height);
+    sheet.word("\">\n");
+    sheet.word(STYLE);
+    sheet.word("<rect width=\"100%\" height=\"100%\" fill=\"#fff\"/>\n");
+}
+
+/// Says that not all is shown, where it isn't.
+fn cut_note(sheet: &mut Sheet, shown: usize, all: usize, height: u32) {
+    if shown < all {
+        begin_text(sheet, "end", 84, height.saturating_sub(6), "start");
+        sheet.word("cut here: ");
+        sheet.number(shown);
+        sheet.word(" of ");
+        sheet.number(all);
+        sheet.word(" rows are shown</text>\n");
+    }
+}
+
+/// The sequence chart of what units did: a column for each station, time going down, a row for each line of the script
+/// and each thing that a unit did. It is SVG, and needs nothing else. Of more than 1,500 rows the first are shown, and a
+/// note says so.
+///
+/// An error says that memory ran out, now or when it was noted.
+pub fn chart_text(alloc: Global, log: &Log) -> Result<Vec<u8>, AllocError> {
+    if log.cut {
+        return Err(AllocError);
+    }
+    let all = log.steps.as_slice();
+    let steps = all.get(..MAX_ROWS).unwrap_or(all);
+    let rows = u32::try_from(steps.len()).unwrap_or(0);
+    let columns = u32::try_from(log.substations())
+        .unwrap_or(0)
+        .saturating_add(2);
+    let width = column_x(columns.saturating_sub(1)).saturating_add(RIGHT);
+    let height = row_y(rows).saturating_add(24);
+    let mut sheet = Sheet::new(alloc);
+    begin(&mut sheet, width, height);
+    for column in 0..columns {
+        station(&mut sheet, column, height);
+    }
+    arrows(&mut sheet, alloc, log, steps)?;
+    texts(&mut sheet, alloc, log, steps);
+    cut_note(&mut sheet, steps.len(), all.len(), height);
+    sheet.word("</svg>\n");
+    sheet.finish()
+}

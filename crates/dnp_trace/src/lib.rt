@@ -1,0 +1,18 @@
+//! What goes over the lines of a system, unit by unit, to be looked at: noted in a [`Log`] as it happens, and written as
+//! lines of text ([`trace_text`]), as a sequence chart ([`chart_text`]) and as a capture ([`capture_octets`]). And a report
+//! as JSON ([`report_json`]). It is proved to be safe; what it writes is tested.
+#![tactic(auto)]
+
+mod capture;
+mod chart;
+mod json;
+mod log;
+mod phrase;
+mod sheet;
+mod trace;
+
+pub use capture::capture_octets;
+pub use chart::chart_text;
+pub use json::report_json;
+pub use log::{Course, Log, What};
+pub use trace::trace_text;
