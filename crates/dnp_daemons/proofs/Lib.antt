@@ -1,9 +1,14 @@
+mod DroppedLists
+mod FormReads
+mod LineForms
+mod LineStops
+mod LineWords
+mod Numbers
 mod OctetDigits
 mod ReportLists
-mod Numbers
 mod RoundResults
-mod Scripts
 mod ScriptReporting
 mod ScriptRunning
+mod Scripts
 mod Simulating
 mod Splitting

@@ -4,6 +4,7 @@ pub mod Words
 pub mod Numbers
 pub mod Names
 pub mod ScriptLines
+pub mod ScriptReasons
 pub mod Scripted
 pub mod ScriptTexts
 pub mod ScriptRuns

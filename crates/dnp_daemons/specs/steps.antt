@@ -1,3 +1,4 @@
 -- Private steps: words of clauses that no caller sees.
+pub mod Forms
 pub mod Judging
 pub mod Lines

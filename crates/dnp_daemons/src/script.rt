@@ -12,12 +12,16 @@ use dnp_world::{Event, Link, Way};
 use std::alloc::{AllocError, AllocFailed, Global};
 use thiserror::Error;
 
+mod forms;
 mod lines;
 mod names;
 mod numbers;
+mod reason;
+mod said;
 mod words;
 
 pub use numbers::number_in;
+pub use reason::{LineFault, script_fault};
 
 /// What a line of a script asks for.
 #[derive(Debug, Drop)]
