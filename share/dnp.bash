@@ -2,17 +2,18 @@
 _dnp() {
     local word=${COMP_WORDS[COMP_CWORD]} before=${COMP_WORDS[COMP_CWORD - 1]}
     if [ "$COMP_CWORD" = 1 ]; then
-        COMPREPLY=($(compgen -W 'answer loopback outstation sim help --help --version' -- "$word"))
+        COMPREPLY=($(compgen -W 'answer decode loopback outstation sim help --help --version' -- "$word"))
         return
     fi
     case ${COMP_WORDS[1]}:$before in
-    *:--plan) COMPREPLY=($(compgen -f -- "$word")) ;;
-    answer:--own|answer:--peer|outstation:--station|outstation:--port|outstation:--connections) COMPREPLY=() ;;
+    *:--capture|*:--chart|*:--pcap|*:--plan|*:--trace) COMPREPLY=($(compgen -f -- "$word")) ;;
+    answer:--own|answer:--peer|loopback:--limit|outstation:--station|outstation:--port|outstation:--connections|sim:--limit) COMPREPLY=() ;;
     answer:*) COMPREPLY=($(compgen -W '--own --peer --help' -- "$word")) ;;
-    loopback:*) COMPREPLY=($(compgen -W '--plan --help' -- "$word")) ;;
+    decode:*) COMPREPLY=($(compgen -W '--raw --pcap --json --help' -- "$word")) ;;
+    loopback:*) COMPREPLY=($(compgen -W '--plan --limit --help' -- "$word")) ;;
     outstation:*) COMPREPLY=($(compgen -W '--plan --station --port --connections --help' -- "$word")) ;;
-    sim:*) COMPREPLY=($(compgen -W '--plan --help' -- "$word")) ;;
-    help:*) COMPREPLY=($(compgen -W 'answer loopback outstation sim' -- "$word")) ;;
+    sim:*) COMPREPLY=($(compgen -W '--plan --limit --trace --chart --capture --json --help' -- "$word")) ;;
+    help:*) COMPREPLY=($(compgen -W 'answer decode loopback outstation sim' -- "$word")) ;;
     esac
 }
 complete -F _dnp dnp ./dnp

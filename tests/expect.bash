@@ -41,3 +41,27 @@ says() {
     echo "FAILED $1"
     printf '    expected on standard error  %q\n    came                        %q\n' "$(cat want)" "$(head -c 500 err)"
 }
+
+# Frames of tests, whose check words are made here, bit by bit.
+# check OCTETS..: a space and their check word, the low octet first
+check() {
+    local word=0 octet bit
+    for octet; do
+        word=$((word ^ 16#$octet))
+        for bit in {1..8}; do
+            word=$((word & 1 ? word >> 1 ^ 0xA6BC : word >> 1))
+        done
+    done
+    printf ' %02X %02X' $((~word & 255)) $((~word >> 8 & 255))
+}
+# frame CONTROL DESTINATION SOURCE OCTETS..: the line of a frame with these user data
+frame() {
+    local header=(05 64 "$(printf '%02X' $(($# + 2)))" "$1" "$2" 00 "$3" 00) block
+    shift 3
+    printf '%s' "${header[*]}$(check "${header[@]}")"
+    while (($#)); do
+        block=("${@:1:16}")
+        printf ' %s' "${block[*]}$(check "${block[@]}")"
+        shift ${#block[@]}
+    done
+}

@@ -28,29 +28,7 @@ expect is-silent-to-an-outstation 0 'no answer' "05 64 05 40 01 00 00 04 9D 40$l
 expect is-silent-to-no-data 0 'no answer' "05 64 05 C4 01 00 00 04 F1 AD$lf" $link
 expect is-silent-to-a-stranger 0 'no answer' "05 64 05 C0 01 00 00 04 E9 21$lf" answer --own 1 --peer 1023
 
-# What the outstation answers. The check words are made here, bit by bit.
-# check OCTETS..: a space and their check word, the low octet first
-check() {
-    local word=0 octet bit
-    for octet; do
-        word=$((word ^ 16#$octet))
-        for bit in {1..8}; do
-            word=$((word & 1 ? word >> 1 ^ 0xA6BC : word >> 1))
-        done
-    done
-    printf ' %02X %02X' $((~word & 255)) $((~word >> 8 & 255))
-}
-# frame CONTROL DESTINATION SOURCE OCTETS..: the line of a frame with these user data
-frame() {
-    local header=(05 64 "$(printf '%02X' $(($# + 2)))" "$1" "$2" 00 "$3" 00) block
-    shift 3
-    printf '%s' "${header[*]}$(check "${header[@]}")"
-    while (($#)); do
-        block=("${@:1:16}")
-        printf ' %s' "${block[*]}$(check "${block[@]}")"
-        shift ${#block[@]}
-    done
-}
+# What the outstation answers
 # asks NAME REQUEST RESPONSE: master 1 sends outstation 10 the request in one segment, and gets the response, or nothing
 asks() {
     local wanted='no answer'
@@ -167,11 +145,12 @@ expect takes-no-argument-that-is-no-text 2 '' "$asked$lf" answer --own $'\xff'
 expect takes-the-last-address 0 'no answer' "$asked$lf" answer --own 65519 --peer 65519
 
 # Help: what the program prints is what ./dnp prints where it is not built
-for words in '--help' 'answer --help' 'outstation --help' 'help' 'help answer' 'help outstation' '--version'; do
+for words in '--help' 'answer --help' 'decode --help' 'outstation --help' 'help' 'help answer' 'help decode' 'help outstation' '--version'; do
     got=0
     "$dnp" $words >out 2>err </dev/null || got=$?
     case $words in
     *answer*) file=answer ;;
+    *decode*) file=decode ;;
     *outstation*) file=outstation ;;
     *version*) file=version ;;
     *) file=dnp ;;
@@ -181,8 +160,8 @@ done
 mkdir -p unbuilt/crates/dnp
 cp "$dnp" unbuilt/dnp
 cp -r "$top/crates/dnp/help" unbuilt/crates/dnp/help
-for words in --help:dnp -h:dnp help:dnp --version:version -V:version {answer,loopback,outstation,sim}' --help:' \
-    {answer,loopback,outstation,sim}' -h:' 'help '{answer,loopback,outstation,sim}:; do
+for words in --help:dnp -h:dnp help:dnp --version:version -V:version {answer,decode,loopback,outstation,sim}' --help:' \
+    {answer,decode,loopback,outstation,sim}' -h:' 'help '{answer,decode,loopback,outstation,sim}:; do
     case $words in
     *' '*) words=$words$(tr ' ' '\n' <<<"${words%:}" | grep -v -e help -e -h) ;;
     esac

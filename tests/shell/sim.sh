@@ -100,30 +100,66 @@ shows a-control-behind-another '' "${both_open}issue $block${lf}issue $block${lf
 shows a-control-again '' "${both_open}issue $block${lf}control 1${lf}control 1$lf" \
     "control 1 ok${lf}control 1 refused 2$lf$(listed '' '' '' '' '' '' '' "$block," "$block," 0)"
 
-# What is refused of a script: nothing else is printed, whatever stands before it and behind it
-# refuses NAME LINE INPUT
+# What is refused of a script: nothing else is printed, whatever stands before it and behind it. Standard error says which
+# word of the line stops fitting, and what belongs there.
+# refuses NAME LINE INPUT WHY
 refuses() {
     expect "refuses-$1" 1 "refused line $2" "$3" sim --plan "$plan"
+    says "says-where-it-refuses-$1" "dnp: line $2$4"
 }
 fits="open 0$lf"
-refuses the-third-line 3 "${fits}round 0${lf}poll 0$lf$fits"
-refuses the-last-line-with-no-line-feed 2 "${fits}open"
-refuses a-blank-line 1 "$lf$fits"
-refuses two-line-feeds-at-the-end 2 "$fits$lf"
-refuses a-carriage-return 1 "open 0"$'\r'"$lf"
-refuses two-spaces 2 "${fits}open  0$lf"
-refuses a-space-at-the-end 2 "${fits}open 0 $lf"
-refuses a-tab 1 "open"$'\t'"0$lf"
-refuses a-plus-sign 1 "pass +1$lf"
-refuses a-link-that-the-plan-lacks 2 "${fits}open 1$lf"
-refuses a-substation-that-the-plan-lacks 1 "restart 1$lf"
-refuses a-class-named-twice 1 "poll 0 11$lf"
-refuses no-class 1 "poll 0 4$lf"
-refuses damage-of-no-octet 1 "damage 0 down $lf"
-refuses half-an-octet-of-damage 1 "damage 0 down 123$lf"
-refuses a-number-of-65-bits 1 "pass 18446744073709551616$lf"
-refuses what-is-not-UTF-8 2 "$fits"$'\xff'"$lf${fits}open$lf"
-refuses what-does-not-fit-before-what-is-not-UTF-8 2 "${fits}open$lf"$'\xff'"$lf"
+a_link='where above or a substation'"'"'s number, 0 to 0, belongs'
+classes='where a word of the digits 0 to 3, each once at most, belongs'
+number='where a whole number from 0 to 18446744073709551615 belongs'
+octets='where a word of two hexadecimal digits for each of 1 to 292 octets belongs'
+verbs='where open, clear, relay, round, hangup, tick, deliver, repeat, lose, flush, damage, poll, enable, disable, time, pass, control, restart, change or issue belongs'
+refuses the-third-line 3 "${fits}round 0${lf}poll 0$lf$fits" ", word 3: the line ends, $classes"
+refuses the-last-line-with-no-line-feed 2 "${fits}open" ", word 2: the line ends, $a_link"
+refuses a-blank-line 1 "$lf$fits" ': an empty line, where an event belongs'
+refuses two-line-feeds-at-the-end 2 "$fits$lf" ': an empty line, where an event belongs'
+refuses a-carriage-return 1 "open 0"$'\r'"$lf" ': a carriage return at its end, where the line feed alone belongs'
+refuses two-spaces 2 "${fits}open  0$lf" ", word 2: an empty word, $a_link"
+refuses a-space-at-the-end 2 "${fits}open 0 $lf" ', word 3: an empty word, where the end of the line belongs'
+refuses a-tab 1 "open"$'\t'"0$lf" ", word 1: \"open\\t0\", $verbs"
+refuses another-word 1 "opne 0$lf" ", word 1: \"opne\", $verbs"
+refuses a-word-more 1 "open 0 up$lf" ', word 3: "up", where the end of the line belongs'
+refuses a-ninth-word 1 "issue 0 block 0 3 1 0 0 9$lf" ', word 9: "9", where the end of the line belongs'
+refuses another-kind 1 "change 0 bnary 0 1 01 -$lf" ', word 3: "bnary", where binary, counter or analog belongs'
+refuses another-command 1 "issue 0 sett 0 1$lf" ', word 3: "sett", where set16, set32 or block belongs'
+refuses a-value-too-large-for-set16 1 "issue 0 set16 0 32768$lf" ', word 5: "32768", where a whole number from -32768 to 32767 belongs'
+refuses flags-of-one-digit 1 "change 0 binary 0 1 1 -$lf" ', word 6: "1", where a word of two hexadecimal digits belongs'
+refuses no-time 1 "change 0 binary 0 1 01 now$lf" ', word 7: "now", where a time in milliseconds or - belongs'
+refuses another-end 1 "tick 0 up$lf" ', word 3: "up", where master or outstation belongs'
+refuses another-way 1 "deliver 0 master$lf" ', word 3: "master", where down or up belongs'
+refuses a-plus-sign 1 "pass +1$lf" ", word 2: \"+1\", $number"
+refuses a-link-that-the-plan-lacks 2 "${fits}open 1$lf" ", word 2: \"1\", $a_link"
+refuses a-substation-that-the-plan-lacks 1 "restart 1$lf" ", word 2: \"1\", where centre, concentrator or a substation's number, 0 to 0, belongs"
+refuses a-class-named-twice 1 "poll 0 11$lf" ", word 3: \"11\", $classes"
+refuses no-class 1 "poll 0 4$lf" ", word 3: \"4\", $classes"
+refuses damage-of-no-octet 1 "damage 0 down $lf" ", word 4: an empty word, $octets"
+refuses half-an-octet-of-damage 1 "damage 0 down 123$lf" ", word 4: \"123\", $octets"
+refuses a-number-of-65-bits 1 "pass 18446744073709551616$lf" ", word 2: \"18446744073709551616\", $number"
+refuses what-is-not-UTF-8 2 "$fits"$'\xff'"$lf${fits}open$lf" ", word 1: what is not UTF-8, $verbs"
+refuses what-is-not-UTF-8-in-a-line 1 "open 0"$'\xc3'"$lf" ", word 2: what is not UTF-8, $a_link"
+refuses what-does-not-fit-before-what-is-not-UTF-8 2 "${fits}open$lf"$'\xff'"$lf" ", word 2: the line ends, $a_link"
+
+# How much of a script is read
+limited() {
+    expect "$1" "$2" "$3" "$fits" sim --plan "$plan" --limit "$4"
+}
+limited reads-a-script-of-its-limit 0 "$(nothing)" 7
+limited refuses-a-script-over-its-limit 3 '' 6
+says says-over-which-limit 'dnp: standard input: over 6 octets'
+limited wants-a-limit 2 '' 0
+got=0 && head -c 67108865 /dev/zero | "$dnp" sim --plan "$plan" >out 2>err || got=$?
+judge refuses-a-script-over-64-MB 3 '' "$got"
+says says-that-it-is-over-64-MB 'dnp: standard input: over 67108864 octets'
+
+# A reader that goes away is no fault that is told of
+seq 1 20000 | awk '{ print "change 0 binary 0 " $1 % 2 " 01 " $1 }' >script
+got=0 && { "$dnp" sim --plan "$plan" <script 2>err || echo $? >status; } | head -n 1 >out
+judge ends-with-its-reader 3 'journal 0' "$(<status)"
+says ends-quietly ''
 
 # What is refused of a plan, whatever the script says. changed SED..: the plan, changed so
 # refuses_plan NAME NUMBER SED..

@@ -17,7 +17,9 @@ completes() {
     fi
 }
 completes completes-a-command 'sim' s
+completes completes-a-limit '--limit' sim --l
 completes completes-options '--plan --station --port --connections --help' outstation ''
 completes completes-the-one-option '--own' answer --o
+completes completes-the-options-of-sim '--plan --limit --trace --chart --capture --json --help' sim ''
 completes completes-no-number '' outstation --port ''
-completes completes-help 'answer loopback outstation sim' help ''
+completes completes-help 'answer decode loopback outstation sim' help ''

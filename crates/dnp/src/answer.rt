@@ -1,7 +1,7 @@
 //! `dnp answer`: the outstation's answer to one link frame.
 
 use crate::exit;
-use crate::fault::{Noted, lost};
+use crate::fault::{Noted, lost, unwritten};
 use clap::{Arg, ArgMatches, Command};
 use dnp_daemons::{AnswerFault, answer_line, read_address, read_text, text_fault};
 use std::alloc::{AllocError, Global};
@@ -96,7 +96,7 @@ pub(crate) fn run<R: AllocGlobal + Input + Print + Eprint>(
             explain(rt, text.as_slice());
             Ok(ExitCode::from(exit::REFUSED))
         }
-        Err(fault) => Ok(unwritten(rt, fault, out.cause())),
+        Err(fault) => Ok(unanswered(rt, fault, out.cause())),
     }
 }
 
@@ -108,9 +108,9 @@ fn explain<R: Eprint>(rt: &R, text: &[u8]) {
 }
 
 /// Says on standard error why the answer was not written, and gives the exit status of a fault.
-fn unwritten<R: Eprint>(rt: &R, fault: AnswerFault, cause: Option<&io::Error>) -> ExitCode {
+fn unanswered<R: Eprint>(rt: &R, fault: AnswerFault, cause: Option<&io::Error>) -> ExitCode {
     if let Some(cause) = cause {
-        return lost(rt, "standard output", cause);
+        return unwritten(rt, cause);
     }
     let _ = eprintln!(rt; "dnp: standard output: {fault}");
     ExitCode::from(exit::FAULT)

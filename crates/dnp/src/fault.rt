@@ -11,6 +11,15 @@ pub(crate) fn lost<R: Eprint>(rt: &R, stream: &str, cause: &io::Error) -> ExitCo
     ExitCode::from(exit::FAULT)
 }
 
+/// Says on standard error why standard output was lost, and gives the exit status of a fault. Where its reader is gone, as in
+/// `dnp sim .. | head`, nothing is said.
+pub(crate) fn unwritten<R: Eprint>(rt: &R, cause: &io::Error) -> ExitCode {
+    if cause.kind() == io::ErrorKind::BrokenPipe {
+        return ExitCode::from(exit::FAULT);
+    }
+    lost(rt, "standard output", cause)
+}
+
 /// A reader or a writer that keeps the cause of its last failed call, for calls whose faults don't carry it.
 #[derive(Drop)]
 pub(crate) struct Noted<S> {

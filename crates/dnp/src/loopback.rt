@@ -1,7 +1,7 @@
 //! `dnp loopback`: a whole system of a plan, run by a script, whose units go over TCP to the program itself.
 
 use crate::fault::{Noted, lost};
-use crate::texts::{Texts, finish, read_texts};
+use crate::texts::{Texts, finish, limit, texts_given};
 use crate::wire::Wire;
 use clap::{Arg, ArgMatches, Command};
 use dnp_daemons::loop_text;
@@ -41,8 +41,9 @@ EXIT STATUS
   0  the script was run, and the report was printed
   1  the plan or the script was refused
   2  the command line is wrong
-  3  the program failed: the plan can't be read, no connection can be had, or it failed, out of
-     memory, or the input or the output was lost; a line on standard error says which, and why";
+  3  the program failed: the plan can't be read, the script is over its limit, no connection can be
+     had, or it failed, out of memory, or the input or the output was lost; a line on standard error
+     says which, and why, but for an output whose reader has gone";
 
 /// What `clap` has to know of `dnp loopback`.
 pub(crate) fn command<'a>(alloc: Global) -> Result<Command<'a>, AllocError> {
@@ -54,7 +55,8 @@ pub(crate) fn command<'a>(alloc: Global) -> Result<Command<'a>, AllocError> {
     Command::new(alloc, NAME)
         .about(ABOUT)
         .after_help(AFTER)
-        .arg(plan)
+        .arg(plan)?
+        .arg(limit(alloc))
 }
 
 /// Runs the script on standard input by the given words, and tells the exit status.
@@ -63,7 +65,7 @@ where
     R: AllocGlobal + Input + Print + Eprint + Files,
     R: Net<Listener = TcpListener, Stream = TcpStream>,
 {
-    let texts = match read_texts(rt, given.get_str("plan").unwrap_or(""))? {
+    let texts = match texts_given(rt, given)? {
         Ok(texts) => texts,
         Err(status) => return Ok(status),
     };
@@ -90,5 +92,5 @@ fn carry<R: AllocGlobal + Print + Eprint>(
     if let Some(cause) = wire.cause() {
         lost(rt, WIRE, cause);
     }
-    finish(rt, &mut out, ended)
+    finish(rt, texts, true, &mut out, ended)
 }

@@ -4,8 +4,10 @@
 #![tactic(auto)]
 
 mod answer;
+mod decode;
 mod exit;
 mod fault;
+mod looks;
 mod loopback;
 mod numbers;
 mod outstation;
@@ -13,9 +15,10 @@ mod plan_file;
 mod serving;
 mod sim;
 mod texts;
+mod watched;
 mod wire;
 
-use crate::fault::lost;
+use crate::fault::unwritten;
 use clap::error::ErrorKind;
 use clap::{ArgMatches, Command};
 use std::alloc::{AllocError, Global};
@@ -79,6 +82,7 @@ fn command<'a>(alloc: Global) -> Result<Command<'a>, AllocError> {
         .subcommand_required(true)
         .arg_required_else_help(true)
         .subcommand(answer::command(alloc)?)?
+        .subcommand(decode::command(alloc)?)?
         .subcommand(loopback::command(alloc)?)?
         .subcommand(outstation::command(alloc)?)?
         .subcommand(sim::command(alloc)?)
@@ -92,6 +96,7 @@ where
 {
     match matches.subcommand() {
         Some((answer::NAME, given)) => answer::run(rt, given),
+        Some((decode::NAME, given)) => decode::run(rt, given),
         Some((loopback::NAME, given)) => loopback::run(rt, given),
         Some((outstation::NAME, given)) => outstation::run(rt, given),
         Some((sim::NAME, given)) => sim::run(rt, given),
@@ -106,7 +111,7 @@ fn refuse<R: Print + Eprint>(rt: &R, error: &clap::Error) -> anyhow::Result<Exit
     if let Err(cause) = error.print(rt)
         && !error.use_stderr()
     {
-        return Ok(lost(rt, "standard output", &cause));
+        return Ok(unwritten(rt, &cause));
     }
     Ok(ExitCode::from(match error.kind() {
         ErrorKind::DisplayHelp | ErrorKind::DisplayVersion => exit::DONE,

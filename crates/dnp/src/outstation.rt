@@ -130,15 +130,15 @@ where
             };
             serve_connections(rt, &mut station, &listening)
         }
-        Ok(None) => Ok(no_station(rt, words.number)),
+        Ok(None) => Ok(no_station(rt, given.get_str("station").unwrap_or(""))),
         Err(fault) => Ok(refused(rt, fault)),
     }
 }
 
 /// Says on standard error that the plan has no such substation, and gives the exit status of a wrong command line.
-fn no_station<R: Eprint>(rt: &R, number: u8) -> ExitCode {
+fn no_station<R: Eprint>(rt: &R, text: &str) -> ExitCode {
     let _ = eprintln!(rt;
-        "error: invalid value '{number}' for '--station <S>': the plan has no such substation"
+        "error: invalid value {text:?} for '--station <S>': the plan has no such substation"
     );
     ExitCode::from(exit::USAGE)
 }

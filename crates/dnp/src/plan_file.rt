@@ -1,7 +1,7 @@
 //! The file of a plan.
 
 use crate::exit;
-use crate::fault::lost;
+use crate::fault::{lost, unwritten};
 use dnp_daemons::PlanTextFault;
 use std::fs;
 use std::io::Read;
@@ -39,7 +39,7 @@ pub(crate) fn refused<R: Print + Eprint>(rt: &R, fault: PlanTextFault) -> ExitCo
     }
     let number = fault as u8;
     if let Err(cause) = println!(rt; "refused plan {number}") {
-        return lost(rt, "standard output", &cause);
+        return unwritten(rt, &cause);
     }
     let _ = eprintln!(rt; "dnp: {fault}");
     ExitCode::from(exit::REFUSED)

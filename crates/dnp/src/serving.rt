@@ -1,7 +1,7 @@
 //! A station that serves connections over TCP.
 
 use crate::exit;
-use crate::fault::{Noted, lost};
+use crate::fault::{Noted, unwritten};
 use dnp_daemons::{Clocked, MASTER_BELOW, ServeFault, Station, serve_stream};
 use dnp_line::Port;
 use std::io;
@@ -48,7 +48,7 @@ where
             return Ok(ExitCode::from(exit::FAULT));
         };
         if let Err(cause) = println!(rt; "served {fragments}") {
-            return Ok(lost(rt, "standard output", &cause));
+            return Ok(unwritten(rt, &cause));
         }
     }
     Ok(ExitCode::from(exit::DONE))

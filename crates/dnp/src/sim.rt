@@ -1,12 +1,15 @@
 //! `dnp sim`: a whole system of a plan, run by a script.
 
+use crate::exit;
 use crate::fault::Noted;
-use crate::texts::{finish, read_texts};
-use clap::{Arg, ArgMatches, Command};
+use crate::looks::write_looks;
+use crate::texts::{Texts, finish, limit, texts_given};
+use clap::{Arg, ArgAction, ArgMatches, Command};
 use dnp_daemons::sim_text;
+use dnp_trace::report_json;
 use std::alloc::{AllocError, Global};
 use std::io;
-use std::io::BufWriter;
+use std::io::{BufWriter, Write};
 use std::process::ExitCode;
 use std::rt::Files;
 
@@ -17,13 +20,26 @@ pub const NAME: &str = "sim";
 const ABOUT: &str =
     "Run a script on a whole system of a plan, and report what became of everything";
 
+/// What is said of the option for the trace.
+const TRACE: &str = "Write what each unit does, a line each; '-' is standard output";
+
+/// What is said of the one for the chart.
+const CHART: &str = "Draw what each unit does, as a sequence chart (SVG)";
+
+/// What is said of the one for the capture.
+const CAPTURE: &str = "Write what arrives, as a capture (pcap)";
+
+/// What is said of the one for the form of the report.
+const JSON: &str = "Print the report as one object of JSON";
+
 /// What its help text says after the options.
 const AFTER: &str = "\
 INPUT
   The plan says which substations there are, with their points and outputs. The script, on
   standard input, says line by line what happens in a system of them, a concentrator and a
   centre: what points read, polls and commands, and which units of the lines arrive, are lost,
-  come twice or are damaged. docs/scripts.md says how both are written.
+  come twice or are damaged. docs/scripts.md says how both are written. A script of more octets
+  than --limit allows is not run.
 
 EXAMPLE
   A change at the substation is polled by the concentrator, and then by the centre; at the top
@@ -44,15 +60,32 @@ OUTPUT
     'refused plan N', where the plan is refused: 1 it is no TOML, 2 a key is missing, unknown or
     of another type or length, 3 a number is outside its range, 4 a class is over 3, 5 an index
     above would be over 65,535, 6 two substations would share an index above;
-    'refused line N', where line N of the script, counted from 1, is the first that doesn't fit.
+    'refused line N', where line N of the script, counted from 1, is the first that doesn't fit;
+    then a line on standard error says which of its words stops fitting, and what belongs there.
   Where a line of the script stops for want of memory, 'stopped N', N lines having been done.
+
+SOMETHING TO LOOK AT
+  What the units on the lines do, in a run of its own: the report stays as it is. A file is written
+  before the report is printed, and not where the plan or the script is refused.
+    --trace FILE    a line for each thing that a unit does: the moment in milliseconds, the link, the
+                    way, what it does and what it says, as '12 link 0 up sent RESPONSE seq 1 fir fin
+                    con, 2.2 x1'. It is 'sent', it 'arrives', is 'repeated' (it arrives, and stays on
+                    the line), 'lost', 'damaged' or 'dropped' (its line was cleared), or 'stands' on
+                    the line at the end. With '-' the lines stand before the report.
+    --chart FILE    the same as a sequence chart for a browser, time going down
+    --capture FILE  what arrives, for Wireshark: a TCP conversation to port 20000 for each link, from
+                    and to 192.0.2.A, where A is the station's link address
+    --json          in place of the text an object: 'outcomes' has how rounds and controls came out,
+                    and then come the report's lists by their names. What is refused, or stops, is
+                    printed as without it.
 
 EXIT STATUS
   0  the script was run, and the report was printed
   1  the plan or the script was refused
   2  the command line is wrong
-  3  the program failed: the plan can't be read, out of memory, or the input or the output was
-     lost; a line on standard error says which, and why";
+  3  the program failed: the plan can't be read, the script is over its limit, a file can't be
+     written, out of memory, or the input or the output was lost; a line on standard error says
+     which, and why, but for an output whose reader has gone";
 
 /// What `clap` has to know of `dnp sim`.
 pub(crate) fn command<'a>(alloc: Global) -> Result<Command<'a>, AllocError> {
@@ -64,7 +97,25 @@ pub(crate) fn command<'a>(alloc: Global) -> Result<Command<'a>, AllocError> {
     Command::new(alloc, NAME)
         .about(ABOUT)
         .after_help(AFTER)
-        .arg(plan)
+        .arg(plan)?
+        .arg(limit(alloc))?
+        .arg(file(alloc, "trace", TRACE))?
+        .arg(file(alloc, "chart", CHART))?
+        .arg(file(alloc, "capture", CAPTURE))?
+        .arg(
+            Arg::new(alloc, "json")
+                .long("json")
+                .action(ArgAction::SetTrue)
+                .help(JSON),
+        )
+}
+
+/// An option that names a file to be written.
+fn file<'a>(alloc: Global, name: &'a str, help: &'a str) -> Arg<'a> {
+    Arg::new(alloc, name)
+        .long(name)
+        .value_name("FILE")
+        .help(help)
 }
 
 /// Runs the script on standard input by the given words, and tells the exit status.
@@ -72,10 +123,16 @@ pub(crate) fn run<R: AllocGlobal + Input + Print + Eprint + Files>(
     rt: &R,
     given: &ArgMatches<'_>,
 ) -> anyhow::Result<ExitCode> {
-    let texts = match read_texts(rt, given.get_str("plan").unwrap_or(""))? {
+    let texts = match texts_given(rt, given)? {
         Ok(texts) => texts,
         Err(status) => return Ok(status),
     };
+    if let Some(status) = write_looks(rt, &texts, given)? {
+        return Ok(status);
+    }
+    if given.get_flag("json") {
+        return run_json(rt, &texts);
+    }
     let mut out = BufWriter::new(rt.alloc(), Noted::new(io::writer(rt)))?;
     let ended = sim_text(
         rt.alloc(),
@@ -83,5 +140,24 @@ pub(crate) fn run<R: AllocGlobal + Input + Print + Eprint + Files>(
         texts.script.as_str(),
         &mut out,
     );
-    finish(rt, &mut out, ended)
+    finish(rt, &texts, false, &mut out, ended)
+}
+
+/// Runs the script as without '--json', and prints what came of it as JSON, if it ran to its report.
+fn run_json<R: AllocGlobal + Print + Eprint>(rt: &R, texts: &Texts) -> anyhow::Result<ExitCode> {
+    let mut printed = Vec::new(rt.alloc());
+    let ended = sim_text(
+        rt.alloc(),
+        texts.plan.as_str(),
+        texts.script.as_str(),
+        &mut printed,
+    );
+    let mut out = BufWriter::new(rt.alloc(), Noted::new(io::writer(rt)))?;
+    if ended == Ok(exit::DONE) {
+        let text = String::from_utf8_lossy(rt.alloc(), printed.as_slice())?;
+        printed = report_json(rt.alloc(), text.as_str())?;
+    }
+    // What fails here, the writer keeps.
+    let _ = out.write_all(printed.as_slice());
+    finish(rt, texts, false, &mut out, ended)
 }

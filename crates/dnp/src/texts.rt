@@ -1,9 +1,12 @@
 //! The texts of a plan and a script, and how a script over them ends.
 
 use crate::exit;
-use crate::fault::{Noted, lost};
+use crate::fault::{Noted, lost, unwritten};
+use crate::numbers::number_given;
 use crate::plan_file::{plan_text, refused};
-use dnp_daemons::{PlanTextFault, ScriptStop, read_plan};
+use clap::{Arg, ArgMatches};
+use dnp_daemons::{PlanTextFault, ScriptStop, read_plan, script_fault};
+use std::alloc::{AllocError, Global};
 use std::io::{BufWriter, Read, Write};
 use std::process::ExitCode;
 use std::rt::Files;
@@ -17,11 +20,39 @@ pub(crate) struct Texts {
     pub script: String,
 }
 
+/// The most octets that `--limit` can allow: 2^40.
+const MAX_LIMIT: u64 = 1 << 40;
+
+/// What is said of a text that is not UTF-8 from some place on: the character that stands there fits nowhere.
+const NO_CHARACTER: &str = "\u{FFFD}";
+
+/// The option that says how many octets of a script are read.
+pub(crate) fn limit<'a>(alloc: Global) -> Arg<'a> {
+    Arg::new(alloc, "limit")
+        .long("limit")
+        .value_name("OCTETS")
+        .default_value("67108864")
+        .help("The most octets of the script, 1 to 1099511627776")
+}
+
+/// The texts that the given words name. Where one of them is wrong or can't be read, or the plan is refused, that is said,
+/// and the exit status is told.
+pub(crate) fn texts_given<R: AllocGlobal + Input + Print + Eprint + Files>(
+    rt: &R,
+    given: &ArgMatches<'_>,
+) -> anyhow::Result<Result<Texts, ExitCode>> {
+    match number_given(rt, given, "limit", "OCTETS", 1, MAX_LIMIT) {
+        Some(limit) => read_texts(rt, given.get_str("plan").unwrap_or(""), limit),
+        None => Ok(Err(ExitCode::from(exit::USAGE))),
+    }
+}
+
 /// Reads the plan from its file, and then the script on standard input. Where one of them can't be read, or the plan is
 /// refused, that is said, and the exit status is told.
-pub(crate) fn read_texts<R: AllocGlobal + Input + Print + Eprint + Files>(
+fn read_texts<R: AllocGlobal + Input + Print + Eprint + Files>(
     rt: &R,
     path: &str,
+    limit: u64,
 ) -> anyhow::Result<Result<Texts, ExitCode>> {
     let octets = match plan_text(rt, path) {
         Ok(octets) => octets,
@@ -35,31 +66,79 @@ pub(crate) fn read_texts<R: AllocGlobal + Input + Print + Eprint + Files>(
         return Ok(Err(refused(rt, fault)));
     }
     let mut script = Vec::new(rt.alloc());
-    if let Err(cause) = rt.reader().read_to_end(&mut script) {
-        return Ok(Err(lost(rt, "standard input", &cause)));
+    match rt
+        .reader()
+        .take(limit.saturating_add(1))
+        .read_to_end(&mut script)
+    {
+        Err(cause) => return Ok(Err(lost(rt, "standard input", &cause))),
+        Ok(_) if script.len() as u64 > limit => {
+            let _ = eprintln!(rt; "dnp: standard input: over {limit} octets");
+            return Ok(Err(ExitCode::from(exit::FAULT)));
+        }
+        Ok(_) => {}
     }
-    // What is not UTF-8 becomes a character that fits nowhere, so its line is the one that is refused.
-    let script = String::from_utf8_lossy(rt.alloc(), script.as_slice())?;
+    let script = as_text(rt.alloc(), script)?;
     Ok(Ok(Texts { plan, script }))
 }
 
+/// The octets as a text, in their own place. Where they stop being UTF-8, the text ends in a character that fits nowhere:
+/// the line that holds it is refused, and so is none before it that fits.
+fn as_text(alloc: Global, octets: Vec<u8>) -> Result<String, AllocError> {
+    let fault = match String::from_utf8(octets) {
+        Ok(text) => return Ok(text),
+        Err(fault) => fault,
+    };
+    let end = fault.utf8_error().valid_up_to();
+    let mut octets = fault.into_bytes();
+    octets.truncate(end);
+    octets.extend_from_slice(NO_CHARACTER.as_bytes())?;
+    match String::from_utf8(octets) {
+        Ok(text) => Ok(text),
+        Err(_) => String::from_str(alloc, NO_CHARACTER),
+    }
+}
+
 /// Writes what the buffer still holds, and gives the exit status of texts that came to this end. Where the output is lost,
-/// or the script was not run to its report, why is said on standard error.
-pub(crate) fn finish<R: Eprint, W: Write + Drop>(
+/// the script is refused, or it was not run to its report, why is said on standard error.
+pub(crate) fn finish<R: AllocGlobal + Eprint, W: Write + Drop>(
     rt: &R,
+    texts: &Texts,
+    carried: bool,
     out: &mut BufWriter<Noted<W>>,
     ended: Result<u8, ScriptStop>,
 ) -> anyhow::Result<ExitCode> {
     let flushed = out.flush();
     if let Some(cause) = out.get_ref().cause() {
-        return Ok(lost(rt, "standard output", cause));
+        return Ok(unwritten(rt, cause));
     }
     flushed?;
     match ended {
-        Ok(status) => Ok(ExitCode::from(status)),
+        Ok(status) => {
+            if status == exit::REFUSED {
+                explain(rt, texts, carried);
+            }
+            Ok(ExitCode::from(status))
+        }
         Err(stop) => {
             let _ = eprintln!(rt; "dnp: {stop}");
             Ok(ExitCode::from(exit::FAULT))
+        }
+    }
+}
+
+/// Says on standard error where and why the text is no script for the plan.
+fn explain<R: AllocGlobal + Eprint>(rt: &R, texts: &Texts, carried: bool) {
+    let Ok(plan) = read_plan(rt.alloc(), texts.plan.as_str()) else {
+        return;
+    };
+    match script_fault(rt.alloc(), texts.script.as_str(), &plan, carried) {
+        Ok(Some(fault)) => {
+            let _ = eprintln!(rt; "dnp: {fault}");
+        }
+        Ok(None) => {}
+        Err(fault) => {
+            let _ = eprintln!(rt; "dnp: {fault}");
         }
     }
 }

@@ -1,0 +1,186 @@
+//! `dnp decode`: octets as lines for people.
+
+mod capture;
+mod hexadecimal;
+mod item;
+mod packet;
+mod printing;
+
+use crate::decode::capture::{CaptureFault, items_of_capture};
+use crate::decode::hexadecimal::items_of_text;
+use crate::decode::item::{Item, place_octets};
+use crate::decode::printing::Printer;
+use crate::exit;
+use crate::fault::{Noted, lost, unwritten};
+use clap::{Arg, ArgAction, ArgMatches, Command};
+use std::alloc::{AllocError, Global};
+use std::io::{BufWriter, Read, Write};
+use std::process::ExitCode;
+use std::rt::Files;
+use std::{fs, io};
+
+/// The subcommand's name.
+pub const NAME: &str = "decode";
+
+/// What it does, in a line.
+const ABOUT: &str = "Print what octets are: frames, segments, fragments, headers and rows";
+
+/// What its help text says after the options.
+const AFTER: &str = "\
+INPUT
+  Lines of hexadecimal octets on standard input, two digits each, upper or lower case, with blanks
+  between them or none: the octets of all lines, one after the other, are one stream. With --raw the
+  octets themselves. With --pcap a capture in the classic form (Ethernet, raw IP or loopback): the
+  octets that TCP and UDP carry, each direction of each connection a stream of its own. At most
+  16,777,216 octets of input.
+
+EXAMPLE
+  Master 1 asks outstation 10 for its events and its static data:
+
+    echo '05 64 14 C4 0A 00 01 00 8F ED C0 C0 01 3C 02 06 3C 03 06 3C 04 06 3C 01 06 8A 51' |
+      dnp decode
+
+  1 1>10 C4 UNCONFIRMED_USER_DATA 15 octets, words good
+  1   transport FIR FIN 0
+  1   request seq 0 fir fin READ
+  1     60.2 all
+  1     60.3 all
+  1     60.4 all
+  1     60.1 all
+
+OUTPUT
+  On standard output a line for each link frame, transport segment, fragment, object header and
+  object, in the words of the standard. It begins with the line of the input in which the frame ends,
+  with the number of its packet in a capture, or with the place of its first octet under --raw, from
+  0. The segments of what one station sends to another are joined apart from all others. An object
+  that is a point's or a command has its index, and its value or what it does, behind its header.
+  What is refused has a line that says why, and at which octet of the frame or the fragment, from 0;
+  what stands before it in a fragment has its lines.
+  With --json each line is a JSON object: 'at' is that number, 'layer' says what the line is of, and
+  'refused' is there where something is refused.
+
+EXIT STATUS
+  0  all was read
+  1  something was refused, or the file is no capture that is read here
+  2  the command line is wrong
+  3  the program failed: the file can't be read, out of memory, or the input or the output was lost;
+     a line on standard error says which, and why";
+
+/// The most octets of input that are read. So no input can fill the memory.
+const MAX_INPUT: u64 = 16 * 1_024 * 1_024;
+
+/// What `clap` has to know of `dnp decode`.
+pub(crate) fn command<'a>(alloc: Global) -> Result<Command<'a>, AllocError> {
+    let raw = Arg::new(alloc, "raw")
+        .long("raw")
+        .action(ArgAction::SetTrue)
+        .help("Take standard input as octets, and not as hexadecimal lines");
+    let pcap = Arg::new(alloc, "pcap")
+        .long("pcap")
+        .value_name("FILE")
+        .help("Read a capture in place of standard input");
+    let json = Arg::new(alloc, "json")
+        .long("json")
+        .action(ArgAction::SetTrue)
+        .help("Print each line as a JSON object");
+    Command::new(alloc, NAME)
+        .about(ABOUT)
+        .after_help(AFTER)
+        .arg(raw)?
+        .arg(pcap)?
+        .arg(json)
+}
+
+/// Decodes the input by the given words, and tells the exit status.
+pub(crate) fn run<R: AllocGlobal + Input + Print + Eprint + Files>(
+    rt: &R,
+    given: &ArgMatches<'_>,
+) -> anyhow::Result<ExitCode> {
+    let json = given.get_flag("json");
+    let raw = given.get_flag("raw");
+    match given.get_str("pcap") {
+        Some(_) if raw => {
+            let _ = eprintln!(rt; "error: '--raw' and '--pcap <FILE>' can't be used together");
+            Ok(ExitCode::from(exit::USAGE))
+        }
+        Some(path) => {
+            let octets = match octets_of(rt, path, fs::open(rt, path)) {
+                Ok(octets) => octets,
+                Err(status) => return Ok(status),
+            };
+            decode_capture(rt, octets.as_slice(), json)
+        }
+        None => {
+            let octets = match octets_of(rt, "standard input", Ok(rt.reader())) {
+                Ok(octets) => octets,
+                Err(status) => return Ok(status),
+            };
+            let items = if raw {
+                place_octets(rt.alloc(), octets.as_slice())?
+            } else {
+                items_of_text(rt.alloc(), octets.as_slice())?
+            };
+            print_items(rt, items.as_slice(), json)
+        }
+    }
+}
+
+/// The octets of an input. Where it can't be read, why is said on standard error, and the exit status is told.
+fn octets_of<R: AllocGlobal + Eprint, S: Read + Drop>(
+    rt: &R,
+    name: &str,
+    input: io::Result<S>,
+) -> Result<Vec<u8>, ExitCode> {
+    let mut octets = Vec::new(rt.alloc());
+    let read = match input {
+        Ok(input) => input.take(MAX_INPUT + 1).read_to_end(&mut octets),
+        Err(cause) => Err(cause),
+    };
+    match read {
+        Ok(_) if octets.len() as u64 > MAX_INPUT => {
+            let _ = eprintln!(rt; "dnp: {name}: over {MAX_INPUT} octets");
+            Err(ExitCode::from(exit::FAULT))
+        }
+        Ok(_) => Ok(octets),
+        Err(cause) => Err(lost(rt, name, &cause)),
+    }
+}
+
+/// Prints what a capture carries, or why it is refused, and tells the exit status.
+fn decode_capture<R: AllocGlobal + Print + Eprint>(
+    rt: &R,
+    octets: &[u8],
+    json: bool,
+) -> anyhow::Result<ExitCode> {
+    match items_of_capture(rt.alloc(), octets) {
+        Ok(items) => print_items(rt, items.as_slice(), json),
+        Err(CaptureFault::Memory) => {
+            let _ = eprintln!(rt; "dnp: out of memory");
+            Ok(ExitCode::from(exit::FAULT))
+        }
+        Err(fault) => {
+            let name = fault.name();
+            if let Err(cause) = println!(rt; "refused capture {name}") {
+                return Ok(unwritten(rt, &cause));
+            }
+            let _ = eprintln!(rt; "dnp: {fault}");
+            Ok(ExitCode::from(exit::REFUSED))
+        }
+    }
+}
+
+/// Prints the items, and tells the exit status.
+fn print_items<R: AllocGlobal + Print + Eprint>(
+    rt: &R,
+    items: &[Item],
+    json: bool,
+) -> anyhow::Result<ExitCode> {
+    let mut out = BufWriter::new(rt.alloc(), Noted::new(io::writer(rt)))?;
+    let printed = Printer::new(json).print_all(items, &mut out);
+    let flushed = out.flush();
+    if let Some(cause) = out.get_ref().cause() {
+        return Ok(unwritten(rt, cause));
+    }
+    flushed?;
+    Ok(ExitCode::from(if printed? { exit::REFUSED } else { exit::DONE }))
+}

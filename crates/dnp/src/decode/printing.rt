@@ -1,0 +1,146 @@
+//! The lines of the output.
+
+use crate::decode::item::{Item, What};
+use dnp_decode::{Line, Members};
+use std::io;
+use std::io::Write;
+
+/// Prints items, and remembers whether any of them was a refusal.
+#[derive(Drop)]
+pub(crate) struct Printer {
+    /// Whether each is printed as a JSON object.
+    json: bool,
+    /// The object header of which no object was printed yet.
+    header: Option<Item>,
+    /// The object header whose objects may come.
+    current: Option<Line>,
+    /// Whether something was refused.
+    refused: bool,
+}
+
+/// Whether the item says that something is refused.
+fn is_refusal(item: &Item) -> bool {
+    match item.what {
+        What::Line(line) => matches!(
+            line,
+            Line::Noise(_)
+                | Line::FrameRefused { .. }
+                | Line::Cut(_)
+                | Line::SegmentRefused(_)
+                | Line::SeriesDropped
+                | Line::FragmentRefused { .. }
+        ),
+        What::Text(_) | What::Packet => true,
+    }
+}
+
+/// The blanks before a line: two for each layer above frames.
+fn indent_of(line: &Line) -> &'static str {
+    match line {
+        Line::Noise(_) | Line::Frame { .. } | Line::FrameRefused { .. } | Line::Cut(_) => " ",
+        Line::Header { .. } | Line::Row(_) | Line::Command(..) => "     ",
+        _ => "   ",
+    }
+}
+
+/// Whether the line is of an object.
+fn is_object(line: &Line) -> bool {
+    matches!(line, Line::Row(_) | Line::Command(..))
+}
+
+/// Prints an item as a JSON object.
+fn print_object<W: Write>(item: &Item, out: &mut W) -> io::Result<()> {
+    let at = item.at;
+    match item.what {
+        What::Line(line) => {
+            let members = Members(line);
+            writeln!(out, "{{\"at\":{at},{members}}}")
+        }
+        What::Text(column) => writeln!(
+            out,
+            "{{\"at\":{at},\"layer\":\"text\",\"refused\":\"Digit\",\"column\":{column}}}"
+        ),
+        What::Packet => writeln!(
+            out,
+            "{{\"at\":{at},\"layer\":\"packet\",\"refused\":\"Cut\"}}"
+        ),
+    }
+}
+
+/// Prints an item as a line of text.
+fn print_text<W: Write>(item: &Item, out: &mut W) -> io::Result<()> {
+    let at = item.at;
+    match item.what {
+        What::Line(line) => {
+            let indent = indent_of(&line);
+            writeln!(out, "{at}{indent}{line}")
+        }
+        What::Text(column) => {
+            writeln!(
+                out,
+                "{at} text refused: no hexadecimal digit in column {column}"
+            )
+        }
+        What::Packet => writeln!(out, "{at} packet refused: the capture ends in it"),
+    }
+}
+
+impl Printer {
+    /// A printer that has printed nothing.
+    pub(crate) fn new(json: bool) -> Self {
+        Printer {
+            json,
+            header: None,
+            current: None,
+            refused: false,
+        }
+    }
+
+    /// Prints all the items, and answers whether something was refused.
+    pub(crate) fn print_all<W: Write>(mut self, items: &[Item], out: &mut W) -> io::Result<bool> {
+        for item in items {
+            if is_refusal(item) {
+                self.refused = true;
+            }
+            if self.json {
+                print_object(item, out)?;
+            } else {
+                self.print(item, out)?;
+            }
+        }
+        self.print_header(out)?;
+        Ok(self.refused)
+    }
+
+    /// Prints the header of which no object was printed, if there is one.
+    fn print_header<W: Write>(&mut self, out: &mut W) -> io::Result<()> {
+        if let Some(item) = self.header.take() {
+            print_text(&item, out)?;
+        }
+        Ok(())
+    }
+
+    /// Prints an item as text: an object behind its header, and a header alone where it has no objects.
+    fn print<W: Write>(&mut self, item: &Item, out: &mut W) -> io::Result<()> {
+        let What::Line(line) = item.what else {
+            self.print_header(out)?;
+            return print_text(item, out);
+        };
+        if is_object(&line) {
+            self.header = None;
+            if let Some(header) = self.current {
+                let at = item.at;
+                return writeln!(out, "{at}     {header}: {line}");
+            }
+            return print_text(item, out);
+        }
+        self.print_header(out)?;
+        if let Line::Header { .. } = line {
+            self.header = Some(*item);
+            self.current = Some(line);
+            return Ok(());
+        }
+        self.current = None;
+        print_text(item, out)
+    }
+}
