@@ -3,6 +3,7 @@
 
     looks.py chart NAME FILE.svg TRACE        well-formed, and with the arrows, breaks and words of the trace
     looks.py capture NAME FILE.pcap TRACE     with checksums and sequence numbers as they should be, and the units of the trace
+    looks.py decoded NAME DECODED TRACE       what `dnp decode` reads in the capture, unit by unit, as the trace has it
     looks.py report NAME FILE.json TEXT       with the numbers of the text
 """
 import json
@@ -91,6 +92,45 @@ def capture(path, trace):
     assert came == [(moment * 1000, link, way) for moment, link, way, _, _ in told], came
 
 
+def phrase_of(lines):
+    """What a packet says in the words of the trace, by the lines that decode prints of it."""
+    frame, *more = lines
+    if not more:
+        return frame.split(" ")[2]
+    flags = more[0].removeprefix("transport ")
+    if not flags.startswith("FIR FIN "):
+        # (the last one has the fragment's lines as well)
+        return f"segment {flags}"
+    kind, said = more[1].split(" ", 1)
+    if kind == "request":
+        said, name = said.rsplit(" ", 1)
+    else:
+        said, indications = said.split(", iin ")
+        name = "UNSOLICITED_RESPONSE" if "uns" in said.split(" ") else "RESPONSE"
+        said += f" iin {indications}" * (indications != "00 00")
+    headers, at = [], 2
+    while at < len(more):
+        head, has_rows, _ = more[at].partition(": ")
+        what, how = head.split(" ", 1)
+        first, is_range, last = how.partition("..")
+        count = int(last) - int(first) + 1 if is_range else 0 if how == "all" else int(how.removeprefix("x"))
+        assert not has_rows or all(it.startswith(head + ": ") for it in more[at:at + count]), more[at:at + count]
+        headers.append(head if how == "all" else f"{what} x{count}")
+        at += count if has_rows else 1
+    return ", ".join([f"{name} {said}", *headers])
+
+
+def decoded(path, trace):
+    said = {}
+    for line in open(path, encoding="ascii"):
+        number, rest = line.rstrip("\n").split(" ", 1)
+        assert "refused" not in rest, line
+        said.setdefault(int(number), []).append(rest.strip())
+    came = [phrase_of(said[number]) for number in sorted(said)]
+    wanted = [phrase for _, _, _, what, phrase in steps(trace) if what in ("arrives", "repeated")]
+    assert came == wanted, next((pair for pair in zip(came, wanted) if pair[0] != pair[1]), (len(came), len(wanted)))
+
+
 def report(path, text):
     found = json.load(open(path, encoding="ascii"))
     lines, outcomes, lists, name = open(text, encoding="ascii").read().split("\n")[:-1], [], {}, None
@@ -115,7 +155,7 @@ def report(path, text):
 def main():
     what, name, path, beside = sys.argv[1:]
     try:
-        {"chart": chart, "capture": capture, "report": report}[what](path, beside)
+        {"chart": chart, "capture": capture, "decoded": decoded, "report": report}[what](path, beside)
         print(f"ok {what}-of-{name}")
     except Exception as error:
         print(f"FAILED {what}-of-{name}: {type(error).__name__} {str(error)[:300]}")

@@ -187,6 +187,37 @@ LINES
     sent() { tshark -r capture -d "tcp.port==$port,dnp3" -Y "tcp.srcport == $port and dnp3 and ($1)" 2>/dev/null | wc -l; }
     echo "$(sent 'dnp3.al.func == 0x81 or dnp3.ctl.secfunc == 11') $(sent '_ws.malformed or _ws.expert.severity >= 0x600000')" >out
     judge is-read-without-a-complaint 0 '4 0' 0
+    # The same capture, both ways, by `dnp decode`: what master.py was told to send, and what came back
+    tshark -r capture -F pcap -w classic 2>/dev/null
+    "$dnp" decode --pcap classic </dev/null 2>err | sed -E 's/^[0-9]+ +//' >out
+    judge decodes-a-master-of-another-make 0 '2>10 C9 REQUEST_LINK_STATUS 0 octets, words good
+10>2 0B LINK_STATUS 0 octets, words good
+2>10 C4 UNCONFIRMED_USER_DATA 15 octets, words good
+transport FIR FIN 0
+request seq 0 fir fin READ
+60.2 all
+60.3 all
+60.4 all
+60.1 all
+10>2 44 UNCONFIRMED_USER_DATA 18 octets, words good
+transport FIR FIN 0
+response seq 0 fir fin, iin 80 00
+10.2 0..5
+2>10 C4 UNCONFIRMED_USER_DATA 9 octets, words good
+transport FIR FIN 1
+request seq 1 fir fin WRITE
+80.1 7..7
+10>2 44 UNCONFIRMED_USER_DATA 5 octets, words good
+transport FIR FIN 1
+response seq 1 fir fin, iin 00 00
+2>10 C4 UNCONFIRMED_USER_DATA 21 octets, words good
+transport FIR FIN 2
+request seq 2 fir fin DIRECT_OPERATE
+12.1 x1: 5 code 03 count 1 on 0 off 0 status 0
+10>2 44 UNCONFIRMED_USER_DATA 23 octets, words good
+transport FIR FIN 2
+response seq 2 fir fin, iin 00 00
+12.1 x1: 5 code 03 count 1 on 0 off 0 status 0' "${PIPESTATUS[0]}"
 else
     echo "(no capture: there is no tshark, or it may not capture)"
 fi

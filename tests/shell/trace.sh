@@ -17,6 +17,8 @@ looked() {
     judge "prints-the-same:$1" "$wanted" "$(<"$1.text")" "$got"
     python3 "$looks" chart "$1" "$1.svg" "$1.trace"
     python3 "$looks" capture "$1" "$1.pcap" "$1.trace"
+    "$dnp" decode --pcap "$1.pcap" </dev/null >"$1.decoded" 2>err
+    python3 "$looks" decoded "$1" "$1.decoded" "$1.trace"
     "$dnp" sim --plan "$2" --json <script >"$1.json" 2>err
     python3 "$looks" report "$1" "$1.json" "$1.text"
     dissected "$1"
