@@ -2,7 +2,8 @@
 
 use crate::exit;
 use crate::fault::{Noted, lost, unwritten};
-use clap::{Arg, ArgMatches, Command};
+use crate::options::defaulted;
+use clap::{ArgMatches, Command};
 use dnp_daemons::{AnswerFault, answer_line, read_address, read_text, text_fault};
 use std::alloc::{AllocError, Global};
 use std::io;
@@ -55,23 +56,18 @@ not a decimal number from 0 to 65519
 
 For more information, try 'dnp answer --help'.";
 
+/// What is said of the options.
+const OWN: &str = "The outstation's own link address, 0 to 65519";
+
+const PEER: &str = "The link address of its master, 0 to 65519";
+
 /// What `clap` has to know of `dnp answer`.
 pub(crate) fn command<'a>(alloc: Global) -> Result<Command<'a>, AllocError> {
-    let own = Arg::new(alloc, "own")
-        .long("own")
-        .value_name("ADDRESS")
-        .default_value("10")
-        .help("The outstation's own link address, 0 to 65519");
-    let peer = Arg::new(alloc, "peer")
-        .long("peer")
-        .value_name("ADDRESS")
-        .default_value("1")
-        .help("The link address of its master, 0 to 65519");
     Command::new(alloc, NAME)
         .about(ABOUT)
         .after_help(AFTER)
-        .arg(own)?
-        .arg(peer)
+        .arg(defaulted(alloc, "own", "ADDRESS", "10", OWN))?
+        .arg(defaulted(alloc, "peer", "ADDRESS", "1", PEER))
 }
 
 /// Answers the line on standard input by the given words, and tells the exit status.

@@ -12,7 +12,8 @@ use crate::decode::item::{Item, place_octets};
 use crate::decode::printing::Printer;
 use crate::exit;
 use crate::fault::{Noted, lost, unwritten};
-use clap::{Arg, ArgAction, ArgMatches, Command};
+use crate::options::{flag, valued};
+use clap::{ArgMatches, Command};
 use std::alloc::{AllocError, Global};
 use std::io::{BufWriter, Read, Write};
 use std::process::ExitCode;
@@ -69,26 +70,21 @@ EXIT STATUS
 /// The most octets of input that are read. So no input can fill the memory.
 const MAX_INPUT: u64 = 16 * 1_024 * 1_024;
 
+/// What is said of the options.
+const RAW: &str = "Take standard input as octets, and not as hexadecimal lines";
+
+const PCAP: &str = "Read a capture in place of standard input";
+
+const JSON: &str = "Print each line as a JSON object";
+
 /// What `clap` has to know of `dnp decode`.
 pub(crate) fn command<'a>(alloc: Global) -> Result<Command<'a>, AllocError> {
-    let raw = Arg::new(alloc, "raw")
-        .long("raw")
-        .action(ArgAction::SetTrue)
-        .help("Take standard input as octets, and not as hexadecimal lines");
-    let pcap = Arg::new(alloc, "pcap")
-        .long("pcap")
-        .value_name("FILE")
-        .help("Read a capture in place of standard input");
-    let json = Arg::new(alloc, "json")
-        .long("json")
-        .action(ArgAction::SetTrue)
-        .help("Print each line as a JSON object");
     Command::new(alloc, NAME)
         .about(ABOUT)
         .after_help(AFTER)
-        .arg(raw)?
-        .arg(pcap)?
-        .arg(json)
+        .arg(flag(alloc, "raw", RAW))?
+        .arg(valued(alloc, "pcap", "FILE", PCAP))?
+        .arg(flag(alloc, "json", JSON))
 }
 
 /// Decodes the input by the given words, and tells the exit status.

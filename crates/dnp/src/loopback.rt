@@ -1,9 +1,10 @@
 //! `dnp loopback`: a whole system of a plan, run by a script, whose units go over TCP to the program itself.
 
 use crate::fault::{Noted, lost};
+use crate::options::plan;
 use crate::texts::{Texts, finish, limit, texts_given};
 use crate::wire::Wire;
-use clap::{Arg, ArgMatches, Command};
+use clap::{ArgMatches, Command};
 use dnp_daemons::loop_text;
 use std::alloc::{AllocError, Global};
 use std::io;
@@ -47,15 +48,10 @@ EXIT STATUS
 
 /// What `clap` has to know of `dnp loopback`.
 pub(crate) fn command<'a>(alloc: Global) -> Result<Command<'a>, AllocError> {
-    let plan = Arg::new(alloc, "plan")
-        .long("plan")
-        .value_name("FILE")
-        .required(true)
-        .help("The plan of the system, as TOML");
     Command::new(alloc, NAME)
         .about(ABOUT)
         .after_help(AFTER)
-        .arg(plan)?
+        .arg(plan(alloc))?
         .arg(limit(alloc))
 }
 

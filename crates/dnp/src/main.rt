@@ -10,6 +10,7 @@ mod fault;
 mod looks;
 mod loopback;
 mod numbers;
+mod options;
 mod outstation;
 mod plan_file;
 mod serving;

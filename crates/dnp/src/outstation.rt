@@ -2,9 +2,10 @@
 
 use crate::exit;
 use crate::numbers::number_given;
+use crate::options::{defaulted, plan, required};
 use crate::plan_file::{plan_text, refused};
 use crate::serving::{Listening, serve_connections};
-use clap::{Arg, ArgMatches, Command};
+use clap::{ArgMatches, Command};
 use dnp_daemons::{PlanTextFault, outstation_address, planned_outstation};
 use std::alloc::{AllocError, Global};
 use std::net::{Net, TcpListener, TcpStream};
@@ -47,35 +48,22 @@ EXIT STATUS
   3  the program failed: the plan can't be read, the port can't be had, as when it is in use,
      out of memory, or the output was lost; a line on standard error says which, and why";
 
+/// What is said of the options.
+const STATION: &str = "The number of the substation in the plan, from 0";
+
+const PORT: &str = "The TCP port to listen on, 1 to 65535; DNP3's own is 20000";
+
+const CONNECTIONS: &str = "How many connections to serve, 1 to 1000000";
+
 /// What `clap` has to know of `dnp outstation`.
 pub(crate) fn command<'a>(alloc: Global) -> Result<Command<'a>, AllocError> {
-    let plan = Arg::new(alloc, "plan")
-        .long("plan")
-        .value_name("FILE")
-        .required(true)
-        .help("The plan of the system, as TOML");
-    let station = Arg::new(alloc, "station")
-        .long("station")
-        .value_name("S")
-        .required(true)
-        .help("The number of the substation in the plan, from 0");
-    let port = Arg::new(alloc, "port")
-        .long("port")
-        .value_name("P")
-        .required(true)
-        .help("The TCP port to listen on, 1 to 65535; DNP3's own is 20000");
-    let connections = Arg::new(alloc, "connections")
-        .long("connections")
-        .value_name("N")
-        .default_value("1")
-        .help("How many connections to serve, 1 to 1000000");
     Command::new(alloc, NAME)
         .about(ABOUT)
         .after_help(AFTER)
-        .arg(plan)?
-        .arg(station)?
-        .arg(port)?
-        .arg(connections)
+        .arg(plan(alloc))?
+        .arg(required(alloc, "station", "S", STATION))?
+        .arg(required(alloc, "port", "P", PORT))?
+        .arg(defaulted(alloc, "connections", "N", "1", CONNECTIONS))
 }
 
 /// What the words of the command line say.

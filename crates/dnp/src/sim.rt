@@ -3,8 +3,9 @@
 use crate::exit;
 use crate::fault::Noted;
 use crate::looks::write_looks;
+use crate::options::{flag, plan, valued};
 use crate::texts::{Texts, finish, limit, texts_given};
-use clap::{Arg, ArgAction, ArgMatches, Command};
+use clap::{ArgMatches, Command};
 use dnp_daemons::sim_text;
 use dnp_trace::report_json;
 use std::alloc::{AllocError, Global};
@@ -89,33 +90,15 @@ EXIT STATUS
 
 /// What `clap` has to know of `dnp sim`.
 pub(crate) fn command<'a>(alloc: Global) -> Result<Command<'a>, AllocError> {
-    let plan = Arg::new(alloc, "plan")
-        .long("plan")
-        .value_name("FILE")
-        .required(true)
-        .help("The plan of the system, as TOML");
     Command::new(alloc, NAME)
         .about(ABOUT)
         .after_help(AFTER)
-        .arg(plan)?
+        .arg(plan(alloc))?
         .arg(limit(alloc))?
-        .arg(file(alloc, "trace", TRACE))?
-        .arg(file(alloc, "chart", CHART))?
-        .arg(file(alloc, "capture", CAPTURE))?
-        .arg(
-            Arg::new(alloc, "json")
-                .long("json")
-                .action(ArgAction::SetTrue)
-                .help(JSON),
-        )
-}
-
-/// An option that names a file to be written.
-fn file<'a>(alloc: Global, name: &'a str, help: &'a str) -> Arg<'a> {
-    Arg::new(alloc, name)
-        .long(name)
-        .value_name("FILE")
-        .help(help)
+        .arg(valued(alloc, "trace", "FILE", TRACE))?
+        .arg(valued(alloc, "chart", "FILE", CHART))?
+        .arg(valued(alloc, "capture", "FILE", CAPTURE))?
+        .arg(flag(alloc, "json", JSON))
 }
 
 /// Runs the script on standard input by the given words, and tells the exit status.

@@ -3,6 +3,7 @@
 use crate::exit;
 use crate::fault::{Noted, lost, unwritten};
 use crate::numbers::number_given;
+use crate::options::defaulted;
 use crate::plan_file::{plan_text, refused};
 use clap::{Arg, ArgMatches};
 use dnp_daemons::{PlanTextFault, ScriptStop, read_plan, script_fault};
@@ -26,13 +27,12 @@ const MAX_LIMIT: u64 = 1 << 40;
 /// What is said of a text that is not UTF-8 from some place on: the character that stands there fits nowhere.
 const NO_CHARACTER: &str = "\u{FFFD}";
 
+/// What is said of the option for the limit.
+const LIMIT: &str = "The most octets of the script, 1 to 1099511627776";
+
 /// The option that says how many octets of a script are read.
 pub(crate) fn limit<'a>(alloc: Global) -> Arg<'a> {
-    Arg::new(alloc, "limit")
-        .long("limit")
-        .value_name("OCTETS")
-        .default_value("67108864")
-        .help("The most octets of the script, 1 to 1099511627776")
+    defaulted(alloc, "limit", "OCTETS", "67108864", LIMIT)
 }
 
 /// The texts that the given words name. Where one of them is wrong or can't be read, or the plan is refused, that is said,
