@@ -48,6 +48,17 @@ decodes packed-bits 0 '1 10>2 44 UNCONFIRMED_USER_DATA 11 octets, words good
 1     1.1 0..2: 0 = 0 flags 01
 1     1.1 0..2: 1 = 1 flags 01
 1     1.1 0..2: 2 = 0 flags 01' "$(frame 44 02 0A C0 C0 81 00 00 01 01 00 00 02 02)$lf"
+# 10.2, the states of the outputs 3 and 4: on and off, both ONLINE
+decodes states-of-outputs 0 '1 10>2 44 UNCONFIRMED_USER_DATA 12 octets, words good
+1   transport FIR FIN 0
+1   response seq 0 fir fin, iin 80 00
+1     10.2 3..4: 3 = 1 flags 01
+1     10.2 3..4: 4 = 0 flags 01' "$(frame 44 02 0A C0 C0 81 80 00 0A 02 00 03 04 81 01)$lf"
+# 80.1, the indication DEVICE_RESTART, 7, is cleared
+decodes an-indication 0 '1 2>10 C4 UNCONFIRMED_USER_DATA 9 octets, words good
+1   transport FIR FIN 0
+1   request seq 0 fir fin WRITE
+1     80.1 7..7: 7 = 0' "$(frame C4 0A 02 C0 C0 02 50 01 00 07 07 00)$lf"
 decodes an-unsolicited-response 0 '1 10>2 44 UNCONFIRMED_USER_DATA 5 octets, words good
 1   transport FIR FIN 0
 1   response seq 0 fir fin con uns, iin 80 00' "$(frame 44 02 0A C0 F0 82 80 00)$lf"
@@ -98,9 +109,9 @@ decodes a-series-that-is-dropped 1 '1 2>10 C4 UNCONFIRMED_USER_DATA 4 octets, wo
 1   transport FIR 0
 2 2>10 C4 UNCONFIRMED_USER_DATA 3 octets, words good
 2   transport FIN 2
-2   transport series dropped' "$one$lf$(frame C4 0A 02 82 02 06)$lf"
+2   transport refused: Series' "$one$lf$(frame C4 0A 02 82 02 06)$lf"
 decodes a-segment-without-data 1 '1 2>10 C4 UNCONFIRMED_USER_DATA 1 octets, words good
-1   transport refused: 1 octets' "$(frame C4 0A 02 C0)$lf"
+1   transport refused: Size, 1 octets' "$(frame C4 0A 02 C0)$lf"
 
 # What is refused, and what goes on behind it
 long=$(frame 44 02 0A C0 C0 81 00 00 1E 01 00 05 06 01 FF FF FF FF 81 00 00 01 00)
@@ -110,7 +121,9 @@ decodes a-length-of-4 1 "1 1>10 frame refused: Length at octet 2
 $(read_at 2)" "05 64 04 C4 0A 00 01 00 4E 95$lf$asked$lf"
 decodes noise 1 "1 3 octets skipped: no frame begins there
 $read_lines" "FF 05 64 $asked$lf"
-decodes a-frame-that-is-cut 1 "1 frame refused: 12 octets, and then the end" "${asked:0:35}$lf"
+decodes a-wrong-header-check 1 "1 27 octets skipped: HeaderCheck at octet 8
+$(read_at 2)" "${asked/8F ED/8F EE}$lf$asked$lf"
+decodes a-frame-that-is-cut 1 "1 frame refused: Cut at octet 12" "${asked:0:35}$lf"
 decodes an-unknown-object 1 '1 2>10 C4 UNCONFIRMED_USER_DATA 9 octets, words good
 1   transport FIR FIN 0
 1   request seq 0 fir fin READ
@@ -144,19 +157,41 @@ $read_lines
 $(read_at 28)" "$got"
 
 # JSON
-decodes json 1 '{"at":1,"layer":"frame","source":10,"dest":2,"control":68,"function":"UNCONFIRMED_USER_DATA","octets":17}
+decodes json 1 '{"at":1,"layer":"frame","source":10,"dest":2,"control":"44","function":"UNCONFIRMED_USER_DATA","octets":17}
 {"at":1,"layer":"transport","fir":true,"fin":true,"number":0,"octets":16}
-{"at":1,"layer":"response","seq":1,"fir":true,"fin":true,"con":true,"uns":false,"function":"RESPONSE","iin":[0,0]}
+{"at":1,"layer":"response","seq":1,"fir":true,"fin":true,"con":true,"uns":false,"function":"RESPONSE","iin":["00","00"]}
 {"at":1,"layer":"header","group":2,"variation":2,"range":"indexed","count":1,"octets":8}
-{"at":1,"layer":"row","kind":"binary","index":3,"value":1,"flags":1,"time":1000}
-{"at":2,"layer":"frame","source":10,"dest":2,"control":68,"refused":"BlockCheck","block":1,"octet":28}
-{"at":3,"layer":"frame","refused":"Cut","octets":2}
+{"at":1,"layer":"row","kind":"binary","index":3,"value":1,"flags":"01","time":1000}
+{"at":2,"layer":"frame","source":10,"dest":2,"control":"44","refused":"BlockCheck","block":1,"octet":28}
+{"at":3,"layer":"frame","refused":"Cut","octet":2}
 {"at":4,"layer":"text","refused":"Digit","column":1}' "$event$lf${long% *} 00$lf"'FF FF'"$lf"x"$lf" --json
-decodes json-of-a-request 1 '{"at":1,"layer":"frame","source":2,"dest":10,"control":196,"function":"UNCONFIRMED_USER_DATA","octets":9}
+decodes json-of-a-request 1 '{"at":1,"layer":"frame","source":2,"dest":10,"control":"C4","function":"UNCONFIRMED_USER_DATA","octets":9}
 {"at":1,"layer":"transport","fir":true,"fin":true,"number":0,"octets":8}
 {"at":1,"layer":"request","seq":0,"fir":true,"fin":true,"con":false,"uns":false,"function":"READ"}
 {"at":1,"layer":"header","group":60,"variation":2,"range":"all","octets":0}
 {"at":1,"layer":"fragment","refused":"ObjectUnknown","octet":5}' "$(frame C4 0A 02 C0 C0 01 3C 02 06 63 01 06)$lf" --json
+
+decodes json-of-objects 1 '{"at":1,"layer":"frame","source":2,"dest":10,"control":"C4","function":"UNCONFIRMED_USER_DATA","octets":37}
+{"at":1,"layer":"transport","fir":true,"fin":true,"number":0,"octets":36}
+{"at":1,"layer":"request","seq":0,"fir":true,"fin":true,"con":false,"uns":false,"function":"SELECT"}
+{"at":1,"layer":"header","group":12,"variation":1,"range":"indexed","count":1,"octets":12}
+{"at":1,"layer":"command","command":"block","index":5,"code":129,"count":2,"on_ms":100,"off_ms":200,"status":0}
+{"at":1,"layer":"header","group":41,"variation":2,"range":"indexed","count":1,"octets":4}
+{"at":1,"layer":"command","command":"set16","index":5,"value":-2,"status":4}
+{"at":1,"layer":"header","group":41,"variation":1,"range":"indexed","count":1,"octets":6}
+{"at":1,"layer":"command","command":"set32","index":6,"value":65536,"status":0}
+{"at":2,"layer":"frame","source":10,"dest":2,"control":"44","function":"UNCONFIRMED_USER_DATA","octets":11}
+{"at":2,"layer":"transport","fir":true,"fin":true,"number":0,"octets":10}
+{"at":2,"layer":"response","seq":0,"fir":true,"fin":true,"con":false,"uns":false,"function":"RESPONSE","iin":["80","00"]}
+{"at":2,"layer":"header","group":10,"variation":2,"range":"span","first":3,"last":3,"octets":1}
+{"at":2,"layer":"row","kind":"output","index":3,"value":1,"flags":"01","time":null}
+{"at":3,"layer":"frame","source":2,"dest":10,"control":"C4","function":"UNCONFIRMED_USER_DATA","octets":9}
+{"at":3,"layer":"transport","fir":true,"fin":true,"number":0,"octets":8}
+{"at":3,"layer":"request","seq":0,"fir":true,"fin":true,"con":false,"uns":false,"function":"WRITE"}
+{"at":3,"layer":"header","group":80,"variation":1,"range":"span","first":7,"last":7,"octets":1}
+{"at":3,"layer":"indication","index":7,"value":0}
+{"at":4,"layer":"frame","refused":"HeaderCheck","octet":8,"octets":1}
+{"at":4,"layer":"frame","refused":"Cut","octet":9}' "$(frame C4 0A 02 C0 C0 03 0C 01 17 01 05 81 02 64 00 00 00 C8 00 00 00 00 29 02 17 01 05 FE FF 04 29 01 17 01 06 00 00 01 00 00)$lf$(frame 44 02 0A C0 C0 81 80 00 0A 02 00 03 03 81)$lf$(frame C4 0A 02 C0 C0 02 50 01 00 07 07 00)$lf"'05 64 05 C0 01 00 00 04 E9 22'"$lf" --json
 
 # Captures, each packet of raw IPv4 (RFC 791) and TCP (RFC 9293)
 # le NUMBER OCTETS, be NUMBER OCTETS: a number in hexadecimal, the low or the high octet first

@@ -122,15 +122,15 @@ refuses two-spaces 2 "${fits}open  0$lf" ", word 2: an empty word, $a_link"
 refuses a-space-at-the-end 2 "${fits}open 0 $lf" ', word 3: an empty word, where the end of the line belongs'
 refuses a-tab 1 "open"$'\t'"0$lf" ", word 1: \"open\\t0\", $verbs"
 refuses another-word 1 "opne 0$lf" ", word 1: \"opne\", $verbs"
-refuses a-word-more 1 "open 0 up$lf" ', word 3: "up", where the end of the line belongs'
-refuses a-ninth-word 1 "issue 0 block 0 3 1 0 0 9$lf" ', word 9: "9", where the end of the line belongs'
-refuses another-kind 1 "change 0 bnary 0 1 01 -$lf" ', word 3: "bnary", where binary, counter or analog belongs'
-refuses another-command 1 "issue 0 sett 0 1$lf" ', word 3: "sett", where set16, set32 or block belongs'
-refuses a-value-too-large-for-set16 1 "issue 0 set16 0 32768$lf" ', word 5: "32768", where a whole number from -32768 to 32767 belongs'
-refuses flags-of-one-digit 1 "change 0 binary 0 1 1 -$lf" ', word 6: "1", where a word of two hexadecimal digits belongs'
-refuses no-time 1 "change 0 binary 0 1 01 now$lf" ', word 7: "now", where a time in milliseconds or - belongs'
-refuses another-end 1 "tick 0 up$lf" ', word 3: "up", where master or outstation belongs'
-refuses another-way 1 "deliver 0 master$lf" ', word 3: "master", where down or up belongs'
+refuses a-word-more 1 "open 0 up$lf" ", word 3: 'up', where the end of the line belongs"
+refuses a-ninth-word 1 "issue 0 block 0 3 1 0 0 9$lf" ", word 9: '9', where the end of the line belongs"
+refuses another-kind 1 "change 0 bnary 0 1 01 -$lf" ", word 3: 'bnary', where binary, counter or analog belongs"
+refuses another-command 1 "issue 0 sett 0 1$lf" ", word 3: 'sett', where set16, set32 or block belongs"
+refuses a-value-too-large-for-set16 1 "issue 0 set16 0 32768$lf" ", word 5: '32768', where a whole number from -32768 to 32767 belongs"
+refuses flags-of-one-digit 1 "change 0 binary 0 1 1 -$lf" ", word 6: '1', where a word of two hexadecimal digits belongs"
+refuses no-time 1 "change 0 binary 0 1 01 now$lf" ", word 7: 'now', where a time in milliseconds or - belongs"
+refuses another-end 1 "tick 0 up$lf" ", word 3: 'up', where master or outstation belongs"
+refuses another-way 1 "deliver 0 master$lf" ", word 3: 'master', where down or up belongs"
 refuses a-plus-sign 1 "pass +1$lf" ", word 2: \"+1\", $number"
 refuses a-link-that-the-plan-lacks 2 "${fits}open 1$lf" ", word 2: \"1\", $a_link"
 refuses a-substation-that-the-plan-lacks 1 "restart 1$lf" ", word 2: \"1\", where centre, concentrator or a substation's number, 0 to 0, belongs"

@@ -2,7 +2,7 @@
 
 use crate::exit;
 use crate::fault::{Noted, lost, unwritten};
-use crate::options::defaulted;
+use crate::options::{HINT, defaulted};
 use clap::{ArgMatches, Command};
 use dnp_daemons::{AnswerFault, answer_line, read_address, read_text, text_fault};
 use std::alloc::{AllocError, Global};
@@ -51,10 +51,7 @@ EXIT STATUS
      standard error says which, and why";
 
 /// What is wrong with an address that is refused.
-const NO_ADDRESS: &str = "\
-not a decimal number from 0 to 65519
-
-For more information, try 'dnp answer --help'.";
+const NO_ADDRESS: &str = "not a decimal number from 0 to 65519";
 
 /// What is said of the options.
 const OWN: &str = "The outstation's own link address, 0 to 65519";
@@ -118,7 +115,8 @@ fn address_given<R: Eprint>(rt: &R, given: &ArgMatches<'_>, option: &str) -> Opt
     let address = read_address(text);
     if address.is_none() {
         let _ = eprintln!(rt;
-            "error: invalid value {text:?} for '--{option} <ADDRESS>': {NO_ADDRESS}"
+            "error: invalid value '{}' for '--{option} <ADDRESS>': {NO_ADDRESS}{HINT}",
+            text.escape_debug()
         );
     }
     address

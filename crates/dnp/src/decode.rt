@@ -12,7 +12,7 @@ use crate::decode::item::{Item, place_octets};
 use crate::decode::printing::Printer;
 use crate::exit;
 use crate::fault::{Noted, lost, unwritten};
-use crate::options::{flag, valued};
+use crate::options::{HINT, flag, valued};
 use clap::{ArgMatches, Command};
 use std::alloc::{AllocError, Global};
 use std::io::{BufWriter, Read, Write};
@@ -53,12 +53,28 @@ OUTPUT
   On standard output a line for each link frame, transport segment, fragment, object header and
   object, in the words of the standard. It begins with the line of the input in which the frame ends,
   with the number of its packet in a capture, or with the place of its first octet under --raw, from
-  0. The segments of what one station sends to another are joined apart from all others. An object
-  that is a point's or a command has its index, and its value or what it does, behind its header.
-  What is refused has a line that says why, and at which octet of the frame or the fragment, from 0;
-  what stands before it in a fragment has its lines.
+  0. The segments of what one station sends to another are joined apart from all others. Behind that
+  number stands, with two blanks more for each layer above frames:
+    1>10 C4 UNCONFIRMED_USER_DATA 15 octets, words good
+              a frame from station 1 to station 10, its CONTROL octet and function, how many octets
+              of user data it has; its check words are right
+    transport FIR FIN 0
+              a segment, the first and the last of its fragment, with the number 0
+    request seq 0 fir fin con READ, response seq 0 fir fin, iin 80 00
+              a fragment, with the bits that are set, its function or its internal indications
+    30.1 5..6, 2.2 x1, 60.2 all
+              an object header, group 30 variation 1: the indexes 5 to 6, one object, or all
+    2.2 x1: 3 = 1 flags 01 at 2026-01-31T12:00:00.000Z
+              an object behind its header: the index, the value, the flags, the time (UTC). So are
+              the states of outputs, 10.2; an indication, 80.1, has no flags
+    12.1 x1: 5 code 81 count 2 on 100 off 200 status 0, 41.2 x1: 5 set -2 status 0
+              a command to output 5, times in milliseconds
+  A time that is written (50.1) and a delay (52.2) have their header alone.
+  What is refused has a line with the fault's name and its place, an octet of the frame or the
+  fragment, from 0, as 'frame refused: BlockCheck 1 at octet 28'; what stands before it in a fragment
+  has its lines. Octets at which no frame begins are 'skipped'. docs/decode.md lists all the names.
   With --json each line is a JSON object: 'at' is that number, 'layer' says what the line is of, and
-  'refused' is there where something is refused.
+  'refused' is there where something is refused; docs/decode.md has the members.
 
 EXIT STATUS
   0  all was read
@@ -96,7 +112,9 @@ pub(crate) fn run<R: AllocGlobal + Input + Print + Eprint + Files>(
     let raw = given.get_flag("raw");
     match given.get_str("pcap") {
         Some(_) if raw => {
-            let _ = eprintln!(rt; "error: '--raw' and '--pcap <FILE>' can't be used together");
+            let _ = eprintln!(rt;
+                "error: '--raw' and '--pcap <FILE>' can't be used together{HINT}"
+            );
             Ok(ExitCode::from(exit::USAGE))
         }
         Some(path) => {

@@ -15,6 +15,28 @@ use std::{fs, io};
 /// What stands for standard output.
 const STANDARD: &str = "-";
 
+/// Whether two of the options name one file.
+fn is_one(file: &str, other: &str) -> bool {
+    !file.is_empty() && file == other
+}
+
+/// Why what is asked for can't all be written, if so.
+pub(crate) fn misuse(given: &ArgMatches<'_>) -> Option<&'static str> {
+    let trace = given.get_str("trace").unwrap_or("");
+    let chart = given.get_str("chart").unwrap_or("");
+    let capture = given.get_str("capture").unwrap_or("");
+    if chart == STANDARD || capture == STANDARD {
+        return Some("only '--trace' can go to standard output");
+    }
+    if trace == STANDARD && given.get_flag("json") {
+        return Some("'--json' and '--trace -' can't be used together");
+    }
+    if is_one(trace, chart) || is_one(trace, capture) || is_one(chart, capture) {
+        return Some("'--trace', '--chart' and '--capture' can't name one file");
+    }
+    None
+}
+
 /// Writes a file, if it is asked for. Where it can't be written, that is said, and the exit status is told.
 fn write_file<R: Eprint + Files>(
     rt: &R,
@@ -78,7 +100,7 @@ pub(crate) fn write_looks<R: AllocGlobal + Print + Eprint + Files>(
         return Ok(None);
     }
     let alloc = rt.alloc();
-    // What is refused here, also for want of memory, is said by the run that is reported.
+    // What is refused here, also where it is out of memory, is said by the run that is reported.
     let Ok(plan) = read_plan(alloc, texts.plan.as_str()) else {
         return Ok(None);
     };

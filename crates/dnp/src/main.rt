@@ -20,6 +20,7 @@ mod watched;
 mod wire;
 
 use crate::fault::unwritten;
+use crate::options::HINT;
 use clap::error::ErrorKind;
 use clap::{ArgMatches, Command};
 use std::alloc::{AllocError, Global};
@@ -61,7 +62,7 @@ where
     let words = match env::args(rt) {
         Ok(words) => words,
         Err(fault) if fault.kind() == io::ErrorKind::InvalidData => {
-            let _ = eprintln!(rt; "error: a word of the command line is not UTF-8 text");
+            let _ = eprintln!(rt; "error: a word of the command line is not UTF-8 text{HINT}");
             return Ok(ExitCode::from(exit::USAGE));
         }
         Err(fault) => return Err(fault.into()),

@@ -1,5 +1,6 @@
 //! Numbers on the command line.
 
+use crate::options::HINT;
 use clap::ArgMatches;
 use dnp_daemons::number_in;
 
@@ -17,7 +18,8 @@ pub(crate) fn number_given<R: Eprint>(
         Some(number) if least <= number && number <= most => Some(number),
         _ => {
             let _ = eprintln!(rt;
-                "error: invalid value {text:?} for '--{option} <{name}>': not a decimal number from {least} to {most}"
+                "error: invalid value '{}' for '--{option} <{name}>': not a decimal number from {least} to {most}{HINT}",
+                text.escape_debug()
             );
             None
         }

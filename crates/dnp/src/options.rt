@@ -3,6 +3,9 @@
 use clap::{Arg, ArgAction};
 use std::alloc::Global;
 
+/// How a message ends that says what is wrong with the command line, as `clap`'s own do.
+pub(crate) const HINT: &str = "\n\nFor more information, try '--help'.";
+
 /// An option with a value, which `value` stands for in the help text.
 pub(crate) fn valued<'a>(alloc: Global, name: &'a str, value: &'a str, help: &'a str) -> Arg<'a> {
     Arg::new(alloc, name)

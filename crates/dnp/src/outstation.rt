@@ -2,7 +2,7 @@
 
 use crate::exit;
 use crate::numbers::number_given;
-use crate::options::{defaulted, plan, required};
+use crate::options::{HINT, defaulted, plan, required};
 use crate::plan_file::{plan_text, refused};
 use crate::serving::{Listening, serve_connections};
 use clap::{ArgMatches, Command};
@@ -30,7 +30,8 @@ CONNECTIONS
   It listens on the port at all addresses of the machine, and serves one connection after the
   other; who connects meanwhile waits. A connection ends when the master ends it, when the
   station closes it, or after 300 seconds in which nothing came, or in which nothing could be
-  sent. What goes wrong on a connection is said on standard error, and the next one is served.
+  sent. Why a connection failed is said on standard error, and the next one is served. What the
+  station ignores, such as a frame for another address, is not told.
   Timers are looked at when octets come: a select ends in time, and nothing is sent unasked
   but an unsolicited response when the master connects or has confirmed one.
 
@@ -126,7 +127,8 @@ where
 /// Says on standard error that the plan has no such substation, and gives the exit status of a wrong command line.
 fn no_station<R: Eprint>(rt: &R, text: &str) -> ExitCode {
     let _ = eprintln!(rt;
-        "error: invalid value {text:?} for '--station <S>': the plan has no such substation"
+        "error: invalid value '{}' for '--station <S>': the plan has no such substation{HINT}",
+        text.escape_debug()
     );
     ExitCode::from(exit::USAGE)
 }

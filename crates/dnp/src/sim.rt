@@ -2,8 +2,8 @@
 
 use crate::exit;
 use crate::fault::Noted;
-use crate::looks::write_looks;
-use crate::options::{flag, plan, valued};
+use crate::looks::{misuse, write_looks};
+use crate::options::{HINT, flag, plan, valued};
 use crate::texts::{Texts, finish, limit, texts_given};
 use clap::{ArgMatches, Command};
 use dnp_daemons::sim_text;
@@ -56,14 +56,26 @@ OUTPUT
     'round L ok' or 'round L refused N' for each line 'round L': 1 the link is not quiet;
     'control ID ok' or 'control ID refused N' for each line 'control ID': 1 a link is not quiet,
     2 it is not the next control, 3 a station refused it;
-    and at the end the report: each list's name and length, and its events or commands.
+    and at the end the report: each list's name and length, and below it its events, as
+    ' 0 binary 3 1 01 1000' (substation, kind, index, value, flags, time), or its commands.
+  The report's lists:
+    journal      events that the centre has
+    queue        events that wait in the concentrator
+    dropped      events that the concentrator's full lanes dropped
+    confirmed    events that substations have let go, since the concentrator confirmed them
+    buffered     events that wait in substations
+    overwritten  events that substations' full lanes dropped
+    gone         events that were lost as a substation restarted
+    issued       commands that were issued at the centre
+    operated     commands that outputs have performed
+  and last 'lost N': N events of the concentrator were dropped so far, by its own count.
   Or one line, and then nothing has run:
     'refused plan N', where the plan is refused: 1 it is no TOML, 2 a key is missing, unknown or
     of another type or length, 3 a number is outside its range, 4 a class is over 3, 5 an index
     above would be over 65,535, 6 two substations would share an index above;
     'refused line N', where line N of the script, counted from 1, is the first that doesn't fit;
     then a line on standard error says which of its words stops fitting, and what belongs there.
-  Where a line of the script stops for want of memory, 'stopped N', N lines having been done.
+  Where a line of the script is out of memory, 'stopped N', N lines having been done.
 
 SOMETHING TO LOOK AT
   What the units on the lines do, in a run of its own: the report stays as it is. A file is written
@@ -72,7 +84,8 @@ SOMETHING TO LOOK AT
                     way, what it does and what it says, as '12 link 0 up sent RESPONSE seq 1 fir fin
                     con, 2.2 x1'. It is 'sent', it 'arrives', is 'repeated' (it arrives, and stays on
                     the line), 'lost', 'damaged' or 'dropped' (its line was cleared), or 'stands' on
-                    the line at the end. With '-' the lines stand before the report.
+                    the line at the end. With '-' the lines stand on standard output,
+                    before the report.
     --chart FILE    the same as a sequence chart for a browser, time going down
     --capture FILE  what arrives, for Wireshark: a TCP conversation to port 20000 for each link, from
                     and to 192.0.2.A, where A is the station's link address
@@ -106,6 +119,10 @@ pub(crate) fn run<R: AllocGlobal + Input + Print + Eprint + Files>(
     rt: &R,
     given: &ArgMatches<'_>,
 ) -> anyhow::Result<ExitCode> {
+    if let Some(why) = misuse(given) {
+        let _ = eprintln!(rt; "error: {why}{HINT}");
+        return Ok(ExitCode::from(exit::USAGE));
+    }
     let texts = match texts_given(rt, given)? {
         Ok(texts) => texts,
         Err(status) => return Ok(status),

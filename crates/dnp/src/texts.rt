@@ -73,7 +73,9 @@ fn read_texts<R: AllocGlobal + Input + Print + Eprint + Files>(
     {
         Err(cause) => return Ok(Err(lost(rt, "standard input", &cause))),
         Ok(_) if script.len() as u64 > limit => {
-            let _ = eprintln!(rt; "dnp: standard input: over {limit} octets");
+            let _ = eprintln!(rt;
+                "dnp: standard input: over the {limit} octets that '--limit' allows"
+            );
             return Ok(Err(ExitCode::from(exit::FAULT)));
         }
         Ok(_) => {}

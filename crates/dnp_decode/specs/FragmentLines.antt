@@ -1,8 +1,9 @@
 -- Definition: the lines of a fragment (IEEE Std 1815-2012, application layer): its own, one for each object header, and
--- one for each object that is a row or a command. A refused fragment has the lines of its longest beginning that is a
+-- one for each object that is a row, a state or a command. A refused fragment has the lines of its longest beginning that is a
 -- fragment, and one that says where that ends, and why the whole is refused.
 use Rattle.std.specs.Prelude.{◌≡◌, ℕ, ◌<◌, Bool, nat_lt, ◌==◌, ◌&&◌, if◌then◌else◌, List, [], ◌∷◌, ◌++◌, length, take, slice_index, Option, Some, None, Result, Ok, Err, option_to_list}
 use Rattle.std.specs.List.{flat_map, range_with_len}
+use Rattle.std.specs.Option.{option_map}
 use Rattle.dnp_objects.specs.declared.row.Row.{Row}
 use Rattle.dnp_objects.specs.declared.command.Command.{Command}
 use Rattle.dnp_appfragment.specs.declared.fault.AppFault.{AppFault}
@@ -11,7 +12,7 @@ use Rattle.dnp_appfragment.specs.Fragments.{Asked, Answered}
 use Rattle.dnp_appfragment.specs.Headers.{Head, count_of}
 use Rattle.dnp_appfragment.specs.Left.{Left}
 use Rattle.dnp_appfragment.specs.Meaning.{request_at, response_at, row_in, command_in}
-use Rattle.dnp_decode.specs.declared.fragment.TheConstants.{LAST_REQUEST}
+use Rattle.dnp_decode.specs.declared.fragment.TheConstants.{BINARY_INPUTS, LAST_REQUEST}
 use Rattle.dnp_decode.specs.declared.line.Line.{Line}
 use Rattle.dnp_decode.specs.declared.line.Line.TheVariants as line
 
@@ -23,9 +24,19 @@ line_of (Some row) command = Some (line.Row row)
 line_of None (Some x) = Some (line.Command x.0 x.1)
 line_of None None = None
 
--- the line of object k of a header, if it has one
+abbrev pub point_line : Head → ℕ → Option Line
+point_line h k = line_of (row_in h k) (command_in h k)
+
+-- the row of object k of a header whose objects are laid out as those of binary inputs of the same variation
+abbrev pub state_in : Head → ℕ → Option Row
+state_in h k = row_in (record h { group = BINARY_INPUTS }) k
+
+-- the line of object k of a header, if it has one: so are the states of outputs, 10.2, and indications, 80.1
 abbrev pub object_line : Head → ℕ → Option Line
-object_line h k = line_of (row_in h k) (command_in h k)
+object_line h k =
+    if (h.group == 10) && (h.variation == 2) then option_map line.Output (state_in h k)
+    else if (h.group == 80) && (h.variation == 1) then option_map line.Indication (state_in h k)
+    else point_line h k
 
 -- the lines of so many objects from object k on
 abbrev pub objects_between : Head → ℕ → ℕ → List Line

@@ -1,6 +1,6 @@
 -- Definition: the lines of a stream of octets: those of what stands at its front (specs/Stream.antt of dnp_linkframe),
 -- and then those of the rest.
-use Rattle.std.specs.Prelude.{◌≡◌, ℕ, ◌+◌, ◌*◌, ◌<◌, List, [], ◌∷◌, ◌++◌, length, take, drop, slice_index}
+use Rattle.std.specs.Prelude.{◌≡◌, ℕ, ◌+◌, ◌*◌, ◌<◌, Bool, nat_lt, ◌==◌, ◌&&◌, List, [], ◌∷◌, ◌++◌, length, take, drop, slice_index}
 use Rattle.dnp_linkframe.specs.declared.frame.Frame.{Frame}
 use Rattle.dnp_linkframe.specs.declared.frame.FrameFault.{FrameFault}
 use Rattle.dnp_linkframe.specs.declared.frame.FrameFault.TheVariants as fault
@@ -16,6 +16,10 @@ pub record IsNoise (stream : List ℕ) (n : ℕ) : Type 0 where
   pub each : (k : ℕ) → k < n → IsFront (drop k stream) NoHeader
   pub ends : IsFront (drop n stream) NoHeader → ⊥
 
+-- the octets begin with 05 64, as a header does
+abbrev pub begins_so : List ℕ → Bool
+begins_so octets = nat_lt 1 (length octets) && (slice_index octets 0 == 5) && (slice_index octets 1 == 100)
+
 -- the line of n octets that begin with a header and are refused
 abbrev pub refused_line : List ℕ → ℕ → FrameFault → Line
 refused_line stream n why =
@@ -25,7 +29,7 @@ refused_line stream n why =
 -- what stands at the front of the stream, after these frames, has n octets and these lines, and these frames were heard
 -- then, newest first
 pub data IsStep (heard : List Frame) (stream : List ℕ) (n : ℕ) (lines : List Line) (after : List Frame) : Type 0 where
-  Skips : IsNoise stream n → lines ≡ line.Noise n ∷ [] → after ≡ heard → IsStep heard stream n lines after
+  Skips : IsNoise stream n → lines ≡ line.Noise n (begins_so stream) ∷ [] → after ≡ heard → IsStep heard stream n lines after
   Shorts : IsFront stream NoLength → n ≡ 10 → lines ≡ refused_line stream n fault.Length ∷ [] → after ≡ heard
       → IsStep heard stream n lines after
   Refuses : (why : FrameFault) → IsFront stream (Damaged n) → IsFirstFault (take n stream) why

@@ -7,15 +7,33 @@ ghost use Rattle.dnp_decode.specs.declared.line.Line.{Line as LineValue};
 
 use crate::line::Line;
 use dnp_appfragment::{AppFault, Header, Headers, read_request, read_response};
+use dnp_objects::Row;
 use std::alloc::AllocError;
+
+/// The group of binary inputs (IEEE Std 1815-2012, object library). The states of outputs, 10.2, are laid out as its
+/// objects of the same variation, and so are indications, 80.1.
+pub(crate) const BINARY_INPUTS: u8 = 1;
 
 /// The highest octet of a function of requests: those above are of responses (IEEE Std 1815-2012, application layer:
 /// function codes).
 pub(crate) const LAST_REQUEST: u8 = 127;
 
+/// The row of object k of a header whose objects are laid out as those of binary inputs.
+fn state_at(header: &Header<'_>, k: usize) -> Option<Row>
+    ensures { result ≡ spec.state_in (head header.now) k }
+{
+    let states = Header {
+        group: BINARY_INPUTS,
+        variation: header.variation,
+        range: header.range,
+        octets: header.octets,
+    };
+    states.row(k)
+}
+
 /// The line of object k of a header: its row, or else its command, or none.
-fn object_line(header: &Header<'_>, k: usize) -> Option<Line>
-    ensures { result ≡ spec.object_line (head header.now) k }
+fn point_line(header: &Header<'_>, k: usize) -> Option<Line>
+    ensures { result ≡ spec.point_line (head header.now) k }
 {
     match header.row(k) {
         Some(row) => Some(Line::Row(row)),
@@ -23,6 +41,17 @@ fn object_line(header: &Header<'_>, k: usize) -> Option<Line>
             Some((command, status)) => Some(Line::Command(command, status)),
             None => None,
         },
+    }
+}
+
+/// The line of object k of a header, if it has one.
+fn object_line(header: &Header<'_>, k: usize) -> Option<Line>
+    ensures { result ≡ spec.object_line (head header.now) k }
+{
+    match (header.group, header.variation) {
+        (10, 2) => state_at(header, k).map(Line::Output),
+        (80, 1) => state_at(header, k).map(Line::Indication),
+        _ => point_line(header, k),
     }
 }
 

@@ -2,7 +2,7 @@
 
 use crate::line::Line;
 use crate::names::{fault_name, function_name, link_function};
-use crate::shown::block_place;
+use crate::shown::{HEADER_CHECK_PLACE, LENGTH_PLACE, block_place};
 use dnp_appfragment::{Control, Range};
 use dnp_linkframe::FrameFault;
 use dnp_objects::{Command, Kind, Row, Status};
@@ -60,8 +60,11 @@ impl Display for Refusal {
         match self.0 {
             FrameFault::Short => f.write_str("\"refused\":\"Short\""),
             FrameFault::Start => f.write_str("\"refused\":\"Start\",\"octet\":0"),
-            FrameFault::HeaderCheck => f.write_str("\"refused\":\"HeaderCheck\",\"octet\":0"),
-            FrameFault::Length => f.write_str("\"refused\":\"Length\",\"octet\":2"),
+            FrameFault::HeaderCheck => write!(
+                f,
+                "\"refused\":\"HeaderCheck\",\"octet\":{HEADER_CHECK_PLACE}"
+            ),
+            FrameFault::Length => { write!(f, "\"refused\":\"Length\",\"octet\":{LENGTH_PLACE}") }
             FrameFault::Size => f.write_str("\"refused\":\"Size\""),
             FrameFault::BlockCheck(block) => {
                 let place = block_place(block);
@@ -74,31 +77,36 @@ impl Display for Refusal {
     }
 }
 
-/// A point's reading or event.
+/// What a kind of points is called.
+fn kind_name(kind: Kind) -> &'static str {
+    match kind {
+        Kind::Binary => "binary",
+        Kind::Counter => "counter",
+        Kind::Analog => "analog",
+    }
+}
+
+/// A point's reading or event, or an output's state, by what its points are called.
 #[derive(Clone, Copy)]
-struct Reading(Row);
+struct Reading(&'static str, Row);
 
 impl Display for Reading {
     fn fmt<W: Write>(&self, f: &mut Formatter<W>) -> fmt::Result {
         let Row {
-            kind,
             index,
             flags,
             value,
             time,
-        } = self.0;
-        let kind = match kind {
-            Kind::Binary => "binary",
-            Kind::Counter => "counter",
-            Kind::Analog => "analog",
-        };
+            ..
+        } = self.1;
+        let kind = self.0;
         write!(
             f,
-            "\"layer\":\"row\",\"kind\":\"{kind}\",\"index\":{index},\"value\":{value},\"flags\":{flags}"
+            "\"layer\":\"row\",\"kind\":\"{kind}\",\"index\":{index},\"value\":{value},\"flags\":\"{flags:02X}\""
         )?;
         match time {
             Some(time) => write!(f, ",\"time\":{time}"),
-            None => Ok(()),
+            None => f.write_str(",\"time\":null"),
         }
     }
 }
@@ -119,30 +127,40 @@ impl Display for Told {
                 off_ms,
             } => write!(
                 f,
-                "\"layer\":\"command\",\"index\":{index},\"code\":{code},\"count\":{count},\"on\":{on_ms},\"off\":{off_ms},\"status\":{status}"
+                "\"layer\":\"command\",\"command\":\"block\",\"index\":{index},\"code\":{code},\"count\":{count},\"on_ms\":{on_ms},\"off_ms\":{off_ms},\"status\":{status}"
             ),
             Command::Set16 { index, value } => write!(
                 f,
-                "\"layer\":\"command\",\"index\":{index},\"set\":{value},\"status\":{status}"
+                "\"layer\":\"command\",\"command\":\"set16\",\"index\":{index},\"value\":{value},\"status\":{status}"
             ),
             Command::Set32 { index, value } => write!(
                 f,
-                "\"layer\":\"command\",\"index\":{index},\"set\":{value},\"status\":{status}"
+                "\"layer\":\"command\",\"command\":\"set32\",\"index\":{index},\"value\":{value},\"status\":{status}"
             ),
         }
     }
 }
 
-/// A line of the layers below fragments.
+/// A line of what stands below frames, or of a frame.
 #[derive(Clone, Copy)]
-struct Carried(Line);
+struct Linked(Line);
 
-impl Display for Carried {
+impl Display for Linked {
     fn fmt<W: Write>(&self, f: &mut Formatter<W>) -> fmt::Result {
         match self.0 {
-            Line::Noise(octets) => write!(
+            Line::Noise {
+                octets,
+                start: false,
+            } => write!(
                 f,
                 "\"layer\":\"frame\",\"refused\":\"Noise\",\"octets\":{octets}"
+            ),
+            Line::Noise {
+                octets,
+                start: true,
+            } => write!(
+                f,
+                "\"layer\":\"frame\",\"refused\":\"HeaderCheck\",\"octet\":{HEADER_CHECK_PLACE},\"octets\":{octets}"
             ),
             Line::Frame {
                 control,
@@ -153,7 +171,7 @@ impl Display for Carried {
                 let function = link_function(control);
                 write!(
                     f,
-                    "\"layer\":\"frame\",\"source\":{source},\"dest\":{dest},\"control\":{control},\"function\":\"{function}\",\"octets\":{octets}"
+                    "\"layer\":\"frame\",\"source\":{source},\"dest\":{dest},\"control\":\"{control:02X}\",\"function\":\"{function}\",\"octets\":{octets}"
                 )
             }
             Line::FrameRefused {
@@ -166,13 +184,25 @@ impl Display for Carried {
                 let refusal = Refusal(fault);
                 write!(
                     f,
-                    "\"layer\":\"frame\",\"source\":{source},\"dest\":{dest},\"control\":{control},{refusal}"
+                    "\"layer\":\"frame\",\"source\":{source},\"dest\":{dest},\"control\":\"{control:02X}\",{refusal}"
                 )
             }
             Line::Cut(octets) => write!(
                 f,
-                "\"layer\":\"frame\",\"refused\":\"Cut\",\"octets\":{octets}"
+                "\"layer\":\"frame\",\"refused\":\"Cut\",\"octet\":{octets}"
             ),
+            _ => Ok(()),
+        }
+    }
+}
+
+/// A line of the layers below fragments.
+#[derive(Clone, Copy)]
+struct Carried(Line);
+
+impl Display for Carried {
+    fn fmt<W: Write>(&self, f: &mut Formatter<W>) -> fmt::Result {
+        match self.0 {
             Line::Segment {
                 first,
                 last,
@@ -187,12 +217,19 @@ impl Display for Carried {
                 "\"layer\":\"transport\",\"refused\":\"Size\",\"octets\":{octets}"
             ),
             Line::SeriesDropped => f.write_str("\"layer\":\"transport\",\"refused\":\"Series\""),
-            _ => Ok(()),
+            line => {
+                let linked = Linked(line);
+                write!(f, "{linked}")
+            }
         }
     }
 }
 
-impl Display for Members {
+/// A line of a fragment, or of a layer below.
+#[derive(Clone, Copy)]
+struct Said(Line);
+
+impl Display for Said {
     fn fmt<W: Write>(&self, f: &mut Formatter<W>) -> fmt::Result {
         match self.0 {
             Line::Request { control, function } => {
@@ -214,7 +251,7 @@ impl Display for Members {
                 let two = iin.two;
                 write!(
                     f,
-                    "\"layer\":\"response\",{bits},\"function\":\"{function}\",\"iin\":[{one},{two}]"
+                    "\"layer\":\"response\",{bits},\"function\":\"{function}\",\"iin\":[\"{one:02X}\",\"{two:02X}\"]"
                 )
             }
             Line::FragmentRefused { fault, place } => {
@@ -224,6 +261,17 @@ impl Display for Members {
                     "\"layer\":\"fragment\",\"refused\":\"{fault}\",\"octet\":{place}"
                 )
             }
+            line => {
+                let carried = Carried(line);
+                write!(f, "{carried}")
+            }
+        }
+    }
+}
+
+impl Display for Members {
+    fn fmt<W: Write>(&self, f: &mut Formatter<W>) -> fmt::Result {
+        match self.0 {
             Line::Header {
                 group,
                 variation,
@@ -237,16 +285,24 @@ impl Display for Members {
                 )
             }
             Line::Row(row) => {
-                let reading = Reading(row);
+                let reading = Reading(kind_name(row.kind), row);
                 write!(f, "{reading}")
             }
+            Line::Output(row) => {
+                let reading = Reading("output", row);
+                write!(f, "{reading}")
+            }
+            Line::Indication(Row { index, value, .. }) => write!(
+                f,
+                "\"layer\":\"indication\",\"index\":{index},\"value\":{value}"
+            ),
             Line::Command(command, status) => {
                 let told = Told(command, status);
                 write!(f, "{told}")
             }
             line => {
-                let carried = Carried(line);
-                write!(f, "{carried}")
+                let said = Said(line);
+                write!(f, "{said}")
             }
         }
     }

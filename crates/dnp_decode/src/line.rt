@@ -7,8 +7,12 @@ use dnp_objects::{Command, Row, Status};
 /// One thing that was read, or refused.
 #[derive(Clone, Copy)]
 pub enum Line {
-    /// So many octets, one after the other, at each of which no frame begins.
-    Noise(usize),
+    /// So many octets, one after the other, at each of which no frame begins, and whether the first two are 05 64: then
+    /// a header's check word is wrong.
+    Noise {
+        octets: usize,
+        start: bool,
+    },
     /// A link frame (IEEE Std 1815-2012, data link layer): its CONTROL octet, its addresses, and how many octets of
     /// user data it has.
     Frame {
@@ -65,6 +69,11 @@ pub enum Line {
     },
     /// An object that is a point's reading or event.
     Row(Row),
+    /// An object that is an output's state (10.2), as a binary input's.
+    Output(Row),
+    /// An object that is an internal indication which is written (80.1), as a binary input's: packed bits have no flags
+    /// of their own.
+    Indication(Row),
     /// An object that is a command, with its status.
     Command(Command, Status),
 }

@@ -16,7 +16,10 @@ const CHECKED_HEADER: usize = 10;
 const CHECKED_BLOCK: usize = 18;
 
 /// The place of LENGTH in a frame.
-const LENGTH_PLACE: usize = 2;
+pub(crate) const LENGTH_PLACE: usize = 2;
+
+/// The place of the header's check word in a frame.
+pub(crate) const HEADER_CHECK_PLACE: usize = 8;
 
 /// The word, if it is said.
 fn said(set: bool, word: &'static str) -> &'static str {
@@ -66,7 +69,7 @@ impl Display for Refusal {
         match self.0 {
             FrameFault::Short => f.write_str("Short"),
             FrameFault::Start => f.write_str("Start at octet 0"),
-            FrameFault::HeaderCheck => f.write_str("HeaderCheck at octet 0"),
+            FrameFault::HeaderCheck => write!(f, "HeaderCheck at octet {HEADER_CHECK_PLACE}"),
             FrameFault::Length => write!(f, "Length at octet {LENGTH_PLACE}"),
             FrameFault::Size => f.write_str("Size"),
             FrameFault::BlockCheck(block) => {
@@ -128,10 +131,24 @@ impl Display for Told {
 #[derive(Clone, Copy)]
 struct Carried(Line);
 
-impl Display for Carried {
+/// A line of what stands below frames, or of a frame.
+#[derive(Clone, Copy)]
+struct Linked(Line);
+
+impl Display for Linked {
     fn fmt<W: Write>(&self, f: &mut Formatter<W>) -> fmt::Result {
         match self.0 {
-            Line::Noise(octets) => write!(f, "{octets} octets skipped: no frame begins there"),
+            Line::Noise {
+                octets,
+                start: false,
+            } => write!(f, "{octets} octets skipped: no frame begins there"),
+            Line::Noise {
+                octets,
+                start: true,
+            } => write!(
+                f,
+                "{octets} octets skipped: HeaderCheck at octet {HEADER_CHECK_PLACE}"
+            ),
             Line::Frame {
                 control,
                 dest,
@@ -153,7 +170,15 @@ impl Display for Carried {
                 let refusal = Refusal(fault);
                 write!(f, "{source}>{dest} frame refused: {refusal}")
             }
-            Line::Cut(octets) => write!(f, "frame refused: {octets} octets, and then the end"),
+            Line::Cut(octets) => write!(f, "frame refused: Cut at octet {octets}"),
+            _ => Ok(()),
+        }
+    }
+}
+
+impl Display for Carried {
+    fn fmt<W: Write>(&self, f: &mut Formatter<W>) -> fmt::Result {
+        match self.0 {
             Line::Segment {
                 first,
                 last,
@@ -164,9 +189,12 @@ impl Display for Carried {
                 let last = said(last, "FIN ");
                 write!(f, "transport {first}{last}{number}")
             }
-            Line::SegmentRefused(octets) => write!(f, "transport refused: {octets} octets"),
-            Line::SeriesDropped => f.write_str("transport series dropped"),
-            _ => Ok(()),
+            Line::SegmentRefused(octets) => write!(f, "transport refused: Size, {octets} octets"),
+            Line::SeriesDropped => f.write_str("transport refused: Series"),
+            line => {
+                let linked = Linked(line);
+                write!(f, "{linked}")
+            }
         }
     }
 }
@@ -199,10 +227,11 @@ impl Display for Line {
                 let objects = Objects(range);
                 write!(f, "{group}.{variation} {objects}")
             }
-            Line::Row(row) => {
+            Line::Row(row) | Line::Output(row) => {
                 let reading = Reading(row);
                 write!(f, "{reading}")
             }
+            Line::Indication(Row { index, value, .. }) => write!(f, "{index} = {value}"),
             Line::Command(command, status) => {
                 let told = Told(command, status);
                 write!(f, "{told}")

@@ -2,6 +2,7 @@
 ghost use Rattle.std.specs.Prelude.{◌≡◌, ◌≤◌, ◌<◌, ◌↔◌, ℕ, List, length, drop, slice_index, IsTrue, IfOk, OnOk, Ok};
 ghost use Rattle.dnp_linkframe.specs.declared.frame.Frame.{Frame as FrameValue};
 ghost use Rattle.dnp_linkframe.specs.Stream.{Waits, NoHeader, HasHeader, BeginsFrame, IsFront, said_size};
+ghost use Rattle.dnp_decode.specs.StreamLines as spec;
 ghost use Rattle.dnp_decode.specs.StreamLines.{refused_line as line_of_refused};
 ghost use Rattle.dnp_decode.specs.steps.Remembered.{Remembers};
 ghost use Rattle.dnp_decode.specs.steps.Stepped.{Stepped};
@@ -31,6 +32,13 @@ fn has_header(stream: &[u8]) -> bool
         return false;
     }
     u16::from_le_bytes([stream[8], stream[9]]) == check_word(&stream[..8])
+}
+
+/// Whether the octets begin with 05 64, as a header does.
+fn begins_so(stream: &[u8]) -> bool
+    ensures { result ≡ spec.begins_so stream.now }
+{
+    stream.len() > 1 && stream[0] == 0x05 && stream[1] == 0x64
 }
 
 /// How many octets the frame of the header at the front has, by its LENGTH.
@@ -138,7 +146,10 @@ pub(crate) fn step(
 {
     let skipped = noise(stream);
     if skipped > 0 {
-        out.push(Line::Noise(skipped))?;
+        out.push(Line::Noise {
+            octets: skipped,
+            start: begins_so(stream),
+        })?;
         return Ok(skipped);
     }
     read_header(stream, ports, out)

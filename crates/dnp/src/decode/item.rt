@@ -43,7 +43,8 @@ pub(crate) struct Mark {
 /// How many octets of the stream a line is the first of: none where it tells more of octets that had one.
 fn octets_of(line: &Line) -> usize {
     match *line {
-        Line::Noise(octets) | Line::Cut(octets) | Line::FrameRefused { octets, .. } => octets,
+        Line::Noise { octets, .. } | Line::Cut(octets) | Line::FrameRefused { octets, .. } =>
+            octets,
         Line::Frame { octets, .. } => octets
             .saturating_add(octets.div_ceil(BLOCK).saturating_mul(CHECK))
             .saturating_add(CHECKED_HEADER),

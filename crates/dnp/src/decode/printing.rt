@@ -23,7 +23,7 @@ fn is_refusal(item: &Item) -> bool {
     match item.what {
         What::Line(line) => matches!(
             line,
-            Line::Noise(_)
+            Line::Noise { .. }
                 | Line::FrameRefused { .. }
                 | Line::Cut(_)
                 | Line::SegmentRefused(_)
@@ -37,15 +37,19 @@ fn is_refusal(item: &Item) -> bool {
 /// The blanks before a line: two for each layer above frames.
 fn indent_of(line: &Line) -> &'static str {
     match line {
-        Line::Noise(_) | Line::Frame { .. } | Line::FrameRefused { .. } | Line::Cut(_) => " ",
-        Line::Header { .. } | Line::Row(_) | Line::Command(..) => "     ",
+        Line::Noise { .. } | Line::Frame { .. } | Line::FrameRefused { .. } | Line::Cut(_) => " ",
+        Line::Header { .. } => "     ",
+        line if is_object(line) => "     ",
         _ => "   ",
     }
 }
 
 /// Whether the line is of an object.
 fn is_object(line: &Line) -> bool {
-    matches!(line, Line::Row(_) | Line::Command(..))
+    matches!(
+        line,
+        Line::Row(_) | Line::Output(_) | Line::Indication(_) | Line::Command(..)
+    )
 }
 
 /// Prints an item as a JSON object.

@@ -23,8 +23,14 @@ impl Display for Quoted<'_> {
             return f.write_str("an empty word");
         }
         match word.char_indices().nth(SHOWN) {
-            Some((end, _)) => write!(f, "{:?} and more", word.get(..end).unwrap_or("")),
-            None => write!(f, "{word:?}"),
+            Some((end, _)) => {
+                let shown = word.get(..end).unwrap_or("").escape_debug();
+                write!(f, "'{shown}' and more")
+            }
+            None => {
+                let shown = word.escape_debug();
+                write!(f, "'{shown}'")
+            }
         }
     }
 }
