@@ -120,8 +120,8 @@ refuses two-line-feeds-at-the-end 2 "$fits$lf" ': an empty line, where an event 
 refuses a-carriage-return 1 "open 0"$'\r'"$lf" ': a carriage return at its end, where the line feed alone belongs'
 refuses two-spaces 2 "${fits}open  0$lf" ", word 2: an empty word, $a_link"
 refuses a-space-at-the-end 2 "${fits}open 0 $lf" ', word 3: an empty word, where the end of the line belongs'
-refuses a-tab 1 "open"$'\t'"0$lf" ", word 1: \"open\\t0\", $verbs"
-refuses another-word 1 "opne 0$lf" ", word 1: \"opne\", $verbs"
+refuses a-tab 1 "open"$'\t'"0$lf" ", word 1: 'open\\t0', $verbs"
+refuses another-word 1 "opne 0$lf" ", word 1: 'opne', $verbs"
 refuses a-word-more 1 "open 0 up$lf" ", word 3: 'up', where the end of the line belongs"
 refuses a-ninth-word 1 "issue 0 block 0 3 1 0 0 9$lf" ", word 9: '9', where the end of the line belongs"
 refuses another-kind 1 "change 0 bnary 0 1 01 -$lf" ", word 3: 'bnary', where binary, counter or analog belongs"
@@ -131,14 +131,14 @@ refuses flags-of-one-digit 1 "change 0 binary 0 1 1 -$lf" ", word 6: '1', where 
 refuses no-time 1 "change 0 binary 0 1 01 now$lf" ", word 7: 'now', where a time in milliseconds or - belongs"
 refuses another-end 1 "tick 0 up$lf" ", word 3: 'up', where master or outstation belongs"
 refuses another-way 1 "deliver 0 master$lf" ", word 3: 'master', where down or up belongs"
-refuses a-plus-sign 1 "pass +1$lf" ", word 2: \"+1\", $number"
-refuses a-link-that-the-plan-lacks 2 "${fits}open 1$lf" ", word 2: \"1\", $a_link"
-refuses a-substation-that-the-plan-lacks 1 "restart 1$lf" ", word 2: \"1\", where centre, concentrator or a substation's number, 0 to 0, belongs"
-refuses a-class-named-twice 1 "poll 0 11$lf" ", word 3: \"11\", $classes"
-refuses no-class 1 "poll 0 4$lf" ", word 3: \"4\", $classes"
+refuses a-plus-sign 1 "pass +1$lf" ", word 2: '+1', $number"
+refuses a-link-that-the-plan-lacks 2 "${fits}open 1$lf" ", word 2: '1', $a_link"
+refuses a-substation-that-the-plan-lacks 1 "restart 1$lf" ", word 2: '1', where centre, concentrator or a substation's number, 0 to 0, belongs"
+refuses a-class-named-twice 1 "poll 0 11$lf" ", word 3: '11', $classes"
+refuses no-class 1 "poll 0 4$lf" ", word 3: '4', $classes"
 refuses damage-of-no-octet 1 "damage 0 down $lf" ", word 4: an empty word, $octets"
-refuses half-an-octet-of-damage 1 "damage 0 down 123$lf" ", word 4: \"123\", $octets"
-refuses a-number-of-65-bits 1 "pass 18446744073709551616$lf" ", word 2: \"18446744073709551616\", $number"
+refuses half-an-octet-of-damage 1 "damage 0 down 123$lf" ", word 4: '123', $octets"
+refuses a-number-of-65-bits 1 "pass 18446744073709551616$lf" ", word 2: '18446744073709551616', $number"
 refuses what-is-not-UTF-8 2 "$fits"$'\xff'"$lf${fits}open$lf" ", word 1: what is not UTF-8, $verbs"
 refuses what-is-not-UTF-8-in-a-line 1 "open 0"$'\xc3'"$lf" ", word 2: what is not UTF-8, $a_link"
 refuses what-does-not-fit-before-what-is-not-UTF-8 2 "${fits}open$lf"$'\xff'"$lf" ", word 2: the line ends, $a_link"
@@ -149,11 +149,14 @@ limited() {
 }
 limited reads-a-script-of-its-limit 0 "$(nothing)" 7
 limited refuses-a-script-over-its-limit 3 '' 6
-says says-over-which-limit 'dnp: standard input: over 6 octets'
+says says-over-which-limit "dnp: standard input: over the 6 octets that '--limit' allows"
 limited wants-a-limit 2 '' 0
+says says-what-a-limit-is "error: invalid value '0' for '--limit <OCTETS>': not a decimal number from 1 to 1099511627776
+
+For more information, try '--help'."
 got=0 && head -c 67108865 /dev/zero | "$dnp" sim --plan "$plan" >out 2>err || got=$?
 judge refuses-a-script-over-64-MB 3 '' "$got"
-says says-that-it-is-over-64-MB 'dnp: standard input: over 67108864 octets'
+says says-that-it-is-over-64-MB "dnp: standard input: over the 67108864 octets that '--limit' allows"
 
 # A reader that goes away is no fault that is told of
 seq 1 20000 | awk '{ print "change 0 binary 0 " $1 % 2 " 01 " $1 }' >script

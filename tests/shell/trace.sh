@@ -156,3 +156,14 @@ got=0 && printf 'open 0\npoll 0 1\n' | "$dnp" sim --plan "$plan" --trace - >/dev
 judge tells-that-the-output-of-a-trace-is-lost 3 '' "$got"
 got=0 && "$dnp" sim --plan "$plan" --json </dev/null >/dev/full 2>err || got=$?
 judge tells-that-the-output-of-JSON-is-lost 3 '' "$got"
+
+# What can't be written together is refused before anything is read
+# misuses NAME WHY WORDS..
+misuses() {
+    expect "refuses-$1" 2 '' '' sim --plan "$plan" "${@:3}"
+    says "says-why-it-refuses-$1" "error: $2"$'\n\n'"For more information, try '--help'."
+}
+misuses a-chart-on-standard-output "only '--trace' can go to standard output" --chart -
+misuses a-trace-before-an-object "'--json' and '--trace -' can't be used together" --json --trace -
+misuses two-things-in-one-file "'--trace', '--chart' and '--capture' can't name one file" --chart seen --capture seen
+[ ! -e seen ] && echo ok writes-nothing-of-them || echo FAILED writes-nothing-of-them
