@@ -1,4 +1,4 @@
-use Rattle.std.proofs.Common.{rules, ◌≡◌, ℕ, ◌+◌, ◌<◌, length, true, List, ◌∷◌, ℤ, pos, Option, get_or, drop, add-one, drop-cons, refl, ◌∙◌, w64, FitsSigned}
+use Rattle.std.proofs.Common.{rules, ◌≡◌, ℕ, ◌+◌, ◌<◌, length, true, List, ℤ, pos, Option, get_or, drop, add-one, drop-cons, refl, ◌∙◌, w64, FitsSigned}
 use Rattle.std.proofs.lemmas.Int.{to_z-of_z}
 use Rattle.dnp_plantext.specs.declared.plan_text.place.PlanKey.{PlanKey}
 use Rattle.dnp_plantext.specs.PlanReasons.{item_fault, is_within}
