@@ -34,6 +34,9 @@ refuses damage 2 "${fits}damage 0 up 00$lf" 1 "\"damage\", where $verbs"
 refuses a-loss-before-what-does-not-fit 2 "${fits}lose 0 up${lf}open$lf" 1 "\"lose\", where $verbs"
 refuses what-does-not-fit-before-a-loss 2 "${fits}open${lf}lose 0 up$lf" 2 "the line ends, where $a_link"
 
+sed 's/^retries = 0/retries = 4/' "$plan" >changed.toml
+expect refuses-a-plan 1 'refused plan 3' "$fits" loopback --plan changed.toml
+says says-why-it-refuses-a-plan 'dnp: changed.toml: retries: 4, where a whole number from 0 to 3 belongs'
 expect refuses-a-script-over-its-limit 3 '' "$fits" loopback --plan "$plan" --limit 6
 says says-over-which-limit 'dnp: standard input: over 6 octets'
 expect wants-a-plan 2 '' '' loopback

@@ -134,22 +134,26 @@ ended serves-nothing-twice $'served 0\nserved 0'
 rules="--port $port --station 0"
 expect has-no-plan 3 '' '' outstation --plan none.toml $rules
 says tells-that-it-has-no-plan 'dnp: none.toml: No such file or directory (os error 2)'
-# refuses NAME NUMBER KEY=VALUE..
+# refuses NAME NUMBER REASON KEY=VALUE..
 refuses() {
-    local name=$1 number=$2
-    shift 2
+    local name=$1 number=$2 reason=$3
+    shift 3
     plan wrong.toml "$@"
     expect "$name" 1 "refused plan $number" '' outstation --plan wrong.toml $rules
+    says "says-why-it-$name" "dnp: wrong.toml: $reason"
 }
-refuses takes-no-text-that-is-no-toml 1 'binary=['
-refuses takes-no-unknown-key 2 'colour=3'
-refuses takes-no-fourth-retry 3 retries=4
-refuses takes-no-class-4 4 'binary=[4]'
-refuses takes-no-index-over-65535 5 'binary=[1, 1]' 'base=[65535, 0, 0, 0, 0]'
+refuses takes-no-text-that-is-no-toml 1 'line 1: the plan is no TOML' 'confirm_ms=' 'response_ms=' 'select_ms=' 'retries=' 'unsolicited=' 'queue='
+refuses takes-no-unknown-key 2 'substation 0, unknown key "colour"' 'colour=3'
+refuses takes-no-fourth-retry 3 'retries: 4, where a whole number from 0 to 3 belongs' retries=4
+refuses takes-no-class-4 4 'substation 0, binary: item 1 is 4, where a class from 0 to 3 belongs' 'binary=[4]'
+refuses takes-no-index-over-65535 5 'substation 0, base: item 1 is 65535, so the last of its 2 binary inputs is 65536 above, where 65535 is the highest' \
+    'binary=[1, 1]' 'base=[65535, 0, 0, 0, 0]'
 { cat plan.toml && sed -n '/substation/,$p' plan.toml; } >wrong.toml
 expect takes-no-shared-index 1 'refused plan 6' '' outstation --plan wrong.toml $rules
+says says-which-index-is-shared 'dnp: wrong.toml: substation 0, base: by item 4 its binary outputs share an index above with those of substation 1'
 printf '\xff' >wrong.toml
 expect takes-no-plan-that-is-no-text 1 'refused plan 1' '' outstation --plan wrong.toml $rules
+says says-that-it-is-no-toml 'dnp: wrong.toml: the plan is no TOML'
 expect takes-no-station-of-another-plan 2 '' '' outstation --plan plan.toml --port "$port" --station 1
 expect refuses-the-plan-before-the-station 1 'refused plan 1' '' outstation --plan wrong.toml --port "$port" --station 1
 for words in '' '--station 0' "$rules" '--plan plan.toml --port 0 --station 0' '--plan none.toml --port 65536 --station 0' \

@@ -164,21 +164,43 @@ got=0 && { "$dnp" sim --plan "$plan" <script 2>err || echo $? >status; } | head 
 judge ends-with-its-reader 3 'journal 0' "$(<status)"
 says ends-quietly ''
 
-# What is refused of a plan, whatever the script says. changed SED..: the plan, changed so
-# refuses_plan NAME NUMBER SED..
+# What is refused of a plan, whatever the script says, and what standard error says of it. changed SED..: the plan, changed so
+# refuses_plan NAME NUMBER REASON SED..
 refuses_plan() {
-    sed "${@:3}" "$plan" >changed.toml
+    sed "${@:4}" "$plan" >changed.toml
     expect "refuses-a-plan-$1" 1 "refused plan $2" "poll$lf" sim --plan changed.toml
+    says "says-why-it-refuses-a-plan-$1" "dnp: changed.toml: $3"
 }
-refuses_plan that-is-no-TOML 1 '1s/=//'
-refuses_plan that-is-not-UTF-8 1 '1s/$/ # \xff/'
-refuses_plan without-retries 2 '/^retries/d'
-refuses_plan with-another-key 2 '1s/^/color = 1\n/'
-refuses_plan with-retries-of-4 3 's/^retries = 0/retries = 4/'
-refuses_plan with-a-class-of-4 4 's/^binary = \[1\]/binary = [4]/'
-refuses_plan with-an-index-above-over-65535 5 's/^binary = .*/binary = [1, 1]/; s/^base = \[100/base = [65535/'
+nine='1, 1, 1, 1, 1, 1, 1, 1, 1'
+refuses_plan that-is-no-TOML 1 'line 1: the plan is no TOML' '1s/=//'
+# (a list may go on in the next line, and there the text ends)
+refuses_plan that-is-no-TOML-at-its-end 1 'line 16: the plan is no TOML' '$s/\]$//'
+refuses_plan with-a-number-of-65-bits 1 'line 4: the plan is no TOML' 's/^retries = 0/retries = 9223372036854775808/'
+refuses_plan that-is-not-UTF-8 1 'the plan is no TOML' '1s/$/ # \xff/'
+refuses_plan without-retries 2 'retries is missing' '/^retries/d'
+refuses_plan with-another-key 2 'unknown key "color"' '1s/^/color = 1\n/'
+refuses_plan with-a-long-key 2 'unknown key "1234567890123456789012345678901234567890" and more' '1s/^/12345678901234567890123456789012345678901 = 1\n/'
+refuses_plan with-retries-in-quotes 2 'retries: a string, where a whole number from 0 to 3 belongs' 's/^retries = 0/retries = "0"/'
+refuses_plan with-half-a-millisecond 2 "select_ms: a number that isn't whole, where a whole number from 1 to 3600000 belongs" 's/^select_ms = .*/select_ms = 0.5/'
+refuses_plan with-a-queue-of-one-lane 2 'queue: a list of 1, where a list of 9 whole numbers belongs' 's/^queue = .*/queue = [1]/'
+refuses_plan without-substations 2 'substation is missing' '/^\[\[/,$d'
+refuses_plan with-lanes-of-half-a-row 2 "substation 0, lanes: item 2 is a number that isn't whole, where a whole number from 1 to 4096 belongs" 's/^lanes = .*/lanes = [1, 0.5]/'
+refuses_plan with-a-deadband-too-many 2 'substation 0, deadband: a list of 1, where a list of one whole number for each item of analog belongs' 's/^deadband = .*/deadband = [1]/'
+refuses_plan with-another-key-of-a-substation 2 'substation 0, unknown key "colour"' '$s/$/\ncolour = 1/'
+refuses_plan with-retries-of-4 3 'retries: 4, where a whole number from 0 to 3 belongs' 's/^retries = 0/retries = 4/'
+refuses_plan with-a-lane-of-no-rows 3 'queue: item 9 is 0, where a whole number from 1 to 4096 belongs' "s/^queue = .*/queue = [${nine%1}0]/"
+refuses_plan with-257-outputs 3 'substation 0, outputs: 257, where a whole number from 0 to 256 belongs' 's/^outputs = .*/outputs = 257/'
+refuses_plan with-a-base-of-65536 3 'substation 0, base: item 5 is 65536, where a whole number from 0 to 65535 belongs' 's/, 0\]$/, 65536]/'
+refuses_plan with-no-substation 3 'substation: a list of 0, where a list of 1 to 16 tables belongs' -e 's/^\[\[.*/substation = []/' -e '/^lanes/,$d'
+refuses_plan with-a-class-of-4 4 'substation 0, binary: item 1 is 4, where a class from 0 to 3 belongs' 's/^binary = \[1\]/binary = [4]/'
+refuses_plan with-an-index-above-over-65535 5 'substation 0, base: item 1 is 65535, so the last of its 2 binary inputs is 65536 above, where 65535 is the highest' \
+    's/^binary = .*/binary = [1, 1]/; s/^base = \[100/base = [65535/'
 sed -n '/^\[\[/,$p' "$plan" >substation.toml
-refuses_plan whose-substations-share-an-index 6 '$r substation.toml'
+refuses_plan whose-substations-share-an-index 6 'substation 0, base: by item 1 its binary inputs share an index above with those of substation 1' '$r substation.toml'
+# (a third substation: the first of the two that are wrong is named)
+sed 's/^counter = .*/counter = [0, 1, 5]/; s/^base = .*/base = [7, 8, 9, 10, 11]/' substation.toml >third.toml
+cat substation.toml >>third.toml
+refuses_plan with-a-class-of-5-in-its-second-substation 4 'substation 1, counter: item 3 is 5, where a class from 0 to 3 belongs' '$r third.toml'
 
 # The command line and the files
 expect wants-a-plan 2 '' '' sim

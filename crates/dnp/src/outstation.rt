@@ -40,7 +40,7 @@ OUTPUT
   fragments came whole. Or 'refused plan N', where the plan is refused: 1 it is no TOML, 2 a key
   is missing, unknown or of another type or length, 3 a number is outside its range, 4 a class
   is over 3, 5 an index above would be over 65,535, 6 two substations would share an index
-  above.
+  above; then a line on standard error names the key, what stands there, and what belongs there.
 
 EXIT STATUS
   0  all connections were served
@@ -106,10 +106,10 @@ where
         Ok(text) => text,
         Err(status) => return Ok(status),
     };
-    let found = match str::from_utf8(text.as_slice()) {
-        Ok(text) => planned_outstation(rt.alloc(), text, words.number),
-        Err(_) => Err(PlanTextFault::Syntax),
+    let Ok(text) = str::from_utf8(text.as_slice()) else {
+        return Ok(refused(rt, words.plan, None, PlanTextFault::Syntax));
     };
+    let found = planned_outstation(rt.alloc(), text, words.number);
     match found {
         Ok(Some(mut station)) => {
             let listening = Listening {
@@ -120,7 +120,7 @@ where
             serve_connections(rt, &mut station, &listening)
         }
         Ok(None) => Ok(no_station(rt, given.get_str("station").unwrap_or(""))),
-        Err(fault) => Ok(refused(rt, fault)),
+        Err(fault) => Ok(refused(rt, words.plan, Some(text), fault)),
     }
 }
 

@@ -2,7 +2,7 @@
 
 use crate::exit;
 use crate::fault::{lost, unwritten};
-use dnp_daemons::PlanTextFault;
+use dnp_daemons::{PlanTextFault, plan_fault};
 use std::fs;
 use std::io::Read;
 use std::process::ExitCode;
@@ -31,8 +31,14 @@ pub(crate) fn plan_text<R: AllocGlobal + Eprint + Files>(
     }
 }
 
-/// Prints that the plan is refused, or says on standard error that memory ran out, and gives the exit status.
-pub(crate) fn refused<R: Print + Eprint>(rt: &R, fault: PlanTextFault) -> ExitCode {
+/// Prints that the plan is refused, says on standard error at which place of its text and why, or that memory ran out, and
+/// gives the exit status. There is no text where the file isn't UTF-8.
+pub(crate) fn refused<R: AllocGlobal + Print + Eprint>(
+    rt: &R,
+    path: &str,
+    text: Option<&str>,
+    fault: PlanTextFault,
+) -> ExitCode {
     if fault == PlanTextFault::Memory {
         let _ = eprintln!(rt; "dnp: {fault}");
         return ExitCode::from(exit::FAULT);
@@ -41,6 +47,18 @@ pub(crate) fn refused<R: Print + Eprint>(rt: &R, fault: PlanTextFault) -> ExitCo
     if let Err(cause) = println!(rt; "refused plan {number}") {
         return unwritten(rt, &cause);
     }
-    let _ = eprintln!(rt; "dnp: {fault}");
+    explain(rt, path, text, fault);
     ExitCode::from(exit::REFUSED)
+}
+
+/// Says on standard error why the text is no plan, and at which place. Where no memory is left for that, the cause alone is
+/// said.
+fn explain<R: AllocGlobal + Eprint>(rt: &R, path: &str, text: Option<&str>, fault: PlanTextFault) {
+    if let Some(text) = text
+        && let Ok(Some(reason)) = plan_fault(rt.alloc(), text)
+    {
+        let _ = eprintln!(rt; "dnp: {path}: {reason}");
+    } else {
+        let _ = eprintln!(rt; "dnp: {path}: {fault}");
+    }
 }

@@ -72,7 +72,8 @@ OUTPUT
   Or one line, and then nothing has run:
     'refused plan N', where the plan is refused: 1 it is no TOML, 2 a key is missing, unknown or
     of another type or length, 3 a number is outside its range, 4 a class is over 3, 5 an index
-    above would be over 65,535, 6 two substations would share an index above;
+    above would be over 65,535, 6 two substations would share an index above; then a line on
+    standard error names the key, its substation, what stands there, and what belongs there;
     'refused line N', where line N of the script, counted from 1, is the first that doesn't fit;
     then a line on standard error says which of its words stops fitting, and what belongs there.
   Where a line of the script is out of memory, 'stopped N', N lines having been done.

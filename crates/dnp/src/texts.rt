@@ -59,11 +59,11 @@ fn read_texts<R: AllocGlobal + Input + Print + Eprint + Files>(
         Err(status) => return Ok(Err(status)),
     };
     let Ok(plan) = String::from_utf8(octets) else {
-        return Ok(Err(refused(rt, PlanTextFault::Syntax)));
+        return Ok(Err(refused(rt, path, None, PlanTextFault::Syntax)));
     };
     // Judged before the script is read, so that nobody writes one for a plan that is refused.
     if let Err(fault) = read_plan(rt.alloc(), plan.as_str()) {
-        return Ok(Err(refused(rt, fault)));
+        return Ok(Err(refused(rt, path, Some(plan.as_str()), fault)));
     }
     let mut script = Vec::new(rt.alloc());
     match rt

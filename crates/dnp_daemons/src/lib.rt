@@ -11,8 +11,8 @@ mod script;
 mod sim;
 
 pub use dnp_plantext::{
-    MASTER_BELOW, PlanTextFault, PlannedOutstation, outstation_address, planned_outstation,
-    read_plan,
+    MASTER_BELOW, PlanFault, PlanTextFault, PlannedOutstation, outstation_address, plan_fault,
+    planned_outstation, read_plan,
 };
 pub use dnp_streams::{
     Above, Answer, AnswerFault, Asked, Asker, Below, Clocked, Log, MAX_ADDRESS, MAX_CHARACTERS,

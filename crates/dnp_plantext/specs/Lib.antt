@@ -1,5 +1,6 @@
 -- Definitions, by which contracts promise.
 pub mod PlanFields
 pub mod PlanRanges
+pub mod PlanReasons
 pub mod PlanText
 pub mod Planned

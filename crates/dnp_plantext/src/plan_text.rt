@@ -10,8 +10,15 @@ use std::alloc::{AllocError, Global};
 use thiserror::Error;
 use toml::Value;
 
+mod field_reason;
 mod fields;
+mod index_reason;
+pub(crate) mod place;
+mod range_reason;
 mod ranges;
+pub(crate) mod reason;
+mod said;
+mod unknown;
 
 /// Why a text is no plan, in the order in which the causes are looked for: each in the whole text before the next one is.
 #[derive(Clone, Copy, Debug, PartialEq, Eq, Hash, Error)]

@@ -58,7 +58,7 @@ pub(crate) struct PlanFields {
 
 /// The whole number under a key.
 #[tactic(auto, unfolding(crate::specs::PlanFields::integer_under))]
-fn integer_at(table: &Value, key: &str) -> Option<i64>
+pub(crate) fn integer_at(table: &Value, key: &str) -> Option<i64>
     ensures { result ≡ integer_under key.now (view table.now) }
 {
     match table.get(key) {
@@ -69,7 +69,7 @@ fn integer_at(table: &Value, key: &str) -> Option<i64>
 
 /// The truth value under a key.
 #[tactic(auto, unfolding(crate::specs::PlanFields::bool_under))]
-fn bool_at(table: &Value, key: &str) -> Option<bool>
+pub(crate) fn bool_at(table: &Value, key: &str) -> Option<bool>
     ensures { result ≡ bool_under key.now (view table.now) }
 {
     match table.get(key) {
@@ -94,7 +94,11 @@ fn integers_in(alloc: Global, items: &Array) -> Result<Option<Listed<i64>>, Allo
 
 /// The list of whole numbers under a key.
 #[tactic(auto, unfolding(crate::specs::PlanFields::integers_under))]
-fn integers_at(alloc: Global, table: &Value, key: &str) -> Result<Option<Listed<i64>>, AllocError>
+pub(crate) fn integers_at(
+    alloc: Global,
+    table: &Value,
+    key: &str,
+) -> Result<Option<Listed<i64>>, AllocError>
     ensures { IfOk result (λ numbers. numbers ≡ integers_under key.now (view table.now)) }
 {
     let Some(value) = table.get(key) else {
@@ -121,7 +125,7 @@ fn so_many(numbers: Option<Listed<i64>>, count: usize) -> Option<Listed<i64>>
 
 /// Whether a table has so many keys.
 #[tactic(auto, unfolding(crate::specs::PlanFields::has_keys))]
-fn has_so_many_keys(table: &Value, count: usize) -> bool
+pub(crate) fn has_so_many_keys(table: &Value, count: usize) -> bool
     ensures { result ≡ has_keys count (view table.now) }
 {
     match table.as_table() {

@@ -15,7 +15,7 @@ use dnp_pointdb::{MAX_POINTS, Times};
 use std::alloc::{AllocError, Global};
 
 /// The number, if it is in this range.
-fn number_within(number: i64, least: u64, most: u64) -> Option<u64>
+pub(crate) fn number_within(number: i64, least: u64, most: u64) -> Option<u64>
     ensures { result ≡ within least most number }
 {
     match u64::try_from(number) {

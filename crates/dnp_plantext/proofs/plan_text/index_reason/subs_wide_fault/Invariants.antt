@@ -1,0 +1,7 @@
+use Rattle.std.proofs.Common.{◌≡◌, drop}
+use Rattle.dnp_plantext.specs.PlanReasons.{subs_wide_fault}
+use Rattle.dnp_plantext.proofs.plan_text.index_reason.subs_wide_fault.Given as goal
+
+-- what is first of all substations is first of those to come
+abbrev pub invariant-loop-number : goal.invariant-loop-number
+invariant-loop-number l = subs_wide_fault 0 l.plan.substations ≡ subs_wide_fault l.number (drop l.number l.plan.substations)
