@@ -143,7 +143,7 @@ refuses() {
     says "says-why-it-$name" "dnp: wrong.toml: $reason"
 }
 refuses takes-no-text-that-is-no-toml 1 'line 1: the plan is no TOML' 'confirm_ms=' 'response_ms=' 'select_ms=' 'retries=' 'unsolicited=' 'queue='
-refuses takes-no-unknown-key 2 'substation 0, unknown key "colour"' 'colour=3'
+refuses takes-no-unknown-key 2 "substation 0, unknown key 'colour'" 'colour=3'
 refuses takes-no-fourth-retry 3 'retries: 4, where a whole number from 0 to 3 belongs' retries=4
 refuses takes-no-class-4 4 'substation 0, binary: item 1 is 4, where a class from 0 to 3 belongs' 'binary=[4]'
 refuses takes-no-index-over-65535 5 'substation 0, base: item 1 is 65535, so the last of its 2 binary inputs is 65536 above, where 65535 is the highest' \

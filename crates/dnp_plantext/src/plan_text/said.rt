@@ -86,8 +86,14 @@ impl Display for Quoted<'_> {
     fn fmt<W: Write>(&self, f: &mut Formatter<W>) -> fmt::Result {
         let key = self.0;
         match key.char_indices().nth(SHOWN) {
-            Some((end, _)) => write!(f, "{:?} and more", key.get(..end).unwrap_or("")),
-            None => write!(f, "{key:?}"),
+            Some((end, _)) => {
+                let shown = key.get(..end).unwrap_or("").escape_debug();
+                write!(f, "'{shown}' and more")
+            }
+            None => {
+                let shown = key.escape_debug();
+                write!(f, "'{shown}'")
+            }
         }
     }
 }
