@@ -1,5 +1,5 @@
-//! Tests of a station's parts: `dnp_pointdb`, `dnp_eventbuf` and `dnp_controls`, and of `dnp_outstation` and
-//! `dnp_master`.
+//! Tests of a station's parts: `dnp_pointdb`, `dnp_eventbuf` and `dnp_controls`, and of stations: `dnp_outstation`,
+//! `dnp_master` and `dnp_concentrator`.
 //! They stand apart from those crates, since a crate with tests is proved twice.
 //!
 //! They are few: worked values that no clause has, each call that asks for memory once where there
@@ -7,6 +7,10 @@
 //! argument has no test.
 #![tactic(auto)]
 
+#[cfg(test)]
+mod above;
+#[cfg(test)]
+mod below;
 #[cfg(test)]
 mod books;
 #[cfg(test)]
@@ -29,6 +33,8 @@ mod plans;
 mod points;
 #[cfg(test)]
 mod polls;
+#[cfg(test)]
+mod system_plans;
 #[cfg(test)]
 mod texts;
 #[cfg(test)]

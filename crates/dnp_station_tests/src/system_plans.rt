@@ -1,4 +1,4 @@
-//! Small plans.
+//! Small plans of systems.
 
 use dnp_concentrator::{Listed, Plan, SubPlan};
 use dnp_pointdb::Times;

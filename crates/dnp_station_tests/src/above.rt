@@ -1,6 +1,6 @@
 //! A concentrator towards the station above.
 
-use crate::plans::{SMALL, plan};
+use crate::system_plans::{SMALL, plan};
 use dnp_concentrator::Concentrator;
 use dnp_controls::{Book, Entry, PlainBook, State};
 use dnp_eventbuf::PlainLanes;

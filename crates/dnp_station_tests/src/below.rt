@@ -3,7 +3,7 @@
 ghost use Rattle.dnp_concentrator.specs.Plan.{KeepsLimits};
 
 use crate::above::{Middle, sends};
-use crate::plans::{SMALL, plan};
+use crate::system_plans::{SMALL, plan};
 use dnp_concentrator::{Centre, Concentrator, IssueFault, Plan, Relayed};
 use dnp_controls::{Book, Entry, PlainBook, PlainOutputs, State};
 use dnp_eventbuf::{Lane, Lanes, Numbered, PlainJournal, PlainLanes};
