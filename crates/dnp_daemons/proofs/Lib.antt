@@ -1,5 +1,6 @@
 mod DroppedLists
 mod FormReads
+mod IdleFinding
 mod LineForms
 mod LineStops
 mod LineWords

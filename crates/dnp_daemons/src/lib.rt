@@ -21,5 +21,8 @@ pub use dnp_streams::{
 };
 pub use report_text::{PrintFault, print_report};
 pub use run::{ScriptStop, Scripted, run_script};
-pub use script::{LineFault, ScriptFault, ScriptLine, number_in, read_script, script_fault};
+pub use script::{
+    IdleLines, IdleReason, LineFault, ScriptFault, ScriptLine, idle_lines, number_in, read_script,
+    script_fault,
+};
 pub use sim::{loop_text, sim_text};
