@@ -1,7 +1,7 @@
 -- Lines that do nothing, found one after the other.
-use Rattle.std.proofs.Common.{◌≡◌, ℕ, ◌+◌, ◌<◌, List, [], ◌∷◌, length, Option, Some, None, IfSome, arith, refl}
+use Rattle.std.proofs.Common.{◌≡◌, ℕ, ◌+◌, ◌<◌, List, ◌∷◌, Option, Some, None, IfSome, arith, refl}
 use Rattle.dnp_concentrator.specs.declared.plan.Plan.{Plan}
-use Rattle.dnp_daemons.specs.IdleLines.{idle_from, reason_of, summed}
+use Rattle.dnp_daemons.specs.IdleLines.{idle_from, reason_of}
 use Rattle.dnp_daemons.specs.declared.script.idle.IdleLines.{IdleLines}
 use Rattle.dnp_daemons.specs.declared.script.idle.IdleReason.{IdleReason}
 use Rattle.dnp_daemons.specs.steps.Idle.{found_after, found_before}

@@ -1,6 +1,6 @@
 -- Definition: the lines of a script that do nothing on any system of a plan, and why: what they name is not in the plan, or a point
 -- can't read it, or a master asks it in no state (own rule).
-use Rattle.std.specs.Prelude.{ℕ, ◌+◌, ◌^◌, Bool, true, false, nat_lt, ◌==◌, if◌then◌else◌, List, [], ◌∷◌, length, Option, Some, None}
+use Rattle.std.specs.Prelude.{ℕ, ◌+◌, ◌^◌, Bool, nat_lt, ◌==◌, if◌then◌else◌, List, [], ◌∷◌, length, Option, Some, None}
 use Rattle.std.specs.Option.{option_and_then}
 use Rattle.dnp_concentrator.specs.IndexKinds.{kind_of_points, kind_of_command}
 use Rattle.dnp_concentrator.specs.IndexMap.{span_at}

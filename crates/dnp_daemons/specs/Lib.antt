@@ -13,4 +13,5 @@ pub mod ScriptReports
 pub mod Judgements
 pub mod ScriptWorlds
 pub mod Simulations
+pub mod IdleRuns
 pub mod steps

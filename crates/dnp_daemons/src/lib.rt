@@ -8,6 +8,7 @@
 mod report_text;
 mod run;
 mod script;
+pub mod script_laws;
 mod sim;
 
 pub use dnp_plantext::{

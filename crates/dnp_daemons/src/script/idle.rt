@@ -1,8 +1,6 @@
 //! The lines of a script that do nothing, for the person who wrote it.
 
-ghost use Rattle.std.specs.Prelude.{◌≡◌, ◌<◌, ℕ, IfOk, IfSome, length};
-ghost use Rattle.dnp_concentrator.specs.IndexKinds.{kind_of_points};
-ghost use Rattle.dnp_concentrator.specs.Plan.{KeepsLimits};
+ghost use Rattle.std.specs.Prelude.{◌≡◌, ◌<◌, IfOk, IfSome};
 ghost use Rattle.dnp_daemons.specs.IdleLines as spec;
 ghost use Rattle.dnp_daemons.specs.Words.{lines_of};
 ghost use Rattle.dnp_daemons.specs.steps.Idle as step;
