@@ -83,7 +83,8 @@ middle_stays step commands lines old new h =
     (ap (λ (s : System). s.centre.indices) h.after, λ low. subst (λ (s : System). s.now < 2 ^ 64) (sym h.after) low)
 
 sends_stay : (on : Link) (fragments : List (List ℕ)) (r : Relaying) (old new : System) → SendsDown on fragments r old new → Stays old new
-sends_stay (link.Below station) fragments r old new h = (ap (λ (s : System). s.centre.indices) h.after, λ low. subst (λ (s : System). s.now < 2 ^ 64) (sym h.after) low)
+sends_stay (link.Below station) fragments r old new h =
+    (ap (λ (s : System). s.centre.indices) h.after, λ low. subst (λ (s : System). s.now < 2 ^ 64) (sym h.after) low)
 sends_stay link.Above fragments r old new h = (ap (λ (s : System). s.centre.indices) h.1, λ low. subst (λ (s : System). s.now < 2 ^ 64) (sym h.1) low)
 
 -- ---- each event
@@ -93,8 +94,10 @@ opens_stay (link.Below station) old new h = (ap (λ (s : System). s.centre.indic
 opens_stay link.Above old new h = (ap (λ (s : System). s.centre.indices) h.after, λ low. subst (λ (s : System). s.now < 2 ^ 64) (sym h.after) low)
 
 hangs_stay : (on : Link) (e : End) (old new : System) → HangsUpOn on e old new → Stays old new
-hangs_stay (link.Below station) end.Master old new h = (ap (λ (s : System). s.centre.indices) h.after, λ low. subst (λ (s : System). s.now < 2 ^ 64) (sym h.after) low)
-hangs_stay (link.Below station) end.Outstation old new h = (ap (λ (s : System). s.centre.indices) h.after, λ low. subst (λ (s : System). s.now < 2 ^ 64) (sym h.after) low)
+hangs_stay (link.Below station) end.Master old new h =
+    (ap (λ (s : System). s.centre.indices) h.after, λ low. subst (λ (s : System). s.now < 2 ^ 64) (sym h.after) low)
+hangs_stay (link.Below station) end.Outstation old new h =
+    (ap (λ (s : System). s.centre.indices) h.after, λ low. subst (λ (s : System). s.now < 2 ^ 64) (sym h.after) low)
 hangs_stay link.Above end.Master old new h = (ap (λ (s : System). s.centre.indices) h, λ low. subst (λ (s : System). s.now < 2 ^ 64) (sym h) low)
 hangs_stay link.Above end.Outstation old new h = (ap (λ (s : System). s.centre.indices) h, λ low. subst (λ (s : System). s.now < 2 ^ 64) (sym h) low)
 
@@ -230,7 +233,8 @@ refused_keeps law plan on id status old new of (First told) = event_keeps law pl
 refused_keeps law plan on id status old new of (Second selected selects told) =
     event_keeps law plan (event.Relay on) selected new (passes_keep law plan on id old selected of selects) told.relays
 refused_keeps law plan on id status old new of (Third selected operated selects operates told) =
-    event_keeps law plan (event.Relay on) operated new (passes_keep law plan on id selected operated (passes_keep law plan on id old selected of selects) operates)
+    event_keeps law plan (event.Relay on) operated new
+    (passes_keep law plan on id selected operated (passes_keep law plan on id old selected of selects) operates)
     told.relays
 
 refused_for_keeps : PointsKept → (plan : Plan) (station : Option ℕ) (id status : ℕ) (old new : System) → IsOf plan old

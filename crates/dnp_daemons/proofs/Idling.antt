@@ -177,12 +177,14 @@ refused_task s (task.Poll classes) reason e = absurd (none-some reason e)
 refused_task s task.ClearRestart reason e = absurd (none-some reason e)
 refused_task s (task.Enable classes) reason e = by (has_class classes 0) refl
   where
-    by : (b : Bool) → has_class classes 0 ≡ b → (is_own (task.Enable classes) ≡ true) × ((fault : AskFault) × (ask_answer s (task.Enable classes) ≡ Err fault))
+    by : (b : Bool) → has_class classes 0 ≡ b
+        → (is_own (task.Enable classes) ≡ true) × ((fault : AskFault) × (ask_answer s (task.Enable classes) ≡ Err fault))
     by true is = (refl, bad_task s (task.Enable classes) refl (no_class_0 (has_some classes) (has_class classes 0) is))
     by false is = absurd (none-some reason (rw is at e))
 refused_task s (task.Disable classes) reason e = by (has_class classes 0) refl
   where
-    by : (b : Bool) → has_class classes 0 ≡ b → (is_own (task.Disable classes) ≡ true) × ((fault : AskFault) × (ask_answer s (task.Disable classes) ≡ Err fault))
+    by : (b : Bool) → has_class classes 0 ≡ b
+        → (is_own (task.Disable classes) ≡ true) × ((fault : AskFault) × (ask_answer s (task.Disable classes) ≡ Err fault))
     by true is = (refl, bad_task s (task.Disable classes) refl (no_class_0 (has_some classes) (has_class classes 0) is))
     by false is = absurd (none-some reason (rw is at e))
 refused_task s (task.WriteTime time) reason e = by (nat_lt time (2 ^ 48)) refl
@@ -214,7 +216,8 @@ none_sent old new (link.Below station) sends =
     let same : sends.is ≡ sends.was =
     sends.changed.1 ∙ ap (λ (lines : ChannelState). record sends.was { channel = lines }) (none_down sends.was.channel sends.is.channel sends.changed.0) in
     sends.after
-    ∙ ap (λ (xs : List Relaying). record old { concentrator = record old.concentrator { links = xs }; substations = slice_set old.substations station sends.is }) links
+    ∙ ap (λ (xs : List Relaying).
+    record old { concentrator = record old.concentrator { links = xs }; substations = slice_set old.substations station sends.is }) links
     ∙ ap (λ (x : SubstationState). record old { substations = slice_set old.substations station x }) same
     ∙ ap (λ (xs : List SubstationState). record old { substations = xs }) (set_there old.substations station sends.was sends.there)
 

@@ -21,6 +21,7 @@ loop-rest-preserved c =
           ∙ found_next plan found number line more reason c.in_ok-line_reason.ensures
           ∙ ap (λ (f : Option IdleLines). found_before f (idle_from plan (number + 1) more)) (sym c.found_after-found.ensures),
       omega arith,
-      subst (λ (f : Option IdleLines). IfSome f (λ (lines : IdleLines). lines.count < number + 1)) (sym c.found_after-found.ensures) (found_fewer found number reason some few),
+      subst (λ (f : Option IdleLines). IfSome f (λ (lines : IdleLines). lines.count < number + 1)) (sym c.found_after-found.ensures)
+          (found_fewer found number reason some few),
       omega arith,
     )
