@@ -88,5 +88,5 @@ fn carry<R: AllocGlobal + Print + Eprint>(
     if let Some(cause) = wire.cause() {
         lost(rt, WIRE, cause);
     }
-    finish(rt, texts, true, &mut out, ended)
+    finish(rt, texts, Some(wire), &mut out, ended)
 }

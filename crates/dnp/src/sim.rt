@@ -77,6 +77,8 @@ OUTPUT
     'refused line N', where line N of the script, counted from 1, is the first that doesn't fit;
     then a line on standard error says which of its words stops fitting, and what belongs there.
   Where a line of the script is out of memory, 'stopped N', N lines having been done.
+  On standard error, where lines can do nothing, as one that names no point of the plan: how many
+  they are, the number of the first, and why it does nothing.
 
 SOMETHING TO LOOK AT
   What the units on the lines do, in a run of its own: the report stays as it is. A file is written
@@ -141,7 +143,7 @@ pub(crate) fn run<R: AllocGlobal + Input + Print + Eprint + Files>(
         texts.script.as_str(),
         &mut out,
     );
-    finish(rt, &texts, false, &mut out, ended)
+    finish(rt, &texts, None, &mut out, ended)
 }
 
 /// Runs the script as without '--json', and prints what came of it as JSON, if it ran to its report.
@@ -160,5 +162,5 @@ fn run_json<R: AllocGlobal + Print + Eprint>(rt: &R, texts: &Texts) -> anyhow::R
     }
     // What fails here, the writer keeps.
     let _ = out.write_all(printed.as_slice());
-    finish(rt, texts, false, &mut out, ended)
+    finish(rt, texts, None, &mut out, ended)
 }

@@ -1,12 +1,17 @@
 //! The texts of a plan and a script, and how a script over them ends.
 
+ghost use Rattle.dnp_concentrator.specs.Plan.{KeepsLimits};
+
 use crate::exit;
 use crate::fault::{Noted, lost, unwritten};
 use crate::numbers::number_given;
 use crate::options::defaulted;
 use crate::plan_file::{plan_text, refused};
+use crate::wire::Wire;
 use clap::{Arg, ArgMatches};
-use dnp_daemons::{PlanTextFault, ScriptStop, read_plan, script_fault};
+use dnp_concentrator::Plan;
+use dnp_daemons::{PlanTextFault, ScriptStop, idle_lines, read_plan, script_fault};
+use dnp_world::Cause;
 use std::alloc::{AllocError, Global};
 use std::io::{BufWriter, Read, Write};
 use std::process::ExitCode;
@@ -101,12 +106,13 @@ fn as_text(alloc: Global, octets: Vec<u8>) -> Result<String, AllocError> {
     }
 }
 
-/// Writes what the buffer still holds, and gives the exit status of texts that came to this end. Where the output is lost,
-/// the script is refused, or it was not run to its report, why is said on standard error.
+/// Writes what the buffer still holds, and gives the exit status of texts that came to this end, over this wire where the
+/// units were carried. Where the output is lost, the script is refused, lines of it did nothing, or it was not run to its
+/// report, that is said on standard error.
 pub(crate) fn finish<R: AllocGlobal + Eprint, W: Write + Drop>(
     rt: &R,
     texts: &Texts,
-    carried: bool,
+    carried: Option<&Wire>,
     out: &mut BufWriter<Noted<W>>,
     ended: Result<u8, ScriptStop>,
 ) -> anyhow::Result<ExitCode> {
@@ -117,26 +123,59 @@ pub(crate) fn finish<R: AllocGlobal + Eprint, W: Write + Drop>(
     flushed?;
     match ended {
         Ok(status) => {
-            if status == exit::REFUSED {
-                explain(rt, texts, carried);
-            }
+            explain(rt, texts, carried.is_some(), status);
             Ok(ExitCode::from(status))
         }
         Err(stop) => {
-            let _ = eprintln!(rt; "dnp: {stop}");
+            let is_lost = carried.is_some_and(|wire| wire.cause().is_some());
+            say_stop(rt, stop, is_lost);
             Ok(ExitCode::from(exit::FAULT))
         }
     }
 }
 
-/// Says on standard error where and why the text is no script for the plan.
-fn explain<R: AllocGlobal + Eprint>(rt: &R, texts: &Texts, carried: bool) {
+/// Says on standard error why a script was not run to its report. A line stops at a unit that the wire lost, of which that
+/// was said, or else out of memory: the stores are in memory, and their numbers end at 2^62.
+fn say_stop<R: Eprint>(rt: &R, stop: ScriptStop, is_lost: bool) {
+    let _ = match stop {
+        ScriptStop::Stopped(_) if !is_lost => eprintln!(rt; "dnp: {stop}: {}", Cause::Memory),
+        _ => eprintln!(rt; "dnp: {stop}"),
+    };
+}
+
+/// Says on standard error what is to be said of a script that came to this exit status: where and why it is none for the
+/// plan, or which of its lines did nothing.
+fn explain<R: AllocGlobal + Eprint>(rt: &R, texts: &Texts, carried: bool, status: u8) {
     let Ok(plan) = read_plan(rt.alloc(), texts.plan.as_str()) else {
         return;
     };
-    match script_fault(rt.alloc(), texts.script.as_str(), &plan, carried) {
+    match status {
+        exit::DONE => say_idle(rt, texts, &plan),
+        exit::REFUSED => say_fault(rt, texts, &plan, carried),
+        _ => {}
+    }
+}
+
+/// Says on standard error where and why the text is no script for the plan.
+fn say_fault<R: AllocGlobal + Eprint>(rt: &R, texts: &Texts, plan: &Plan, carried: bool)
+    requires { KeepsLimits plan.now }
+{
+    match script_fault(rt.alloc(), texts.script.as_str(), plan, carried) {
         Ok(Some(fault)) => {
             let _ = eprintln!(rt; "dnp: {fault}");
+        }
+        Ok(None) => {}
+        Err(fault) => {
+            let _ = eprintln!(rt; "dnp: {fault}");
+        }
+    }
+}
+
+/// Says on standard error how many lines of the script did nothing, which is the first, and why.
+fn say_idle<R: AllocGlobal + Eprint>(rt: &R, texts: &Texts, plan: &Plan) {
+    match idle_lines(rt.alloc(), texts.script.as_str(), plan) {
+        Ok(Some(lines)) => {
+            let _ = eprintln!(rt; "dnp: {lines}");
         }
         Ok(None) => {}
         Err(fault) => {

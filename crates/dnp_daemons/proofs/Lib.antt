@@ -1,5 +1,8 @@
 mod DroppedLists
 mod FormReads
+mod IdleFinding
+mod IdleScripts
+mod Idling
 mod LineForms
 mod LineStops
 mod LineWords

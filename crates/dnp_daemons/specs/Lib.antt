@@ -5,6 +5,7 @@ pub mod Numbers
 pub mod Names
 pub mod ScriptLines
 pub mod ScriptReasons
+pub mod IdleLines
 pub mod Scripted
 pub mod ScriptTexts
 pub mod ScriptRuns
@@ -12,4 +13,5 @@ pub mod ScriptReports
 pub mod Judgements
 pub mod ScriptWorlds
 pub mod Simulations
+pub mod IdleRuns
 pub mod steps

@@ -2,3 +2,4 @@
 pub mod Forms
 pub mod Judging
 pub mod Lines
+pub mod Idle

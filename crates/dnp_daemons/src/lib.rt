@@ -8,6 +8,7 @@
 mod report_text;
 mod run;
 mod script;
+pub mod script_laws;
 mod sim;
 
 pub use dnp_plantext::{
@@ -21,5 +22,8 @@ pub use dnp_streams::{
 };
 pub use report_text::{PrintFault, print_report};
 pub use run::{ScriptStop, Scripted, run_script};
-pub use script::{LineFault, ScriptFault, ScriptLine, number_in, read_script, script_fault};
+pub use script::{
+    IdleLines, IdleReason, LineFault, ScriptFault, ScriptLine, idle_lines, number_in, read_script,
+    script_fault,
+};
 pub use sim::{loop_text, sim_text};

@@ -13,6 +13,7 @@ use std::alloc::{AllocError, AllocFailed, Global};
 use thiserror::Error;
 
 mod forms;
+mod idle;
 mod lines;
 mod names;
 mod numbers;
@@ -20,6 +21,7 @@ mod reason;
 mod said;
 mod words;
 
+pub use idle::{IdleLines, IdleReason, idle_lines};
 pub use numbers::number_in;
 pub use reason::{LineFault, script_fault};
 
@@ -102,7 +104,8 @@ fn read_line_by(
 /// lack; its words are separated by single spaces.
 ///
 /// Refused is the first line that doesn't fit, also one that names a link or a substation that the plan lacks. A point,
-/// an output or a setpoint that the plan lacks may be named, and does nothing. Before that line it may be out of memory.
+/// an output or a setpoint that the plan lacks may be named, and does nothing ([`idle_lines`]). Before that line it may be
+/// out of memory.
 pub fn read_script(alloc: Global, text: &str, plan: &Plan) -> Result<Vec<ScriptLine>, ScriptFault>
     ensures read { IfOk result (λ script.
         map (reading_of (length plan.now.substations)) (lines_of text.now) ≡ map Some script.items) }
