@@ -1,6 +1,7 @@
 //! A concentrator's stations and a centre on streams.
 
 use crate::ends::{Giving, Taking};
+use crate::plans::SMALL;
 use dnp_concentrator::{Centre, Concentrator};
 use dnp_controls::PlainBook;
 use dnp_eventbuf::{JournalStore, Lane, Lanes, PlainJournal, PlainLanes};
@@ -10,25 +11,6 @@ use dnp_objects::Kind;
 use dnp_plantext::read_plan;
 use dnp_streams::{Above, Asked, Below, ServeFault, Served, Station, ask_stream, serve_stream};
 use std::alloc::Global;
-
-/// A plan of one substation with one binary input of class 1, whose index above is 100.
-const PLAN: &str = "\
-confirm_ms = 5000
-response_ms = 10000
-select_ms = 5000
-retries = 0
-unsolicited = false
-queue = [100, 100, 100, 100, 100, 100, 100, 100, 100]
-[[substation]]
-lanes = [100, 100, 100, 100, 100, 100, 100, 100, 100]
-binary = [1]
-counter = []
-analog = []
-deadband = []
-outputs = 1
-setpoints = 0
-base = [100, 0, 0, 200, 0]
-";
 
 /// An unsolicited response from outstation 10 to master 2: binary input 0 has become 1, with a time.
 const REPORT: [u8; 33] = [
@@ -124,7 +106,7 @@ fn sends<S: Station>(
 #[test]
 fn a_concentrator_on_streams(rt: HostRuntime) {
     let alloc = rt.alloc();
-    let plan = read_plan(alloc, PLAN).expect(&rt, "a plan");
+    let plan = read_plan(alloc, SMALL).expect(&rt, "a plan");
     let queue = PlainLanes::new(alloc, plan.queue).expect(&rt, "a queue");
     let mut concentrator = Concentrator::new(alloc, &plan, queue, PlainBook::new(alloc)).expect(
         &rt,
@@ -163,7 +145,7 @@ fn a_concentrator_on_streams(rt: HostRuntime) {
 #[test]
 fn a_centre_on_a_stream(rt: HostRuntime) {
     let alloc = rt.alloc();
-    let plan = read_plan(alloc, PLAN).expect(&rt, "a plan");
+    let plan = read_plan(alloc, SMALL).expect(&rt, "a plan");
     let mut centre = Centre::new(
         alloc,
         &plan,
@@ -220,7 +202,7 @@ fn is_idle(concentrator: &Concentrator<PlainLanes, PlainBook>) -> bool {
 #[test]
 fn a_poll_on_a_stream(rt: HostRuntime) {
     let alloc = rt.alloc();
-    let plan = read_plan(alloc, PLAN).expect(&rt, "a plan");
+    let plan = read_plan(alloc, SMALL).expect(&rt, "a plan");
     let queue = PlainLanes::new(alloc, plan.queue).expect(&rt, "a queue");
     let mut concentrator = Concentrator::new(alloc, &plan, queue, PlainBook::new(alloc)).expect(
         &rt,

@@ -108,29 +108,10 @@ remembers_more heard frame ports place old new before carries is there source de
       ];
 }
 
-no_more : (b : Bool) → (b && false) ≡ false
-no_more b = elim b as (λ x. (x && false) ≡ false) [ true ↦ refl | false ↦ refl ]
-
--- a frame without user data changes nothing
-pub remembers_same : (heard : List Frame) (frame : Frame) (ports : List Port) → Remembers heard ports → says_data frame.control ≡ false
-    → Remembers (frame ∷ heard) ports
-remembers_same heard frame ports before none = record {
-  each = λ t e.
-      let pushed : data_of t e (frame ∷ heard) ≡ data_of t e heard =
-      ap (λ (b : Bool). cond b (frame.user.items ∷ data_of t e heard) (data_of t e heard))
-      (ap (λ (b : Bool). ((frame.source == t) && (frame.dest == e)) && b) none ∙ no_more ((frame.source == t) && (frame.dest == e))) in
-      subst (λ (xs : List (List ℕ)). Stands xs (assembly_in ports t e)) (sym pushed) (before.each t e);
-}
-
 -- a search for the first port of a direction has come to this place: the first one of the rest is the first of all, also
 -- with more ports behind them
 pub record Looked (ports : List Port) (s d place : ℕ) : Type 0 where
   pub on : (i : ℕ) (more : List Port) → IsPlace (drop place ports ++ more) s d i → IsPlace (ports ++ more) s d (place + i)
-
-pub looked_none : (ports : List Port) (s d : ℕ) → Looked ports s d 0
-looked_none ports s d = record {
-  on = λ i more h. subst (λ (x : ℕ). IsPlace (ports ++ more) s d x) (let e : i ≡ 0 + i = omega arith in e) h;
-}
 
 pub looked_more : (ports : List Port) (s d place : ℕ) (p : Port) → place < length ports → get_or ports place p ≡ p → is_of s d p ≡ false
     → Looked ports s d place → Looked ports s d (place + 1)

@@ -147,20 +147,18 @@ struct Linked(Line);
 
 impl Display for Linked {
     fn fmt<W: Write>(&self, f: &mut Formatter<W>) -> fmt::Result {
+        f.write_str("\"layer\":\"frame\",")?;
         match self.0 {
             Line::Noise {
                 octets,
                 start: false,
-            } => write!(
-                f,
-                "\"layer\":\"frame\",\"refused\":\"Noise\",\"octets\":{octets}"
-            ),
+            } => write!(f, "\"refused\":\"Noise\",\"octets\":{octets}"),
             Line::Noise {
                 octets,
                 start: true,
             } => write!(
                 f,
-                "\"layer\":\"frame\",\"refused\":\"HeaderCheck\",\"octet\":{HEADER_CHECK_PLACE},\"octets\":{octets}"
+                "\"refused\":\"HeaderCheck\",\"octet\":{HEADER_CHECK_PLACE},\"octets\":{octets}"
             ),
             Line::Frame {
                 control,
@@ -171,7 +169,7 @@ impl Display for Linked {
                 let function = link_function(control);
                 write!(
                     f,
-                    "\"layer\":\"frame\",\"source\":{source},\"dest\":{dest},\"control\":\"{control:02X}\",\"function\":\"{function}\",\"octets\":{octets}"
+                    "\"source\":{source},\"dest\":{dest},\"control\":\"{control:02X}\",\"function\":\"{function}\",\"octets\":{octets}"
                 )
             }
             Line::FrameRefused {
@@ -184,13 +182,10 @@ impl Display for Linked {
                 let refusal = Refusal(fault);
                 write!(
                     f,
-                    "\"layer\":\"frame\",\"source\":{source},\"dest\":{dest},\"control\":\"{control:02X}\",{refusal}"
+                    "\"source\":{source},\"dest\":{dest},\"control\":\"{control:02X}\",{refusal}"
                 )
             }
-            Line::Cut(octets) => write!(
-                f,
-                "\"layer\":\"frame\",\"refused\":\"Cut\",\"octet\":{octets}"
-            ),
+            Line::Cut(octets) => write!(f, "\"refused\":\"Cut\",\"octet\":{octets}"),
             _ => Ok(()),
         }
     }
