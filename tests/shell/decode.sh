@@ -54,11 +54,26 @@ decodes states-of-outputs 0 '1 10>2 44 UNCONFIRMED_USER_DATA 12 octets, words go
 1   response seq 0 fir fin, iin 80 00
 1     10.2 3..4: 3 = 1 flags 01
 1     10.2 3..4: 4 = 0 flags 01' "$(frame 44 02 0A C0 C0 81 80 00 0A 02 00 03 04 81 01)$lf"
+# 40.1 and 40.2, the states of setpoints: -2 in 32 bits, 513 in 16
+decodes states-of-setpoints 0 '1 10>2 44 UNCONFIRMED_USER_DATA 23 octets, words good
+1   transport FIR FIN 0
+1   response seq 0 fir fin, iin 80 00
+1     40.1 0..0: 0 = -2 flags 01
+1     40.2 1..1: 1 = 513 flags 01' "$(frame 44 02 0A C0 C0 81 80 00 28 01 00 00 00 01 FE FF FF FF 28 02 00 01 01 01 01 02)$lf"
 # 80.1, the indication DEVICE_RESTART, 7, is cleared
 decodes an-indication 0 '1 2>10 C4 UNCONFIRMED_USER_DATA 9 octets, words good
 1   transport FIR FIN 0
 1   request seq 0 fir fin WRITE
 1     80.1 7..7: 7 = 0' "$(frame C4 0A 02 C0 C0 02 50 01 00 07 07 00)$lf"
+# 50.1, a time that is written, and 52.2, a delay
+decodes a-time 0 '1 2>10 C4 UNCONFIRMED_USER_DATA 13 octets, words good
+1   transport FIR FIN 0
+1   request seq 0 fir fin WRITE
+1     50.1 x1: 1970-01-01T00:00:01.000Z' "$(frame C4 0A 02 C0 C0 02 32 01 07 01 E8 03 00 00 00 00)$lf"
+decodes a-delay 0 '1 10>2 44 UNCONFIRMED_USER_DATA 11 octets, words good
+1   transport FIR FIN 0
+1   response seq 0 fir fin, iin 00 00
+1     52.2 x1: 513 ms' "$(frame 44 02 0A C0 C0 81 00 00 34 02 07 01 01 02)$lf"
 decodes an-unsolicited-response 0 '1 10>2 44 UNCONFIRMED_USER_DATA 5 octets, words good
 1   transport FIR FIN 0
 1   response seq 0 fir fin con uns, iin 80 00' "$(frame 44 02 0A C0 F0 82 80 00)$lf"
@@ -190,8 +205,13 @@ decodes json-of-objects 1 '{"at":1,"layer":"frame","source":2,"dest":10,"control
 {"at":3,"layer":"request","seq":0,"fir":true,"fin":true,"con":false,"uns":false,"function":"WRITE"}
 {"at":3,"layer":"header","group":80,"variation":1,"range":"span","first":7,"last":7,"octets":1}
 {"at":3,"layer":"indication","index":7,"value":0}
-{"at":4,"layer":"frame","refused":"HeaderCheck","octet":8,"octets":1}
-{"at":4,"layer":"frame","refused":"Cut","octet":9}' "$(frame C4 0A 02 C0 C0 03 0C 01 17 01 05 81 02 64 00 00 00 C8 00 00 00 00 29 02 17 01 05 FE FF 04 29 01 17 01 06 00 00 01 00 00)$lf$(frame 44 02 0A C0 C0 81 80 00 0A 02 00 03 03 81)$lf$(frame C4 0A 02 C0 C0 02 50 01 00 07 07 00)$lf"'05 64 05 C0 01 00 00 04 E9 22'"$lf" --json
+{"at":4,"layer":"frame","source":10,"dest":2,"control":"44","function":"UNCONFIRMED_USER_DATA","octets":11}
+{"at":4,"layer":"transport","fir":true,"fin":true,"number":0,"octets":10}
+{"at":4,"layer":"response","seq":0,"fir":true,"fin":true,"con":false,"uns":false,"function":"RESPONSE","iin":["00","00"]}
+{"at":4,"layer":"header","group":52,"variation":2,"range":"count","count":1,"octets":2}
+{"at":4,"layer":"delay","ms":513}
+{"at":5,"layer":"frame","refused":"HeaderCheck","octet":8,"octets":1}
+{"at":5,"layer":"frame","refused":"Cut","octet":9}' "$(frame C4 0A 02 C0 C0 03 0C 01 17 01 05 81 02 64 00 00 00 C8 00 00 00 00 29 02 17 01 05 FE FF 04 29 01 17 01 06 00 00 01 00 00)$lf$(frame 44 02 0A C0 C0 81 80 00 0A 02 00 03 03 81)$lf$(frame C4 0A 02 C0 C0 02 50 01 00 07 07 00)$lf$(frame 44 02 0A C0 C0 81 00 00 34 02 07 01 01 02)$lf"'05 64 05 C0 01 00 00 04 E9 22'"$lf" --json
 
 # Captures, each packet of raw IPv4 (RFC 791) and TCP (RFC 9293)
 # le NUMBER OCTETS, be NUMBER OCTETS: a number in hexadecimal, the low or the high octet first
@@ -242,7 +262,7 @@ refuses a-text Start '48 65 6C 6C 6F'
 refuses a-header-that-is-cut Start "${header:0:50}"
 refuses a-newer-capture Newer '0A 0D 0D 0A 1C 00 00 00'
 refuses another-link Link "${header% 65 00 00 00} 69 00 00 00"
-says names-the-link 'dnp: packets of link type 105, where 1 (Ethernet), 101 (raw IP) or 0 (loopback) is read'
+says names-the-link 'dnp: capture: packets of link type 105, where 1 (Ethernet), 101 (raw IP) or 0 (loopback) is read'
 
 # The command line, and a lost input or output
 for words in 'decode x' 'decode --far' 'decode --pcap' 'decode --raw=1' 'decode --raw --pcap capture'; do

@@ -206,11 +206,16 @@ request seq 0 fir fin READ
 10>2 44 UNCONFIRMED_USER_DATA 18 octets, words good
 transport FIR FIN 0
 response seq 0 fir fin, iin 80 00
-10.2 0..5
+10.2 0..5: 0 = 0 flags 01
+10.2 0..5: 1 = 0 flags 01
+10.2 0..5: 2 = 0 flags 01
+10.2 0..5: 3 = 0 flags 01
+10.2 0..5: 4 = 0 flags 01
+10.2 0..5: 5 = 0 flags 01
 2>10 C4 UNCONFIRMED_USER_DATA 9 octets, words good
 transport FIR FIN 1
 request seq 1 fir fin WRITE
-80.1 7..7
+80.1 7..7: 7 = 0
 10>2 44 UNCONFIRMED_USER_DATA 5 octets, words good
 transport FIR FIN 1
 response seq 1 fir fin, iin 00 00

@@ -166,4 +166,5 @@ misuses() {
 misuses a-chart-on-standard-output "only '--trace' can go to standard output" --chart -
 misuses a-trace-before-an-object "'--json' and '--trace -' can't be used together" --json --trace -
 misuses two-things-in-one-file "'--trace', '--chart' and '--capture' can't name one file" --chart seen --capture seen
+misuses the-plan-as-a-chart "the plan's file can't be written over" --chart "$plan"
 [ ! -e seen ] && echo ok writes-nothing-of-them || echo FAILED writes-nothing-of-them

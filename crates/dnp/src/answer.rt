@@ -37,9 +37,10 @@ OUTPUT
     reply, as to a reset or a request for the link's status, or the frames of the response to
     a request; the outstation has no points, and was just restarted and opened;
     'no answer', where the outstation stays silent, as for a frame to another address;
-    'refused N REASON', where the input is no frame: 0 Text (not written as above), 1 Short,
-    2 Start, 3 HeaderCheck, 4 Length, 5 Size, 6 BlockCheck B (B is the number of the first
-    data block with a wrong check word, from 0).
+    'refused N REASON', where the input is no frame: 0 Text (not written as above), 1 Short (under
+    10 octets), 2 Start (not 05 64), 3 HeaderCheck (the header's check word is wrong), 4 Length
+    (LENGTH is under 5), 5 Size (another number of octets than LENGTH says), 6 BlockCheck B (B is
+    the number of the first data block with a wrong check word, from 0).
   With 'refused 0 Text' a line on standard error says in which column the input stops being
   written as above, and why.
 

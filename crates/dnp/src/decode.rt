@@ -66,21 +66,22 @@ OUTPUT
               an object header, group 30 variation 1: the indexes 5 to 6, one object, or all
     2.2 x1: 3 = 1 flags 01 at 2026-01-31T12:00:00.000Z
               an object behind its header: the index, the value, the flags, the time (UTC). So are
-              the states of outputs, 10.2; an indication, 80.1, has no flags
+              the states of outputs, 10.2, and setpoints, 40.1 and 40.2; an indication, 80.1, has no flags, and a time, 50.1, and
+              a delay, 52.2, have no index
     12.1 x1: 5 code 81 count 2 on 100 off 200 status 0, 41.2 x1: 5 set -2 status 0
               a command to output 5, times in milliseconds
-  A time that is written (50.1) and a delay (52.2) have their header alone.
   What is refused has a line with the fault's name and its place, an octet of the frame or the
   fragment, from 0, as 'frame refused: BlockCheck 1 at octet 28'; what stands before it in a fragment
   has its lines. Octets at which no frame begins are 'skipped'. docs/decode.md lists all the names.
   With --json each line is a JSON object: 'at' is that number, 'layer' says what the line is of, and
-  'refused' is there where something is refused; docs/decode.md has the members.
+  'refused' is there where something is refused; docs/decode.md has the members. A file that is no
+  capture is 'refused capture NAME' with or without it.
 
 EXIT STATUS
   0  all was read
   1  something was refused, or the file is no capture that is read here
   2  the command line is wrong
-  3  the program failed: the file can't be read, out of memory, or the input or the output was lost;
+  3  the program failed: the file can't be read, the input is over its limit, out of memory, or the input or the output was lost;
      a line on standard error says which, and why";
 
 /// The most octets of input that are read. So no input can fill the memory.
@@ -122,7 +123,7 @@ pub(crate) fn run<R: AllocGlobal + Input + Print + Eprint + Files>(
                 Ok(octets) => octets,
                 Err(status) => return Ok(status),
             };
-            decode_capture(rt, octets.as_slice(), json)
+            decode_capture(rt, path, octets.as_slice(), json)
         }
         None => {
             let octets = match octets_of(rt, "standard input", Ok(rt.reader())) {
@@ -163,6 +164,7 @@ fn octets_of<R: AllocGlobal + Eprint, S: Read + Drop>(
 /// Prints what a capture carries, or why it is refused, and tells the exit status.
 fn decode_capture<R: AllocGlobal + Print + Eprint>(
     rt: &R,
+    path: &str,
     octets: &[u8],
     json: bool,
 ) -> anyhow::Result<ExitCode> {
@@ -177,7 +179,7 @@ fn decode_capture<R: AllocGlobal + Print + Eprint>(
             if let Err(cause) = println!(rt; "refused capture {name}") {
                 return Ok(unwritten(rt, &cause));
             }
-            let _ = eprintln!(rt; "dnp: {fault}");
+            let _ = eprintln!(rt; "dnp: {path}: {fault}");
             Ok(ExitCode::from(exit::REFUSED))
         }
     }

@@ -25,6 +25,7 @@ pub(crate) fn misuse(given: &ArgMatches<'_>) -> Option<&'static str> {
     let trace = given.get_str("trace").unwrap_or("");
     let chart = given.get_str("chart").unwrap_or("");
     let capture = given.get_str("capture").unwrap_or("");
+    let plan = given.get_str("plan").unwrap_or("");
     if chart == STANDARD || capture == STANDARD {
         return Some("only '--trace' can go to standard output");
     }
@@ -33,6 +34,9 @@ pub(crate) fn misuse(given: &ArgMatches<'_>) -> Option<&'static str> {
     }
     if is_one(trace, chart) || is_one(trace, capture) || is_one(chart, capture) {
         return Some("'--trace', '--chart' and '--capture' can't name one file");
+    }
+    if is_one(plan, trace) || is_one(plan, chart) || is_one(plan, capture) {
+        return Some("the plan's file can't be written over");
     }
     None
 }

@@ -6,6 +6,7 @@ use crate::options::{HINT, defaulted, plan, required};
 use crate::plan_file::{plan_text, refused};
 use crate::serving::{Listening, serve_connections};
 use clap::{ArgMatches, Command};
+use dnp_concentrator::MAX_SUBSTATIONS;
 use dnp_daemons::{PlanTextFault, outstation_address, planned_outstation};
 use std::alloc::{AllocError, Global};
 use std::net::{Net, TcpListener, TcpStream};
@@ -24,7 +25,8 @@ const AFTER: &str = "\
 THE STATION
   Substation S of the plan, as after a restart: its points, its outputs and its events stand in
   memory, and last as long as the program runs, over all its connections. Its link address is
-  10 + S, and it answers the master with the link address 2 alone.
+  10 + S, and it answers the master with the link address 2 alone. Points read 0 with the flags 02
+  (RESTART) and nothing changes them, so that it has no event; outputs take commands.
 
 CONNECTIONS
   It listens on the port at all addresses of the machine, and serves one connection after the
@@ -37,10 +39,11 @@ CONNECTIONS
 
 OUTPUT
   On standard output a line for each connection when it has ended, 'served N': N is how many
-  fragments came whole. Or 'refused plan N', where the plan is refused: 1 it is no TOML, 2 a key
-  is missing, unknown or of another type or length, 3 a number is outside its range, 4 a class
-  is over 3, 5 an index above would be over 65,535, 6 two substations would share an index
-  above; then a line on standard error names the key, what stands there, and what belongs there.
+  fragments came whole from its master. Or 'refused plan N', where the plan is refused: 1 it is
+  no TOML, 2 a key is missing, unknown or of another type or length, 3 a number is outside its
+  range, 4 a class is over 3, 5 an index above would be over 65,535, 6 two substations would
+  share an index above; then a line on standard error names the key, what stands there, and what
+  belongs there.
 
 EXIT STATUS
   0  all connections were served
@@ -48,6 +51,9 @@ EXIT STATUS
   2  the command line is wrong, or the plan has no such substation
   3  the program failed: the plan can't be read, the port can't be had, as when it is in use,
      out of memory, or the output was lost; a line on standard error says which, and why";
+
+/// The highest number that a substation of a plan can have.
+const MAX_STATION: u64 = MAX_SUBSTATIONS as u64 - 1;
 
 /// What is said of the options.
 const STATION: &str = "The number of the substation in the plan, from 0";
@@ -82,7 +88,7 @@ struct Words<'a> {
 
 /// What the words say. Where one is wrong, that is printed.
 fn words_given<'a, R: Eprint>(rt: &R, given: &ArgMatches<'a>) -> Option<Words<'a>> {
-    let number = number_given(rt, given, "station", "S", 0, 255)?;
+    let number = number_given(rt, given, "station", "S", 0, MAX_STATION)?;
     let port = number_given(rt, given, "port", "P", 1, 65_535)?;
     let connections = number_given(rt, given, "connections", "N", 1, 1_000_000)?;
     Some(Words {

@@ -87,8 +87,8 @@ SOMETHING TO LOOK AT
                     way, what it does and what it says, as '12 link 0 up sent RESPONSE seq 1 fir fin
                     con, 2.2 x1'. It is 'sent', it 'arrives', is 'repeated' (it arrives, and stays on
                     the line), 'lost', 'damaged' or 'dropped' (its line was cleared), or 'stands' on
-                    the line at the end. With '-' the lines stand on standard output,
-                    before the report.
+                    the line at the end. With '-' the lines stand on standard output, before the
+                    report; the other two can't go there.
     --chart FILE    the same as a sequence chart for a browser, time going down
     --capture FILE  what arrives, for Wireshark: a TCP conversation to port 20000 for each link, from
                     and to 192.0.2.A, where A is the station's link address

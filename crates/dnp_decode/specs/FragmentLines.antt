@@ -1,9 +1,10 @@
 -- Definition: the lines of a fragment (IEEE Std 1815-2012, application layer): its own, one for each object header, and
--- one for each object that is a row, a state or a command. A refused fragment has the lines of its longest beginning that is a
+-- one for each object that is a row, a state, a time or a command. A refused fragment has the lines of its longest beginning that is a
 -- fragment, and one that says where that ends, and why the whole is refused.
-use Rattle.std.specs.Prelude.{◌≡◌, ℕ, ◌<◌, Bool, nat_lt, ◌==◌, ◌&&◌, if◌then◌else◌, List, [], ◌∷◌, ◌++◌, length, take, slice_index, Option, Some, None, Result, Ok, Err, option_to_list}
+use Rattle.std.specs.Prelude.{◌≡◌, ℕ, ◌<◌, Bool, nat_lt, ◌==◌, ◌&&◌, ◌||◌, if◌then◌else◌, List, [], ◌∷◌, ◌++◌, length, take, slice_index, Option, Some, None, Result, Ok, Err, option_to_list}
 use Rattle.std.specs.List.{flat_map, range_with_len}
 use Rattle.std.specs.Option.{option_map}
+use Rattle.byteorder.specs.Endian.{little_number}
 use Rattle.dnp_objects.specs.declared.row.Row.{Row}
 use Rattle.dnp_objects.specs.declared.command.Command.{Command}
 use Rattle.dnp_appfragment.specs.declared.fault.AppFault.{AppFault}
@@ -12,7 +13,7 @@ use Rattle.dnp_appfragment.specs.Fragments.{Asked, Answered}
 use Rattle.dnp_appfragment.specs.Headers.{Head, count_of}
 use Rattle.dnp_appfragment.specs.Left.{Left}
 use Rattle.dnp_appfragment.specs.Meaning.{request_at, response_at, row_in, command_in}
-use Rattle.dnp_decode.specs.declared.fragment.TheConstants.{BINARY_INPUTS, LAST_REQUEST}
+use Rattle.dnp_decode.specs.declared.fragment.TheConstants.{ANALOG_INPUTS, BINARY_INPUTS, DELAY_OCTETS, LAST_REQUEST, TIME_OCTETS}
 use Rattle.dnp_decode.specs.declared.line.Line.{Line}
 use Rattle.dnp_decode.specs.declared.line.Line.TheVariants as line
 
@@ -27,15 +28,23 @@ line_of None None = None
 abbrev pub point_line : Head → ℕ → Option Line
 point_line h k = line_of (row_in h k) (command_in h k)
 
--- the row of object k of a header whose objects are laid out as those of binary inputs of the same variation
-abbrev pub state_in : Head → ℕ → Option Row
-state_in h k = row_in (record h { group = BINARY_INPUTS }) k
+-- the row of object k of a header whose objects are laid out as those of this group of the same variation
+abbrev pub state_in : ℕ → Head → ℕ → Option Row
+state_in group h k = row_in (record h { group = group }) k
 
--- the line of object k of a header, if it has one: so are the states of outputs, 10.2, and indications, 80.1
+-- the number of so many octets that the only object of a header is
+abbrev pub number_in : ℕ → Head → ℕ → Option ℕ
+number_in size h k = if (k == 0) && (length h.octets == size) then Some (little_number size h.octets) else None
+
+-- the line of object k of a header, if it has one. The states of outputs, 10.2, and indications, 80.1, are laid out as
+-- binary inputs, those of setpoints, 40.1 and 40.2, as analog inputs; a time, 50.1, and a delay, 52.2, are numbers
 abbrev pub object_line : Head → ℕ → Option Line
 object_line h k =
-    if (h.group == 10) && (h.variation == 2) then option_map line.Output (state_in h k)
-    else if (h.group == 80) && (h.variation == 1) then option_map line.Indication (state_in h k)
+    if (h.group == 10) && (h.variation == 2) then option_map line.Output (state_in BINARY_INPUTS h k)
+    else if (h.group == 40) && ((h.variation == 1) || (h.variation == 2)) then option_map line.Setpoint (state_in ANALOG_INPUTS h k)
+    else if (h.group == 80) && (h.variation == 1) then option_map line.Indication (state_in BINARY_INPUTS h k)
+    else if (h.group == 50) && (h.variation == 1) then option_map line.Time (number_in TIME_OCTETS h k)
+    else if (h.group == 52) && (h.variation == 2) then option_map line.Delay (number_in DELAY_OCTETS h k)
     else point_line h k
 
 -- the lines of so many objects from object k on

@@ -2,10 +2,12 @@
 ghost use Rattle.std.specs.Prelude.{◌≡◌, ◌∷◌, ◌++◌, List, OnOk, Ok, Err, IfSome, IfNone, IsTrue, option_to_list};
 ghost use Rattle.dnp_appfragment.specs.Seen.{head, Gives};
 ghost use Rattle.dnp_decode.specs.FragmentLines as spec;
+ghost use Rattle.dnp_decode.specs.declared.fragment.TheConstants.{TIME_OCTETS, DELAY_OCTETS};
 ghost use Rattle.dnp_decode.specs.FragmentLines.{Said, said, said_at, IsLongest, HasNone, AreFragmentLines};
 ghost use Rattle.dnp_decode.specs.declared.line.Line.{Line as LineValue};
 
 use crate::line::Line;
+use byteorder::{ByteOrder, LittleEndian};
 use dnp_appfragment::{AppFault, Header, Headers, read_request, read_response};
 use dnp_objects::Row;
 use std::alloc::AllocError;
@@ -14,21 +16,51 @@ use std::alloc::AllocError;
 /// objects of the same variation, and so are indications, 80.1.
 pub(crate) const BINARY_INPUTS: u8 = 1;
 
+/// The group of analog inputs. So are the states of setpoints, 40.1 and 40.2.
+pub(crate) const ANALOG_INPUTS: u8 = 30;
+
+/// The octets of a time (50.1) and of a delay (52.2).
+pub(crate) const TIME_OCTETS: usize = 6;
+
+pub(crate) const DELAY_OCTETS: usize = 2;
+
 /// The highest octet of a function of requests: those above are of responses (IEEE Std 1815-2012, application layer:
 /// function codes).
 pub(crate) const LAST_REQUEST: u8 = 127;
 
-/// The row of object k of a header whose objects are laid out as those of binary inputs.
-fn state_at(header: &Header<'_>, k: usize) -> Option<Row>
-    ensures { result ≡ spec.state_in (head header.now) k }
+/// The row of object k of a header whose objects are laid out as those of this group.
+fn state_at(header: &Header<'_>, group: u8, k: usize) -> Option<Row>
+    ensures { result ≡ spec.state_in group (head header.now) k }
 {
     let states = Header {
-        group: BINARY_INPUTS,
+        group,
         variation: header.variation,
         range: header.range,
         octets: header.octets,
     };
     states.row(k)
+}
+
+/// The time that a header's only object is.
+fn time_at(header: &Header<'_>, k: usize) -> Option<u64>
+    ensures { result ≡ spec.number_in TIME_OCTETS (head header.now) k }
+{
+    if k == 0 && header.octets.len() == TIME_OCTETS {
+        Some(LittleEndian::read_u48(header.octets))
+    } else {
+        None
+    }
+}
+
+/// The delay that a header's only object is.
+fn delay_at(header: &Header<'_>, k: usize) -> Option<u16>
+    ensures { result ≡ spec.number_in DELAY_OCTETS (head header.now) k }
+{
+    if k == 0 && header.octets.len() == DELAY_OCTETS {
+        Some(LittleEndian::read_u16(header.octets))
+    } else {
+        None
+    }
 }
 
 /// The line of object k of a header: its row, or else its command, or none.
@@ -49,8 +81,11 @@ fn object_line(header: &Header<'_>, k: usize) -> Option<Line>
     ensures { result ≡ spec.object_line (head header.now) k }
 {
     match (header.group, header.variation) {
-        (10, 2) => state_at(header, k).map(Line::Output),
-        (80, 1) => state_at(header, k).map(Line::Indication),
+        (10, 2) => state_at(header, BINARY_INPUTS, k).map(Line::Output),
+        (40, 1 | 2) => state_at(header, ANALOG_INPUTS, k).map(Line::Setpoint),
+        (80, 1) => state_at(header, BINARY_INPUTS, k).map(Line::Indication),
+        (50, 1) => time_at(header, k).map(Line::Time),
+        (52, 2) => delay_at(header, k).map(Line::Delay),
         _ => point_line(header, k),
     }
 }

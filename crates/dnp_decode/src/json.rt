@@ -287,10 +287,16 @@ impl Display for Members {
                 let reading = Reading("output", row);
                 write!(f, "{reading}")
             }
+            Line::Setpoint(row) => {
+                let reading = Reading("setpoint", row);
+                write!(f, "{reading}")
+            }
             Line::Indication(Row { index, value, .. }) => write!(
                 f,
                 "\"layer\":\"indication\",\"index\":{index},\"value\":{value}"
             ),
+            Line::Time(time) => write!(f, "\"layer\":\"time\",\"time\":{time}"),
+            Line::Delay(ms) => write!(f, "\"layer\":\"delay\",\"ms\":{ms}"),
             Line::Command(command, status) => {
                 let told = Told(command, status);
                 write!(f, "{told}")

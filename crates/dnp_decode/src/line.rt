@@ -71,9 +71,15 @@ pub enum Line {
     Row(Row),
     /// An object that is an output's state (10.2), as a binary input's.
     Output(Row),
+    /// An object that is a setpoint's state (40.1, 40.2), as an analog input's.
+    Setpoint(Row),
     /// An object that is an internal indication which is written (80.1), as a binary input's: packed bits have no flags
     /// of their own.
     Indication(Row),
+    /// An object that is a time which is written (50.1), in milliseconds since 1970-01-01 00:00 UTC.
+    Time(u64),
+    /// An object that is a delay (52.2), in milliseconds.
+    Delay(u16),
     /// An object that is a command, with its status.
     Command(Command, Status),
 }

@@ -227,11 +227,16 @@ impl Display for Line {
                 let objects = Objects(range);
                 write!(f, "{group}.{variation} {objects}")
             }
-            Line::Row(row) | Line::Output(row) => {
+            Line::Row(row) | Line::Output(row) | Line::Setpoint(row) => {
                 let reading = Reading(row);
                 write!(f, "{reading}")
             }
             Line::Indication(Row { index, value, .. }) => write!(f, "{index} = {value}"),
+            Line::Time(time) => {
+                let moment = Moment(time);
+                write!(f, "{moment}")
+            }
+            Line::Delay(ms) => write!(f, "{ms} ms"),
             Line::Command(command, status) => {
                 let told = Told(command, status);
                 write!(f, "{told}")

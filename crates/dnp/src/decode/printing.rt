@@ -48,7 +48,13 @@ fn indent_of(line: &Line) -> &'static str {
 fn is_object(line: &Line) -> bool {
     matches!(
         line,
-        Line::Row(_) | Line::Output(_) | Line::Indication(_) | Line::Command(..)
+        Line::Row(_)
+            | Line::Output(_)
+            | Line::Setpoint(_)
+            | Line::Indication(_)
+            | Line::Time(_)
+            | Line::Delay(_)
+            | Line::Command(..)
     )
 }
 
