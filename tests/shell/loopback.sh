@@ -28,17 +28,17 @@ refuses() {
 verbs='open, clear, relay, round, hangup, tick, deliver, flush, poll, enable, disable, time, pass, control, restart, change or issue'
 a_link="above or a substation's number, 0 to 0,"
 fits="open 0$lf"
-refuses a-loss 2 "${fits}lose 0 up$lf$fits" 1 "\"lose\", where $verbs"
-refuses a-repeat 2 "${fits}repeat 0 up$lf" 1 "\"repeat\", where $verbs"
-refuses damage 2 "${fits}damage 0 up 00$lf" 1 "\"damage\", where $verbs"
-refuses a-loss-before-what-does-not-fit 2 "${fits}lose 0 up${lf}open$lf" 1 "\"lose\", where $verbs"
+refuses a-loss 2 "${fits}lose 0 up$lf$fits" 1 "'lose', where $verbs"
+refuses a-repeat 2 "${fits}repeat 0 up$lf" 1 "'repeat', where $verbs"
+refuses damage 2 "${fits}damage 0 up 00$lf" 1 "'damage', where $verbs"
+refuses a-loss-before-what-does-not-fit 2 "${fits}lose 0 up${lf}open$lf" 1 "'lose', where $verbs"
 refuses what-does-not-fit-before-a-loss 2 "${fits}open${lf}lose 0 up$lf" 2 "the line ends, where $a_link"
 
 sed 's/^retries = 0/retries = 4/' "$plan" >changed.toml
 expect refuses-a-plan 1 'refused plan 3' "$fits" loopback --plan changed.toml
 says says-why-it-refuses-a-plan 'dnp: changed.toml: retries: 4, where a whole number from 0 to 3 belongs'
 expect refuses-a-script-over-its-limit 3 '' "$fits" loopback --plan "$plan" --limit 6
-says says-over-which-limit 'dnp: standard input: over 6 octets'
+says says-over-which-limit "dnp: standard input: over the 6 octets that '--limit' allows"
 expect wants-a-plan 2 '' '' loopback
 expect has-no-such-file 3 '' "$fits" loopback --plan absent.toml
 expect tells-how-to-use-it 0 "$(<"$top/crates/dnp/help/loopback")" '' loopback --help
