@@ -240,6 +240,18 @@ if [ "$got" = 0 ] && cmp -s want out; then
 else
     echo "FAILED runs-a-million-changes, with exit status $got: $(head -c 500 err)"
 fi
+# The same in less memory than it takes: of these limits one lets the script begin, and not end
+told=''
+for limit in 100000 110000 120000 130000 140000; do
+    got=0 && (ulimit -v $limit && exec "$top/crates/dnp/out/dnp" sim --plan "$plan") <script >out 2>err || got=$?
+    read -r word lines <out || true
+    [ "$got $word" = '3 stopped' ] && told="$(<err)" && break
+done
+if [ "$told" = "dnp: stopped after $lines lines of the script: out of memory" ]; then
+    echo "ok says-why-a-script-stopped"
+else
+    echo "FAILED says-why-a-script-stopped: $told"
+fi
 # Rounds, each of which is printed: fewer, since each is a poll with its response
 { echo 'open 0' && yes 'round 0' | head -n 99999; } >script
 { yes 'round 0 ok' | head -n 99999 && nothing; } >want
