@@ -41,8 +41,8 @@ OUTPUT
     10 octets), 2 Start (not 05 64), 3 HeaderCheck (the header's check word is wrong), 4 Length
     (LENGTH is under 5), 5 Size (another number of octets than LENGTH says), 6 BlockCheck B (B is
     the number of the first data block with a wrong check word, from 0).
-  With 'refused 0 Text' a line on standard error says in which column the input stops being
-  written as above, and why.
+  With 'refused 0 Text' a line on standard error says why, and in which column the input stops
+  being written as above; a line of more than 2,000 characters is told without a column.
 
 EXIT STATUS
   0  the frame was read: there is an answer, or there is none to give

@@ -17,6 +17,7 @@ ghost use Rattle.dnp_pointdb.specs.Database.{Database, lost_of, new_database, re
 ghost use Rattle.dnp_concentrator.specs.Below.{readings_set};
 ghost use Rattle.dnp_objects.specs.declared.row.Row.{Row};
 ghost use Rattle.dnp_objects.specs.declared.command.Command.{Command};
+ghost use Rattle.dnp_concentrator.specs.declared.limits.TheConstants as limits;
 
 use dnp_master::laws::events_taken_are_of_the_plan;
 use dnp_pointdb::laws::{
@@ -93,3 +94,13 @@ pub fn classes_above_stay()
     a_change_is_of_one_point();
     lost_communication_is_no_report();
 }
+
+/// The named limits are these numbers, the library's own measures: of substations, of the five kinds of indices, of the
+/// commands of a request, of an hour in milliseconds, and of repetitions.
+pub fn limits_have_their_values()
+    ensures substations { limits.MAX_SUBSTATIONS ≡ 16 }
+    ensures kinds { limits.INDEX_KINDS ≡ 5 }
+    ensures commands { limits.COMMANDS_AT_ONCE ≡ 1 }
+    ensures timer { limits.MAX_TIMER_MS ≡ 3600000 }
+    ensures retries { limits.MAX_RETRIES ≡ 3 }
+{}

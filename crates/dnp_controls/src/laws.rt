@@ -9,6 +9,8 @@ ghost use Rattle.dnp_controls.specs.Moves.{Move, AreGranted, after, is_spend_of,
 ghost use Rattle.dnp_controls.specs.Panel.{Request, accepted, performed_after};
 ghost use Rattle.dnp_controls.specs.Selecting.{Select, SelectCall, Operating, Forgetting, standing, MakesNoSelect, GoesWith, IsRunning, HasEnded, answer};
 ghost use Rattle.dnp_controls.specs.declared.book.Entry.{Entry};
+ghost use Rattle.dnp_controls.specs.declared.limits.TheConstants as limits;
+ghost use Rattle.dnp_controls.specs.declared.select.TheConstants as selecting;
 
 /// An OPERATE that finds a select is answered SUCCESS exactly where it goes with the select and the
 /// select's timer still runs, TIMEOUT exactly where it goes with it and the timer has ended, and NO_SELECT
@@ -59,4 +61,15 @@ pub fn ids_go_on()
     ensures sound { (book : Ledger) (moves : List Move) → IsSound book → IsSound (after book moves) }
     ensures numbered { (moves : List Move) → AreNumberedFrom 1 (after empty_ledger moves).entries }
     ensures counted { (moves : List Move) → (after empty_ledger moves).last_id ≡ length (after empty_ledger moves).entries }
+{}
+
+/// The named limits are these numbers: those of commands, outputs and targets are the library's own measures, a request
+/// has at most the octets of a fragment, and sequence numbers have four bits (IEEE Std 1815-2012, application layer:
+/// application control octet).
+pub fn limits_have_their_values()
+    ensures commands { limits.MAX_COMMANDS ≡ 8 }
+    ensures outputs { limits.MAX_OUTPUTS ≡ 256 }
+    ensures targets { limits.TARGETS ≡ 16 }
+    ensures sequence_numbers { limits.SEQUENCE_NUMBERS ≡ 16 }
+    ensures octets { selecting.MAX_OCTETS ≡ 2048 }
 {}

@@ -5,6 +5,7 @@
 //! and what is about a plan's text that of `dnp_plantext`: both are given on.
 #![tactic(auto)]
 
+pub mod number_laws;
 mod report_text;
 mod run;
 mod script;

@@ -18,3 +18,5 @@ mod reports;
 mod scripts;
 #[cfg(test)]
 mod stations;
+#[cfg(test)]
+mod texts;

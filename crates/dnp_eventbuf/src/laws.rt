@@ -10,6 +10,7 @@ ghost use Rattle.dnp_eventbuf.specs.Carried.{IsCarried};
 ghost use Rattle.dnp_eventbuf.specs.Latest.{KeepsLatest, numbered_for};
 ghost use Rattle.dnp_eventbuf.specs.Sound.{IsSound};
 ghost use Rattle.dnp_eventbuf.specs.Stock.{Stock, above, lane_at, empty_stock, arriving, with_rows, dropped_by, exhausts, rows_in, lost_in, all_up_to, without, without_all, offered, last_of, up_to, row_of};
+ghost use Rattle.dnp_eventbuf.specs.declared.plain.TheConstants as plain;
 
 use crate::numbered::Numbered;
 use dnp_objects::Row;
@@ -118,4 +119,9 @@ pub fn the_last_id_tells_of_rows()
         → list_any (λ x. nat_lt id x.id) (lane_at s number).rows ≡ nat_lt id (last_of (lane_at s number).rows) }
     ensures rows { (s : Stock) (number : ℕ) → IsSound s → number < LANES → All (λ x. x.id ≤ s.last_id) (lane_at s number).rows }
     ensures last { (s : Stock) (number : ℕ) → IsSound s → number < LANES → last_of (lane_at s number).rows ≤ s.last_id }
+{}
+
+/// A lane in memory takes at most so many rows: the library's own measure.
+pub fn limits_have_their_values()
+    ensures capacity { plain.MAX_CAPACITY ≡ 4096 }
 {}

@@ -12,6 +12,7 @@ ghost use Rattle.dnp_line.specs.Flows.{AreFacing, Flows, RestMoves};
 ghost use Rattle.dnp_line.specs.steps.Lower.{Lower};
 ghost use Rattle.dnp_line.specs.Ways.{Way, new_way, opened_on, WayEvent, Happens, Runs};
 ghost use Rattle.dnp_line.specs.Ways as WayEvent;
+ghost use Rattle.dnp_line.specs.declared.line.TheConstants as limits;
 
 use dnp_linkframe::MAX_USER_DATA;
 use dnp_linkframe::laws::a_unit_spells_one_frame;
@@ -161,3 +162,9 @@ pub fn a_port_takes_in_one_way()
     stations::history_does_not_matter();
     assemblers::history_does_not_matter();
 }
+
+/// So many losses in a row break a line: half of the 64 numbers that segments have (IEEE Std 1815-2012, transport
+/// function).
+pub fn limits_have_their_values()
+    ensures losses { limits.BROKEN_LOSSES ≡ 32 }
+{}

@@ -1,10 +1,11 @@
 //! Laws of the words of `specs/`: each function does nothing, and its contract is a law.
 ghost use Rattle.std.specs.Prelude.{◌≡◌, ℕ, List, [], ◌++◌};
 ghost use Rattle.std.specs.List.{concat};
-ghost use Rattle.dnp_linkframe.specs.Frames.{Spells, IsFault, IsFirstFault};
+ghost use Rattle.dnp_linkframe.specs.Frames.{Spells, IsFault, IsFirstFault, frame_size};
 ghost use Rattle.dnp_linkframe.specs.Stream.{Gives, SpellEach};
 ghost use Rattle.dnp_linkframe.specs.declared.frame.Frame.{Frame as FrameValue};
 ghost use Rattle.dnp_linkframe.specs.declared.frame.FrameFault.{FrameFault as FaultValue};
+ghost use Rattle.dnp_linkframe.specs.declared.frame.TheConstants as limits;
 
 /// No spelling of a frame is a proper beginning of another: a reader that has a whole frame need not
 /// wait for more octets.
@@ -47,4 +48,12 @@ pub fn a_stream_gives_one_answer()
 /// Joined spellings give their frames, and nothing waits.
 pub fn joined_spellings_give_their_frames()
     ensures { (units : List (List ℕ)) (frames : List FrameValue) → SpellEach units frames → Gives (concat units) frames [] }
+{}
+
+/// The named limits are these numbers (IEEE Std 1815-2012, data link layer: LENGTH is at most 255, and counts 5 octets
+/// beside the user data), and a frame with the most user data has as many octets as a unit has at most.
+pub fn limits_have_their_values()
+    ensures user_data { limits.MAX_USER_DATA ≡ 250 }
+    ensures unit { limits.MAX_UNIT ≡ 292 }
+    ensures longest { frame_size limits.MAX_USER_DATA ≡ limits.MAX_UNIT }
 {}

@@ -5,6 +5,8 @@ ghost use Rattle.dnp_linkstation.specs.Control.{primary_function, frame_count_bi
 ghost use Rattle.dnp_linkstation.specs.Station.{Ends, ends, opposite, is_for, counts, expected, is_same, sent, answer, Stands};
 ghost use Rattle.dnp_linkstation.specs.declared.station.LinkStation.{LinkStation as StationValue};
 ghost use Rattle.dnp_linkstation.specs.declared.function.PrimaryFunction.TheVariants.{ConfirmedUserData, UnconfirmedUserData};
+ghost use Rattle.dnp_linkstation.specs.declared.control.TheConstants as control;
+ghost use Rattle.dnp_linkstation.specs.declared.function.TheConstants as number;
 
 /// A frame of CONFIRMED_USER_DATA that comes twice in a row does not go up the second time, whatever came
 /// before.
@@ -37,4 +39,26 @@ pub fn history_does_not_matter()
     ensures next { (station new new' : StationValue) (before other : List FrameValue) (frame : FrameValue) →
         Stands before station → Stands other station → ends new ≡ ends station → ends new' ≡ ends station →
         Stands (frame ∷ before) new → Stands (frame ∷ other) new' → new ≡ new' }
+{}
+
+/// The named bits of CONTROL are these, and a function is in the low four (IEEE Std 1815-2012, data link layer: control
+/// field).
+pub fn control_has_its_bits()
+    ensures dir { control.DIR ≡ 7 }
+    ensures prm { control.PRM ≡ 6 }
+    ensures fcb { control.FCB ≡ 5 }
+    ensures functions { control.FUNCTIONS ≡ 16 }
+{}
+
+/// The named functions have these numbers (IEEE Std 1815-2012, data link layer: function codes).
+pub fn functions_have_their_numbers()
+    ensures reset_link_states { number.RESET_LINK_STATES ≡ 0 }
+    ensures test_link_states { number.TEST_LINK_STATES ≡ 2 }
+    ensures confirmed_user_data { number.CONFIRMED_USER_DATA ≡ 3 }
+    ensures unconfirmed_user_data { number.UNCONFIRMED_USER_DATA ≡ 4 }
+    ensures request_link_status { number.REQUEST_LINK_STATUS ≡ 9 }
+    ensures ack { number.ACK ≡ 0 }
+    ensures nack { number.NACK ≡ 1 }
+    ensures link_status { number.LINK_STATUS ≡ 11 }
+    ensures not_supported { number.NOT_SUPPORTED ≡ 15 }
 {}

@@ -2,6 +2,7 @@
 //! substations.
 #![tactic(auto)]
 
+pub mod laws;
 mod plan_text;
 mod planned;
 

@@ -25,6 +25,7 @@ ghost use Rattle.dnp_pointdb.specs.Order.{Extent, IsOrder, place_in};
 ghost use Rattle.dnp_pointdb.specs.declared.order.Place.{Place as PlaceValue};
 ghost use Rattle.dnp_pointdb.specs.Ranges.{is_carried, is_in_range};
 ghost use Rattle.dnp_pointdb.specs.Runs.{Move, rows_of, rows_at, happened_at, happenings_of};
+ghost use Rattle.dnp_pointdb.specs.declared.limits.TheConstants as limits;
 
 use dnp_objects::laws::objects_have_their_widths;
 
@@ -168,4 +169,11 @@ pub fn an_order_finds_each_index()
         → place_in es index ≡ None }
     ensures before { (es : List Extent) (order : List PlaceValue) (index : ℕ) (d : PlaceValue) → IsOrder es order
         → ((k : ℕ) → k < length order → index < (slice_index_or order k d).first) → place_in es index ≡ None }
+{}
+
+/// The named limits are these numbers: a block of points is the library's own measure, and indices have two octets
+/// (IEEE Std 1815-2012, object library: point indices).
+pub fn limits_have_their_values()
+    ensures points { limits.MAX_POINTS ≡ 1024 }
+    ensures indices { limits.INDICES ≡ 65536 }
 {}

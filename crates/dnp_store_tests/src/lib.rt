@@ -8,3 +8,5 @@ mod forms;
 mod others;
 #[cfg(test)]
 mod spoilt;
+#[cfg(test)]
+mod texts;

@@ -6,6 +6,9 @@ ghost use Rattle.dnp_streams.specs.AnswerLine.{IsPrinted};
 ghost use Rattle.dnp_streams.specs.streams.Spelled.{AreSpelled};
 ghost use Rattle.dnp_streams.specs.streams.OneWay.{OpensOneWay, ReceivesOneWay, OneOutput};
 ghost use Rattle.dnp_streams.specs.streams.Outstations.{IsOpened, Receives, ShowOneWay};
+ghost use Rattle.dnp_streams.specs.declared.address.TheConstants as address;
+ghost use Rattle.dnp_streams.specs.declared.input.TheConstants as input;
+ghost use Rattle.dnp_streams.specs.declared.octets.TheConstants as octets;
 
 use crate::stream::Station;
 use dnp_controls::{NoOutputs, Outputs, PlainOutputs};
@@ -52,4 +55,12 @@ pub fn an_outstation_comes_out_in_one_way<O: Outputs>()
 pub fn plain_outputs_show_one_way()
     ensures plain { ShowOneWay ⟦<PlainOutputs as Outputs>⟧.panel ⟦<PlainOutputs as Outputs>⟧.performs }
     ensures none { ShowOneWay ⟦<NoOutputs as Outputs>⟧.panel ⟦<NoOutputs as Outputs>⟧.performs }
+{}
+
+/// The named limits are these numbers: addresses above are kept for other uses (IEEE Std 1815-2012, data link layer:
+/// reserved addresses), and those of a text are the library's own measures.
+pub fn limits_have_their_values()
+    ensures address { address.MAX_ADDRESS ≡ 65519 }
+    ensures characters { octets.MAX_CHARACTERS ≡ 2000 }
+    ensures input { input.MAX_INPUT ≡ 2002 }
 {}

@@ -1,10 +1,12 @@
 //! Laws of the words of `specs/`: each function does nothing, and its contract is a law.
-ghost use Rattle.std.specs.Prelude.{◌≡◌, ℕ, List, [], ◌∷◌, length};
+ghost use Rattle.std.specs.Prelude.{◌≡◌, ◌^◌, ℕ, List, [], ◌∷◌, length};
 ghost use Rattle.dnp_transport.specs.Assembly.{Assembly, Idle, Stands, Answers, Shows};
 ghost use Rattle.dnp_transport.specs.Cuts.{cut_count, cuts, begun_cuts};
 ghost use Rattle.dnp_transport.specs.Laws.{CutsGiveWhole, OneFragment, WholeOrDropped, SaysItsPlace, OpenBy, WholeBy};
 ghost use Rattle.dnp_transport.specs.Series.{joined, IsOpen, IsWhole};
 ghost use Rattle.dnp_transport.specs.declared.assembler.Pushed.{Pushed as PushedValue};
+ghost use Rattle.dnp_transport.specs.declared.header.TheConstants as header;
+ghost use Rattle.dnp_transport.specs.declared.limits.TheConstants as limits;
 
 /// Whatever was pushed before: where the segments of a fragment are pushed in order, the last push
 /// completes that fragment, and each earlier one gives nothing.
@@ -48,4 +50,19 @@ pub fn history_does_not_matter()
         Stands before a → Stands other a → Stands (segment ∷ before) new → Stands (segment ∷ other) new' → new ≡ new' }
     ensures shown { (a : Assembly) (pushed other : List (List ℕ)) (octets octets' : List ℕ) →
         Stands pushed a → Stands other a → Shows pushed octets → Shows other octets' → octets ≡ octets' }
+{}
+
+/// The named limits are these numbers (IEEE Std 1815-2012, transport function: a segment is the user data of one frame,
+/// its first octet the header; the numbers of segments have six bits).
+pub fn limits_have_their_values()
+    ensures fragment { limits.MAX_FRAGMENT ≡ 2048 }
+    ensures segment { limits.MAX_SEGMENT ≡ 250 }
+    ensures data { limits.SEGMENT_DATA ≡ 249 }
+    ensures numbers { limits.SEGMENT_NUMBERS ≡ 64 }
+{}
+
+/// The named bits of a segment's header are these (IEEE Std 1815-2012, transport function: transport header).
+pub fn headers_have_their_bits()
+    ensures fin { header.FINAL ≡ 2 ^ 7 }
+    ensures fir { header.FIRST ≡ 2 ^ 6 }
 {}
