@@ -28,6 +28,12 @@ pub trait Lanes {
     /// these nine alone.
     ghost beside: { Self → List Stock };
 
+    /// Where they are kept, which no call changes, whatever it answers: of lanes that were lent out of a store
+    /// which keeps others too, that store and their number in it.
+    ghost Place: { Type 0 };
+
+    ghost place: { Self → Place };
+
     /// So far the store has given back what was written to it, nobody else has written, and it has not
     /// answered Device. Lanes in memory are always honest.
     ghost honest: { Self → Type 0 };
@@ -44,6 +50,7 @@ pub trait Lanes {
     /// Exhausted exactly where an id or a count of lost rows would pass 2^62, else Memory or Device.
     fn append(&mut self, alloc: Global, rows: &[LaneRow]) -> Result<Vec<Row>, StoreFault>
         requires { All IsCarried rows.now }
+        ensures place { place self.new ≡ place self.old }
         ensures call { IsLanesCall honest is_stopped contents beside self.old self.new result }
 
         ensures appended { honest self.new → OnOk result (contents self.new ≡ with_rows (contents self.old) rows.now) }
@@ -63,6 +70,7 @@ pub trait Lanes {
         dropped: &mut Rows,
     ) -> Result<(), StoreFault>
         requires { All IsCarried rows.now }
+        ensures place { place self.new ≡ place self.old }
         ensures call { IsLanesCall honest is_stopped contents beside self.old self.new result }
 
         ensures appended { honest self.new → OnOk result (contents self.new ≡ with_rows (contents self.old) rows.now) }
@@ -86,6 +94,7 @@ pub trait Lanes {
         after: u64,
         most: usize,
     ) -> Result<Vec<Numbered>, StoreFault>
+        ensures place { place self.new ≡ place self.old }
         ensures call { IsLanesCall honest is_stopped contents beside self.old self.new result }
 
         ensures rows { honest self.new → IfOk result (λ rows. rows.items ≡ offered (contents self.old) (lane_number lane) after most) }
@@ -97,6 +106,7 @@ pub trait Lanes {
     /// Takes out, lane by lane, the rows with ids up to the lane's number in `upto`, and answers them.
     /// The overflow ends if no lane is full then. Memory or Device.
     fn release(&mut self, alloc: Global, upto: &Upto) -> Result<Vec<Row>, StoreFault>
+        ensures place { place self.new ≡ place self.old }
         ensures call { IsLanesCall honest is_stopped contents beside self.old self.new result }
 
         ensures released { honest self.new → OnOk result (contents self.new ≡ without (contents self.old) upto.now) }
@@ -107,6 +117,7 @@ pub trait Lanes {
     /// Takes all rows out, and answers them, lane by lane. The overflow ends; the counts of lost rows
     /// and the last id used stay. Memory or Device.
     fn empty(&mut self, alloc: Global) -> Result<Vec<Row>, StoreFault>
+        ensures place { place self.new ≡ place self.old }
         ensures call { IsLanesCall honest is_stopped contents beside self.old self.new result }
 
         ensures emptied { honest self.new → OnOk result (contents self.new ≡ without_all (contents self.old)) }

@@ -333,6 +333,10 @@ impl Lanes for PlainLanes {
 
     ghost beside = { λ _. [] };
 
+    ghost Place = { ⊤ };
+
+    ghost place = { λ _. tt };
+
     ghost honest = { λ _. ⊤ };
 
     ghost is_stopped = { λ _. false };

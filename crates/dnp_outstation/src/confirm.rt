@@ -40,6 +40,7 @@ fn write_next<L: Lanes, O: Outputs>(
     released: Upto,
 ) -> Result<Option<Answer>, StoreFault>
     ensures held { L.honest lanes.new → L.honest lanes.old }
+    ensures place { L.place lanes.new ≡ L.place lanes.old }
     ensures beside { L.honest lanes.new → L.beside lanes.new ≡ L.beside lanes.old }
     ensures same { L.honest lanes.new → L.contents lanes.new ≡ L.contents lanes.old }
     ensures written { L.honest lanes.new → IfOk result (λ next. (s : State) (now seq : ℕ) → s.core.points ≡ points.now
@@ -141,6 +142,7 @@ impl OutstationCore {
         now: u64,
     ) -> Result<(), StoreFault>
         ensures held { L.honest lanes.new → L.honest lanes.old }
+        ensures place { L.place lanes.new ≡ L.place lanes.old }
         ensures beside { L.honest lanes.new → L.beside lanes.new ≡ L.beside lanes.old }
         ensures confirmed { L.honest lanes.new → OnOk result ((p : Panel) → let s = state_of self.old (L.contents lanes.old) p in
             at_end now (with_that s s.core.session.awaited (on_confirm s (O.panel outputs.now) now))

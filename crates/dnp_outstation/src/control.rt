@@ -82,6 +82,7 @@ impl OutstationCore {
         requires few { length octets.now ≤ MAX_FRAGMENT }
         requires control { is_control octets.now ≡ true }
         ensures held { L.honest lanes.new → L.honest lanes.old }
+        ensures place { L.place lanes.new ≡ L.place lanes.old }
         ensures beside { L.honest lanes.new → L.beside lanes.new ≡ L.beside lanes.old }
         ensures outputs_held { O.honest outputs.new → O.honest outputs.old }
         ensures answered { L.honest lanes.new → O.honest outputs.new → OnOk result (

@@ -195,6 +195,7 @@ fn read<L: Lanes, O: Outputs>(
     requires few { length headers.now.headers < 2 ^ 64 }
     requires stood { L.honest lanes.old → stood ≡ last_in_stock (after_release (L.contents lanes.old) released.now) }
     ensures held { L.honest lanes.new → L.honest lanes.old }
+    ensures place { L.place lanes.new ≡ L.place lanes.old }
     ensures beside { L.honest lanes.new → L.beside lanes.new ≡ L.beside lanes.old }
     ensures same { L.honest lanes.new → L.contents lanes.new ≡ L.contents lanes.old }
     ensures executed { L.honest lanes.new → IfOk result (λ a. (s : State) → s.core.points ≡ points.now → s.core.restart ≡ switches.restart → s.core.enabled ≡ switches.enabled
@@ -306,6 +307,7 @@ pub(crate) fn execute_after<L: Lanes, O: Outputs>(
     released: &Option<Upto>,
 ) -> Result<Answer, StoreFault>
     ensures held { L.honest lanes.new → L.honest lanes.old }
+    ensures place { L.place lanes.new ≡ L.place lanes.old }
     ensures beside { L.honest lanes.new → L.beside lanes.new ≡ L.beside lanes.old }
     ensures same { L.honest lanes.new → L.contents lanes.new ≡ L.contents lanes.old }
     ensures executed { L.honest lanes.new → IfOk result (λ a. (s : State) → s.core.points ≡ points.now → s.core.restart ≡ switches.restart → s.core.enabled ≡ switches.enabled
@@ -356,6 +358,7 @@ pub(crate) fn execute<L: Lanes, O: Outputs>(
     octets: &[u8],
 ) -> Result<Answer, StoreFault>
     ensures held { L.honest lanes.new → L.honest lanes.old }
+    ensures place { L.place lanes.new ≡ L.place lanes.old }
     ensures beside { L.honest lanes.new → L.beside lanes.new ≡ L.beside lanes.old }
     ensures same { L.honest lanes.new → L.contents lanes.new ≡ L.contents lanes.old }
     ensures executed { L.honest lanes.new → IfOk result (λ a. (s : State) → s.core.points ≡ points.now → s.core.restart ≡ switches.restart → s.core.enabled ≡ switches.enabled

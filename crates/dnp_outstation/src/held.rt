@@ -60,6 +60,7 @@ fn held_lane<L: Lanes>(
     requires { number < LANES }
     ensures rows { L.honest lanes.new → IfOk result (λ rows. IsLaneHeld (L.contents lanes.old) number rows.items) }
     ensures events { IfOk result (λ rows. All (λ x. IsEvent x.row) rows.items) }
+    ensures place { L.place lanes.new ≡ L.place lanes.old }
     ensures look { IsLook L.honest L.is_stopped L.contents L.beside L.asks_memory lanes.old lanes.new result }
 {
     let lane = match Lane::numbered(number) {
@@ -80,6 +81,7 @@ fn held_class<L: Lanes>(
     requires { class < 3 }
     ensures rows { L.honest lanes.new → IfOk result (λ held. is_enabled ≡ true → IsClassHeld (L.contents lanes.old) class held) }
     ensures events { IfOk result AreClassEvents }
+    ensures place { L.place lanes.new ≡ L.place lanes.old }
     ensures look { IsLook L.honest L.is_stopped L.contents L.beside L.asks_memory lanes.old lanes.new result }
 {
     if !is_enabled {
@@ -108,6 +110,7 @@ pub(crate) fn held_rows<L: Lanes>(
 ) -> Result<HeldRows, StoreFault>
     ensures rows { L.honest lanes.new → IfOk result (IsHeld (L.contents lanes.old) enabled) }
     ensures events { IfOk result AreEvents }
+    ensures place { L.place lanes.new ≡ L.place lanes.old }
     ensures look { IsLook L.honest L.is_stopped L.contents L.beside L.asks_memory lanes.old lanes.new result }
 {
     // Whatever the lanes say without a refusal says that ids rise from 1 on.

@@ -36,6 +36,7 @@ fn write_opening<L: Lanes>(
     ensures opens { L.honest lanes.new → IfOk result (λ starts. (s : State) (now : ℕ) → s.lanes ≡ L.contents lanes.old → s.core.times.unsolicited ≡ is_on
         → s.core.announced ≡ announced → s.core.enabled ≡ enabled → opened_of s now ≡ ended_by writer.new starts now (still (begun s))) }
     ensures response { IfOk result (λ starts. IsTrue starts → writer.new.builder.function ≡ function.UnsolicitedResponse) }
+    ensures place { L.place lanes.new ≡ L.place lanes.old }
     ensures look { IsLook L.honest L.is_stopped L.contents L.beside L.asks_memory lanes.old lanes.new result }
     ensures asks { IsErr result → IsTrue is_on }
 {
@@ -124,6 +125,7 @@ impl OutstationCore {
         outputs: &mut O,
         now: u64,
     ) -> Result<(), StoreFault>
+        ensures place { L.place lanes.new ≡ L.place lanes.old }
         ensures look { IsLook L.honest L.is_stopped L.contents L.beside L.asks_memory lanes.old lanes.new result }
         ensures outputs { outputs.new ≡ outputs.old }
         ensures opened { L.honest lanes.new → OnOk result (opened_of (state_of self.old (L.contents lanes.old) (O.panel outputs.old)) now
@@ -174,6 +176,7 @@ impl OutstationCore {
         outputs: &mut O,
         now: u64,
     ) -> Result<(), StoreFault>
+        ensures place { L.place lanes.new ≡ L.place lanes.old }
         ensures look { IsLook L.honest L.is_stopped L.contents L.beside L.asks_memory lanes.old lanes.new result }
         ensures outputs { outputs.new ≡ outputs.old }
         ensures ticked { L.honest lanes.new → OnOk result (tick_of (state_of self.old (L.contents lanes.old) (O.panel outputs.old)) now

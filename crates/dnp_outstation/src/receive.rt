@@ -32,6 +32,7 @@ impl OutstationCore {
     ) -> Result<(), StoreFault>
         ensures held { L.honest lanes.new → L.honest lanes.old }
         ensures outputs_held { O.honest outputs.new → O.honest outputs.old }
+        ensures place { L.place lanes.new ≡ L.place lanes.old }
         ensures beside { L.honest lanes.new → L.beside lanes.new ≡ L.beside lanes.old }
         ensures received { L.honest lanes.new → O.honest outputs.new → OnOk result (
             connection_after (state_of self.old (L.contents lanes.old) (O.panel outputs.old)) (O.panel outputs.old) now octets.now

@@ -39,6 +39,7 @@ impl OutstationCore {
         requires few { length octets.now ≤ MAX_FRAGMENT }
         requires other { is_control octets.now ≡ false }
         ensures held { L.honest lanes.new → L.honest lanes.old }
+        ensures place { L.place lanes.new ≡ L.place lanes.old }
         ensures beside { L.honest lanes.new → L.beside lanes.new ≡ L.beside lanes.old }
         ensures answered { L.honest lanes.new → OnOk result ((p : Panel) →
             at_end now (on_request (state_of self.old (L.contents lanes.old) p) (O.panel outputs.now) now octets.now)
@@ -94,6 +95,7 @@ impl OutstationCore {
         octets: &[u8],
     ) -> Result<(), StoreFault>
         requires { 1 ≤ length octets.now }
+        ensures place { L.place lanes.new ≡ L.place lanes.old }
         ensures look { IsLook L.honest L.is_stopped L.contents L.beside L.asks_memory lanes.old lanes.new result }
         ensures answered { L.honest lanes.new → OnOk result ((p : Panel) → let s = state_of self.old (L.contents lanes.old) p in
             at_end now (with_that s s.core.session.last (on_again s now octets.now))

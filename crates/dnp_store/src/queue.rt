@@ -1,6 +1,6 @@
 //! Event lanes in a SQL database.
 
-ghost use Rattle.std.specs.Prelude.{◌≡◌, ◌≢◌, false, true, IsTrue, [], All, IfOk, IfErr, OnOk};
+ghost use Rattle.std.specs.Prelude.{◌≡◌, ◌≢◌, false, true, IsTrue, [], All, IfOk, IfErr, OnOk, ⊤};
 ghost use Rattle.sqlite.specs.Held.{state};
 ghost use Rattle.sqlite.specs.State.{HasCleanDisk};
 ghost use Rattle.dnp_eventbuf.specs.Calls.{IsLanesCall};
@@ -75,6 +75,10 @@ impl<S: Alter> Lanes for Queue<S> {
     ghost contents = { λ q. q.stock };
 
     ghost beside = { λ _. [] };
+
+    ghost Place = { ⊤ };
+
+    ghost place = { λ _. tt };
 
     ghost honest = { IsHonest S.Store };
 

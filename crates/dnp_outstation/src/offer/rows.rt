@@ -71,6 +71,7 @@ fn rows_to_give<L: Lanes>(
     ensures rows { L.honest lanes.new → IfOk result (λ rows. rows.items
         ≡ take few (at_most most (rows_left (after_release (L.contents lanes.new) bounds.now.released.now) bounds.now.stood bounds.now.given.now (lane_number lane)))) }
     ensures events { IfOk result (λ rows. All (λ x. IsEvent x.row) rows.items) }
+    ensures place { L.place lanes.new ≡ L.place lanes.old }
     ensures look { IsLook L.honest L.is_stopped L.contents L.beside L.asks_memory lanes.old lanes.new result }
 {
     an_offer_after_a_release();
@@ -143,6 +144,7 @@ impl Writer {
         ensures counted { L.honest lanes.new → IfOk result (λ given. IfSome given (λ n.
             n ≡ length (at_most most (rows_left (after_release (L.contents lanes.new) bounds.now.released.now) bounds.now.stood bounds.now.given.now (lane_number lane))))) }
         ensures response { self.new.builder.function ≡ self.old.builder.function }
+        ensures place { L.place lanes.new ≡ L.place lanes.old }
         ensures look { IsLook L.honest L.is_stopped L.contents L.beside L.asks_memory lanes.old lanes.new result }
     {
         // A row has two octets at least, those of its index: so one of these has no room.
@@ -171,6 +173,7 @@ impl Writer {
             (event_items (after_release (L.contents lanes.old) bounds.now.released.now) bounds.now.stood bounds.now.given.now header part.now.most (map lane_number part.now.lanes))) }
         ensures response { self.new.builder.function ≡ self.old.builder.function }
 
+        ensures place { L.place lanes.new ≡ L.place lanes.old }
         ensures look { IsLook L.honest L.is_stopped L.contents L.beside L.asks_memory lanes.old lanes.new result }
     {
         let mut left = part.most;

@@ -12,6 +12,7 @@ invariant-loop-class g l = record {
   response : l.self.builder.function ≡ l.fn.self.builder.function;
   held : g.L.Lanes.honest l.lanes → g.L.Lanes.honest l.fn.lanes;
   same : g.L.Lanes.honest l.lanes → g.L.Lanes.contents l.lanes ≡ g.L.Lanes.contents l.fn.lanes;
+  place : g.L.Lanes.place l.lanes ≡ g.L.Lanes.place l.fn.lanes;
   beside : g.L.Lanes.honest l.lanes → g.L.Lanes.beside l.lanes ≡ g.L.Lanes.beside l.fn.lanes;
   runs_on : g.L.Lanes.is_stopped l.lanes ≡ g.L.Lanes.is_stopped l.fn.lanes;
 }
