@@ -8,7 +8,7 @@ use Rattle.dnp_appfragment.specs.declared.fault.AppFault.TheVariants.{Short, Fun
 use Rattle.dnp_appfragment.specs.declared.header.Range.{Range}
 use Rattle.dnp_appfragment.specs.declared.table.Form.{Form}
 use Rattle.dnp_appfragment.specs.Table.{takes_of, allows, IsInTable}
-use Rattle.dnp_appfragment.specs.Headers.{Head, qualifier_of, range_octets, IsForward, objects_size, header_octets, IsHeader}
+use Rattle.dnp_appfragment.specs.Headers.{Head, head_of, qualifier_of, range_octets, IsForward, objects_size, header_octets, IsHeader}
 use Rattle.dnp_appfragment.specs.Faults.{IsHeaderFault}
 use Rattle.dnp_appfragment.specs.Reading.{◌>>=◌, range_at, taken, objects_at, header_at}
 use Rattle.dnp_appfragment.proofs.Numbers.{AreOctets}
@@ -22,7 +22,7 @@ AreOctets-drop (suc n) (b ∷ octets) are = AreOctets-drop n octets are.1
 
 -- a header whose objects are so many octets, and the octets behind them
 abbrev cut_off : ℕ → ℕ → Range → ℕ → List ℕ → Head × List ℕ
-cut_off g v r size octets = (record { group = g; variation = v; range = r; octets = take size octets }, drop size octets)
+cut_off g v r size octets = (head_of g v r (take size octets), drop size octets)
 
 -- ---- what is read
 
@@ -140,8 +140,8 @@ header_again f h rest is =
     let last : drop size (h.octets ++ rest) ≡ rest = drop_at h.octets rest size is.objects in
     ap (header_at f) joined
     ∙ in_range f h.group h.variation h.range (h.octets ++ rest) is.object is.forward
-    ∙ ap (λ (b : Bool). cond b (Err ObjectsCut) (Ok (record { group = h.group; variation = h.variation; range = h.range; octets = take size (h.octets ++ rest) }, drop size (h.octets ++ rest)))) room
-    ∙ (λ i. Ok (record { group = h.group; variation = h.variation; range = h.range; octets = first i }, last i))
+    ∙ ap (λ (b : Bool). cond b (Err ObjectsCut) (Ok (head_of h.group h.variation h.range (take size (h.octets ++ rest)), drop size (h.octets ++ rest)))) room
+    ∙ (λ i. Ok (head_of h.group h.variation h.range (first i), last i))
 
 fault_at : (f : Form) (octets : List ℕ) (e : AppFault) → IsHeaderFault f octets e → header_at f octets ≡ Err e
 unfolding header_at

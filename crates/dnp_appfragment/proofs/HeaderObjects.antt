@@ -14,10 +14,9 @@ use Rattle.dnp_objects.specs.Commands.{ReadsCommand}
 use Rattle.dnp_appfragment.specs.declared.fault.AppFault.{AppFault}
 use Rattle.dnp_appfragment.specs.declared.header.Range.{Range}
 use Rattle.dnp_appfragment.specs.declared.header.Range.TheVariants as range
-use Rattle.dnp_appfragment.specs.Headers.{count_of, prefix_size}
+use Rattle.dnp_appfragment.specs.Headers.{head_of, count_of, prefix_size}
 use Rattle.dnp_appfragment.specs.Objects.{IsIndex, IsObject, IsBit, IsObjectRow, IsRow, IsCommand, prefix_octets}
 use Rattle.dnp_appfragment.specs.Reading.{number_at, index_at, first_octets, object_at}
-use Rattle.dnp_appfragment.specs.Seen.{head_of}
 use Rattle.dnp_appfragment.proofs.Numbers.{AreOctets, ReadsNumber, number_reads, number_again}
 use Rattle.dnp_appfragment.proofs.Grammar.{AreOctets-drop}
 

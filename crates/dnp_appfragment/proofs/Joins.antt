@@ -92,7 +92,7 @@ pub record IsJoined (f : Form) (a b h : Head) : Type 0 where
   pub size : length (header_octets h) ≡ length (header_octets a) + length b.octets
 
 abbrev pub join_by : Head → Head → Range → Head
-join_by a b r = record { group = a.group; variation = a.variation; range = r; octets = a.octets ++ b.octets }
+join_by a b r = record a { range = r; octets = a.octets ++ b.octets }
 
 pub joined_is : (a b h : Head) (x : Bool) (o : Option Range) → cond x (option_map (join_by a b) o) None ≡ Some h
     → (x ≡ true) × (r : Range) × (o ≡ Some r) × (join_by a b r ≡ h)

@@ -20,11 +20,10 @@ use Rattle.dnp_objects.specs.Commands.{size_read, ReadsCommand}
 use Rattle.dnp_objects.specs.Events.{IsEvent}
 use Rattle.dnp_appfragment.specs.declared.header.Range.{Range}
 use Rattle.dnp_appfragment.specs.declared.header.Range.TheVariants as range
-use Rattle.dnp_appfragment.specs.Headers.{Head, count_of}
+use Rattle.dnp_appfragment.specs.Headers.{Head, head_of, count_of}
 use Rattle.dnp_appfragment.specs.Objects.{HasCommands, IsObject, IsBit, IsObjectRow, IsRow, IsCommand, IsSpan, IsIndex, prefix_octets}
 use Rattle.dnp_appfragment.specs.Reading.{object_at}
 use Rattle.dnp_appfragment.specs.Meaning.{start_of, bit_in, shaped_row_in, row_in, content_command_in, command_in}
-use Rattle.dnp_appfragment.specs.Seen.{head_of}
 use Rattle.dnp_appfragment.proofs.Numbers.{AreOctets}
 use Rattle.dnp_appfragment.proofs.There.{commands_of}
 use Rattle.dnp_appfragment.proofs.HeaderObjects.{object_reads, object_again, packed_unsized}

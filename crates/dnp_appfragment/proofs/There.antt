@@ -16,10 +16,9 @@ use Rattle.dnp_appfragment.specs.declared.header.Range.TheVariants as range
 use Rattle.dnp_appfragment.specs.declared.table.Form.{Form}
 use Rattle.dnp_appfragment.specs.declared.table.Form.TheVariants as form
 use Rattle.dnp_appfragment.specs.Table.{Rule, rules, takes_of, form_eq, span, indexed, allows}
-use Rattle.dnp_appfragment.specs.Headers.{Head, qualifier_of, count_of, prefix_size, octets_of, objects_size, IsHeader}
+use Rattle.dnp_appfragment.specs.Headers.{Head, head_of, qualifier_of, count_of, prefix_size, octets_of, objects_size, IsHeader}
 use Rattle.dnp_appfragment.specs.Reading.{number_at, index_at, first_octets, object_at}
 use Rattle.dnp_appfragment.specs.Objects.{IsSpan, HasRows, HasCommands}
-use Rattle.dnp_appfragment.specs.Seen.{head_of}
 use Rattle.dnp_appfragment.proofs.TableLines.{line_of, allowed_passes}
 use Rattle.dnp_appfragment.proofs.Numbers.{number_size}
 use Rattle.dnp_appfragment.proofs.HeaderObjects.{packed_unsized}

@@ -10,7 +10,7 @@ use Rattle.dnp_appfragment.specs.declared.header.Range.{Range}
 use Rattle.dnp_appfragment.specs.declared.header.Range.TheVariants as range
 use Rattle.dnp_appfragment.specs.declared.table.Form.{Form}
 use Rattle.dnp_appfragment.specs.Table.{takes_of}
-use Rattle.dnp_appfragment.specs.Headers.{Head, objects_size}
+use Rattle.dnp_appfragment.specs.Headers.{Head, head_of, objects_size}
 use Rattle.dnp_appfragment.specs.declared.header.Header.{Header}
 use Rattle.dnp_appfragment.specs.Left.{Left, is_whole, headers_of}
 use Rattle.dnp_appfragment.specs.Places.{Ends, YieldsHeader}
@@ -71,7 +71,7 @@ range_no_more q octets =
 objects_no_more : (f : Form) (g v : ℕ) (r : Range) (octets : List ℕ) → NoMore octets (objects_at f g v r octets)
 objects_no_more f g v r octets =
     cond_both (nat_lt (length octets) (objects_size f g v r)) (Err ObjectsCut)
-    (Ok (record { group = g; variation = v; range = r; octets = take (objects_size f g v r) octets }, drop (objects_size f g v r) octets))
+    (Ok (head_of g v r (take (objects_size f g v r) octets), drop (objects_size f g v r) octets))
     (λ (x : Result (Head × List ℕ) AppFault). NoMore octets x)
     (λ _. tt) (λ _. omega (arith, length-drop (objects_size f g v r) octets))
 

@@ -15,11 +15,10 @@ use Rattle.dnp_appfragment.specs.declared.header.Range.{Range}
 use Rattle.dnp_appfragment.specs.declared.header.Range.TheVariants as range
 use Rattle.dnp_appfragment.specs.declared.row_walk.Carried.{Carried}
 use Rattle.dnp_appfragment.specs.declared.row_walk.Carried.TheVariants as carried
-use Rattle.dnp_appfragment.specs.Headers.{count_of, prefix_size}
+use Rattle.dnp_appfragment.specs.Headers.{head_of, count_of, prefix_size}
 use Rattle.dnp_appfragment.specs.Reading.{index_at, first_octets, object_at}
 use Rattle.dnp_appfragment.specs.Meaning.{start_of, bit_in, shaped_row_in, row_in}
 use Rattle.dnp_appfragment.specs.Objects.{IsSpan, HasRows}
-use Rattle.dnp_appfragment.specs.Seen.{head_of}
 use Rattle.dnp_appfragment.proofs.ObjectValues.{shape_sized}
 use Rattle.dnp_appfragment.proofs.There.{bits_of, rows_of}
 use Rattle.dnp_appfragment.specs.Walking.{carried_by, Cut, cut_octets, cut_at, shaped_left, bits_left, rows_left}

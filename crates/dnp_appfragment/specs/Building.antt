@@ -8,13 +8,13 @@ use Rattle.dnp_appfragment.specs.declared.header.Range.TheVariants as range
 use Rattle.dnp_appfragment.specs.declared.run.Run.{Run}
 use Rattle.dnp_appfragment.specs.Joining.{joined_range}
 use Rattle.dnp_appfragment.specs.Table.{form_of}
-use Rattle.dnp_appfragment.specs.Headers.{Head, range_octets, header_octets, IsHeader, Divide}
+use Rattle.dnp_appfragment.specs.Headers.{Head, head_of, range_octets, header_octets, IsHeader, Divide}
 use Rattle.dnp_appfragment.specs.Left.{headers_of}
 use Rattle.dnp_appfragment.specs.Built.{Built, front_size, size}
 
 -- the run with the octets of its objects
 abbrev pub run_head : List ℕ → Run → Head
-run_head objects run = record { group = run.group; variation = run.variation; range = run.range; octets = objects }
+run_head objects run = head_of run.group run.variation run.range objects
 
 -- the ended headers stand in octets, as in the fragment
 abbrev pub built : Function → List ℕ → Option Run → List ℕ → Built

@@ -17,6 +17,10 @@ pub record Head : Type 0 where
   pub range : Range
   pub octets : List ℕ
 
+-- a header of an object, a range and the octets of its objects
+abbrev pub head_of : ℕ → ℕ → Range → List ℕ → Head
+head_of g v r octets = record { group = g; variation = v; range = r; octets = octets }
+
 -- ---- the range
 
 abbrev pub qualifier_of : Range → ℕ

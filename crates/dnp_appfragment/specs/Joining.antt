@@ -19,5 +19,5 @@ joined_range _ _ = None
 abbrev pub joined : Head → Head → Option Head
 joined a b =
     if (a.group == b.group) && (a.variation == b.variation)
-    then option_map (λ r. record { group = a.group; variation = a.variation; range = r; octets = a.octets ++ b.octets }) (joined_range a.range b.range)
+    then option_map (λ r. record a { range = r; octets = a.octets ++ b.octets }) (joined_range a.range b.range)
     else None

@@ -10,7 +10,7 @@ use Rattle.dnp_appfragment.specs.declared.header.Range.TheVariants as range
 use Rattle.dnp_appfragment.specs.declared.qualifier.TheConstants as qualifier
 use Rattle.dnp_appfragment.specs.declared.table.Form.{Form}
 use Rattle.dnp_appfragment.specs.Table.{takes_of, allows}
-use Rattle.dnp_appfragment.specs.Headers.{Head, objects_size, count_of, prefix_size}
+use Rattle.dnp_appfragment.specs.Headers.{Head, head_of, objects_size, count_of, prefix_size}
 
 -- the next step, if there was no fault
 infixl 10 ◌>>=◌
@@ -60,7 +60,7 @@ taken (Some t) q = if allows t q then Ok t else Err QualifierUnknown
 abbrev pub objects_at : Form → ℕ → ℕ → Range → List ℕ → Result (Head × List ℕ) AppFault
 objects_at f g v r octets =
     if nat_lt (length octets) (objects_size f g v r) then Err ObjectsCut
-    else Ok (record { group = g; variation = v; range = r; octets = take (objects_size f g v r) octets }, drop (objects_size f g v r) octets)
+    else Ok (head_of g v r (take (objects_size f g v r) octets), drop (objects_size f g v r) octets)
 
 -- the header at the front, with its objects, and the octets behind them
 unfoldable pub header_at : Form → List ℕ → Result (Head × List ℕ) AppFault

@@ -15,9 +15,6 @@ Gives view (Err e) wanted = wanted ≡ Err e
 abbrev pub head : Header → Head
 head h = record { group = h.group; variation = h.variation; range = h.range; octets = h.octets.now }
 
-abbrev pub head_of : ℕ → ℕ → Range → List ℕ → Head
-head_of g v r octets = record { group = g; variation = v; range = r; octets = octets }
-
 abbrev pub number_and_rest : ℕ × Bor (List ℕ) → ℕ × List ℕ
 number_and_rest x = (x.0, x.1.now)
 

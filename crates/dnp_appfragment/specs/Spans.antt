@@ -5,7 +5,7 @@ use Rattle.dnp_objects.specs.Rows.{Fits, written}
 use Rattle.dnp_objects.specs.declared.limits.TheConstants.{MAX_FRAGMENT}
 use Rattle.dnp_objects.specs.declared.row.Row.{Row}
 use Rattle.dnp_appfragment.specs.declared.header.Range.TheVariants as range
-use Rattle.dnp_appfragment.specs.Headers.{Head}
+use Rattle.dnp_appfragment.specs.Headers.{Head, head_of}
 use Rattle.dnp_appfragment.specs.Written.{spanned}
 
 -- a row as this object, in a range of its index
@@ -19,7 +19,7 @@ all_written group variation rows = flat_map (written group variation) rows
 -- objects in a range from an index to an index
 abbrev pub span : ℕ → ℕ → ℕ → ℕ → List ℕ → Head
 span group variation first last octets =
-    record { group = group; variation = variation; range = range.Span true first last; octets = octets }
+    head_of group variation (range.Span true first last) octets
 
 -- what is required of rows, of which the first so many are put under one header
 pub record CanSpan (group variation count : ℕ) (rows : List Row) : Type 0 where

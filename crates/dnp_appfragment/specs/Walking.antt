@@ -10,10 +10,9 @@ use Rattle.dnp_objects.specs.declared.table.Shape.{Shape}
 use Rattle.dnp_appfragment.specs.declared.header.Range.{Range}
 use Rattle.dnp_appfragment.specs.declared.row_walk.Carried.{Carried}
 use Rattle.dnp_appfragment.specs.declared.row_walk.Carried.TheVariants as carried
-use Rattle.dnp_appfragment.specs.Headers.{count_of}
+use Rattle.dnp_appfragment.specs.Headers.{head_of, count_of}
 use Rattle.dnp_appfragment.specs.Reading.{index_at}
 use Rattle.dnp_appfragment.specs.Meaning.{bit_in}
-use Rattle.dnp_appfragment.specs.Seen.{head_of}
 
 -- what a header of this object carries
 abbrev pub carried_by : ℕ → ℕ → Carried

@@ -8,19 +8,19 @@ use Rattle.dnp_objects.specs.Commands.{object_of, index_of, command_octets}
 use Rattle.dnp_objects.specs.declared.command.Command.{Command}
 use Rattle.dnp_objects.specs.declared.row.Row.{Row}
 use Rattle.dnp_appfragment.specs.declared.header.Range.TheVariants as range
-use Rattle.dnp_appfragment.specs.Headers.{Head, number}
+use Rattle.dnp_appfragment.specs.Headers.{Head, head_of, number}
 
 -- ---- an object as a header of its own
 
 -- behind its index: qualifier 28
 abbrev pub indexed : ℕ → ℕ → ℕ → List ℕ → Head
 indexed group variation index octets =
-    record { group = group; variation = variation; range = range.Indexed true 1; octets = number true index ++ octets }
+    head_of group variation (range.Indexed true 1) (number true index ++ octets)
 
 -- from its index to its index: qualifier 01
 abbrev pub spanned : ℕ → ℕ → ℕ → List ℕ → Head
 spanned group variation index octets =
-    record { group = group; variation = variation; range = range.Span true index index; octets = octets }
+    head_of group variation (range.Span true index index) octets
 
 -- ---- rows
 

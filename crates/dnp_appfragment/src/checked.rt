@@ -64,11 +64,6 @@ pub(crate) fn checked_header(form: Form, octets: &[u8]) -> (Header<'_>, &[u8])
     let (group, variation) = (octets[0], octets[1]);
     let (range, rest) = checked_range(octets[2], &octets[3..]);
     let size = objects_size(form, group, variation, range);
-    let header = Header {
-        group,
-        variation,
-        range,
-        octets: &rest[..size],
-    };
+    let header = Header::new(group, variation, range, &rest[..size]);
     (header, &rest[size..])
 }

@@ -40,10 +40,24 @@ impl<'a> Header<'a> {
     ghost use Rattle.dnp_objects.specs.declared.row.Row.{Row as RowValue};
     ghost use Rattle.dnp_objects.specs.declared.command.Command.{Command as CommandValue};
     ghost use Rattle.dnp_appfragment.specs.Objects.{IsRow, IsCommand, HasRows, HasCommands};
-    ghost use Rattle.dnp_appfragment.specs.Headers.{IsHeader, count_of};
+    ghost use Rattle.dnp_appfragment.specs.Headers.{IsHeader, count_of, head_of};
     ghost use Rattle.dnp_appfragment.specs.Meaning.{row_in, command_in};
     ghost use Rattle.dnp_appfragment.specs.Table.{form_of};
     ghost use Rattle.dnp_appfragment.specs.Seen.{head};
+
+    /// The header of this object and range, whose objects are these octets.
+    #[inline(always)]
+    pub const fn new(group: u8, variation: u8, range: Range, octets: &'a [u8]) -> Header<'a>
+        ensures value { head result ≡ head_of group variation range octets.now }
+        ensures octets { result.octets ≡ octets.entry }
+    {
+        Header {
+            group,
+            variation,
+            range,
+            octets,
+        }
+    }
 
     /// How many objects the range names, 0 to 65,536; all is none. In a READ a count is the most
     /// that are asked for.

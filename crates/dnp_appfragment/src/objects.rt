@@ -4,11 +4,11 @@ ghost use Rattle.std.specs.Option.{option_map, option_and_then, IsSomeAnd};
 ghost use Rattle.dnp_objects.specs.Objects.{shape_read, object_size as size_of};
 ghost use Rattle.dnp_objects.specs.declared.row.Row.{Row as RowValue};
 ghost use Rattle.dnp_objects.specs.declared.command.Command.{Command as CommandValue};
-ghost use Rattle.dnp_appfragment.specs.Headers.{count_of as count};
+ghost use Rattle.dnp_appfragment.specs.Headers.{head_of, count_of as count};
 ghost use Rattle.dnp_appfragment.specs.Meaning as meaning;
 ghost use Rattle.dnp_appfragment.specs.Objects as spec;
 ghost use Rattle.dnp_appfragment.specs.Reading as reading;
-ghost use Rattle.dnp_appfragment.specs.Seen.{number_and_rest, head_of};
+ghost use Rattle.dnp_appfragment.specs.Seen.{number_and_rest};
 
 use crate::header::Range;
 use crate::range::{count_of, prefix_size};

@@ -94,11 +94,6 @@ pub(crate) fn header_at(form: Form, octets: &[u8]) -> Result<(Header<'_>, &[u8])
     if rest.len() < size {
         return Err(AppFault::ObjectsCut);
     }
-    let header = Header {
-        group: *group,
-        variation: *variation,
-        range,
-        octets: &rest[..size],
-    };
+    let header = Header::new(*group, *variation, range, &rest[..size]);
     Ok((header, &rest[size..]))
 }

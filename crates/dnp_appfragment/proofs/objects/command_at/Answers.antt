@@ -4,7 +4,7 @@ use Rattle.dnp_objects.specs.declared.command.Command.{Command}
 use Rattle.dnp_objects.specs.declared.fault.ObjectFault.{ObjectFault}
 use Rattle.dnp_objects.specs.Commands.{ReadsCommand}
 use Rattle.dnp_appfragment.specs.Objects.{IsCommand}
-use Rattle.dnp_appfragment.specs.Seen.{head_of}
+use Rattle.dnp_appfragment.specs.Headers.{head_of}
 use Rattle.dnp_appfragment.proofs.Numbers.{are_octets}
 use Rattle.dnp_appfragment.proofs.HeaderObjects.{command_cut, same_cut}
 use Rattle.dnp_appfragment.proofs.There.{commands_of, not_there}

@@ -1,5 +1,5 @@
 use Rattle.std.proofs.Common.{◌≡◌, ◌∙◌, sym}
-use Rattle.dnp_appfragment.specs.Seen.{head_of}
+use Rattle.dnp_appfragment.specs.Headers.{head_of}
 use Rattle.dnp_appfragment.proofs.HeaderObjects.{bit_only, sized_only}
 use Rattle.dnp_appfragment.proofs.There.{bits_of, rows_of}
 use Rattle.dnp_appfragment.proofs.ObjectValues.{bit_said, object_row_said}

@@ -6,6 +6,7 @@ use Rattle.dnp_objects.specs.declared.limits.TheConstants.{MAX_FRAGMENT}
 use Rattle.dnp_objects.specs.Objects.{object_size}
 use Rattle.dnp_appfragment.specs.declared.header.Range.{Range}
 use Rattle.dnp_appfragment.specs.Built.{size, with_object}
+use Rattle.dnp_appfragment.specs.Headers.{head_of}
 use Rattle.dnp_appfragment.specs.Spans.{row_head, all_written, span}
 use Rattle.dnp_appfragment.proofs.ObjectHeaders.{response_form}
 use Rattle.dnp_appfragment.proofs.Spans.{AreSized, each_size, taken_size, many_fit, size_behind, size_with, span_header, ArePut, no_rows_put, rows_put}
@@ -28,7 +29,7 @@ room : (g : Over) (c : After-min-count g) → c.room_for.result ≡ MAX_FRAGMENT
 room g c =
     c.room_for.ensures
     ∙ ap (λ (r : Range). MAX_FRAGMENT
-    - size (with_object c.args.self.now (record { group = g.row.GROUP; variation = g.row.VARIATION; range = r; octets = [] })))
+    - size (with_object c.args.self.now (head_of g.row.GROUP g.row.VARIATION r [])))
     c.span_of.ensures.value
 
 fit : (g : Over) (c : After-min-count g)

@@ -2,7 +2,7 @@ use Rattle.std.proofs.Common.{◌≡◌, ℕ, subst, sym}
 use Rattle.std.specs.Prelude.{slice_get}
 use Rattle.dnp_appfragment.specs.declared.row_walk.Carried.{Carried}
 use Rattle.dnp_appfragment.specs.Meaning.{row_in}
-use Rattle.dnp_appfragment.specs.Seen.{head_of}
+use Rattle.dnp_appfragment.specs.Headers.{head_of}
 use Rattle.dnp_appfragment.specs.Walking.{rows_left}
 use Rattle.dnp_appfragment.proofs.Walked.{walk_is, no_walk_is}
 use Rattle.dnp_appfragment.proofs.row_walk.RowWalk.new.Goals as goal
