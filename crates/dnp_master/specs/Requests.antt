@@ -7,7 +7,7 @@ use Rattle.dnp_appfragment.specs.declared.function.Function.{Function}
 use Rattle.dnp_appfragment.specs.declared.function.Function.TheVariants as function
 use Rattle.dnp_appfragment.specs.declared.header.Range.TheVariants as range
 use Rattle.dnp_appfragment.specs.Fragments.{Asked}
-use Rattle.dnp_appfragment.specs.Headers.{Head}
+use Rattle.dnp_appfragment.specs.Headers.{Head, head_of}
 use Rattle.dnp_appfragment.specs.Written.{order}
 use Rattle.dnp_master.specs.declared.task.Classes.{Classes}
 use Rattle.dnp_master.specs.declared.task.Task.{Task}
@@ -24,7 +24,7 @@ has_some classes = has_class classes 0 || (has_class classes 1 || (has_class cla
 
 -- all objects of a class: 60.1 for class 0, 60.2 to 60.4 for classes 1 to 3, with qualifier 06
 abbrev pub class_header : ℕ → Head
-class_header class = record { group = 60; variation = class + 1; range = range.All; octets = [] }
+class_header class = head_of 60 (class + 1) range.All []
 
 abbrev pub headers_of_class : Classes → ℕ → List Head
 headers_of_class classes class = if has_class classes class then class_header class ∷ [] else []
@@ -46,11 +46,11 @@ function_for (Operate command) = function.Operate
 
 -- indication 7, DEVICE_RESTART, is written 0: packed bits 80.1 from index 7 to 7
 abbrev pub no_restart : Head
-no_restart = record { group = 80; variation = 1; range = range.Span false 7 7; octets = 0 ∷ [] }
+no_restart = head_of 80 1 (range.Span false 7 7) (0 ∷ [])
 
 -- a time in milliseconds since 1970-01-01 UTC: 50.1
 abbrev pub time_header : ℕ → Head
-time_header time = record { group = 50; variation = 1; range = range.Count false 1; octets = little_bytes 6 time }
+time_header time = head_of 50 1 (range.Count false 1) (little_bytes 6 time)
 
 -- a command goes with the status 0
 abbrev pub headers_for : Task → List Head

@@ -38,12 +38,7 @@ fn put_class(builder: &mut Builder, classes: Classes, class: u8)
     ensures small { size builder.new ≤ size builder.old + 3 }
 {
     if classes.has(class) {
-        let header = Header {
-            group: 60,
-            variation: class + 1,
-            range: Range::All,
-            octets: &[],
-        };
+        let header = Header::new(60, class + 1, Range::All, &[]);
         put(builder, &header);
     }
 }
@@ -72,12 +67,7 @@ fn put_no_restart(builder: &mut Builder)
         first: 7,
         last: 7,
     };
-    let header = Header {
-        group: 80,
-        variation: 1,
-        range,
-        octets: &[0],
-    };
+    let header = Header::new(80, 1, range, &[0]);
     put(builder, &header);
 }
 
@@ -88,12 +78,8 @@ fn put_time(builder: &mut Builder, time: u64)
     ensures { builder.new ≡ with_header builder.old (spec.time_header time) }
 {
     let octets = time.to_le_bytes();
-    let header = Header {
-        group: 50,
-        variation: 1,
-        range: Range::Count { wide: false, n: 1 },
-        octets: &octets[..6],
-    };
+    let range = Range::Count { wide: false, n: 1 };
+    let header = Header::new(50, 1, range, &octets[..6]);
     put(builder, &header);
 }
 

@@ -4,13 +4,13 @@ use Rattle.byteorder.specs.Endian.{little_bytes}
 use Rattle.dnp_appfragment.specs.declared.table.Form.{Form}
 use Rattle.dnp_appfragment.specs.declared.table.Form.TheVariants as form
 use Rattle.dnp_appfragment.specs.declared.header.Range.TheVariants as range
-use Rattle.dnp_appfragment.specs.Headers.{Head, IsHeader}
+use Rattle.dnp_appfragment.specs.Headers.{Head, head_of, IsHeader}
 use Rattle.dnp_master.proofs.RequestHeaders.{time_fits}
 use Rattle.dnp_master.proofs.requesting.put_time.Goals as goal
 
 -- the header of these octets
 abbrev made : List ℕ → Head
-made octets = record { group = 50; variation = 1; range = range.Count false 1; octets = octets }
+made octets = head_of 50 1 (range.Count false 1) octets
 
 pub put-requires-clause-fits : goal.put-requires-clause-fits
 put-requires-clause-fits c =
