@@ -2,6 +2,7 @@ pub mod Answering
 pub mod Building
 pub mod Controls
 pub mod Divisions
+pub mod EventRows
 pub mod Finished
 pub mod Functions
 pub mod Grammar

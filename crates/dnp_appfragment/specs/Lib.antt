@@ -1,6 +1,7 @@
 -- Definitions, by which contracts promise.
 pub mod Built
 pub mod Control
+pub mod EventRows
 pub mod Faults
 pub mod Fragments
 pub mod Headers

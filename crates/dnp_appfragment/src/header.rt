@@ -1,6 +1,8 @@
 //! Object headers with their objects.
+ghost use Rattle.std.specs.Prelude.{◌<◌, ◌^◌, All, length};
 
 use crate::function::Function;
+use crate::laws::{objects_say_rows_and_commands, rows_are_events};
 use crate::objects::{command_at, row_at};
 use crate::range::{count_of, is_range, objects_size, qualifier_of};
 use crate::row_walk::RowWalk;
@@ -35,11 +37,19 @@ pub struct Header<'a> {
     pub octets: &'a [u8],
 }
 
+/// An octet is below 2^8, wherever it is read, and a slice has fewer than 2^63 of them.
+pub(crate) fn a_slice_is_of_octets(octets: &[u8])
+    ensures each { All (λ octet. octet < 2 ^ 8) octets.now }
+    ensures few { length octets.now < 2 ^ 63 }
+{}
+
 impl<'a> Header<'a> {
-    ghost use Rattle.std.specs.Prelude.{◌≡◌, ◌≤◌, ◌<◌, ◌↔◌, ℕ, IsTrue, IsSome, IfSome, Some, length, slice_get};
+    ghost use Rattle.std.specs.Prelude.{◌≡◌, ◌≤◌, ◌↔◌, ℕ, IsTrue, IsSome, IfSome, Some, slice_get};
+    ghost use Rattle.dnp_objects.specs.Events.{IsEvent};
     ghost use Rattle.dnp_objects.specs.declared.row.Row.{Row as RowValue};
     ghost use Rattle.dnp_objects.specs.declared.command.Command.{Command as CommandValue};
     ghost use Rattle.dnp_appfragment.specs.Objects.{IsRow, IsCommand, HasRows, HasCommands};
+    ghost use Rattle.dnp_appfragment.specs.EventRows.{header_rows, is_event_header};
     ghost use Rattle.dnp_appfragment.specs.Headers.{IsHeader, count_of, head_of};
     ghost use Rattle.dnp_appfragment.specs.Meaning.{row_in, command_in};
     ghost use Rattle.dnp_appfragment.specs.Table.{form_of};
@@ -82,6 +92,13 @@ impl<'a> Header<'a> {
         allows(takes, qualifier_of(self.range)) && is_range(self.range) && self.octets.len() == size
     }
 
+    /// Whether its objects are events: those of the groups 2, 22 and 32.
+    pub fn is_event(&self) -> bool
+        ensures { result ≡ is_event_header (head self.now) }
+    {
+        matches!(self.group, 2 | 22 | 32)
+    }
+
     /// Row k of the header, counted from 0, or `None` where there are fewer objects or octets, or
     /// the object is no row that is read. Its index is counted from the range's start, or stands
     /// before it. Packed bits, 1.1, are binaries with the flags 01. Octets after the row's are
@@ -97,13 +114,20 @@ impl<'a> Header<'a> {
     }
 
     /// The rows of the header, in order: as the k-th item it gives what `row(k)` gives, and it ends
-    /// before the first k where that gives none. To go through all of them is quicker so.
+    /// before the first k where that gives none. To go through all of them is quicker so. Each can be
+    /// reported as an event.
     pub fn rows(&self) -> RowWalk<'a>
         ensures items { (k : ℕ) → slice_get result k ≡ row_in (head self.now) k }
         ensures few { length result ≤ count_of self.now.range }
         // In a response they are as many as the range names.
         ensures counted { HasRows (head self.now) → length result ≡ count_of self.now.range }
+        ensures all { result ≡ header_rows (head self.now) }
+        ensures events { All IsEvent result }
     {
+        // (laws, for the proof: they do nothing)
+        objects_say_rows_and_commands();
+        rows_are_events();
+        a_slice_is_of_octets(self.octets);
         RowWalk::new(self)
     }
 

@@ -2,7 +2,7 @@
 
 use crate::checked::checked_header;
 use crate::fault::AppFault;
-use crate::header::Header;
+use crate::header::{Header, a_slice_is_of_octets};
 use crate::reading::header_at;
 use crate::table::Form;
 use std::marker::Model;
@@ -27,7 +27,10 @@ impl<'a> Model for Headers<'a> {
 }
 
 impl<'a> Headers<'a> {
-    ghost use Rattle.std.specs.Prelude.{◌≡◌, IfOk, drop};
+    ghost use Rattle.std.specs.Prelude.{◌≡◌, IfOk, drop, length};
+    ghost use Rattle.dnp_appfragment.specs.declared.table.Form.TheVariants as form;
+    ghost use Rattle.dnp_appfragment.specs.EventRows.{events_in};
+    ghost use Rattle.dnp_appfragment.specs.Headers.{AreHeaders, begin};
     ghost use Rattle.dnp_appfragment.specs.Places.{Ends};
     ghost use Rattle.dnp_appfragment.specs.Seen.{Gives};
     ghost use Rattle.dnp_appfragment.specs.Reading.{headers_at};
@@ -62,6 +65,27 @@ impl<'a> Headers<'a> {
             }
         }
         left
+    }
+
+    /// How many event rows these headers of a response have: as many as the ranges of those of events
+    /// name.
+    pub fn count_events(&self) -> usize
+        requires response { AreHeaders form.Response begin self.now.headers }
+        ensures { result ≡ length (events_in self.now.headers) }
+    {
+        // (a law, for the proof: it does nothing)
+        a_slice_is_of_octets(self.rest);
+        let left = Headers {
+            form: self.form,
+            rest: self.rest,
+        };
+        let mut count = 0;
+        for header in left {
+            if header.is_event() {
+                count += header.count();
+            }
+        }
+        count
     }
 }
 

@@ -1,6 +1,9 @@
+use Rattle.std.proofs.Common.{sym}
+use Rattle.dnp_objects.specs.Events.{IsEvent}
 use Rattle.dnp_appfragment.specs.Headers.{count_of}
 use Rattle.dnp_appfragment.specs.Meaning.{row_in}
 use Rattle.dnp_appfragment.specs.Seen.{head}
+use Rattle.dnp_appfragment.proofs.EventRows.{walked, all_walked}
 use Rattle.dnp_appfragment.proofs.Walked.{long_as, no_longer, row_past, row_there_in}
 use Rattle.dnp_appfragment.proofs.header.Header.rows.Goals as goal
 
@@ -14,3 +17,14 @@ returns-clause-counted c = λ has.
     let h = c.args.self.now in
     long_as c.new.result (row_in (head h)) (count_of h.range) c.new.ensures (λ k. row_there_in h.group h.variation h.range h.octets.now k has)
     (row_past h.group h.variation h.range h.octets.now)
+
+pub returns-clause-all : goal.returns-clause-all
+returns-clause-all c =
+    let h = head c.args.self.now in
+    sym (walked c.new.result (row_in h) (count_of h.range) c.new.ensures (returns-clause-few c))
+
+pub returns-clause-events : goal.returns-clause-events
+returns-clause-events c =
+    let h = head c.args.self.now in
+    all_walked IsEvent c.new.result (row_in h) c.new.ensures (λ k row is. c.rows_are_events.ensures h k row
+    ((c.objects_say_rows_and_commands.ensures.row h k row c.a_slice_is_of_octets.ensures.each).0 is))
