@@ -15,12 +15,10 @@ use Rattle.dnp_appfragment.specs.Headers.{Head}
 use Rattle.dnp_outstation.specs.declared.offer.place.Place.{Place}
 use Rattle.dnp_outstation.specs.Items.{Source, Static, statics_of, in_range, is_within, Part, part_of, Item, at_most, less, rows_left, event_of, event_items, present_of, given_after, part_items, items_of, part_after, parts_left, items_left, enabled_lanes, lane_items}
 use Rattle.dnp_outstation.specs.Items.Part.{RowsOf, StaticsOf}
-use Rattle.dnp_outstation.specs.Layout.{fits_fragment}
 use Rattle.dnp_outstation.specs.Offer.{held_of}
 use Rattle.dnp_outstation.specs.Said.{CanStand, AreWritable}
 use Rattle.dnp_outstation.proofs.ByLanes.{IsLow}
-use Rattle.dnp_outstation.proofs.Longest.{begins_with}
-use Rattle.dnp_outstation.proofs.Left.{All-first}
+use Rattle.dnp_outstation.proofs.HeldItems.{held_begins}
 
 abbrev AreLow : List ℕ → Type 0
 AreLow [] = Unit {0}
@@ -115,9 +113,7 @@ items_are Q s stood given header (part ∷ parts) all are =
 
 -- of the items of a fragment too
 held_are : (Q : Item → Type 0) (items : List Item) → All Q items → All Q (held_of items)
-unfolding held_of
-held_are Q items all =
-    All-first Q (held_of items) (drop (length (held_of items)) items) (subst (All Q) (begins_with fits_fragment items refl) all)
+held_are Q items all = subst (All Q) (held_begins items) (All-take Q (length (held_of items)) items all)
 
 left_are : (Q : Item → Type 0) (s : Source) (stood : ℕ) (place : Place) (headers : List Head) → AreAll Q s
     → All Q (items_left s stood place headers)

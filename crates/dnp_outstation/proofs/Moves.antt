@@ -19,9 +19,9 @@ use Rattle.dnp_outstation.specs.Layout.{object_of, fits_fragment, response_size}
 use Rattle.dnp_outstation.specs.Offer.{held_of, offered_of, offered}
 use Rattle.dnp_outstation.specs.Said.{CanStand, AreWritable}
 use Rattle.dnp_outstation.proofs.Grows.{one_size}
+use Rattle.dnp_outstation.proofs.HeldItems.{held_longest}
 use Rattle.dnp_outstation.proofs.ItemsOf.{left_stand}
 use Rattle.dnp_outstation.proofs.Left.{left_none}
-use Rattle.dnp_outstation.proofs.Longest.{longest_longest}
 use Rattle.dnp_outstation.proofs.Written.{PutLaws, stands_alone}
 
 -- ---- no object is long
@@ -92,10 +92,9 @@ one_fits law x can = le-leb (response_size (x ∷ [])) MAX_FRAGMENT (small x.hea
         omega (arith, one_size y)
 
 held_some : PutLaws → (items : List Item) → All CanStand items → held_of items ≡ [] → items ≡ []
-unfolding held_of
 held_some law [] can none = refl
 held_some law (x ∷ xs) can none =
-    let found = longest_longest fits_fragment (x ∷ xs) refl in
+    let found = held_longest (x ∷ xs) in
     let over : fits_fragment (x ∷ []) ≡ false = found.more 1 (omega (arith, ap length none)) (omega arith) in
     absurd (let fits : fits_fragment (x ∷ []) ≡ true = one_fits law x (All-head CanStand x xs can) in cc)
 

@@ -21,9 +21,9 @@ use Rattle.dnp_outstation.specs.Laws.{AreRowsUpto, IsTidy}
 use Rattle.dnp_outstation.specs.Said.{rows_said, events_in, CanStand, AreWritable}
 use Rattle.dnp_outstation.proofs.ByLanes.{IsLow, same_by_lanes}
 use Rattle.dnp_outstation.proofs.Carried.{fragment_rows, pushed_rows, released_rows}
+use Rattle.dnp_outstation.proofs.HeldItems.{held_longest}
 use Rattle.dnp_outstation.proofs.ItemsOf.{held_stand, held_low, pushed_stand, pushed_low}
 use Rattle.dnp_outstation.proofs.LaneRows.{length_given}
-use Rattle.dnp_outstation.proofs.Longest.{longest_longest}
 use Rattle.dnp_outstation.proofs.SaidRows.{EventsAreSaid, headers_say}
 use Rattle.dnp_outstation.proofs.Written.{PutLaws, items_written}
 
@@ -53,8 +53,7 @@ response_is law said answered items headers_are control function can fit =
 
 -- what is held fits
 pub held_fits : (items : List Item) → fits_fragment (held_of items) ≡ true
-unfolding held_of
-held_fits items = (longest_longest fits_fragment items refl).fits
+held_fits items = (held_longest items).fits
 
 pub nine_ids : (items : List Item) → length (last_ids items) ≡ LANES
 nine_ids items = length_given no_ids items

@@ -16,6 +16,7 @@ use Rattle.dnp_outstation.specs.Items.Thing.{Event, Present}
 use Rattle.dnp_outstation.specs.Layout.{Stretch, alone, fits_fragment, goes_on, header_of, headers_of, in_front, object_of, range_of, stretches}
 use Rattle.dnp_outstation.specs.Offer.{Filled, held_of, last_ids, longest_up_to, offered, offered_of}
 use Rattle.dnp_outstation.specs.Said.{event_in, events_in}
+use Rattle.dnp_outstation.proofs.HeldItems.{held_begins}
 use Rattle.dnp_world.specs.Polled.{are_all_polled, polled_held, polled_ids, polled_items, polled_rows}
 use Rattle.dnp_world.specs.Rounds.{events_polled}
 use Rattle.dnp_world.proofs.PolledItems.{by_class, of_lanes, plain_item, plain_read, read_items}
@@ -144,17 +145,8 @@ unfolding held_of
 plain_held xs all =
     ap (λ (n : ℕ). longest_up_to fits_fragment n (map plain_item xs)) (length-map xs plain_item) ∙ plain_longest (length xs) xs all
 
-rows_longest : (n : ℕ) (xs : List Item) → AreRows xs → AreRows (longest_up_to fits_fragment n xs)
-rows_longest zero xs all = tt
-rows_longest (suc n) xs all = by (fits_fragment (take (suc n) xs)) (rows_longest n xs all)
-  where
-    by : (b : Bool) → AreRows (longest_up_to fits_fragment n xs) → AreRows (if b then take (suc n) xs else longest_up_to fits_fragment n xs)
-    by true fewer = rows_first (suc n) xs all
-    by false fewer = fewer
-
 rows_held : (xs : List Item) → AreRows xs → AreRows (held_of xs)
-unfolding held_of
-rows_held xs all = rows_longest (length xs) xs all
+rows_held xs all = subst AreRows (held_begins xs) (rows_first (length (held_of xs)) xs all)
 
 plain_events : (xs : List Item) → events_in (map plain_item xs) ≡ events_in xs
 plain_events [] = refl
