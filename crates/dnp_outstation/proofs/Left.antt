@@ -13,6 +13,7 @@ use Rattle.dnp_appfragment.specs.Headers.{Head}
 use Rattle.dnp_objects.specs.declared.limits.TheConstants.{LANES}
 use Rattle.dnp_outstation.specs.declared.offer.place.Place.{Place}
 use Rattle.dnp_outstation.specs.Items.{Item, Source, no_ids, given_after, place_after, rows_left, items_left}
+use Rattle.dnp_outstation.specs.Layout.{Laid, item_of}
 use Rattle.dnp_outstation.specs.Offer.{held_of, last_ids, filled_with, offered_of, offered}
 use Rattle.dnp_outstation.specs.Laws.{rows_in_lane, AreNext, IsOnward, AreGiven, AreBefore, IsTidy, LeavesOnly}
 use Rattle.dnp_outstation.proofs.HeldItems.{held_none, held_whole}
@@ -301,7 +302,7 @@ begins_used s = All-replicate (λ (id : ℕ). id ≤ s.last_id) LANES 0 (omega a
 pub none_left : (place : Place) (items : List Item) → items ≡ [] → offered_of place items ≡ record { headers = []; upto = no_ids; left = None }
 unfolding offered_of
 none_left place items none =
-    ap (offered_of place) none ∙ ap (λ (held : List Item). filled_with (length held == 0) place held) held_none
+    ap (offered_of place) none ∙ ap (λ (held : List Laid). filled_with (length (map item_of held) == 0) place held) held_none
 
 whole_by : {A : Type 0} (b : Bool) (x : A) → (if b then None else Some x) ≡ None → b ≡ true
 whole_by true x is = refl
