@@ -13,13 +13,12 @@ use Rattle.dnp_objects.specs.declared.row.Row.{Row}
 use Rattle.dnp_appfragment.specs.Headers.{Head}
 use Rattle.dnp_outstation.specs.declared.offer.place.Place.{Place}
 use Rattle.dnp_outstation.specs.Items.{Item, Source, no_ids, event_of, rows_left, parts_left, part_of, items_left, enabled_lanes, lane_items}
-use Rattle.dnp_outstation.specs.Layout.{fits_fragment}
 use Rattle.dnp_outstation.specs.Offer.{held_of, last_ids, offered_of, offered, pushed}
 use Rattle.dnp_outstation.specs.Laws.{row_in, rows_in_lane, lane_numbers, rows_by_lane, AreRowsUpto, IsTidy}
+use Rattle.dnp_outstation.proofs.HeldItems.{held_first}
 use Rattle.dnp_outstation.proofs.Rising.{Rising, last_or, over, upto, rising_from, over_all, upto_first, upto_last}
 use Rattle.dnp_outstation.proofs.LaneRows.{Starts, starts_of_start, rows_at, rows_elsewhere, IsApart, IsOnce, last_given, item_rows}
 use Rattle.dnp_outstation.proofs.ReadLanes.{read_once, enabled_once}
-use Rattle.dnp_outstation.proofs.Longest.{begins_with}
 
 -- the ids of a lane's rows rise
 pub lane_rises : (s : Stock) (lane : ℕ) → IsSound s → lane < LANES → Rising 0 (lane_at s lane).rows
@@ -29,12 +28,11 @@ lane_rises s lane sound low =
 
 -- what is held is a beginning of the items
 pub held_rows : (items : List Item) (lane : ℕ) → Starts (rows_in_lane lane (held_of items)) (rows_in_lane lane items)
-unfolding held_of
 held_rows items lane =
     let rest = drop (length (held_of items)) items in
     record {
       rest = rows_in_lane lane rest;
-      is = ap (rows_in_lane lane) (begins_with fits_fragment items refl) ∙ filter_map-append (row_in lane) (held_of items) rest;
+      is = ap (rows_in_lane lane) (held_first items) ∙ filter_map-append (row_in lane) (held_of items) rest;
     }
 
 pub last_id_is : (items : List Item) (lane : ℕ) → lane < LANES → slice_index (last_ids items) lane ≡ last_or 0 (rows_in_lane lane items)

@@ -1,19 +1,19 @@
 -- What is filled item by item is what is offered: the longest beginning of the items that fits.
-use Rattle.std.proofs.Common.{◌≡◌, Bool, true, false, if◌then◌else◌, refl, sym, ◌∙◌, ap, ℕ, ◌==◌, List, [], ◌∷◌, ◌++◌, take, length, arith, append_assoc, append-nil, eq-eqb, ne_eqb, None, Some}
-use Rattle.std.proofs.lemmas.List.{length-append}
+use Rattle.std.proofs.Common.{◌≡◌, Bool, true, false, if◌then◌else◌, refl, sym, ◌∙◌, ap, ℕ, ◌==◌, List, [], ◌∷◌, ◌++◌, map, take, length, arith, append_assoc, append-nil, eq-eqb, ne_eqb, None, Some}
+use Rattle.std.proofs.lemmas.List.{length-append, length-map}
 use Rattle.dnp_appfragment.specs.Headers.{Head}
 use Rattle.dnp_outstation.specs.declared.offer.place.Place.{Place}
 use Rattle.dnp_outstation.specs.declared.offer.writer.Writer.{Writer}
 use Rattle.dnp_outstation.specs.Items.{Item}
-use Rattle.dnp_outstation.specs.Layout.{fits_fragment}
-use Rattle.dnp_outstation.specs.Offer.{longest, held_of, Filled, filled_with, offered_of}
-use Rattle.dnp_outstation.specs.Filling.{empty_from, put, fits, ended, fill}
+use Rattle.dnp_outstation.specs.Layout.{Laid, item_of, lay, laid, fits_fragment}
+use Rattle.dnp_outstation.specs.Offer.{longest, held_laid, Filled, filled_with, offered_of}
+use Rattle.dnp_outstation.specs.Filling.{empty_from, put_laid, fits, ended, fill_laid, fill}
 use Rattle.dnp_outstation.proofs.Grows.{fits_begins}
 use Rattle.dnp_outstation.proofs.Longest.{longest_is}
 use Rattle.dnp_outstation.proofs.Taken.{Holds, heads_are, empty_holds, put_holds, fits_is}
 
 -- what ends with these items
-ended_is : (is_last : Bool) (place : Place) (w : Writer) (items : List Item) → Holds place w items → ended is_last w ≡ filled_with is_last place items
+ended_is : (is_last : Bool) (place : Place) (w : Writer) (items : List Laid) → Holds place w items → ended is_last w ≡ filled_with is_last place items
 ended_is is_last place w items holds =
     ap (λ (hs : List Head). let f : Filled = record { headers = hs; upto = w.upto; left = if is_last then None else Some w.place } in f)
     (heads_are place w items holds)
@@ -31,48 +31,48 @@ ended_is is_last place w items holds =
     } in f) holds.place_is
 
 -- the longest beginning of these items, put together
-abbrev offered_with : Place → List Item → List Item → Filled
+abbrev offered_with : Place → List Laid → List Laid → Filled
 offered_with place items held = filled_with (length held == length items) place held
 
-filled : (place : Place) (w : Writer) (items left : List Item) → Holds place w items → fits w ≡ true
-    → fill w left ≡ offered_with place (items ++ left) (longest fits_fragment (items ++ left))
+filled : (place : Place) (w : Writer) (items left : List Laid) → Holds place w items → fits w ≡ true
+    → fill_laid w left ≡ offered_with place (items ++ left) (longest fits_fragment (items ++ left))
 filled place w items [] holds fit =
     let fits_all : fits_fragment items ≡ true = sym (fits_is place w items holds) ∙ fit in
     let all : longest fits_fragment (items ++ []) ≡ items = longest_is fits_fragment items [] fits_all (λ m low. absurd (omega arith)) in
     let same : (length items == length (items ++ [])) ≡ true = eq-eqb _ _ (ap length (sym (append-nil items))) in
     ended_is true place w items holds
     ∙ ap (λ (b : Bool). filled_with b place items) (sym same)
-    ∙ ap (λ (held : List Item). offered_with place (items ++ []) held) (sym all)
-filled place w items (y ∷ ys) holds fit = by (filled place (put w y) (items ++ y ∷ []) ys after) (fits (put w y)) refl
+    ∙ ap (λ (held : List Laid). offered_with place (items ++ []) held) (sym all)
+filled place w items (y ∷ ys) holds fit = by (filled place (put_laid w y) (items ++ y ∷ []) ys after) (fits (put_laid w y)) refl
   where
-    after : Holds place (put w y) (items ++ y ∷ [])
+    after : Holds place (put_laid w y) (items ++ y ∷ [])
     after = put_holds place w items y holds fit
 
     goal : Filled
     goal = offered_with place (items ++ y ∷ ys) (longest fits_fragment (items ++ y ∷ ys))
 
-    more_fits : fits (put w y) ≡ fits_fragment (items ++ y ∷ [])
-    more_fits = fits_is place (put w y) (items ++ y ∷ []) after
+    more_fits : fits (put_laid w y) ≡ fits_fragment (items ++ y ∷ [])
+    more_fits = fits_is place (put_laid w y) (items ++ y ∷ []) after
 
-    by : (fits (put w y) ≡ true
-        → fill (put w y) ys ≡ offered_with place ((items ++ y ∷ []) ++ ys) (longest fits_fragment ((items ++ y ∷ []) ++ ys)))
-        → (b : Bool) → fits (put w y) ≡ b → fill w (y ∷ ys) ≡ goal
+    by : (fits (put_laid w y) ≡ true
+        → fill_laid (put_laid w y) ys ≡ offered_with place ((items ++ y ∷ []) ++ ys) (longest fits_fragment ((items ++ y ∷ []) ++ ys)))
+        → (b : Bool) → fits (put_laid w y) ≡ b → fill_laid w (y ∷ ys) ≡ goal
     by behind true within =
-        ap (λ (b : Bool). if b then fill (put w y) ys else ended false w) within
+        ap (λ (b : Bool). if b then fill_laid (put_laid w y) ys else ended false w) within
         ∙ behind within
-        ∙ ap (λ (all : List Item). offered_with place all (longest fits_fragment all)) (append_assoc items (y ∷ []) ys)
+        ∙ ap (λ (all : List Laid). offered_with place all (longest fits_fragment all)) (append_assoc items (y ∷ []) ys)
     by behind false past_end =
         let fits_now : fits_fragment items ≡ true = sym (fits_is place w items holds) ∙ fit in
         let past : fits_fragment (items ++ y ∷ []) ≡ false = sym more_fits ∙ past_end in
         let none : longest fits_fragment (items ++ y ∷ ys) ≡ items =
         longest_is fits_fragment items (y ∷ ys) fits_now (λ m low. over (take m ys) past (fits_fragment (items ++ y ∷ take m ys)) refl) in
         let fewer : (length items == length (items ++ y ∷ ys)) ≡ false = ne_eqb _ _ (λ e. let l = length-append items (y ∷ ys) in omega arith) in
-        ap (λ (b : Bool). if b then fill (put w y) ys else ended false w) past_end
+        ap (λ (b : Bool). if b then fill_laid (put_laid w y) ys else ended false w) past_end
         ∙ ended_is false place w items holds
         ∙ ap (λ (b : Bool). filled_with b place items) (sym fewer)
-        ∙ ap (λ (held : List Item). offered_with place (items ++ y ∷ ys) held) (sym none)
+        ∙ ap (λ (held : List Laid). offered_with place (items ++ y ∷ ys) held) (sym none)
       where
-        over : (zs : List Item) → fits_fragment (items ++ y ∷ []) ≡ false → (b : Bool) → fits_fragment (items ++ y ∷ zs) ≡ b → b ≡ false
+        over : (zs : List Laid) → fits_fragment (items ++ y ∷ []) ≡ false → (b : Bool) → fits_fragment (items ++ y ∷ zs) ≡ b → b ≡ false
         over zs past true it =
             absurd (let short : fits_fragment (items ++ y ∷ [])
             ≡ true = fits_begins (items ++ y ∷ []) zs (ap fits_fragment (append_assoc items (y ∷ []) zs) ∙ it) in cc)
@@ -80,5 +80,9 @@ filled place w items (y ∷ ys) holds fit = by (filled place (put w y) (items ++
 
 -- from a place on
 pub fill_offers : (place : Place) (items : List Item) → fill (empty_from place) items ≡ offered_of place items
-unfolding offered_of held_of
-fill_offers place items = filled place (empty_from place) [] items (empty_holds place) refl
+unfolding offered_of held_laid
+fill_offers place items =
+    let held = longest fits_fragment (laid items) in
+    filled place (empty_from place) [] (laid items) (empty_holds place) refl
+    ∙ ap (λ (n : ℕ). filled_with (n == length (laid items)) place held) (sym (length-map held item_of))
+    ∙ ap (λ (n : ℕ). filled_with (length (map item_of held) == n) place held) (length-map items lay)

@@ -4,12 +4,12 @@ use Rattle.std.specs.List.{flat_map}
 use Rattle.std.proofs.lemmas.Bool.{leb-true, le-leb}
 use Rattle.std.proofs.lemmas.List.{length-append}
 use Rattle.dnp_appfragment.specs.Headers.{header_octets, spelled}
-use Rattle.dnp_appfragment.specs.Items.{item_octets}
+use Rattle.dnp_appfragment.specs.Items.{Item as Object, item_octets}
 use Rattle.dnp_objects.specs.declared.limits.TheConstants.{MAX_FRAGMENT}
-use Rattle.dnp_outstation.specs.Items.{Thing, Item}
+use Rattle.dnp_outstation.specs.Items.{Thing}
 use Rattle.dnp_outstation.specs.Items.Thing.{Event, Present}
-use Rattle.dnp_outstation.specs.Layout.{object_of, goes_on, Stretch, alone, in_front, stretches, range_of, header_of, response_size, fits_fragment}
-use Rattle.dnp_outstation.proofs.Stretches.{begins, in_front_on, in_front_off}
+use Rattle.dnp_outstation.specs.Layout.{Laid, object_of, goes_on, Stretch, alone, in_front, stretches, range_of, header_of, response_size, fits_fragment}
+use Rattle.dnp_outstation.proofs.Stretches.{laid_as, begins, in_front_on, in_front_off}
 
 abbrev size_of : List Stretch → ℕ
 size_of found = length (spelled (map header_of found))
@@ -19,51 +19,51 @@ abbrev pub overhead : Thing → ℕ
 overhead (Event lane row) = 5
 overhead (Present static) = 7
 
-abbrev body : Thing → List Item → List ℕ
+abbrev body : Thing → List Laid → List ℕ
 body t xs = flat_map (item_octets (range_of t 0)) (map object_of xs)
 
-abbrev pub own : Item → ℕ
-own x = length (item_octets (range_of x.thing 0) (object_of x))
+abbrev pub own : Laid → ℕ
+own x = length (item_octets (range_of x.item.thing 0) (object_of x))
 
-one_header : (s : Stretch) → length (header_octets (header_of s)) ≡ overhead s.first.thing + length (body s.first.thing (s.first ∷ s.more))
-one_header s = go s.first.header s.first.thing
+one_header : (s : Stretch) → length (header_octets (header_of s)) ≡ overhead s.first.item.thing + length (body s.first.item.thing (s.first ∷ s.more))
+one_header s = go s.first.item.header s.first.item.thing s.first.object
   where
-    go : (header : ℕ) (thing : Thing) → (let x : Item = record { header = header; thing = thing } in
+    go : (header : ℕ) (thing : Thing) (o : Object) → (let x : Laid = laid_as header thing o in
         length (header_octets (header_of (record { first = x; more = s.more }))) ≡ overhead thing + length (body thing (x ∷ s.more)))
-    go header (Event lane row) = omega arith
-    go header (Present static) = omega arith
+    go header (Event lane row) o = omega arith
+    go header (Present static) o = omega arith
 
 -- whether an item goes on with the first of the others
-abbrev goes_first : Item → List Stretch → Bool
+abbrev goes_first : Laid → List Stretch → Bool
 goes_first x [] = false
 goes_first x (next ∷ others) = goes_on x next.first
 
-abbrev added : Item → Bool → ℕ
-added x b = if b then 0 else overhead x.thing
+abbrev added : Laid → Bool → ℕ
+added x b = if b then 0 else overhead x.item.thing
 
 -- items of one header have headers of one kind
 record IsAlike (t t' : Thing) : Type 0 where
   overheads : overhead t ≡ overhead t'
-  bodies : (xs : List Item) → body t xs ≡ body t' xs
+  bodies : (xs : List Laid) → body t xs ≡ body t' xs
 
-alike : (x y : Item) → goes_on x y ≡ true → IsAlike x.thing y.thing
-alike x y on = go x.header y.header x.thing y.thing on
+alike : (x y : Laid) → goes_on x y ≡ true → IsAlike x.item.thing y.item.thing
+alike x y on = go x.item.thing y.item.thing on
   where
-    go : (h h' : ℕ) (t t' : Thing) → goes_on (record { header = h; thing = t }) (record { header = h'; thing = t' }) ≡ true → IsAlike t t'
-    go h h' (Event lane a) (Event lane' b) is = record { overheads = refl; bodies = λ xs. refl }
-    go h h' (Event lane a) (Present b) is = cc
-    go h h' (Present a) (Event lane' b) is = cc
-    go h h' (Present a) (Present b) is = record { overheads = refl; bodies = λ xs. refl }
+    go : (t t' : Thing) → goes_on (laid_as x.item.header t x.object) (laid_as y.item.header t' y.object) ≡ true → IsAlike t t'
+    go (Event lane a) (Event lane' b) is = record { overheads = refl; bodies = λ xs. refl }
+    go (Event lane a) (Present b) is = cc
+    go (Present a) (Event lane' b) is = cc
+    go (Present a) (Present b) is = record { overheads = refl; bodies = λ xs. refl }
 
 -- ---- an item in front
 
-size_in_front : (x : Item) (found : List Stretch) → size_of (in_front x found) ≡ own x + added x (goes_first x found) + size_of found
+size_in_front : (x : Laid) (found : List Stretch) → size_of (in_front x found) ≡ own x + added x (goes_first x found) + size_of found
 size_in_front x [] =
     let one = one_header (alone x) in
     let plain : length (header_octets (header_of (alone x)) ++ []) ≡ length (header_octets (header_of (alone x))) =
     ap length (append-nil (header_octets (header_of (alone x)))) in
-    let alone_body : length (item_octets (range_of x.thing 0) (object_of x) ++ []) ≡ own x =
-    ap length (append-nil (item_octets (range_of x.thing 0) (object_of x))) in
+    let alone_body : length (item_octets (range_of x.item.thing 0) (object_of x) ++ []) ≡ own x =
+    ap length (append-nil (item_octets (range_of x.item.thing 0) (object_of x))) in
     omega arith
 size_in_front x (next ∷ others) = by (goes_on x next.first) refl
   where
@@ -84,53 +84,53 @@ size_in_front x (next ∷ others) = by (goes_on x next.first) refl
         let b = split next in
         let one = one_header longer in
         let two = one_header next in
-        let body_is : length (body x.thing (x ∷ next.first ∷ next.more)) ≡ own x + length (body x.thing (next.first ∷ next.more)) =
-        length-append (item_octets (range_of x.thing 0) (object_of x)) (body x.thing (next.first ∷ next.more)) in
-        let moved : length (body x.thing (next.first ∷ next.more)) ≡ length (body next.first.thing (next.first ∷ next.more)) =
+        let body_is : length (body x.item.thing (x ∷ next.first ∷ next.more)) ≡ own x + length (body x.item.thing (next.first ∷ next.more)) =
+        length-append (item_octets (range_of x.item.thing 0) (object_of x)) (body x.item.thing (next.first ∷ next.more)) in
+        let moved : length (body x.item.thing (next.first ∷ next.more)) ≡ length (body next.first.item.thing (next.first ∷ next.more)) =
         ap length (same.bodies (next.first ∷ next.more)) in
-        let heads : overhead x.thing ≡ overhead next.first.thing = same.overheads in
+        let heads : overhead x.item.thing ≡ overhead next.first.item.thing = same.overheads in
         omega arith
     by false off =
         let front : size_of (in_front x (next ∷ others)) ≡ size_of (alone x ∷ next ∷ others) = ap size_of (in_front_off x next.first next.more others off) in
         let a : size_of (alone x ∷ next ∷ others) ≡ length (header_octets (header_of (alone x))) + size_of (next ∷ others) =
         length-append (header_octets (header_of (alone x))) (spelled (map header_of (next ∷ others))) in
         let one = one_header (alone x) in
-        let alone_body : length (item_octets (range_of x.thing 0) (object_of x) ++ []) ≡ own x =
-        ap length (append-nil (item_octets (range_of x.thing 0) (object_of x))) in
+        let alone_body : length (item_octets (range_of x.item.thing 0) (object_of x) ++ []) ≡ own x =
+        ap length (append-nil (item_octets (range_of x.item.thing 0) (object_of x))) in
         omega arith
 
 -- whether an item goes on with the first of other items
-abbrev goes_with : Item → List Item → Bool
+abbrev goes_with : Laid → List Laid → Bool
 goes_with x [] = false
 goes_with x (y ∷ ys) = goes_on x y
 
-first_is : (x : Item) (xs : List Item) → goes_first x (stretches xs) ≡ goes_with x xs
+first_is : (x : Laid) (xs : List Laid) → goes_first x (stretches xs) ≡ goes_with x xs
 first_is x [] = refl
 first_is x (y ∷ ys) = ap (goes_first x) (begins y ys).is
 
-abbrev size_with : List Item → ℕ
+abbrev size_with : List Laid → ℕ
 size_with xs = size_of (stretches xs)
 
-size_more : (x : Item) (xs : List Item) → size_with (x ∷ xs) ≡ own x + added x (goes_with x xs) + size_with xs
+size_more : (x : Laid) (xs : List Laid) → size_with (x ∷ xs) ≡ own x + added x (goes_with x xs) + size_with xs
 size_more x xs = size_in_front x (stretches xs) ∙ ap (λ (b : Bool). own x + added x b + size_with xs) (first_is x xs)
 
 -- there is room for the first header
-at_least : (x : Item) (xs : List Item) → overhead x.thing ≤ size_with (x ∷ xs)
+at_least : (x : Laid) (xs : List Laid) → overhead x.item.thing ≤ size_with (x ∷ xs)
 at_least x [] = omega (arith, size_more x [])
 at_least x (y ∷ ys) = by (at_least y ys) (goes_on x y) refl
   where
-    by : overhead y.thing ≤ size_with (y ∷ ys) → (b : Bool) → goes_on x y ≡ b → overhead x.thing ≤ size_with (x ∷ y ∷ ys)
+    by : overhead y.item.thing ≤ size_with (y ∷ ys) → (b : Bool) → goes_on x y ≡ b → overhead x.item.thing ≤ size_with (x ∷ y ∷ ys)
     by behind true on =
         let more : size_with (x ∷ y ∷ ys) ≡ own x + added x true + size_with (y ∷ ys) =
         size_more x (y ∷ ys) ∙ ap (λ (b : Bool). own x + added x b + size_with (y ∷ ys)) on in
-        let same : overhead x.thing ≡ overhead y.thing = (alike x y on).overheads in
+        let same : overhead x.item.thing ≡ overhead y.item.thing = (alike x y on).overheads in
         omega arith
     by behind false off =
         let more : size_with (x ∷ y ∷ ys) ≡ own x + added x false + size_with (y ∷ ys) =
         size_more x (y ∷ ys) ∙ ap (λ (b : Bool). own x + added x b + size_with (y ∷ ys)) off in
         omega arith
 
-sizes_grow : (xs ys : List Item) → size_with xs ≤ size_with (xs ++ ys)
+sizes_grow : (xs ys : List Laid) → size_with xs ≤ size_with (xs ++ ys)
 sizes_grow [] ys = omega arith
 sizes_grow (x ∷ []) [] = omega arith
 sizes_grow (x ∷ []) (y ∷ ys) = by (goes_on x y) refl
@@ -141,7 +141,7 @@ sizes_grow (x ∷ []) (y ∷ ys) = by (goes_on x y) refl
         let more : size_with (x ∷ y ∷ ys) ≡ own x + added x true + size_with (y ∷ ys) =
         size_more x (y ∷ ys) ∙ ap (λ (b : Bool). own x + added x b + size_with (y ∷ ys)) on in
         let behind = at_least y ys in
-        let same : overhead x.thing ≡ overhead y.thing = (alike x y on).overheads in
+        let same : overhead x.item.thing ≡ overhead y.item.thing = (alike x y on).overheads in
         omega arith
     by false off =
         let one = size_more x [] in
@@ -154,15 +154,15 @@ sizes_grow (x ∷ z ∷ xs) ys =
     let rest = sizes_grow (z ∷ xs) ys in
     omega arith
 
-pub response_grows : (xs ys : List Item) → response_size xs ≤ response_size (xs ++ ys)
+pub response_grows : (xs ys : List Laid) → response_size xs ≤ response_size (xs ++ ys)
 response_grows xs ys = let e = sizes_grow xs ys in omega arith
 
-pub fits_begins : (xs ys : List Item) → fits_fragment (xs ++ ys) ≡ true → fits_fragment xs ≡ true
+pub fits_begins : (xs ys : List Laid) → fits_fragment (xs ++ ys) ≡ true → fits_fragment xs ≡ true
 fits_begins xs ys fit =
     let within = leb-true (response_size (xs ++ ys)) MAX_FRAGMENT fit in
     let grows = response_grows xs ys in
     le-leb (response_size xs) MAX_FRAGMENT (omega arith)
 
 -- one item's response: the front, a header, the object
-pub one_size : (x : Item) → response_size (x ∷ []) ≡ 4 + (own x + overhead x.thing)
+pub one_size : (x : Laid) → response_size (x ∷ []) ≡ 4 + (own x + overhead x.item.thing)
 one_size x = omega (arith, size_more x [])

@@ -1,11 +1,14 @@
 -- Rows that are held while a row is appended are, with it, the rows of the lanes after that.
 use Rattle.std.proofs.Common.{◌≡◌, inl, inr, ℕ, zero, suc, ◌+◌, ◌<◌, ◌≤◌, ◌==◌, ◌&&◌, not, Bool, true, false, if◌then◌else◌, List, [], ◌∷◌, ◌++◌, map, length, get_or, set, take, drop, nat_lt, nat_le, Option, None, Some, refl, sym, ap, subst, ◌∙◌, arith, append_assoc, append-nil, eq-eqb, ne_eqb}
 use Rattle.std.specs.Prelude.{option_to_list}
+use Rattle.std.specs.List.{All}
 use Rattle.std.proofs.lemmas.Bool.{cases_eq, leb-true}
 use Rattle.std.proofs.lemmas.Bool.Decides.{nat_tests}
 use Rattle.std.proofs.lemmas.List.{take-append-drop, map-append, get_or-set_same, get_or-set_other}
+use Rattle.std.proofs.lemmas.List.Elements.{All-drop}
 use Rattle.dnp_objects.specs.declared.lane.LaneRow.{LaneRow}
-use Rattle.dnp_objects.specs.declared.limits.TheConstants.{LANES}
+use Rattle.dnp_objects.specs.declared.limits.TheConstants.{LANES, MAX_FRAGMENT}
+use Rattle.dnp_objects.specs.declared.row.Kind.{Kind}
 use Rattle.dnp_objects.specs.declared.row.Row.{Row}
 use Rattle.dnp_objects.specs.Lanes.{lane_number}
 use Rattle.dnp_eventbuf.specs.declared.numbered.Numbered.{Numbered}
@@ -15,9 +18,10 @@ use Rattle.dnp_outstation.specs.declared.held.NewRow.{NewRow}
 use Rattle.dnp_outstation.specs.declared.offer.writer.Writer.{Writer}
 use Rattle.dnp_outstation.specs.Items.{Item, event_of, class_lanes, enabled_lanes, lane_items}
 use Rattle.dnp_outstation.specs.Filling.{put, fill}
-use Rattle.dnp_outstation.specs.Holding.{new_of, kept_of, more_of}
-use Rattle.dnp_outstation.specs.Putting.{Puts}
+use Rattle.dnp_outstation.specs.Holding.{AreFirst, new_of, kept_of, more_of}
+use Rattle.dnp_outstation.specs.Putting.{Puts, least_of}
 use Rattle.dnp_outstation.proofs.LeftLanes.{last_is}
+use Rattle.dnp_outstation.proofs.OfferRoom.{of_one_kind, take_whole}
 use Rattle.dnp_outstation.proofs.Pushing.{lanes_both}
 use Rattle.dnp_outstation.proofs.Rising.{last_or}
 
@@ -53,11 +57,14 @@ kept_length rows (Some new) lane = by (new.lane == lane && new.has_dropped) rows
     by true (x ∷ xs) = omega arith
     by false rows = omega arith
 
--- fewer than were asked for are all
-take_whole : (n : ℕ) (rows : List Numbered) → length (take n rows) < n → take n rows ≡ rows
-take_whole zero rows few = absurd (omega arith)
-take_whole (suc n) [] few = refl
-take_whole (suc n) (x ∷ xs) few = ap (λ (l : List Numbered). x ∷ l) (take_whole n xs (omega arith))
+kept_kinds : (kind : Kind) (rows : List Numbered) (new : Option NewRow) (lane : ℕ) → All (λ x. x.row.kind ≡ kind) rows
+    → All (λ x. x.row.kind ≡ kind) (kept_of rows new lane)
+kept_kinds kind rows None lane all = all
+kept_kinds kind rows (Some new) lane all = by (new.lane == lane && new.has_dropped)
+  where
+    by : (b : Bool) → All (λ x. x.row.kind ≡ kind) (if b then drop 1 rows else rows)
+    by true = All-drop (λ (x : Numbered). x.row.kind ≡ kind) 1 rows all
+    by false = all
 
 -- where the held rows don't all fit, what comes behind doesn't matter
 pub held_full : (w w' : Writer) (lane most : ℕ) (all rows kept : List Numbered) (new : Option NewRow) → 1 ≤ most → rows ≡ take most all
@@ -77,17 +84,19 @@ held_full w w' lane (suc n) all rows kept new some is kept_is full =
     subst (λ (items : List Item). Puts w items false w') (sym split) (puts_none_more w w' (map event kept) (map event rest) full)
 
 -- where they do, they are all
-pub held_fits : (w v w' : Writer) (lane most : ℕ) (all rows kept : List Numbered) (new : Option NewRow) (fit : Bool) → 1024 ≤ most → rows ≡ take most all
-    → kept ≡ kept_of rows new lane → length kept ≤ 1022 → Puts w (map (event_of 0 lane) kept) true v
+pub held_fits : (w v w' : Writer) (lane : ℕ) (all rows kept : List Numbered) (new : Option NewRow) (fit : Bool) → AreFirst all rows
+    → kept ≡ kept_of rows new lane → least_of kept ≤ MAX_FRAGMENT → Puts w (map (event_of 0 lane) kept) true v
     → Puts v (map (event_of 0 lane) (more_of new lane)) fit w'
     → Puts w (map (event_of 0 lane) (kept_of all new lane ++ more_of new lane)) fit w'
-held_fits w v w' lane most all rows kept new fit many is kept_is few first second =
+held_fits w v w' lane all rows kept new fit firsts kept_is room first second =
     let event : Numbered → Item = event_of 0 lane in
-    let long : length (take most all) ≤ length kept + 1 =
-    subst (λ (l : List Numbered). length l ≤ length kept + 1) is
-    (subst (λ (l : List Numbered). length rows ≤ length l + 1) (sym kept_is) (kept_length rows new lane))
-    in
-    let whole : rows ≡ all = is ∙ take_whole most all (omega arith) in
+    let of_kind : All (λ x. x.row.kind ≡ firsts.kind) kept =
+    subst (All (λ (x : Numbered). x.row.kind ≡ firsts.kind)) (sym kept_is) (kept_kinds firsts.kind rows new lane firsts.of_kind) in
+    let fewer : length kept + 1 < firsts.most = firsts.enough (length kept) (omega (arith, of_one_kind firsts.kind kept of_kind)) in
+    let long : length rows ≤ length kept + 1 =
+    subst (λ (l : List Numbered). length rows ≤ length l + 1) (sym kept_is) (kept_length rows new lane) in
+    let few : length rows < firsts.most = omega arith in
+    let whole : rows ≡ all = firsts.is ∙ take_whole firsts.most all (subst (λ (l : List Numbered). length l < firsts.most) firsts.is few) in
     let same : kept ≡ kept_of all new lane = kept_is ∙ ap (λ (l : List Numbered). kept_of l new lane) whole in
     let split : map event (kept_of all new lane ++ more_of new lane) ≡ map event kept ++ map event (more_of new lane) =
     ap (λ (l : List Numbered). map event (l ++ more_of new lane)) (sym same) ∙ map-append event kept (more_of new lane)

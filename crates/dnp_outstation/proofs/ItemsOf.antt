@@ -15,12 +15,11 @@ use Rattle.dnp_appfragment.specs.Headers.{Head}
 use Rattle.dnp_outstation.specs.declared.offer.place.Place.{Place}
 use Rattle.dnp_outstation.specs.Items.{Source, Static, statics_of, in_range, is_within, Part, part_of, Item, at_most, less, rows_left, event_of, event_items, present_of, given_after, part_items, items_of, part_after, parts_left, items_left, enabled_lanes, lane_items}
 use Rattle.dnp_outstation.specs.Items.Part.{RowsOf, StaticsOf}
-use Rattle.dnp_outstation.specs.Layout.{fits_fragment}
-use Rattle.dnp_outstation.specs.Offer.{held_of}
-use Rattle.dnp_outstation.specs.Said.{CanStand, AreWritable}
+use Rattle.dnp_outstation.specs.Layout.{lay, laid}
+use Rattle.dnp_outstation.specs.Offer.{held_laid, held_of}
+use Rattle.dnp_outstation.specs.Said.{CanStand, CanGo, AreWritable}
 use Rattle.dnp_outstation.proofs.ByLanes.{IsLow}
-use Rattle.dnp_outstation.proofs.Longest.{begins_with}
-use Rattle.dnp_outstation.proofs.Left.{All-first}
+use Rattle.dnp_outstation.proofs.HeldItems.{held_are_laid, held_begins}
 
 abbrev AreLow : List ℕ → Type 0
 AreLow [] = Unit {0}
@@ -115,9 +114,7 @@ items_are Q s stood given header (part ∷ parts) all are =
 
 -- of the items of a fragment too
 held_are : (Q : Item → Type 0) (items : List Item) → All Q items → All Q (held_of items)
-unfolding held_of
-held_are Q items all =
-    All-first Q (held_of items) (drop (length (held_of items)) items) (subst (All Q) (begins_with fits_fragment items refl) all)
+held_are Q items all = subst (All Q) (held_begins items) (All-take Q (length (held_of items)) items all)
 
 left_are : (Q : Item → Type 0) (s : Source) (stood : ℕ) (place : Place) (headers : List Head) → AreAll Q s
     → All Q (items_left s stood place headers)
@@ -176,9 +173,16 @@ pub left_stand : (s : Source) (stood : ℕ) (place : Place) (headers : List Head
     → All CanStand (items_left s stood place headers)
 left_stand s stood place headers sound writable = left_are CanStand s stood place headers (all_stand s sound writable)
 
+-- and so they go
+laid_go : (items : List Item) → All CanStand items → All CanGo (laid items)
+laid_go items all =
+    All-map CanGo lay items (All-weaker CanStand (λ (x : Item). CanGo (lay x)) (λ x can. record { stands = can; says = refl }) items all)
+
 pub held_stand : (s : Source) (stood : ℕ) (place : Place) (headers : List Head) → IsSound s.lanes → AreWritable s
-    → All CanStand (held_of (items_left s stood place headers))
-held_stand s stood place headers sound writable = read_are CanStand s stood place headers (all_stand s sound writable)
+    → All CanGo (held_laid (items_left s stood place headers))
+held_stand s stood place headers sound writable =
+    let items = items_left s stood place headers in
+    held_are_laid CanGo items (laid_go items (left_stand s stood place headers sound writable))
 
 pub held_low : (s : Source) (stood : ℕ) (place : Place) (headers : List Head) → All IsLow (held_of (items_left s stood place headers))
 held_low s stood place headers = read_are IsLow s stood place headers (record {
@@ -188,11 +192,12 @@ held_low s stood place headers = read_are IsLow s stood place headers (record {
 
 pub pushed_stand : (s : Stock) (enabled : List Bool) → IsSound s → length enabled ≤ 3
     → ((lane : ℕ) → lane < LANES → All (λ x. x.row.index < 2 ^ 16) (lane_at s lane).rows)
-    → All CanStand (held_of (lane_items s (enabled_lanes 0 enabled)))
+    → All CanGo (held_laid (lane_items s (enabled_lanes 0 enabled)))
 pushed_stand s enabled sound few short =
-    held_are CanStand (lane_items s (enabled_lanes 0 enabled))
-    (lane_items_are CanStand s (enabled_lanes 0 enabled) (λ lane low k d within. events_stand s lane sound low (short lane low) k d within 0)
-    (enabled_low 0 enabled (omega arith)))
+    let items = lane_items s (enabled_lanes 0 enabled) in
+    held_are_laid CanGo items
+    (laid_go items (lane_items_are CanStand s (enabled_lanes 0 enabled) (λ lane low k d within. events_stand s lane sound low (short lane low) k d within 0)
+    (enabled_low 0 enabled (omega arith))))
 
 pub pushed_low : (s : Stock) (enabled : List Bool) → length enabled ≤ 3 → All IsLow (held_of (lane_items s (enabled_lanes 0 enabled)))
 pushed_low s enabled few =

@@ -7,86 +7,86 @@ use Rattle.std.proofs.lemmas.List.{map_push, flat_map_more, length_push}
 use Rattle.dnp_appfragment.specs.declared.header.Range.{Range}
 use Rattle.dnp_appfragment.specs.declared.header.Range.TheVariants as range
 use Rattle.dnp_appfragment.specs.Headers.{Head}
-use Rattle.dnp_appfragment.specs.Items.{item_octets, event_item}
+use Rattle.dnp_appfragment.specs.Items.{Item as Object, item_octets}
 use Rattle.dnp_appfragment.specs.Joining.{joined, joined_range}
 use Rattle.dnp_appfragment.specs.Written as written
 use Rattle.dnp_outstation.specs.declared.offer.writer.Run.{Run}
 use Rattle.dnp_outstation.specs.declared.offer.writer.Run.TheVariants.{OfLane, OfBlock}
-use Rattle.dnp_outstation.specs.Items.{Thing, Item}
+use Rattle.dnp_outstation.specs.Items.{Thing}
 use Rattle.dnp_outstation.specs.Items.Thing.{Event, Present}
-use Rattle.dnp_outstation.specs.Layout.{object_of, goes_on, header_of}
+use Rattle.dnp_outstation.specs.Layout.{Laid, object_of, is_same_object, goes_on, header_of}
 use Rattle.dnp_outstation.specs.Filling.{is_same_run}
-use Rattle.dnp_outstation.proofs.Stretches.{IsChain, last_item}
+use Rattle.dnp_outstation.proofs.Stretches.{laid_as, IsChain, last_item}
 
 -- the run that an item stands in
-abbrev pub run_at : Item → Run
-run_at x = at x.thing
+abbrev pub run_at : Laid → Run
+run_at x = at x.item.thing
   where
     at : Thing → Run
     at (Event lane row) = OfLane lane
-    at (Present static) = OfBlock x.header static.group static.block
+    at (Present static) = OfBlock x.item.header x.object.group static.block
 
 -- an item as a header of its own
-abbrev pub written_of : Item → Head
-written_of x = of x.thing
+abbrev pub written_of : Laid → Head
+written_of x = of x.item.thing
   where
     of : Thing → Head
-    of (Event lane row) = written.event row.row
-    of (Present static) = written.point static.group static.row
+    of (Event lane row) = written.indexed x.object.group x.object.variation x.object.index x.object.octets
+    of (Present static) = written.spanned x.object.group x.object.variation static.row.index x.object.octets
 
 -- so many places behind another, under the same header
-abbrev pub IsBehind : Item → ℕ → Item → Type 0
-IsBehind x k y = by x.thing y.thing
+abbrev pub IsBehind : Laid → ℕ → Laid → Type 0
+IsBehind x k y = by x.item.thing y.item.thing
   where
     by : Thing → Thing → Type 0
-    by (Event lane a) (Event lane' b) =
-        (lane ≡ lane') × ((event_item a.row).group ≡ (event_item b.row).group) × ((event_item a.row).variation ≡ (event_item b.row).variation)
+    by (Event lane a) (Event lane' b) = (lane ≡ lane') × (x.object.group ≡ y.object.group) × (x.object.variation ≡ y.object.variation)
     by (Event lane a) (Present b) = ⊥
     by (Present a) (Event lane' b) = ⊥
-    by (Present a) (Present b) = (x.header ≡ y.header) × (a.group ≡ b.group) × (a.block ≡ b.block) × (a.row.index + k ≡ b.row.index)
+    by (Present a) (Present b) =
+        (x.object.group ≡ y.object.group) × (x.object.variation ≡ y.object.variation) × (a.row.index + k ≡ b.row.index)
 
-pub behind_itself : (x : Item) → IsBehind x 0 x
-behind_itself x = go x.header x.thing
+pub behind_itself : (x : Laid) → IsBehind x 0 x
+behind_itself x = go x.item.thing
   where
-    go : (header : ℕ) (thing : Thing) → IsBehind (record { header = header; thing = thing }) 0 (record { header = header; thing = thing })
-    go header (Event lane row) = (refl, refl, refl)
-    go header (Present static) = (refl, refl, refl, omega arith)
+    go : (thing : Thing) → (let y : Laid = laid_as x.item.header thing x.object in IsBehind y 0 y)
+    go (Event lane row) = (refl, refl, refl)
+    go (Present static) = (refl, refl, omega arith)
 
-pub behind_on : (x y z : Item) (k m : ℕ) → IsBehind x k y → IsBehind y m z → IsBehind x (k + m) z
-behind_on x y z k m first second = go x.header y.header z.header x.thing y.thing z.thing first second
+pub behind_on : (x y z : Laid) (k m : ℕ) → IsBehind x k y → IsBehind y m z → IsBehind x (k + m) z
+behind_on x y z k m first second = go x.item.thing y.item.thing z.item.thing first second
   where
-    go : (h h' h'' : ℕ) (t t' t'' : Thing)
-        → IsBehind (record { header = h; thing = t }) k (record { header = h'; thing = t' })
-        → IsBehind (record { header = h'; thing = t' }) m (record { header = h''; thing = t'' })
-        → IsBehind (record { header = h; thing = t }) (k + m) (record { header = h''; thing = t'' })
-    go h h' h'' (Event lane a) (Event lane' b) (Event lane'' c) p q = (p.0 ∙ q.0, p.1 ∙ q.1, p.2 ∙ q.2)
-    go h h' h'' (Event lane a) (Event lane' b) (Present c) p q = absurd q
-    go h h' h'' (Event lane a) (Present b) t'' p q = absurd p
-    go h h' h'' (Present a) (Event lane' b) t'' p q = absurd p
-    go h h' h'' (Present a) (Present b) (Event lane'' c) p q = absurd q
-    go h h' h'' (Present a) (Present b) (Present c) p q =
-        let first_index : a.row.index + k ≡ b.row.index = p.3 in
-        let second_index : b.row.index + m ≡ c.row.index = q.3 in
-        (p.0 ∙ q.0, p.1 ∙ q.1, p.2 ∙ q.2, omega arith)
+    go : (t t' t'' : Thing)
+        → IsBehind (laid_as x.item.header t x.object) k (laid_as y.item.header t' y.object)
+        → IsBehind (laid_as y.item.header t' y.object) m (laid_as z.item.header t'' z.object)
+        → IsBehind (laid_as x.item.header t x.object) (k + m) (laid_as z.item.header t'' z.object)
+    go (Event lane a) (Event lane' b) (Event lane'' c) p q = (p.0 ∙ q.0, p.1 ∙ q.1, p.2 ∙ q.2)
+    go (Event lane a) (Event lane' b) (Present c) p q = absurd q
+    go (Event lane a) (Present b) t'' p q = absurd p
+    go (Present a) (Event lane' b) t'' p q = absurd p
+    go (Present a) (Present b) (Event lane'' c) p q = absurd q
+    go (Present a) (Present b) (Present c) p q =
+        let first_index : a.row.index + k ≡ b.row.index = p.2 in
+        let second_index : b.row.index + m ≡ c.row.index = q.2 in
+        (p.0 ∙ q.0, p.1 ∙ q.1, omega arith)
 
-pub behind_next : (x y : Item) → goes_on x y ≡ true → IsBehind x 1 y
-behind_next x y on = go x.header y.header x.thing y.thing on
+pub behind_next : (x y : Laid) → goes_on x y ≡ true → IsBehind x 1 y
+behind_next x y on = go x.item.thing y.item.thing on
   where
-    go : (h h' : ℕ) (t t' : Thing) → goes_on (record { header = h; thing = t }) (record { header = h'; thing = t' }) ≡ true
-        → IsBehind (record { header = h; thing = t }) 1 (record { header = h'; thing = t' })
-    go h h' (Event lane a) (Event lane' b) is =
+    go : (t t' : Thing) → goes_on (laid_as x.item.header t x.object) (laid_as y.item.header t' y.object) ≡ true
+        → IsBehind (laid_as x.item.header t x.object) 1 (laid_as y.item.header t' y.object)
+    go (Event lane a) (Event lane' b) is =
         let parts = and_parts _ _ is in
         let object = and_parts _ _ parts.1 in
         (eqb-true _ _ parts.0, eqb-true _ _ object.0, eqb-true _ _ object.1)
-    go h h' (Event lane a) (Present b) is = cc
-    go h h' (Present a) (Event lane' b) is = cc
-    go h h' (Present a) (Present b) is =
+    go (Event lane a) (Present b) is = cc
+    go (Present a) (Event lane' b) is = cc
+    go (Present a) (Present b) is =
         let parts = and_parts _ _ is in
         let block = and_parts _ _ parts.0 in
-        let inner = and_parts _ _ block.1 in
-        (eqb-true _ _ block.0, eqb-true _ _ inner.0, eqb-true _ _ inner.1, eqb-true _ _ parts.1)
+        let next = and_parts _ _ parts.1 in
+        (eqb-true _ _ (and_parts _ _ block.1).0, eqb-true _ _ next.0, eqb-true _ _ next.1)
 
-pub chain_behind : (x : Item) (more : List Item) → IsChain x more → IsBehind x (length more) (last_item x more)
+pub chain_behind : (x : Laid) (more : List Laid) → IsChain x more → IsBehind x (length more) (last_item x more)
 chain_behind x [] chain = behind_itself x
 chain_behind x (y ∷ ys) chain =
     let far : IsBehind x (1 + length ys) (last_item y ys) =
@@ -94,27 +94,27 @@ chain_behind x (y ∷ ys) chain =
     let e : 1 + length ys ≡ length (y ∷ ys) = omega arith in
     rw (sym e) far
 
-pub same_run : (x y : Item) → goes_on x y ≡ true → is_same_run (run_at x) (run_at y) ≡ true
-same_run x y on = go x.header y.header x.thing y.thing on
+pub same_run : (x y : Laid) → goes_on x y ≡ true → is_same_run (run_at x) (run_at y) ≡ true
+same_run x y on = go x.item.thing y.item.thing on
   where
-    go : (h h' : ℕ) (t t' : Thing) → goes_on (record { header = h; thing = t }) (record { header = h'; thing = t' }) ≡ true
-        → is_same_run (run_at (record { header = h; thing = t })) (run_at (record { header = h'; thing = t' })) ≡ true
-    go h h' (Event lane a) (Event lane' b) is = (and_parts _ _ is).0
-    go h h' (Event lane a) (Present b) is = cc
-    go h h' (Present a) (Event lane' b) is = cc
-    go h h' (Present a) (Present b) is = (and_parts _ _ is).0
+    go : (t t' : Thing) → goes_on (laid_as x.item.header t x.object) (laid_as y.item.header t' y.object) ≡ true
+        → is_same_run (run_at (laid_as x.item.header t x.object)) (run_at (laid_as y.item.header t' y.object)) ≡ true
+    go (Event lane a) (Event lane' b) is = (and_parts _ _ is).0
+    go (Event lane a) (Present b) is = cc
+    go (Present a) (Event lane' b) is = cc
+    go (Present a) (Present b) is = (and_parts _ _ is).0
 
 -- ---- headers that join
 
 -- the octets of the objects of one item more
-octets_more : (r : Range) (x : Item) (more : List Item) (y : Item)
+octets_more : (r : Range) (x : Laid) (more : List Laid) (y : Laid)
     → flat_map (item_octets r) (map object_of (x ∷ (more ++ y ∷ []))) ≡ flat_map (item_octets r) (map object_of (x ∷ more)) ++ item_octets r (object_of y)
 octets_more r x more y =
     ap (flat_map (item_octets r)) (map_push object_of (x ∷ more) y) ∙ sym (flat_map_more (item_octets r) [] (map object_of (x ∷ more)) (object_of y))
 
 -- a count goes as far as 65,535
-abbrev pub IsFew : Item → List Item → Type 0
-IsFew x more = by x.thing
+abbrev pub IsFew : Laid → List Laid → Type 0
+IsFew x more = by x.item.thing
   where
     by : Thing → Type 0
     by (Event lane row) = length more + 2 < 2 ^ 16
@@ -130,17 +130,17 @@ joined_by a b r octets group variation range_is octets_are =
     ∙ ap (option_map (λ (q : Range). record { group = a.group; variation = a.variation; range = q; octets = a.octets ++ b.octets })) range_is
     ∙ ap (λ (o : List ℕ). Some (record { group = a.group; variation = a.variation; range = r; octets = o })) (sym octets_are)
 
-pub joins : (x : Item) (more : List Item) (y : Item) → IsBehind x (length more + 1) y → IsFew x more
+pub joins : (x : Laid) (more : List Laid) (y : Laid) → IsBehind x (length more + 1) y → IsFew x more
     → joined (header_of (record { first = x; more = more })) (written_of y) ≡ Some (header_of (record { first = x; more = more ++ y ∷ [] }))
-joins x more y behind few = go x.header y.header x.thing y.thing behind few
+joins x more y behind few = go x.item.thing y.item.thing behind few
   where
-    go : (h h' : ℕ) (t t' : Thing) → IsBehind (record { header = h; thing = t }) (length more + 1) (record { header = h'; thing = t' })
-        → IsFew (record { header = h; thing = t }) more
-        → joined (header_of (record { first = record { header = h; thing = t }; more = more })) (written_of (record { header = h'; thing = t' }))
-        ≡ Some (header_of (record { first = record { header = h; thing = t }; more = more ++ (record { header = h'; thing = t' }) ∷ [] }))
-    go h h' (Event lane a) (Event lane' b) p low =
-        let x' : Item = record { header = h; thing = Event lane a } in
-        let y' : Item = record { header = h'; thing = Event lane' b } in
+    go : (t t' : Thing) → IsBehind (laid_as x.item.header t x.object) (length more + 1) (laid_as y.item.header t' y.object)
+        → IsFew (laid_as x.item.header t x.object) more
+        → joined (header_of (record { first = laid_as x.item.header t x.object; more = more })) (written_of (laid_as y.item.header t' y.object))
+        ≡ Some (header_of (record { first = laid_as x.item.header t x.object; more = more ++ laid_as y.item.header t' y.object ∷ [] }))
+    go (Event lane a) (Event lane' b) p low =
+        let x' : Laid = laid_as x.item.header (Event lane a) x.object in
+        let y' : Laid = laid_as y.item.header (Event lane' b) y.object in
         let n = length (more ++ y' ∷ []) + 1 in
         let long : (length more + 1) + 1 ≡ n = omega (arith, length_push more y') in
         let small : (length more + 1) + 1 < 2 ^ 16 = omega arith in
@@ -151,13 +151,13 @@ joins x more y behind few = go x.header y.header x.thing y.thing behind few
         joined_by (header_of (record { first = x'; more = more })) (written_of y') (range.Indexed true n)
         (header_of (record { first = x'; more = more ++ y' ∷ [] })).octets p.1 p.2 range_is
         (octets_more (range.Indexed true n) x' more y')
-    go h h' (Event lane a) (Present b) p low = absurd p
-    go h h' (Present a) (Event lane' b) p low = absurd p
-    go h h' (Present a) (Present b) p low =
-        let x' : Item = record { header = h; thing = Present a } in
-        let y' : Item = record { header = h'; thing = Present b } in
+    go (Event lane a) (Present b) p low = absurd p
+    go (Present a) (Event lane' b) p low = absurd p
+    go (Present a) (Present b) p low =
+        let x' : Laid = laid_as x.item.header (Present a) x.object in
+        let y' : Laid = laid_as y.item.header (Present b) y.object in
         let n = a.row.index + length (more ++ y' ∷ []) in
-        let at : a.row.index + (length more + 1) ≡ b.row.index = p.3 in
+        let at : a.row.index + (length more + 1) ≡ b.row.index = p.2 in
         let next : a.row.index + length more + 1 ≡ b.row.index = omega arith in
         let end : b.row.index ≡ n = omega (arith, length_push more y') in
         let range_is : joined_range (range.Span true a.row.index (a.row.index + length more)) (range.Span true b.row.index b.row.index)
@@ -166,8 +166,7 @@ joins x more y behind few = go x.header y.header x.thing y.thing behind few
         ∙ ap (λ (k : ℕ). Some (range.Span true a.row.index k)) end
         in
         joined_by (header_of (record { first = x'; more = more })) (written_of y') (range.Span true a.row.index n)
-        (header_of (record { first = x'; more = more ++ y' ∷ [] })).octets p.1
-        (ap written.point_variation p.1) range_is (octets_more (range.Span true a.row.index n) x' more y')
+        (header_of (record { first = x'; more = more ++ y' ∷ [] })).octets p.0 p.1 range_is (octets_more (range.Span true a.row.index n) x' more y')
 
 -- ---- headers that don't
 
@@ -184,31 +183,49 @@ other_by : (p q : Bool) → p ≡ true → (p && q) ≡ false → q ≡ false
 other_by true q one off = off
 other_by false q one off = cc
 
-pub no_join : (x : Item) (more : List Item) (last y : Item) → IsBehind x (length more) last → is_same_run (run_at last) (run_at y) ≡ true
+and_right : (p q : Bool) → q ≡ false → (p && q) ≡ false
+and_right true q off = off
+and_right false q off = refl
+
+pub no_join : (x : Laid) (more : List Laid) (last y : Laid) → IsBehind x (length more) last → is_same_run (run_at last) (run_at y) ≡ true
     → goes_on last y ≡ false → joined (header_of (record { first = x; more = more })) (written_of y) ≡ None
-no_join x more last y behind same off = go x.header last.header y.header x.thing last.thing y.thing behind same off
+no_join x more last y behind same off = go x.item.thing last.item.thing y.item.thing behind same off
   where
-    go : (h h' h'' : ℕ) (t t' t'' : Thing) → IsBehind (record { header = h; thing = t }) (length more) (record { header = h'; thing = t' })
-        → is_same_run (run_at (record { header = h'; thing = t' })) (run_at (record { header = h''; thing = t'' })) ≡ true
-        → goes_on (record { header = h'; thing = t' }) (record { header = h''; thing = t'' }) ≡ false
-        → joined (header_of (record { first = record { header = h; thing = t }; more = more })) (written_of (record { header = h''; thing = t'' })) ≡ None
-    go h h' h'' (Event lane a) (Event lane' b) (Event lane'' c) p one other =
-        let apart : (((event_item b.row).group == (event_item c.row).group) && ((event_item b.row).variation == (event_item c.row).variation)) ≡ false =
-        other_by _ _ one other in
-        no_join_by (header_of (record { first = record { header = h; thing = Event lane a }; more = more }))
-        (written_of (record { header = h''; thing = Event lane'' c }))
-        (ap (λ (g : ℕ). (g == (event_item c.row).group) && ((event_item a.row).variation == (event_item c.row).variation)) p.1
-        ∙ ap (λ (v : ℕ). ((event_item b.row).group == (event_item c.row).group) && (v == (event_item c.row).variation)) p.2 ∙ apart)
-    go h h' h'' (Event lane a) (Event lane' b) (Present c) p one other = cc
-    go h h' h'' (Event lane a) (Present b) t'' p one other = absurd p
-    go h h' h'' (Present a) (Event lane' b) t'' p one other = absurd p
-    go h h' h'' (Present a) (Present b) (Event lane'' c) p one other = cc
-    go h h' h'' (Present a) (Present b) (Present c) p one other =
-        let at : a.row.index + length more ≡ b.row.index = p.3 in
-        let apart : (b.row.index + 1 == c.row.index) ≡ false = other_by _ _ one other in
-        let apart' : (a.row.index + length more + 1 == c.row.index) ≡ false = ap (λ (i : ℕ). i + 1 == c.row.index) at ∙ apart in
-        let a' = header_of (record { first = record { header = h; thing = Present a }; more = more }) in
-        let c' = written_of (record { header = h''; thing = Present c }) in
-        none_either_way ((a'.group == c'.group) && (a'.variation == c'.variation))
-        (λ (q : Range). record { group = a'.group; variation = a'.variation; range = q; octets = a'.octets ++ c'.octets })
-        (joined_range a'.range c'.range) (ap (λ (t : Bool). if t then Some (range.Span true a.row.index c.row.index) else None) apart')
+    -- the objects are others, where the last item's and the next one's are
+    others : x.object.group ≡ last.object.group → x.object.variation ≡ last.object.variation → is_same_object last.object y.object ≡ false
+        → is_same_object x.object y.object ≡ false
+    others group variation apart =
+        ap (λ (g : ℕ). (g == y.object.group) && (x.object.variation == y.object.variation)) group
+        ∙ ap (λ (v : ℕ). (last.object.group == y.object.group) && (v == y.object.variation)) variation
+        ∙ apart
+
+    go : (t t' t'' : Thing) → IsBehind (laid_as x.item.header t x.object) (length more) (laid_as last.item.header t' last.object)
+        → is_same_run (run_at (laid_as last.item.header t' last.object)) (run_at (laid_as y.item.header t'' y.object)) ≡ true
+        → goes_on (laid_as last.item.header t' last.object) (laid_as y.item.header t'' y.object) ≡ false
+        → joined (header_of (record { first = laid_as x.item.header t x.object; more = more })) (written_of (laid_as y.item.header t'' y.object)) ≡ None
+    go (Event lane a) (Event lane' b) (Event lane'' c) p one other =
+        no_join_by (header_of (record { first = laid_as x.item.header (Event lane a) x.object; more = more }))
+        (written_of (laid_as y.item.header (Event lane'' c) y.object))
+        (others p.1 p.2 (other_by _ _ one other))
+    go (Event lane a) (Event lane' b) (Present c) p one other = cc
+    go (Event lane a) (Present b) t'' p one other = absurd p
+    go (Present a) (Event lane' b) t'' p one other = absurd p
+    go (Present a) (Present b) (Event lane'' c) p one other = cc
+    go (Present a) (Present b) (Present c) p one other = by (last.object.variation == y.object.variation) refl
+      where
+        a' : Head
+        a' = header_of (record { first = laid_as x.item.header (Present a) x.object; more = more })
+
+        c' : Head
+        c' = written_of (laid_as y.item.header (Present c) y.object)
+
+        by : (v : Bool) → (last.object.variation == y.object.variation) ≡ v → joined a' c' ≡ None
+        by true same_variation =
+            let at : a.row.index + length more ≡ b.row.index = p.2 in
+            let apart : (b.row.index + 1 == c.row.index) ≡ false = other_by _ _ same_variation (other_by _ _ one other) in
+            let apart' : (a.row.index + length more + 1 == c.row.index) ≡ false = ap (λ (i : ℕ). i + 1 == c.row.index) at ∙ apart in
+            none_either_way ((a'.group == c'.group) && (a'.variation == c'.variation))
+            (λ (q : Range). record { group = a'.group; variation = a'.variation; range = q; octets = a'.octets ++ c'.octets })
+            (joined_range a'.range c'.range) (ap (λ (t : Bool). if t then Some (range.Span true a.row.index c.row.index) else None) apart')
+        by false another =
+            no_join_by a' c' (others p.0 p.1 (and_right (last.object.group == y.object.group) _ another))

@@ -13,12 +13,12 @@ use Rattle.dnp_appfragment.specs.Headers.{Head}
 use Rattle.dnp_objects.specs.declared.limits.TheConstants.{LANES}
 use Rattle.dnp_outstation.specs.declared.offer.place.Place.{Place}
 use Rattle.dnp_outstation.specs.Items.{Item, Source, no_ids, given_after, place_after, rows_left, items_left}
-use Rattle.dnp_outstation.specs.Offer.{held_of, last_ids, offered_of, offered}
-use Rattle.dnp_outstation.specs.Layout.{fits_fragment}
+use Rattle.dnp_outstation.specs.Layout.{Laid, item_of}
+use Rattle.dnp_outstation.specs.Offer.{held_of, last_ids, filled_with, offered_of, offered}
 use Rattle.dnp_outstation.specs.Laws.{rows_in_lane, AreNext, IsOnward, AreGiven, AreBefore, IsTidy, LeavesOnly}
+use Rattle.dnp_outstation.proofs.HeldItems.{held_none, held_whole}
 use Rattle.dnp_outstation.proofs.Rising.{Rising, last_or, over, upto, rising_filter, rising_begins, rising_from, last_is_over, all_over, pairs_from}
 use Rattle.dnp_outstation.proofs.LaneRows.{Starts, last_given, length_given}
-use Rattle.dnp_outstation.proofs.Longest.{longest_whole}
 use Rattle.dnp_outstation.proofs.Carried.{lane_rises, last_id_is, read_rows}
 
 pub All-first : {X : Type 0} (P : X → Type 0) (xs ys : List X) → All P (xs ++ ys) → All P xs
@@ -300,8 +300,9 @@ begins_used s = All-replicate (λ (id : ℕ). id ≤ s.last_id) LANES 0 (omega a
 -- ---- where nothing is left
 
 pub none_left : (place : Place) (items : List Item) → items ≡ [] → offered_of place items ≡ record { headers = []; upto = no_ids; left = None }
-unfolding offered_of held_of
-none_left place items none = ap (offered_of place) none
+unfolding offered_of
+none_left place items none =
+    ap (offered_of place) none ∙ ap (λ (held : List Laid). filled_with (length (map item_of held) == 0) place held) held_none
 
 whole_by : {A : Type 0} (b : Bool) (x : A) → (if b then None else Some x) ≡ None → b ≡ true
 whole_by true x is = refl
@@ -309,9 +310,9 @@ whole_by false x is = cc
 
 -- nothing is left exactly where all items are held
 pub left_none : (place : Place) (items : List Item) → ((offered_of place items).left ≡ None) ↔ (held_of items ≡ items)
-unfolding offered_of held_of
+unfolding offered_of
 left_none place items = (
-  (λ is. longest_whole fits_fragment items refl
+  (λ is. held_whole items
       (eqb-true _ _ (whole_by (length (held_of items) == length items) (fold place_after place (held_of items)) is))),
   (λ all. ap (λ (b : Bool). if b then None else Some (fold place_after place (held_of items))) (eq-eqb _ _ (ap length all))),
 )

@@ -22,10 +22,10 @@ use Rattle.dnp_eventbuf.specs.Sound.{IsSound}
 use Rattle.dnp_eventbuf.specs.Stock.{Stock, lane_at, all_up_to}
 use Rattle.dnp_outstation.specs.declared.offer.place.Place.{Place}
 use Rattle.dnp_outstation.specs.Items.{Item, no_ids, first_place, last_in, items_left, enabled_lanes, lane_items}
-use Rattle.dnp_outstation.specs.Layout.{headers_of, fits_fragment}
-use Rattle.dnp_outstation.specs.Offer.{held_of, last_ids, Filled, offered_of, pushed}
+use Rattle.dnp_outstation.specs.Layout.{Laid, item_of, headers_of, fits_fragment}
+use Rattle.dnp_outstation.specs.Offer.{held_laid, last_ids, Filled, offered_of, pushed}
 use Rattle.dnp_outstation.specs.Laws.{rows_in_lane, AreRowsUpto, IsTidy}
-use Rattle.dnp_outstation.specs.Said.{rows_said, CanStand, AreWritable, HaveIndexes}
+use Rattle.dnp_outstation.specs.Said.{rows_said, CanGo, AreWritable, HaveIndexes}
 use Rattle.dnp_outstation.specs.Links.{Reports}
 use Rattle.dnp_outstation.specs.State.{State}
 use Rattle.dnp_outstation.specs.Content.{Content, plain, content_from, content_of, read_content, source_of, indications}
@@ -78,18 +78,19 @@ ids_used s items sound are lane = by (cases_lt lane LANES)
 
 -- ---- a response with these items
 
-reports : ReportLaws → (s : Stock) (answered : Answered) (items : List Item) → IsSound s → answered.headers ≡ headers_of items → IsControl answered.control
+reports : ReportLaws → (s : Stock) (answered : Answered) (held : List Laid) → IsSound s → answered.headers ≡ headers_of held → IsControl answered.control
     → is_response answered.function ≡ true
-    → All CanStand items → All IsLow items → fits_fragment items ≡ true → AreRowsUpto s (last_ids items) items
-    → Reports s (response_octets answered) answered.control (last_ids items)
-reports law s answered items sound headers control function can low fit are = record {
+    → All CanGo held → All IsLow (map item_of held) → fits_fragment held ≡ true
+    → AreRowsUpto s (last_ids (map item_of held)) (map item_of held)
+    → Reports s (response_octets answered) answered.control (last_ids (map item_of held))
+reports law s answered held sound headers control function can low fit are = let items = map item_of held in record {
   answered = answered;
-  read = law.response answered items headers control function can fit;
+  read = law.response answered held headers control function can fit;
   control_is = refl;
   rows =
       subst (λ (hs : List Head). IsPermutation (rows_said hs) (map buffered_row (filter (is_upto (last_ids items)) (buffered_in s)))) (sym headers)
-      (subst (IsPermutation (rows_said (headers_of items))) (law.given s (last_ids items) (nine_ids items ∙ sym sound.nine))
-      (said_and_released law.rows s items sound can low fit are));
+      (subst (IsPermutation (rows_said (headers_of held))) (law.given s (last_ids items) (nine_ids items ∙ sym sound.nine))
+      (said_and_released law.rows s held sound can low fit are));
   used = ids_used s items sound are;
 }
 
@@ -101,7 +102,7 @@ read_reports : ReportLaws → (s : State) (o : Panel) (stood : ℕ) (place : Pla
 unfolding offered_of
 read_reports law s o stood place headers answered sound writable tidy nine same control function =
     let items = items_left (source_of s o) stood place headers in
-    reports law s.lanes answered (held_of items) sound same control function (held_stand (source_of s o) stood place headers sound writable)
+    reports law s.lanes answered (held_laid items) sound same control function (held_stand (source_of s o) stood place headers sound writable)
     (held_low (source_of s o) stood place headers) (held_fits items) (fragment_rows (source_of s o) stood place headers sound tidy nine)
 
 -- an unsolicited response
@@ -111,7 +112,7 @@ pushed_reports : ReportLaws → (s : Stock) (enabled : List Bool) (answered : An
 unfolding offered_of
 pushed_reports law s enabled answered sound indexes few same control function =
     let items = lane_items s (enabled_lanes 0 enabled) in
-    reports law s answered (held_of items) sound same control function (pushed_stand s enabled sound few indexes) (pushed_low s enabled few) (held_fits items)
+    reports law s answered (held_laid items) sound same control function (pushed_stand s enabled sound few indexes) (pushed_low s enabled few) (held_fits items)
     (pushed_rows s enabled sound)
 
 -- ---- no rows

@@ -1,7 +1,7 @@
 -- The longest beginning that passes, and what a writer is filled with.
-use Rattle.std.proofs.Common.{◌≡◌, Bool, true, false, if◌then◌else◌, refl, sym, ◌∙◌, ap, ℕ, zero, suc, ◌+◌, ◌<◌, ◌≤◌, List, [], ◌∷◌, ◌++◌, take, drop, length, arith, inl, inr}
+use Rattle.std.proofs.Common.{◌≡◌, Bool, true, false, if◌then◌else◌, refl, sym, ◌∙◌, ap, ℕ, zero, suc, ◌+◌, ◌<◌, ◌≤◌, List, [], ◌∷◌, ◌++◌, take, length, arith, inl, inr}
 use Rattle.std.proofs.lemmas.Bool.{cases_eq}
-use Rattle.std.proofs.lemmas.List.{length-append, length-take-le, take-append-drop, take_all, take_at}
+use Rattle.std.proofs.lemmas.List.{length-append, length-take-le, take_at}
 use Rattle.dnp_outstation.specs.Offer.{longest_up_to, longest}
 use Rattle.dnp_outstation.specs.Laws.{IsLongest}
 
@@ -80,13 +80,3 @@ pub longest_longest : {A : Type 0} (p : List A → Bool) (xs : List A) → p [] 
 longest_longest p xs none =
     let found = longest_up_to_is p (length xs) xs none (omega arith) in
     record { begins = found.begins; fits = found.fits; more = found.more }
-
-pub begins_with : {A : Type 0} (p : List A → Bool) (xs : List A) → p [] ≡ true → xs ≡ longest p xs ++ drop (length (longest p xs)) xs
-begins_with p xs none =
-    let found = longest_longest p xs none in
-    sym (take-append-drop (length (longest p xs)) xs) ∙ ap (λ ys. ys ++ drop (length (longest p xs)) xs) found.begins
-
--- as long as the whole list, it is the whole list
-pub longest_whole : {A : Type 0} (p : List A → Bool) (xs : List A) → p [] ≡ true → length (longest p xs) ≡ length xs → longest p xs ≡ xs
-longest_whole p xs none same =
-    sym (longest_longest p xs none).begins ∙ take_all (length (longest p xs)) xs (omega arith)

@@ -2,7 +2,7 @@
 use Rattle.std.proofs.Common.{◌≡◌, Bool, true, false, IsTrue, refl, sym, ◌∙◌, ap, subst, ℕ, ◌≤◌, ◌==◌, ◌||◌, List, [], ◌∷◌, length, arith, Option, None, Some, IfSome, eqb-true}
 use Rattle.std.specs.List.{All}
 use Rattle.std.proofs.lemmas.Bool.{le-leb}
-use Rattle.std.proofs.lemmas.List.{length-append}
+use Rattle.std.proofs.lemmas.List.{length-append, length-map}
 use Rattle.std.proofs.lemmas.List.Elements.{All-head}
 use Rattle.dnp_objects.specs.Objects.{objects, content_of, object_size}
 use Rattle.dnp_objects.specs.Events.{event_object}
@@ -10,18 +10,20 @@ use Rattle.dnp_objects.specs.declared.limits.TheConstants.{MAX_FRAGMENT}
 use Rattle.dnp_objects.specs.declared.row.Kind.{Kind}
 use Rattle.dnp_objects.specs.declared.row.Kind.TheVariants.{Binary, Counter, Analog}
 use Rattle.dnp_appfragment.specs.Headers.{Head, number}
+use Rattle.dnp_appfragment.specs.Items.{Item as Object}
 use Rattle.dnp_appfragment.specs.Written.{is_point_group, point_variation}
 use Rattle.dnp_eventbuf.specs.Sound.{IsSound}
 use Rattle.dnp_outstation.specs.declared.offer.place.Place.{Place}
 use Rattle.dnp_outstation.specs.Items.{Thing, Item, Source, items_left}
 use Rattle.dnp_outstation.specs.Items.Thing.{Event, Present}
-use Rattle.dnp_outstation.specs.Layout.{object_of, fits_fragment, response_size}
-use Rattle.dnp_outstation.specs.Offer.{held_of, offered_of, offered}
-use Rattle.dnp_outstation.specs.Said.{CanStand, AreWritable}
+use Rattle.dnp_outstation.specs.Layout.{Laid, item_of, own_object, lay, fits_fragment, response_size}
+use Rattle.dnp_outstation.specs.Offer.{held_laid, held_of, offered_of, offered}
+use Rattle.dnp_outstation.specs.Said.{CanStand, CanGo, AreWritable}
 use Rattle.dnp_outstation.proofs.Grows.{one_size}
+use Rattle.dnp_outstation.proofs.HeldItems.{held_longest}
 use Rattle.dnp_outstation.proofs.ItemsOf.{left_stand}
 use Rattle.dnp_outstation.proofs.Left.{left_none}
-use Rattle.dnp_outstation.proofs.Longest.{longest_longest}
+use Rattle.dnp_outstation.proofs.Stretches.{laid_as}
 use Rattle.dnp_outstation.proofs.Written.{PutLaws, stands_alone}
 
 -- ---- no object is long
@@ -62,42 +64,40 @@ point_short g is =
 short_octets : (size : Option ℕ) (octets : List ℕ) → IsShort size → size ≡ Some (length octets) → length octets ≤ 11
 short_octets size octets short is = subst IsShort is short
 
-short_object : PutLaws → (x : Item) → CanStand x → length (object_of x).octets ≤ 11
-short_object law x can = go x.header x.thing can (stands_alone law x can).holds.each.0.size
+short_object : PutLaws → (x : Laid) → CanGo x → length x.object.octets ≤ 11
+short_object law x can =
+    short_octets (object_size x.object.group x.object.variation) x.object.octets
+    (subst (λ (o : Object). IsShort (object_size o.group o.variation)) (sym can.says) (go x.item.header x.item.thing can.stands))
+    (stands_alone law x can).holds.each.0.size
   where
-    go : (h : ℕ) (thing : Thing)
-        → (let y : Item = record { header = h; thing = thing } in
-        CanStand y → object_size (object_of y).group (object_of y).variation ≡ Some (length (object_of y).octets)
-        → length (object_of y).octets ≤ 11)
-    go h (Event lane row) fits size =
-        let y : Item = record { header = h; thing = Event lane row } in
-        short_octets (object_size (object_of y).group (object_of y).variation) (object_of y).octets (event_short row.row.kind row.row.time) size
-    go h (Present static) fits size =
-        let y : Item = record { header = h; thing = Present static } in
-        short_octets (object_size (object_of y).group (object_of y).variation) (object_of y).octets (point_short static.group fits.0.group_is) size
+    go : (h : ℕ) (thing : Thing) → CanStand (record { header = h; thing = thing })
+        → IsShort (object_size (own_object thing).group (own_object thing).variation)
+    go h (Event lane row) fits = event_short row.row.kind row.row.time
+    go h (Present static) fits = point_short static.group fits.0.group_is
 
 -- ---- so one item fits
 
-one_fits : PutLaws → (x : Item) → CanStand x → fits_fragment (x ∷ []) ≡ true
-one_fits law x can = le-leb (response_size (x ∷ [])) MAX_FRAGMENT (small x.header x.thing (short_object law x can))
+one_fits : PutLaws → (x : Laid) → CanGo x → fits_fragment (x ∷ []) ≡ true
+one_fits law x can = le-leb (response_size (x ∷ [])) MAX_FRAGMENT (small x.item.thing (short_object law x can))
   where
-    small : (h : ℕ) (thing : Thing)
-        → (let y : Item = record { header = h; thing = thing } in length (object_of y).octets ≤ 11 → response_size (y ∷ []) ≤ MAX_FRAGMENT)
-    small h (Event lane row) short =
-        let y : Item = record { header = h; thing = Event lane row } in
-        let octets = length-append (number true row.row.index) (object_of y).octets in
+    small : (thing : Thing)
+        → (let y : Laid = laid_as x.item.header thing x.object in length y.object.octets ≤ 11 → response_size (y ∷ []) ≤ MAX_FRAGMENT)
+    small (Event lane row) short =
+        let y : Laid = laid_as x.item.header (Event lane row) x.object in
+        let octets = length-append (number true x.object.index) x.object.octets in
         omega (arith, one_size y)
-    small h (Present static) short =
-        let y : Item = record { header = h; thing = Present static } in
+    small (Present static) short =
+        let y : Laid = laid_as x.item.header (Present static) x.object in
         omega (arith, one_size y)
 
 held_some : PutLaws → (items : List Item) → All CanStand items → held_of items ≡ [] → items ≡ []
-unfolding held_of
 held_some law [] can none = refl
 held_some law (x ∷ xs) can none =
-    let found = longest_longest fits_fragment (x ∷ xs) refl in
-    let over : fits_fragment (x ∷ []) ≡ false = found.more 1 (omega (arith, ap length none)) (omega arith) in
-    absurd (let fits : fits_fragment (x ∷ []) ≡ true = one_fits law x (All-head CanStand x xs can) in cc)
+    let found = held_longest (x ∷ xs) in
+    let over : fits_fragment (lay x ∷ []) ≡ false =
+    found.more 1 (omega (arith, ap length none, length-map (held_laid (x ∷ xs)) item_of)) (omega arith) in
+    let go : CanGo (lay x) = record { stands = All-head CanStand x xs can; says = refl } in
+    absurd (let fits : fits_fragment (lay x ∷ []) ≡ true = one_fits law (lay x) go in cc)
 
 -- a READ goes on only behind a fragment that holds something
 pub goes_on_behind_some : PutLaws → (s : Source) (stood : ℕ) (place next : Place) (headers : List Head) → IsSound s.lanes → AreWritable s

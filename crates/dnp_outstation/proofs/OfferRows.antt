@@ -1,13 +1,17 @@
 -- Rows of lanes that a READ gives.
 use Rattle.std.proofs.Common.{◌≡◌, ℕ, ◌<◌, suc, zero, Bool, true, false, cond, List, [], ◌∷◌, ◌++◌, length, take, filter, map, max, get_or, nat_lt, nat_le}
 use Rattle.std.proofs.Common.{refl, ap, sym, ◌∙◌, arith, Option, None, Some, IfSome, ◌+◌, drop}
-use Rattle.std.specs.List.{AllPairs}
+use Rattle.std.specs.List.{All, AllPairs}
 use Rattle.std.proofs.lemmas.Bool.Decides.{nat_tests}
+use Rattle.std.proofs.lemmas.List.Elements.{All-filter, All-take, All-weaker}
 use Rattle.std.proofs.lemmas.List.Kept.{AllPairs-filter}
 use Rattle.std.proofs.lemmas.List.{take_all, take-append-drop, map-append}
 use Rattle.dnp_eventbuf.specs.declared.numbered.Numbered.{Numbered}
 use Rattle.dnp_eventbuf.specs.Stock.{Stock, lane_at, offered, without}
+use Rattle.dnp_eventbuf.specs.Carried.{IsCarried}
 use Rattle.dnp_eventbuf.specs.Sound.{IsSound}
+use Rattle.dnp_objects.specs.Lanes.{lane_number}
+use Rattle.dnp_objects.specs.declared.lane.Lane.{Lane}
 use Rattle.dnp_objects.specs.declared.limits.TheConstants.{LANES}
 use Rattle.dnp_outstation.specs.declared.offer.writer.Writer.{Writer}
 use Rattle.dnp_outstation.specs.Items.{Item, event_of, at_most, rows_left}
@@ -92,6 +96,16 @@ rows_given s released stood given number most sound low nine law =
         (λ limit. law s upto number (get_or given number 0) limit (nine ∙ sym sound.nine) (omega (arith, sound.nine))))
 
 -- ---- the first rows of a lane
+
+pub lane_kinds : (s : Stock) (lane : Lane) (after most : ℕ) → IsSound s → lane_number lane < LANES
+    → All (λ x. x.row.kind ≡ lane.kind) (offered s (lane_number lane) after most)
+lane_kinds s lane after most sound low =
+    let P : Numbered → Type 0 = λ x. x.row.kind ≡ lane.kind in
+    let rows : List Numbered = (lane_at s (lane_number lane)).rows in
+    All-take P most (filter (λ x. nat_lt after x.id) rows)
+    (All-filter (λ (x : Numbered). nat_lt after x.id) P rows
+    (All-weaker (λ (x : Numbered). IsCarried (record { lane = lane; row = x.row })) P (λ x h. h.of_its_kind) rows
+    ((sound.each (lane_number lane) low).carried lane refl)))
 
 -- where the first of them don't all fit, neither do they
 pub lane_full : (w w' : Writer) (fit : Bool) (header lane lane' few : ℕ) (all rows : List Numbered) (more : List Item)

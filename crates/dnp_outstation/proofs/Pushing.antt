@@ -18,8 +18,9 @@ use Rattle.dnp_eventbuf.specs.Stock.{Stock, lane_at}
 use Rattle.dnp_eventbuf.specs.Sound.{IsSound}
 use Rattle.dnp_outstation.specs.declared.offer.writer.Run.{Run}
 use Rattle.dnp_outstation.specs.declared.offer.writer.Writer.{Writer}
-use Rattle.dnp_outstation.specs.Items.{Thing, Item, no_ids, first_place, place_after, given_after, rows_left, event_of, event_items, class_lanes, enabled_lanes, lane_items}
-use Rattle.dnp_outstation.specs.Filling.{after_release, is_same_run, put, fits, fill, ended, built_for, empty_for, empty_from}
+use Rattle.dnp_outstation.specs.Items.{Item, no_ids, first_place, place_after, given_after, rows_left, event_of, event_items, class_lanes, enabled_lanes, lane_items}
+use Rattle.dnp_outstation.specs.Filling.{after_release, is_same_run, put_laid, fits, fill_laid, fill, ended, built_for, empty_for, empty_from}
+use Rattle.dnp_outstation.specs.Layout.{Laid, laid}
 use Rattle.dnp_outstation.specs.Offer.{Filled, pushed}
 use Rattle.dnp_outstation.specs.Putting.{Puts}
 use Rattle.dnp_outstation.proofs.Carried.{lane_rises}
@@ -139,28 +140,25 @@ built_as : (f : Function) (w : Writer) (same : Bool)
 built_as f w true = refl
 built_as f w false = refl
 
-put_as : (f : Function) (w : Writer) (x : Item) → put (under f w) x ≡ under f (put w x)
-put_as f w x = go x.header x.thing
+put_as : (f : Function) (w : Writer) (x : Laid) → put_laid (under f w) x ≡ under f (put_laid w x)
+put_as f w x =
+    put_is (under f w) x
+    ∙ ap (λ (b : Built). with_builder (with_object b (written_of x))) (built_as f w (is_same_run w.run (run_at x)))
+    ∙ ap with_builder (object_as f (built_for w (run_at x)) (written_of x))
+    ∙ ap (under f) (sym (put_is w x))
   where
-    with_builder : Built → Run → Item → Writer
-    with_builder b run y = record { builder = b; run = run; place = place_after w.place y; upto = given_after w.upto y }
-
-    go : (header : ℕ) (thing : Thing) → (let y : Item = record { header = header; thing = thing } in put (under f w) y ≡ under f (put w y))
-    go header thing =
-        let y : Item = record { header = header; thing = thing } in
-        put_is (under f w) y
-        ∙ ap (λ (b : Built). with_builder (with_object b (written_of y)) (run_at y) y) (built_as f w (is_same_run w.run (run_at y)))
-        ∙ ap (λ (b : Built). with_builder b (run_at y) y) (object_as f (built_for w (run_at y)) (written_of y))
-        ∙ ap (under f) (sym (put_is w y))
+    with_builder : Built → Writer
+    with_builder b = record { builder = b; run = run_at x; place = place_after w.place x.item; upto = given_after w.upto x.item }
 
 -- the function doesn't matter, as long as it is that of a response
-filled_as : (f g : Function) (w : Writer) (items : List Item) → front_size f ≡ front_size g → fill (under f w) items ≡ fill (under g w) items
+filled_as : (f g : Function) (w : Writer) (xs : List Laid) → front_size f ≡ front_size g → fill_laid (under f w) xs ≡ fill_laid (under g w) xs
 filled_as f g w [] same = refl
 filled_as f g w (x ∷ xs) same =
-    ap (λ (v : Writer). cond (fits v) (fill v xs) (ended false w)) (put_as f w x)
-    ∙ ap (λ (n : ℕ). cond (nat_le (n + length (spelled (heads (put w x).builder))) MAX_FRAGMENT) (fill (under f (put w x)) xs) (ended false w)) same
-    ∙ ap (λ (filled : Filled). cond (fits (under g (put w x))) filled (ended false w)) (filled_as f g (put w x) xs same)
-    ∙ ap (λ (v : Writer). cond (fits v) (fill v xs) (ended false w)) (sym (put_as g w x))
+    let v = put_laid w x in
+    ap (λ (u : Writer). cond (fits u) (fill_laid u xs) (ended false w)) (put_as f w x)
+    ∙ ap (λ (n : ℕ). cond (nat_le (n + length (spelled (heads v.builder))) MAX_FRAGMENT) (fill_laid (under f v) xs) (ended false w)) same
+    ∙ ap (λ (filled : Filled). cond (fits (under g v)) filled (ended false w)) (filled_as f g v xs same)
+    ∙ ap (λ (u : Writer). cond (fits u) (fill_laid u xs) (ended false w)) (sym (put_as g w x))
 
 -- what the rows of the enabled classes are filled with
 pub filled_pushed : (s : Stock) (enabled : List Bool) (w w' : Writer) (is_last : Bool) → w ≡ empty_for function.UnsolicitedResponse first_place
@@ -171,5 +169,5 @@ filled_pushed s enabled w w' is_last empty put =
     ∙ sym (put [])
     ∙ ap (fill w) (append-nil items)
     ∙ ap (λ (v : Writer). fill v items) empty
-    ∙ filled_as function.UnsolicitedResponse function.Response (empty_from first_place) items refl
+    ∙ filled_as function.UnsolicitedResponse function.Response (empty_from first_place) (laid items) refl
     ∙ fill_offers first_place items

@@ -1,5 +1,5 @@
 -- What the octets of a response say is what it holds, and what a release of its ids takes.
-use Rattle.std.proofs.Common.{◌≡◌, true, refl, sym, subst, ℕ, ◌<◌, ◌≤◌, ◌^◌, Bool, List, length, Ok}
+use Rattle.std.proofs.Common.{◌≡◌, true, refl, sym, subst, ℕ, ◌<◌, ◌≤◌, ◌^◌, Bool, List, map, length, Ok}
 use Rattle.std.specs.List.{All}
 use Rattle.std.specs.List.Sorted.{IsPermutation}
 use Rattle.std.proofs.lemmas.List.Elements.{recursion_from_All}
@@ -15,15 +15,15 @@ use Rattle.dnp_eventbuf.specs.Sound.{IsSound}
 use Rattle.dnp_eventbuf.specs.Stock.{Stock, lane_at, all_up_to}
 use Rattle.dnp_outstation.specs.declared.offer.place.Place.{Place}
 use Rattle.dnp_outstation.specs.Items.{Item, Source, no_ids, items_left, enabled_lanes, lane_items}
-use Rattle.dnp_outstation.specs.Layout.{headers_of, fits_fragment}
-use Rattle.dnp_outstation.specs.Offer.{held_of, last_ids, offered_of, offered, pushed}
+use Rattle.dnp_outstation.specs.Layout.{Laid, item_of, headers_of, fits_fragment}
+use Rattle.dnp_outstation.specs.Offer.{held_laid, last_ids, offered_of, offered, pushed}
 use Rattle.dnp_outstation.specs.Laws.{AreRowsUpto, IsTidy}
-use Rattle.dnp_outstation.specs.Said.{rows_said, events_in, CanStand, AreWritable}
+use Rattle.dnp_outstation.specs.Said.{rows_said, events_in, CanGo, AreWritable}
 use Rattle.dnp_outstation.proofs.ByLanes.{IsLow, same_by_lanes}
 use Rattle.dnp_outstation.proofs.Carried.{fragment_rows, pushed_rows, released_rows}
+use Rattle.dnp_outstation.proofs.HeldItems.{held_longest}
 use Rattle.dnp_outstation.proofs.ItemsOf.{held_stand, held_low, pushed_stand, pushed_low}
 use Rattle.dnp_outstation.proofs.LaneRows.{length_given}
-use Rattle.dnp_outstation.proofs.Longest.{longest_longest}
 use Rattle.dnp_outstation.proofs.SaidRows.{EventsAreSaid, headers_say}
 use Rattle.dnp_outstation.proofs.Written.{PutLaws, items_written}
 
@@ -34,37 +34,37 @@ SpelledIsSaid = (answered : Answered) → IsControl answered.control → is_resp
 
 -- by the law of what octets say of items: their rows, and a response that holds them
 abbrev pub RowsAreSaid : Type 0
-RowsAreSaid = (items : List Item) → All CanStand items → fits_fragment items ≡ true → rows_said (headers_of items) ≡ events_in items
+RowsAreSaid = (xs : List Laid) → All CanGo xs → fits_fragment xs ≡ true → rows_said (headers_of xs) ≡ events_in (map item_of xs)
 
 abbrev pub ResponsesAreSaid : Type 0
-ResponsesAreSaid = (answered : Answered) (items : List Item) → answered.headers ≡ headers_of items → IsControl answered.control
-    → is_response answered.function ≡ true → All CanStand items → fits_fragment items ≡ true → response_at (response_octets answered) ≡ Ok answered
+ResponsesAreSaid = (answered : Answered) (xs : List Laid) → answered.headers ≡ headers_of xs → IsControl answered.control
+    → is_response answered.function ≡ true → All CanGo xs → fits_fragment xs ≡ true → response_at (response_octets answered) ≡ Ok answered
 
 pub rows_are_said : PutLaws → EventsAreSaid → RowsAreSaid
 rows_are_said law said items can fit =
-    let each = recursion_from_All CanStand items can in
+    let each = recursion_from_All CanGo items can in
     headers_say said (headers_of items) items each (items_written law items each fit).hold
 
 pub response_is : PutLaws → SpelledIsSaid → ResponsesAreSaid
 response_is law said answered items headers_are control function can fit =
     said answered control function
     (subst (λ (hs : List Head). AreHeaders form.Response begin hs) (sym headers_are)
-    (items_written law items (recursion_from_All CanStand items can) fit).stand)
+    (items_written law items (recursion_from_All CanGo items can) fit).stand)
 
 -- what is held fits
-pub held_fits : (items : List Item) → fits_fragment (held_of items) ≡ true
-unfolding held_of
-held_fits items = (longest_longest fits_fragment items refl).fits
+pub held_fits : (items : List Item) → fits_fragment (held_laid items) ≡ true
+held_fits items = (held_longest items).fits
 
 pub nine_ids : (items : List Item) → length (last_ids items) ≡ LANES
 nine_ids items = length_given no_ids items
 
 -- the rows said of items are those that a release of their ids takes
-pub said_and_released : RowsAreSaid → (s : Stock) (items : List Item) → IsSound s → All CanStand items → All IsLow items → fits_fragment items ≡ true
-    → AreRowsUpto s (last_ids items) items
-    → IsPermutation (rows_said (headers_of items)) (all_up_to s (last_ids items))
-said_and_released said s items sound can low fit are =
-    subst (λ (rows : List Row). IsPermutation rows (all_up_to s (last_ids items))) (sym (said items can fit))
+pub said_and_released : RowsAreSaid → (s : Stock) (held : List Laid) → IsSound s → All CanGo held → All IsLow (map item_of held)
+    → fits_fragment held ≡ true → AreRowsUpto s (last_ids (map item_of held)) (map item_of held)
+    → IsPermutation (rows_said (headers_of held)) (all_up_to s (last_ids (map item_of held)))
+said_and_released said s held sound can low fit are =
+    let items = map item_of held in
+    subst (λ (rows : List Row). IsPermutation rows (all_up_to s (last_ids items))) (sym (said held can fit))
     (subst (λ (rows : List Row). IsPermutation (events_in items) rows) (sym (released_rows s (last_ids items) items sound.nine (nine_ids items) are))
     (same_by_lanes items (recursion_from_All IsLow items low)))
 
@@ -74,7 +74,7 @@ pub fragment_says : RowsAreSaid → (s : Source) (stood : ℕ) (place : Place) (
 unfolding offered_of
 fragment_says said s stood place headers sound writable tidy nine =
     let items = items_left s stood place headers in
-    said_and_released said s.lanes (held_of items) sound (held_stand s stood place headers sound writable) (held_low s stood place headers) (held_fits items)
+    said_and_released said s.lanes (held_laid items) sound (held_stand s stood place headers sound writable) (held_low s stood place headers) (held_fits items)
     (fragment_rows s stood place headers sound tidy nine)
 
 pub pushed_says : RowsAreSaid → (s : Stock) (enabled : List Bool) → IsSound s → length enabled ≤ 3
@@ -83,7 +83,7 @@ pub pushed_says : RowsAreSaid → (s : Stock) (enabled : List Bool) → IsSound 
 unfolding offered_of
 pushed_says said s enabled sound few short =
     let items = lane_items s (enabled_lanes 0 enabled) in
-    said_and_released said s (held_of items) sound (pushed_stand s enabled sound few short) (pushed_low s enabled few) (held_fits items)
+    said_and_released said s (held_laid items) sound (pushed_stand s enabled sound few short) (pushed_low s enabled few) (held_fits items)
     (pushed_rows s enabled sound)
 
 pub fragment_is : ResponsesAreSaid → (answered : Answered) (s : Source) (stood : ℕ) (place : Place) (headers : List Head)
@@ -93,7 +93,7 @@ pub fragment_is : ResponsesAreSaid → (answered : Answered) (s : Source) (stood
 unfolding offered_of
 fragment_is said answered s stood place headers same control function sound writable =
     let items = items_left s stood place headers in
-    said answered (held_of items) same control function (held_stand s stood place headers sound writable) (held_fits items)
+    said answered (held_laid items) same control function (held_stand s stood place headers sound writable) (held_fits items)
 
 pub pushed_is : ResponsesAreSaid → (answered : Answered) (s : Stock) (enabled : List Bool) → answered.headers ≡ (pushed s enabled).headers
     → IsControl answered.control → is_response answered.function ≡ true → IsSound s → length enabled ≤ 3
@@ -101,4 +101,4 @@ pub pushed_is : ResponsesAreSaid → (answered : Answered) (s : Stock) (enabled 
 unfolding offered_of
 pushed_is said answered s enabled same control function sound few short =
     let items = lane_items s (enabled_lanes 0 enabled) in
-    said answered (held_of items) same control function (pushed_stand s enabled sound few short) (held_fits items)
+    said answered (held_laid items) same control function (pushed_stand s enabled sound few short) (held_fits items)

@@ -4,7 +4,7 @@ use Rattle.std.specs.Prelude.{option_to_list, fold}
 use Rattle.std.specs.List.{flat_map}
 use Rattle.std.specs.Option.{option_and_then}
 use Rattle.std.proofs.lemmas.Bool.{leb-true}
-use Rattle.std.proofs.lemmas.List.{length-append, length-map}
+use Rattle.std.proofs.lemmas.List.{length-append, length-map, map_push}
 use Rattle.std.proofs.lemmas.List.Concat.{flat_map-append}
 use Rattle.std.proofs.lemmas.List.Sums.{fold_push}
 use Rattle.dnp_appfragment.specs.declared.function.Function.{Function}
@@ -19,52 +19,52 @@ use Rattle.dnp_outstation.specs.declared.offer.place.Place.{Place}
 use Rattle.dnp_outstation.specs.declared.offer.writer.Run.{Run}
 use Rattle.dnp_outstation.specs.declared.offer.writer.Run.TheVariants.{NoRun}
 use Rattle.dnp_outstation.specs.declared.offer.writer.Writer.{Writer}
-use Rattle.dnp_outstation.specs.Items.{Thing, Item, no_ids, given_after, place_after}
+use Rattle.dnp_outstation.specs.Items.{Thing, no_ids, given_after, place_after}
 use Rattle.dnp_outstation.specs.Items.Thing.{Event, Present}
-use Rattle.dnp_outstation.specs.Layout.{object_of, goes_on, Stretch, alone, header_of, headers_of, fits_fragment}
-use Rattle.dnp_outstation.specs.Filling.{is_same_run, no_headers, empty_from, built_for, put, fits}
+use Rattle.dnp_outstation.specs.Layout.{Laid, item_of, object_of, goes_on, Stretch, alone, header_of, headers_of, fits_fragment}
+use Rattle.dnp_outstation.specs.Filling.{is_same_run, no_headers, empty_from, built_for, put_laid, fits}
 use Rattle.dnp_outstation.proofs.Joined.{run_at, written_of, IsBehind, behind_on, behind_next, chain_behind, same_run, IsFew, joins, no_join}
-use Rattle.dnp_outstation.proofs.Stretches.{IsChain, last_item, chain_push, last_push, one_stretch, stretch_ends}
+use Rattle.dnp_outstation.proofs.Stretches.{laid_as, IsChain, last_item, chain_push, last_push, one_stretch, stretch_ends}
 
 -- the writer's last header is that of the last items, and those before it are ended
-pub record Stands (b : Built) (run : Run) (items : List Item) : Type 0 where
-  pub first : Item
-  pub more : List Item
+pub record Stands (b : Built) (run : Run) (items : List Laid) : Type 0 where
+  pub first : Laid
+  pub more : List Laid
   pub chain : IsChain first more
   pub function_is : b.function ≡ function.Response
   pub run_is : b.run ≡ Some (header_of (record { first = first; more = more }))
   pub run_at_is : run ≡ run_at (last_item first more)
-  pub headers : (others : List Item) → headers_of (items ++ others) ≡ b.ended ++ headers_of (first ∷ (more ++ others))
+  pub headers : (others : List Laid) → headers_of (items ++ others) ≡ b.ended ++ headers_of (first ∷ (more ++ others))
 
-pub record IsEmpty (b : Built) (run : Run) (items : List Item) : Type 0 where
+pub record IsEmpty (b : Built) (run : Run) (items : List Laid) : Type 0 where
   pub items_are : items ≡ []
   pub builder_is : b ≡ no_headers
   pub run_is : run ≡ NoRun
 
 -- a writer that began at a place and has taken these items
-pub record Holds (place : Place) (w : Writer) (items : List Item) : Type 0 where
-  pub place_is : w.place ≡ fold place_after place items
-  pub upto_is : w.upto ≡ fold given_after no_ids items
+pub record Holds (place : Place) (w : Writer) (items : List Laid) : Type 0 where
+  pub place_is : w.place ≡ fold place_after place (map item_of items)
+  pub upto_is : w.upto ≡ fold given_after no_ids (map item_of items)
   pub stands : IsEmpty w.builder w.run items ⊎ Stands w.builder w.run items
 
 -- ---- its headers
 
-heads_of : (b : Built) (run : Run) (items : List Item) → Stands b run items → heads b ≡ headers_of items
+heads_of : (b : Built) (run : Run) (items : List Laid) → Stands b run items → heads b ≡ headers_of items
 heads_of b run items s =
     ap (λ (o : Option Head). b.ended ++ option_to_list o) s.run_is
     ∙ ap (λ (found : List Stretch). b.ended ++ map header_of found) (sym (one_stretch s.first s.more s.chain))
-    ∙ ap (λ (more : List Item). b.ended ++ headers_of (s.first ∷ more)) (sym (append-nil s.more))
+    ∙ ap (λ (more : List Laid). b.ended ++ headers_of (s.first ∷ more)) (sym (append-nil s.more))
     ∙ sym (s.headers [])
     ∙ ap headers_of (append-nil items)
 
-pub heads_are : (place : Place) (w : Writer) (items : List Item) → Holds place w items → heads w.builder ≡ headers_of items
+pub heads_are : (place : Place) (w : Writer) (items : List Laid) → Holds place w items → heads w.builder ≡ headers_of items
 heads_are place w items holds = go holds.stands
   where
     go : IsEmpty w.builder w.run items ⊎ Stands w.builder w.run items → heads w.builder ≡ headers_of items
     go (inl empty) = ap heads empty.builder_is ∙ ap headers_of (sym empty.items_are)
     go (inr s) = heads_of w.builder w.run items s
 
-function_is : (place : Place) (w : Writer) (items : List Item) → Holds place w items → w.builder.function ≡ function.Response
+function_is : (place : Place) (w : Writer) (items : List Laid) → Holds place w items → w.builder.function ≡ function.Response
 function_is place w items holds = go holds.stands
   where
     go : IsEmpty w.builder w.run items ⊎ Stands w.builder w.run items → w.builder.function ≡ function.Response
@@ -73,31 +73,35 @@ function_is place w items holds = go holds.stands
 
 -- ---- an item is put
 
-pub put_is : (w : Writer) (x : Item)
-    → put w x
-    ≡ record { builder = with_object (built_for w (run_at x)) (written_of x); run = run_at x; place = place_after w.place x; upto = given_after w.upto x }
-put_is w x = go x.header x.thing
+pub put_is : (w : Writer) (x : Laid)
+    → put_laid w x
+    ≡ record {
+      builder = with_object (built_for w (run_at x)) (written_of x);
+      run = run_at x;
+      place = place_after w.place x.item;
+      upto = given_after w.upto x.item;
+    }
+put_is w x = go x.item.thing
   where
-    go : (header : ℕ) (thing : Thing) → (let y : Item = record { header = header; thing = thing } in
-        put w y ≡ record {
-          builder = with_object (built_for w (run_at y))
-              (written_of y);
+    go : (thing : Thing) → (let y : Laid = laid_as x.item.header thing x.object in
+        put_laid w y ≡ record {
+          builder = with_object (built_for w (run_at y)) (written_of y);
           run = run_at y;
-          place = place_after w.place y;
-          upto = given_after w.upto y;
+          place = place_after w.place y.item;
+          upto = given_after w.upto y.item;
         })
-    go header (Event lane row) = refl
-    go header (Present static) = refl
+    go (Event lane row) = refl
+    go (Present static) = refl
 
-pub alone_is : (x : Item) → written_of x ≡ header_of (alone x)
-alone_is x = go x.header x.thing
+pub alone_is : (x : Laid) → written_of x ≡ header_of (alone x)
+alone_is x = go x.item.thing
   where
-    go : (header : ℕ) (thing : Thing) → written_of (record { header = header; thing = thing }) ≡ header_of (alone (record { header = header; thing = thing }))
-    go header (Event lane row) =
-        let h = written_of (record { header = header; thing = Event lane row }) in
+    go : (thing : Thing) → (let y : Laid = laid_as x.item.header thing x.object in written_of y ≡ header_of (alone y))
+    go (Event lane row) =
+        let h = written_of (laid_as x.item.header (Event lane row) x.object) in
         ap (λ (o : List ℕ). record { group = h.group; variation = h.variation; range = h.range; octets = o }) (sym (append-nil h.octets))
-    go header (Present static) =
-        let h = written_of (record { header = header; thing = Present static }) in
+    go (Present static) =
+        let h = written_of (laid_as x.item.header (Present static) x.object) in
         let e : static.row.index ≡ static.row.index + 0 = omega arith in
         ap (λ (o : List ℕ). record { group = h.group; variation = h.variation; range = h.range; octets = o }) (sym (append-nil h.octets))
         ∙ ap (λ (last : ℕ). record { group = h.group; variation = h.variation; range = range.Span true static.row.index last; octets = h.octets ++ [] }) e
@@ -138,10 +142,10 @@ built_other w run other = ap (λ (t : Bool). if t then w.builder else broken w.b
 
 -- ---- the writer after one item more
 
-begun : (w : Writer) (items : List Item) (y : Item) → IsEmpty w.builder w.run items
+begun : (w : Writer) (items : List Laid) (y : Laid) → IsEmpty w.builder w.run items
     → Stands (with_object (built_for w (run_at y)) (written_of y)) (run_at y) (items ++ y ∷ [])
 begun w items y empty =
-    subst (λ (xs : List Item). Stands (with_object (built_for w (run_at y)) (written_of y)) (run_at y) (xs ++ y ∷ [])) (sym empty.items_are)
+    subst (λ (xs : List Laid). Stands (with_object (built_for w (run_at y)) (written_of y)) (run_at y) (xs ++ y ∷ [])) (sym empty.items_are)
     (subst (λ (b : Built). Stands b (run_at y) (y ∷ [])) (sym is) (record {
       first = y;
       more = [];
@@ -161,7 +165,7 @@ begun w items y empty =
         ∙ put_broken w.builder (written_of y)
         ∙ ap (λ (b : Built). with_new b (written_of y)) empty.builder_is
 
-went_on : (w : Writer) (items : List Item) (y : Item) (s : Stands w.builder w.run items) → IsFew s.first s.more
+went_on : (w : Writer) (items : List Laid) (y : Laid) (s : Stands w.builder w.run items) → IsFew s.first s.more
     → goes_on (last_item s.first s.more) y ≡ true
     → Stands (with_object (built_for w (run_at y)) (written_of y)) (run_at y) (items ++ y ∷ [])
 went_on w items y s few on =
@@ -175,7 +179,7 @@ went_on w items y s few on =
       headers = λ others.
           ap headers_of (append_assoc items (y ∷ []) others)
           ∙ s.headers (y ∷ others)
-          ∙ ap (λ (xs : List Item). w.builder.ended ++ headers_of (s.first ∷ xs)) (sym (append_assoc s.more (y ∷ []) others));
+          ∙ ap (λ (xs : List Laid). w.builder.ended ++ headers_of (s.first ∷ xs)) (sym (append_assoc s.more (y ∷ []) others));
     })
   where
     same : is_same_run w.run (run_at y) ≡ true
@@ -193,7 +197,7 @@ went_on w items y s few on =
         (header_of (record { first = s.first; more = s.more ++ y ∷ [] })) s.run_is
         (joins s.first s.more y behind few)
 
-began_anew : (w : Writer) (items : List Item) (y : Item) (s : Stands w.builder w.run items) → goes_on (last_item s.first s.more) y ≡ false
+began_anew : (w : Writer) (items : List Laid) (y : Laid) (s : Stands w.builder w.run items) → goes_on (last_item s.first s.more) y ≡ false
     → Stands (with_object (built_for w (run_at y)) (written_of y)) (run_at y) (items ++ y ∷ [])
 began_anew w items y s off =
     subst (λ (b : Built). Stands b (run_at y) (items ++ y ∷ [])) (sym (is (is_same_run w.run (run_at y)) refl)) (record {
@@ -249,26 +253,30 @@ within_size b h run_is =
     let inner : length (range_octets h.range ++ h.octets) ≡ length (range_octets h.range) + length h.octets = length-append (range_octets h.range) h.octets in
     omega arith
 
-pub few : (b : Built) (first : Item) (more : List Item) → b.run ≡ Some (header_of (record { first = first; more = more })) → size b ≤ MAX_FRAGMENT → IsFew first more
-few b first more run_is small = go first.header first.thing run_is
+pub few : (b : Built) (first : Laid) (more : List Laid) → b.run ≡ Some (header_of (record { first = first; more = more })) → size b ≤ MAX_FRAGMENT → IsFew first more
+few b first more run_is small = go first.item.thing run_is
   where
-    go : (header : ℕ) (thing : Thing)
-        → (let x : Item = record { header = header; thing = thing } in b.run ≡ Some (header_of (record { first = x; more = more })) → IsFew x more)
-    go header (Event lane row) is =
-        let x : Item = record { header = header; thing = Event lane row } in
+    go : (thing : Thing)
+        → (let x : Laid = laid_as first.item.header thing first.object in b.run ≡ Some (header_of (record { first = x; more = more })) → IsFew x more)
+    go (Event lane row) is =
+        let x : Laid = laid_as first.item.header (Event lane row) first.object in
         let objects = map object_of (x ∷ more) in
         let within = within_size b (header_of (record { first = x; more = more })) is in
         let many = indexed_octets (length more + 1) objects in
         let count : length objects ≡ length (x ∷ more) = length-map (x ∷ more) object_of in
         omega arith
-    go header (Present static) is = tt
+    go (Present static) is = tt
 
 -- ---- one item more
 
-pub put_holds : (place : Place) (w : Writer) (items : List Item) (y : Item) → Holds place w items → fits w ≡ true → Holds place (put w y) (items ++ y ∷ [])
+pub put_holds : (place : Place) (w : Writer) (items : List Laid) (y : Laid) → Holds place w items → fits w ≡ true → Holds place (put_laid w y) (items ++ y ∷ [])
 put_holds place w items y holds fit = subst (λ (v : Writer). Holds place v (items ++ y ∷ [])) (sym (put_is w y)) (record {
-  place_is = ap (λ (p : Place). place_after p y) holds.place_is ∙ sym (fold_push place_after place items y);
-  upto_is = ap (λ (ids : List ℕ). given_after ids y) holds.upto_is ∙ sym (fold_push given_after no_ids items y);
+  place_is = ap (λ (p : Place). place_after p y.item) holds.place_is
+      ∙ sym (fold_push place_after place (map item_of items) y.item)
+      ∙ ap (fold place_after place) (sym (map_push item_of items y));
+  upto_is = ap (λ (ids : List ℕ). given_after ids y.item) holds.upto_is
+      ∙ sym (fold_push given_after no_ids (map item_of items) y.item)
+      ∙ ap (fold given_after no_ids) (sym (map_push item_of items y));
   stands = inr (after holds.stands);
 })
   where
@@ -288,7 +296,7 @@ put_holds place w items y holds fit = subst (λ (v : Writer). Holds place v (ite
 pub empty_holds : (place : Place) → Holds place (empty_from place) []
 empty_holds place = record { place_is = refl; upto_is = refl; stands = inl (record { items_are = refl; builder_is = refl; run_is = refl }) }
 
-pub fits_is : (place : Place) (w : Writer) (items : List Item) → Holds place w items → fits w ≡ fits_fragment items
+pub fits_is : (place : Place) (w : Writer) (items : List Laid) → Holds place w items → fits w ≡ fits_fragment items
 fits_is place w items holds =
     let front : size w.builder ≡ 4 + length (spelled (heads w.builder)) =
     ap (λ (f : Function). front_size f + length (spelled (heads w.builder))) (function_is place w items holds) in

@@ -14,11 +14,12 @@ use Rattle.dnp_outstation.specs.declared.offer.writer.Run.{Run}
 use Rattle.dnp_outstation.specs.declared.offer.writer.Writer.{Writer}
 use Rattle.dnp_outstation.specs.Items.{Thing, Item, first_place}
 use Rattle.dnp_outstation.specs.Items.Thing.{Event, Present}
-use Rattle.dnp_outstation.specs.Layout.{object_of, headers_of, fits_fragment}
-use Rattle.dnp_outstation.specs.Said.{CanStand}
-use Rattle.dnp_outstation.specs.Filling.{is_same_run, empty_from, built_for, put, fits}
+use Rattle.dnp_outstation.specs.Layout.{Laid, lay, object_of, headers_of, fits_fragment}
+use Rattle.dnp_outstation.specs.Said.{CanStand, CanGo}
+use Rattle.dnp_outstation.specs.Filling.{is_same_run, empty_from, built_for, put_laid, fits}
 use Rattle.dnp_outstation.proofs.Grows.{fits_begins}
 use Rattle.dnp_outstation.proofs.Joined.{run_at, written_of}
+use Rattle.dnp_outstation.proofs.Stretches.{laid_as}
 use Rattle.dnp_outstation.proofs.Taken.{Holds, heads_are, empty_holds, put_is, put_holds, fits_is}
 
 -- what the laws of dnp_appfragment say of rows that are put
@@ -35,15 +36,16 @@ pub record PutLaws : Type 0 where
 
 -- ---- an item as a header of its own
 
-pub record StandsAlone (x : Item) : Type 0 where
+pub record StandsAlone (x : Laid) : Type 0 where
   pub header : IsHeader form.Response (written_of x)
   pub sized : IsSome (object_size (written_of x).group (written_of x).variation)
   pub holds : HoldsObjects (written_of x) (object_of x ∷ [])
 
-pub stands_alone : PutLaws → (x : Item) → CanStand x → StandsAlone x
-stands_alone law x can = go x.header x.thing can
+pub stands_alone : PutLaws → (x : Laid) → CanGo x → StandsAlone x
+stands_alone law x can =
+    subst (λ (o : Object). StandsAlone (laid_as x.item.header x.item.thing o)) (sym can.says) (go x.item.header x.item.thing can.stands)
   where
-    go : (h : ℕ) (thing : Thing) → (let y : Item = record { header = h; thing = thing } in CanStand y → StandsAlone y)
+    go : (h : ℕ) (thing : Thing) → (let y : Item = record { header = h; thing = thing } in CanStand y → StandsAlone (lay y))
     go h (Event lane row) fits =
         let stands = law.event_stands row.row fits.0 in
         record { header = stands.0; sized = stands.1; holds = law.event_holds row.row fits.0 fits.1 }
@@ -53,21 +55,21 @@ stands_alone law x can = go x.header x.thing can
 
 -- ---- all items
 
-pub record AreWritten (hs : List Head) (items : List Item) : Type 0 where
+pub record AreWritten (hs : List Head) (items : List Laid) : Type 0 where
   pub hold : HoldAll hs (map object_of items)
   pub stand : AreHeaders form.Response begin hs
 
-written_broken : (b : Built) (items : List Item) → AreWritten (heads b) items → AreWritten (heads (broken b)) items
+written_broken : (b : Built) (items : List Laid) → AreWritten (heads b) items → AreWritten (heads (broken b)) items
 written_broken b items all = subst (λ (hs : List Head). AreWritten hs items) (sym (append-nil (heads b))) all
 
-written_for : (w : Writer) (run : Run) (items : List Item) → AreWritten (heads w.builder) items → AreWritten (heads (built_for w run)) items
+written_for : (w : Writer) (run : Run) (items : List Laid) → AreWritten (heads w.builder) items → AreWritten (heads (built_for w run)) items
 written_for w run items all = by (is_same_run w.run run)
   where
     by : (t : Bool) → AreWritten (heads (if t then w.builder else broken w.builder)) items
     by true = all
     by false = written_broken w.builder items all
 
-written_more : PutLaws → (b : Built) (x : Item) (items : List Item) → CanStand x → AreWritten (heads b) items
+written_more : PutLaws → (b : Built) (x : Laid) (items : List Laid) → CanGo x → AreWritten (heads b) items
     → AreWritten (heads (with_object b (written_of x))) (items ++ x ∷ [])
 written_more law b x items can all =
     let one = stands_alone law x can in
@@ -77,24 +79,24 @@ written_more law b x items can all =
       stand = law.object_stands b (written_of x) one.header one.sized all.stand;
     }
 
-all_written : PutLaws → (w : Writer) (items left : List Item) → Holds first_place w items → fits w ≡ true → AreWritten (heads w.builder) items
-    → AllByRecursion CanStand left
+all_written : PutLaws → (w : Writer) (items left : List Laid) → Holds first_place w items → fits w ≡ true → AreWritten (heads w.builder) items
+    → AllByRecursion CanGo left
     → fits_fragment (items ++ left) ≡ true → AreWritten (headers_of (items ++ left)) (items ++ left)
 all_written law w items [] holds fit written can fits_all =
-    subst (λ (all : List Item). AreWritten (headers_of all) all) (sym (append-nil items))
+    subst (λ (all : List Laid). AreWritten (headers_of all) all) (sym (append-nil items))
     (subst (λ (hs : List Head). AreWritten hs items) (heads_are first_place w items holds) written)
 all_written law w items (y ∷ ys) holds fit written can fits_all =
-    let after : Holds first_place (put w y) (items ++ y ∷ []) = put_holds first_place w items y holds fit in
+    let after : Holds first_place (put_laid w y) (items ++ y ∷ []) = put_holds first_place w items y holds fit in
     let same : (items ++ y ∷ []) ++ ys ≡ items ++ y ∷ ys = append_assoc items (y ∷ []) ys in
-    let fits_more : fits (put w y) ≡ true =
-    fits_is first_place (put w y) (items ++ y ∷ []) after ∙ fits_begins (items ++ y ∷ []) ys (ap fits_fragment same ∙ fits_all) in
-    let more : AreWritten (heads (put w y).builder) (items ++ y ∷ []) =
+    let fits_more : fits (put_laid w y) ≡ true =
+    fits_is first_place (put_laid w y) (items ++ y ∷ []) after ∙ fits_begins (items ++ y ∷ []) ys (ap fits_fragment same ∙ fits_all) in
+    let more : AreWritten (heads (put_laid w y).builder) (items ++ y ∷ []) =
     subst (λ (v : Writer). AreWritten (heads v.builder) (items ++ y ∷ [])) (sym (put_is w y))
     (written_more law (built_for w (run_at y)) y items can.0 (written_for w (run_at y) items written))
     in
-    subst (λ (all : List Item). AreWritten (headers_of all) all) same
-    (all_written law (put w y) (items ++ y ∷ []) ys after fits_more more can.1 (ap fits_fragment same ∙ fits_all))
+    subst (λ (all : List Laid). AreWritten (headers_of all) all) same
+    (all_written law (put_laid w y) (items ++ y ∷ []) ys after fits_more more can.1 (ap fits_fragment same ∙ fits_all))
 
 -- items that fit are held by their headers, and these stand in the table
-pub items_written : PutLaws → (items : List Item) → AllByRecursion CanStand items → fits_fragment items ≡ true → AreWritten (headers_of items) items
+pub items_written : PutLaws → (items : List Laid) → AllByRecursion CanGo items → fits_fragment items ≡ true → AreWritten (headers_of items) items
 items_written law items can fit = all_written law (empty_from first_place) [] items (empty_holds first_place) refl (record { hold = refl; stand = tt }) can fit

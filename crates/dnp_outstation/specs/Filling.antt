@@ -7,6 +7,7 @@ use Rattle.dnp_appfragment.specs.declared.function.Function.{Function}
 use Rattle.dnp_appfragment.specs.declared.function.Function.TheVariants as function
 use Rattle.dnp_appfragment.specs.Built as built
 use Rattle.dnp_appfragment.specs.Built.{Built}
+use Rattle.dnp_appfragment.specs.Items.{Item as Object}
 use Rattle.dnp_appfragment.specs.Written as written
 use Rattle.dnp_eventbuf.specs.Stock.{Stock, lane_at, without}
 use Rattle.dnp_objects.specs.declared.limits.TheConstants.{MAX_FRAGMENT}
@@ -20,6 +21,7 @@ use Rattle.dnp_outstation.specs.declared.offer.writer.Writer.{Writer}
 use Rattle.dnp_outstation.specs.Items.{Source, Part, Thing, Item, statics_of, in_range, no_ids, place_after}
 use Rattle.dnp_outstation.specs.Items.Part.{RowsOf, StaticsOf}
 use Rattle.dnp_outstation.specs.Items.Thing.{Event, Present}
+use Rattle.dnp_outstation.specs.Layout.{Laid, lay, laid}
 use Rattle.dnp_outstation.specs.Offer.{Filled}
 
 -- ---- what is read
@@ -81,22 +83,27 @@ empty_from place = empty_for function.Response place
 abbrev pub built_for : Writer → Run → Built
 built_for w run = if is_same_run w.run run then w.builder else built.broken w.builder
 
-abbrev pub put : Writer → Item → Writer
-put w x = put_thing x.thing
+abbrev pub put_laid : Writer → Laid → Writer
+put_laid w x = put_thing x.item.thing x.object
   where
-    put_thing : Thing → Writer
-    put_thing (Event lane row) = record {
-      builder = built.with_object (built_for w (OfLane lane)) (written.event row.row);
+    put_thing : Thing → Object → Writer
+    put_thing (Event lane row) o = record {
+      builder = built.with_object (built_for w (OfLane lane)) (written.indexed o.group o.variation o.index o.octets);
       run = OfLane lane;
-      place = place_after w.place x;
+      place = place_after w.place x.item;
       upto = slice_set w.upto lane row.id;
     }
-    put_thing (Present static) = record {
-      builder = built.with_object (built_for w (OfBlock x.header static.group static.block)) (written.point static.group static.row);
-      run = OfBlock x.header static.group static.block;
-      place = place_after w.place x;
+    put_thing (Present static) o = record {
+      builder = built.with_object (built_for w (OfBlock x.item.header o.group static.block))
+          (written.spanned o.group o.variation static.row.index o.octets);
+      run = OfBlock x.item.header o.group static.block;
+      place = place_after w.place x.item;
       upto = w.upto;
     }
+
+-- an item is put as its own object
+abbrev pub put : Writer → Item → Writer
+put w x = put_laid w (lay x)
 
 abbrev pub fits : Writer → Bool
 fits w = nat_le (built.size w.builder) MAX_FRAGMENT
@@ -105,6 +112,9 @@ abbrev pub ended : Bool → Writer → Filled
 ended is_last w = record { headers = built.heads w.builder; upto = w.upto; left = if is_last then None else Some w.place }
 
 -- items are put until one doesn't fit
+abbrev pub fill_laid : Writer → List Laid → Filled
+fill_laid w [] = ended true w
+fill_laid w (x ∷ xs) = if fits (put_laid w x) then fill_laid (put_laid w x) xs else ended false w
+
 abbrev pub fill : Writer → List Item → Filled
-fill w [] = ended true w
-fill w (x ∷ xs) = if fits (put w x) then fill (put w x) xs else ended false w
+fill w items = fill_laid w (laid items)

@@ -1,22 +1,32 @@
 -- Private steps: rows that are held while a row is appended, and the rows of the lanes after it.
-use Rattle.std.specs.Prelude.{◌≡◌, ◌≤◌, ◌+◌, ◌*◌, ◌==◌, ◌&&◌, ℕ, Bool, true, false, if◌then◌else◌, List, [], ◌∷◌, take, drop, All, slice_index_or, Option, None, Some}
+use Rattle.std.specs.Prelude.{◌≡◌, ◌<◌, ◌≤◌, ◌+◌, ◌*◌, ◌==◌, ◌&&◌, ℕ, Bool, true, false, if◌then◌else◌, List, [], ◌∷◌, take, drop, All, slice_index_or, Option, None, Some}
 use Rattle.dnp_objects.specs.declared.lane.LaneRow.{LaneRow}
 use Rattle.dnp_objects.specs.Events.{IsEvent}
 use Rattle.dnp_objects.specs.Lanes.{lane_number}
+use Rattle.dnp_objects.specs.declared.limits.TheConstants.{MAX_FRAGMENT}
+use Rattle.dnp_objects.specs.declared.row.Kind.{Kind}
 use Rattle.dnp_eventbuf.specs.declared.numbered.Numbered.{Numbered}
 use Rattle.dnp_eventbuf.specs.Sound.{IsSound}
 use Rattle.dnp_eventbuf.specs.Stock.{Stock, lane_at, is_full}
 use Rattle.dnp_outstation.specs.declared.held.HeldClass.{HeldClass}
 use Rattle.dnp_outstation.specs.declared.held.HeldRows.{HeldRows}
 use Rattle.dnp_outstation.specs.declared.held.NewRow.{NewRow}
+use Rattle.dnp_outstation.specs.Putting.{least_octets}
 
 -- ---- what is held
 
--- the first rows of a lane are held, one more than any fragment has room for and one beside it
-pub record IsLaneHeld (s : Stock) (lane : ℕ) (rows : List Numbered) : Type 0 where
+-- the first rows of a lane, which are of one kind: over those that a fragment has room for one at least, and one
+-- beside it, which may be dropped
+pub record AreFirst (all rows : List Numbered) : Type 0 where
+  pub kind : Kind
+  pub of_kind : All (λ x. x.row.kind ≡ kind) rows
   pub most : ℕ
-  pub enough : 1024 ≤ most
-  pub is : rows ≡ take most (lane_at s lane).rows
+  pub enough : (n : ℕ) → least_octets kind * n ≤ MAX_FRAGMENT → n + 1 < most
+  pub is : rows ≡ take most all
+
+-- those of a lane are held
+abbrev pub IsLaneHeld : Stock → ℕ → List Numbered → Type 0
+IsLaneHeld s lane rows = AreFirst (lane_at s lane).rows rows
 
 pub record IsClassHeld (s : Stock) (class : ℕ) (held : HeldClass) : Type 0 where
   pub binary : IsLaneHeld s (3 * class) held.binary.items

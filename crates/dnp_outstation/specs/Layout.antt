@@ -1,4 +1,4 @@
--- Definition: the object headers that a list of items is written as, and the size of the response that holds them
+-- Definition: as which object each item goes, the object headers that they are written as, and the size of the response that holds them
 -- (IEEE Std 1815-2012, application layer: object headers, responses; object library: groups 2, 22, 32, 1, 10, 20, 30).
 use Rattle.std.specs.Prelude.{ℕ, ◌+◌, ◌==◌, Bool, true, false, ◌&&◌, if◌then◌else◌, nat_le, List, [], ◌∷◌, length, map}
 use Rattle.std.specs.List.{flat_map}
@@ -10,14 +10,30 @@ use Rattle.dnp_objects.specs.declared.limits.TheConstants.{MAX_FRAGMENT}
 use Rattle.dnp_outstation.specs.Items.{Thing, Item}
 use Rattle.dnp_outstation.specs.Items.Thing.{Event, Present}
 
--- what an item is written as: an event as 2.2, 22.5 or 32.3, without a time as 2.1, 22.1 or 32.1, and a present
--- value as 1.2, 10.2, 20.1 or 30.1
-abbrev pub object_of : Item → Object
-object_of x = of x.thing
-  where
-    of : Thing → Object
-    of (Event lane row) = event_item row.row
-    of (Present static) = point_item static.group static.row
+-- ---- as which object an item goes
+
+-- an item with the object as which it goes
+pub record Laid : Type 0 where
+  pub item : Item
+  pub object : Object
+
+abbrev pub item_of : Laid → Item
+item_of x = x.item
+
+abbrev pub object_of : Laid → Object
+object_of x = x.object
+
+-- an event as 2.2, 22.5 or 32.3, without a time as 2.1, 22.1 or 32.1, and a present value as 1.2, 10.2, 20.1 or 30.1
+abbrev pub own_object : Thing → Object
+own_object (Event lane row) = event_item row.row
+own_object (Present static) = point_item static.group static.row
+
+-- each goes as its own, whatever the READ asked for and whatever stands beside it
+abbrev pub lay : Item → Laid
+lay x = record { item = x; object = own_object x.thing }
+
+abbrev pub laid : List Item → List Laid
+laid items = map lay items
 
 -- ---- which items stand under one header
 
@@ -26,35 +42,36 @@ abbrev pub is_same_object : Object → Object → Bool
 is_same_object a b = (a.group == b.group) && (a.variation == b.variation)
 
 -- the second item stands under the header of the first, which is the one before it: an event if it is of the same
--- lane and object, and a present value if it is of the same header of the READ, the same group and block, and its
+-- lane and object, and a present value if it is of the same header of the READ, the same object and block, and its
 -- index is the next
-abbrev pub goes_on : Item → Item → Bool
-goes_on x y = goes_on_by x.thing y.thing
+abbrev pub goes_on : Laid → Laid → Bool
+goes_on x y = goes_on_by x.item.thing y.item.thing
   where
     goes_on_by : Thing → Thing → Bool
-    goes_on_by (Event lane a) (Event lane' b) = (lane == lane') && is_same_object (event_item a.row) (event_item b.row)
+    goes_on_by (Event lane a) (Event lane' b) = (lane == lane') && is_same_object x.object y.object
     goes_on_by (Event lane a) (Present b) = false
     goes_on_by (Present a) (Event lane' b) = false
     goes_on_by (Present a) (Present b) =
-        (x.header == y.header) && ((a.group == b.group) && (a.block == b.block)) && (a.row.index + 1 == b.row.index)
+        (x.item.header == y.item.header) && ((x.object.group == y.object.group) && (a.block == b.block))
+        && ((x.object.variation == y.object.variation) && (a.row.index + 1 == b.row.index))
 
 -- the items under one header, in order
 pub record Stretch : Type 0 where
-  pub first : Item
-  pub more : List Item
+  pub first : Laid
+  pub more : List Laid
 
-abbrev pub alone : Item → Stretch
+abbrev pub alone : Laid → Stretch
 alone x = record { first = x; more = [] }
 
 -- an item in front of others: it stands under one header with the next, if that one goes on
-abbrev pub in_front : Item → List Stretch → List Stretch
+abbrev pub in_front : Laid → List Stretch → List Stretch
 in_front x [] = alone x ∷ []
 in_front x (next ∷ others) =
     if goes_on x next.first
     then (record { first = x; more = next.first ∷ next.more }) ∷ others
     else alone x ∷ next ∷ others
 
-abbrev pub stretches : List Item → List Stretch
+abbrev pub stretches : List Laid → List Stretch
 stretches [] = []
 stretches (x ∷ xs) = in_front x (stretches xs)
 
@@ -68,22 +85,22 @@ range_of (Present static) more = range.Span true static.row.index (static.row.in
 
 abbrev pub header_of : Stretch → Head
 header_of s = record {
-  group = (object_of s.first).group;
-  variation = (object_of s.first).variation;
-  range = range_of s.first.thing (length s.more);
-  octets = flat_map (item_octets (range_of s.first.thing (length s.more))) (map object_of (s.first ∷ s.more));
+  group = s.first.object.group;
+  variation = s.first.object.variation;
+  range = range_of s.first.item.thing (length s.more);
+  octets = flat_map (item_octets (range_of s.first.item.thing (length s.more))) (map object_of (s.first ∷ s.more));
 }
 
-abbrev pub headers_of : List Item → List Head
+abbrev pub headers_of : List Laid → List Head
 headers_of items = map header_of (stretches items)
 
 -- ---- the size
 
 -- how many octets a response with these items has: control, function, two of indications, and the headers with
 -- their objects
-abbrev pub response_size : List Item → ℕ
+abbrev pub response_size : List Laid → ℕ
 response_size items = 4 + length (spelled (headers_of items))
 
 -- a fragment has at most 2,048 octets
-abbrev pub fits_fragment : List Item → Bool
+abbrev pub fits_fragment : List Laid → Bool
 fits_fragment items = nat_le (response_size items) MAX_FRAGMENT

@@ -4,6 +4,7 @@ use Rattle.dnp_objects.specs.declared.row.Kind.{Kind}
 use Rattle.dnp_objects.specs.declared.row.Row.{Row}
 use Rattle.dnp_objects.specs.declared.store.StoreFault.{StoreFault}
 use Rattle.dnp_objects.specs.declared.store.StoreFault.TheVariants.{Exhausted, Memory, Device}
+use Rattle.dnp_eventbuf.specs.declared.numbered.Numbered.{Numbered}
 use Rattle.dnp_eventbuf.specs.Stock.{Stock, rows_in}
 use Rattle.dnp_objects.specs.declared.row.Kind.TheVariants.{Binary, Counter, Analog}
 use Rattle.dnp_pointdb.specs.declared.state.PointState.{PointState}
@@ -16,6 +17,18 @@ use Rattle.dnp_outstation.specs.Filling.{fill, ended}
 -- the items were put, all of them or, where they don't fit, as many as do: whatever comes behind
 abbrev pub Puts : Writer → List Item → Bool → Writer → Type 0
 Puts w items fit w' = (more : List Item) → fill w (items ++ more) ≡ (if fit then fill w' more else ended false w')
+
+-- the fewest octets that an event of a kind takes in a fragment: its index, its flags, and of a counter or an analog
+-- its value, as 2.1, 22.1 and 32.1 have them
+abbrev pub least_octets : Kind → ℕ
+least_octets Binary = 3
+least_octets Counter = 7
+least_octets Analog = 7
+
+-- those that rows take
+abbrev pub least_of : List Numbered → ℕ
+least_of [] = 0
+least_of (x ∷ xs) = least_octets x.row.kind + least_of xs
 
 -- what a header gives of present values but for the first so many
 abbrev pub presents : ℕ → ℕ → List Static → List Item

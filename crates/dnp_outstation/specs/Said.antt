@@ -1,6 +1,6 @@
 -- Definition: the event rows that a response's headers say, by the reading of `dnp_appfragment`, and the items that
 -- can be written (IEEE Std 1815-2012, application layer: responses; object library: groups 2, 22 and 32).
-use Rattle.std.specs.Prelude.{ℕ, ◌<◌, ◌^◌, Bool, ◌||◌, ◌==◌, if◌then◌else◌, List, [], option_to_list, Option, None, Some, All}
+use Rattle.std.specs.Prelude.{◌≡◌, ℕ, ◌<◌, ◌^◌, Bool, ◌||◌, ◌==◌, if◌then◌else◌, List, [], option_to_list, Option, None, Some, All}
 use Rattle.std.specs.List.{flat_map, filter_map, range_with_len}
 use Rattle.dnp_objects.specs.Events.{IsEvent}
 use Rattle.dnp_objects.specs.declared.limits.TheConstants.{LANES}
@@ -11,6 +11,7 @@ use Rattle.dnp_appfragment.specs.Written.{FitsPoint}
 use Rattle.dnp_eventbuf.specs.Stock.{Stock, lane_at}
 use Rattle.dnp_outstation.specs.Items.{Thing, Item, Source, statics_of}
 use Rattle.dnp_outstation.specs.Items.Thing.{Event, Present}
+use Rattle.dnp_outstation.specs.Layout.{Laid, own_object}
 
 -- ---- what headers say
 
@@ -48,6 +49,11 @@ CanStand x = of x.thing
     of : Thing → Type 0
     of (Event lane row) = IsEvent row.row × (row.row.index < 2 ^ 16)
     of (Present static) = FitsPoint static.group static.row × (static.row.index < 2 ^ 16)
+
+-- with the object as which it goes: that says it
+pub record CanGo (x : Laid) : Type 0 where
+  pub stands : CanStand x.item
+  pub says : x.object ≡ own_object x.item.thing
 
 -- the indexes of the lanes' rows have 16 bits
 abbrev pub HaveIndexes : Stock → Type 0

@@ -12,19 +12,19 @@ ghost use Rattle.dnp_eventbuf.specs.Sound.{IsSound};
 ghost use Rattle.dnp_eventbuf.specs.Stock.{Stock, rows_in, with_rows, dropped_by};
 ghost use Rattle.dnp_objects.specs.declared.limits.TheConstants.{LANES};
 ghost use Rattle.dnp_outstation.specs.Filling.{empty_for, ended};
-ghost use Rattle.dnp_outstation.specs.Holding.{IsLaneHeld, IsClassHeld, IsHeld, AreClassEvents, AreEvents, new_of, kept_of, more_of};
+ghost use Rattle.dnp_outstation.specs.Holding.{AreFirst, IsLaneHeld, IsClassHeld, IsHeld, AreClassEvents, AreEvents, new_of, kept_of, more_of};
 ghost use Rattle.dnp_outstation.specs.Items.{event_of, class_lanes, lane_items, first_place};
 ghost use Rattle.dnp_outstation.specs.Offer.{pushed};
 ghost use Rattle.dnp_outstation.specs.Putting.{Puts, IsLook};
 
+use crate::offer::rows::enough;
 use crate::offer::writer::Writer;
 use dnp_eventbuf::{Lane, Lanes, Numbered, StoreFault};
-use dnp_objects::{LaneRow, Row};
+use dnp_objects::{LaneRow, MAX_FRAGMENT, Row};
 use std::alloc::Global;
 
-/// How many rows of a lane are held: a row has two octets at least, those of its index, so a fragment of
-/// 2,048 octets has no room for one less of them, and one of them may be dropped.
-const HELD: usize = 1024;
+/// How many rows of a lane are held over those that a whole fragment asks for: the one that may be dropped.
+const DROPPED: usize = 1;
 
 /// The first rows of the lanes of a class.
 #[derive(Drop)]
@@ -67,7 +67,8 @@ fn held_lane<L: Lanes>(
         Some(lane) => lane,
         None => unreachable!(),
     };
-    let rows = lanes.offer(alloc, lane, 0, HELD)?;
+    let held = enough(lane.kind, MAX_FRAGMENT) + DROPPED;
+    let rows = lanes.offer(alloc, lane, 0, held)?;
     Ok(rows)
 }
 
@@ -183,7 +184,7 @@ impl Writer {
         requires response { IsTrue (is_response self.old.builder.function) }
         requires events { All (λ x. IsEvent x.row) rows.now }
         requires event { IfSome new.now (λ new. IsEvent new.row.row) }
-        ensures written { (all : List NumberedRow) (most : ℕ) → 1024 ≤ most → rows.now ≡ take most all
+        ensures written { (all : List NumberedRow) → AreFirst all rows.now
             → Puts self.old (map (event_of 0 lane) (kept_of all new.now lane ++ more_of new.now lane)) result self.new }
         ensures response { self.new.builder.function ≡ self.old.builder.function }
     {

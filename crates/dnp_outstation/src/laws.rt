@@ -18,10 +18,10 @@ ghost use Rattle.dnp_outstation.specs.declared.offer.place.Place.{Place};
 ghost use Rattle.dnp_outstation.specs.declared.session.Awaited.{Awaited};
 ghost use Rattle.dnp_outstation.specs.declared.session.LastRequest.{LastRequest};
 ghost use Rattle.dnp_outstation.specs.Items.{Source, Item, no_ids, items_left, enabled_lanes, lane_items};
-ghost use Rattle.dnp_outstation.specs.Layout.{object_of, headers_of, response_size, fits_fragment};
-ghost use Rattle.dnp_outstation.specs.Offer.{held_of, offered_of, offered, pushed};
+ghost use Rattle.dnp_outstation.specs.Layout.{Laid, laid, item_of, object_of, headers_of, response_size, fits_fragment};
+ghost use Rattle.dnp_outstation.specs.Offer.{held_laid, held_of, offered_of, offered, pushed};
 ghost use Rattle.dnp_outstation.specs.Laws.{IsLongest, rows_by_lane, AreRowsUpto, IsTidy, LeavesOnly, AreNext, IsOnward, AreGiven, AreBefore};
-ghost use Rattle.dnp_outstation.specs.Said.{rows_said, events_in, CanStand, HaveIndexes, AreWritable};
+ghost use Rattle.dnp_outstation.specs.Said.{rows_said, events_in, CanGo, HaveIndexes, AreWritable};
 ghost use Rattle.dnp_outstation.specs.State.{State};
 ghost use Rattle.dnp_outstation.specs.Connection.{closed};
 ghost use Rattle.dnp_outstation.specs.Calls.{connection_after, tick_of, change_of, opened_of, restart_of};
@@ -37,8 +37,8 @@ use dnp_eventbuf::laws::{a_release_is_lane_by_lane, ids_are_used_once, lanes_sta
 /// since a response with more items is no smaller. Nothing is left exactly where it holds them all, and
 /// where no item was left it is empty and the last.
 pub fn a_fragment_holds_as_much_as_fits()
-    ensures longest { (items : List Item) → IsLongest fits_fragment items (held_of items) }
-    ensures grows { (items more : List Item) → response_size items ≤ response_size (items ++ more) }
+    ensures longest { (items : List Item) → IsLongest fits_fragment (laid items) (held_laid items) }
+    ensures grows { (held more : List Laid) → response_size held ≤ response_size (held ++ more) }
     ensures last { (place : Place) (items : List Item) → ((offered_of place items).left ≡ None) ↔ (held_of items ≡ items) }
     ensures empty { (place : Place) → offered_of place [] ≡ record { headers = []; upto = no_ids; left = None } }
 {}
@@ -94,19 +94,19 @@ pub fn nothing_else_given_is_left()
     ids_are_used_once();
 }
 
-/// Items that can be written and fit are a response, whose headers hold just these, and the rows that its
-/// event headers say are the event rows among them, in order. The items of a READ can be written where the
+/// Items that can be written, each as an object that says it, and fit are a response, whose headers hold just
+/// these objects, and the rows that its event headers say are the event rows among them, in order. The items of a READ can be written where the
 /// rows of the lanes and the present values can, and then each fragment that leaves something holds something.
 pub fn octets_say_what_is_held()
-    ensures held { (items : List Item) → All CanStand items → fits_fragment items ≡ true
-        → HoldAll (headers_of items) (map object_of items) }
-    ensures response { (answered : Answered) (items : List Item) → answered.headers ≡ headers_of items
-        → IsControl answered.control → is_response answered.function ≡ true → All CanStand items
-        → fits_fragment items ≡ true → response_at (response_octets answered) ≡ Ok answered }
-    ensures rows { (items : List Item) → All CanStand items → fits_fragment items ≡ true
-        → rows_said (headers_of items) ≡ events_in items }
+    ensures held { (held : List Laid) → All CanGo held → fits_fragment held ≡ true
+        → HoldAll (headers_of held) (map object_of held) }
+    ensures response { (answered : Answered) (held : List Laid) → answered.headers ≡ headers_of held
+        → IsControl answered.control → is_response answered.function ≡ true → All CanGo held
+        → fits_fragment held ≡ true → response_at (response_octets answered) ≡ Ok answered }
+    ensures rows { (held : List Laid) → All CanGo held → fits_fragment held ≡ true
+        → rows_said (headers_of held) ≡ events_in (map item_of held) }
     ensures written { (s : Source) (stood : ℕ) (place : Place) (headers : List Head) → IsSound s.lanes → AreWritable s
-        → All CanStand (held_of (items_left s stood place headers)) }
+        → All CanGo (held_laid (items_left s stood place headers)) }
     ensures some { (s : Source) (stood : ℕ) (place left : Place) (headers : List Head) → IsSound s.lanes → AreWritable s
         → (offered s stood place headers).left ≡ Some left → held_of (items_left s stood place headers) ≢ [] }
 {

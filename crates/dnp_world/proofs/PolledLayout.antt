@@ -13,9 +13,11 @@ use Rattle.dnp_objects.specs.declared.limits.TheConstants.{MAX_FRAGMENT}
 use Rattle.dnp_objects.specs.declared.row.Row.{Row}
 use Rattle.dnp_outstation.specs.Items.{Item, Source, Thing, class_lanes, event_of, first_place, given_after, items_left, last_in, no_ids}
 use Rattle.dnp_outstation.specs.Items.Thing.{Event, Present}
-use Rattle.dnp_outstation.specs.Layout.{Stretch, alone, fits_fragment, goes_on, header_of, headers_of, in_front, object_of, range_of, stretches}
-use Rattle.dnp_outstation.specs.Offer.{Filled, held_of, last_ids, longest_up_to, offered, offered_of}
+use Rattle.dnp_outstation.specs.Layout.{Laid, Stretch, alone, fits_fragment, goes_on, header_of, headers_of, in_front, item_of, laid, lay, object_of, range_of, stretches}
+use Rattle.dnp_outstation.specs.Offer.{Filled, held_laid, held_of, last_ids, longest, longest_up_to, offered, offered_of}
 use Rattle.dnp_outstation.specs.Said.{event_in, events_in}
+use Rattle.dnp_outstation.proofs.HeldItems.{held_longest, laid_items}
+use Rattle.dnp_outstation.proofs.Stretches.{laid_as}
 use Rattle.dnp_world.specs.Polled.{are_all_polled, polled_held, polled_ids, polled_items, polled_rows}
 use Rattle.dnp_world.specs.Rounds.{events_polled}
 use Rattle.dnp_world.proofs.PolledItems.{by_class, of_lanes, plain_item, plain_read, read_items}
@@ -37,7 +39,7 @@ rows_joined : (xs ys : List Item) → AreRows xs → AreRows ys → AreRows (xs 
 rows_joined [] ys first second = second
 rows_joined (x ∷ xs) ys first second = (first.0, rows_joined xs ys first.1 second)
 
-rows_first : (n : ℕ) (xs : List Item) → AreRows xs → AreRows (take n xs)
+rows_first : (n : ℕ) (xs : List Laid) → AreRows (map item_of xs) → AreRows (map item_of (take n xs))
 rows_first zero xs all = tt
 rows_first (suc n) [] all = tt
 rows_first (suc n) (x ∷ xs) all = (all.0, rows_first n xs all.1)
@@ -62,53 +64,56 @@ read_are_rows s =
 
 -- ---- stretches and headers
 
+-- an item goes the same for whatever header
+abbrev plain_laid : Laid → Laid
+plain_laid x = record x { item = plain_item x.item }
+
 abbrev plain_stretch : Stretch → Stretch
-plain_stretch x = record { first = plain_item x.first; more = map plain_item x.more }
+plain_stretch x = record { first = plain_laid x.first; more = map plain_laid x.more }
 
-same_goes : (x y : Item) → IsRow x → goes_on (plain_item x) (plain_item y) ≡ goes_on x y
-same_goes x y is = go x.header x.thing y.header y.thing is
+same_goes : (x y : Laid) → IsRow x.item → goes_on (plain_laid x) (plain_laid y) ≡ goes_on x y
+same_goes x y is = go x.item.thing y.item.thing is
   where
-    go : (h : ℕ) (t : Thing) (k : ℕ) (u : Thing) → IsRow (record { header = h; thing = t })
-        → goes_on (record { header = 0; thing = t }) (record { header = 0; thing = u })
-        ≡ goes_on (record { header = h; thing = t }) (record { header = k; thing = u })
-    go h (Event lane a) k (Event lane' b) is = refl
-    go h (Event lane a) k (Present b) is = refl
-    go h (Present a) k u is = absurd is
+    go : (t u : Thing) → IsRow (record { header = x.item.header; thing = t })
+        → goes_on (laid_as 0 t x.object) (laid_as 0 u y.object) ≡ goes_on (laid_as x.item.header t x.object) (laid_as y.item.header u y.object)
+    go (Event lane a) (Event lane' b) is = refl
+    go (Event lane a) (Present b) is = refl
+    go (Present a) u is = absurd is
 
-plain_front : (x : Item) (found : List Stretch) → IsRow x → in_front (plain_item x) (map plain_stretch found) ≡ map plain_stretch (in_front x found)
+plain_front : (x : Laid) (found : List Stretch) → IsRow x.item → in_front (plain_laid x) (map plain_stretch found) ≡ map plain_stretch (in_front x found)
 plain_front x [] is = refl
 plain_front x (next ∷ others) is =
-    ap (λ (b : Bool). if b then joined ∷ map plain_stretch others else alone (plain_item x) ∷ plain_stretch next ∷ map plain_stretch others)
+    ap (λ (b : Bool). if b then joined ∷ map plain_stretch others else alone (plain_laid x) ∷ plain_stretch next ∷ map plain_stretch others)
     (same_goes x next.first is)
     ∙ by (goes_on x next.first)
   where
     joined : Stretch
-    joined = record { first = plain_item x; more = plain_item next.first ∷ map plain_item next.more }
+    joined = record { first = plain_laid x; more = plain_laid next.first ∷ map plain_laid next.more }
 
-    by : (b : Bool) → (if b then joined ∷ map plain_stretch others else alone (plain_item x) ∷ plain_stretch next ∷ map plain_stretch others)
+    by : (b : Bool) → (if b then joined ∷ map plain_stretch others else alone (plain_laid x) ∷ plain_stretch next ∷ map plain_stretch others)
         ≡ map plain_stretch (if b then (let y : Stretch = record { first = x; more = next.first ∷ next.more } in y) ∷ others else alone x ∷ next ∷ others)
     by true = refl
     by false = refl
 
-plain_stretches : (xs : List Item) → AreRows xs → stretches (map plain_item xs) ≡ map plain_stretch (stretches xs)
+plain_stretches : (xs : List Laid) → AreRows (map item_of xs) → stretches (map plain_laid xs) ≡ map plain_stretch (stretches xs)
 plain_stretches [] all = refl
-plain_stretches (x ∷ xs) all = ap (in_front (plain_item x)) (plain_stretches xs all.1) ∙ plain_front x (stretches xs) all.0
+plain_stretches (x ∷ xs) all = ap (in_front (plain_laid x)) (plain_stretches xs all.1) ∙ plain_front x (stretches xs) all.0
 
-plain_objects : (xs : List Item) → map object_of (map plain_item xs) ≡ map object_of xs
+plain_objects : (xs : List Laid) → map object_of (map plain_laid xs) ≡ map object_of xs
 plain_objects [] = refl
 plain_objects (x ∷ xs) = ap (λ (os : List Object). object_of x ∷ os) (plain_objects xs)
 
-abbrev header_with : Item → ℕ → List Object → Head
+abbrev header_with : Laid → ℕ → List Object → Head
 header_with first more objects = record {
-  group = (object_of first).group;
-  variation = (object_of first).variation;
-  range = range_of first.thing more;
-  octets = flat_map (item_octets (range_of first.thing more)) (object_of first ∷ objects);
+  group = first.object.group;
+  variation = first.object.variation;
+  range = range_of first.item.thing more;
+  octets = flat_map (item_octets (range_of first.item.thing more)) (first.object ∷ objects);
 }
 
 plain_header : (x : Stretch) → header_of (plain_stretch x) ≡ header_of x
 plain_header x =
-    ap (λ (n : ℕ). header_with x.first n (map object_of (map plain_item x.more))) (length-map x.more plain_item)
+    ap (λ (n : ℕ). header_with x.first n (map object_of (map plain_laid x.more))) (length-map x.more plain_laid)
     ∙ ap (λ (os : List Object). header_with x.first (length x.more) os) (plain_objects x.more)
 
 plain_heads : (found : List Stretch) → map header_of (map plain_stretch found) ≡ map header_of found
@@ -116,45 +121,50 @@ plain_heads [] = refl
 plain_heads (x ∷ xs) =
     ap (λ (h : Head). h ∷ map header_of (map plain_stretch xs)) (plain_header x) ∙ ap (λ (hs : List Head). header_of x ∷ hs) (plain_heads xs)
 
-plain_headers : (xs : List Item) → AreRows xs → headers_of (map plain_item xs) ≡ headers_of xs
+plain_headers : (xs : List Laid) → AreRows (map item_of xs) → headers_of (map plain_laid xs) ≡ headers_of xs
 plain_headers xs all = ap (map header_of) (plain_stretches xs all) ∙ plain_heads (stretches xs)
 
-plain_fits : (xs : List Item) → AreRows xs → fits_fragment (map plain_item xs) ≡ fits_fragment xs
+plain_fits : (xs : List Laid) → AreRows (map item_of xs) → fits_fragment (map plain_laid xs) ≡ fits_fragment xs
 plain_fits xs all = ap (λ (hs : List Head). nat_le (4 + length (spelled hs)) MAX_FRAGMENT) (plain_headers xs all)
 
 -- ---- what is held
 
-plain_longest : (n : ℕ) (xs : List Item) → AreRows xs
-    → longest_up_to fits_fragment n (map plain_item xs) ≡ map plain_item (longest_up_to fits_fragment n xs)
+plain_longest : (n : ℕ) (xs : List Laid) → AreRows (map item_of xs)
+    → longest_up_to fits_fragment n (map plain_laid xs) ≡ map plain_laid (longest_up_to fits_fragment n xs)
 plain_longest zero xs all = refl
 plain_longest (suc n) xs all =
-    let front : List Item = take (suc n) xs in
-    ap (λ (ys : List Item). if fits_fragment ys then ys else longest_up_to fits_fragment n (map plain_item xs)) (take-map plain_item (suc n) xs)
-    ∙ ap (λ (b : Bool). if b then map plain_item front else longest_up_to fits_fragment n (map plain_item xs))
+    let front : List Laid = take (suc n) xs in
+    ap (λ (ys : List Laid). if fits_fragment ys then ys else longest_up_to fits_fragment n (map plain_laid xs)) (take-map plain_laid (suc n) xs)
+    ∙ ap (λ (b : Bool). if b then map plain_laid front else longest_up_to fits_fragment n (map plain_laid xs))
     (plain_fits front (rows_first (suc n) xs all))
-    ∙ ap (λ (ys : List Item). if fits_fragment front then map plain_item front else ys) (plain_longest n xs all)
+    ∙ ap (λ (ys : List Laid). if fits_fragment front then map plain_laid front else ys) (plain_longest n xs all)
     ∙ by (fits_fragment front) front (longest_up_to fits_fragment n xs)
   where
-    by : (b : Bool) (ys zs : List Item) → (if b then map plain_item ys else map plain_item zs) ≡ map plain_item (if b then ys else zs)
+    by : (b : Bool) (ys zs : List Laid) → (if b then map plain_laid ys else map plain_laid zs) ≡ map plain_laid (if b then ys else zs)
     by true ys zs = refl
     by false ys zs = refl
 
-plain_held : (xs : List Item) → AreRows xs → held_of (map plain_item xs) ≡ map plain_item (held_of xs)
-unfolding held_of
-plain_held xs all =
-    ap (λ (n : ℕ). longest_up_to fits_fragment n (map plain_item xs)) (length-map xs plain_item) ∙ plain_longest (length xs) xs all
+plain_are_laid : (xs : List Item) → laid (map plain_item xs) ≡ map plain_laid (laid xs)
+plain_are_laid [] = refl
+plain_are_laid (x ∷ xs) = ap (λ (ys : List Laid). lay (plain_item x) ∷ ys) (plain_are_laid xs)
 
-rows_longest : (n : ℕ) (xs : List Item) → AreRows xs → AreRows (longest_up_to fits_fragment n xs)
-rows_longest zero xs all = tt
-rows_longest (suc n) xs all = by (fits_fragment (take (suc n) xs)) (rows_longest n xs all)
-  where
-    by : (b : Bool) → AreRows (longest_up_to fits_fragment n xs) → AreRows (if b then take (suc n) xs else longest_up_to fits_fragment n xs)
-    by true fewer = rows_first (suc n) xs all
-    by false fewer = fewer
+rows_laid : (xs : List Item) → AreRows xs → AreRows (map item_of (laid xs))
+rows_laid xs all = subst AreRows (sym (laid_items xs)) all
+
+plain_held : (xs : List Item) → AreRows xs → held_laid (map plain_item xs) ≡ map plain_laid (held_laid xs)
+unfolding held_laid
+plain_held xs all =
+    ap (longest fits_fragment) (plain_are_laid xs)
+    ∙ ap (λ (n : ℕ). longest_up_to fits_fragment n (map plain_laid (laid xs))) (length-map (laid xs) plain_laid)
+    ∙ plain_longest (length (laid xs)) (laid xs) (rows_laid xs all)
 
 rows_held : (xs : List Item) → AreRows xs → AreRows (held_of xs)
-unfolding held_of
-rows_held xs all = rows_longest (length xs) xs all
+rows_held xs all =
+    subst (λ (held : List Laid). AreRows (map item_of held)) (held_longest xs).begins (rows_first (length (held_laid xs)) (laid xs) (rows_laid xs all))
+
+plain_items : (xs : List Laid) → map item_of (map plain_laid xs) ≡ map plain_item (map item_of xs)
+plain_items [] = refl
+plain_items (x ∷ xs) = ap (λ (ys : List Item). plain_item x.item ∷ ys) (plain_items xs)
 
 plain_events : (xs : List Item) → events_in (map plain_item xs) ≡ events_in xs
 plain_events [] = refl
@@ -168,7 +178,7 @@ plain_ids given (x ∷ xs) = plain_ids (given_after given x) xs
 
 -- what the first fragment of the READ holds
 pub record IsPolled (s : Stock) (items : List Item) : Type 0 where
-  pub headers : headers_of (held_of items) ≡ headers_of (polled_held s)
+  pub headers : headers_of (held_laid items) ≡ headers_of (polled_held s)
   pub upto : last_ids (held_of items) ≡ polled_ids s
   pub rows : events_in (held_of items) ≡ polled_rows s
   pub all : (length (held_of items) == length items) ≡ are_all_polled s
@@ -179,14 +189,15 @@ class_polled s =
     let held : List Item = held_of items in
     let all : AreRows items = read_are_rows s in
     let few : AreRows held = rows_held items all in
-    let same : polled_held s ≡ map plain_item held = ap held_of (sym (plain_read s)) ∙ plain_held items all in
-    let held_long : length held ≡ length (polled_held s) = sym (length-map held plain_item) ∙ ap length (sym same) in
+    let same_laid : polled_held s ≡ map plain_laid (held_laid items) = ap held_laid (sym (plain_read s)) ∙ plain_held items all in
+    let same : held_of (polled_items s) ≡ map plain_item held = ap (map item_of) same_laid ∙ plain_items (held_laid items) in
+    let held_long : length held ≡ length (held_of (polled_items s)) = sym (length-map held plain_item) ∙ ap length (sym same) in
     let long : length items ≡ length (polled_items s) = sym (length-map items plain_item) ∙ ap length (plain_read s) in
     record {
-      headers = sym (plain_headers held few) ∙ ap headers_of (sym same);
+      headers = sym (plain_headers (held_laid items) few) ∙ ap headers_of (sym same_laid);
       upto = sym (plain_ids no_ids held) ∙ ap last_ids (sym same);
       rows = sym (plain_events held) ∙ ap events_in (sym same);
-      all = ap (λ (n : ℕ). n == length items) held_long ∙ ap (λ (n : ℕ). length (polled_held s) == n) long;
+      all = ap (λ (n : ℕ). n == length items) held_long ∙ ap (λ (n : ℕ). length (held_of (polled_items s)) == n) long;
     }
 
 pub read_polled : (s : Source) → IsSound s.lanes → IsPolled s.lanes (items_left s (last_in s.lanes) first_place (headers_for events_polled))

@@ -13,11 +13,10 @@ use Rattle.dnp_objects.specs.declared.row.Row.{Row}
 use Rattle.dnp_outstation.specs.Connection.{has_rows}
 use Rattle.dnp_outstation.specs.Items.{Item, event_of, lane_items}
 use Rattle.dnp_outstation.specs.Laws.{lane_numbers}
-use Rattle.dnp_outstation.specs.Layout.{fits_fragment}
 use Rattle.dnp_outstation.specs.Offer.{held_of}
 use Rattle.dnp_outstation.specs.Said.{event_in, events_in}
 use Rattle.dnp_outstation.proofs.Carried.{lane_rises}
-use Rattle.dnp_outstation.proofs.Longest.{longest_whole}
+use Rattle.dnp_outstation.proofs.HeldItems.{held_whole}
 use Rattle.dnp_outstation.proofs.Rising.{Rising, upto, upto_none}
 use Rattle.dnp_world.specs.Polled.{are_all_polled, polled_ids, polled_items, polled_rows}
 use Rattle.dnp_world.proofs.PolledOrder.{events_of_lane, released_is}
@@ -89,8 +88,7 @@ none_in_lanes s sound none lane = by (cases_lt lane LANES)
     by (inr past) = ap (λ (l : LaneState). l.rows) (get_or_past s.lanes lane no_lane (omega (arith, sound.nine, past)))
 
 whole : (items : List Item) → (length (held_of items) == length items) ≡ true → held_of items ≡ items
-unfolding held_of
-whole items all = longest_whole fits_fragment items refl (eqb-true (length (held_of items)) (length items) all)
+whole items all = held_whole items (eqb-true (length (held_of items)) (length items) all)
 
 pub lanes_are_empty : (s : Stock) → IsSound s → are_all_polled s ≡ true → polled_rows s ≡ [] → (lane : ℕ) → (lane_at s lane).rows ≡ []
 lanes_are_empty s sound all none =

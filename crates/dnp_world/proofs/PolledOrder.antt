@@ -9,12 +9,11 @@ use Rattle.dnp_eventbuf.specs.declared.numbered.Numbered.{Numbered}
 use Rattle.dnp_objects.specs.declared.row.Row.{Row}
 use Rattle.dnp_outstation.specs.Items.{Item, enabled_lanes, event_of, lane_items}
 use Rattle.dnp_outstation.specs.Laws.{AreRowsUpto, lane_numbers, row_in, rows_by_lane, rows_in_lane}
-use Rattle.dnp_outstation.specs.Layout.{fits_fragment}
 use Rattle.dnp_outstation.specs.Offer.{held_of, offered_of}
 use Rattle.dnp_outstation.specs.Said.{event_in, events_in}
 use Rattle.dnp_outstation.proofs.Carried.{pushed_rows, released_rows}
+use Rattle.dnp_outstation.proofs.HeldItems.{held_begins}
 use Rattle.dnp_outstation.proofs.LaneRows.{IsApart, rows_at, rows_elsewhere}
-use Rattle.dnp_outstation.proofs.Longest.{longest_longest}
 use Rattle.dnp_outstation.proofs.Reported.{nine_ids}
 use Rattle.dnp_world.specs.Polled.{polled_ids, polled_rows, reported}
 
@@ -172,17 +171,13 @@ enabled_among class (false ∷ bs) (suc more) few =
 
 -- ---- what is held of them
 
-first_of : (items : List Item) → take (length (held_of items)) items ≡ held_of items
-unfolding held_of
-first_of items = (longest_longest fits_fragment items refl).begins
-
 held_in_order : (s : Stock) (enabled : List Bool) → length enabled ≤ 3
     → (let items : List Item = lane_items s (enabled_lanes 0 enabled) in rows_by_lane (held_of items) ≡ events_in (held_of items))
 held_in_order s enabled few =
     let items : List Item = lane_items s (enabled_lanes 0 enabled) in
-    ap rows_by_lane (sym (first_of items))
+    ap rows_by_lane (sym (held_begins items))
     ∙ in_order s (length (held_of items)) (enabled_lanes 0 enabled) lane_numbers (enabled_among 0 enabled 3 few)
-    ∙ ap events_in (first_of items)
+    ∙ ap events_in (held_begins items)
 
 held_upto : (s : Stock) (enabled : List Bool) → IsSound s → AreRowsUpto s (reported s enabled).ids (held_of (lane_items s (enabled_lanes 0 enabled)))
 unfolding offered_of

@@ -1,5 +1,5 @@
 -- What a master that asked a READ of classes 1, 2 and 3 makes of what is offered.
-use Rattle.std.proofs.Common.{◌≡◌, Bool, true, false, not, ◌==◌, if◌then◌else◌, refl, sym, ap, ◌∙◌, subst, ℕ, List, [], ◌∷◌, Option, None, Some, is_none, is_some, Result, Ok, Err, eq-eqb, arith}
+use Rattle.std.proofs.Common.{◌≡◌, Bool, true, false, not, ◌==◌, if◌then◌else◌, refl, sym, ap, ◌∙◌, subst, ℕ, List, [], ◌∷◌, map, Option, None, Some, is_none, is_some, Result, Ok, Err, eq-eqb, arith}
 use Rattle.std.specs.List.{All, list_all}
 use Rattle.std.proofs.lemmas.Bool.{and_from, and_parts}
 use Rattle.std.proofs.lemmas.List.Elements.{All-head, All-tail}
@@ -18,9 +18,8 @@ use Rattle.dnp_master.specs.declared.fault.AskFault.TheVariants.{Busy, Closed}
 use Rattle.dnp_master.specs.declared.outcome.Echo.TheVariants.{Nothing}
 use Rattle.dnp_master.specs.declared.request.OpenRequest.{OpenRequest}
 use Rattle.dnp_objects.specs.declared.row.Row.{Row}
-use Rattle.dnp_outstation.specs.Items.{Item}
-use Rattle.dnp_outstation.specs.Layout.{fits_fragment, headers_of}
-use Rattle.dnp_outstation.specs.Said.{CanStand, HaveIndexes, rows_said}
+use Rattle.dnp_outstation.specs.Layout.{Laid, item_of, fits_fragment, headers_of}
+use Rattle.dnp_outstation.specs.Said.{CanGo, HaveIndexes, rows_said}
 use Rattle.dnp_outstation.specs.Said as said
 use Rattle.dnp_outstation.specs.State as outstation
 use Rattle.dnp_outstation.proofs.ItemsOf.{pushed_stand}
@@ -31,7 +30,7 @@ use Rattle.dnp_world.specs.Rounds.{events_polled}
 
 -- what the crate of outstations promises of items that can be written
 abbrev pub RowsAreSaid : Type 0
-RowsAreSaid = (items : List Item) → All CanStand items → fits_fragment items ≡ true → rows_said (headers_of items) ≡ said.events_in items
+RowsAreSaid = (held : List Laid) → All CanGo held → fits_fragment held ≡ true → rows_said (headers_of held) ≡ said.events_in (map item_of held)
 
 -- ---- asking
 

@@ -27,7 +27,7 @@ use Rattle.dnp_outstation.specs.Items.{Item, enabled_lanes, lane_items}
 use Rattle.dnp_outstation.specs.Layout.{headers_of}
 use Rattle.dnp_outstation.specs.Links.{IsInOrder}
 use Rattle.dnp_outstation.specs.Links as links
-use Rattle.dnp_outstation.specs.Offer.{held_of, offered_of, pushed}
+use Rattle.dnp_outstation.specs.Offer.{held_laid, offered_of, pushed}
 use Rattle.dnp_outstation.specs.Said.{HaveIndexes}
 use Rattle.dnp_outstation.specs.State.{Core, State, Step, is_free, still}
 use Rattle.dnp_outstation.specs.declared.case.Case.{Case}
@@ -109,7 +109,7 @@ confirms c seq w low opens waits same =
     ∙ ap (λ (b : Bool). if b then ConfirmsUnsolicited else Stray) (eq-eqb w.seq seq same)
 
 -- what an unsolicited response of these classes is made of
-pushed_headers : (s : Stock) (enabled : List Bool) → (pushed s enabled).headers ≡ headers_of (held_of (lane_items s (enabled_lanes 0 enabled)))
+pushed_headers : (s : Stock) (enabled : List Bool) → (pushed s enabled).headers ≡ headers_of (held_laid (lane_items s (enabled_lanes 0 enabled)))
 unfolding offered_of
 pushed_headers s enabled = refl
 
@@ -149,7 +149,7 @@ module _ (laws : ReportLaws) (m : master.State) (now : ℕ) (s : State) (o : Pan
   rows_are =
       let items : List Item = lane_items s.lanes (enabled_lanes 0 enabled) in
       ap events_in (pushed_headers s.lanes enabled)
-      ∙ laws.rows (held_of items) (pushed_stand s.lanes enabled fit.sound order.classes fit.indexes) (held_fits items)
+      ∙ laws.rows (held_laid items) (pushed_stand s.lanes enabled fit.sound order.classes fit.indexes) (held_fits items)
 
   abbrev taken : Taking
   taken = report_taken (asking m now events_polled) said

@@ -11,8 +11,8 @@ use Rattle.dnp_master.specs.Requests.{request_for}
 use Rattle.dnp_master.specs.declared.fault.MasterFault.{MasterFault}
 use Rattle.dnp_outstation.specs.Items.{Item, enabled_lanes, lane_items, no_ids}
 use Rattle.dnp_outstation.specs.Laws.{lane_numbers}
-use Rattle.dnp_outstation.specs.Layout.{headers_of}
-use Rattle.dnp_outstation.specs.Offer.{held_of, last_ids}
+use Rattle.dnp_outstation.specs.Layout.{Laid, headers_of}
+use Rattle.dnp_outstation.specs.Offer.{held_laid, held_of, last_ids}
 use Rattle.dnp_outstation.specs.Said.{events_in}
 use Rattle.dnp_outstation.specs.State.{State, Step}
 use Rattle.dnp_outstation.specs.declared.session.Awaited.{Awaited}
@@ -53,8 +53,8 @@ no_rows = record { rows = []; ids = no_ids }
 
 -- ---- the parts of a poll
 
-abbrev pub polled_held : Stock → List Item
-polled_held lanes = held_of (polled_items lanes)
+abbrev pub polled_held : Stock → List Laid
+polled_held lanes = held_laid (polled_items lanes)
 
 abbrev pub polled_rows : Stock → List Row
 polled_rows lanes = (polled lanes).rows
@@ -64,7 +64,7 @@ polled_ids lanes = (polled lanes).ids
 
 -- they are all that the lanes hold
 abbrev pub are_all_polled : Stock → Bool
-are_all_polled lanes = length (polled_held lanes) == length (polled_items lanes)
+are_all_polled lanes = length (held_of (polled_items lanes)) == length (polled_items lanes)
 
 -- ---- what the outstation makes of it
 

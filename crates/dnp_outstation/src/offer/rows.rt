@@ -1,6 +1,6 @@
 //! Rows of lanes that a READ gives.
 
-ghost use Rattle.std.specs.Prelude.{◌≡◌, ◌≤◌, ◌<◌, ◌+◌, ◌*◌, map, fold, filter, take, nat_le, IsTrue, IsSome, is_some, IfOk, IfSome, length, All, List};
+ghost use Rattle.std.specs.Prelude.{◌≡◌, ◌≤◌, ◌<◌, ◌+◌, ◌*◌, map, fold, filter, take, nat_le, IsTrue, IsSome, is_some, IfOk, IfSome, length, All, List, ℕ};
 ghost use Rattle.dnp_objects.specs.Events.{IsEvent};
 ghost use Rattle.dnp_objects.specs.Lanes.{lane_number};
 ghost use Rattle.dnp_eventbuf.specs.declared.numbered.Numbered.{Numbered as NumberedRow};
@@ -9,12 +9,13 @@ ghost use Rattle.dnp_appfragment.specs.Table.{is_response};
 ghost use Rattle.dnp_objects.specs.declared.limits.TheConstants.{LANES, MAX_FRAGMENT};
 ghost use Rattle.dnp_outstation.specs.Items.{event_of, given_after, event_items, rows_left, at_most, less};
 ghost use Rattle.dnp_outstation.specs.Filling.{after_release, over_of};
-ghost use Rattle.dnp_outstation.specs.Putting.{Puts, IsLook};
+ghost use Rattle.dnp_outstation.specs.Putting.{Puts, IsLook, least_octets, least_of};
 
 use crate::offer::place::RowPart;
 use crate::offer::writer::Writer;
 use dnp_eventbuf::laws::an_offer_after_a_release;
 use dnp_eventbuf::{Lane, Lanes, Numbered, StoreFault, Upto};
+use dnp_objects::Kind;
 use std::alloc::Global;
 
 /// Which rows a header of a READ may give: those over the ids that were given, up to the one that stood
@@ -37,6 +38,21 @@ impl<'a> Bounds<'a> {
             Some(upto) => self.given[number].max(upto[number]),
             None => self.given[number],
         }
+    }
+}
+
+/// How many more rows of a lane are asked for than have room: where this one is put too, none was left out.
+const SPARE: usize = 1;
+
+/// How many rows of a lane of this kind are asked for where so many octets are left: a binary takes three of
+/// them at least, its index and its flags, and a counter or an analog four more, its value.
+pub(crate) fn enough(kind: Kind, left: usize) -> usize
+    ensures enough { (n : ℕ) → least_octets kind * n ≤ left → n < result }
+    ensures few { result ≤ left + 1 }
+{
+    match kind {
+        Kind::Binary => left / 3 + SPARE,
+        Kind::Counter | Kind::Analog => left / 7 + SPARE,
     }
 }
 
@@ -71,6 +87,7 @@ fn rows_to_give<L: Lanes>(
     ensures rows { L.honest lanes.new → IfOk result (λ rows. rows.items
         ≡ take few (at_most most (rows_left (after_release (L.contents lanes.new) bounds.now.released.now) bounds.now.stood bounds.now.given.now (lane_number lane)))) }
     ensures events { IfOk result (λ rows. All (λ x. IsEvent x.row) rows.items) }
+    ensures kinds { L.honest lanes.new → IfOk result (λ rows. All (λ x. x.row.kind ≡ lane.kind) rows.items) }
     ensures place { L.place lanes.new ≡ L.place lanes.old }
     ensures look { IsLook L.honest L.is_stopped L.contents L.beside L.asks_memory lanes.old lanes.new result }
 {
@@ -97,7 +114,7 @@ impl Writer {
         requires events { All (λ x. IsEvent x.row) rows.now }
         ensures given { IsTrue result → self.new.place.given ≡ fold given_after self.old.place.given (map (event_of header lane) rows.now) }
         ensures written { Puts self.old (map (event_of header lane) rows.now) result self.new }
-        ensures room { IsTrue result → size self.old.builder ≤ MAX_FRAGMENT → size self.old.builder + 2 * length rows.now ≤ MAX_FRAGMENT }
+        ensures room { IsTrue result → size self.old.builder ≤ MAX_FRAGMENT → size self.old.builder + least_of rows.now ≤ MAX_FRAGMENT }
         ensures response { self.new.builder.function ≡ self.old.builder.function }
     {
         if rows.is_empty() {
@@ -114,7 +131,7 @@ impl Writer {
         requires events { All (λ x. IsEvent x.row) rows.now }
         ensures given { IsTrue result → self.new.place.given ≡ fold given_after self.old.place.given (map (event_of header lane) rows.now) }
         ensures written { Puts self.old (map (event_of header lane) rows.now) result self.new }
-        ensures room { IsTrue result → size self.old.builder ≤ MAX_FRAGMENT → size self.old.builder + 2 * length rows.now ≤ MAX_FRAGMENT }
+        ensures room { IsTrue result → size self.old.builder ≤ MAX_FRAGMENT → size self.old.builder + least_of rows.now ≤ MAX_FRAGMENT }
         ensures response { self.new.builder.function ≡ self.old.builder.function }
     {
         for x in rows {
@@ -147,8 +164,7 @@ impl Writer {
         ensures place { L.place lanes.new ≡ L.place lanes.old }
         ensures look { IsLook L.honest L.is_stopped L.contents L.beside L.asks_memory lanes.old lanes.new result }
     {
-        // A row has two octets at least, those of its index: so one of these has no room.
-        let few = self.builder.left() / 2 + 1;
+        let few = enough(lane.kind, self.builder.left());
         let rows = rows_to_give(lanes, alloc, lane, bounds, most, few)?;
         if !self.put_rows(header, lane.number(), rows.as_slice()) {
             return Ok(None);

@@ -9,6 +9,7 @@ ghost use Rattle.dnp_objects.specs.declared.limits.TheConstants.{MAX_FRAGMENT};
 ghost use Rattle.dnp_outstation.specs.Items.{first_place, event_of, present_of, passed, place_after};
 ghost use Rattle.dnp_appfragment.specs.declared.function.Function.TheVariants as function;
 ghost use Rattle.dnp_outstation.specs.Filling.{put, fits, ended, empty_from, empty_for, is_same_run};
+ghost use Rattle.dnp_outstation.specs.Putting.{least_octets};
 
 use crate::offer::place::Place;
 use dnp_appfragment::{Builder, Function};
@@ -136,7 +137,7 @@ impl Writer {
         requires event { IsEvent x.now.row }
         ensures fits { IsTrue result → self.new ≡ put self.old (event_of header lane x.now) }
         ensures room { result ≡ fits (put self.old (event_of header lane x.now)) }
-        ensures longer { IsTrue result → size self.old.builder + 2 ≤ size self.new.builder }
+        ensures longer { IsTrue result → size self.old.builder + least_octets x.now.row.kind ≤ size self.new.builder }
         ensures short { IsTrue result → size self.new.builder ≤ MAX_FRAGMENT }
         ensures full { result ≡ false → ended false self.new ≡ ended false self.old }
         ensures response { self.new.builder.function ≡ self.old.builder.function }

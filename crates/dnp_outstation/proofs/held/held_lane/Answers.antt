@@ -1,11 +1,14 @@
-use Rattle.std.proofs.Common.{rules, ◌≡◌, ℕ, Err, List, ap, sym, ◌∙◌, arith, take}
+use Rattle.std.proofs.Common.{rules, ◌≡◌, ℕ, Err, List, ◌+◌, ap, subst, sym, ◌∙◌, arith, take}
+use Rattle.std.specs.List.{All}
 use Rattle.dnp_objects.specs.Lanes.{lane_number}
+use Rattle.dnp_objects.specs.declared.lane.Lane.{Lane}
 use Rattle.dnp_objects.specs.declared.store.StoreFault.TheVariants.{Memory}
 use Rattle.dnp_eventbuf.specs.declared.numbered.Numbered.{Numbered}
 use Rattle.dnp_eventbuf.specs.Sound.{IsSound}
 use Rattle.dnp_eventbuf.specs.Stock.{Stock, lane_at, rows_in, offered}
 use Rattle.dnp_outstation.proofs.Carried.{lane_rises}
 use Rattle.dnp_outstation.proofs.NoRows.{none_offered}
+use Rattle.dnp_outstation.proofs.OfferRows.{lane_kinds}
 use Rattle.dnp_outstation.proofs.Rising.{over_all}
 use Rattle.dnp_outstation.proofs.held.held_lane.Goals as goal
 
@@ -15,12 +18,17 @@ returns-clause-rows g c = λ honest.
     let same : g.L.Lanes.contents c.offer.new.self ≡ old = search rules in
     let sound : IsSound old = rw same at (c.in_ok-rows.ensures.call.sound honest) in
     let rows : List Numbered = (lane_at old c.args.number).rows in
+    let lane : Lane = c.in-Some.lane in
+    let most : ℕ = c.enough-held.result + 1 in
     record {
-      most = 1024;
-      enough = omega arith;
+      kind = lane.kind;
+      of_kind = subst (All (λ (x : Numbered). x.row.kind ≡ lane.kind)) (sym (c.in_ok-rows.ensures.rows honest))
+          (lane_kinds old lane 0 most sound (omega (arith, c.in-Some.ensures.value, c.requires)));
+      most = most;
+      enough = λ n room. let few = c.enough-held.ensures.enough n room in omega arith;
       is = c.in_ok-rows.ensures.rows honest
-          ∙ ap (λ (n : ℕ). offered old n 0 1024) c.in-Some.ensures.value
-          ∙ ap (λ (l : List Numbered). take 1024 l) (over_all 0 0 rows (omega arith) (lane_rises old c.args.number sound c.requires));
+          ∙ ap (λ (n : ℕ). offered old n 0 most) c.in-Some.ensures.value
+          ∙ ap (λ (l : List Numbered). take most l) (over_all 0 0 rows (omega arith) (lane_rises old c.args.number sound c.requires));
     }
 
 pub returns-in_err-rows-clause-look : goal.returns-in_err-rows-clause-look
@@ -35,6 +43,6 @@ returns-in_err-rows-clause-look g c = record {
       let old = g.L.Lanes.contents c.args.lanes.now in
       let same : g.L.Lanes.contents c.offer.new.self ≡ old = search rules in
       let memory : c.offer.result ≡ Err Memory = search rules in
-      c.offer.ensures.memory memory asks (none_offered old (lane_number c.in-Some.lane) 0 1024 (ap rows_in (sym same) ∙ none));
+      c.offer.ensures.memory memory asks (none_offered old (lane_number c.in-Some.lane) 0 (c.enough-held.result + 1) (ap rows_in (sym same) ∙ none));
   named = search rules;
 }

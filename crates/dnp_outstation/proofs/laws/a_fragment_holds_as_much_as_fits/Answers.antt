@@ -1,14 +1,11 @@
 use Rattle.std.proofs.Common.{[], refl}
-use Rattle.dnp_outstation.specs.Layout.{fits_fragment}
-use Rattle.dnp_outstation.specs.Offer.{held_of}
 use Rattle.dnp_outstation.proofs.Grows.{response_grows}
+use Rattle.dnp_outstation.proofs.HeldItems.{held_longest}
 use Rattle.dnp_outstation.proofs.Left.{left_none, none_left}
-use Rattle.dnp_outstation.proofs.Longest.{longest_longest}
 use Rattle.dnp_outstation.proofs.laws.a_fragment_holds_as_much_as_fits.Goals as goal
 
 pub returns-clause-longest : goal.returns-clause-longest
-unfolding held_of
-returns-clause-longest c = λ items. longest_longest fits_fragment items refl
+returns-clause-longest c = held_longest
 
 pub returns-clause-grows : goal.returns-clause-grows
 returns-clause-grows c = response_grows

@@ -1,5 +1,5 @@
 use Rattle.std.proofs.lemmas.List.Elements.{recursion_from_All}
-use Rattle.dnp_outstation.specs.Said.{CanStand}
+use Rattle.dnp_outstation.specs.Said.{CanGo}
 use Rattle.dnp_outstation.proofs.ItemsOf.{held_stand}
 use Rattle.dnp_outstation.proofs.Moves.{goes_on_behind_some}
 use Rattle.dnp_outstation.proofs.Reported.{rows_are_said, response_is}
@@ -18,8 +18,8 @@ laws c = record {
 }
 
 pub returns-clause-held : goal.returns-clause-held
-returns-clause-held c = λ items can fit.
-    (items_written (laws (goal.at.returns-clause-held c).After-what_is_spelled_is_said) items (recursion_from_All CanStand items can) fit).hold
+returns-clause-held c = λ held can fit.
+    (items_written (laws (goal.at.returns-clause-held c).After-what_is_spelled_is_said) held (recursion_from_All CanGo held can) fit).hold
 
 pub returns-clause-response : goal.returns-clause-response
 returns-clause-response c =

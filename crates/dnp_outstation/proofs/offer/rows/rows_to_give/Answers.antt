@@ -1,12 +1,16 @@
-use Rattle.std.proofs.Common.{rules, ◌≡◌, ℕ, Some, Err, filter, ap, sym, ◌∙◌, arith, ◌<◌}
+use Rattle.std.proofs.Common.{rules, ◌≡◌, ℕ, Some, Err, filter, ap, subst, sym, ◌∙◌, arith, ◌<◌}
+use Rattle.std.specs.List.{All}
+use Rattle.std.proofs.lemmas.List.Elements.{All-filter}
 use Rattle.dnp_objects.specs.Lanes.{lane_number}
 use Rattle.dnp_objects.specs.declared.limits.TheConstants.{LANES}
 use Rattle.dnp_objects.specs.declared.store.StoreFault.TheVariants.{Memory}
+use Rattle.dnp_eventbuf.specs.declared.numbered.Numbered.{Numbered}
+use Rattle.dnp_eventbuf.specs.Sound.{IsSound}
 use Rattle.dnp_eventbuf.specs.Stock.{Stock, offered, rows_in}
 use Rattle.dnp_outstation.specs.Items.{rows_left}
 use Rattle.dnp_outstation.specs.Filling.{after_release, over_of}
 use Rattle.dnp_outstation.proofs.NoRows.{none_offered}
-use Rattle.dnp_outstation.proofs.OfferRows.{rows_given, stood_at}
+use Rattle.dnp_outstation.proofs.OfferRows.{lane_kinds, rows_given, stood_at}
 use Rattle.dnp_outstation.proofs.offer.rows.rows_to_give.Goals as goal
 
 pub returns-in_err-rows-clause-look : goal.returns-in_err-rows-clause-look
@@ -42,3 +46,15 @@ returns-clause-rows g c = λ honest.
     ∙ rows_given s bounds.released.now bounds.stood bounds.given.now number (Some ask) (c.in_ok-rows.ensures.call.sound honest) low
     c.over-over.ensures.nine c.an_offer_after_a_release.ensures
     ∙ c.asked.ensures (rows_left (after_release s bounds.released.now) bounds.stood bounds.given.now number)
+
+pub returns-clause-kinds : goal.returns-clause-kinds
+returns-clause-kinds g c = λ honest.
+    let P : Numbered → Type 0 = λ x. x.row.kind ≡ c.args.lane.kind in
+    let s = g.L.Lanes.contents c.offer.new.self in
+    let low : lane_number c.args.lane < LANES = omega (arith, c.number.ensures.value, c.number.ensures.range) in
+    let same : g.L.Lanes.contents c.offer.new.self ≡ g.L.Lanes.contents c.args.lanes.now = c.in_ok-rows.ensures.same honest in
+    let asked : All P (offered (g.L.Lanes.contents c.args.lanes.now) (lane_number c.args.lane) c.over-over.result c.asked.result) =
+    lane_kinds (g.L.Lanes.contents c.args.lanes.now) c.args.lane c.over-over.result c.asked.result
+    (subst IsSound same (c.in_ok-rows.ensures.call.sound honest)) low in
+    subst (All P) (sym c.keep_stood.ensures.kept)
+    (All-filter (stood_at c.args.bounds.now.stood) P _ (subst (All P) (sym (c.in_ok-rows.ensures.rows honest)) asked))

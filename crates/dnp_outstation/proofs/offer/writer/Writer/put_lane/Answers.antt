@@ -1,9 +1,13 @@
-use Rattle.std.proofs.Common.{rules, ◌≡◌, List, false, ◌∙◌}
+use Rattle.std.proofs.Common.{rules, ◌≡◌, ℕ, IsTrue, List, true, false, length, map, fold, ap, subst, sym, ◌∙◌, arith}
+use Rattle.std.specs.List.{All}
 use Rattle.dnp_objects.specs.Lanes.{lane_number}
 use Rattle.dnp_eventbuf.specs.declared.numbered.Numbered.{Numbered}
-use Rattle.dnp_outstation.specs.Items.{at_most, rows_left}
+use Rattle.dnp_outstation.specs.Items.{at_most, event_of, given_after, rows_left}
 use Rattle.dnp_outstation.specs.Filling.{after_release}
+use Rattle.dnp_outstation.specs.Putting.{Puts}
+use Rattle.dnp_outstation.proofs.OfferRoom.{all_asked}
 use Rattle.dnp_outstation.proofs.OfferRows.{lane_full}
+use Rattle.dnp_outstation.proofs.offer.writer.Writer.put_lane.Given.{Over}
 use Rattle.dnp_outstation.proofs.offer.writer.Writer.put_lane.Goals as goal
 
 pub returns-then-not-put_rows-clause-written : goal.returns-then-not-put_rows-clause-written
@@ -15,3 +19,37 @@ returns-then-not-put_rows-clause-written g c = λ honest more.
     let full : c.put_rows.result ≡ false = search rules in
     lane_full c.args.self.now c.put_rows.new.self c.put_rows.result c.args.header number c.number.result _ all c.as_slice.result.now more
     c.number.ensures.value (c.as_slice.ensures.value ∙ c.in_ok-rows.ensures.rows honest) c.put_rows.ensures.written full
+
+-- the rows that the header may still give of the lane
+abbrev left_of : (g : Over) → goal.After-drop-rows-2 g → List Numbered
+left_of g c =
+    let bounds = c.args.bounds.now in
+    at_most c.args.most
+    (rows_left (after_release (g.L.Lanes.contents c.rows_to_give.new.lanes) bounds.released.now) bounds.stood bounds.given.now (lane_number c.args.lane))
+
+-- those that are put are all of them
+are_all : (g : Over) (c : goal.After-drop-rows-2 g) → g.L.Lanes.honest c.rows_to_give.new.lanes → c.as_slice.result.now ≡ left_of g c
+are_all g c honest =
+    let put' : IsTrue true = search rules in
+    all_asked c.args.lane.kind c.args.self.now.builder c.enough-few.result c.left.result (left_of g c) c.as_slice.result.now
+    (subst (All (λ (x : Numbered). x.row.kind ≡ c.args.lane.kind)) (sym c.as_slice.ensures.value) (c.in_ok-rows.ensures.kinds honest))
+    (c.as_slice.ensures.value ∙ c.in_ok-rows.ensures.rows honest) c.enough-few.ensures.enough c.left.ensures (c.if-not-put_rows.ensures.room put')
+
+pub returns-clause-written : goal.returns-clause-written
+returns-clause-written g c = λ honest.
+    let header = c.args.header in
+    subst (λ (rows : List Numbered). Puts c.args.self.now (map (event_of header (lane_number c.args.lane)) rows) true c.put_rows.new.self) (are_all g c honest)
+    (subst (λ (n : ℕ). Puts c.args.self.now (map (event_of header n) c.as_slice.result.now) true c.put_rows.new.self) c.number.ensures.value
+    c.if-not-put_rows.ensures.written)
+
+pub returns-clause-given : goal.returns-clause-given
+returns-clause-given g c = λ honest some.
+    let put' : IsTrue true = search rules in
+    let before = c.args.self.now.place.given in
+    let header = c.args.header in
+    c.if-not-put_rows.ensures.given put'
+    ∙ ap (λ (n : ℕ). fold given_after before (map (event_of header n) c.as_slice.result.now)) c.number.ensures.value
+    ∙ ap (λ (rows : List Numbered). fold given_after before (map (event_of header (lane_number c.args.lane)) rows)) (are_all g c honest)
+
+pub returns-clause-counted : goal.returns-clause-counted
+returns-clause-counted g c = λ honest. omega (arith, c.len.ensures, c.as_slice.ensures.len, ap length (are_all g c honest))
