@@ -6,7 +6,7 @@ ghost use Rattle.dnp_eventbuf.specs.Stock.{rows_in};
 ghost use Rattle.dnp_outstation.specs.State.{is_quiet};
 ghost use Rattle.dnp_outstation.specs.Calls.{opened_of, tick_of, connection_after, performed_in, restarted_core};
 ghost use Rattle.dnp_outstation.specs.Connection.{closed, is_looked_at};
-ghost use Rattle.dnp_outstation.specs.Putting.{IsLook};
+ghost use Rattle.dnp_outstation.specs.Stores.{IsLook};
 ghost use Rattle.dnp_outstation.specs.Station.{actions_of, new_core, MayAsk};
 ghost use Rattle.dnp_concentrator.specs.BookOutputs.{panel_of, Performs, Exhausts};
 ghost use Rattle.dnp_concentrator.specs.IndexMap.{IsTooWide, Overlaps};
@@ -166,7 +166,7 @@ impl<Q: Lanes, B: Book> Concentrator<Q, B> {
         alloc: Global,
         now: u64,
     ) -> Result<(), StoreFault>
-        ensures look { IsLook Q.honest Q.is_stopped Q.contents Q.beside Q.asks_memory (queue_of self.old) (queue_of self.new) result }
+        ensures look { IsLook Q.honest Q.is_stopped Q.contents Q.beside Q.place Q.asks_memory (queue_of self.old) (queue_of self.new) result }
         ensures outputs { outputs_of self.new ≡ outputs_of self.old }
         ensures opened { Q.honest (queue_of self.new) → OnOk result (opened_of (above_of Q.contents B.contents self.old) now
             ≡ record { state = above_of Q.contents B.contents self.new; does = actions_of actions.new }) }
@@ -189,7 +189,7 @@ impl<Q: Lanes, B: Book> Concentrator<Q, B> {
         alloc: Global,
         now: u64,
     ) -> Result<(), StoreFault>
-        ensures look { IsLook Q.honest Q.is_stopped Q.contents Q.beside Q.asks_memory (queue_of self.old) (queue_of self.new) result }
+        ensures look { IsLook Q.honest Q.is_stopped Q.contents Q.beside Q.place Q.asks_memory (queue_of self.old) (queue_of self.new) result }
         ensures outputs { outputs_of self.new ≡ outputs_of self.old }
         ensures ticked { Q.honest (queue_of self.new) → OnOk result (tick_of (above_of Q.contents B.contents self.old) now
             ≡ record { state = above_of Q.contents B.contents self.new; does = actions_of actions.new }) }

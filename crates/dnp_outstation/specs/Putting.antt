@@ -1,11 +1,8 @@
 -- Private steps: how a writer comes of another by items that are put into it.
-use Rattle.std.specs.Prelude.{◌≢◌, IsTrue, IfErr, Result, Err, [], ◌∷◌, ◌≡◌, ℕ, ◌+◌, ◌-◌, ◌^◌, ◌==◌, min, Bool, false, ◌++◌, if◌then◌else◌, List, map, drop}
+use Rattle.std.specs.Prelude.{[], ◌∷◌, ◌≡◌, ℕ, ◌+◌, ◌-◌, ◌^◌, ◌==◌, min, Bool, false, ◌++◌, if◌then◌else◌, List, map, drop}
 use Rattle.dnp_objects.specs.declared.row.Kind.{Kind}
 use Rattle.dnp_objects.specs.declared.row.Row.{Row}
-use Rattle.dnp_objects.specs.declared.store.StoreFault.{StoreFault}
-use Rattle.dnp_objects.specs.declared.store.StoreFault.TheVariants.{Exhausted, Memory, Device}
 use Rattle.dnp_eventbuf.specs.declared.numbered.Numbered.{Numbered}
-use Rattle.dnp_eventbuf.specs.Stock.{Stock, rows_in}
 use Rattle.dnp_objects.specs.declared.row.Kind.TheVariants.{Binary, Counter, Analog}
 use Rattle.dnp_pointdb.specs.declared.state.PointState.{PointState}
 use Rattle.dnp_pointdb.specs.Events.{row_of}
@@ -52,17 +49,3 @@ abbrev pub group_of : Kind → ℕ
 group_of Binary = 1
 group_of Counter = 20
 group_of Analog = 30
-
--- what a call leaves that only looks at lanes, whatever it answers
-pub record IsLook {Store Answer : Type 0} (honest : Store → Type 0) (is_stopped : Store → Bool) (contents : Store → Stock)
-    (others : Store → List Stock) (asks_memory : Bool) (old new : Store) (answer : Result Answer StoreFault) : Type 0 where
-  pub held : honest new → honest old
-  pub same : honest new → contents new ≡ contents old
-  pub beside : honest new → others new ≡ others old
-  -- Device stops the store, which runs on else
-  pub stopped : IsTrue (is_stopped old) → IsTrue (is_stopped new)
-  pub device : answer ≡ Err Device → IsTrue (is_stopped new)
-  pub runs_on : answer ≢ Err Device → is_stopped new ≡ is_stopped old
-  -- in memory it is out of memory only where there are rows
-  pub memory : honest new → answer ≡ Err Memory → asks_memory ≡ false → rows_in (contents new) ≢ []
-  pub named : IfErr answer (λ e. e ≢ Exhausted)

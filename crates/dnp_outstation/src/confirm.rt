@@ -10,6 +10,7 @@ ghost use Rattle.dnp_outstation.specs.Calls.{with_that};
 ghost use Rattle.dnp_outstation.specs.Connection.{goes_on, on_confirm, confirmed, at_end};
 ghost use Rattle.dnp_outstation.specs.State.{Core, State, nothing, with_session, is_free};
 ghost use Rattle.dnp_outstation.specs.Station.{state_of, actions_of, HasRoom};
+ghost use Rattle.dnp_outstation.specs.Stores.{IsLook, KeepsLanes};
 
 use crate::actions::Actions;
 use crate::answer::{Answer, Switches};
@@ -39,20 +40,13 @@ fn write_next<L: Lanes, O: Outputs>(
     session: &Session,
     released: Upto,
 ) -> Result<Option<Answer>, StoreFault>
-    ensures held { L.honest lanes.new → L.honest lanes.old }
-    ensures place { L.place lanes.new ≡ L.place lanes.old }
-    ensures beside { L.honest lanes.new → L.beside lanes.new ≡ L.beside lanes.old }
-    ensures same { L.honest lanes.new → L.contents lanes.new ≡ L.contents lanes.old }
+    ensures look { IsLook L.honest L.is_stopped L.contents L.beside L.place L.asks_memory lanes.old lanes.new result }
     ensures written { L.honest lanes.new → IfOk result (λ next. (s : State) (now seq : ℕ) → s.core.points ≡ points.now
         → s.core.session.request ≡ session.now.request → s.lanes ≡ without (L.contents lanes.old) released
         → goes_on s (O.panel outputs.now) now seq session.now.last ≡ goes_on_by s now seq writer.new next) }
     ensures switches { IfOk result (λ next. IfSome next (λ a. a.switches ≡ switches)) }
     ensures none { IfOk result (λ next. IfSome next (λ a. a.bits ≡ 0)) }
     ensures response { IfOk result (λ next. IfSome next (λ a. writer.new.builder.function ≡ function.Response)) }
-    ensures device { result ≡ Err StoreFault.Device → IsTrue (L.is_stopped lanes.new) }
-    ensures runs_on { result ≢ Err StoreFault.Device → L.is_stopped lanes.new ≡ L.is_stopped lanes.old }
-    ensures memory { L.honest lanes.new → result ≡ Err StoreFault.Memory → L.asks_memory ≡ false → rows_in (L.contents lanes.old) ≢ [] }
-    ensures named { result ≢ Err StoreFault.Exhausted }
 {
     let Some(last) = &session.last else {
         return Ok(None);
@@ -141,18 +135,14 @@ impl OutstationCore {
         outputs: &O,
         now: u64,
     ) -> Result<(), StoreFault>
-        ensures held { L.honest lanes.new → L.honest lanes.old }
-        ensures place { L.place lanes.new ≡ L.place lanes.old }
-        ensures beside { L.honest lanes.new → L.beside lanes.new ≡ L.beside lanes.old }
+        ensures lanes { KeepsLanes L.honest L.is_stopped L.contents L.beside L.place StoreFault.Device lanes.old lanes.new result }
         ensures confirmed { L.honest lanes.new → OnOk result ((p : Panel) → let s = state_of self.old (L.contents lanes.old) p in
             at_end now (with_that s s.core.session.awaited (on_confirm s (O.panel outputs.now) now))
             ≡ record { state = state_of self.new (L.contents lanes.new) p; does = actions_of actions.new }) }
         ensures whole { OnOk result (All (λ fragment. 4 ≤ length fragment) (actions_of actions.new).send) }
         ensures unchanged { OnErr result (self.new ≡ self.old) }
         ensures actions_unchanged { OnErr result (actions.new ≡ actions.old) }
-        ensures lanes_unchanged { L.honest lanes.new → OnErr result (L.contents lanes.new ≡ L.contents lanes.old) }
         ensures device { result ≡ Err StoreFault.Device → IsTrue (L.is_stopped lanes.new) }
-        ensures runs_on { result ≢ Err StoreFault.Device → L.is_stopped lanes.new ≡ L.is_stopped lanes.old }
         ensures memory { L.honest lanes.new → result ≡ Err StoreFault.Memory → L.asks_memory ≡ false → rows_in (L.contents lanes.old) ≢ [] }
         ensures named { result ≢ Err StoreFault.Exhausted }
     {

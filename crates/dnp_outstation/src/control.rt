@@ -10,9 +10,9 @@ ghost use Rattle.dnp_outstation.specs.Connection.{on_request, at_end, replied};
 ghost use Rattle.dnp_outstation.specs.Controls.{is_control};
 ghost use Rattle.dnp_outstation.specs.Calls.{performed_at};
 ghost use Rattle.dnp_outstation.specs.Items.{last_in};
-ghost use Rattle.dnp_outstation.specs.Owned.{HaveDoneNothing};
 ghost use Rattle.dnp_outstation.specs.State.{State, with_session};
 ghost use Rattle.dnp_outstation.specs.Station.{state_of, actions_of, HasRoom};
+ghost use Rattle.dnp_outstation.specs.Stores.{KeepsLanes, KeepsOutputs};
 
 use crate::actions::Actions;
 use crate::answer::Answer;
@@ -81,10 +81,9 @@ impl OutstationCore {
         requires some { 2 ≤ length octets.now }
         requires few { length octets.now ≤ MAX_FRAGMENT }
         requires control { is_control octets.now ≡ true }
-        ensures held { L.honest lanes.new → L.honest lanes.old }
-        ensures place { L.place lanes.new ≡ L.place lanes.old }
-        ensures beside { L.honest lanes.new → L.beside lanes.new ≡ L.beside lanes.old }
-        ensures outputs_held { O.honest outputs.new → O.honest outputs.old }
+        ensures lanes { KeepsLanes L.honest L.is_stopped L.contents L.beside L.place StoreFault.Device lanes.old lanes.new result }
+        ensures outputs { KeepsOutputs O.honest O.is_stopped O.panel O.performs O.exhausts (O.may_fault StoreFault.Exhausted) StoreFault.Exhausted StoreFault.Device
+            (performed_at self.old (O.panel outputs.old) now octets.now) outputs.old outputs.new result }
         ensures answered { L.honest lanes.new → O.honest outputs.new → OnOk result (
             at_end now (on_request (state_of self.old (L.contents lanes.old) (O.panel outputs.old)) (O.panel outputs.old) now octets.now)
             ≡ record { state = state_of self.new (L.contents lanes.new) (O.panel outputs.new); does = actions_of actions.new }) }
@@ -92,20 +91,9 @@ impl OutstationCore {
         ensures unchanged { OnErr result (self.new ≡ self.old) }
         ensures actions_unchanged { OnErr result (actions.new ≡ actions.old) }
         ensures same { L.honest lanes.new → L.contents lanes.new ≡ L.contents lanes.old }
-        ensures outputs_unchanged { O.honest outputs.new → OnErr result (O.panel outputs.new ≡ O.panel outputs.old) }
-        ensures undone { O.honest outputs.new → OnErr result (HaveDoneNothing O.performs outputs.old outputs.new) }
-        ensures idle { performed_at self.old (O.panel outputs.old) now octets.now ≡ [] → outputs.new ≡ outputs.old }
-        ensures performed { O.honest outputs.new → OnOk result (performed_at self.old (O.panel outputs.old) now octets.now ≢ []
-            → O.performs outputs.old (performed_at self.old (O.panel outputs.old) now octets.now) outputs.new) }
         ensures device { result ≡ Err StoreFault.Device → IsTrue (L.is_stopped lanes.new) ⊎ IsTrue (O.is_stopped outputs.new) }
-        ensures runs_on { result ≢ Err StoreFault.Device → L.is_stopped lanes.new ≡ L.is_stopped lanes.old }
-        ensures outputs_run_on { result ≢ Err StoreFault.Device → O.is_stopped outputs.new ≡ O.is_stopped outputs.old }
         ensures memory { L.honest lanes.new → result ≡ Err StoreFault.Memory → L.asks_memory ≡ false
             → (rows_in (L.contents lanes.old) ≢ []) ⊎ (performed_at self.old (O.panel outputs.old) now octets.now ≢ []) }
-        ensures exhausted { O.honest outputs.new → result ≡ Err StoreFault.Exhausted → O.exhausts outputs.old (performed_at self.old (O.panel outputs.old) now octets.now) }
-        ensures not_exhausted { O.honest outputs.new → OnOk result (performed_at self.old (O.panel outputs.old) now octets.now ≢ []
-            → O.exhausts outputs.old (performed_at self.old (O.panel outputs.old) now octets.now) → ⊥) }
-        ensures named { result ≡ Err StoreFault.Exhausted → IsTrue (O.may_fault StoreFault.Exhausted) }
         ensures asks { IsErr result → (self.old.times.unsolicited ≡ true) ⊎ (performed_at self.old (O.panel outputs.old) now octets.now ≢ []) }
     {
         let switches = self.switches();

@@ -8,9 +8,9 @@ ghost use Rattle.dnp_outstation.specs.Answering.{KeepsWhole};
 ghost use Rattle.dnp_outstation.specs.Connection.{at_end};
 ghost use Rattle.dnp_outstation.specs.Filling.{after_release};
 ghost use Rattle.dnp_outstation.specs.Pushing.{is_ready, ended_by};
-ghost use Rattle.dnp_outstation.specs.Putting.{IsLook};
 ghost use Rattle.dnp_outstation.specs.State.{Core, State, Step, nothing, still, with_session, is_free};
 ghost use Rattle.dnp_outstation.specs.Station.{state_of, actions_of, HasRoom};
+ghost use Rattle.dnp_outstation.specs.Stores.{IsLook};
 
 use crate::actions::Actions;
 use crate::answer::Switches;
@@ -36,8 +36,7 @@ pub(crate) fn write_ending<L: Lanes>(
     ensures ends { L.honest lanes.new → IfOk result (λ starts. (now : ℕ) (step : Step) → step.state.lanes ≡ after_release (L.contents lanes.old) released.now
         → step.state.core.enabled ≡ enabled → is_due ≡ is_ready step.state.core → at_end now step ≡ ended_by writer.new starts now step) }
     ensures response { IfOk result (λ starts. IsTrue starts → writer.new.builder.function ≡ function.UnsolicitedResponse) }
-    ensures place { L.place lanes.new ≡ L.place lanes.old }
-    ensures look { IsLook L.honest L.is_stopped L.contents L.beside L.asks_memory lanes.old lanes.new result }
+    ensures look { IsLook L.honest L.is_stopped L.contents L.beside L.place L.asks_memory lanes.old lanes.new result }
     ensures asks { IsErr result → IsTrue is_due }
 {
     if !is_due || !has_enabled_rows(lanes, enabled, released) {
@@ -149,8 +148,7 @@ impl OutstationCore {
         lanes: &mut L,
         now: u64,
     ) -> Result<(), StoreFault>
-        ensures place { L.place lanes.new ≡ L.place lanes.old }
-        ensures look { IsLook L.honest L.is_stopped L.contents L.beside L.asks_memory lanes.old lanes.new result }
+        ensures look { IsLook L.honest L.is_stopped L.contents L.beside L.place L.asks_memory lanes.old lanes.new result }
         ensures ended { L.honest lanes.new → OnOk result ((p : Panel) → at_end now (still (state_of self.old (L.contents lanes.old) p))
             ≡ record { state = state_of self.new (L.contents lanes.new) p; does = actions_of actions.new }) }
         ensures whole { OnOk result (All (λ fragment. 4 ≤ length fragment) (actions_of actions.new).send) }

@@ -1,13 +1,12 @@
 //! Executes requests, and writes what they are answered.
 
-ghost use Rattle.std.specs.Prelude.{◌≡◌, ◌≢◌, ◌<◌, ◌==◌, ◌&&◌, ◌^◌, [], length, true, false, not, if◌then◌else◌, None, Some, Ok, Err, IfOk, IfErr, IsErr, IsTrue};
+ghost use Rattle.std.specs.Prelude.{◌≡◌, ◌<◌, ◌==◌, ◌&&◌, ◌^◌, length, true, false, not, if◌then◌else◌, None, Some, Ok, Err, IfOk, IfErr, IsErr};
 ghost use Rattle.std.specs.List.{list_any};
 ghost use Rattle.dnp_appfragment.specs.declared.function.Function.TheVariants as function;
 ghost use Rattle.dnp_appfragment.specs.Fragments.{IsRequest};
 ghost use Rattle.dnp_appfragment.specs.Meaning.{request_at};
 ghost use Rattle.dnp_appfragment.specs.Seen.{Gives, head};
 ghost use Rattle.dnp_appfragment.specs.Whole.{request};
-ghost use Rattle.dnp_eventbuf.specs.Stock.{rows_in};
 ghost use Rattle.dnp_outstation.specs.Answering.{executed_by};
 ghost use Rattle.dnp_appfragment.specs.Table.{function_octet};
 ghost use Rattle.dnp_outstation.specs.Connection.{function_in};
@@ -15,6 +14,7 @@ ghost use Rattle.dnp_outstation.specs.Items.{last_in as last_in_stock, first_pla
 ghost use Rattle.dnp_outstation.specs.Filling.{after_release, empty_from};
 ghost use Rattle.dnp_outstation.specs.declared.offer.writer.Writer.{Writer as WriterValue};
 ghost use Rattle.dnp_outstation.specs.State.{State};
+ghost use Rattle.dnp_outstation.specs.Stores.{IsLook};
 ghost use Rattle.dnp_outstation.specs.Content.{content_of, bits_of, clears_restart, header_bits, write_bits, enabled_after, read_executed, write_executed, switch_executed, delay_executed, time_in, later, time_written};
 
 use crate::answer::{Answer, Switches};
@@ -194,19 +194,12 @@ fn read<L: Lanes, O: Outputs>(
     requires empty { writer.old ≡ empty_from first_place }
     requires few { length headers.now.headers < 2 ^ 64 }
     requires stood { L.honest lanes.old → stood ≡ last_in_stock (after_release (L.contents lanes.old) released.now) }
-    ensures held { L.honest lanes.new → L.honest lanes.old }
-    ensures place { L.place lanes.new ≡ L.place lanes.old }
-    ensures beside { L.honest lanes.new → L.beside lanes.new ≡ L.beside lanes.old }
-    ensures same { L.honest lanes.new → L.contents lanes.new ≡ L.contents lanes.old }
+    ensures look { IsLook L.honest L.is_stopped L.contents L.beside L.place L.asks_memory lanes.old lanes.new result }
     ensures executed { L.honest lanes.new → IfOk result (λ a. (s : State) → s.core.points ≡ points.now → s.core.restart ≡ switches.restart → s.core.enabled ≡ switches.enabled
         → s.lanes ≡ after_release (L.contents lanes.old) released.now → read_executed s (O.panel outputs.now) headers.now.headers ≡ executed_by s writer.new a) }
     ensures stood { IfOk result (λ a. a.stood ≡ stood) }
     ensures small { IfOk result (λ a. a.bits < 8) }
     ensures response { writer.new.builder.function ≡ function.Response }
-    ensures device { result ≡ Err StoreFault.Device → IsTrue (L.is_stopped lanes.new) }
-    ensures runs_on { result ≢ Err StoreFault.Device → L.is_stopped lanes.new ≡ L.is_stopped lanes.old }
-    ensures memory { L.honest lanes.new → result ≡ Err StoreFault.Memory → L.asks_memory ≡ false → rows_in (L.contents lanes.old) ≢ [] }
-    ensures named { result ≢ Err StoreFault.Exhausted }
 {
     if !are_inside(points, outputs, headers.after(0)) {
         return Ok(plain(PARAMETER_ERROR, switches, stood));
@@ -306,19 +299,12 @@ pub(crate) fn execute_after<L: Lanes, O: Outputs>(
     octets: &[u8],
     released: &Option<Upto>,
 ) -> Result<Answer, StoreFault>
-    ensures held { L.honest lanes.new → L.honest lanes.old }
-    ensures place { L.place lanes.new ≡ L.place lanes.old }
-    ensures beside { L.honest lanes.new → L.beside lanes.new ≡ L.beside lanes.old }
-    ensures same { L.honest lanes.new → L.contents lanes.new ≡ L.contents lanes.old }
+    ensures look { IsLook L.honest L.is_stopped L.contents L.beside L.place L.asks_memory lanes.old lanes.new result }
     ensures executed { L.honest lanes.new → IfOk result (λ a. (s : State) → s.core.points ≡ points.now → s.core.restart ≡ switches.restart → s.core.enabled ≡ switches.enabled
         → s.lanes ≡ after_release (L.contents lanes.old) released.now → content_of s (O.panel outputs.now) octets.now ≡ executed_by s writer.new a) }
     ensures stood { L.honest lanes.new → IfOk result (λ a. a.stood ≡ last_in_stock (after_release (L.contents lanes.old) released.now)) }
     ensures small { IfOk result (λ a. a.bits < 8) }
     ensures response { writer.new.builder.function ≡ function.Response }
-    ensures device { result ≡ Err StoreFault.Device → IsTrue (L.is_stopped lanes.new) }
-    ensures runs_on { result ≢ Err StoreFault.Device → L.is_stopped lanes.new ≡ L.is_stopped lanes.old }
-    ensures memory { L.honest lanes.new → result ≡ Err StoreFault.Memory → L.asks_memory ≡ false → rows_in (L.contents lanes.old) ≢ [] }
-    ensures named { result ≢ Err StoreFault.Exhausted }
     ensures reads { IsErr result → function_in octets.now ≡ function_octet function.Read }
 {
     writer.restart(FIRST_PLACE);
@@ -357,19 +343,12 @@ pub(crate) fn execute<L: Lanes, O: Outputs>(
     switches: Switches,
     octets: &[u8],
 ) -> Result<Answer, StoreFault>
-    ensures held { L.honest lanes.new → L.honest lanes.old }
-    ensures place { L.place lanes.new ≡ L.place lanes.old }
-    ensures beside { L.honest lanes.new → L.beside lanes.new ≡ L.beside lanes.old }
-    ensures same { L.honest lanes.new → L.contents lanes.new ≡ L.contents lanes.old }
+    ensures look { IsLook L.honest L.is_stopped L.contents L.beside L.place L.asks_memory lanes.old lanes.new result }
     ensures executed { L.honest lanes.new → IfOk result (λ a. (s : State) → s.core.points ≡ points.now → s.core.restart ≡ switches.restart → s.core.enabled ≡ switches.enabled
         → s.lanes ≡ L.contents lanes.old → content_of s (O.panel outputs.now) octets.now ≡ executed_by s writer.new a) }
     ensures stood { L.honest lanes.new → IfOk result (λ a. a.stood ≡ last_in_stock (L.contents lanes.old)) }
     ensures small { IfOk result (λ a. a.bits < 8) }
     ensures response { writer.new.builder.function ≡ function.Response }
-    ensures device { result ≡ Err StoreFault.Device → IsTrue (L.is_stopped lanes.new) }
-    ensures runs_on { result ≢ Err StoreFault.Device → L.is_stopped lanes.new ≡ L.is_stopped lanes.old }
-    ensures memory { L.honest lanes.new → result ≡ Err StoreFault.Memory → L.asks_memory ≡ false → rows_in (L.contents lanes.old) ≢ [] }
-    ensures named { result ≢ Err StoreFault.Exhausted }
     ensures reads { IsErr result → function_in octets.now ≡ function_octet function.Read }
 {
     execute_after(

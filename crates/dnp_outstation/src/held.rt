@@ -15,7 +15,8 @@ ghost use Rattle.dnp_outstation.specs.Filling.{empty_for, ended};
 ghost use Rattle.dnp_outstation.specs.Holding.{AreFirst, IsLaneHeld, IsClassHeld, IsHeld, AreClassEvents, AreEvents, new_of, kept_of, more_of};
 ghost use Rattle.dnp_outstation.specs.Items.{event_of, class_lanes, lane_items, first_place};
 ghost use Rattle.dnp_outstation.specs.Offer.{pushed};
-ghost use Rattle.dnp_outstation.specs.Putting.{Puts, IsLook};
+ghost use Rattle.dnp_outstation.specs.Putting.{Puts};
+ghost use Rattle.dnp_outstation.specs.Stores.{IsLook};
 
 use crate::offer::rows::enough;
 use crate::offer::writer::Writer;
@@ -60,8 +61,7 @@ fn held_lane<L: Lanes>(
     requires { number < LANES }
     ensures rows { L.honest lanes.new → IfOk result (λ rows. IsLaneHeld (L.contents lanes.old) number rows.items) }
     ensures events { IfOk result (λ rows. All (λ x. IsEvent x.row) rows.items) }
-    ensures place { L.place lanes.new ≡ L.place lanes.old }
-    ensures look { IsLook L.honest L.is_stopped L.contents L.beside L.asks_memory lanes.old lanes.new result }
+    ensures look { IsLook L.honest L.is_stopped L.contents L.beside L.place L.asks_memory lanes.old lanes.new result }
 {
     let lane = match Lane::numbered(number) {
         Some(lane) => lane,
@@ -82,8 +82,7 @@ fn held_class<L: Lanes>(
     requires { class < 3 }
     ensures rows { L.honest lanes.new → IfOk result (λ held. is_enabled ≡ true → IsClassHeld (L.contents lanes.old) class held) }
     ensures events { IfOk result AreClassEvents }
-    ensures place { L.place lanes.new ≡ L.place lanes.old }
-    ensures look { IsLook L.honest L.is_stopped L.contents L.beside L.asks_memory lanes.old lanes.new result }
+    ensures look { IsLook L.honest L.is_stopped L.contents L.beside L.place L.asks_memory lanes.old lanes.new result }
 {
     if !is_enabled {
         return Ok(HeldClass {
@@ -111,8 +110,7 @@ pub(crate) fn held_rows<L: Lanes>(
 ) -> Result<HeldRows, StoreFault>
     ensures rows { L.honest lanes.new → IfOk result (IsHeld (L.contents lanes.old) enabled) }
     ensures events { IfOk result AreEvents }
-    ensures place { L.place lanes.new ≡ L.place lanes.old }
-    ensures look { IsLook L.honest L.is_stopped L.contents L.beside L.asks_memory lanes.old lanes.new result }
+    ensures look { IsLook L.honest L.is_stopped L.contents L.beside L.place L.asks_memory lanes.old lanes.new result }
 {
     // Whatever the lanes say without a refusal says that ids rise from 1 on.
     let _raised = lanes.raised();

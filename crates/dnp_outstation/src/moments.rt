@@ -8,9 +8,9 @@ ghost use Rattle.dnp_outstation.specs.Connection.{solicited_timer, unsolicited_t
 ghost use Rattle.dnp_outstation.specs.Links.{begun};
 ghost use Rattle.dnp_outstation.specs.declared.unsolicited.AtTimer.TheVariants as at;
 ghost use Rattle.dnp_outstation.specs.Pushing.{ended_by, timed_by};
-ghost use Rattle.dnp_outstation.specs.Putting.{IsLook};
 ghost use Rattle.dnp_outstation.specs.State.{Core, State, still, is_free};
 ghost use Rattle.dnp_outstation.specs.Station.{state_of, actions_of, HasRoom};
+ghost use Rattle.dnp_outstation.specs.Stores.{IsLook};
 
 use crate::actions::Actions;
 use crate::connection::deadline;
@@ -36,8 +36,7 @@ fn write_opening<L: Lanes>(
     ensures opens { L.honest lanes.new → IfOk result (λ starts. (s : State) (now : ℕ) → s.lanes ≡ L.contents lanes.old → s.core.times.unsolicited ≡ is_on
         → s.core.announced ≡ announced → s.core.enabled ≡ enabled → opened_of s now ≡ ended_by writer.new starts now (still (begun s))) }
     ensures response { IfOk result (λ starts. IsTrue starts → writer.new.builder.function ≡ function.UnsolicitedResponse) }
-    ensures place { L.place lanes.new ≡ L.place lanes.old }
-    ensures look { IsLook L.honest L.is_stopped L.contents L.beside L.asks_memory lanes.old lanes.new result }
+    ensures look { IsLook L.honest L.is_stopped L.contents L.beside L.place L.asks_memory lanes.old lanes.new result }
     ensures asks { IsErr result → IsTrue is_on }
 {
     if is_on && !announced {
@@ -125,8 +124,7 @@ impl OutstationCore {
         outputs: &mut O,
         now: u64,
     ) -> Result<(), StoreFault>
-        ensures place { L.place lanes.new ≡ L.place lanes.old }
-        ensures look { IsLook L.honest L.is_stopped L.contents L.beside L.asks_memory lanes.old lanes.new result }
+        ensures look { IsLook L.honest L.is_stopped L.contents L.beside L.place L.asks_memory lanes.old lanes.new result }
         ensures outputs { outputs.new ≡ outputs.old }
         ensures opened { L.honest lanes.new → OnOk result (opened_of (state_of self.old (L.contents lanes.old) (O.panel outputs.old)) now
             ≡ record { state = state_of self.new (L.contents lanes.new) (O.panel outputs.new); does = actions_of actions.new }) }
@@ -176,8 +174,7 @@ impl OutstationCore {
         outputs: &mut O,
         now: u64,
     ) -> Result<(), StoreFault>
-        ensures place { L.place lanes.new ≡ L.place lanes.old }
-        ensures look { IsLook L.honest L.is_stopped L.contents L.beside L.asks_memory lanes.old lanes.new result }
+        ensures look { IsLook L.honest L.is_stopped L.contents L.beside L.place L.asks_memory lanes.old lanes.new result }
         ensures outputs { outputs.new ≡ outputs.old }
         ensures ticked { L.honest lanes.new → OnOk result (tick_of (state_of self.old (L.contents lanes.old) (O.panel outputs.old)) now
             ≡ record { state = state_of self.new (L.contents lanes.new) (O.panel outputs.new); does = actions_of actions.new }) }

@@ -1,17 +1,17 @@
 //! Requests of the master, and the confirms of their responses.
 
-ghost use Rattle.std.specs.Prelude.{All, ◌⊎◌, true, ◌≡◌, ◌≢◌, ◌≤◌, ℕ, [], false, IsErr, OnOk, OnErr, IsTrue, Err, length};
+ghost use Rattle.std.specs.Prelude.{All, ◌⊎◌, true, ◌≡◌, ◌≤◌, ℕ, false, IsErr, OnOk, OnErr, length};
 ghost use Rattle.dnp_appfragment.specs.declared.function.Function.TheVariants as function;
 ghost use Rattle.dnp_appfragment.specs.Table.{function_octet};
 ghost use Rattle.dnp_controls.specs.Panel.{Panel};
-ghost use Rattle.dnp_eventbuf.specs.Stock.{Stock, rows_in};
+ghost use Rattle.dnp_eventbuf.specs.Stock.{Stock};
 ghost use Rattle.dnp_objects.specs.declared.limits.TheConstants.{MAX_FRAGMENT};
 ghost use Rattle.dnp_outstation.specs.Calls.{with_that};
 ghost use Rattle.dnp_outstation.specs.Connection.{function_in, waiting, on_request, on_again, at_end};
 ghost use Rattle.dnp_outstation.specs.Controls.{is_control};
-ghost use Rattle.dnp_outstation.specs.Putting.{IsLook};
 ghost use Rattle.dnp_outstation.specs.State.{still};
 ghost use Rattle.dnp_outstation.specs.Station.{state_of, actions_of};
+ghost use Rattle.dnp_outstation.specs.Stores.{IsLook};
 
 use crate::actions::Actions;
 use crate::connection::deadline;
@@ -38,20 +38,13 @@ impl OutstationCore {
         requires some { 2 ≤ length octets.now }
         requires few { length octets.now ≤ MAX_FRAGMENT }
         requires other { is_control octets.now ≡ false }
-        ensures held { L.honest lanes.new → L.honest lanes.old }
-        ensures place { L.place lanes.new ≡ L.place lanes.old }
-        ensures beside { L.honest lanes.new → L.beside lanes.new ≡ L.beside lanes.old }
+        ensures look { IsLook L.honest L.is_stopped L.contents L.beside L.place L.asks_memory lanes.old lanes.new result }
         ensures answered { L.honest lanes.new → OnOk result ((p : Panel) →
             at_end now (on_request (state_of self.old (L.contents lanes.old) p) (O.panel outputs.now) now octets.now)
             ≡ record { state = state_of self.new (L.contents lanes.new) p; does = actions_of actions.new }) }
         ensures whole { OnOk result (All (λ fragment. 4 ≤ length fragment) (actions_of actions.new).send) }
         ensures unchanged { OnErr result (self.new ≡ self.old) }
         ensures actions_unchanged { OnErr result (actions.new ≡ actions.old) }
-        ensures same { L.honest lanes.new → L.contents lanes.new ≡ L.contents lanes.old }
-        ensures device { result ≡ Err StoreFault.Device → IsTrue (L.is_stopped lanes.new) }
-        ensures runs_on { result ≢ Err StoreFault.Device → L.is_stopped lanes.new ≡ L.is_stopped lanes.old }
-        ensures memory { L.honest lanes.new → result ≡ Err StoreFault.Memory → L.asks_memory ≡ false → rows_in (L.contents lanes.old) ≢ [] }
-        ensures named { result ≢ Err StoreFault.Exhausted }
         ensures reads { IsErr result → (self.old.times.unsolicited ≡ true) ⊎ (function_in octets.now ≡ function_octet function.Read) }
     {
         let switches = self.switches();
@@ -95,8 +88,7 @@ impl OutstationCore {
         octets: &[u8],
     ) -> Result<(), StoreFault>
         requires { 1 ≤ length octets.now }
-        ensures place { L.place lanes.new ≡ L.place lanes.old }
-        ensures look { IsLook L.honest L.is_stopped L.contents L.beside L.asks_memory lanes.old lanes.new result }
+        ensures look { IsLook L.honest L.is_stopped L.contents L.beside L.place L.asks_memory lanes.old lanes.new result }
         ensures answered { L.honest lanes.new → OnOk result ((p : Panel) → let s = state_of self.old (L.contents lanes.old) p in
             at_end now (with_that s s.core.session.last (on_again s now octets.now))
             ≡ record { state = state_of self.new (L.contents lanes.new) p; does = actions_of actions.new }) }

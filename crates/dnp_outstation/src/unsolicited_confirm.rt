@@ -12,6 +12,7 @@ ghost use Rattle.dnp_outstation.specs.Filling.{after_release};
 ghost use Rattle.dnp_outstation.specs.Items.{last_in};
 ghost use Rattle.dnp_outstation.specs.State.{State, with_session, is_free};
 ghost use Rattle.dnp_outstation.specs.Station.{state_of, actions_of, HasRoom};
+ghost use Rattle.dnp_outstation.specs.Stores.{IsLook, KeepsLanes};
 
 use crate::actions::Actions;
 use crate::answer::{Answer, Switches};
@@ -41,20 +42,13 @@ fn write_held<L: Lanes, O: Outputs>(
     session: &Session,
     released: &Option<Upto>,
 ) -> Result<Option<Answer>, StoreFault>
-    ensures held { L.honest lanes.new → L.honest lanes.old }
-    ensures place { L.place lanes.new ≡ L.place lanes.old }
-    ensures beside { L.honest lanes.new → L.beside lanes.new ≡ L.beside lanes.old }
-    ensures same { L.honest lanes.new → L.contents lanes.new ≡ L.contents lanes.old }
+    ensures look { IsLook L.honest L.is_stopped L.contents L.beside L.place L.asks_memory lanes.old lanes.new result }
     ensures written { L.honest lanes.new → IfOk result (λ held. (s : State) (now : ℕ) → s.core.points ≡ points.now → s.core.restart ≡ switches.restart → s.core.enabled ≡ switches.enabled
         → s.core.session.request ≡ session.now.request → s.lanes ≡ after_release (L.contents lanes.old) released.now
         → answers_held s (O.panel outputs.now) now session.now.last ≡ answers_held_by s now writer.new held) }
     ensures stood { L.honest lanes.new → IfOk result (λ held. IfSome held (λ a. a.stood ≡ last_in (after_release (L.contents lanes.old) released.now))) }
     ensures small { IfOk result (λ held. IfSome held (λ a. a.bits < 8)) }
     ensures response { IfOk result (λ held. IfSome held (λ a. writer.new.builder.function ≡ function.Response)) }
-    ensures device { result ≡ Err StoreFault.Device → IsTrue (L.is_stopped lanes.new) }
-    ensures runs_on { result ≢ Err StoreFault.Device → L.is_stopped lanes.new ≡ L.is_stopped lanes.old }
-    ensures memory { L.honest lanes.new → result ≡ Err StoreFault.Memory → L.asks_memory ≡ false → rows_in (L.contents lanes.old) ≢ [] }
-    ensures named { result ≢ Err StoreFault.Exhausted }
 {
     if !session.holds_read() {
         return Ok(None);
@@ -147,18 +141,14 @@ impl OutstationCore {
         outputs: &O,
         now: u64,
     ) -> Result<(), StoreFault>
-        ensures held { L.honest lanes.new → L.honest lanes.old }
-        ensures place { L.place lanes.new ≡ L.place lanes.old }
-        ensures beside { L.honest lanes.new → L.beside lanes.new ≡ L.beside lanes.old }
+        ensures lanes { KeepsLanes L.honest L.is_stopped L.contents L.beside L.place StoreFault.Device lanes.old lanes.new result }
         ensures confirmed { L.honest lanes.new → OnOk result ((p : Panel) → let s = state_of self.old (L.contents lanes.old) p in
             at_end now (with_that s s.core.session.unsolicited (on_unsolicited_confirm s (O.panel outputs.now) now))
             ≡ record { state = state_of self.new (L.contents lanes.new) p; does = actions_of actions.new }) }
         ensures whole { OnOk result (All (λ fragment. 4 ≤ length fragment) (actions_of actions.new).send) }
         ensures unchanged { OnErr result (self.new ≡ self.old) }
         ensures actions_unchanged { OnErr result (actions.new ≡ actions.old) }
-        ensures lanes_unchanged { L.honest lanes.new → OnErr result (L.contents lanes.new ≡ L.contents lanes.old) }
         ensures device { result ≡ Err StoreFault.Device → IsTrue (L.is_stopped lanes.new) }
-        ensures runs_on { result ≢ Err StoreFault.Device → L.is_stopped lanes.new ≡ L.is_stopped lanes.old }
         ensures memory { L.honest lanes.new → result ≡ Err StoreFault.Memory → L.asks_memory ≡ false → rows_in (L.contents lanes.old) ≢ [] }
         ensures named { result ≢ Err StoreFault.Exhausted }
     {

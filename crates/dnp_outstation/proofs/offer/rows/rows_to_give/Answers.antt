@@ -17,6 +17,7 @@ pub returns-in_err-rows-clause-look : goal.returns-in_err-rows-clause-look
 returns-in_err-rows-clause-look g c = record {
   held = search rules;
   same = search rules;
+  place = search rules;
   beside = search rules;
   stopped = search rules;
   device = search rules;

@@ -15,7 +15,7 @@ use Rattle.dnp_outstation.proofs.outstation_core.OutstationCore.change_reported.
 pub returns-in_err-append_made-clause-memory : goal.returns-in_err-append_made-clause-memory
 returns-in_err-append_made-clause-memory g c = λ honest is asks none.
     let mid = g.L.Lanes.contents c.held_rows.new.lanes in
-    let mid_is : mid ≡ g.L.Lanes.contents c.args.lanes.now = c.in_ok-held.ensures.look.same (c.in_err-append_made.ensures.held honest) in
+    let mid_is : mid ≡ g.L.Lanes.contents c.args.lanes.now = c.in_ok-held.ensures.look.same (c.in_err-append_made.ensures.lanes.held honest) in
     let told : result_err c.from_residual-in_err-append_made.result ≡ Some c.in_err-append_made.field-0.0 = search rules in
     let memory_is : Some c.in_err-append_made.field-0.0 ≡ Some store.Memory = sym told ∙ ap result_err is in
     let memory : Err c.in_err-append_made.field-0.0 ≡ Err store.Memory = cc in
@@ -35,7 +35,7 @@ returns-clause-changed g c = λ honest panel.
     let changed : Core = record core { points = c.change_at.new.self } in
     let written = subst (λ l. g.L.Lanes.honest l) c.end_change.ensures.same honest in
     let appended = subst (λ l. g.L.Lanes.honest l) c.write_changed-starts.ensures.same written in
-    let looked = c.in_ok-append_made.ensures.held appended in
+    let looked = c.in_ok-append_made.ensures.lanes.held appended in
     let mid_is : mid ≡ old = c.in_ok-held.ensures.look.same looked in
     let rows_are : g.L.Lanes.contents c.append_made.new.lanes ≡ with_rows old (option_to_list made) =
     c.in_ok-append_made.ensures.appended appended ∙ ap (λ (l : Stock). with_rows l (option_to_list made)) mid_is in

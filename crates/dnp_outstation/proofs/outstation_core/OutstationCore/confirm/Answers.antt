@@ -29,7 +29,7 @@ returns-clause-confirmed g c = λ honest p.
     let released = subst (λ l. g.L.Lanes.honest l) c.go_on.ensures.same gone in
     let written = c.in_ok-release.ensures.call.held released in
     let read = c.in_ok-starts.ensures.look.held written in
-    let to_old = c.in_ok-starts.ensures.look.same written ∙ c.in_ok-next.ensures.same read in
+    let to_old = c.in_ok-starts.ensures.look.same written ∙ c.in_ok-next.ensures.look.same read in
     let to_release = ap g.L.Lanes.contents (c.end_call.ensures.same ∙ c.go_on.ensures.same) ∙ c.in_ok-release.ensures.released released in
     let lanes_is : new ≡ without old w.upto = to_release ∙ ap (λ (t : Stock). without t w.upto) to_old in
     let lanes_here : new ≡ without (g.L.Lanes.contents c.write_next.new.lanes) w.upto =
@@ -57,5 +57,5 @@ returns-in_err-release-clause-memory g c = λ honest failed asks none.
     let written = c.in_err-release.ensures.call.held honest in
     let read = c.in_ok-starts.ensures.look.held written in
     let empty : rows_in (g.L.Lanes.contents c.write_ending.new.lanes) ≡ [] =
-    ap rows_in (c.in_ok-starts.ensures.look.same written ∙ c.in_ok-next.ensures.same read) ∙ none in
+    ap rows_in (c.in_ok-starts.ensures.look.same written ∙ c.in_ok-next.ensures.look.same read) ∙ none in
     released_is_there (g.L.Lanes.contents c.write_ending.new.lanes) c.in-Some.awaited.upto (c.in_err-release.ensures.memory (search rules) asks) empty

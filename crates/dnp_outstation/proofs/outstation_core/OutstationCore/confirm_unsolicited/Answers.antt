@@ -19,7 +19,7 @@ returns-in_err-release-clause-memory g c = λ honest failed asks none.
     let written = c.in_err-release.ensures.call.held honest in
     let read = c.in_ok-starts.ensures.look.held written in
     let empty : rows_in (g.L.Lanes.contents c.write_ending.new.lanes) ≡ [] =
-    ap rows_in (c.in_ok-starts.ensures.look.same written ∙ c.in_ok-held.ensures.same read) ∙ none in
+    ap rows_in (c.in_ok-starts.ensures.look.same written ∙ c.in_ok-held.ensures.look.same read) ∙ none in
     released_is_there (g.L.Lanes.contents c.write_ending.new.lanes) c.in-Some.response.upto (c.in_err-release.ensures.memory (search rules) asks) empty
 
 pub returns-clause-confirmed : goal.returns-clause-confirmed
@@ -41,7 +41,7 @@ returns-clause-confirmed g c = λ honest p.
     let released = subst (λ l. g.L.Lanes.honest l) c.answer_held.ensures.same gone in
     let written = c.in_ok-release.ensures.call.held released in
     let read = c.in_ok-starts.ensures.look.held written in
-    let to_old = c.in_ok-starts.ensures.look.same written ∙ c.in_ok-held.ensures.same read in
+    let to_old = c.in_ok-starts.ensures.look.same written ∙ c.in_ok-held.ensures.look.same read in
     let to_release = ap g.L.Lanes.contents (c.end_call.ensures.same ∙ c.answer_held.ensures.same) ∙ c.in_ok-release.ensures.released released in
     let lanes_is : new ≡ without old w.upto = to_release ∙ ap (λ (t : Stock). without t w.upto) to_old in
     let lanes_here : new ≡ without (g.L.Lanes.contents c.write_held.new.lanes) w.upto =

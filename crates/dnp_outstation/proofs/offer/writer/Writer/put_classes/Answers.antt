@@ -27,7 +27,7 @@ loop-class-preserved g c =
       response = put.response ∙ l.invariant.response;
       held = λ honest. l.invariant.held (put.look.held honest);
       same = λ honest. put.look.same honest ∙ l.invariant.same (put.look.held honest);
-      place = put.place ∙ l.invariant.place;
+      place = put.look.place ∙ l.invariant.place;
       beside = λ honest. put.look.beside honest ∙ l.invariant.beside (put.look.held honest);
       runs_on = search rules;
     }
