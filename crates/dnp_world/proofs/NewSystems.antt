@@ -7,7 +7,7 @@ use Rattle.dnp_concentrator.specs.Below.{link_in, new_link, new_links}
 use Rattle.dnp_concentrator.specs.BookOutputs.{book_panel}
 use Rattle.dnp_concentrator.specs.IndexMap.{IsMap, IsTooWide, Overlaps}
 use Rattle.dnp_concentrator.specs.Plan.{IsCapacity, KeepsSubLimits, map_of}
-use Rattle.dnp_concentrator.specs.PointsAbove.{HasClassesOf, points_above, points_below}
+use Rattle.dnp_concentrator.specs.PointsAbove.{points_above, points_below}
 use Rattle.dnp_concentrator.specs.Relaying.{Relaying}
 use Rattle.dnp_concentrator.specs.declared.plan.Plan.{Plan}
 use Rattle.dnp_concentrator.specs.declared.plan.SubPlan.{SubPlan}
@@ -52,7 +52,6 @@ pub record NewLaws : Type 0 where
   pub at_first : (indices : List Spans) (links : Links) → ((i : ℕ) → IsUntouched (links.below i)) → IsUntouched links.above
       → IsBehind indices links nothing_kept
   pub is_map : (spans : List Spans) → (IsTooWide spans → ⊥) → (Overlaps spans → ⊥) → IsMap spans
-  pub classes : (plan : Plan) → HasClassesOf plan (new_database (points_above plan))
   pub sound_points : (plan : points.Plan) → points.IsSound plan → database.IsSound (new_database plan)
   pub sound_lanes : (capacities : List ℕ) → length capacities ≡ LANES → All (λ capacity. 1 ≤ capacity) capacities
       → stock.IsSound (empty_stock capacities)
@@ -211,7 +210,7 @@ new_of_plan laws plan queue journal controls orders can = record {
   indices = refl;
   middle_indices = refl;
   centre_indices = refl;
-  classes = laws.classes plan;
+  middle_points = refl;
   masters = masters_ask plan.times plan.substations;
 }
 

@@ -77,6 +77,7 @@ fresh_system plan queue journal controls orders = record {
     core = new_core (new_database (points_above plan)) plan.times;
     queue = queue;
     indices = map_of plan;
+    points = points_above plan;
     controls = controls;
     links = new_links plan;
   };
