@@ -15,6 +15,8 @@ ghost use Rattle.dnp_master.specs.Rows.{is_reported};
 ghost use Rattle.dnp_master.specs.State.{State};
 ghost use Rattle.dnp_objects.specs.declared.row.Row.{Row};
 ghost use Rattle.dnp_objects.specs.declared.command.Command.{Command};
+ghost use Rattle.dnp_concentrator.specs.Addresses.{outstation_address};
+ghost use Rattle.dnp_concentrator.specs.declared.addresses.TheConstants as addresses;
 ghost use Rattle.dnp_concentrator.specs.declared.limits.TheConstants as limits;
 
 use dnp_master::laws::events_taken_are_of_the_plan;
@@ -77,6 +79,16 @@ pub fn no_event_is_passed_over()
     points_are_those_of_the_plan();
     events_taken_are_of_the_plan();
 }
+
+/// The stations of a system have these link addresses: the centre and the concentrator above, the concentrator's master
+/// below, and the outstations of substation 0 and of the last one, 15.
+pub fn stations_have_their_addresses()
+    ensures centre { addresses.CENTRE ≡ 1 }
+    ensures concentrator_above { addresses.CONCENTRATOR_ABOVE ≡ 9 }
+    ensures master_below { addresses.MASTER_BELOW ≡ 2 }
+    ensures first { outstation_address 0 ≡ 10 }
+    ensures last { outstation_address 15 ≡ 25 }
+{}
 
 /// The named limits are these numbers, the library's own measures: of substations, of the five kinds of indices, of the
 /// commands of a request, of an hour in milliseconds, and of repetitions.

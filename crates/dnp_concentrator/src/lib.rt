@@ -3,6 +3,7 @@
 //! the plan of the whole system, and the index map between the substations and the station above them.
 #![tactic(auto)]
 
+pub mod addresses;
 mod below;
 mod book_outputs;
 mod cause;

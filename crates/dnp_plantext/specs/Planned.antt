@@ -1,6 +1,5 @@
--- Definition: the outstation of a substation of a plan (IEEE Std 1815-2012, object library: point indices; data link
--- layer: addresses).
-use Rattle.std.specs.Prelude.{◌≡◌, ℕ, ◌+◌, List, [], ◌∷◌, map, zip}
+-- Definition: the outstation of a substation of a plan (IEEE Std 1815-2012, object library: point indices).
+use Rattle.std.specs.Prelude.{◌≡◌, ℕ, List, [], ◌∷◌, map, zip}
 use Rattle.dnp_controls.specs.Latches.{PlainState}
 use Rattle.dnp_eventbuf.specs.Stock.{Stock, empty_stock}
 use Rattle.dnp_pointdb.specs.declared.point.Block.{Block}
@@ -13,10 +12,6 @@ use Rattle.dnp_outstation.specs.Station.{new_core}
 use Rattle.dnp_outstation.specs.declared.outstation.Outstation.{Outstation}
 use Rattle.dnp_concentrator.specs.PointsAbove as above
 use Rattle.dnp_concentrator.specs.declared.plan.SubPlan.{SubPlan}
-
--- the addresses of the substations' outstations follow one another from 10 on
-abbrev pub outstation_address : ℕ → ℕ
-outstation_address substation = 10 + substation
 
 -- a class, and a deadband
 abbrev pub analog_of : ℕ × ℕ → Point

@@ -18,19 +18,6 @@ use std::alloc::{AllocError, Global};
 /// An outstation with its lanes and its outputs in memory.
 pub type PlannedOutstation = Outstation<PlainLanes, PlainOutputs>;
 
-/// The link address of the outstation of substation 0. Those of the others follow it.
-const FIRST_OUTSTATION: u16 = 10;
-
-/// The link address of the master of every substation.
-pub const MASTER_BELOW: u16 = 2;
-
-/// The link address of a substation's outstation.
-pub fn outstation_address(substation: u8) -> u16
-    ensures { result ≡ spec.outstation_address substation }
-{
-    FIRST_OUTSTATION + u16::from(substation)
-}
-
 /// The only block of a substation's points of a kind that has no deadbands.
 fn only_block(alloc: Global, classes: &[u8]) -> Result<Vec<Block>, AllocError>
     ensures { IfOk result (λ blocks. blocks.items ≡ spec.block_of classes.now ∷ []) }

@@ -3,12 +3,14 @@ use Rattle.std.proofs.Common.{◌≡◌, ℕ, true, false, zero, suc, ◌+◌, �
 use Rattle.std.specs.Prelude.{All, slice_get, slice_index_or, IfSome}
 use Rattle.std.proofs.lemmas.List.Elements.{All-head, All-nil, All-tail, All-weaker}
 use Rattle.std.proofs.lemmas.List.Sorted.{IsPermutation-refl}
+use Rattle.dnp_concentrator.specs.Addresses.{outstation_address}
 use Rattle.dnp_concentrator.specs.Below.{link_in, new_link, new_links}
 use Rattle.dnp_concentrator.specs.BookOutputs.{book_panel}
 use Rattle.dnp_concentrator.specs.IndexMap.{IsMap, IsTooWide, Overlaps}
 use Rattle.dnp_concentrator.specs.Plan.{IsCapacity, KeepsSubLimits, map_of}
 use Rattle.dnp_concentrator.specs.PointsAbove.{points_above, points_below}
 use Rattle.dnp_concentrator.specs.Relaying.{Relaying}
+use Rattle.dnp_concentrator.specs.declared.addresses.TheConstants.{CENTRE, CONCENTRATOR_ABOVE, MASTER_BELOW}
 use Rattle.dnp_concentrator.specs.declared.plan.Plan.{Plan}
 use Rattle.dnp_concentrator.specs.declared.plan.SubPlan.{SubPlan}
 use Rattle.dnp_concentrator.specs.declared.span.Spans.{Spans}
@@ -41,8 +43,6 @@ use Rattle.dnp_world.specs.Standing.{IsFresh}
 use Rattle.dnp_world.specs.Stations.{listed_from}
 use Rattle.dnp_world.specs.Systems.{SubstationState, System, at_station}
 use Rattle.dnp_world.specs.SystemStanding.{lists_of, points_asked, seen, IsJoinedBelow, IsOfPlan, IsStanding}
-use Rattle.dnp_world.specs.declared.substation.TheConstants.{CONCENTRATOR_BELOW, FIRST_SUBSTATION}
-use Rattle.dnp_world.specs.declared.world.TheConstants.{CENTRE, CONCENTRATOR_ABOVE}
 use Rattle.dnp_world.proofs.BelowEvents.{shown_with}
 use Rattle.dnp_world.proofs.JoinedRuns.{Opened}
 use Rattle.dnp_world.proofs.NewSubstations.{sound_at}
@@ -130,7 +130,7 @@ new_substation laws times number s keeps nine =
     let it : SubstationState = fresh_substation times number s in
     record {
       joined = new_joined_to laws (new_database (points_at s)) (points_below s) times (empty_stock s.lanes) []
-          CONCENTRATOR_BELOW (FIRST_SUBSTATION + number) (laws.sound_points (points_at s) (sound_at s keeps)) (new_lanes laws s keeps nine);
+          MASTER_BELOW (outstation_address number) (laws.sound_points (points_at s) (sound_at s keeps)) (new_lanes laws s keeps nine);
       shown = shown_with it it (omega (arith, keeps.few_outputs)) refl;
     }
 

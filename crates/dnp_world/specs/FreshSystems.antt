@@ -2,10 +2,12 @@
 -- 1815-2012 speaks of one link at a time).
 use Rattle.std.specs.Prelude.{ℕ, suc, ◌+◌, true, false, List, [], ◌∷◌, map}
 use Rattle.std.specs.List.{zip}
+use Rattle.dnp_concentrator.specs.Addresses.{outstation_address}
 use Rattle.dnp_concentrator.specs.Below.{new_links}
 use Rattle.dnp_concentrator.specs.Plan.{map_of}
 use Rattle.dnp_concentrator.specs.PointsAbove.{block_of, points_above}
 use Rattle.dnp_concentrator.specs.Relaying.{new_relaying}
+use Rattle.dnp_concentrator.specs.declared.addresses.TheConstants.{CENTRE, CONCENTRATOR_ABOVE, MASTER_BELOW}
 use Rattle.dnp_concentrator.specs.declared.plan.Plan.{Plan}
 use Rattle.dnp_concentrator.specs.declared.plan.SubPlan.{SubPlan}
 use Rattle.dnp_controls.specs.Book.{Ledger}
@@ -21,8 +23,6 @@ use Rattle.dnp_pointdb.specs.declared.point.Point.{Point}
 use Rattle.dnp_pointdb.specs.declared.times.Times.{Times}
 use Rattle.dnp_world.specs.Channels.{ChannelState}
 use Rattle.dnp_world.specs.Systems.{SubstationState, History, System}
-use Rattle.dnp_world.specs.declared.substation.TheConstants.{CONCENTRATOR_BELOW, FIRST_SUBSTATION}
-use Rattle.dnp_world.specs.declared.world.TheConstants.{CENTRE, CONCENTRATOR_ABOVE}
 
 -- lines that nothing was sent on, between stations of these link addresses
 abbrev pub fresh_channel : ℕ → ℕ → ChannelState
@@ -55,7 +55,7 @@ fresh_substation times number plan = record {
   core = new_core (new_database (points_at plan)) times;
   lanes = empty_stock plan.lanes;
   outputs = record { outputs = plan.outputs; setpoints = plan.setpoints; performed = [] };
-  channel = fresh_channel (FIRST_SUBSTATION + number) CONCENTRATOR_BELOW;
+  channel = fresh_channel (outstation_address number) MASTER_BELOW;
 }
 
 -- those of these numbers on

@@ -7,7 +7,8 @@ ghost use Rattle.dnp_world.specs.FreshSystems.{analog_block, analog_points, fres
 ghost use Rattle.dnp_world.specs.SystemParts.{substation_of};
 
 use crate::channel::Channel;
-use crate::substation::{CONCENTRATOR_BELOW, FIRST_SUBSTATION, Substation};
+use crate::substation::Substation;
+use dnp_concentrator::addresses::{MASTER_BELOW, outstation_address};
 use dnp_concentrator::{Plan, SubPlan};
 use dnp_controls::PlainOutputs;
 use dnp_eventbuf::PlainLanes;
@@ -83,11 +84,7 @@ fn new_substation(
     let outputs = PlainOutputs::new(alloc, plan.outputs, plan.setpoints);
     Ok(Substation {
         outstation: Outstation::new(points, lanes, outputs, times),
-        channel: Channel::new(
-            alloc,
-            FIRST_SUBSTATION + u16::from(number),
-            CONCENTRATOR_BELOW,
-        ),
+        channel: Channel::new(alloc, outstation_address(number), MASTER_BELOW),
     })
 }
 
