@@ -30,6 +30,7 @@ pub mod relay_laws;
 mod relayed;
 mod relaying_below;
 mod span;
+mod substation_points;
 
 pub use book_outputs::BookOutputs;
 pub use cause::Cause;

@@ -8,13 +8,13 @@ use Rattle.dnp_concentrator.specs.Below.{link_in, new_link, new_links}
 use Rattle.dnp_concentrator.specs.BookOutputs.{book_panel}
 use Rattle.dnp_concentrator.specs.IndexMap.{IsMap, IsTooWide, Overlaps}
 use Rattle.dnp_concentrator.specs.Plan.{IsCapacity, KeepsSubLimits, map_of}
-use Rattle.dnp_concentrator.specs.PointsAbove.{points_above, points_below}
+use Rattle.dnp_concentrator.specs.PointsAbove.{points_above, points_at, points_below}
 use Rattle.dnp_concentrator.specs.Relaying.{Relaying}
 use Rattle.dnp_concentrator.specs.declared.addresses.TheConstants.{CENTRE, CONCENTRATOR_ABOVE, MASTER_BELOW}
 use Rattle.dnp_concentrator.specs.declared.plan.Plan.{Plan}
 use Rattle.dnp_concentrator.specs.declared.plan.SubPlan.{SubPlan}
 use Rattle.dnp_concentrator.specs.declared.span.Spans.{Spans}
-use Rattle.dnp_concentrator.proofs.SoundPoints.{sound_above}
+use Rattle.dnp_concentrator.proofs.SoundPoints.{sound_above, sound_at}
 use Rattle.dnp_controls.specs.Book.{Ledger}
 use Rattle.dnp_controls.specs.declared.book.Entry.{Entry}
 use Rattle.dnp_eventbuf.specs.Archive.{Archive}
@@ -33,7 +33,7 @@ use Rattle.dnp_pointdb.specs.Plan as points
 use Rattle.dnp_pointdb.specs.Sound as database
 use Rattle.dnp_pointdb.specs.declared.times.Times.{Times}
 use Rattle.dnp_world.specs.Behind.{IsBehind, IsUntouched, Links}
-use Rattle.dnp_world.specs.FreshSystems.{fresh_channel, fresh_substation, fresh_substations, fresh_system, points_at}
+use Rattle.dnp_world.specs.FreshSystems.{fresh_channel, fresh_substation, fresh_substations, fresh_system}
 use Rattle.dnp_world.specs.Joined.{Joined}
 use Rattle.dnp_world.specs.Kept.{Kept, kept_in, lane_rows_of, nothing_kept, report_of, shown_of}
 use Rattle.dnp_world.specs.Lanes.{HasLanes, fresh_link}
@@ -45,7 +45,6 @@ use Rattle.dnp_world.specs.Systems.{SubstationState, System, at_station}
 use Rattle.dnp_world.specs.SystemStanding.{lists_of, points_asked, seen, IsJoinedBelow, IsOfPlan, IsStanding}
 use Rattle.dnp_world.proofs.BelowEvents.{shown_with}
 use Rattle.dnp_world.proofs.JoinedRuns.{Opened}
-use Rattle.dnp_world.proofs.NewSubstations.{sound_at}
 
 -- what the laws promise of it
 pub record NewLaws : Type 0 where
