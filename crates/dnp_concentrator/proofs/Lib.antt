@@ -1,6 +1,5 @@
 pub mod Added
 pub mod Awaiting
-pub mod KeptClasses
 pub mod Ledgers
 pub mod MappedBack
 pub mod Mapping

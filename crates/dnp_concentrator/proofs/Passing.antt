@@ -22,7 +22,7 @@ use Rattle.dnp_pointdb.specs.declared.point.Point.{Point}
 use Rattle.dnp_pointdb.specs.declared.state.PointState.{PointState}
 use Rattle.dnp_pointdb.specs.Blocks.{HasIndex}
 use Rattle.dnp_pointdb.specs.Classes.{class_at, has_index, point_in}
-use Rattle.dnp_pointdb.specs.Database.{Database, new_database, state_at}
+use Rattle.dnp_pointdb.specs.Database.{new_database, state_at}
 use Rattle.dnp_pointdb.specs.Events.{lane_of}
 use Rattle.dnp_pointdb.specs.Plan as station
 use Rattle.dnp_concentrator.specs.declared.plan.Plan.{Plan}
@@ -33,7 +33,7 @@ use Rattle.dnp_concentrator.specs.IndexKinds.{kind_of_points}
 use Rattle.dnp_concentrator.specs.IndexMap.{IsMap, index_above, no_spans, span_at, span_of}
 use Rattle.dnp_concentrator.specs.Mapped.{lane_row, queued_row, queued_rows}
 use Rattle.dnp_concentrator.specs.Plan.{IsClass, KeepsLimits, KeepsSubLimits, map_of, spans_of}
-use Rattle.dnp_concentrator.specs.PointsAbove.{HasClassesOf, block_above, block_of, point_of, points_above, points_below}
+use Rattle.dnp_concentrator.specs.PointsAbove.{block_above, block_of, point_of, points_above, points_below}
 use Rattle.dnp_concentrator.proofs.SoundPoints.{base-above, blocks-above, count-above, sound_above}
 
 -- ---- the class of a point below
@@ -157,18 +157,17 @@ mapped_some : {X Y : Type 0} (f : X → Y) (o : Option X) → IsSome o → IsSom
 mapped_some f None h = absurd (search (rules, h))
 mapped_some f (Some x) h = search rules
 
-lane_some : (row : Row) (o : Option PointState) (class : ℕ) → option_map (λ (state : PointState). state.point.class) o ≡ Some class
-    → 0 < class → class ≤ CLASSES
-    → IsSome (option_and_then (λ (state : PointState). option_map (λ (lane : Lane). let y : LaneRow = record { lane = lane; row = row } in y)
-    (lane_of state.point.class row.kind)) o)
+lane_some : (row : Row) (o : Option ℕ) (class : ℕ) → o ≡ Some class → 0 < class → class ≤ CLASSES
+    → IsSome (option_and_then (λ (class : ℕ). option_map (λ (lane : Lane). let y : LaneRow = record { lane = lane; row = row } in y)
+    (lane_of class row.kind)) o)
 lane_some row None class e some few = absurd (cc)
-lane_some row (Some state) class e some few =
-    let same : class ≡ state.point.class = cc in
-    mapped_some (λ (lane : Lane). let y : LaneRow = record { lane = lane; row = row } in y) (lane_of state.point.class row.kind)
+lane_some row (Some found) class e some few =
+    let same : class ≡ found = cc in
+    mapped_some (λ (lane : Lane). let y : LaneRow = record { lane = lane; row = row } in y) (lane_of found row.kind)
     (subst (λ (n : ℕ). IsSome (lane_of n row.kind)) same (some_lane class row.kind some few))
 
 -- a row whose index above is known
-at_index : (points : Database) (row : Row) (o : Option ℕ) (above : ℕ) → o ≡ Some above
+at_index : (points : station.Plan) (row : Row) (o : Option ℕ) (above : ℕ) → o ≡ Some above
     → IsSome (lane_row points (record row { index = above }))
     → IsSome (option_and_then (lane_row points) (option_map (λ (index : ℕ). record row { index = index }) o))
 at_index points row o above is h =
@@ -192,36 +191,35 @@ stands plan kind number s at index inside =
         → cond (nat_lt index x.count) (Some (x.base + index)) None ≡ Some (base + index)
     in_span x index base lt same = grind (arith, nat_tests, lt, same)
 
-pub event_queued : IsThere → HasItsClass → (plan : Plan) (points : Database) (number : ℕ) (s : SubPlan) (event : Row) → KeepsLimits plan
-    → IsMap (map_of plan) → HasClassesOf plan points → slice_get plan.substations number ≡ Some s
-    → is_reported (points_below s) event ≡ true → IsSome (queued_row (map_of plan) points number event)
-event_queued there class_is plan points number s event keeps is classes at reported =
+pub event_queued : IsThere → HasItsClass → (plan : Plan) (number : ℕ) (s : SubPlan) (event : Row) → KeepsLimits plan
+    → IsMap (map_of plan) → slice_get plan.substations number ≡ Some s
+    → is_reported (points_below s) event ≡ true → IsSome (queued_row (map_of plan) (points_above plan) number event)
+event_queued there class_is plan number s event keeps is at reported =
     let found = reported_class (class_at (points_below s) event.kind event.index) reported in
     let of_class : IsOfClass event.kind s event.index found.0 = class-below event.kind s event.index found.0 found.1 in
     let above : ℕ = (block_above event.kind s).base + event.index in
-    let class_there = classes event.kind above
-    ∙ class-above there class_is plan keeps is event.kind number s at event.index found.0 of_class in
+    let class_there = class-above there class_is plan keeps is event.kind number s at event.index found.0 of_class in
     let lt : number < length plan.substations = slice_get_within plan.substations number s at in
     let kept : KeepsSubLimits s =
     subst KeepsSubLimits (get_or_from_slice_get plan.substations number s s at) (keeps.substations number s lt) in
-    at_index points event (index_above (map_of plan) number (kind_of_points event.kind) event.index) above
+    at_index (points_above plan) event (index_above (map_of plan) number (kind_of_points event.kind) event.index) above
     (stands plan event.kind number s at event.index of_class.inside)
-    (lane_some (record event { index = above }) (state_at points event.kind above) found.0 class_there found.2
+    (lane_some (record event { index = above }) (class_at (points_above plan) event.kind above) found.0 class_there found.2
     (low-in event.kind s kept event.index found.0 of_class))
 
 one_more : (o : Option LaneRow) (more : List LaneRow) → IsSome o → length (cons_option o more) ≡ suc (length more)
 one_more None more h = absurd (search (rules, h))
 one_more (Some x) more h = refl
 
-pub all_events_queued : IsThere → HasItsClass → (plan : Plan) (points : Database) (number : ℕ) (s : SubPlan) (events : List Row) → KeepsLimits plan
-    → IsMap (map_of plan) → HasClassesOf plan points → slice_get plan.substations number ≡ Some s
-    → All (λ event. is_reported (points_below s) event ≡ true) events → length (queued_rows (map_of plan) points number events) ≡ length events
-all_events_queued there class_is plan points number s [] keeps is classes at all = refl
-all_events_queued there class_is plan points number s (event ∷ events) keeps is classes at all =
+pub all_events_queued : IsThere → HasItsClass → (plan : Plan) (number : ℕ) (s : SubPlan) (events : List Row) → KeepsLimits plan
+    → IsMap (map_of plan) → slice_get plan.substations number ≡ Some s
+    → All (λ event. is_reported (points_below s) event ≡ true) events → length (queued_rows (map_of plan) (points_above plan) number events) ≡ length events
+all_events_queued there class_is plan number s [] keeps is at all = refl
+all_events_queued there class_is plan number s (event ∷ events) keeps is at all =
     let passes : Row → Type 0 = λ row. is_reported (points_below s) row ≡ true in
-    one_more (queued_row (map_of plan) points number event) (queued_rows (map_of plan) points number events)
-    (event_queued there class_is plan points number s event keeps is classes at (All-head passes event events all))
-    ∙ ap suc (all_events_queued there class_is plan points number s events keeps is classes at (All-tail passes event events all))
+    one_more (queued_row (map_of plan) (points_above plan) number event) (queued_rows (map_of plan) (points_above plan) number events)
+    (event_queued there class_is plan number s event keeps is at (All-head passes event events all))
+    ∙ ap suc (all_events_queued there class_is plan number s events keeps is at (All-tail passes event events all))
 
 -- ---- what a master takes
 
@@ -231,12 +229,12 @@ if_ok-map P Q (Err e) f h = tt
 
 pub all_taken_queued : IsThere → HasItsClass
     → ((s : State) (now : ℕ) (octets : List ℕ) → IfOk (receive_of s now octets) (λ t. All (λ event. is_reported s.plan event ≡ true) t.events))
-    → (plan : Plan) (points : Database) (number : ℕ) (s : SubPlan) (master : State) (now : ℕ) (octets : List ℕ) → KeepsLimits plan
-    → IsMap (map_of plan) → HasClassesOf plan points → slice_get plan.substations number ≡ Some s → master.plan ≡ points_below s
-    → IfOk (receive_of master now octets) (λ t. length (queued_rows (map_of plan) points number t.events) ≡ length t.events)
-all_taken_queued there class_is reported plan points number s master now octets keeps is classes at of_plan =
+    → (plan : Plan) (number : ℕ) (s : SubPlan) (master : State) (now : ℕ) (octets : List ℕ) → KeepsLimits plan
+    → IsMap (map_of plan) → slice_get plan.substations number ≡ Some s → master.plan ≡ points_below s
+    → IfOk (receive_of master now octets) (λ t. length (queued_rows (map_of plan) (points_above plan) number t.events) ≡ length t.events)
+all_taken_queued there class_is reported plan number s master now octets keeps is at of_plan =
     if_ok-map (λ t. All (λ event. is_reported master.plan event ≡ true) t.events)
-    (λ t. length (queued_rows (map_of plan) points number t.events) ≡ length t.events) (receive_of master now octets)
-    (λ t all. all_events_queued there class_is plan points number s t.events keeps is classes at
+    (λ t. length (queued_rows (map_of plan) (points_above plan) number t.events) ≡ length t.events) (receive_of master now octets)
+    (λ t all. all_events_queued there class_is plan number s t.events keeps is at
     (subst (λ (p : station.Plan). All (λ event. is_reported p event ≡ true) t.events) of_plan all))
     (reported master now octets)

@@ -10,9 +10,9 @@ use Rattle.dnp_objects.specs.declared.lane.LaneRow.{LaneRow}
 use Rattle.dnp_objects.specs.declared.row.Kind.{Kind}
 use Rattle.dnp_objects.specs.declared.row.Row.{Row}
 use Rattle.dnp_eventbuf.specs.Carried.{IsCarried}
-use Rattle.dnp_pointdb.specs.Database.{Database, state_at}
+use Rattle.dnp_pointdb.specs.Classes.{class_at}
+use Rattle.dnp_pointdb.specs.Plan as points
 use Rattle.dnp_pointdb.specs.Events.{lane_of}
-use Rattle.dnp_pointdb.specs.declared.state.PointState.{PointState}
 use Rattle.dnp_concentrator.specs.declared.span.Spans.{Spans}
 use Rattle.dnp_concentrator.specs.IndexKinds.{kind_of_points}
 use Rattle.dnp_concentrator.specs.IndexMap.{index_above}
@@ -36,43 +36,43 @@ lane_carries class row x (Some lane) is e event =
     let carried : IsCarried y = record { of_its_kind = kind_is class row.kind lane is; fits = event } in
     subst IsCarried same carried
 
-state_carries : (row : Row) (x : LaneRow) (o : Option PointState)
-    → option_and_then (λ (state : PointState). option_map (λ (lane : Lane). let y : LaneRow = record { lane = lane; row = row } in y)
-    (lane_of state.point.class row.kind)) o ≡ Some x
+class_carries : (row : Row) (x : LaneRow) (o : Option ℕ)
+    → option_and_then (λ (class : ℕ). option_map (λ (lane : Lane). let y : LaneRow = record { lane = lane; row = row } in y)
+    (lane_of class row.kind)) o ≡ Some x
     → IsEvent row → IsCarried x
-state_carries row x None e event = absurd (grind (arith, e))
-state_carries row x (Some state) e event = lane_carries state.point.class row x (lane_of state.point.class row.kind) refl e event
+class_carries row x None e event = absurd (grind (arith, e))
+class_carries row x (Some class) e event = lane_carries class row x (lane_of class row.kind) refl e event
 
-index_carries : (points : Database) (row : Row) (x : LaneRow) (o : Option ℕ)
-    → option_and_then (lane_row points) (option_map (λ (index : ℕ). record row { index = index }) o) ≡ Some x → IsEvent row → IsCarried x
-index_carries points row x None e event = absurd (grind (arith, e))
-index_carries points row x (Some index) e event =
+index_carries : (plan : points.Plan) (row : Row) (x : LaneRow) (o : Option ℕ)
+    → option_and_then (lane_row plan) (option_map (λ (index : ℕ). record row { index = index }) o) ≡ Some x → IsEvent row → IsCarried x
+index_carries plan row x None e event = absurd (grind (arith, e))
+index_carries plan row x (Some index) e event =
     let above : Row = record row { index = index } in
-    state_carries above x (state_at points row.kind index) e event
+    class_carries above x (class_at plan row.kind index) e event
 
-queued_carried : (spans : List Spans) (points : Database) (station : ℕ) (row : Row) (o : Option LaneRow) → queued_row spans points station row ≡ o
+queued_carried : (spans : List Spans) (plan : points.Plan) (station : ℕ) (row : Row) (o : Option LaneRow) → queued_row spans plan station row ≡ o
     → IsEvent row → (more : List LaneRow) → All IsCarried more → All IsCarried (cons_option o more)
-queued_carried spans points station row None e event more all = all
-queued_carried spans points station row (Some x) e event more all =
-    let first : IsCarried x = index_carries points row x (index_above spans station (kind_of_points row.kind) row.index) e event in
+queued_carried spans plan station row None e event more all = all
+queued_carried spans plan station row (Some x) e event more all =
+    let first : IsCarried x = index_carries plan row x (index_above spans station (kind_of_points row.kind) row.index) e event in
     all_more first all
   where
     all_more : IsCarried x → All IsCarried more → All IsCarried (x ∷ more)
     all_more first all zero d lt = first
     all_more first all (suc i) d lt = all i d (omega arith)
 
-pub all_carried : (spans : List Spans) (points : Database) (station : ℕ) (rows : List Row) → All IsEvent rows
-    → All IsCarried (queued_rows spans points station rows)
-all_carried spans points station [] events = λ i d lt. absurd (omega arith)
-all_carried spans points station (row ∷ rows) events =
-    queued_carried spans points station row (queued_row spans points station row) refl (All-head IsEvent row rows events)
-    (queued_rows spans points station rows) (all_carried spans points station rows (All-tail IsEvent row rows events))
+pub all_carried : (spans : List Spans) (plan : points.Plan) (station : ℕ) (rows : List Row) → All IsEvent rows
+    → All IsCarried (queued_rows spans plan station rows)
+all_carried spans plan station [] events = λ i d lt. absurd (omega arith)
+all_carried spans plan station (row ∷ rows) events =
+    queued_carried spans plan station row (queued_row spans plan station row) refl (All-head IsEvent row rows events)
+    (queued_rows spans plan station rows) (all_carried spans plan station rows (All-tail IsEvent row rows events))
 
 -- ---- all rows
 
 -- when no row is to come, what was queued is all
-pub all_queued : (spans : List Spans) (points : Database) (station : ℕ) (rows : List Row) (n : ℕ) (queued : List LaneRow)
-    → queued ++ queued_rows spans points station (drop n rows) ≡ queued_rows spans points station rows → length rows ≤ n
-    → queued ≡ queued_rows spans points station rows
-all_queued spans points station rows n queued so_far all =
-    sym (append-nil queued) ∙ ap (λ (more : List Row). queued ++ queued_rows spans points station more) (sym (drop_all n rows all)) ∙ so_far
+pub all_queued : (spans : List Spans) (plan : points.Plan) (station : ℕ) (rows : List Row) (n : ℕ) (queued : List LaneRow)
+    → queued ++ queued_rows spans plan station (drop n rows) ≡ queued_rows spans plan station rows → length rows ≤ n
+    → queued ≡ queued_rows spans plan station rows
+all_queued spans plan station rows n queued so_far all =
+    sym (append-nil queued) ∙ ap (λ (more : List Row). queued ++ queued_rows spans plan station more) (sym (drop_all n rows all)) ∙ so_far

@@ -1,13 +1,16 @@
--- The points above of a plan that has an index map are a plan of points.
-use Rattle.std.proofs.Common.{◌≡◌, ℕ, zero, suc, ◌+◌, ◌<◌, ◌≤◌, inl, inr, true, List, [], ◌∷◌, length, map, get_or, refl, sym, subst, arith}
-use Rattle.std.specs.Prelude.{All}
+-- The points above of a plan that has an index map are a plan of points, and so are those of one substation.
+use Rattle.std.proofs.Common.{◌≡◌, ℕ, zero, suc, ◌+◌, ◌<◌, ◌≤◌, inl, inr, true, List, [], ◌∷◌, length, map, get_or, refl, sym, ap, subst, arith}
+use Rattle.std.specs.Prelude.{All, zip}
 use Rattle.std.specs.List.{Any, HoldsAt}
 use Rattle.std.proofs.lemmas.Bool.Decides.{nat_tests}
 use Rattle.std.proofs.lemmas.List.{get_or-map, length-map}
+use Rattle.std.proofs.lemmas.Slice.Zip.{length-zip}
+use Rattle.dnp_objects.specs.declared.limits.TheConstants.{CLASSES}
 use Rattle.dnp_objects.specs.declared.row.Kind.{Kind}
 use Rattle.dnp_objects.specs.declared.row.Kind.TheVariants as points
 use Rattle.dnp_pointdb.specs.declared.limits.TheConstants.{INDICES, MAX_POINTS}
 use Rattle.dnp_pointdb.specs.declared.point.Block.{Block}
+use Rattle.dnp_pointdb.specs.declared.point.Point.{Point}
 use Rattle.dnp_pointdb.specs.declared.fault.PlanFault.TheVariants.{Class, TooMany, TooWide, Overlap}
 use Rattle.dnp_pointdb.specs.Blocks.{HasIndex, ShareIndex}
 use Rattle.dnp_pointdb.specs.Plan as station
@@ -18,7 +21,7 @@ use Rattle.dnp_concentrator.specs.declared.span.Spans.{Spans}
 use Rattle.dnp_concentrator.specs.IndexKinds.{kind_of_points}
 use Rattle.dnp_concentrator.specs.IndexMap.{IsMap, is_in, no_spans, span_of}
 use Rattle.dnp_concentrator.specs.Plan.{IsClass, KeepsLimits, KeepsSubLimits, map_of, spans_of}
-use Rattle.dnp_concentrator.specs.PointsAbove.{block_above, block_of, point_of, points_above, points_below}
+use Rattle.dnp_concentrator.specs.PointsAbove.{analog_block, analog_point, analog_points, block_above, block_of, point_of, points_above, points_at, points_below}
 
 -- ---- lists
 
@@ -142,34 +145,69 @@ only : {X : Type 0} (P : X → Type 0) (x : X) → Any P (x ∷ []) → P x
 only P x (zero, y, lt, at, p) = subst P (sym at) p
 only P x (suc k, y, lt, at, p) = absurd (omega (arith, lt))
 
-class-below : (kind : Kind) (s : SubPlan) → KeepsSubLimits s → Any (station.HasWrongPoint kind) (station.blocks_of (points_below s) kind) → ⊥
-class-below points.Binary s keeps wrong =
+-- a block of analog inputs that begins with 0, and is no fault
+record IsAnalog (analog : Block) : Type 0 where
+  base : analog.base ≡ 0
+  few : length analog.points ≤ MAX_POINTS
+  classes : station.HasWrongPoint points.Analog analog → ⊥
+
+abbrev with_analog : SubPlan → Block → station.Plan
+with_analog s analog = station.plan_of (block_of 0 s.binary ∷ []) (block_of 0 s.counter ∷ []) (analog ∷ [])
+
+class-in : (kind : Kind) (s : SubPlan) → KeepsSubLimits s → (analog : Block) → IsAnalog analog
+    → Any (station.HasWrongPoint kind) (station.blocks_of (with_analog s analog) kind) → ⊥
+class-in points.Binary s keeps analog is wrong =
     good-points points.Binary s.binary keeps.binary (only (station.HasWrongPoint points.Binary) (block_of 0 s.binary) wrong)
-class-below points.Counter s keeps wrong =
+class-in points.Counter s keeps analog is wrong =
     good-points points.Counter s.counter keeps.counter (only (station.HasWrongPoint points.Counter) (block_of 0 s.counter) wrong)
-class-below points.Analog s keeps wrong =
-    good-points points.Analog s.analog keeps.analog (only (station.HasWrongPoint points.Analog) (block_of 0 s.analog) wrong)
+class-in points.Analog s keeps analog is wrong = is.classes (only (station.HasWrongPoint points.Analog) analog wrong)
 
 few-in : (classes : List ℕ) → length classes ≤ MAX_POINTS → length (block_of 0 classes).points ≤ MAX_POINTS
 few-in classes few = omega (arith, length-map classes point_of, few)
 
-few-below : (kind : Kind) (s : SubPlan) → KeepsSubLimits s → (P : Block → Type 0) → Any P (station.blocks_of (points_below s) kind)
-    → (block : Block) × (block.base ≡ 0) × (length block.points ≤ MAX_POINTS) × P block
-few-below points.Binary s keeps P any = (block_of 0 s.binary, refl, few-in s.binary keeps.few_binary, only P (block_of 0 s.binary) any)
-few-below points.Counter s keeps P any = (block_of 0 s.counter, refl, few-in s.counter keeps.few_counter, only P (block_of 0 s.counter) any)
-few-below points.Analog s keeps P any = (block_of 0 s.analog, refl, few-in s.analog keeps.few_analog, only P (block_of 0 s.analog) any)
+few-of : (kind : Kind) (s : SubPlan) → KeepsSubLimits s → (analog : Block) → IsAnalog analog → (P : Block → Type 0)
+    → Any P (station.blocks_of (with_analog s analog) kind) → (block : Block) × (block.base ≡ 0) × (length block.points ≤ MAX_POINTS) × P block
+few-of points.Binary s keeps analog is P any = (block_of 0 s.binary, refl, few-in s.binary keeps.few_binary, only P (block_of 0 s.binary) any)
+few-of points.Counter s keeps analog is P any = (block_of 0 s.counter, refl, few-in s.counter keeps.few_counter, only P (block_of 0 s.counter) any)
+few-of points.Analog s keeps analog is P any = (analog, is.base, is.few, only P analog any)
 
-one-below : (kind : Kind) (s : SubPlan) → length (station.blocks_of (points_below s) kind) ≡ 1
-one-below points.Binary s = refl
-one-below points.Counter s = refl
-one-below points.Analog s = refl
+one-of : (kind : Kind) (s : SubPlan) (analog : Block) → length (station.blocks_of (with_analog s analog) kind) ≡ 1
+one-of points.Binary s analog = refl
+one-of points.Counter s analog = refl
+one-of points.Analog s analog = refl
 
-pub sound_below : (s : SubPlan) → KeepsSubLimits s → station.IsSound (points_below s)
-sound_below s keeps Class (kind, wrong) = class-below kind s keeps wrong
-sound_below s keeps TooMany (kind, many) =
-    let found = few-below kind s keeps station.HasTooMany many in
+sound-with : (s : SubPlan) → KeepsSubLimits s → (analog : Block) → IsAnalog analog → station.IsSound (with_analog s analog)
+sound-with s keeps analog is Class (kind, wrong) = class-in kind s keeps analog is wrong
+sound-with s keeps analog is TooMany (kind, many) =
+    let found = few-of kind s keeps analog is station.HasTooMany many in
     omega (arith, found.2, found.3)
-sound_below s keeps TooWide (kind, wide) =
-    let found = few-below kind s keeps station.IsTooWide wide in
+sound-with s keeps analog is TooWide (kind, wide) =
+    let found = few-of kind s keeps analog is station.IsTooWide wide in
     omega (arith, found.1, found.2, found.3)
-sound_below s keeps Overlap (kind, shared) = omega (arith, shared.in_order, shared.in_list, one-below kind s)
+sound-with s keeps analog is Overlap (kind, shared) = omega (arith, shared.in_order, shared.in_list, one-of kind s analog)
+
+-- those that its master needs
+pub sound_below : (s : SubPlan) → KeepsSubLimits s → station.IsSound (points_below s)
+sound_below s keeps =
+    sound-with s keeps (block_of 0 s.analog)
+    (record { base = refl; few = few-in s.analog keeps.few_analog; classes = good-points points.Analog s.analog keeps.analog })
+
+-- analog inputs have the classes of the plan, whatever their deadbands
+good-analogs : (classes deadbands : List ℕ) → All IsClass classes → Any (station.IsWrong points.Analog) (analog_points classes deadbands) → ⊥
+good-analogs [] deadbands good (k, p, low, at, wrong) = omega (arith, low)
+good-analogs (class ∷ classes) [] good (k, p, low, at, wrong) = omega (arith, low)
+good-analogs (class ∷ classes) (deadband ∷ deadbands) good (zero, p, low, at, wrong) =
+    let here : class ≤ CLASSES = good 0 class (omega arith) in
+    let is : class ≡ p.class = ap (λ (q : Point). q.class) at in
+    omega (arith, here, is, wrong)
+good-analogs (class ∷ classes) (deadband ∷ deadbands) good (suc k, p, low, at, wrong) =
+    good-analogs classes deadbands (λ i d lt. good (suc i) d (omega (arith, lt))) (k, p, omega (arith, low), at, wrong)
+
+few-analogs : (classes deadbands : List ℕ) → length classes ≤ MAX_POINTS → length (analog_points classes deadbands) ≤ MAX_POINTS
+few-analogs classes deadbands few = omega (arith, length-map (zip classes deadbands) analog_point, length-zip classes deadbands, few)
+
+-- its own
+pub sound_at : (s : SubPlan) → KeepsSubLimits s → station.IsSound (points_at s)
+sound_at s keeps =
+    sound-with s keeps (analog_block s.analog s.deadband)
+    (record { base = refl; few = few-analogs s.analog s.deadband keeps.few_analog; classes = good-analogs s.analog s.deadband keeps.analog })

@@ -11,6 +11,7 @@ use Rattle.dnp_master.specs.declared.fault.MasterFault.{MasterFault}
 use Rattle.dnp_master.specs.declared.fault.MasterFault.TheVariants.{Device}
 use Rattle.dnp_outstation.specs.Station.{state_of, with_points}
 use Rattle.dnp_pointdb.specs.Database.{Database, lost_of}
+use Rattle.dnp_pointdb.specs.Plan as points
 use Rattle.dnp_concentrator.specs.Below.{link_in, readings_set}
 use Rattle.dnp_concentrator.specs.declared.book_outputs.BookOutputs.{BookOutputs}
 use Rattle.dnp_concentrator.specs.declared.concentrator.Concentrator.{Concentrator}
@@ -25,6 +26,10 @@ core_of c = c.core
 
 abbrev pub queue_of : {Q B : Type 0} → Concentrator Q B → Q
 queue_of c = c.queue
+
+-- the plan of the points above, whose classes say to which lanes events go
+abbrev pub plan_above : {Q B : Type 0} → Concentrator Q B → points.Plan
+plan_above c = c.points
 
 -- its outputs, which perform a command by adding it to the book
 abbrev pub outputs_of : {Q B : Type 0} → Concentrator Q B → BookOutputs B
@@ -69,7 +74,7 @@ taking_at c link now octets = receive_of (link_at c link).master now octets
 
 -- the substation's events as they are queued above
 abbrev pub queued_at : {Q B : Type 0} → Concentrator Q B → ℕ → List Row → List LaneRow
-queued_at c link events = queued_rows (indices_of c) (points_of c) link events
+queued_at c link events = queued_rows (indices_of c) (plan_above c) link events
 
 -- the outstation above with the readings that the substation's rows set: events first, and then present values
 abbrev pub with_readings : {Q B : Type 0} → Concentrator Q B → ℕ → List Row → List Row → Core
@@ -82,10 +87,11 @@ with_readings c link events statics =
 abbrev pub SetsLink : {Q B : Type 0} → Concentrator Q B → ℕ → Relaying → Concentrator Q B → Type 0
 SetsLink old link r new = links_of new ≡ slice_set (links_of old) link r
 
--- queue, book and index map are as they were
+-- queue, book and index map are as they were, and so is the plan of the points above
 pub record KeepsStores {Q B : Type 0} (old new : Concentrator Q B) : Type 0 where
   pub queue : queue_of new ≡ queue_of old
   pub outputs : outputs_of new ≡ outputs_of old
+  pub plan : plan_above new ≡ plan_above old
 
 -- the outstation above where a substation can't be reached any more
 abbrev pub without_link : Core → ℕ → Core

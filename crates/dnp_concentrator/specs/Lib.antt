@@ -1,4 +1,5 @@
 -- Definitions, by which contracts promise.
+pub mod Addresses
 pub mod Awaiting
 pub mod Below
 pub mod BookOutputs

@@ -7,8 +7,9 @@ use Rattle.dnp_objects.specs.declared.lane.LaneRow.{LaneRow}
 use Rattle.dnp_objects.specs.declared.command.Command.{Command}
 use Rattle.dnp_objects.specs.declared.command.Command.TheVariants.{Block, Set16, Set32}
 use Rattle.dnp_objects.specs.Commands.{index_of}
-use Rattle.dnp_pointdb.specs.Database.{Database, state_at}
+use Rattle.dnp_pointdb.specs.Classes.{class_at}
 use Rattle.dnp_pointdb.specs.Events.{lane_of}
+use Rattle.dnp_pointdb.specs.Plan as points
 use Rattle.dnp_concentrator.specs.declared.span.Spans.{Spans}
 use Rattle.dnp_concentrator.specs.IndexKinds.{kind_of_points, kind_of_command}
 use Rattle.dnp_concentrator.specs.IndexMap.{index_above, index_below}
@@ -25,18 +26,17 @@ abbrev pub row_below : List Spans → Row → Option (ℕ × Row)
 row_below spans row =
     option_map (λ p. (p.0, record row { index = p.1 })) (index_below spans (kind_of_points row.kind) row.index)
 
--- a row above with its lane: that of the class that the points above have, and of its kind
-abbrev pub lane_row : Database → Row → Option LaneRow
-lane_row points row =
-    option_and_then (λ state. option_map (λ lane. record { lane = lane; row = row }) (lane_of state.point.class row.kind))
-    (state_at points row.kind row.index)
+-- a row above with its lane: that of the class that the plan of the points above gives its point, and of its kind
+abbrev pub lane_row : points.Plan → Row → Option LaneRow
+lane_row plan row =
+    option_and_then (λ class. option_map (λ lane. record { lane = lane; row = row }) (lane_of class row.kind)) (class_at plan row.kind row.index)
 
 -- a substation's event as it is queued above
-abbrev pub queued_row : List Spans → Database → ℕ → Row → Option LaneRow
-queued_row spans points station row = option_and_then (lane_row points) (row_above spans station row)
+abbrev pub queued_row : List Spans → points.Plan → ℕ → Row → Option LaneRow
+queued_row spans plan station row = option_and_then (lane_row plan) (row_above spans station row)
 
-abbrev pub queued_rows : List Spans → Database → ℕ → List Row → List LaneRow
-queued_rows spans points station rows = filter_map (queued_row spans points station) rows
+abbrev pub queued_rows : List Spans → points.Plan → ℕ → List Row → List LaneRow
+queued_rows spans plan station rows = filter_map (queued_row spans plan station) rows
 
 -- ---- commands
 

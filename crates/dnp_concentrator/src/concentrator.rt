@@ -16,7 +16,7 @@ ghost use Rattle.dnp_concentrator.specs.Below.{new_links};
 ghost use Rattle.dnp_concentrator.specs.Relaying as link;
 ghost use Rattle.dnp_pointdb.specs.Database.{new_database};
 ghost use Rattle.dnp_concentrator.specs.contracts.concentrator.Concentrator.{the_row};
-ghost use Rattle.dnp_concentrator.specs.Concentrator.{core_of, queue_of, outputs_of, book_of, indices_of, links_of, with_queue, with_other_book, IsBookWell, above_of};
+ghost use Rattle.dnp_concentrator.specs.Concentrator.{core_of, queue_of, outputs_of, book_of, indices_of, links_of, plan_above, with_queue, with_other_book, IsBookWell, above_of};
 
 use crate::book_outputs::BookOutputs;
 use crate::fault::MapFault;
@@ -28,8 +28,8 @@ use crate::relay::Relay;
 use dnp_controls::Book;
 use dnp_eventbuf::{Lanes, StoreFault};
 use dnp_outstation::{Actions, OutstationCore};
-use dnp_pointdb::{PointDb, Times};
-use std::alloc::Global;
+use dnp_pointdb::{PointDb, PointPlan, Times};
+use std::alloc::{AllocError, Global};
 
 /// A data concentrator (IEEE Std 1815-2012, application layer): an outstation to the station above, whose events are those
 /// of the queue, and whose outputs are the book's; and the master of each substation below, whose events go to the queue,
@@ -41,6 +41,8 @@ use std::alloc::Global;
 pub struct Concentrator<Q, B> {
     pub(crate) core: OutstationCore,
     pub(crate) queue: Q,
+    /// The points above, whose classes say to which lanes events go.
+    pub(crate) points: PointPlan,
     pub(crate) outputs: BookOutputs<B>,
     /// The links to the substations, by their numbers.
     pub(crate) links: Vec<Relay>,
@@ -52,10 +54,18 @@ impl<Q: Drop, B: Drop> Drop for Concentrator<Q, B> {
         let Concentrator {
             core: _,
             queue: _,
+            points: _,
             outputs: _,
             links: _,
         } = self;
     }
+}
+
+/// The points of a plan, of which nothing was read. Refused out of memory alone.
+fn new_points(alloc: Global, plan: &PointPlan) -> Result<PointDb, AllocError>
+    ensures { IfOk result (λ points. points ≡ new_database plan.now) }
+{
+    PointDb::new(alloc, plan.try_clone(alloc)?)
 }
 
 impl<Q: Lanes + Drop, B: Book + Drop> Concentrator<Q, B> {
@@ -68,6 +78,7 @@ impl<Q: Lanes + Drop, B: Book + Drop> Concentrator<Q, B> {
     pub fn new(alloc: Global, plan: &Plan, queue: Q, book: B) -> Result<Self, MapFault>
         requires { KeepsLimits plan.now }
         ensures core { IfOk result (λ c. core_of c ≡ new_core (new_database (points_above plan.now)) plan.now.times) }
+        ensures plan { IfOk result (λ c. plan_above c ≡ points_above plan.now) }
         ensures indices { IfOk result (λ c. indices_of c ≡ map_of plan.now) }
         ensures links { IfOk result (λ c. links_of c ≡ new_links plan.now) }
         ensures queue { IfOk result (λ c. queue_of c ≡ queue) }
@@ -80,15 +91,16 @@ impl<Q: Lanes + Drop, B: Book + Drop> Concentrator<Q, B> {
         let Ok(points) = points_above(alloc, plan) else {
             return Err(MapFault::Memory);
         };
-        let Ok(points) = PointDb::new(alloc, points) else {
+        let Ok(readings) = new_points(alloc, &points) else {
             return Err(MapFault::Memory);
         };
         let Ok(links) = new_links(alloc, plan) else {
             return Err(MapFault::Memory);
         };
         Ok(Concentrator {
-            core: OutstationCore::new(points, plan.times),
+            core: OutstationCore::new(readings, plan.times),
             queue,
+            points,
             outputs: BookOutputs::new(map, book),
             links,
         })
@@ -104,6 +116,7 @@ impl<Q: Lanes, B: Book> Concentrator<Q, B> {
         let Concentrator {
             core: _,
             queue,
+            points: _,
             outputs,
             links: _,
         } = self;
@@ -142,6 +155,7 @@ impl<Q: Lanes, B: Book> Concentrator<Q, B> {
         ensures runs_on { Q.is_stopped (queue_of self.new) ≡ Q.is_stopped (queue_of self.old) }
         ensures outputs { outputs_of self.new ≡ outputs_of self.old }
         ensures links { links_of self.new ≡ map link.hung_up (links_of self.old) }
+        ensures plan { plan_above self.new ≡ plan_above self.old }
     {
         let _ = self.core.restart(alloc, &mut self.queue, true);
         hang_up_all(&mut self.links);
@@ -153,6 +167,7 @@ impl<Q: Lanes, B: Book> Concentrator<Q, B> {
         ensures queue { queue_of self.new ≡ queue_of self.old }
         ensures outputs { outputs_of self.new ≡ outputs_of self.old }
         ensures links { links_of self.new ≡ links_of self.old }
+        ensures plan { plan_above self.new ≡ plan_above self.old }
     {
         self.core.hung_up();
     }
@@ -175,6 +190,7 @@ impl<Q: Lanes, B: Book> Concentrator<Q, B> {
         ensures actions_unchanged { OnErr result (actions.new ≡ actions.old) }
         ensures asks { IsErr result → (core_of self.old).times.unsolicited ≡ true }
         ensures links { links_of self.new ≡ links_of self.old }
+        ensures plan { plan_above self.new ≡ plan_above self.old }
     {
         self.core
             .opened(actions, alloc, &mut self.queue, &mut self.outputs, now)
@@ -198,6 +214,7 @@ impl<Q: Lanes, B: Book> Concentrator<Q, B> {
         ensures actions_unchanged { OnErr result (actions.new ≡ actions.old) }
         ensures asks { IsErr result → (core_of self.old).times.unsolicited ≡ true }
         ensures links { links_of self.new ≡ links_of self.old }
+        ensures plan { plan_above self.new ≡ plan_above self.old }
     {
         self.core
             .tick(actions, alloc, &mut self.queue, &mut self.outputs, now)
@@ -242,6 +259,7 @@ impl<Q: Lanes, B: Book> Concentrator<Q, B> {
         ensures looked_at { IsErr result → is_looked_at (core_of self.old) octets.now ≡ true }
         ensures asks { IsErr result → (core_of self.old).times.unsolicited ≡ false → MayAsk (core_of self.old) (panel_of B.contents (outputs_of self.old)) now octets.now }
         ensures links { links_of self.new ≡ links_of self.old }
+        ensures plan { plan_above self.new ≡ plan_above self.old }
     {
         self.core.receive(
             actions,

@@ -9,20 +9,18 @@ ghost use Rattle.dnp_concentrator.specs.Mapped.{row_above, row_below, command_ab
 ghost use Rattle.dnp_concentrator.specs.declared.plan.Plan.{Plan as PlanValue};
 ghost use Rattle.dnp_concentrator.specs.declared.plan.SubPlan.{SubPlan as SubPlanValue};
 ghost use Rattle.dnp_concentrator.specs.Plan.{KeepsLimits, map_of};
-ghost use Rattle.dnp_concentrator.specs.PointsAbove.{HasClassesOf, points_above, points_below};
+ghost use Rattle.dnp_concentrator.specs.PointsAbove.{points_above, points_below};
 ghost use Rattle.dnp_master.specs.Calls.{receive_of};
 ghost use Rattle.dnp_master.specs.Rows.{is_reported};
 ghost use Rattle.dnp_master.specs.State.{State};
-ghost use Rattle.dnp_pointdb.specs.Database.{Database, lost_of, new_database, restarted};
-ghost use Rattle.dnp_concentrator.specs.Below.{readings_set};
 ghost use Rattle.dnp_objects.specs.declared.row.Row.{Row};
 ghost use Rattle.dnp_objects.specs.declared.command.Command.{Command};
+ghost use Rattle.dnp_concentrator.specs.Addresses.{outstation_address};
+ghost use Rattle.dnp_concentrator.specs.declared.addresses.TheConstants as addresses;
 ghost use Rattle.dnp_concentrator.specs.declared.limits.TheConstants as limits;
 
 use dnp_master::laws::events_taken_are_of_the_plan;
-use dnp_pointdb::laws::{
-    a_change_is_of_one_point, lost_communication_is_no_report, points_are_those_of_the_plan,
-};
+use dnp_pointdb::laws::points_are_those_of_the_plan;
 
 /// What stands above is found again below, and what is found below stands there above.
 pub fn each_direction_undoes_the_other()
@@ -64,36 +62,33 @@ pub fn commands_are_undone()
 {}
 
 /// No event is passed over: each event that a substation's master takes is of a point of its plan with a class, and is
-/// queued above, whatever was read of the points there. `points` have the plan's classes from the beginning.
+/// queued above.
 pub fn no_event_is_passed_over()
-    ensures one { (plan : PlanValue) (points : Database) (station : ℕ) (substation : SubPlanValue) (event : Row)
-        → KeepsLimits plan → IsMap (map_of plan) → HasClassesOf plan points → slice_get plan.substations station ≡ Some substation
-        → is_reported (points_below substation) event ≡ true → IsSome (queued_row (map_of plan) points station event) }
-    ensures all { (plan : PlanValue) (points : Database) (station : ℕ) (substation : SubPlanValue) (events : List Row)
-        → KeepsLimits plan → IsMap (map_of plan) → HasClassesOf plan points → slice_get plan.substations station ≡ Some substation
+    ensures one { (plan : PlanValue) (station : ℕ) (substation : SubPlanValue) (event : Row)
+        → KeepsLimits plan → IsMap (map_of plan) → slice_get plan.substations station ≡ Some substation
+        → is_reported (points_below substation) event ≡ true → IsSome (queued_row (map_of plan) (points_above plan) station event) }
+    ensures all { (plan : PlanValue) (station : ℕ) (substation : SubPlanValue) (events : List Row)
+        → KeepsLimits plan → IsMap (map_of plan) → slice_get plan.substations station ≡ Some substation
         → All (λ event. is_reported (points_below substation) event ≡ true) events
-        → length (queued_rows (map_of plan) points station events) ≡ length events }
-    ensures taken { (plan : PlanValue) (points : Database) (station : ℕ) (substation : SubPlanValue) (master : State) (now : ℕ) (octets : List ℕ)
-        → KeepsLimits plan → IsMap (map_of plan) → HasClassesOf plan points → slice_get plan.substations station ≡ Some substation
+        → length (queued_rows (map_of plan) (points_above plan) station events) ≡ length events }
+    ensures taken { (plan : PlanValue) (station : ℕ) (substation : SubPlanValue) (master : State) (now : ℕ) (octets : List ℕ)
+        → KeepsLimits plan → IsMap (map_of plan) → slice_get plan.substations station ≡ Some substation
         → master.plan ≡ points_below substation
-        → IfOk (receive_of master now octets) (λ t. length (queued_rows (map_of plan) points station t.events) ≡ length t.events) }
-    ensures at_first { (plan : PlanValue) → HasClassesOf plan (new_database (points_above plan)) }
+        → IfOk (receive_of master now octets) (λ t. length (queued_rows (map_of plan) (points_above plan) station t.events) ≡ length t.events) }
 {
     points_are_those_of_the_plan();
     events_taken_are_of_the_plan();
 }
 
-/// The classes above stay the plan's, whatever a substation's rows set there, and where points are marked lost or start
-/// again.
-pub fn classes_above_stay()
-    ensures set { (plan : PlanValue) (points : Database) (spans : List Spans) (station : ℕ) (rows : List Row)
-        → HasClassesOf plan points → HasClassesOf plan (readings_set spans station points rows) }
-    ensures lost { (plan : PlanValue) (points : Database) (number : ℕ) → HasClassesOf plan points → HasClassesOf plan (lost_of points number) }
-    ensures restarted { (plan : PlanValue) (points : Database) → HasClassesOf plan points → HasClassesOf plan (restarted points) }
-{
-    a_change_is_of_one_point();
-    lost_communication_is_no_report();
-}
+/// The stations of a system have these link addresses: the centre and the concentrator above, the concentrator's master
+/// below, and the outstations of substation 0 and of the last one, 15.
+pub fn stations_have_their_addresses()
+    ensures centre { addresses.CENTRE ≡ 1 }
+    ensures concentrator_above { addresses.CONCENTRATOR_ABOVE ≡ 9 }
+    ensures master_below { addresses.MASTER_BELOW ≡ 2 }
+    ensures first { outstation_address 0 ≡ 10 }
+    ensures last { outstation_address 15 ≡ 25 }
+{}
 
 /// The named limits are these numbers, the library's own measures: of substations, of the five kinds of indices, of the
 /// commands of a request, of an hour in milliseconds, and of repetitions.

@@ -3,6 +3,7 @@
 //! the plan of the whole system, and the index map between the substations and the station above them.
 #![tactic(auto)]
 
+pub mod addresses;
 mod below;
 mod book_outputs;
 mod cause;
@@ -29,6 +30,7 @@ pub mod relay_laws;
 mod relayed;
 mod relaying_below;
 mod span;
+mod substation_points;
 
 pub use book_outputs::BookOutputs;
 pub use cause::Cause;

@@ -9,7 +9,7 @@ use crate::index_kind::IndexKind;
 use crate::index_map::IndexMap;
 use crate::limits::MAX_SUBSTATIONS;
 use dnp_objects::{Command, Kind, Lane, LaneRow, Row};
-use dnp_pointdb::{PointDb, lane_of};
+use dnp_pointdb::{PointPlan, lane_of};
 use std::alloc::{AllocError, Global};
 
 /// The same command to the output of another index.
@@ -76,7 +76,7 @@ impl IndexMap {
 
 /// A row above with the lane that it goes to: that of the class that the plan gives its point, and of its kind. `None`
 /// where there is no such point, or its class has no events.
-fn lane_row(points: &PointDb, row: Row) -> Option<LaneRow>
+fn lane_row(points: &PointPlan, row: Row) -> Option<LaneRow>
     ensures { result ≡ spec.lane_row points.now row }
 {
     let class = points.class_of(row.kind, row.index)?;
@@ -85,7 +85,7 @@ fn lane_row(points: &PointDb, row: Row) -> Option<LaneRow>
 }
 
 /// A substation's event as it is queued above: `points` are those above.
-fn queued_row(map: &IndexMap, points: &PointDb, station: u8, event: &Row) -> Option<LaneRow>
+fn queued_row(map: &IndexMap, points: &PointPlan, station: u8, event: &Row) -> Option<LaneRow>
     ensures { result ≡ spec.queued_row map.now points.now station event.now }
 {
     lane_row(points, map.row_above(station, event)?)
@@ -97,7 +97,7 @@ fn queued_row(map: &IndexMap, points: &PointDb, station: u8, event: &Row) -> Opt
 pub fn queued_rows(
     alloc: Global,
     map: &IndexMap,
-    points: &PointDb,
+    points: &PointPlan,
     station: u8,
     events: &[Row],
 ) -> Result<Vec<LaneRow>, AllocError>

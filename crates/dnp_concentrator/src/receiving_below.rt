@@ -6,7 +6,7 @@ ghost use Rattle.dnp_eventbuf.specs.Stock.{with_rows, dropped_by, exhausts};
 ghost use Rattle.dnp_master.specs.Calls.{actions_of, has_rows};
 ghost use Rattle.dnp_master.specs.Sinks.{IsSinkFault};
 ghost use Rattle.dnp_objects.specs.Events.{IsEvent};
-ghost use Rattle.dnp_concentrator.specs.Concentrator.{core_of, link_at, links_of, outputs_of, queued_at, queue_of, taking_at, with_readings, LeavesQueue, SetsLink};
+ghost use Rattle.dnp_concentrator.specs.Concentrator.{core_of, link_at, links_of, outputs_of, plan_above, queued_at, queue_of, taking_at, with_readings, LeavesQueue, SetsLink};
 ghost use Rattle.dnp_concentrator.specs.Relaying as spec;
 
 use crate::concentrator::Concentrator;
@@ -24,6 +24,7 @@ impl<Q: Lanes, B: Book> Concentrator<Q, B> {
         requires { All IsEvent events.now }
         ensures links { links_of self.new ≡ links_of self.old }
         ensures core { core_of self.new ≡ core_of self.old }
+        ensures plan { plan_above self.new ≡ plan_above self.old }
         ensures outputs { outputs_of self.new ≡ outputs_of self.old }
         ensures queue { LeavesQueue Q.honest Q.is_stopped Q.contents Q.beside (queue_of self.old) (queue_of self.new) result }
         ensures spared { events.now ≡ [] → (queue_of self.new ≡ queue_of self.old) × IsOkAnd result (λ dropped. dropped ≡ []) }
@@ -42,7 +43,7 @@ impl<Q: Lanes, B: Book> Concentrator<Q, B> {
             return Ok(Rows::new(alloc));
         }
         let map = self.outputs.map();
-        let Ok(rows) = queued_rows(alloc, map, self.core.points(), link, events) else {
+        let Ok(rows) = queued_rows(alloc, map, &self.points, link, events) else {
             return Err(MasterFault::Memory);
         };
         let dropped = self.queue.append(alloc, rows.as_slice())?;
@@ -53,6 +54,7 @@ impl<Q: Lanes, B: Book> Concentrator<Q, B> {
     fn set_above(&mut self, link: u8, events: &[Row], statics: &[Row])
         ensures links { links_of self.new ≡ links_of self.old }
         ensures core { core_of self.new ≡ with_readings self.old link events.now statics.now }
+        ensures plan { plan_above self.new ≡ plan_above self.old }
         ensures queue { queue_of self.new ≡ queue_of self.old }
         ensures outputs { outputs_of self.new ≡ outputs_of self.old }
     {
@@ -98,6 +100,7 @@ impl<Q: Lanes, B: Book> Concentrator<Q, B> {
         // Readings above are set by events and present values.
         ensures readings { OnOk result (IfOk (taking_at self.old link now octets.now) (λ t.
             core_of self.new ≡ with_readings self.old link t.events t.statics)) }
+        ensures plan { plan_above self.new ≡ plan_above self.old }
         ensures outputs { outputs_of self.new ≡ outputs_of self.old }
         ensures queue { LeavesQueue Q.honest Q.is_stopped Q.contents Q.beside (queue_of self.old) (queue_of self.new) result }
         // Where there are no events, nothing is asked of the queue, and nothing refused but out of memory for present values.

@@ -4,7 +4,7 @@ ghost use Rattle.std.specs.Prelude.{◌≡◌, ◌≢◌, ◌<◌, true, false, 
 ghost use Rattle.std.specs.Option.{IsSomeAnd};
 ghost use Rattle.dnp_controls.specs.Book.{entry_of, Has, is_pending};
 ghost use Rattle.dnp_controls.specs.Moves.{AreGranted, after};
-ghost use Rattle.dnp_concentrator.specs.Concentrator.{book_of, core_of, indices_of, link_at, links_of, queue_of, SetsLink};
+ghost use Rattle.dnp_concentrator.specs.Concentrator.{book_of, core_of, indices_of, link_at, links_of, plan_above, queue_of, SetsLink};
 ghost use Rattle.dnp_concentrator.specs.Relayed as says;
 ghost use Rattle.dnp_concentrator.specs.Relaying as spec;
 
@@ -57,6 +57,7 @@ impl<Q: Lanes, B: Book> Concentrator<Q, B> {
         ensures unasked { says.asks_book (link_at self.old link) ≡ false → (book_of self.new ≡ book_of self.old) × IsOk result }
         ensures stopped { says.asks_book (link_at self.old link) ≡ true → IsTrue (B.is_stopped (book_of self.old)) → result ≡ Err BookFault.Device }
         ensures core { core_of self.new ≡ core_of self.old }
+        ensures plan { plan_above self.new ≡ plan_above self.old }
         ensures queue { queue_of self.new ≡ queue_of self.old }
         ensures indices { indices_of self.new ≡ indices_of self.old }
     {

@@ -2,7 +2,8 @@
 //! `serve_stream` serves a stream of octets by a station, `ask_stream` asks tasks on one, `read_plan` reads a plan and
 //! `read_script` a script for it, `run_script` runs a script, `print_report` prints what became of every event and
 //! command, and `sim_text` does all four with two texts. What is about one line or one stream is that of `dnp_streams`,
-//! and what is about a plan's text that of `dnp_plantext`: both are given on.
+//! what is about a plan's text that of `dnp_plantext`, and the link addresses are those of `dnp_concentrator`: all are
+//! given on.
 #![tactic(auto)]
 
 pub mod number_laws;
@@ -12,9 +13,9 @@ mod script;
 pub mod script_laws;
 mod sim;
 
+pub use dnp_concentrator::addresses::{MASTER_BELOW, outstation_address};
 pub use dnp_plantext::{
-    MASTER_BELOW, PlanFault, PlanTextFault, PlannedOutstation, outstation_address, plan_fault,
-    planned_outstation, read_plan,
+    PlanFault, PlanTextFault, PlannedOutstation, plan_fault, planned_outstation, read_plan,
 };
 pub use dnp_streams::{
     Above, Answer, AnswerFault, Asked, Asker, Below, Clocked, Log, MAX_ADDRESS, MAX_CHARACTERS,

@@ -1,3 +1,2 @@
 mod PlanLists
 mod PlanNamed
-mod PlannedPoints

@@ -9,4 +9,4 @@ mod planned;
 pub use plan_text::place::{Found, PlanKey, PlanPlace};
 pub use plan_text::reason::{PlanFault, plan_fault};
 pub use plan_text::{PlanTextFault, read_plan};
-pub use planned::{MASTER_BELOW, PlannedOutstation, outstation_address, planned_outstation};
+pub use planned::{PlannedOutstation, planned_outstation};

@@ -1,6 +1,6 @@
 //! The outstation of a substation of a plan.
 
-ghost use Rattle.std.specs.Prelude.{◌≡◌, ◌≤◌, ◌∷◌, [], IfOk, IfErr, MatchOption, Some, length, slice_get};
+ghost use Rattle.std.specs.Prelude.{◌≡◌, ◌≤◌, IfOk, IfErr, MatchOption, Some, length, slice_get};
 ghost use Rattle.dnp_concentrator.specs.Plan.{KeepsSubLimits};
 ghost use Rattle.dnp_concentrator.specs.declared.plan.Plan.{Plan as PlanValue};
 ghost use Rattle.dnp_concentrator.specs.declared.plan.SubPlan.{SubPlan as SubPlanValue};
@@ -12,80 +12,11 @@ use dnp_concentrator::SubPlan;
 use dnp_controls::PlainOutputs;
 use dnp_eventbuf::PlainLanes;
 use dnp_outstation::Outstation;
-use dnp_pointdb::{Block, Point, PointDb, PointPlan, Points, Times};
+use dnp_pointdb::{PointDb, Times};
 use std::alloc::{AllocError, Global};
 
 /// An outstation with its lanes and its outputs in memory.
 pub type PlannedOutstation = Outstation<PlainLanes, PlainOutputs>;
-
-/// The link address of the outstation of substation 0. Those of the others follow it.
-const FIRST_OUTSTATION: u16 = 10;
-
-/// The link address of the master of every substation.
-pub const MASTER_BELOW: u16 = 2;
-
-/// The link address of a substation's outstation.
-pub fn outstation_address(substation: u8) -> u16
-    ensures { result ≡ spec.outstation_address substation }
-{
-    FIRST_OUTSTATION + u16::from(substation)
-}
-
-/// The only block of a substation's points of a kind that has no deadbands.
-fn only_block(alloc: Global, classes: &[u8]) -> Result<Vec<Block>, AllocError>
-    ensures { IfOk result (λ blocks. blocks.items ≡ spec.block_of classes.now ∷ []) }
-{
-    let mut points = Vec::with_capacity(alloc, classes.len())?;
-    for class in classes {
-        points.push(Point {
-            class: *class,
-            deadband: 0,
-        })?;
-    }
-    alone(alloc, points)
-}
-
-/// The only block of a substation's analog inputs.
-fn analog_block(alloc: Global, classes: &[u8], deadbands: &[u32]) -> Result<Vec<Block>, AllocError>
-    requires { length deadbands.now ≡ length classes.now }
-    ensures { IfOk result (λ blocks. blocks.items ≡ spec.analog_block_of classes.now deadbands.now ∷ []) }
-{
-    let mut points = Vec::with_capacity(alloc, classes.len())?;
-    for (class, deadband) in classes.iter().zip(deadbands.iter()) {
-        points.push(Point {
-            class: *class,
-            deadband: *deadband,
-        })?;
-    }
-    alone(alloc, points)
-}
-
-/// These points, with the indices from 0 on, as the only block.
-fn alone(alloc: Global, points: Vec<Point>) -> Result<Vec<Block>, AllocError>
-    ensures { IfOk result (λ blocks. blocks.items ≡ record { base = 0; points = points.items } ∷ []) }
-{
-    let mut blocks = Vec::with_capacity(alloc, 1)?;
-    blocks.push(Block {
-        base: 0,
-        points: Points::new(points),
-    })?;
-    Ok(blocks)
-}
-
-/// The points of a substation. Refused out of memory alone.
-fn points_of(alloc: Global, substation: &SubPlan) -> Result<PointPlan, AllocError>
-    requires { KeepsSubLimits substation.now }
-    ensures { IfOk result (λ points. points ≡ spec.points_of substation.now) }
-{
-    let binary = only_block(alloc, substation.binary.as_slice())?;
-    let counter = only_block(alloc, substation.counter.as_slice())?;
-    let analog = analog_block(
-        alloc,
-        substation.analog.as_slice(),
-        substation.deadband.as_slice(),
-    )?;
-    Ok(PointPlan::new(binary, counter, analog).unwrap())
-}
 
 /// The outstation of a substation, closed as after a restart, with its lanes and its outputs in memory. Refused out of
 /// memory alone.
@@ -97,7 +28,7 @@ fn outstation_of(
     requires { KeepsSubLimits substation.now }
     ensures { IfOk result (spec.IsOutstationOf substation.now times) }
 {
-    let points = PointDb::new(alloc, points_of(alloc, substation)?)?;
+    let points = PointDb::new(alloc, substation.points(alloc)?)?;
     let lanes = PlainLanes::new(alloc, substation.lanes)?;
     let outputs = PlainOutputs::new(alloc, substation.outputs, substation.setpoints);
     Ok(Outstation::new(points, lanes, outputs, times))

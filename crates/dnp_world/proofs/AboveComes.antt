@@ -5,7 +5,6 @@ use Rattle.std.specs.Prelude.{slice_get, IfSome, ⊤}
 use Rattle.std.proofs.Math.Seq.{drop-append_seam}
 use Rattle.dnp_concentrator.specs.Below.{link_in}
 use Rattle.dnp_concentrator.specs.BookOutputs.{all_added, ordered}
-use Rattle.dnp_concentrator.specs.PointsAbove.{HasClassesOf}
 use Rattle.dnp_concentrator.specs.declared.span.Spans.{Spans}
 use Rattle.dnp_controls.specs.Book.{Ledger}
 use Rattle.dnp_controls.specs.Panel.{Panel}
@@ -35,10 +34,9 @@ use Rattle.dnp_world.specs.SystemStanding.{RowLists, lists_of, no_sink, seen, se
 use Rattle.dnp_world.proofs.AboveEvents.{quiet_above}
 use Rattle.dnp_world.proofs.AboveSteps.{ComingLaws, all_relayed, lost_same, ordered_all, performs_as}
 use Rattle.dnp_world.proofs.BelowKeeps.{Grounds, grows_by, lane_rows, none_more, none_used, relisted, stays_still}
-use Rattle.dnp_world.proofs.JoinedPoints.{Leaves, received_leaves}
 use Rattle.dnp_world.proofs.SystemCounts.{same_is, same_refl}
 use Rattle.dnp_world.proofs.SystemMapping.{added_orders, added_unused}
-use Rattle.dnp_world.proofs.SystemPlans.{planned_as}
+use Rattle.dnp_world.proofs.SystemPlans.{still_of_plan}
 use Rattle.dnp_world.proofs.Turning.{by_station}
 
 -- ---- the system after it
@@ -107,7 +105,6 @@ turn_middle old h station m released commands link lost grows lanes =
 -- The event is one of the link by itself, at which no point changes and these commands are performed.
 middle_keeps : Grounds → (old new : System) (h : IsStanding old) (station : ℕ) (m : Middle) (released : List Row) (commands : List Command)
     → (e : LinkEvent)
-    → HasClassesOf h.plan m.core.points
     → lost_in m.queue ≡ lost_in old.concentrator.queue
     → map (ordered old.concentrator.indices) (with_commands old commands).entries
     ≡ map (ordered old.concentrator.indices) old.concentrator.controls.entries ++ commands
@@ -116,7 +113,7 @@ middle_keeps : Grounds → (old new : System) (h : IsStanding old) (station : �
     (seen_above (changed_middle m commands old) (lists_released h.links.above released))
     → new ≡ changed_middle m commands old → Keeps station [] old new
 unfolding turn_middle
-middle_keeps grounds old new h station m released commands e classes lost performs none happens after =
+middle_keeps grounds old new h station m released commands e lost performs none happens after =
     let l : Link = h.links.above in
     let next : System = changed_middle m commands old in
     let s : LinkState ⊤ = seen_above old (lists_of l) in
@@ -136,7 +133,7 @@ middle_keeps grounds old new h station m released commands e classes lost perfor
     (record {
       standing = record {
         plan = h.plan;
-        of_plan = planned_as old next h.plan refl refl refl classes refl h.of_plan;
+        of_plan = still_of_plan old next h.plan refl refl refl refl refl h.of_plan;
         links = with_links h.links station (h.links.below station) link;
         below = by_station (λ i x. IfSome (slice_get old.substations i) (IsJoinedBelow old.now (link_in old.concentrator.links i) x)) h.links station
             (h.links.below station) link (h.below station) (λ i other. h.below i);
@@ -161,7 +158,7 @@ answered : Grounds → ComingLaws → (left : LineState → LineState) (e : Link
     → MiddleAnswers given (record old { above = heard_lines left port old }) new → Keeps station [] old new
 answered grounds laws left e as_event old new h station port [] heard made came =
     let lists : RowLists = lists_of h.links.above in
-    quiet_above grounds old new h station (middle_of old.concentrator) old.centre.link (heard_lines left port old) e refl refl made
+    quiet_above grounds old new h station (middle_of old.concentrator) old.centre.link (heard_lines left port old) e refl made
     (as_event (seen_above old lists) (seen_above (record old { above = heard_lines left port old }) lists) (middle_panel old.concentrator)
     (record { port = port; given = []; heard = heard; came = refl }))
     came
@@ -188,10 +185,7 @@ answered grounds laws left e as_event old new h station port (fragment ∷ other
       after = ap (λ (c : ChannelState). seen_on c (map (ordered spans) (with_commands old commands).entries)) came.sent.after
           ∙ ap (λ (xs : List Command). seen_on goes xs) (performs ∙ sym (performs_as laws s panel old.now fragment));
     } in
-    let leaves : Leaves s.core.points step =
-    received_leaves (record { keeps = laws.keeps; keeps_held = laws.keeps_held }) s panel old.now fragment in
     middle_keeps grounds old new h station m released commands e
-    (subst (HasClassesOf h.plan) (sym leaves.points_are) h.of_plan.classes)
     (lost_same laws s panel old.now fragment) performs made
     (as_event (seen_above old (lists_of l)) s' panel (record { port = port; given = fragment ∷ others; heard = heard; came = steps }))
     came.after

@@ -1,7 +1,6 @@
 -- Events on the link between concentrator and centre, which keep what stands behind the system.
 use Rattle.std.proofs.Common.{◌≡◌, ℕ, Bool, true, false, List, [], ◌∷◌, ◌++◌, map, Result, Ok, Err, refl, sym, ap, ◌∙◌, subst, append-nil}
 use Rattle.std.specs.Prelude.{⊤}
-use Rattle.dnp_concentrator.specs.PointsAbove.{HasClassesOf}
 use Rattle.dnp_concentrator.specs.Relaying as relaying
 use Rattle.dnp_concentrator.specs.Relaying.{Relaying}
 use Rattle.dnp_eventbuf.specs.Stock.{lost_in, row_of}
@@ -30,7 +29,6 @@ use Rattle.dnp_world.proofs.AboveKeeps.{Above, above_keeps, changed_above}
 use Rattle.dnp_world.proofs.BelowCalls.{none_goes, one_goes}
 use Rattle.dnp_world.proofs.BelowKeeps.{Grounds}
 use Rattle.dnp_world.proofs.Issuing.{same_keeps}
-use Rattle.dnp_world.proofs.JoinedPoints.{opened_leaves, ticked_leaves}
 
 -- ---- events at which no row is released or taken
 
@@ -46,15 +44,14 @@ none_listed h =
     ∙ ap (λ (xs : List Row). with_lists h.taken xs) (append-nil h.released)
 
 pub quiet_above : Grounds → (old new : System) (h : IsStanding old) (station : ℕ) (outstation : State) (r : Relaying) (lines : ChannelState) (e : LinkEvent)
-    → outstation.core.points ≡ old.concentrator.core.points → outstation.lanes ≡ old.concentrator.queue
+    → outstation.lanes ≡ old.concentrator.queue
     → rows_made_by old.concentrator.core.points (e ∷ []) ≡ []
     → HappensOn no_sink (middle_panel old.concentrator) (seen_above old (lists_of h.links.above)) e
     (seen_above (changed_above (with_ends old outstation r lines) old) (lists_of h.links.above))
     → new ≡ changed_above (with_ends old outstation r lines) old → Keeps station [] old new
-quiet_above grounds old new h station outstation r lines e points queue none happens after =
+quiet_above grounds old new h station outstation r lines e queue none happens after =
     let a : Above = with_ends old outstation r lines in
-    above_keeps grounds old new h station a [] [] e (subst (HasClassesOf h.plan) (sym points) h.of_plan.classes)
-    (ap lost_in queue) (sym (append-nil (map row_of old.centre.journal.rows))) none
+    above_keeps grounds old new h station a [] [] e (ap lost_in queue) (sym (append-nil (map row_of old.centre.journal.rows))) none
     (subst (λ (lists : RowLists). HappensOn no_sink (middle_panel old.concentrator) (seen_above old (lists_of h.links.above)) e
     (seen_above (changed_above a old) lists))
     (sym (none_listed (lists_of h.links.above))) happens)
@@ -63,7 +60,7 @@ quiet_above grounds old new h station outstation r lines e points queue none hap
 -- the lines alone change
 pub loses_above : Grounds → (old new : System) (station : ℕ) (w : Way) → IsStanding old → LosesOn link.Above w old new → Keeps station [] old new
 loses_above grounds old new station w h e =
-    quiet_above grounds old new h station (middle_of old.concentrator) old.centre.link (lost_at w old.above) (event.Lose w) refl refl refl (by w)
+    quiet_above grounds old new h station (middle_of old.concentrator) old.centre.link (lost_at w old.above) (event.Lose w) refl refl (by w)
     (e.1 ∙ ap (λ (c : ChannelState). record old { above = c }) e.0)
   where
     by : (v : Way) → HappensOn no_sink (middle_panel old.concentrator) (seen_above old (lists_of h.links.above)) (event.Lose v)
@@ -74,7 +71,7 @@ loses_above grounds old new station w h e =
 pub damages_above : Grounds → (old new : System) (station : ℕ) (w : Way) (octets : List ℕ) → IsStanding old
     → LinesChange link.Above (DamagesAt w octets) old new → Keeps station [] old new
 damages_above grounds old new station w octets h e =
-    quiet_above grounds old new h station (middle_of old.concentrator) old.centre.link new.above (event.Damage w (record { items = octets })) refl refl refl
+    quiet_above grounds old new h station (middle_of old.concentrator) old.centre.link new.above (event.Damage w (record { items = octets })) refl refl
     (by w e.0) e.1
   where
     seen_on : ChannelState → LinkState ⊤
@@ -90,20 +87,20 @@ damages_above grounds old new station w octets h e =
 pub centre_hangs_up : Grounds → (old new : System) (station : ℕ) → IsStanding old → HangsUpOn link.Above end.Master old new → Keeps station [] old new
 centre_hangs_up grounds old new station h e =
     quiet_above grounds old new h station (middle_of old.concentrator) (relaying.hung_up old.centre.link) (hung_up_at end.Master old.above)
-    (event.HangUp end.Master) refl refl refl refl e
+    (event.HangUp end.Master) refl refl refl e
 
 pub concentrator_hangs_up : Grounds → (old new : System) (station : ℕ) → IsStanding old → HangsUpOn link.Above end.Outstation old new
     → Keeps station [] old new
 concentrator_hangs_up grounds old new station h e =
     quiet_above grounds old new h station (record (middle_of old.concentrator) { core = closed old.concentrator.core }) old.centre.link
-    (hung_up_at end.Outstation old.above) (event.HangUp end.Outstation) refl refl refl refl e
+    (hung_up_at end.Outstation old.above) (event.HangUp end.Outstation) refl refl refl e
 
 -- ---- timers
 
 pub centre_ticks : Grounds → (old new : System) (station : ℕ) → IsStanding old → MasterTicks link.Above old new → Keeps station [] old new
 centre_ticks grounds old new station h e =
     quiet_above grounds old new h station (middle_of old.concentrator) (relaying.ticked old.centre.link old.now) old.above
-    (event.Tick end.Master) refl refl refl refl e
+    (event.Tick end.Master) refl refl refl e
 
 -- ---- steps of the concentrator's outstation
 
@@ -116,13 +113,13 @@ pub record AboveLaws : Type 0 where
 
 -- a step that releases and performs nothing, over these lines and with this link
 step_above : Grounds → (old new : System) (h : IsStanding old) (station : ℕ) (step : Step) (r : Relaying) (lines : ChannelState) (e : LinkEvent)
-    → step.state.core.points ≡ old.concentrator.core.points → ReleasesNone (middle_of old.concentrator) step
+    → ReleasesNone (middle_of old.concentrator) step
     → step.state.performed ≡ (middle_of old.concentrator).performed
     → rows_made_by old.concentrator.core.points (e ∷ []) ≡ []
     → ((s' : LinkState ⊤) → Steps step (seen (middle_of old.concentrator) r.master lines old.now (lists_of h.links.above)) s'
     → HappensOn no_sink (middle_panel old.concentrator) (seen_above old (lists_of h.links.above)) e s')
     → MiddleSteps step [] lines (record old { centre = record old.centre { link = r } }) new → Keeps station [] old new
-step_above grounds old new h station step r lines e points none same made as_event m =
+step_above grounds old new h station step r lines e none same made as_event m =
     let a : Above = with_ends old step.state r new.above in
     let lists : RowLists = lists_of h.links.above in
     let base : LinkState ⊤ = seen (middle_of old.concentrator) r.master lines old.now lists in
@@ -134,21 +131,21 @@ step_above grounds old new h station step r lines e points none same made as_eve
     ∙ ap (λ (p : List Command). stepped goes p lists.released) (sym same)
     ∙ ap (λ (xs : List Row). stepped goes step.state.performed xs)
     (sym (append-nil lists.released) ∙ ap (λ (xs : List Row). lists.released ++ xs) (sym none.discarded)) in
-    quiet_above grounds old new h station step.state r new.above e points none.lanes made
+    quiet_above grounds old new h station step.state r new.above e none.lanes made
     (as_event (seen_above (changed_above a old) lists) (record { sent = m.sent.sent; after = there })) m.after
 
 pub opens_above : Grounds → AboveLaws → (old new : System) (station : ℕ) → IsStanding old → OpensOn link.Above old new → Keeps station [] old new
 opens_above grounds laws old new station h e =
     let s : State = middle_of old.concentrator in
     step_above grounds old new h station (opened_of s old.now) (relaying.opened old.centre.link) (cleared old.above) event.Open
-    (opened_leaves s old.now).points_are (laws.open_none s old.now) (laws.open_performs s old.now) refl (λ s' steps. steps) e
+    (laws.open_none s old.now) (laws.open_performs s old.now) refl (λ s' steps. steps) e
 
 pub concentrator_ticks : Grounds → AboveLaws → (old new : System) (station : ℕ) → IsStanding old → OutstationTicks link.Above old new
     → Keeps station [] old new
 concentrator_ticks grounds laws old new station h e =
     let s : State = middle_of old.concentrator in
     step_above grounds old new h station (tick_of s old.now) old.centre.link old.above (event.Tick end.Outstation)
-    (ticked_leaves s old.now).points_are (laws.tick_none s old.now) (laws.tick_performs s old.now) refl (λ s' steps. steps) e
+    (laws.tick_none s old.now) (laws.tick_performs s old.now) refl (λ s' steps. steps) e
 
 -- ---- a task is asked
 
@@ -173,7 +170,7 @@ asks_if grounds old new station task true own h e =
     let r : Relaying = old.centre.link in
     let lists : RowLists = lists_of h.links.above in
     let next : System = record old { centre = record old.centre { link = relaying.asking r old.now task }; above = new.above } in
-    quiet_above grounds old new h station (middle_of old.concentrator) (relaying.asking r old.now task) new.above (event.Ask task) refl refl refl
+    quiet_above grounds old new h station (middle_of old.concentrator) (relaying.asking r old.now task) new.above (event.Ask task) refl refl
     (subst (λ (b : Bool). AsksIfOwn b task (seen_above old lists) (seen_above next lists)) (sym own)
     (asked_so old task new.above lists (ask_answer r.master task) refl e.0))
     e.1

@@ -3,7 +3,6 @@ use Rattle.std.proofs.Common.{◌≡◌, ℕ, List, [], ◌∷◌, ◌++◌, len
 use Rattle.std.specs.Prelude.{slice_get, IfSome, ⊤}
 use Rattle.std.proofs.lemmas.List.{drop_all}
 use Rattle.dnp_concentrator.specs.Below.{link_in}
-use Rattle.dnp_concentrator.specs.PointsAbove.{HasClassesOf}
 use Rattle.dnp_concentrator.specs.Relaying.{Relaying}
 use Rattle.dnp_eventbuf.specs.Archive.{Archive}
 use Rattle.dnp_eventbuf.specs.Stock.{Stock, lost_in, row_of}
@@ -23,7 +22,7 @@ use Rattle.dnp_world.specs.Systems.{System, middle_panel}
 use Rattle.dnp_world.specs.SystemStanding.{RowLists, lists_of, no_sink, seen_above, IsJoinedBelow, IsStanding, Keeps}
 use Rattle.dnp_world.proofs.BelowKeeps.{Grounds, grows_by, lane_rows, none_more, none_used, relisted, stays_still}
 use Rattle.dnp_world.proofs.SystemCounts.{same_is, same_refl}
-use Rattle.dnp_world.proofs.SystemPlans.{planned_as}
+use Rattle.dnp_world.proofs.SystemPlans.{still_of_plan}
 use Rattle.dnp_world.proofs.Turning.{by_station}
 
 -- what changes above: the concentrator's outstation with its queue, the centre's link with its journal, and the lines
@@ -89,7 +88,6 @@ turn_above old h station a taken released link lost journal grows lanes =
 
 -- The event is one of the link by itself, at which no point changes.
 pub above_keeps : Grounds → (old new : System) (h : IsStanding old) (station : ℕ) (a : Above) (taken released : List Row) (e : LinkEvent)
-    → HasClassesOf h.plan a.core.points
     → lost_in a.queue ≡ lost_in old.concentrator.queue
     → map row_of a.journal.rows ≡ map row_of old.centre.journal.rows ++ taken
     → rows_made_by old.concentrator.core.points (e ∷ []) ≡ []
@@ -97,7 +95,7 @@ pub above_keeps : Grounds → (old new : System) (h : IsStanding old) (station :
     (seen_above (changed_above a old) (lists_above h.links.above taken released))
     → new ≡ changed_above a old → Keeps station [] old new
 unfolding turn_above
-above_keeps grounds old new h station a taken released e classes lost journal none happens after =
+above_keeps grounds old new h station a taken released e lost journal none happens after =
     let l : Link = h.links.above in
     let next : System = changed_above a old in
     let s : LinkState ⊤ = seen_above old (lists_of l) in
@@ -117,7 +115,7 @@ above_keeps grounds old new h station a taken released e classes lost journal no
     (record {
       standing = record {
         plan = h.plan;
-        of_plan = planned_as old next h.plan refl refl refl classes refl h.of_plan;
+        of_plan = still_of_plan old next h.plan refl refl refl refl refl h.of_plan;
         links = with_links h.links station (h.links.below station) link;
         below = by_station (λ i x. IfSome (slice_get old.substations i) (IsJoinedBelow old.now (link_in old.concentrator.links i) x)) h.links station
             (h.links.below station) link (h.below station) (λ i other. h.below i);

@@ -28,7 +28,7 @@ use Rattle.dnp_outstation.specs.Calls.{connection_after, performed_at, performed
 use Rattle.dnp_outstation.specs.Connection.{asked, at_end, case_of, control_in, function_in, has_enabled_rows, new_request, on_request, replied, starts}
 use Rattle.dnp_outstation.specs.Content.{Content, Executed, content_from, content_of, parameter_error}
 use Rattle.dnp_outstation.specs.Controls.{Outcome, alike, are_too_many, carried_out, come_to, commands_in, content_at, is_control, is_silent, number_in, objects_in, operates, outcome_at, outcome_of, performed_of, performs_of, silently}
-use Rattle.dnp_outstation.specs.Links.{CaseSays, ExecutesNothing, KeepsConnection, Releases, ReleasesNone}
+use Rattle.dnp_outstation.specs.Links.{CaseSays, ExecutesNothing, Releases, ReleasesNone}
 use Rattle.dnp_outstation.specs.Offer.{pushed}
 use Rattle.dnp_outstation.specs.State.{Core, State, Step, is_free}
 use Rattle.dnp_world.specs.Lists.{Each}
@@ -36,10 +36,7 @@ use Rattle.dnp_world.proofs.SystemMapping.{entry_for}
 
 -- what the crates below promise of it
 pub record ComingLaws : Type 0 where
-  -- what a fragment leaves alone
-  pub keeps : (s : State) (o : Panel) (now : ℕ) (octets : List ℕ) → KeepsConnection s (content_at s o now octets).state
-  pub keeps_held : (s : State) (o : Panel) (octets : List ℕ) → KeepsConnection s (content_of s o octets).state
-  -- what it releases
+  -- what a fragment releases
   pub says : (c : Core) (octets : List ℕ) → CaseSays c octets (case_of c octets)
   pub solicited : (s : State) (o : Panel) (now : ℕ) (octets : List ℕ) (w : Awaited) → case_of s.core octets ≡ case.Confirms
       → s.core.session.awaited ≡ Some w → Releases s w.upto (connection_after s o now octets)

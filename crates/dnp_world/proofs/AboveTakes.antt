@@ -50,7 +50,7 @@ untaken : Grounds → (left : LineState → LineState) (e : LinkEvent) → IsCom
     → new ≡ record old { above = heard_lines left port old } → Keeps station [] old new
 untaken grounds left e as_event old new h station port given heard made came after =
     let lists : RowLists = lists_of h.links.above in
-    quiet_above grounds old new h station (middle_of old.concentrator) old.centre.link (heard_lines left port old) e refl refl made
+    quiet_above grounds old new h station (middle_of old.concentrator) old.centre.link (heard_lines left port old) e refl made
     (as_event (seen_above old lists) (seen_above (record old { above = heard_lines left port old }) lists) (middle_panel old.concentrator)
     (record { port = port; given = given; heard = heard; came = came }))
     after
@@ -83,7 +83,7 @@ received grounds left e as_event old new h station port fragment others heard ma
       after = ap (λ (c : ChannelState). seen_on c (rows_of l.released ++ [])) down.after
           ∙ ap (λ (xs : List Row). seen_on (record lines { down = new.above.down; master_port = new.above.master_port }) xs) (append-nil (rows_of l.released));
     } in
-    above_keeps grounds old new h station a t.events [] e h.of_plan.classes refl
+    above_keeps grounds old new h station a t.events [] e refl
     (map-append row_of old.centre.journal.rows (numbered old.centre.journal.last_id t.events)
     ∙ ap (λ (xs : List Row). map row_of old.centre.journal.rows ++ xs) (rows_numbered old.centre.journal.last_id t.events))
     made

@@ -7,6 +7,7 @@ use Rattle.dnp_concentrator.specs.Below.{link_in}
 use Rattle.dnp_concentrator.specs.IndexMap.{IsMap}
 use Rattle.dnp_concentrator.specs.Mapped.{queued_rows}
 use Rattle.dnp_concentrator.specs.Plan.{map_of}
+use Rattle.dnp_concentrator.specs.PointsAbove.{points_above}
 use Rattle.dnp_concentrator.specs.Relaying as relaying
 use Rattle.dnp_concentrator.specs.Relaying.{Relaying}
 use Rattle.dnp_concentrator.specs.declared.span.Spans.{Spans}
@@ -17,6 +18,7 @@ use Rattle.dnp_line.specs.Ways.{HearsIfAny}
 use Rattle.dnp_master.specs.Calls.{Taking, receive_of}
 use Rattle.dnp_master.specs.declared.fault.MasterFault.{MasterFault}
 use Rattle.dnp_objects.specs.declared.row.Row.{Row}
+use Rattle.dnp_pointdb.specs.Plan as points
 use Rattle.dnp_world.specs.declared.event.Link.TheVariants.{Below}
 use Rattle.dnp_world.specs.declared.link_event.LinkEvent.{LinkEvent}
 use Rattle.dnp_world.specs.declared.link_event.LinkEvent.TheVariants as event
@@ -88,12 +90,13 @@ taken_queued laws old h station has fragment t is =
     let m : IsMasterOf h.plan.substations station r =
     master_there old.concentrator.links h.plan.substations station (has_link_to old station has) h.of_plan.masters in
     let spans : old.concentrator.indices ≡ map_of h.plan = h.of_plan.middle_indices ∙ h.of_plan.indices in
-    let AllQueued : Taking → Type 0 = λ t. length (queued_rows (map_of h.plan) old.concentrator.core.points station t.events) ≡ length t.events in
-    let all : AllQueued t =
-    subst (λ (x : Result Taking MasterFault). IfOk x AllQueued) is
-    (laws.queued h.plan old.concentrator.core.points station m.substation r.master old.now fragment h.of_plan.limits
-    (subst (λ (xs : List Spans). IsMap xs) h.of_plan.indices h.of_plan.is_map) h.of_plan.classes m.there m.asks) in
-    subst (λ (xs : List Spans). length (queued_rows xs old.concentrator.core.points station t.events) ≡ length t.events) (sym spans) all
+    let AllQueued : List Spans → points.Plan → Taking → Type 0 = λ xs plan t. length (queued_rows xs plan station t.events) ≡ length t.events in
+    let all : AllQueued (map_of h.plan) (points_above h.plan) t =
+    subst (λ (x : Result Taking MasterFault). IfOk x (AllQueued (map_of h.plan) (points_above h.plan))) is
+    (laws.queued h.plan station m.substation r.master old.now fragment h.of_plan.limits
+    (subst (λ (xs : List Spans). IsMap xs) h.of_plan.indices h.of_plan.is_map) m.there m.asks) in
+    subst (λ (xs : List Spans). AllQueued xs old.concentrator.points t) (sym spans)
+    (subst (λ (plan : points.Plan). AllQueued (map_of h.plan) plan t) (sym h.of_plan.middle_points) all)
 
 -- the concentrator takes the fragment, or refuses it
 received : Grounds → ArrivalLaws

@@ -6,10 +6,8 @@ use Rattle.std.proofs.lemmas.Option.{same_Some}
 use Rattle.dnp_objects.specs.declared.command.Command.{Command}
 use Rattle.dnp_objects.specs.declared.row.Row.{Row}
 use Rattle.dnp_concentrator.specs.Below.{link_in}
-use Rattle.dnp_concentrator.specs.PointsAbove.{HasClassesOf}
 use Rattle.dnp_concentrator.specs.Relaying as relaying
 use Rattle.dnp_concentrator.specs.Relaying.{Relaying}
-use Rattle.dnp_concentrator.specs.declared.plan.Plan.{Plan}
 use Rattle.dnp_line.specs.Lines.{LineState}
 use Rattle.dnp_line.specs.Ports.{PortState}
 use Rattle.dnp_master.specs.Calls.{ask_answer, asked_by}
@@ -43,7 +41,6 @@ pub record CallLaws : Type 0 where
   pub open_none : (s : State) (now : ℕ) → ReleasesNone s (opened_of s now)
   pub open_performs : (s : State) (now : ℕ) → (opened_of s now).state.performed ≡ s.performed
   pub lost_sound : (database : Database) (number : ℕ) → points.IsSound database → points.IsSound (lost_of database number)
-  pub lost_classes : (plan : Plan) (database : Database) (number : ℕ) → HasClassesOf plan database → HasClassesOf plan (lost_of database number)
 
 -- ---- what the concentrator has of the substation
 
@@ -62,7 +59,6 @@ link_keeps s station r same = record {
   others = λ i other. link_there s.concentrator.links station i r other;
   masters = asked_still s.concentrator.links station r same;
   sound = λ h. h;
-  classes = λ plan h. h;
 }
 
 -- and the substation can't be reached any more
@@ -76,7 +72,6 @@ lost_keeps laws s station r same = record {
   others = λ i other. link_there s.concentrator.links station i r other;
   masters = asked_still s.concentrator.links station r same;
   sound = laws.lost_sound s.concentrator.core.points station;
-  classes = λ plan. laws.lost_classes plan s.concentrator.core.points station;
 }
 
 -- ---- damage

@@ -11,8 +11,6 @@ use Rattle.dnp_objects.specs.declared.row.Row.{Row}
 use Rattle.dnp_eventbuf.specs.Stock.{rows_in}
 use Rattle.dnp_controls.specs.Panel.{Panel}
 use Rattle.dnp_concentrator.specs.Below.{link_in}
-use Rattle.dnp_concentrator.specs.PointsAbove.{HasClassesOf}
-use Rattle.dnp_concentrator.specs.declared.plan.Plan.{Plan}
 use Rattle.dnp_outstation.specs.Station.{with_points}
 use Rattle.dnp_pointdb.specs.Database.{Database}
 use Rattle.dnp_pointdb.specs.Sound as points
@@ -35,7 +33,7 @@ use Rattle.dnp_world.proofs.Counting.{count_by-append}
 use Rattle.dnp_world.proofs.ListedAt.{set_here, set_there, listed_here, listed_there}
 use Rattle.dnp_world.proofs.OutstationOpenings.{rows_from}
 use Rattle.dnp_world.proofs.SystemCounts.{same_refl, same_is, same_sym, same_permutation}
-use Rattle.dnp_world.proofs.SystemPlans.{planned_as}
+use Rattle.dnp_world.proofs.SystemPlans.{still_of_plan}
 use Rattle.dnp_world.proofs.Turning.{by_station}
 
 -- what a law of a system's lists says
@@ -190,16 +188,14 @@ changed_below station was is middle gone s = record s {
   };
 }
 
--- the links to all other substations are as they were, the masters ask for the same points, and the points above stay sound and of
--- their classes
+-- the links to all other substations are as they were, the masters ask for the same points, and the points above stay sound
 pub record KeepsMiddle (station : ℕ) (middle : Middle) (s : System) : Type 0 where
   pub others : (i : ℕ) → i ≢ station → link_in middle.links i ≡ link_in s.concentrator.links i
   pub masters : map points_asked middle.links ≡ map points_asked s.concentrator.links
   pub sound : points.IsSound s.concentrator.core.points → points.IsSound middle.points
-  pub classes : (plan : Plan) → HasClassesOf plan s.concentrator.core.points → HasClassesOf plan middle.points
 
 pub middle_same : (station : ℕ) (s : System) → KeepsMiddle station (middle_in s) s
-middle_same station s = record { others = λ i other. refl; masters = refl; sound = λ h. h; classes = λ plan h. h }
+middle_same station s = record { others = λ i other. refl; masters = refl; sound = λ h. h }
 
 left_more : (station : ℕ) (a b c d : List (ℕ × Row)) → HasSameCounts ((a ++ b) ++ (c ++ d)) ((a ++ c) ++ (b ++ d))
 left_more station a b c d = record {
@@ -311,7 +307,7 @@ below_keeps grounds old new h station was is middle gone lists e there keeps sho
     (record {
       standing = record {
         plan = h.plan;
-        of_plan = planned_as old next h.plan refl refl refl (keeps.classes h.plan h.of_plan.classes) keeps.masters h.of_plan;
+        of_plan = still_of_plan old next h.plan refl refl refl refl keeps.masters h.of_plan;
         links = with_links h.links station link h.links.above;
         below = by_station (λ i x. IfSome (slice_get next.substations i) (IsJoinedBelow old.now (link_in middle.links i) x)) h.links station link
             h.links.above

@@ -8,7 +8,7 @@ use Rattle.dnp_concentrator.specs.Below.{link_in, readings_set}
 use Rattle.dnp_concentrator.specs.IndexMap.{IsMap}
 use Rattle.dnp_concentrator.specs.Mapped.{queued_rows}
 use Rattle.dnp_concentrator.specs.Plan.{KeepsLimits, map_of}
-use Rattle.dnp_concentrator.specs.PointsAbove.{HasClassesOf, points_below}
+use Rattle.dnp_concentrator.specs.PointsAbove.{points_above, points_below}
 use Rattle.dnp_concentrator.specs.Relaying as relaying
 use Rattle.dnp_concentrator.specs.Relaying.{Relaying}
 use Rattle.dnp_concentrator.specs.declared.plan.Plan.{Plan}
@@ -55,7 +55,7 @@ use Rattle.dnp_world.proofs.ListedAt.{set_here, set_there, listed_here, listed_t
 use Rattle.dnp_world.proofs.QueuedRows.{IsTaken, LowIndexes, StaySound, all_taken, readings_sound}
 use Rattle.dnp_world.proofs.SystemCounts.{count_by-map, same_is, same_refl}
 use Rattle.dnp_world.proofs.SystemMapping.{RowsBack, queued_undone}
-use Rattle.dnp_world.proofs.SystemPlans.{asked_still, link_here, link_there, planned_as}
+use Rattle.dnp_world.proofs.SystemPlans.{asked_still, link_here, link_there, still_of_plan}
 use Rattle.dnp_world.proofs.Turning.{by_station}
 
 -- what the laws of a link, of lanes, of points and of the index map promise
@@ -67,15 +67,13 @@ pub record ArrivalLaws : Type 0 where
   pub appends : (s : State) (rows : List LaneRow) (l : Link) → All IsCarried rows → exhausts s.lanes rows ≡ false
       → All (λ x. x.row.index < 2 ^ 16) rows → Shows s l → Simulates s (arriving rows) (append_of s rows) l
   pub lost : (s : Stock) (rows : List LaneRow) → IsSound s → lost_in (with_rows s rows) ≡ lost_in s + length (dropped_by s rows)
-  pub queued : (plan : Plan) (database : Database) (station : ℕ) (substation : SubPlan) (m : master.State) (now : ℕ) (octets : List ℕ)
-      → KeepsLimits plan → IsMap (map_of plan) → HasClassesOf plan database → slice_get plan.substations station ≡ Some substation
+  pub queued : (plan : Plan) (station : ℕ) (substation : SubPlan) (m : master.State) (now : ℕ) (octets : List ℕ)
+      → KeepsLimits plan → IsMap (map_of plan) → slice_get plan.substations station ≡ Some substation
       → m.plan ≡ points_below substation
-      → IfOk (receive_of m now octets) (λ t. length (queued_rows (map_of plan) database station t.events) ≡ length t.events)
+      → IfOk (receive_of m now octets) (λ t. length (queued_rows (map_of plan) (points_above plan) station t.events) ≡ length t.events)
   pub undone : RowsBack
   pub low : LowIndexes
   pub set_sound : StaySound
-  pub set_classes : (plan : Plan) (database : Database) (spans : List Spans) (station : ℕ) (rows : List Row) → HasClassesOf plan database
-      → HasClassesOf plan (readings_set spans station database rows)
 
 -- ---- what is taken happened
 
@@ -157,7 +155,7 @@ none_follows old h =
 
 -- the rows of a substation that are queued
 abbrev pub queued_for : System → ℕ → List Row → List LaneRow
-queued_for s station events = queued_rows s.concentrator.indices s.concentrator.core.points station events
+queued_for s station events = queued_rows s.concentrator.indices s.concentrator.points station events
 
 events_follow : ArrivalLaws → (old : System) (h : IsStanding old) (station : ℕ) (events : List Row) → All IsEvent events
     → (events ≢ [] → exhausts old.concentrator.queue (queued_for old station events) ≡ false)
@@ -167,7 +165,7 @@ events_follow laws old h station [] events fits = none_follows old h
 events_follow laws old h station (row ∷ rows) events fits =
     queued_follows laws old h (queued_for old station (row ∷ rows))
     (all_taken laws.low old.concentrator.indices (subst IsMap (sym h.of_plan.middle_indices) h.of_plan.is_map)
-    old.concentrator.core.points station (row ∷ rows) events)
+    old.concentrator.points station (row ∷ rows) events)
     (fits (λ none. absurd (cc)))
 
 -- ---- the system after it
@@ -202,7 +200,7 @@ turn_taken laws old h station was is t below above there all below_grows above_g
       below_grows = below_grows;
       above_grows = above_grows;
       joined = ap (λ (xs : List Spans). rows_below xs (arriving rows)) (sym h.of_plan.middle_indices)
-          ∙ queued_undone laws.undone spans m old.concentrator.core.points station t.events all;
+          ∙ queued_undone laws.undone spans m old.concentrator.points station t.events all;
       mapped = length-map rows (λ (x : LaneRow). x.row) ∙ all;
       buffered = same_is (rows_of below.lanes) (of_station station (kept_in new).buffered)
           (lanes ∙ sym (listed_here lane_rows_of old.substations station was is there));
@@ -289,13 +287,11 @@ takes_keep grounds laws old new h station was is t e events low there same shown
     let sound : points.IsSound last =
     readings_sound laws.set_sound c.indices station first t.statics
     (readings_sound laws.set_sound c.indices station c.core.points t.events h.above.outstation.well.points) in
-    let classes : HasClassesOf h.plan last =
-    laws.set_classes h.plan first c.indices station t.statics (laws.set_classes h.plan c.core.points c.indices station t.events h.of_plan.classes) in
     subst (λ (x : System). Keeps station [] old x) (sym after)
     (record {
       standing = record {
         plan = h.plan;
-        of_plan = planned_as old next h.plan refl refl refl classes (asked_still c.links station (relaying.received r t) plan) h.of_plan;
+        of_plan = still_of_plan old next h.plan refl refl refl refl (asked_still c.links station (relaying.received r t) plan) h.of_plan;
         links = with_links h.links station f.link g.link;
         below = by_station
             (λ i x. IfSome (slice_get next.substations i) (IsJoinedBelow old.now (link_in (slice_set c.links station (relaying.received r t)) i) x))

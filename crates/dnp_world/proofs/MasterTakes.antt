@@ -19,9 +19,10 @@ use Rattle.dnp_master.specs.Sinks.{IsSinkFault}
 use Rattle.dnp_master.specs.State as master
 use Rattle.dnp_master.specs.Steps.{PassesOver, TakesResponse, TakesReport}
 use Rattle.dnp_outstation.specs.State.{Core}
+use Rattle.dnp_pointdb.specs.Plan as points
 use Rattle.dnp_concentrator.specs.BookOutputs.{IsWell, book_in, map_in}
 use Rattle.dnp_concentrator.specs.Centre as centre
-use Rattle.dnp_concentrator.specs.Concentrator.{SetsLink, core_of, link_at, links_of, outputs_of, queue_of, queued_at, with_readings}
+use Rattle.dnp_concentrator.specs.Concentrator.{SetsLink, core_of, link_at, links_of, outputs_of, plan_above, queue_of, queued_at, with_readings}
 use Rattle.dnp_concentrator.specs.Mapped.{queued_row, queued_rows}
 use Rattle.dnp_concentrator.specs.Relaying.{Relaying, received}
 use Rattle.dnp_concentrator.specs.declared.book_outputs.BookOutputs.{BookOutputs}
@@ -73,13 +74,21 @@ book_before {B} honest is_stopped old new same well = subst (λ (b : B). honest 
 
 -- a concentrator by its parts
 concentrator_by : {Q A : Type 0} (stock : Q → Stock) (ledger : A → Ledger) (old new : Concentrator Q A) (core : Core) (queue : Stock) (links : List Relaying)
-    → core_of new ≡ core → stock (queue_of new) ≡ queue → outputs_of new ≡ outputs_of old → links_of new ≡ links
+    → core_of new ≡ core → stock (queue_of new) ≡ queue → outputs_of new ≡ outputs_of old → links_of new ≡ links → plan_above new ≡ plan_above old
     → concentrator_of stock ledger new ≡ record (concentrator_of stock ledger old) { core = core; queue = queue; links = links }
-concentrator_by {Q} {A} stock ledger old new core queue links core_is queue_is outputs links_is =
+concentrator_by {Q} {A} stock ledger old new core queue links core_is queue_is outputs links_is plan =
     ap (λ (k : Core). record (concentrator_of stock ledger new) { core = k }) core_is
     ∙ ap (λ (s : Stock). record (concentrator_of stock ledger new) { core = core; queue = s }) queue_is
     ∙ ap (λ (l : List Relaying). record (concentrator_of stock ledger new) { core = core; queue = queue; links = l }) links_is
-    ∙ ap (λ (o : BookOutputs A). record (concentrator_of stock ledger old) { core = core; queue = queue; links = links; indices = map_in o; controls = ledger (book_in o) }) outputs
+    ∙ ap (λ (o : BookOutputs A). record (concentrator_of stock ledger old) {
+      core = core;
+      queue = queue;
+      links = links;
+      indices = map_in o;
+      controls = ledger (book_in o);
+      points = plan_above new;
+    }) outputs
+    ∙ ap (λ (p : points.Plan). record (concentrator_of stock ledger old) { core = core; queue = queue; links = links; points = p }) plan
 
 -- what a concentrator took on a link
 pub taken_below : {Q A : Type 0} (stock : Q → Stock) (ledger : A → Ledger) (old new : Concentrator Q A) (link : ℕ) (r : Result Taking MasterFault)
@@ -88,28 +97,28 @@ pub taken_below : {Q A : Type 0} (stock : Q → Stock) (ledger : A → Ledger) (
     → IfOk answer (λ a. IfOk r (λ t. a.dropped ≡ dropped_by (stock (queue_of old)) (queued_at old link t.events)))
     → OnOk answer (IfOk r (λ t. SetsLink old link (received (link_at old link) t) new))
     → OnOk answer (IfOk r (λ t. stock (queue_of new) ≡ with_rows (stock (queue_of old)) (queued_at old link t.events)))
-    → OnOk answer (IfOk r (λ t. core_of new ≡ with_readings old link t.events t.statics)) → outputs_of new ≡ outputs_of old
+    → OnOk answer (IfOk r (λ t. core_of new ≡ with_readings old link t.events t.statics)) → outputs_of new ≡ outputs_of old → plan_above new ≡ plan_above old
     → OnOk answer (IfOk r (λ t. t.events ≢ [] → exhausts (stock (queue_of old)) (queued_at old link t.events) ≡ false))
     → IfOk answer (λ a. IfOk r (λ t. (a ≡ actions_of t (dropped_for (concentrator_of stock ledger old) link t))
     × (HasNumbers (concentrator_of stock ledger old) link t
     × (concentrator_of stock ledger new ≡ concentrator_taken (concentrator_of stock ledger old) link t))))
-taken_below stock ledger old new link r (Err fault) actions dropped links queued core outputs room = tt
-taken_below stock ledger old new link (Err fault) (Ok a) actions dropped links queued core outputs room = tt
-taken_below stock ledger old new link (Ok t) (Ok a) actions dropped links queued core outputs room = (
+taken_below stock ledger old new link r (Err fault) actions dropped links queued core outputs plan room = tt
+taken_below stock ledger old new link (Err fault) (Ok a) actions dropped links queued core outputs plan room = tt
+taken_below stock ledger old new link (Ok t) (Ok a) actions dropped links queued core outputs plan room = (
   actions ∙ ap (λ (rows : List Row). actions_of t rows) dropped,
   (
     room,
     concentrator_by stock ledger old new (with_readings old link t.events t.statics) (with_rows (stock (queue_of old)) (queued_at old link t.events)) _
-        core queued outputs links,
+        core queued outputs links plan,
   ),
 )
 
 -- what a concentrator refused
 pub kept_below : {Q A : Type 0} (stock : Q → Stock) (ledger : A → Ledger) (old new : Concentrator Q A) (answer : Result MasterActions MasterFault)
     → OnErr answer (links_of new ≡ links_of old) → OnErr answer (core_of new ≡ core_of old) → IfErr answer (λ _. stock (queue_of new) ≡ stock (queue_of old))
-    → outputs_of new ≡ outputs_of old → OnErr answer (concentrator_of stock ledger new ≡ concentrator_of stock ledger old)
-kept_below stock ledger old new (Ok a) links core queue outputs = tt
-kept_below stock ledger old new (Err fault) links core queue outputs = concentrator_by stock ledger old new _ _ _ core queue outputs links
+    → outputs_of new ≡ outputs_of old → plan_above new ≡ plan_above old → OnErr answer (concentrator_of stock ledger new ≡ concentrator_of stock ledger old)
+kept_below stock ledger old new (Ok a) links core queue outputs plan = tt
+kept_below stock ledger old new (Err fault) links core queue outputs plan = concentrator_by stock ledger old new _ _ _ core queue outputs links plan
 
 all_dropped : (s : Stock) (rows : List LaneRow) → length (dropped_by s rows) ≤ length rows
 all_dropped s [] = omega arith
@@ -130,8 +139,8 @@ pub few_below : (c : ConcentratorState) (link : ℕ) (t : Taking) → length (dr
 few_below c link t =
     omega (
       arith,
-      all_dropped c.queue (queued_rows c.indices c.core.points link t.events),
-      all_queued (queued_row c.indices c.core.points link) t.events,
+      all_dropped c.queue (queued_rows c.indices c.points link t.events),
+      all_queued (queued_row c.indices c.points link) t.events,
     )
 
 -- a centre by its parts

@@ -3,16 +3,18 @@ use Rattle.std.proofs.Common.{◌≡◌, ℕ, true, false, zero, suc, ◌+◌, �
 use Rattle.std.specs.Prelude.{All, slice_get, slice_index_or, IfSome}
 use Rattle.std.proofs.lemmas.List.Elements.{All-head, All-nil, All-tail, All-weaker}
 use Rattle.std.proofs.lemmas.List.Sorted.{IsPermutation-refl}
+use Rattle.dnp_concentrator.specs.Addresses.{outstation_address}
 use Rattle.dnp_concentrator.specs.Below.{link_in, new_link, new_links}
 use Rattle.dnp_concentrator.specs.BookOutputs.{book_panel}
 use Rattle.dnp_concentrator.specs.IndexMap.{IsMap, IsTooWide, Overlaps}
 use Rattle.dnp_concentrator.specs.Plan.{IsCapacity, KeepsSubLimits, map_of}
-use Rattle.dnp_concentrator.specs.PointsAbove.{HasClassesOf, points_above, points_below}
+use Rattle.dnp_concentrator.specs.PointsAbove.{points_above, points_at, points_below}
 use Rattle.dnp_concentrator.specs.Relaying.{Relaying}
+use Rattle.dnp_concentrator.specs.declared.addresses.TheConstants.{CENTRE, CONCENTRATOR_ABOVE, MASTER_BELOW}
 use Rattle.dnp_concentrator.specs.declared.plan.Plan.{Plan}
 use Rattle.dnp_concentrator.specs.declared.plan.SubPlan.{SubPlan}
 use Rattle.dnp_concentrator.specs.declared.span.Spans.{Spans}
-use Rattle.dnp_concentrator.proofs.SoundPoints.{sound_above}
+use Rattle.dnp_concentrator.proofs.SoundPoints.{sound_above, sound_at}
 use Rattle.dnp_controls.specs.Book.{Ledger}
 use Rattle.dnp_controls.specs.declared.book.Entry.{Entry}
 use Rattle.dnp_eventbuf.specs.Archive.{Archive}
@@ -31,7 +33,7 @@ use Rattle.dnp_pointdb.specs.Plan as points
 use Rattle.dnp_pointdb.specs.Sound as database
 use Rattle.dnp_pointdb.specs.declared.times.Times.{Times}
 use Rattle.dnp_world.specs.Behind.{IsBehind, IsUntouched, Links}
-use Rattle.dnp_world.specs.FreshSystems.{fresh_channel, fresh_substation, fresh_substations, fresh_system, points_at}
+use Rattle.dnp_world.specs.FreshSystems.{fresh_channel, fresh_substation, fresh_substations, fresh_system}
 use Rattle.dnp_world.specs.Joined.{Joined}
 use Rattle.dnp_world.specs.Kept.{Kept, kept_in, lane_rows_of, nothing_kept, report_of, shown_of}
 use Rattle.dnp_world.specs.Lanes.{HasLanes, fresh_link}
@@ -41,18 +43,14 @@ use Rattle.dnp_world.specs.Standing.{IsFresh}
 use Rattle.dnp_world.specs.Stations.{listed_from}
 use Rattle.dnp_world.specs.Systems.{SubstationState, System, at_station}
 use Rattle.dnp_world.specs.SystemStanding.{lists_of, points_asked, seen, IsJoinedBelow, IsOfPlan, IsStanding}
-use Rattle.dnp_world.specs.declared.substation.TheConstants.{CONCENTRATOR_BELOW, FIRST_SUBSTATION}
-use Rattle.dnp_world.specs.declared.world.TheConstants.{CENTRE, CONCENTRATOR_ABOVE}
 use Rattle.dnp_world.proofs.BelowEvents.{shown_with}
 use Rattle.dnp_world.proofs.JoinedRuns.{Opened}
-use Rattle.dnp_world.proofs.NewSubstations.{sound_at}
 
 -- what the laws promise of it
 pub record NewLaws : Type 0 where
   pub at_first : (indices : List Spans) (links : Links) → ((i : ℕ) → IsUntouched (links.below i)) → IsUntouched links.above
       → IsBehind indices links nothing_kept
   pub is_map : (spans : List Spans) → (IsTooWide spans → ⊥) → (Overlaps spans → ⊥) → IsMap spans
-  pub classes : (plan : Plan) → HasClassesOf plan (new_database (points_above plan))
   pub sound_points : (plan : points.Plan) → points.IsSound plan → database.IsSound (new_database plan)
   pub sound_lanes : (capacities : List ℕ) → length capacities ≡ LANES → All (λ capacity. 1 ≤ capacity) capacities
       → stock.IsSound (empty_stock capacities)
@@ -131,7 +129,7 @@ new_substation laws times number s keeps nine =
     let it : SubstationState = fresh_substation times number s in
     record {
       joined = new_joined_to laws (new_database (points_at s)) (points_below s) times (empty_stock s.lanes) []
-          CONCENTRATOR_BELOW (FIRST_SUBSTATION + number) (laws.sound_points (points_at s) (sound_at s keeps)) (new_lanes laws s keeps nine);
+          MASTER_BELOW (outstation_address number) (laws.sound_points (points_at s) (sound_at s keeps)) (new_lanes laws s keeps nine);
       shown = shown_with it it (omega (arith, keeps.few_outputs)) refl;
     }
 
@@ -211,7 +209,7 @@ new_of_plan laws plan queue journal controls orders can = record {
   indices = refl;
   middle_indices = refl;
   centre_indices = refl;
-  classes = laws.classes plan;
+  middle_points = refl;
   masters = masters_ask plan.times plan.substations;
 }
 

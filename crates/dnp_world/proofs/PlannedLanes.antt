@@ -12,7 +12,7 @@ use Rattle.dnp_concentrator.specs.IndexKinds.{kind_of_points}
 use Rattle.dnp_concentrator.specs.IndexMap.{IsMap, index_above, index_below}
 use Rattle.dnp_concentrator.specs.Mapped.{lane_row, queued_row, row_below}
 use Rattle.dnp_concentrator.specs.Plan.{KeepsLimits, map_of}
-use Rattle.dnp_concentrator.specs.PointsAbove.{HasClassesOf, points_above, points_below}
+use Rattle.dnp_concentrator.specs.PointsAbove.{points_above, points_below}
 use Rattle.dnp_concentrator.specs.declared.index_kind.IndexKind.{IndexKind}
 use Rattle.dnp_concentrator.specs.declared.plan.Plan.{Plan}
 use Rattle.dnp_concentrator.specs.declared.plan.SubPlan.{SubPlan}
@@ -24,10 +24,9 @@ use Rattle.dnp_objects.specs.declared.lane.Lane.{Lane}
 use Rattle.dnp_objects.specs.declared.lane.LaneRow.{LaneRow}
 use Rattle.dnp_objects.specs.declared.row.Row.{Row}
 use Rattle.dnp_eventbuf.specs.Stock.{rows_in}
-use Rattle.dnp_pointdb.specs.Database.{Database, new_database, state_at}
+use Rattle.dnp_pointdb.specs.Classes.{class_at}
 use Rattle.dnp_pointdb.specs.Events.{lane_of}
 use Rattle.dnp_pointdb.specs.Plan as points
-use Rattle.dnp_pointdb.specs.declared.state.PointState.{PointState}
 use Rattle.dnp_world.specs.Kept.{kept_in, lane_rows_of, report_of, rows_below}
 use Rattle.dnp_world.specs.Planned.{HappenedAsPlanned, IsAsPlanned, IsPlanned}
 use Rattle.dnp_world.specs.Reports.{happened}
@@ -44,10 +43,9 @@ use Rattle.dnp_world.proofs.TakenPlans.{IsMasterOf, master_there}
 pub record MapLaws : Type 0 where
   pub above : (spans : List Spans) (kind : IndexKind) (station index above : ℕ) → index_below spans kind above ≡ Some (station, index)
       → index_above spans station kind index ≡ Some above
-  pub queued : (plan : Plan) (points : Database) (station : ℕ) (substation : SubPlan) (event : Row) → KeepsLimits plan → IsMap (map_of plan)
-      → HasClassesOf plan points → slice_get plan.substations station ≡ Some substation → is_reported (points_below substation) event ≡ true
-      → IsSome (queued_row (map_of plan) points station event)
-  pub at_first : (plan : Plan) → HasClassesOf plan (new_database (points_above plan))
+  pub queued : (plan : Plan) (station : ℕ) (substation : SubPlan) (event : Row) → KeepsLimits plan → IsMap (map_of plan)
+      → slice_get plan.substations station ≡ Some substation → is_reported (points_below substation) event ≡ true
+      → IsSome (queued_row (map_of plan) (points_above plan) station event)
 
 -- ---- below
 
@@ -91,12 +89,12 @@ with_class zero class row x is same =
 with_class (suc n) class row x is same = lt-ltb 0 class (omega (arith, same))
 
 -- a row that has a lane above is of a point there with a class
-in_lane : (row : Row) (o : Option PointState) (x : LaneRow)
-    → option_and_then (λ (state : PointState). option_map (λ (lane : Lane). let y : LaneRow = record { lane = lane; row = row } in y)
-    (lane_of state.point.class row.kind)) o ≡ Some x
-    → option_map_or (λ class. nat_lt 0 class) (option_map (λ (state : PointState). state.point.class) o) false ≡ true
+in_lane : (row : Row) (o : Option ℕ) (x : LaneRow)
+    → option_and_then (λ (class : ℕ). option_map (λ (lane : Lane). let y : LaneRow = record { lane = lane; row = row } in y) (lane_of class row.kind)) o
+    ≡ Some x
+    → option_map_or (λ class. nat_lt 0 class) o false ≡ true
 in_lane row None x is = absurd (none-some x is)
-in_lane row (Some state) x is = with_class state.point.class state.point.class row x is refl
+in_lane row (Some class) x is = with_class class class row x is refl
 
 some_there : {A : Type 0} (o : Option A) → IsSome o → (x : A) × (o ≡ Some x)
 some_there None h = absurd (search (rules, h))
@@ -106,23 +104,18 @@ reported_above : MapLaws → (plan : Plan) → KeepsLimits plan → IsMap (map_o
     → IsPlanned plan x → is_reported (points_above plan) row ≡ true
 reported_above laws plan limits is_map row x is planned = by (index_below (map_of plan) (kind_of_points row.kind) row.index) refl is
   where
-    points : Database
-    points = new_database (points_above plan)
-
     found : (p : ℕ × ℕ) → index_below (map_of plan) (kind_of_points row.kind) row.index ≡ Some p → (o : Option SubPlan)
         → slice_get plan.substations p.0 ≡ o
         → IsSomeAnd o (λ s. is_reported (points_below s) (record row { index = p.1 }) ≡ true) → is_reported (points_above plan) row ≡ true
     found p below None there h = absurd h
     found p below (Some s) there h =
-        let queued : IsSome (queued_row (map_of plan) (new_database (points_above plan)) p.0 (record row { index = p.1 })) =
-        laws.queued plan (new_database (points_above plan)) p.0 s (record row { index = p.1 }) limits is_map (laws.at_first plan) there h in
-        let lane : IsSome (lane_row (new_database (points_above plan)) row) =
-        subst
-        (λ (o : Option ℕ). IsSome (option_and_then (lane_row (new_database (points_above plan))) (option_map (λ (index : ℕ). record row { index = index }) o)))
+        let queued : IsSome (queued_row (map_of plan) (points_above plan) p.0 (record row { index = p.1 })) =
+        laws.queued plan p.0 s (record row { index = p.1 }) limits is_map there h in
+        let lane : IsSome (lane_row (points_above plan) row) =
+        subst (λ (o : Option ℕ). IsSome (option_and_then (lane_row (points_above plan)) (option_map (λ (index : ℕ). record row { index = index }) o)))
         (laws.above (map_of plan) (kind_of_points row.kind) p.0 p.1 row.index below) queued in
-        let some = some_there (lane_row (new_database (points_above plan)) row) lane in
-        ap (λ (o : Option ℕ). option_map_or (λ class. nat_lt 0 class) o false) (sym (laws.at_first plan row.kind row.index))
-        ∙ in_lane row (state_at (new_database (points_above plan)) row.kind row.index) some.0 some.1
+        let some = some_there (lane_row (points_above plan) row) lane in
+        in_lane row (class_at (points_above plan) row.kind row.index) some.0 some.1
 
     by : (o : Option (ℕ × ℕ)) → index_below (map_of plan) (kind_of_points row.kind) row.index ≡ o
         → option_map (λ (p : ℕ × ℕ). (let y : ℕ × Row = (p.0, record row { index = p.1 }) in y)) o ≡ Some x → is_reported (points_above plan) row ≡ true

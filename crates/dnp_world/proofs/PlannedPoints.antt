@@ -4,7 +4,6 @@ use Rattle.std.specs.Prelude.{IfSome, slice_get, slice_index_or, slice_set}
 use Rattle.std.specs.Option.{IsSomeAnd, option_map}
 use Rattle.std.proofs.lemmas.Bool.{cases_order}
 use Rattle.std.proofs.lemmas.Option.{none-some, same_Some}
-use Rattle.dnp_concentrator.specs.PointsAbove.{class_of}
 use Rattle.dnp_concentrator.specs.declared.plan.Plan.{Plan}
 use Rattle.dnp_concentrator.specs.declared.plan.SubPlan.{SubPlan}
 use Rattle.dnp_objects.specs.Lanes.{kind_number}
@@ -15,7 +14,7 @@ use Rattle.dnp_pointdb.specs.Ranges.{is_in_range}
 use Rattle.dnp_pointdb.specs.declared.reading.Reading.{Reading}
 use Rattle.dnp_pointdb.specs.declared.state.BlockState.{BlockState}
 use Rattle.dnp_pointdb.specs.declared.state.PointState.{PointState}
-use Rattle.dnp_world.specs.Planned.{HasClassesBelow, HavePlannedPoints}
+use Rattle.dnp_world.specs.Planned.{HasClassesBelow, HavePlannedPoints, class_of}
 use Rattle.dnp_world.specs.Systems.{SubstationState, System}
 use Rattle.dnp_world.proofs.JoinedPoints.{PointLaws}
 use Rattle.dnp_world.proofs.ListedAt.{set_here, set_there}

@@ -6,7 +6,7 @@ use Rattle.std.specs.List.{All}
 use Rattle.std.proofs.lemmas.Bool.Decides.{nat_tests}
 use Rattle.std.proofs.lemmas.List.Elements.{All-cons, All-head, All-nil, All-tail}
 use Rattle.dnp_concentrator.specs.Plan.{KeepsSubLimits}
-use Rattle.dnp_concentrator.specs.PointsAbove.{class_of, point_of, points_below}
+use Rattle.dnp_concentrator.specs.PointsAbove.{analog_points, point_of, points_at, points_below}
 use Rattle.dnp_concentrator.specs.declared.plan.SubPlan.{SubPlan}
 use Rattle.dnp_eventbuf.specs.Stock.{arriving}
 use Rattle.dnp_master.specs.Rows.{is_reported}
@@ -27,8 +27,8 @@ use Rattle.dnp_pointdb.specs.declared.point.Point.{Point}
 use Rattle.dnp_pointdb.specs.declared.reading.Reading.{Reading}
 use Rattle.dnp_pointdb.specs.declared.state.PointState.{PointState}
 use Rattle.dnp_pointdb.specs.declared.times.Times.{Times}
-use Rattle.dnp_world.specs.FreshSystems.{analog_points, fresh_substations, points_at}
-use Rattle.dnp_world.specs.Planned.{HasClassesBelow}
+use Rattle.dnp_world.specs.FreshSystems.{fresh_substations}
+use Rattle.dnp_world.specs.Planned.{HasClassesBelow, class_of}
 
 -- ---- what a change makes
 

@@ -15,12 +15,13 @@ use Rattle.dnp_objects.specs.declared.lane.Lane.{Lane}
 use Rattle.dnp_objects.specs.declared.lane.LaneRow.{LaneRow}
 use Rattle.dnp_objects.specs.declared.row.Kind.{Kind}
 use Rattle.dnp_objects.specs.declared.row.Row.{Row}
-use Rattle.dnp_pointdb.specs.Database.{Database, set_of, state_at}
+use Rattle.dnp_pointdb.specs.Classes.{class_at}
+use Rattle.dnp_pointdb.specs.Database.{Database, set_of}
 use Rattle.dnp_pointdb.specs.Events.{lane_of}
+use Rattle.dnp_pointdb.specs.Plan as above
 use Rattle.dnp_pointdb.specs.Sound as points
 use Rattle.dnp_pointdb.specs.declared.limits.TheConstants.{INDICES}
 use Rattle.dnp_pointdb.specs.declared.reading.Reading.{Reading}
-use Rattle.dnp_pointdb.specs.declared.state.PointState.{PointState}
 use Rattle.dnp_world.proofs.SystemCounts.{given, given_first}
 
 -- ---- one row
@@ -45,12 +46,12 @@ in_lane class row x (Some lane) is e event =
     let carried : IsCarried y = record { of_its_kind = kind_is class row.kind lane is; fits = event } in
     (ap (λ (z : LaneRow). z.row) same, subst IsCarried same carried)
 
-of_state : (row : Row) (x : LaneRow) (o : Option PointState)
-    → option_and_then (λ (state : PointState). option_map (λ (lane : Lane). let y : LaneRow = record { lane = lane; row = row } in y)
-    (lane_of state.point.class row.kind)) o ≡ Some x
+of_class : (row : Row) (x : LaneRow) (o : Option ℕ)
+    → option_and_then (λ (class : ℕ). option_map (λ (lane : Lane). let y : LaneRow = record { lane = lane; row = row } in y) (lane_of class row.kind)) o
+    ≡ Some x
     → IsEvent row → Fits row x
-of_state row x None e event = absurd (grind (arith, e))
-of_state row x (Some state) e event = in_lane state.point.class row x (lane_of state.point.class row.kind) refl e event
+of_class row x None e event = absurd (grind (arith, e))
+of_class row x (Some class) e event = in_lane class row x (lane_of class row.kind) refl e event
 
 -- what the crate of the index map promises of indices above
 abbrev pub LowIndexes : Type 0
@@ -61,32 +62,32 @@ LowIndexes = (spans : List Spans) (kind : IndexKind) (station index above : ℕ)
 abbrev pub IsTaken : LaneRow → Type 0
 IsTaken x = IsCarried x × (x.row.index < 2 ^ 16)
 
-queued_fits : LowIndexes → (spans : List Spans) → IsMap spans → (points : Database) (station : ℕ) (row : Row) (x : LaneRow) (o : Option ℕ)
+queued_fits : LowIndexes → (spans : List Spans) → IsMap spans → (plan : above.Plan) (station : ℕ) (row : Row) (x : LaneRow) (o : Option ℕ)
     → index_above spans station (kind_of_points row.kind) row.index ≡ o
-    → option_and_then (lane_row points) (option_map (λ (index : ℕ). record row { index = index }) o) ≡ Some x → IsEvent row → IsTaken x
-queued_fits low spans m points station row x None is e event = absurd (grind (arith, e))
-queued_fits low spans m points station row x (Some index) is e event =
-    let above : Row = record row { index = index } in
-    let fits : Fits above x = of_state above x (state_at points row.kind index) e event in
+    → option_and_then (lane_row plan) (option_map (λ (index : ℕ). record row { index = index }) o) ≡ Some x → IsEvent row → IsTaken x
+queued_fits low spans m plan station row x None is e event = absurd (grind (arith, e))
+queued_fits low spans m plan station row x (Some index) is e event =
+    let risen : Row = record row { index = index } in
+    let fits : Fits risen x = of_class risen x (class_at plan row.kind index) e event in
     let few : index < INDICES = low spans (kind_of_points row.kind) station row.index index m is in
     (fits.1, subst (λ (n : ℕ). n < 2 ^ 16) (ap (λ (r : Row). r.index) fits.0) few)
 
 -- ---- all rows
 
 -- each row that is queued
-pub all_taken : LowIndexes → (spans : List Spans) → IsMap spans → (points : Database) (station : ℕ) (rows : List Row) → All IsEvent rows
-    → All IsTaken (queued_rows spans points station rows)
-all_taken low spans m points station [] events = All-nil IsTaken
-all_taken low spans m points station (row ∷ rows) events =
-    subst (All IsTaken) (sym (given_first (queued_row spans points station) row rows))
-    (by (queued_row spans points station row) refl (all_taken low spans m points station rows (All-tail IsEvent row rows events)))
+pub all_taken : LowIndexes → (spans : List Spans) → IsMap spans → (plan : above.Plan) (station : ℕ) (rows : List Row) → All IsEvent rows
+    → All IsTaken (queued_rows spans plan station rows)
+all_taken low spans m plan station [] events = All-nil IsTaken
+all_taken low spans m plan station (row ∷ rows) events =
+    subst (All IsTaken) (sym (given_first (queued_row spans plan station) row rows))
+    (by (queued_row spans plan station row) refl (all_taken low spans m plan station rows (All-tail IsEvent row rows events)))
   where
-    by : (o : Option LaneRow) → queued_row spans points station row ≡ o → All IsTaken (queued_rows spans points station rows)
-        → All IsTaken (given o (queued_rows spans points station rows))
+    by : (o : Option LaneRow) → queued_row spans plan station row ≡ o → All IsTaken (queued_rows spans plan station rows)
+        → All IsTaken (given o (queued_rows spans plan station rows))
     by None e rest = rest
     by (Some x) e rest =
-        All-cons IsTaken x (queued_rows spans points station rows)
-        (queued_fits low spans m points station row x (index_above spans station (kind_of_points row.kind) row.index) refl e
+        All-cons IsTaken x (queued_rows spans plan station rows)
+        (queued_fits low spans m plan station row x (index_above spans station (kind_of_points row.kind) row.index) refl e
         (All-head IsEvent row rows events))
         rest
 

@@ -4,10 +4,8 @@ use Rattle.std.specs.Prelude.{slice_get, IfSome, true, ⊤}
 use Rattle.std.proofs.Math.Seq.{drop-append_seam}
 use Rattle.std.proofs.lemmas.List.{drop_all, length-map}
 use Rattle.dnp_concentrator.specs.Below.{link_in}
-use Rattle.dnp_concentrator.specs.PointsAbove.{HasClassesOf}
 use Rattle.dnp_concentrator.specs.Relaying as relaying
 use Rattle.dnp_concentrator.specs.Relaying.{Relaying}
-use Rattle.dnp_concentrator.specs.declared.plan.Plan.{Plan}
 use Rattle.dnp_concentrator.specs.declared.span.Spans.{Spans}
 use Rattle.dnp_eventbuf.specs.Buffered.{buffered_row}
 use Rattle.dnp_eventbuf.specs.Stock.{rows_in}
@@ -17,7 +15,6 @@ use Rattle.dnp_objects.specs.Counts.{IsCoveredBy}
 use Rattle.dnp_objects.specs.declared.command.Command.{Command}
 use Rattle.dnp_objects.specs.declared.row.Row.{Row}
 use Rattle.dnp_outstation.specs.Calls.{restart_of}
-use Rattle.dnp_pointdb.specs.Database.{Database, restarted}
 use Rattle.dnp_pointdb.specs.Plan as points
 use Rattle.dnp_world.specs.declared.link_event.End.TheVariants as end
 use Rattle.dnp_world.specs.declared.link_event.LinkEvent.TheVariants as event
@@ -35,14 +32,13 @@ use Rattle.dnp_world.specs.Systems.{SubstationState, System, at_station, panel_o
 use Rattle.dnp_world.proofs.BelowKeeps.{Grounds, lane_rows, none_more, relisted}
 use Rattle.dnp_world.proofs.Keeping.{moves_stand}
 use Rattle.dnp_world.proofs.SystemCounts.{same_filter_map, same_is, same_length, same_of_station, same_permutation, same_refl, same_sym, same_trans}
-use Rattle.dnp_world.proofs.SystemPlans.{planned_as}
+use Rattle.dnp_world.proofs.SystemPlans.{still_of_plan}
 
 -- what the crates below promise of a restart
 pub record RestartLaws : Type 0 where
   pub restarts : (s new : LinkState ⊤) (l : Link) → Joined [] s l
       → new ≡ record s { outstation = restart_of s.outstation true; down = cleared_on s.down; outstation_port = reset_of s.outstation_port }
       → Follows [] [] [] s.outstation.performed l new
-  pub classes : (plan : Plan) (database : Database) → HasClassesOf plan database → HasClassesOf plan (restarted database)
 
 -- ---- links on which nothing came, was taken, released or performed
 
@@ -200,8 +196,7 @@ concentrator_restarts grounds laws old new station h after =
     (record {
       standing = record {
         plan = h.plan;
-        of_plan = planned_as old next h.plan refl refl refl (laws.classes h.plan old.concentrator.core.points h.of_plan.classes) (asked_of_map relays)
-            h.of_plan;
+        of_plan = still_of_plan old next h.plan refl refl refl refl (asked_of_map relays) h.of_plan;
         links = links;
         below = λ i.
             subst (λ (o : Option SubstationState). joined_as i (link_in (map relaying.hung_up relays) i) o) (sym (gone_at old.substations i))

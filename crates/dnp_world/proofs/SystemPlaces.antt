@@ -6,8 +6,9 @@ use Rattle.std.proofs.lemmas.List.{map-set, length-map, set-get_or}
 use Rattle.dnp_controls.specs.Book.{Ledger}
 use Rattle.dnp_eventbuf.specs.Stock.{Stock}
 use Rattle.dnp_outstation.specs.State.{Core}
+use Rattle.dnp_pointdb.specs.Plan as points
 use Rattle.dnp_concentrator.specs.BookOutputs.{book_in, map_in}
-use Rattle.dnp_concentrator.specs.Concentrator.{core_of, links_of, KeepsStores}
+use Rattle.dnp_concentrator.specs.Concentrator.{core_of, links_of, plan_above, KeepsStores}
 use Rattle.dnp_concentrator.specs.Relaying.{Relaying}
 use Rattle.dnp_concentrator.specs.declared.book_outputs.BookOutputs.{BookOutputs}
 use Rattle.dnp_concentrator.specs.declared.concentrator.Concentrator.{Concentrator}
@@ -63,7 +64,14 @@ concentrator_with {Q} {A} stock ledger old new core links core_is links_is store
     ap (λ (k : Core). record (concentrator_of stock ledger new) { core = k }) core_is
     ∙ ap (λ (k : List Relaying). record (concentrator_of stock ledger new) { core = core; links = k }) links_is
     ∙ ap (λ (q : Q). record (concentrator_of stock ledger new) { core = core; links = links; queue = stock q }) stores.queue
-    ∙ ap (λ (o : BookOutputs A). record (concentrator_of stock ledger old) { core = core; links = links; indices = map_in o; controls = ledger (book_in o) }) stores.outputs
+    ∙ ap (λ (o : BookOutputs A). record (concentrator_of stock ledger old) {
+      core = core;
+      links = links;
+      indices = map_in o;
+      controls = ledger (book_in o);
+      points = plan_above new;
+    }) stores.outputs
+    ∙ ap (λ (p : points.Plan). record (concentrator_of stock ledger old) { core = core; links = links; points = p }) stores.plan
 
 -- ---- lines
 

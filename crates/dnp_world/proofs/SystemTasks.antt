@@ -12,8 +12,9 @@ use Rattle.dnp_controls.specs.declared.book.Entry.{Entry}
 use Rattle.dnp_eventbuf.specs.Archive.{Archive}
 use Rattle.dnp_eventbuf.specs.Stock.{Stock}
 use Rattle.dnp_outstation.specs.State.{Core}
+use Rattle.dnp_pointdb.specs.Plan as points
 use Rattle.dnp_concentrator.specs.Centre as centre
-use Rattle.dnp_concentrator.specs.Concentrator.{SetsLink, book_of, core_of, indices_of, link_at, links_of, queue_of}
+use Rattle.dnp_concentrator.specs.Concentrator.{SetsLink, book_of, core_of, indices_of, link_at, links_of, plan_above, queue_of}
 use Rattle.dnp_concentrator.specs.Relaying.{Relaying, ledger_after, relaying_after, step_by, step_of, step_of_progress}
 use Rattle.dnp_concentrator.specs.declared.progress.Stage.{Stage}
 use Rattle.dnp_concentrator.specs.declared.progress.Stage.TheVariants.{Selecting, Selected, Operating, Known}
@@ -139,13 +140,15 @@ centre_with {J} archive ledger old new link orders link_is orders_is journal ind
 -- the concentrator's links and its book become others
 pub concentrator_told : {Q A : Type 0} (stock : Q → Stock) (ledger : A → Ledger) (old new : Concentrator Q A) (links : List Relaying) (controls : Ledger)
     → links_of new ≡ links → ledger (book_of new) ≡ controls → core_of new ≡ core_of old → queue_of new ≡ queue_of old → indices_of new ≡ indices_of old
+    → plan_above new ≡ plan_above old
     → concentrator_of stock ledger new ≡ record (concentrator_of stock ledger old) { links = links; controls = controls }
-concentrator_told {Q} stock ledger old new links controls links_is controls_is core queue indices =
+concentrator_told {Q} stock ledger old new links controls links_is controls_is core queue indices plan =
     ap (λ (l : List Relaying). record (concentrator_of stock ledger new) { links = l }) links_is
     ∙ ap (λ (o : Ledger). record (concentrator_of stock ledger new) { links = links; controls = o }) controls_is
     ∙ ap (λ (k : Core). record (concentrator_of stock ledger new) { links = links; controls = controls; core = k }) core
     ∙ ap (λ (q : Q). record (concentrator_of stock ledger new) { links = links; controls = controls; core = core_of old; queue = stock q }) queue
-    ∙ ap (λ (m : List Spans). record (concentrator_of stock ledger old) { links = links; controls = controls; indices = m }) indices
+    ∙ ap (λ (m : List Spans). record (concentrator_of stock ledger old) { links = links; controls = controls; indices = m; points = plan_above new }) indices
+    ∙ ap (λ (p : points.Plan). record (concentrator_of stock ledger old) { links = links; controls = controls; points = p }) plan
 
 -- the request of the step went down, through a view of its octets
 pub down_of : (requests : List (List ℕ)) (octets view : List ℕ) (old mid new : ChannelState) → requests ≡ octets ∷ [] → 0 < length octets → view ≡ octets → mid ≡ old
@@ -168,27 +171,29 @@ pub relays_below : {Q A : Type 0} (stock : Q → Stock) (ledger : A → Ledger) 
     → SetsLink k station (relaying_after (link_at k station) rest.now (step_of (link_at k station) (ledger (book_of k)).entries station)) d
     → ledger (book_of d) ≡ ledger_after (ledger (book_of k)) (step_of (link_at k station) (ledger (book_of k)).entries station)
     → core_of d ≡ core_of k → queue_of d ≡ queue_of k → indices_of d ≡ indices_of k
+    → plan_above d ≡ plan_above k
     → IfOperates (step_of (link_at k station) (ledger (book_of k)).entries station) (λ id. Has (ledger (book_of k)).entries id is_pending)
     → GoDown (requests_of (step_of (link_at k station) (ledger (book_of k)).entries station) (link_at k station).master.seq) (state_of was.channel) (state_of lines)
     → RelaysOn (Below station) (whole stock ledger rest k xs) (whole stock ledger rest d (slice_set xs i (record was { channel = lines })))
-relays_below stock ledger rest k d station i xs was lines same has at link book core queue indices pending down =
+relays_below stock ledger rest k d station i xs was lines same has at link book core queue indices plan pending down =
     let old : System = whole stock ledger rest k xs in
     let step : Step = step_on old (Below station) in
     let first : System = with_relaying (told old (Below station) step) (Below station) (relaying_after (relaying_at old (Below station)) old.now step) in
     Steps pending
     (sends_at station i (requests_of step (relaying_at old (Below station)).master.seq) first (concentrator_of stock ledger d) xs was lines refl
-    (concentrator_told stock ledger k d first.concentrator.links first.concentrator.controls link book core queue indices) same
+    (concentrator_told stock ledger k d first.concentrator.links first.concentrator.controls link book core queue indices plan) same
     (rw same (is_there old xs station refl has)) at down)
 
 -- nothing was relayed, and nothing went down
 pub unmoved_below : {Q A : Type 0} (stock : Q → Stock) (ledger : A → Ledger) (rest : System) (k d : Concentrator Q A) (station i : ℕ) (xs : List Substation)
     (was : Substation) (lines : Channel) → i ≡ station → has_station (whole stock ledger rest k xs) station ≡ true → was ≡ get_or xs i was
     → links_of d ≡ links_of k → ledger (book_of d) ≡ ledger (book_of k) → core_of d ≡ core_of k → queue_of d ≡ queue_of k → indices_of d ≡ indices_of k
+    → plan_above d ≡ plan_above k
     → state_of lines ≡ state_of was.channel
     → whole stock ledger rest d (slice_set xs i (record was { channel = lines })) ≡ whole stock ledger rest k xs
-unmoved_below stock ledger rest k d station i xs was lines same has at links book core queue indices lines_same =
+unmoved_below stock ledger rest k d station i xs was lines same has at links book core queue indices plan lines_same =
     let is : Substation = record was { channel = lines } in
     ap (λ (m : ConcentratorState). record rest { concentrator = m; substations = map substation_of (slice_set xs i is) })
-    (concentrator_told stock ledger k d (links_of k) (ledger (book_of k)) links book core queue indices)
+    (concentrator_told stock ledger k d (links_of k) (ledger (book_of k)) links book core queue indices plan)
     ∙ unchanged_at (whole stock ledger rest k xs) xs station i was is refl same has at
     (ap (λ (c : ChannelState). record (substation_of was) { channel = c }) lines_same)

@@ -1,11 +1,12 @@
 -- Definition: a system of a plan in which nothing has happened yet, over the stores that it is given (own rule: IEEE Std
 -- 1815-2012 speaks of one link at a time).
-use Rattle.std.specs.Prelude.{ℕ, suc, ◌+◌, true, false, List, [], ◌∷◌, map}
-use Rattle.std.specs.List.{zip}
+use Rattle.std.specs.Prelude.{ℕ, suc, true, false, List, [], ◌∷◌}
+use Rattle.dnp_concentrator.specs.Addresses.{outstation_address}
 use Rattle.dnp_concentrator.specs.Below.{new_links}
 use Rattle.dnp_concentrator.specs.Plan.{map_of}
-use Rattle.dnp_concentrator.specs.PointsAbove.{block_of, points_above}
+use Rattle.dnp_concentrator.specs.PointsAbove.{points_above, points_at}
 use Rattle.dnp_concentrator.specs.Relaying.{new_relaying}
+use Rattle.dnp_concentrator.specs.declared.addresses.TheConstants.{CENTRE, CONCENTRATOR_ABOVE, MASTER_BELOW}
 use Rattle.dnp_concentrator.specs.declared.plan.Plan.{Plan}
 use Rattle.dnp_concentrator.specs.declared.plan.SubPlan.{SubPlan}
 use Rattle.dnp_controls.specs.Book.{Ledger}
@@ -15,14 +16,9 @@ use Rattle.dnp_line.specs.Lines.{quiet_line}
 use Rattle.dnp_line.specs.Ports.{new_port}
 use Rattle.dnp_outstation.specs.Station.{new_core}
 use Rattle.dnp_pointdb.specs.Database.{new_database}
-use Rattle.dnp_pointdb.specs.Plan as points
-use Rattle.dnp_pointdb.specs.declared.point.Block.{Block}
-use Rattle.dnp_pointdb.specs.declared.point.Point.{Point}
 use Rattle.dnp_pointdb.specs.declared.times.Times.{Times}
 use Rattle.dnp_world.specs.Channels.{ChannelState}
 use Rattle.dnp_world.specs.Systems.{SubstationState, History, System}
-use Rattle.dnp_world.specs.declared.substation.TheConstants.{CONCENTRATOR_BELOW, FIRST_SUBSTATION}
-use Rattle.dnp_world.specs.declared.world.TheConstants.{CENTRE, CONCENTRATOR_ABOVE}
 
 -- lines that nothing was sent on, between stations of these link addresses
 abbrev pub fresh_channel : ℕ → ℕ → ChannelState
@@ -35,27 +31,13 @@ fresh_channel outstation master = record {
 
 -- ---- substations
 
--- analog inputs of these classes and deadbands
-abbrev pub analog_point : ℕ × ℕ → Point
-analog_point p = record { class = p.0; deadband = p.1 }
-
-abbrev pub analog_points : List ℕ → List ℕ → List Point
-analog_points classes deadbands = map analog_point (zip classes deadbands)
-
-abbrev pub analog_block : SubPlan → Block
-analog_block plan = record { base = 0; points = analog_points plan.analog plan.deadband }
-
--- a substation's own points, whose indices begin with 0
-abbrev pub points_at : SubPlan → points.Plan
-points_at plan = points.plan_of (block_of 0 plan.binary ∷ []) (block_of 0 plan.counter ∷ []) (analog_block plan ∷ [])
-
 -- the substation of this number is closed, and holds and performed nothing
 abbrev pub fresh_substation : Times → ℕ → SubPlan → SubstationState
 fresh_substation times number plan = record {
   core = new_core (new_database (points_at plan)) times;
   lanes = empty_stock plan.lanes;
   outputs = record { outputs = plan.outputs; setpoints = plan.setpoints; performed = [] };
-  channel = fresh_channel (FIRST_SUBSTATION + number) CONCENTRATOR_BELOW;
+  channel = fresh_channel (outstation_address number) MASTER_BELOW;
 }
 
 -- those of these numbers on
@@ -77,6 +59,7 @@ fresh_system plan queue journal controls orders = record {
     core = new_core (new_database (points_above plan)) plan.times;
     queue = queue;
     indices = map_of plan;
+    points = points_above plan;
     controls = controls;
     links = new_links plan;
   };

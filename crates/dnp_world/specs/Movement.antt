@@ -26,7 +26,7 @@ pub data Leave (portion : Portion) (old new : Stock) : Type 0 where
 
 -- how rows of a substation stand in the concentrator's queue
 abbrev pub rows_queued : ConcentratorState → ℕ → List Row → List LaneRow
-rows_queued c station rows = queued_rows c.indices c.core.points station rows
+rows_queued c station rows = queued_rows c.indices c.points station rows
 
 -- The rows left the substation's lanes, confirmed, and came into the queue behind all others, in their order; what full lanes of the
 -- queue dropped for them is listed. The substation's outputs, the other substations, the concentrator's book and the centre are as

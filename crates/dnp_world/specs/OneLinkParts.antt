@@ -11,7 +11,7 @@ use Rattle.dnp_pointdb.specs.Database.{new_database}
 use Rattle.dnp_pointdb.specs.Plan.{Plan}
 use Rattle.dnp_pointdb.specs.declared.times.Times.{Times}
 use Rattle.dnp_world.specs.declared.one_link.OneLink.{OneLink}
-use Rattle.dnp_world.specs.declared.one_link.TheConstants.{MASTER_ADDRESS, OUTSTATION_ADDRESS}
+use Rattle.dnp_concentrator.specs.declared.addresses.TheConstants.{CENTRE, FIRST_OUTSTATION}
 use Rattle.dnp_world.specs.OneLinkEvents.{LinkState}
 
 -- what it is, by what its lanes say of themselves
@@ -50,8 +50,8 @@ new_link plan times lanes sink = record {
   sink = sink;
   down = quiet_line;
   up = quiet_line;
-  outstation_port = new_port OUTSTATION_ADDRESS MASTER_ADDRESS false;
-  master_port = new_port MASTER_ADDRESS OUTSTATION_ADDRESS true;
+  outstation_port = new_port FIRST_OUTSTATION CENTRE false;
+  master_port = new_port CENTRE FIRST_OUTSTATION true;
   now = 0;
   taken = [];
   released = [];

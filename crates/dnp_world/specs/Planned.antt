@@ -1,10 +1,10 @@
 -- Definition: what happened at the substations of a system is of its plan: each row is of a point that the plan has there, with a
 -- class that has events, and can be written as an event (IEEE Std 1815-2012, application layer: event classes; object library: groups
 -- 2, 22 and 32).
-use Rattle.std.specs.Prelude.{◌≡◌, ℕ, true, All, map, IfSome, slice_get}
-use Rattle.std.specs.Option.{IsSomeAnd}
+use Rattle.std.specs.Prelude.{◌≡◌, ℕ, true, All, map, Option, IfSome, slice_get}
+use Rattle.std.specs.Option.{IsSomeAnd, option_map}
 use Rattle.dnp_concentrator.specs.Plan.{KeepsLimits, map_of}
-use Rattle.dnp_concentrator.specs.PointsAbove.{class_of, points_above, points_below}
+use Rattle.dnp_concentrator.specs.PointsAbove.{points_above, points_below}
 use Rattle.dnp_concentrator.specs.declared.plan.Plan.{Plan}
 use Rattle.dnp_concentrator.specs.declared.plan.SubPlan.{SubPlan}
 use Rattle.dnp_master.specs.Rows.{is_reported}
@@ -12,11 +12,15 @@ use Rattle.dnp_objects.specs.Events.{IsEvent}
 use Rattle.dnp_objects.specs.declared.row.Kind.{Kind}
 use Rattle.dnp_objects.specs.declared.row.Row.{Row}
 use Rattle.dnp_pointdb.specs.Classes.{class_at}
-use Rattle.dnp_pointdb.specs.Database.{Database}
+use Rattle.dnp_pointdb.specs.Database.{Database, state_at}
 use Rattle.dnp_world.specs.Kept.{report_of}
 use Rattle.dnp_world.specs.Reports.{happened}
 use Rattle.dnp_world.specs.SystemStanding.{points_asked}
 use Rattle.dnp_world.specs.Systems.{System}
+
+-- the class of a point, if it is there
+abbrev pub class_of : Database → Kind → ℕ → Option ℕ
+class_of points kind index = option_map (λ state. state.point.class) (state_at points kind index)
 
 -- the points are those of the substation's plan, with its classes
 abbrev pub HasClassesBelow : SubPlan → Database → Type 0

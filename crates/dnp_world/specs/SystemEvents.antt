@@ -210,13 +210,13 @@ pub record ComesDownAbove (left : LineState → LineState) (old new : System) : 
 abbrev pub concentrator_taken : ConcentratorState → ℕ → Taking → ConcentratorState
 concentrator_taken c station t = record c {
   core = with_points c.core (readings_set c.indices station (readings_set c.indices station c.core.points t.events) t.statics);
-  queue = with_rows c.queue (queued_rows c.indices c.core.points station t.events);
+  queue = with_rows c.queue (queued_rows c.indices c.points station t.events);
   links = slice_set c.links station (relaying.received (link_at c station) t);
 }
 
 -- the rows that full lanes of the queue drop for the events
 abbrev pub dropped_for : ConcentratorState → ℕ → Taking → List Row
-dropped_for c station t = dropped_by c.queue (queued_rows c.indices c.core.points station t.events)
+dropped_for c station t = dropped_by c.queue (queued_rows c.indices c.points station t.events)
 
 abbrev pub taken_below : System → ℕ → Taking → System
 taken_below s station t = record s {
@@ -237,7 +237,7 @@ taken_on s Above t = taken_above s t
 
 -- the queue has numbers left for a substation's events
 abbrev pub HasNumbers : ConcentratorState → ℕ → Taking → Type 0
-HasNumbers c station t = t.events ≢ [] → exhausts c.queue (queued_rows c.indices c.core.points station t.events) ≡ false
+HasNumbers c station t = t.events ≢ [] → exhausts c.queue (queued_rows c.indices c.points station t.events) ≡ false
 
 abbrev pub HasNumbersOn : System → Link → Taking → Type 0
 HasNumbersOn s (Below station) t = HasNumbers s.concentrator station t

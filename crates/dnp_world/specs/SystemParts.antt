@@ -28,6 +28,7 @@ concentrator_of stock ledger c = record {
   core = concentrator.core_of c;
   queue = stock (concentrator.queue_of c);
   indices = concentrator.indices_of c;
+  points = concentrator.plan_above c;
   controls = ledger (concentrator.book_of c);
   links = concentrator.links_of c;
 }

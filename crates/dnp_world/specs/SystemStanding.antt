@@ -5,7 +5,7 @@ use Rattle.dnp_objects.specs.declared.row.Row.{Row}
 use Rattle.dnp_concentrator.specs.declared.plan.Plan.{Plan}
 use Rattle.dnp_concentrator.specs.IndexMap.{IsMap}
 use Rattle.dnp_concentrator.specs.Plan.{KeepsLimits, map_of}
-use Rattle.dnp_concentrator.specs.PointsAbove.{HasClassesOf, points_below}
+use Rattle.dnp_concentrator.specs.PointsAbove.{points_above, points_below}
 use Rattle.dnp_concentrator.specs.Relaying.{Relaying}
 use Rattle.dnp_master.specs.State as master
 use Rattle.dnp_outstation.specs.State.{State}
@@ -68,7 +68,7 @@ pub record IsJoinedBelow (now : ℕ) (relaying : Relaying) (l : Link) (substatio
 abbrev pub points_asked : Relaying → points.Plan
 points_asked r = r.master.plan
 
--- The system is of this plan, which keeps its limits: all stations have its index map, the points above have its classes, and each
+-- The system is of this plan, which keeps its limits: all stations have its index map, the concentrator has its points above, and each
 -- substation's master has the substation's points.
 pub record IsOfPlan (plan : Plan) (s : System) : Type 0 where
   pub limits : KeepsLimits plan
@@ -76,7 +76,7 @@ pub record IsOfPlan (plan : Plan) (s : System) : Type 0 where
   pub indices : s.indices ≡ map_of plan
   pub middle_indices : s.concentrator.indices ≡ s.indices
   pub centre_indices : s.centre.indices ≡ s.indices
-  pub classes : HasClassesOf plan s.concentrator.core.points
+  pub middle_points : s.concentrator.points ≡ points_above plan
   pub masters : map points_asked s.concentrator.links ≡ map points_below plan.substations
 
 pub record IsStanding (s : System) : Type 0 where

@@ -15,6 +15,7 @@ use Rattle.dnp_concentrator.specs.Below.{link_in}
 use Rattle.dnp_concentrator.specs.Relaying.{Relaying}
 use Rattle.dnp_concentrator.specs.declared.span.Spans.{Spans}
 use Rattle.dnp_line.specs.Lines.{front_of}
+use Rattle.dnp_pointdb.specs.Plan as points
 use Rattle.dnp_world.specs.Channels.{ChannelState, line_of}
 use Rattle.dnp_world.specs.declared.event.Link.{Link}
 use Rattle.dnp_world.specs.declared.event.Link.TheVariants.{Below, Above}
@@ -46,6 +47,8 @@ pub record ConcentratorState : Type 0 where
   pub core : Core
   pub queue : Stock
   pub indices : List Spans
+  -- the plan of the points above
+  pub points : points.Plan
   pub controls : Ledger
   pub links : List Relaying
 

@@ -14,7 +14,7 @@ use crate::laws::link_law;
 use crate::outstation_laws::an_append_is_moves;
 use crate::system_laws::lists_are_of_links;
 use dnp_concentrator::laws::{
-    classes_above_stay, indices_above_are_in_range, no_event_is_passed_over, rows_above_are_undone,
+    indices_above_are_in_range, no_event_is_passed_over, rows_above_are_undone,
 };
 use dnp_eventbuf::laws::an_append_conserves_rows;
 use dnp_objects::Row;
@@ -41,5 +41,4 @@ pub fn what_comes_from_a_substation_keeps_what_stands()
     rows_above_are_undone();
     indices_above_are_in_range();
     points_stay_sound();
-    classes_above_stay();
 }

@@ -9,7 +9,7 @@ ghost use Rattle.dnp_outstation.specs.Station.{actions_of};
 ghost use Rattle.dnp_concentrator.specs.BookOutputs.{panel_of, Performs};
 ghost use Rattle.dnp_concentrator.specs.Centre as centre;
 ghost use Rattle.dnp_concentrator.specs.Concentrator as concentrator;
-ghost use Rattle.dnp_concentrator.specs.Concentrator.{above_of, book_of, indices_of, links_of, queue_of, IsBookWell};
+ghost use Rattle.dnp_concentrator.specs.Concentrator.{above_of, book_of, indices_of, links_of, plan_above, queue_of, IsBookWell};
 ghost use Rattle.dnp_master.specs.Calls.{receive_of};
 ghost use Rattle.dnp_world.specs.Channels.{HavePerformed, TakesStep};
 ghost use Rattle.dnp_world.specs.MasterEnds.{TakesIn};
@@ -121,13 +121,13 @@ impl<Q: Lanes, B: Book> OutstationEnd for Concentrator<Q, B> {
 
     ghost honest = { λ c. Q.honest (queue_of c) × IsBookWell B.honest B.is_stopped c };
 
-    ghost follows = { λ old commands new. HavePerformed (Performs B.contents) commands (concentrator.outputs_of old) (concentrator.outputs_of new) × (links_of new ≡ links_of old) };
+    ghost follows = { λ old commands new. HavePerformed (Performs B.contents) commands (concentrator.outputs_of old) (concentrator.outputs_of new) × (links_of new ≡ links_of old) × (plan_above new ≡ plan_above old) };
 
-    ghost keeps = { λ old new. (indices_of new ≡ indices_of old) × (B.contents (book_of new) ≡ B.contents (book_of old)) × (links_of new ≡ links_of old) };
+    ghost keeps = { λ old new. (indices_of new ≡ indices_of old) × (B.contents (book_of new) ≡ B.contents (book_of old)) × (links_of new ≡ links_of old) × (plan_above new ≡ plan_above old) };
 
-    ghost follows_itself = { λ c. (record { idle = λ _. refl; performed = λ some. absurd (some refl) }, refl) };
+    ghost follows_itself = { λ c. (record { idle = λ _. refl; performed = λ some. absurd (some refl) }, refl, refl) };
 
-    ghost keeps_itself = { λ c. (refl, refl, refl) };
+    ghost keeps_itself = { λ c. (refl, refl, refl, refl) };
 
     fn opened(&mut self, actions: &mut Actions, alloc: Global, now: u64) -> Result<(), Cause> {
         self.opened_above(actions, alloc, now)?;

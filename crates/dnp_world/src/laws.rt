@@ -16,11 +16,8 @@ ghost use Rattle.dnp_world.specs.Round.{Round};
 ghost use Rattle.dnp_world.specs.Standing.{Stands, IsFresh};
 ghost use Rattle.dnp_transport.specs.Cuts.{cut_count};
 ghost use Rattle.dnp_transport.specs.declared.limits.TheConstants.{MAX_FRAGMENT};
-ghost use Rattle.dnp_world.specs.declared.one_link.TheConstants as one_link;
 ghost use Rattle.dnp_world.specs.declared.parts.report.TheConstants as report;
 ghost use Rattle.dnp_world.specs.declared.sending.TheConstants as sending;
-ghost use Rattle.dnp_world.specs.declared.substation.TheConstants as substation;
-ghost use Rattle.dnp_world.specs.declared.world.TheConstants as world;
 
 use dnp_eventbuf::link_laws::{a_release_is_by_ids, an_append_is_of_one_row, each_row_stands_once};
 use dnp_objects::Row;
@@ -69,17 +66,6 @@ pub fn lanes_are_moved()
 /// operate is asked for and performed, with the very octets that go over the line.
 pub fn a_link_can_move()
     ensures { Round }
-{}
-
-/// The stations of a system have these link addresses: the centre and the concentrator above, the concentrator's master
-/// and the outstation of substation 0 below, which those of the others follow. Those of one link are the like.
-pub fn stations_have_their_addresses()
-    ensures centre { world.CENTRE ≡ 1 }
-    ensures concentrator_above { world.CONCENTRATOR_ABOVE ≡ 9 }
-    ensures concentrator_below { substation.CONCENTRATOR_BELOW ≡ 2 }
-    ensures first_substation { substation.FIRST_SUBSTATION ≡ 10 }
-    ensures master { one_link.MASTER_ADDRESS ≡ 1 }
-    ensures outstation { one_link.OUTSTATION_ADDRESS ≡ 10 }
 {}
 
 /// A fragment of the most octets goes in so many units, and a report numbers so many substations.

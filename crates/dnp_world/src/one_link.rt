@@ -17,6 +17,7 @@ use crate::joined_laws::{a_new_link_is_joined, the_law_of_one_link};
 use crate::link_event::{End, LinkEvent, Way};
 use crate::stopped::Stopped;
 use dnp_concentrator::Cause;
+use dnp_concentrator::addresses::{CENTRE, FIRST_OUTSTATION};
 use dnp_controls::NoOutputs;
 use dnp_eventbuf::{Lanes, Sink};
 use dnp_master::Master;
@@ -28,13 +29,8 @@ use std::alloc::{AllocError, Global};
 mod arrivals;
 mod calls;
 
-/// The link address of the master.
-pub(crate) const MASTER_ADDRESS: u16 = 1;
-
-/// The link address of the outstation.
-pub(crate) const OUTSTATION_ADDRESS: u16 = 10;
-
-/// An outstation without outputs and its master, with a line each way between their ports.
+/// An outstation without outputs and its master, with a line each way between their ports: at the link addresses that a
+/// system's first outstation and its centre have.
 ///
 /// What its events do holds where lanes and sink are honest as a call ends.
 pub struct OneLink<L, S> {
@@ -92,7 +88,7 @@ impl<L: Lanes + Drop, S: Sink + Drop> OneLink<L, S> {
             outstation: Outstation::new(points, lanes, NoOutputs, times),
             master: Master::new(plan, times),
             sink,
-            channel: Channel::new(alloc, OUTSTATION_ADDRESS, MASTER_ADDRESS),
+            channel: Channel::new(alloc, FIRST_OUTSTATION, CENTRE),
             actions: Actions::none(alloc),
             moment: 0,
             taken: Vec::new(alloc),

@@ -20,16 +20,13 @@ use crate::laws::lanes_are_moved;
 use crate::outstation_laws::a_new_outstation_is_shown;
 use crate::system_laws::lists_are_of_links;
 use dnp_concentrator::Plan as SystemPlan;
-use dnp_concentrator::laws::{
-    commands_are_undone, no_event_is_passed_over, what_no_cause_refuses_is_a_map,
-};
+use dnp_concentrator::laws::{commands_are_undone, what_no_cause_refuses_is_a_map};
 use dnp_eventbuf::laws::{a_release_conserves_rows, lanes_stay_sound};
 use dnp_line::laws::line_law;
 use dnp_objects::LANES;
 use dnp_outstation::link_laws::{
     a_confirm_releases_what_its_fragment_reported, a_repeated_request_executes_nothing,
-    commands_are_performed_as_they_are_asked, content_leaves_the_connection_alone,
-    each_case_says_what_came,
+    commands_are_performed_as_they_are_asked, each_case_says_what_came,
 };
 use dnp_pointdb::laws::points_stay_sound;
 
@@ -44,7 +41,6 @@ pub fn what_comes_to_the_concentrator_keeps_what_stands()
 {
     lists_are_of_links();
     events_without_a_sink_are_moves();
-    content_leaves_the_connection_alone();
     each_case_says_what_came();
     a_confirm_releases_what_its_fragment_reported();
     a_release_conserves_rows();
@@ -62,7 +58,6 @@ pub fn a_new_system_stands()
 {
     lists_are_of_links();
     what_no_cause_refuses_is_a_map();
-    no_event_is_passed_over();
     points_stay_sound();
     lanes_stay_sound();
     lanes_are_moved();

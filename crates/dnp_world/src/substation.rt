@@ -31,12 +31,6 @@ use dnp_outstation::{Actions, Fault, Outstation};
 use dnp_pointdb::Reading;
 use std::alloc::Global;
 
-/// The link address of the concentrator's masters.
-pub(crate) const CONCENTRATOR_BELOW: u16 = 2;
-
-/// The link address of substation 0; the others' follow it.
-pub(crate) const FIRST_SUBSTATION: u16 = 10;
-
 /// A substation, with the lines between it and the concentrator.
 #[derive(Drop)]
 pub(crate) struct Substation {

@@ -15,7 +15,7 @@ ghost use Rattle.dnp_eventbuf.specs.Stock.{arriving, lost_in};
 ghost use Rattle.dnp_objects.specs.Counts.{IsCoveredBy};
 ghost use Rattle.dnp_objects.specs.declared.row.Row.{Row as RowValue};
 ghost use Rattle.dnp_master.specs.declared.task.Task.{Task};
-ghost use Rattle.dnp_pointdb.specs.Database.{Database};
+ghost use Rattle.dnp_pointdb.specs.Plan as points;
 ghost use Rattle.dnp_objects.specs.declared.command.Command.{Command as CommandValue};
 ghost use Rattle.dnp_objects.specs.declared.row.Kind.{Kind};
 ghost use Rattle.dnp_pointdb.specs.declared.reading.Reading.{Reading};
@@ -40,7 +40,7 @@ ghost use Rattle.dnp_world.specs.Systems.{System, at_station, has_station};
 
 use crate::joined_laws::events_without_a_sink_are_moves;
 use crate::laws::link_law;
-use dnp_concentrator::laws::{classes_above_stay, commands_are_undone, rows_above_are_undone};
+use dnp_concentrator::laws::{commands_are_undone, rows_above_are_undone};
 use dnp_objects::laws::{covered_is_by_counts, equality_is_decided};
 use dnp_objects::{Command, Row};
 use dnp_outstation::link_laws::{
@@ -136,7 +136,6 @@ pub fn calls_below_keep_what_stands()
     a_confirm_releases_what_its_fragment_reported();
     commands_are_performed_as_they_are_asked();
     points_stay_sound();
-    classes_above_stay();
 }
 
 /// Events on the link between concentrator and centre at which no row is taken and no fragment comes to the concentrator: a line
@@ -181,7 +180,6 @@ pub fn a_restart_of_the_concentrator_keeps_what_stands()
 {
     lists_are_of_links();
     events_without_a_sink_are_moves();
-    classes_above_stay();
 }
 
 /// Events at which no link moves keep what stands behind the system: a command is issued at the centre, and time passes.
@@ -197,9 +195,9 @@ pub fn other_events_keep_what_stands()
 /// What calls make of the queue and of the books, as the lists of a system see them: rows that are queued stand below as they
 /// came, commands that are performed come into the book as they go down, unused, and one that was pending is used once it is spent.
 pub fn stores_show_what_moves()
-    ensures queued { (indices : List Spans) (points : Database) (station : ℕ) (rows : List RowValue) → IsMap indices
-        → length (queued_rows indices points station rows) ≡ length rows
-        → rows_below indices (arriving (queued_rows indices points station rows)) ≡ at_station station rows }
+    ensures queued { (indices : List Spans) (plan : points.Plan) (station : ℕ) (rows : List RowValue) → IsMap indices
+        → length (queued_rows indices plan station rows) ≡ length rows
+        → rows_below indices (arriving (queued_rows indices plan station rows)) ≡ at_station station rows }
     ensures added { (indices : List Spans) (book : Ledger) (commands : List CommandValue)
         → (orders_in (all_added indices book commands).entries ≡ orders_in book.entries ++ commands_below indices commands)
         × (used_orders (all_added indices book commands).entries ≡ used_orders book.entries) }

@@ -31,6 +31,7 @@ use crate::round_fault::{ControlFault, RoundFault};
 use crate::standing_laws::plans_have_all_lanes;
 use crate::stopped::Stopped;
 use crate::system_laws::what_a_report_shows_is_kept;
+use dnp_concentrator::addresses::{CENTRE, CONCENTRATOR_ABOVE};
 use dnp_concentrator::{Cause, Centre, Concentrator, IndexMap, MapFault, Plan};
 use dnp_controls::Book;
 use dnp_eventbuf::{JournalStore, Lanes};
@@ -39,12 +40,6 @@ use std::alloc::Global;
 use std::marker::Model;
 
 mod carried;
-
-/// The link address of the centre.
-pub(crate) const CENTRE: u16 = 1;
-
-/// The link address of the concentrator's outstation.
-pub(crate) const CONCENTRATOR_ABOVE: u16 = 9;
 
 /// A whole system: substations, a concentrator and a centre, with lossy lines between them, and what became of every row
 /// and command.

@@ -8,6 +8,7 @@ use Rattle.dnp_master.specs.Calls.{Taking, actions_of}
 use Rattle.dnp_master.specs.declared.actions.MasterActions.{MasterActions}
 use Rattle.dnp_eventbuf.specs.Stock.{Stock}
 use Rattle.dnp_outstation.specs.State.{Core}
+use Rattle.dnp_pointdb.specs.Plan as points
 use Rattle.dnp_concentrator.specs.Below.{link_in}
 use Rattle.dnp_concentrator.specs.Relayed.{Tells}
 use Rattle.dnp_concentrator.specs.Relaying.{Relaying, relaying_after, step_of}
@@ -31,24 +32,27 @@ answered answer actions t dropped is by =
     is ∙ ap (λ (a : MasterActions). record { send = option_to_list a.send; close = false; taken = a.taken; outcome = a.outcome }) by
 
 -- a link of a concentrator is seen as its parts are
-pub seen : (link : ℕ) (links links' : List Relaying) (core core' : Core) (indices indices' : List Spans) (queue queue' : Stock)
-    → links ≡ links' → core ≡ core' → indices ≡ indices' → queue ≡ queue'
-    → ◌≡◌ {A = BelowSeen} record { link = link; links = links; core = core; indices = indices; queue = queue }
-    record { link = link; links = links'; core = core'; indices = indices'; queue = queue' }
-seen link links links' core core' indices indices' queue queue' links_are core_is indices_are queue_is =
-    ap (λ (ls : List Relaying). record { link = link; links = ls; core = core; indices = indices; queue = queue }) links_are
-    ∙ ap (λ (k : Core). record { link = link; links = links'; core = k; indices = indices; queue = queue }) core_is
-    ∙ ap (λ (spans : List Spans). record { link = link; links = links'; core = core'; indices = spans; queue = queue }) indices_are
-    ∙ ap (λ (q : Stock). record { link = link; links = links'; core = core'; indices = indices'; queue = q }) queue_is
+pub seen : (link : ℕ) (links links' : List Relaying) (core core' : Core) (indices indices' : List Spans) (plan plan' : points.Plan)
+    (queue queue' : Stock)
+    → links ≡ links' → core ≡ core' → indices ≡ indices' → plan ≡ plan' → queue ≡ queue'
+    → ◌≡◌ {A = BelowSeen} record { link = link; links = links; core = core; indices = indices; points = plan; queue = queue }
+    record { link = link; links = links'; core = core'; indices = indices'; points = plan'; queue = queue' }
+seen link links links' core core' indices indices' plan plan' queue queue' links_are core_is indices_are plan_is queue_is =
+    ap (λ (ls : List Relaying). record { link = link; links = ls; core = core; indices = indices; points = plan; queue = queue }) links_are
+    ∙ ap (λ (k : Core). record { link = link; links = links'; core = k; indices = indices; points = plan; queue = queue }) core_is
+    ∙ ap (λ (spans : List Spans). record { link = link; links = links'; core = core'; indices = spans; points = plan; queue = queue }) indices_are
+    ∙ ap (λ (p : points.Plan). record { link = link; links = links'; core = core'; indices = indices'; points = p; queue = queue }) plan_is
+    ∙ ap (λ (q : Stock). record { link = link; links = links'; core = core'; indices = indices'; points = plan'; queue = q }) queue_is
 
 -- a step of relaying below is seen as its parts are
 pub relayed_below : (result : Result Relayed BookFault) (entries : List Entry) (now link : ℕ) (links links' : List Relaying) (core core' : Core)
-    (indices indices' : List Spans) (queue queue' : Stock)
+    (indices indices' : List Spans) (plan plan' : points.Plan) (queue queue' : Stock)
     → link < length links → IfOk result (λ relayed. Tells (link_in links link).master.seq (step_of (link_in links link) entries link) relayed)
     → OnOk result (links' ≡ slice_set links link (relaying_after (link_in links link) now (step_of (link_in links link) entries link)))
-    → core' ≡ core → indices' ≡ indices → queue' ≡ queue
-    → IfOk result (λ relayed. RelaysBelow (record { link = link; links = links; core = core; indices = indices; queue = queue }) now relayed
-    (record { link = link; links = links'; core = core'; indices = indices'; queue = queue' }))
-relayed_below (Ok relayed) entries now link links links' core core' indices indices' queue queue' there told set core_is indices_are queue_is =
-    Stepped there entries told (seen link links' _ core' core indices' indices queue' queue set core_is indices_are queue_is)
-relayed_below (Err fault) entries now link links links' core core' indices indices' queue queue' there told set core_is indices_are queue_is = told
+    → core' ≡ core → indices' ≡ indices → plan' ≡ plan → queue' ≡ queue
+    → IfOk result (λ relayed. RelaysBelow (record { link = link; links = links; core = core; indices = indices; points = plan; queue = queue }) now relayed
+    (record { link = link; links = links'; core = core'; indices = indices'; points = plan'; queue = queue' }))
+relayed_below (Ok relayed) entries now link links links' core core' indices indices' plan plan' queue queue' there told set core_is indices_are plans queues =
+    Stepped there entries told (seen link links' _ core' core indices' indices plan' plan queue' queue set core_is indices_are plans queues)
+relayed_below (Err fault) entries now link links links' core core' indices indices' plan plan' queue queue' there told set core_is indices_are plans queues =
+    told

@@ -5,9 +5,10 @@ use Rattle.dnp_eventbuf.specs.Stock.{Stock, with_rows}
 use Rattle.dnp_master.specs.Calls.{Taking, receive_of}
 use Rattle.dnp_outstation.specs.State.{Core}
 use Rattle.dnp_outstation.specs.Station.{with_points}
+use Rattle.dnp_pointdb.specs.Plan as points
 use Rattle.dnp_concentrator.specs.Below.{link_in, readings_set}
 use Rattle.dnp_concentrator.specs.BookOutputs.{panel_of}
-use Rattle.dnp_concentrator.specs.Concentrator.{above_of, core_of, indices_of, links_of, outputs_of, queue_of, without_link}
+use Rattle.dnp_concentrator.specs.Concentrator.{above_of, core_of, indices_of, links_of, outputs_of, plan_above, queue_of, without_link}
 use Rattle.dnp_concentrator.specs.Mapped.{queued_rows}
 use Rattle.dnp_concentrator.specs.Relaying.{Relaying, hung_up, opened, received}
 use Rattle.dnp_concentrator.specs.declared.concentrator.Concentrator.{Concentrator}
@@ -18,17 +19,24 @@ use Rattle.dnp_streams.specs.streams.Stations.{Answer}
 
 -- ---- the link to one substation
 
--- the substation's number; the links, the outstation above, the index map, and what the queue holds
+-- the substation's number; the links, the outstation above, the index map, the plan of the points above, and what the queue holds
 pub record BelowSeen : Type 0 where
   pub link : ℕ
   pub links : List Relaying
   pub core : Core
   pub indices : List Spans
+  pub points : points.Plan
   pub queue : Stock
 
 abbrev pub below_seen : {Q B : Type 0} → (Q → Stock) → Concentrator Q B → ℕ → BelowSeen
-below_seen contents c link =
-    record { link = link; links = links_of c; core = core_of c; indices = indices_of c; queue = contents (queue_of c) }
+below_seen contents c link = record {
+  link = link;
+  links = links_of c;
+  core = core_of c;
+  indices = indices_of c;
+  points = plan_above c;
+  queue = contents (queue_of c);
+}
 
 -- the substation's link becomes this one
 abbrev pub with_link : BelowSeen → (Relaying → Relaying) → List Relaying
@@ -52,7 +60,7 @@ pub data BelowReceives (old : BelowSeen) (now : ℕ) (octets : List ℕ) (answer
         links = with_link old (λ link. received link taking);
         core = with_points old.core (readings_set old.indices old.link
             (readings_set old.indices old.link old.core.points taking.events) taking.statics);
-        queue = with_rows old.queue (queued_rows old.indices old.core.points old.link taking.events);
+        queue = with_rows old.queue (queued_rows old.indices old.points old.link taking.events);
       }
       → BelowReceives old now octets answer new
   Missing : length old.links ≤ old.link → answer ≡ nothing_answered → new ≡ old → BelowReceives old now octets answer new

@@ -4,13 +4,13 @@ use Rattle.dnp_world.proofs.BelowKeeps.{Grounds}
 use Rattle.dnp_world.proofs.BelowTakes.{ArrivalLaws}
 use Rattle.dnp_world.proofs.arrival_laws.what_comes_from_a_substation_keeps_what_stands.Goals as goal
 
-grounds_of : goal.After-classes_above_stay → Grounds
+grounds_of : goal.After-points_stay_sound → Grounds
 grounds_of c = record {
   turns = record { kept = c.lists_are_of_links.ensures.kept; fate = c.lists_are_of_links.ensures.fate };
   happens = c.events_without_a_sink_are_moves.ensures.event;
 }
 
-laws_of : goal.After-classes_above_stay → ArrivalLaws
+laws_of : goal.After-points_stay_sound → ArrivalLaws
 laws_of c = record {
   goes_on = c.link_law.ensures.goes_on;
   stood = c.what_happened_is_what_stood.ensures;
@@ -21,7 +21,6 @@ laws_of c = record {
   undone = c.rows_above_are_undone.ensures;
   low = c.indices_above_are_in_range.ensures;
   set_sound = c.points_stay_sound.ensures.set;
-  set_classes = c.classes_above_stay.ensures.set;
 }
 
 pub returns-clause-delivered : goal.returns-clause-delivered

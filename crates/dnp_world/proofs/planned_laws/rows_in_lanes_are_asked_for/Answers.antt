@@ -29,7 +29,6 @@ maps_of : goal.After-no_event_is_passed_over → MapLaws
 maps_of c = record {
   above = c.each_direction_undoes_the_other.ensures.down_and_up;
   queued = c.no_event_is_passed_over.ensures.one;
-  at_first = c.no_event_is_passed_over.ensures.at_first;
 }
 
 pub returns-clause-below : goal.returns-clause-below

@@ -6,7 +6,6 @@ laws_of : goal.After-line_law → NewLaws
 laws_of c = record {
   at_first = c.lists_are_of_links.ensures.at_first;
   is_map = c.what_no_cause_refuses_is_a_map.ensures;
-  classes = c.no_event_is_passed_over.ensures.at_first;
   sound_points = c.points_stay_sound.ensures.new;
   sound_lanes = c.lanes_stay_sound.ensures.made;
   fresh = c.lanes_are_moved.ensures.fresh;

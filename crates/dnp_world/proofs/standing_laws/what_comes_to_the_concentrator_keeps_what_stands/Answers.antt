@@ -12,8 +12,6 @@ grounds_of c = record {
 
 laws_of : goal.After-commands_are_undone → ComingLaws
 laws_of c = record {
-  keeps = c.content_leaves_the_connection_alone.ensures.keeps;
-  keeps_held = c.content_leaves_the_connection_alone.ensures.keeps_held;
   says = c.each_case_says_what_came.ensures;
   solicited = c.a_confirm_releases_what_its_fragment_reported.ensures.solicited;
   unsolicited = c.a_confirm_releases_what_its_fragment_reported.ensures.unsolicited;

@@ -3,18 +3,17 @@ use Rattle.dnp_world.proofs.BelowCalls.{CallLaws, asks, damages, hangs_up_below,
 use Rattle.dnp_world.proofs.BelowKeeps.{Grounds}
 use Rattle.dnp_world.proofs.system_laws.calls_below_keep_what_stands.Goals as goal
 
-grounds_of : goal.After-classes_above_stay → Grounds
+grounds_of : goal.After-points_stay_sound → Grounds
 grounds_of c = record {
   turns = record { kept = c.lists_are_of_links.ensures.kept; fate = c.lists_are_of_links.ensures.fate };
   happens = c.events_without_a_sink_are_moves.ensures.event;
 }
 
-calls_of : goal.After-classes_above_stay → CallLaws
+calls_of : goal.After-points_stay_sound → CallLaws
 calls_of c = record {
   open_none = c.a_confirm_releases_what_its_fragment_reported.ensures.opened;
   open_performs = c.commands_are_performed_as_they_are_asked.ensures.opened;
   lost_sound = c.points_stay_sound.ensures.lost;
-  lost_classes = c.classes_above_stay.ensures.lost;
 }
 
 pub returns-clause-damaged : goal.returns-clause-damaged

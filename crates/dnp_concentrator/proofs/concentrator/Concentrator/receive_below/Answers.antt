@@ -6,7 +6,7 @@ use Rattle.dnp_eventbuf.specs.Stock.{exhausts}
 use Rattle.dnp_master.specs.Calls.{receive_of}
 use Rattle.dnp_master.specs.Taking.{taking_of}
 use Rattle.dnp_concentrator.specs.Below.{no_link}
-use Rattle.dnp_concentrator.specs.Concentrator.{indices_of, link_at, links_of, points_of, queue_of}
+use Rattle.dnp_concentrator.specs.Concentrator.{indices_of, link_at, links_of, plan_above, queue_of}
 use Rattle.dnp_concentrator.specs.Mapped.{queued_rows}
 use Rattle.dnp_concentrator.specs.Relaying.{Relaying}
 use Rattle.dnp_concentrator.proofs.concentrator.Concentrator.receive_below.Goals as goal
@@ -22,7 +22,7 @@ returns-clause-not_exhausted g c = λ honest.
     c.index_mut.ensures.value ∙ get_or_default (links_of old) c.from.result c.index_mut.result.now no_link inside
     ∙ ap (λ (n : ℕ). get_or (links_of old) n no_link) c.from.ensures in
     let fits : List Row → Type 0 = λ rows. rows ≢ []
-    → exhausts (g.Q.Lanes.contents (queue_of old)) (queued_rows (indices_of old) (points_of old) c.args.link rows) ≡ false in
+    → exhausts (g.Q.Lanes.contents (queue_of old)) (queued_rows (indices_of old) (plan_above old) c.args.link rows) ≡ false in
     if_ok (λ t. fits t.events) (receive_of (link_at old c.args.link).master c.args.now c.args.octets.now)
     (taking_of (link_at old c.args.link).master c.in_ok-taken.taken)
     (subst (λ (r : Relaying). receive_of r.master c.args.now c.args.octets.now ≡ Ok (taking_of r.master c.in_ok-taken.taken)) is

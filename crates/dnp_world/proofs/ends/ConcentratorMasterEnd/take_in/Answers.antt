@@ -16,9 +16,9 @@ returns g c =
     record {
       held = λ well. (call.queue.held well.0, well_before g.B.Book.honest g.B.Book.is_stopped _ _ call.outputs well.1);
       taken = λ well. taken_below stock ledger old new c.args.link made answer call.actions (call.dropped well.0) call.link (call.queued well.0)
-          call.readings call.outputs (call.not_exhausted well.0);
+          call.readings call.outputs call.plan (call.not_exhausted well.0);
       few = any_ok made _ (few_below (concentrator_of stock ledger old) c.args.link);
-      kept = λ well. kept_below stock ledger old new answer call.links_unchanged call.unchanged (call.queue.unchanged well.0) call.outputs;
+      kept = λ well. kept_below stock ledger old new answer call.links_unchanged call.unchanged (call.queue.unchanged well.0) call.outputs call.plan;
       refused = call.refused;
       named = named_by answer made _ call.named;
     }

@@ -3,7 +3,7 @@ use Rattle.std.proofs.Common.{rules, ap, sym, subst, ◌∙◌, ◌≡◌, []}
 use Rattle.dnp_pointdb.specs.Database.{new_database}
 use Rattle.dnp_pointdb.specs.Plan.{Plan}
 use Rattle.dnp_pointdb.specs.Sound.{IsSound}
-use Rattle.dnp_world.specs.declared.one_link.TheConstants.{MASTER_ADDRESS, OUTSTATION_ADDRESS}
+use Rattle.dnp_concentrator.specs.declared.addresses.TheConstants.{CENTRE, FIRST_OUTSTATION}
 use Rattle.dnp_world.specs.Joined.{IsJoined}
 use Rattle.dnp_world.specs.OneLinkEvents.{LinkState}
 use Rattle.dnp_world.proofs.one_link.OneLink.new.Goals as goal
@@ -16,5 +16,5 @@ returns-clause-joined g c = λ sound indexes.
     let plan : Plan = c.args.plan in
     let points_are : c.in_ok-points.points ≡ new_database plan = c.in_ok-points.ensures.value ∙ ap new_database c.in_ok-try_clone.ensures in
     subst (λ (s : LinkState g.row.S.Denot). IsJoined [] s) (sym (returns-clause-link g c))
-    (c.a_new_link_is_joined.ensures plan c.args.times (g.L.Lanes.contents c.args.lanes) [] MASTER_ADDRESS OUTSTATION_ADDRESS c.args.sink
+    (c.a_new_link_is_joined.ensures plan c.args.times (g.L.Lanes.contents c.args.lanes) [] CENTRE FIRST_OUTSTATION c.args.sink
     (subst IsSound points_are c.in_ok-points.ensures.sound) sound indexes)

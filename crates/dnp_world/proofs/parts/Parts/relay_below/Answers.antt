@@ -37,7 +37,7 @@ returns-in-Ok-Selecting-clause-done g c = λ well.
     let both = selecting step link.master.seq _ request told in
     relays_below stock ledger old c.args.self.now.concentrator c.relay.new.self c.args.station c.from.result
     c.args.self.now.substations.items was c.send_down.new.self c.from.ensures c.requires c.index_mut.ensures.value (c.in-Ok-Selecting.ensures.link well.controls_is)
-    (c.in-Ok-Selecting.ensures.ledger well.controls_is) c.relay.ensures.core c.relay.ensures.queue c.relay.ensures.indices
+    (c.in-Ok-Selecting.ensures.ledger well.controls_is) c.relay.ensures.core c.relay.ensures.queue c.relay.ensures.indices c.relay.ensures.plan
     (of_selecting step link.master.seq _ request _ told)
     (down_of (requests_of step link.master.seq) request.items c.as_slice.result.now (state_of was.channel) (state_of c.reserve_down.new.self)
     (state_of c.send_down.new.self) both.0 both.1 c.as_slice.ensures.value c.reserve_down.ensures.same c.send_down.ensures)
@@ -57,7 +57,7 @@ returns-in-Ok-Sent-clause-done g c = λ well.
     let both = sent step link.master.seq _ request told in
     relays_below stock ledger old c.args.self.now.concentrator c.relay.new.self c.args.station c.from.result
     c.args.self.now.substations.items was c.send_down-in-Ok-Sent.new.self c.from.ensures c.requires c.index_mut.ensures.value (c.in-Ok-Sent.ensures.link well.controls_is)
-    (c.in-Ok-Sent.ensures.ledger well.controls_is) c.relay.ensures.core c.relay.ensures.queue c.relay.ensures.indices
+    (c.in-Ok-Sent.ensures.ledger well.controls_is) c.relay.ensures.core c.relay.ensures.queue c.relay.ensures.indices c.relay.ensures.plan
     (of_sent step link.master.seq _ request (λ id. Has old.concentrator.controls.entries id is_pending) told spends.was_pending)
     (down_of (requests_of step link.master.seq) request.items c.as_slice-in-Ok-Sent.result.now (state_of was.channel) (state_of c.reserve_down.new.self)
     (state_of c.send_down-in-Ok-Sent.new.self) both.0 both.1 c.as_slice-in-Ok-Sent.ensures.value c.reserve_down.ensures.same c.send_down-in-Ok-Sent.ensures)
@@ -74,7 +74,7 @@ returns-in-Ok-Nothing-clause-done g c = λ well.
     let none = waited step link.master.seq told in
     relays_below stock ledger old c.args.self.now.concentrator c.relay.new.self c.args.station c.from.result
     c.args.self.now.substations.items was c.reserve_down.new.self c.from.ensures c.requires c.index_mut.ensures.value (c.in-Ok-Nothing.ensures.link well.controls_is)
-    (c.in-Ok-Nothing.ensures.ledger well.controls_is) c.relay.ensures.core c.relay.ensures.queue c.relay.ensures.indices
+    (c.in-Ok-Nothing.ensures.ledger well.controls_is) c.relay.ensures.core c.relay.ensures.queue c.relay.ensures.indices c.relay.ensures.plan
     (of_waited step link.master.seq _ told)
     (none_down_of (requests_of step link.master.seq) (state_of was.channel) (state_of c.reserve_down.new.self) none c.reserve_down.ensures.same)
 
@@ -90,7 +90,7 @@ returns-in-Ok-Finished-clause-done g c = λ well.
     let none = finished step link.master.seq _ _ told in
     relays_below stock ledger old c.args.self.now.concentrator c.relay.new.self c.args.station c.from.result
     c.args.self.now.substations.items was c.reserve_down.new.self c.from.ensures c.requires c.index_mut.ensures.value (c.in-Ok-Finished.ensures.link well.controls_is)
-    (c.in-Ok-Finished.ensures.ledger well.controls_is) c.relay.ensures.core c.relay.ensures.queue c.relay.ensures.indices
+    (c.in-Ok-Finished.ensures.ledger well.controls_is) c.relay.ensures.core c.relay.ensures.queue c.relay.ensures.indices c.relay.ensures.plan
     (of_finished step link.master.seq _ _ _ told)
     (none_down_of (requests_of step link.master.seq) (state_of was.channel) (state_of c.reserve_down.new.self) none c.reserve_down.ensures.same)
 
@@ -101,7 +101,8 @@ returns-in-Some-clause-stopped g c = λ well.
     let old = system_of stock g.J.JournalStore.archive ledger g.B.Book.contents c.args.self.now in
     unmoved_below stock ledger old c.args.self.now.concentrator c.relay.new.self c.args.station c.from.result c.args.self.now.substations.items
     c.index_mut.result.now c.reserve_down.new.self c.from.ensures c.requires c.index_mut.ensures.value c.in-Err.ensures.unchanged
-    (c.in-Err.ensures.book.unchanged well.controls_is) c.relay.ensures.core c.relay.ensures.queue c.relay.ensures.indices c.reserve_down.ensures.same
+    (c.in-Err.ensures.book.unchanged well.controls_is) c.relay.ensures.core c.relay.ensures.queue c.relay.ensures.indices c.relay.ensures.plan
+    c.reserve_down.ensures.same
 
 pub returns-in-None-clause-done : goal.returns-in-None-clause-done
 returns-in-None-clause-done g c = λ well.
@@ -116,4 +117,5 @@ returns-in-None-clause-done g c = λ well.
     (λ is. refused.past well.controls_is (ap (λ (e : BookFault). Err e) is)))
     (unmoved_below stock ledger old c.args.self.now.concentrator c.relay.new.self c.args.station c.from.result c.args.self.now.substations.items
     c.index_mut.result.now c.reserve_down.new.self c.from.ensures c.requires c.index_mut.ensures.value c.in-Err.ensures.unchanged
-    (c.in-Err.ensures.book.unchanged well.controls_is) c.relay.ensures.core c.relay.ensures.queue c.relay.ensures.indices c.reserve_down.ensures.same)
+    (c.in-Err.ensures.book.unchanged well.controls_is) c.relay.ensures.core c.relay.ensures.queue c.relay.ensures.indices c.relay.ensures.plan
+    c.reserve_down.ensures.same)

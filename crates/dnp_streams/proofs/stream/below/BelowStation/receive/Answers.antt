@@ -18,4 +18,4 @@ returns-in-Ok-clause-answered g c honest =
     let queue = MatchResult-at_ok _ _ found.0 found.1 (told.queued honest.0) in
     let by = MatchResult-at_ok _ _ found.0 found.1 told.actions in
     Taken there found.0 found.1 (answered _ _ found.0 _ c.answer_taking.ensures.answer by)
-    (seen at _ _ _ _ _ _ _ _ links core (ap (λ outputs. map_in outputs) told.outputs) queue)
+    (seen at _ _ _ _ _ _ _ _ _ _ links core (ap (λ outputs. map_in outputs) told.outputs) told.plan queue)

@@ -1,7 +1,7 @@
 use Rattle.std.proofs.Common.{rules}
 use Rattle.dnp_pointdb.specs.Plan.{IsSound, plan_of}
 use Rattle.dnp_concentrator.proofs.SoundPoints.{sound_below}
-use Rattle.dnp_concentrator.proofs.links.points_below.Goals as goal
+use Rattle.dnp_concentrator.proofs.substation_points.points_below.Goals as goal
 
 pub unwrap-requires : goal.unwrap-requires
 unwrap-requires c =

@@ -1,6 +1,0 @@
-use Rattle.std.specs.Prelude.{◌≡◌, take, map}
-use Rattle.dnp_concentrator.specs.PointsAbove.{point_of}
-use Rattle.dnp_world.proofs.new_substations.block.Given as goal
-
-abbrev pub invariant-loop-class : goal.invariant-loop-class
-invariant-loop-class l = l.points.items ≡ map point_of (take l.class-index l.classes)
