@@ -10,7 +10,7 @@ use Rattle.dnp_appfragment.proofs.Numbers.{AreOctets}
 use Rattle.dnp_appfragment.proofs.Walk.{header_fewer, Fewer, headers_none, headers_step, stops}
 use Rattle.dnp_appfragment.proofs.Grammar.{ReadsHeader, header_reads, header_again, fault_again, fault_some}
 
--- behind one header, the others
+-- after one header, the others
 next : Form → Result (Head × List ℕ) AppFault → Result (List Head) AppFault
 next f r = r >>= λ (h : Head × List ℕ). headers_at f h.1 >>= λ (hs : List Head). Ok (h.0 ∷ hs)
 

@@ -14,7 +14,7 @@ use Rattle.dnp_appfragment.proofs.ObjectHeaders.{response_form, looked_at_divide
 use Rattle.dnp_appfragment.proofs.Building.{is_heads}
 use Rattle.dnp_appfragment.proofs.Laid.{body_is, front_laid}
 
--- the octets behind the front divide into what was put
+-- the octets after the front divide into what was put
 all_divides : (f : Function) (octets : List ℕ) (ended : ℕ) (run : Option Run) → IsLaid f octets ended run
     → Divide (form_of f) (drop (front_size f) octets) (heads (built_in f octets ended run))
 all_divides f octets ended run is = record {

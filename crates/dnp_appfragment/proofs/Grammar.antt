@@ -20,7 +20,7 @@ AreOctets-drop zero octets are = are
 AreOctets-drop (suc n) [] are = tt
 AreOctets-drop (suc n) (b ∷ octets) are = AreOctets-drop n octets are.1
 
--- a header whose objects are so many octets, and the octets behind them
+-- a header whose objects are so many octets, and the octets after them
 abbrev cut_off : ℕ → ℕ → Range → ℕ → List ℕ → Head × List ℕ
 cut_off g v r size octets = (head_of g v r (take size octets), drop size octets)
 

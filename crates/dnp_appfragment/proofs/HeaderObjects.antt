@@ -20,7 +20,7 @@ use Rattle.dnp_appfragment.specs.Reading.{number_at, index_at, first_octets, obj
 use Rattle.dnp_appfragment.proofs.Numbers.{AreOctets, ReadsNumber, number_reads, number_again}
 use Rattle.dnp_appfragment.proofs.Grammar.{AreOctets-drop}
 
--- where the index stands, and the rest behind it
+-- where the index stands, and the rest after it
 pub record HasIndex (r : Range) (k : ℕ) (octets : List ℕ) (x : ℕ × List ℕ) : Type 0 where
   pub index_is : IsIndex r k x.0
   pub whole : octets ≡ prefix_octets r x.0 ++ x.1

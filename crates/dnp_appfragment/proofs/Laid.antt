@@ -1,4 +1,4 @@
--- The headers stand in the fragment one behind the other, the run's last: what each call leaves.
+-- The headers stand in the fragment one after the other, the run's last: what each call leaves.
 use Rattle.std.proofs.Common.{◌≡◌, Bool, true, false, cond, refl, sym, ◌∙◌, ap, subst, ℕ, zero, suc, ◌+◌, ◌≤◌, ◌==◌, ◌&&◌, List, [], ◌∷◌, ◌++◌, length, take, drop, arith, Option, Some, None, IsSome}
 use Rattle.std.specs.Prelude.{option_to_list}
 use Rattle.std.specs.Option.{option_map}
@@ -202,7 +202,7 @@ header_laid old f octets now ended end None h inside is fits whole at room =
 
 -- ---- an object begins a run
 
--- an object's header, with the object behind it
+-- an object's header, with the object after it
 pub header_behind : (octets now : List ℕ) (begun : Run) (object : Head) → run_head object.octets begun ≡ object
     → now ≡ (octets ++ header_octets (run_head [] begun)) ++ object.octets → now ≡ octets ++ header_octets object
 header_behind octets now begun object same whole =
@@ -292,7 +292,7 @@ longer_is run long true (Some r) is = (r, refl, cc)
 longer_is run long true None is = cc
 longer_is run long false o is = cc
 
--- the octets of the run's header, with the object behind them and the number written over
+-- the octets of the run's header, with the object after them and the number written over
 run_grown : (run long : Run) (object : Head) (top objects : List ℕ) (at : ℕ) → joined_run object run ≡ Some long → at ≡ length top
     → written_over ((top ++ header_octets (run_head objects run)) ++ object.octets) (at + 3 + (range_end long.range).0) (number true (range_end long.range).1)
     ≡ top ++ header_octets (run_head (objects ++ object.octets) long)

@@ -13,7 +13,7 @@ use Rattle.dnp_appfragment.specs.Table.{Rule, form_eq, span, indexed, listed, li
 abbrev is_written : Object → Bool
 is_written o = is_some (writable o.content)
 
--- the lines of an object, kept or not, and of those behind it
+-- the lines of an object, kept or not, and of those after it
 abbrev lines_from : Bool → Object → List Object → List Rule
 lines_from kept o os = map row_rule (cond kept (o ∷ filter is_written os) (filter is_written os))
 
@@ -73,7 +73,7 @@ no_row g v (o ∷ os) all none =
         subst (λ (p : ℕ × ℕ). is_some (shape_written p.0 p.1) ≡ true) (λ i. (eqb-true o.group g names.0 i, eqb-true o.variation v names.1 i)) some in
         cc
 
--- ---- behind the lines that are listed
+-- ---- after the lines that are listed
 
 listed_first : (f : Form) (g v : ℕ) (xs ys : List Rule) (t : List ℕ) → takes_in xs f g v ≡ Some t → takes_in (xs ++ ys) f g v ≡ Some t
 listed_first f g v [] ys t is = cc

@@ -103,7 +103,7 @@ unfolding with_object
 span_more f ended g v start last next end xs ys behind =
     ap (λ (o : Option Head). with_run (with_span f ended g v start last xs) o (span g v next end ys)) (spans_join g v start last next end xs ys behind)
 
--- ---- objects behind a run of their own
+-- ---- objects after a run of their own
 
 fits_true : (b : Built) (n : ℕ) → size b ≡ n → n ≤ MAX_FRAGMENT → nat_le (size b) MAX_FRAGMENT ≡ true
 fits_true b n is small = le-leb (size b) MAX_FRAGMENT (omega arith)
@@ -175,9 +175,9 @@ in_span f ended g v s start last (suc n) octets (row ∷ rows) order each few ro
           (append_assoc octets (written g v row) (all_written g v (take n rows)) i));
     }
 
--- ---- objects behind whatever there is
+-- ---- objects after whatever there is
 
--- the first begins a run or joins one, whatever comes behind it
+-- the first begins a run or joins one, whatever comes after it
 pub record IsBehind (b : Built) (g v first : ℕ) : Type 0 where
   pub ended : List Head
   pub start : ℕ
@@ -337,7 +337,7 @@ span_header f g v s first n octets response object sized narrow long =
           ∙ sym (ap (λ (o : Option ℕ). octets_of (first + n + 1 - first) 0 o) sized);
     })
 
--- ---- room behind what there is
+-- ---- room after what there is
 
 range_long : (a b r : Range) → joined_range a b ≡ Some r → length (range_octets r) ≡ length (range_octets a)
 range_long range.All b r is = cc

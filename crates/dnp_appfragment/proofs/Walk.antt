@@ -75,7 +75,7 @@ objects_no_more f g v r octets =
     (λ (x : Result (Head × List ℕ) AppFault). NoMore octets x)
     (λ _. tt) (λ _. omega (arith, length-drop (objects_size f g v r) octets))
 
--- fewer octets are left behind a header
+-- fewer octets are left after a header
 abbrev pub Fewer : {A : Type 0} → List ℕ → Result (A × List ℕ) AppFault → Type 0
 Fewer octets r = IfOk r (λ x. length x.1 < length octets)
 
@@ -104,7 +104,7 @@ fewer_left f octets h is = subst (λ (r : Result (Head × List ℕ) AppFault). F
 
 -- ---- any bound on the number of headers serves, if it is one of the octets
 
--- a header, and the headers behind it
+-- a header, and the headers after it
 onto : Head → Result (List Head) AppFault → Result (List Head) AppFault
 onto h r = r >>= λ (hs : List Head). Ok (h ∷ hs)
 
@@ -156,7 +156,7 @@ fault_onto : (h : Head) (r : Result (List Head) AppFault) → fault_of r ≡ fau
 fault_onto h (Ok hs) = refl
 fault_onto h (Err e) = refl
 
--- behind a header in order, the first fault is the first fault of all
+-- after a header in order, the first fault is the first fault of all
 pub fault_on : (f : Form) (octets : List ℕ) (h : Head × List ℕ) → 0 < length octets → header_at f octets ≡ Ok h
     → fault_of (headers_at f h.1) ≡ fault_of (headers_at f octets)
 fault_on f octets h some is =

@@ -101,7 +101,7 @@ some_bit : (octets : List ℕ) (k : ℕ) (o : Option ℕ) → option_map (the_bi
 some_bit octets k None is = refl
 some_bit octets k (Some first) is = cc
 
--- no bit behind the count, or behind the octets
+-- no bit after the count, or after the octets
 bit_none : (r : Range) (octets : List ℕ) (k : ℕ) → (k < count_of r → k / 8 < length octets → start_of r ≡ None) → bit_in (head_of 1 1 r octets) k ≡ None
 unfolding the_bit
 bit_none r octets k is =
@@ -143,7 +143,7 @@ bits_are r octets (suc n) k i all =
 
 -- ---- objects
 
--- the octets behind an index
+-- the octets after an index
 behind_index : (r : Range) (k : ℕ) (octets : List ℕ)
     → IfSome (index_at r k octets) (λ x. (x.1 ≡ drop (prefix_size r) octets) × (prefix_size r ≤ length octets))
 behind_index range.All k octets = tt
@@ -191,7 +191,7 @@ object_lacks (range.Indexed true n) k size [] none = inr (omega arith)
 object_lacks (range.Indexed true n) k size (a ∷ []) none = inr (omega arith)
 object_lacks (range.Indexed true n) k size (a ∷ b ∷ rest) none = let few = lacks size (a + 256 * b, rest) none in inr (omega (arith, few))
 
--- what is cut off the front is the first object, and what is left stands behind it
+-- what is cut off the front is the first object, and what is left stands after it
 cut_there : (prefix size : ℕ) (octets : List ℕ) (o : Option (ℕ × List ℕ))
     → IfSome o (λ x. (x.1 ≡ drop prefix octets) × (prefix ≤ length octets))
     → MatchOption (cut_octets size o) (first_octets size o ≡ None)
@@ -331,7 +331,7 @@ no_longer (x ∷ xs) f (suc n) gives none =
     let fewer = no_longer xs (λ k. f (suc k)) n (λ k. gives (suc k)) (λ k past. none (suc k) (omega (arith, past))) in
     omega (arith, fewer)
 
--- no row behind the count
+-- no row after the count
 pub row_past : (g v : ℕ) (r : Range) (octets : List ℕ) (k : ℕ) → count_of r ≤ k → row_in (head_of g v r octets) k ≡ None
 row_past g v r octets k past =
     cond_both ((g == 1) && (v == 1)) (bit_in (head_of g v r octets) k) (option_and_then (shaped_row_in (head_of g v r octets) k) (shape_read g v))

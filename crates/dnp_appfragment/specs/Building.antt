@@ -32,7 +32,7 @@ pub record IsBuilt (function : Function) (ended : List ℕ) (run : Option Run) (
 abbrev pub ended_in : Function → List ℕ → ℕ → List ℕ
 ended_in function octets ended = drop (front_size function) (take ended octets)
 
--- the objects of the run, behind its header
+-- the objects of the run, after its header
 abbrev pub objects_in : List ℕ → ℕ → Option Run → List ℕ
 objects_in octets ended run = option_map_or (λ r. drop (ended + (3 + length (range_octets r.range))) octets) run []
 

@@ -12,7 +12,7 @@ use Rattle.dnp_appfragment.specs.Headers.{Head, spelled}
 use Rattle.dnp_appfragment.specs.Fragments.{Asked, Answered}
 use Rattle.dnp_appfragment.specs.Joining.{joined}
 
--- what a clause sees of a `Builder`: its function, the headers that are ended, and behind them the run,
+-- what a clause sees of a `Builder`: its function, the headers that are ended, and after them the run,
 -- the header that the next object may join
 pub record Built : Type 0 where
   pub function : Function

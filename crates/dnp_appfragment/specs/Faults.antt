@@ -117,7 +117,7 @@ pub record LacksFunction (response : Bool) (octets : List ℕ) : Type 0 where
   pub whole : octets ≡ control ∷ code ∷ body
   pub unknown : (function : Function) → is_response function ≡ response → function_octet function ≢ code
 
--- a request's function, and the fault of a header behind it
+-- a request's function, and the fault of a header after it
 pub record HasRequestFault (octets : List ℕ) (fault : AppFault) : Type 0 where
   pub control : ℕ
   pub function : Function
@@ -126,7 +126,7 @@ pub record HasRequestFault (octets : List ℕ) (fault : AppFault) : Type 0 where
   pub whole : octets ≡ control ∷ function_octet function ∷ body
   pub headers : HasHeaderFault (form_of function) (looked_at (form_of function) body) fault
 
--- a response's function, two indications, and the fault of a header behind them
+-- a response's function, two indications, and the fault of a header after them
 pub record HasResponseFault (octets : List ℕ) (fault : AppFault) : Type 0 where
   pub control : ℕ
   pub function : Function

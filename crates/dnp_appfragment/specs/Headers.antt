@@ -75,7 +75,7 @@ prefix_size (range.Span wide first last) = 0
 prefix_size (range.Count wide n) = 0
 prefix_size (range.Indexed wide n) = if wide then 2 else 1
 
--- how many octets so many objects have, each of this size behind such a prefix; without a size they are
+-- how many octets so many objects have, each of this size after such a prefix; without a size they are
 -- packed bits, eight to an octet
 abbrev pub octets_of : ℕ → ℕ → Option ℕ → ℕ
 octets_of count prefix (Some size) = count * (prefix + size)
@@ -102,12 +102,12 @@ pub record IsHeader (f : Form) (h : Head) : Type 0 where
 
 -- ---- headers, one after the other
 
--- what the headers before one say for it. Nothing yet: a common time, to which times of rows behind it are
+-- what the headers before one say for it. Nothing yet: a common time, to which times of rows after it are
 -- relative, will be a field of it
 abbrev pub Context : Type 0
 Context = ⊤
 
--- before the first header, and behind one more
+-- before the first header, and after one more
 abbrev pub begin : Context
 begin = tt
 

@@ -25,7 +25,7 @@ pub record IsOf (h : Head) (item : Item) : Type 0 where
   pub variation : item.variation ≡ h.variation
   pub size : object_size item.group item.variation ≡ Some (length item.octets)
 
--- the octets of an object behind those of its index, if it has any
+-- the octets of an object after those of its index, if it has any
 abbrev pub item_octets : Range → Item → List ℕ
 item_octets range item = prefix_octets range item.index ++ item.octets
 
@@ -37,7 +37,7 @@ pub record Holds (h : Head) (items : List Item) : Type 0 where
   pub indexes : (k : ℕ) (item : Item) → slice_get items k ≡ Some item → IsIndex h.range k item.index
   pub octets : h.octets ≡ flat_map (item_octets h.range) items
 
--- the headers hold these objects, one header's behind the other's
+-- the headers hold these objects, one header's after the other's
 abbrev pub HoldAll : List Head → List Item → Type 0
 HoldAll [] items = items ≡ []
 HoldAll (h ∷ hs) items = (own : List Item) × (others : List Item) × (items ≡ own ++ others) × Holds h own × HoldAll hs others

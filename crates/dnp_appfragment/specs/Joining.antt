@@ -7,7 +7,7 @@ use Rattle.dnp_appfragment.specs.declared.header.Range.TheVariants as range
 use Rattle.dnp_appfragment.specs.Headers.{Head}
 
 -- the range of the objects of both: counts with wide indexes are added, as far as a count goes; of
--- two wide spans the second has to begin behind the end of the first
+-- two wide spans the second has to begin after the end of the first
 abbrev pub joined_range : Range → Range → Option Range
 joined_range (range.Indexed true n) (range.Indexed true more) =
     if nat_lt (n + more) (2 ^ 16) then Some (range.Indexed true (n + more)) else None

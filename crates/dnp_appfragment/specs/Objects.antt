@@ -21,7 +21,7 @@ IsSpan (range.Span wide first last) = ⊤
 IsSpan (range.Count wide n) = ⊥
 IsSpan (range.Indexed wide n) = ⊥
 
--- the index of object k: counted in a span, and behind a count the one that stands before the object; a
+-- the index of object k: counted in a span, and after a count the one that stands before the object; a
 -- limit, and "all", give none
 abbrev pub IsIndex : Range → ℕ → ℕ → Type 0
 IsIndex range.All k index = ⊥

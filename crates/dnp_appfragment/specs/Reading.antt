@@ -1,5 +1,5 @@
 -- Definition: the steps in which headers, and the objects of one, are cut off the front of octets: the next
--- one, and the octets behind it, or why there is none. Meaning.antt is made of them; what they have to answer
+-- one, and the octets after it, or why there is none. Meaning.antt is made of them; what they have to answer
 -- is said in Headers.antt, Faults.antt and Objects.antt.
 use Rattle.std.specs.Prelude.{ℕ, zero, suc, ◌+◌, ◌*◌, Bool, true, false, nat_lt, ◌==◌, if◌then◌else◌, List, [], ◌∷◌, length, take, drop, Option, Some, None, Result, Ok, Err}
 use Rattle.std.specs.Result.{result_ok}
@@ -62,7 +62,7 @@ objects_at f g v r octets =
     if nat_lt (length octets) (objects_size f g v r) then Err ObjectsCut
     else Ok (head_of g v r (take (objects_size f g v r) octets), drop (objects_size f g v r) octets)
 
--- the header at the front, with its objects, and the octets behind them
+-- the header at the front, with its objects, and the octets after them
 unfoldable pub header_at : Form → List ℕ → Result (Head × List ℕ) AppFault
 header_at f [] = Err HeaderCut
 header_at f (g ∷ []) = Err HeaderCut
@@ -87,14 +87,14 @@ headers_at f octets = headers_in (length octets) f octets
 
 -- ---- an object of a header
 
--- the index of object k, and the octets behind it
+-- the index of object k, and the octets after it
 abbrev pub index_at : Range → ℕ → List ℕ → Option (ℕ × List ℕ)
 index_at range.All k octets = None
 index_at (range.Span wide first last) k octets = Some (first + k, octets)
 index_at (range.Count wide n) k octets = None
 index_at (range.Indexed wide n) k octets = result_ok (number_at wide octets)
 
--- the index, and so many of the octets behind it
+-- the index, and so many of the octets after it
 abbrev pub first_octets : ℕ → Option (ℕ × List ℕ) → Option (ℕ × List ℕ)
 first_octets size None = None
 first_octets size (Some x) = if nat_lt (length x.1) size then None else Some (x.0, take size x.1)

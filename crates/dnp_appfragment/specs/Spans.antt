@@ -12,7 +12,7 @@ use Rattle.dnp_appfragment.specs.Written.{spanned}
 abbrev pub row_head : ℕ → ℕ → Row → Head
 row_head group variation row = spanned group variation row.index (written group variation row)
 
--- rows as objects, one behind the other
+-- rows as objects, one after the other
 abbrev pub all_written : ℕ → ℕ → List Row → List ℕ
 all_written group variation rows = flat_map (written group variation) rows
 

@@ -81,7 +81,7 @@ is_response function = form_eq (form_of function) form.Response
 
 -- ---- the qualifiers
 
--- all objects; those of a span, a start and a stop; so many; so many, each behind its index. The
+-- all objects; those of a span, a start and a stop; so many; so many, each after its index. The
 -- numbers of the second of two are wide
 abbrev pub all : List ℕ
 all = qualifier.ALL ∷ []

@@ -20,7 +20,7 @@ carried_by group variation =
     if (group == 1) && (variation == 1) then carried.Bits
     else option_map_or (λ shape. carried.Rows shape) (shape_read group variation) carried.Nothing
 
--- an object at the front: its index, its octets, and those behind it
+-- an object at the front: its index, its octets, and those after it
 pub record Cut : Type 0 where
   pub index : ℕ
   pub octets : List ℕ

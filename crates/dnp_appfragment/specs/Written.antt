@@ -12,7 +12,7 @@ use Rattle.dnp_appfragment.specs.Headers.{Head, head_of, number}
 
 -- ---- an object as a header of its own
 
--- behind its index: qualifier 28
+-- after its index: qualifier 28
 abbrev pub indexed : ℕ → ℕ → ℕ → List ℕ → Head
 indexed group variation index octets =
     head_of group variation (range.Indexed true 1) (number true index ++ octets)

@@ -41,7 +41,7 @@ fn status_of(outcome: &Outcome) -> Status
 }
 
 impl Stage {
-    /// The stage behind the outcome of the task that the master had asked.
+    /// The stage after the outcome of the task that the master had asked.
     pub fn heard(self, outcome: &Outcome) -> Stage
         ensures { result ≡ spec.heard self outcome.now }
     {

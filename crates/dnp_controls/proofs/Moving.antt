@@ -130,7 +130,7 @@ past-moved book (Add target command) id granted past = has-push book.entries _ i
 past-moved book (Spend other) id granted past = past-in_state book.entries other id Spent is_pending refl granted past
 past-moved book (Finish other status) id granted past = past-in_state book.entries other id (Finished status) (λ s. not (is_finished s)) refl granted past
 
--- how often an entry is spent by one call and those behind it
+-- how often an entry is spent by one call and those after it
 spends-cons : (id : ℕ) (move : Move) (moves : List Move)
     → count_by (is_spend_of id) (move ∷ moves) ≡ cond (is_spend_of id move) 1 0 + count_by (is_spend_of id) moves
 spends-cons id move moves = sum_by-cons (λ m. cond (is_spend_of id m) 1 0) move moves
@@ -286,7 +286,7 @@ ids-from : (entry : Entry) (entries : List Entry) → AllPairs (λ x y. x.id < y
 ids-from entry entries rising zero d low = omega arith
 ids-from entry entries rising (suc k) d low = let h : entry.id < (get_or entries k d).id = rising zero (suc k) d (omega arith) low in omega arith
 
--- no pending entry is for the target but perhaps behind the first one
+-- no pending entry is for the target but perhaps after the first one
 behind : (entry : Entry) (entries : List Entry) (target : ℕ) (o : Option Entry) → (is_pending entry.state ≡ true → entry.target ≡ target → ⊥)
     → MatchOption o (HasNoNext entries target) (IsNext entries target) → MatchOption o (HasNoNext (entry ∷ entries) target) (IsNext (entry ∷ entries) target)
 behind entry entries target None not_this rest = All-cons (λ e. is_pending e.state ≡ true → e.target ≡ target → ⊥) entry entries not_this rest

@@ -109,7 +109,7 @@ pub numbered-push : (entries : List Entry) (first : ℕ) (entry : Entry) → Are
 numbered-push [] first entry numbered is = (omega arith, tt)
 numbered-push (e ∷ entries) first entry numbered is = (numbered.0, numbered-push entries (first + 1) entry numbered.1 (omega arith))
 
--- the entries with ids over a number are those behind a place
+-- the entries with ids over a number are those after a place
 over-all : (entries : List Entry) (first from : ℕ) → AreNumberedFrom first entries → from < first → filter (λ entry. nat_lt from entry.id) entries ≡ entries
 over-all [] first from numbered low = refl
 over-all (entry ∷ entries) first from numbered low =
@@ -151,7 +151,7 @@ next_of-past (entry ∷ front) rest target past =
     ap (λ b. cond (b && eqb entry.target target) (Some entry) (next_of (front ++ rest) target)) (All-head (λ entry. is_pending entry.state ≡ false) entry front past)
     ∙ next_of-past front rest target (All-tail (λ entry. is_pending entry.state ≡ false) entry front past)
 
--- the next one is found behind those that are past pending
+-- the next one is found after those that are past pending
 pub next_of-drop : (entries : List Entry) (first target : ℕ) → All (λ entry. is_pending entry.state ≡ false) (take first entries)
     → next_of (drop first entries) target ≡ next_of entries target
 next_of-drop entries first target past =

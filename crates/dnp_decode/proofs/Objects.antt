@@ -5,12 +5,12 @@ use Rattle.dnp_appfragment.specs.Headers.{Head}
 use Rattle.dnp_decode.specs.declared.line.Line.{Line}
 use Rattle.dnp_decode.specs.FragmentLines.{object_line, objects_between}
 
--- object k, and those behind it
+-- object k, and those after it
 next_object : (h : Head) (k n : ℕ) → k < n
     → objects_between h k (n - k) ≡ option_to_list (object_line h k) ++ objects_between h (k + 1) (n - (k + 1))
 next_object h k n less = let one : n - k ≡ suc (n - (k + 1)) = omega arith in ap (λ (m : ℕ). objects_between h k m) one
 
--- once its line is put, those behind it are left
+-- once its line is put, those after it are left
 pub object_put : (h : Head) (k n : ℕ) (out new all : List Line) → k < n → out ++ objects_between h k (n - k) ≡ all
     → new ≡ out ++ option_to_list (object_line h k) → new ++ objects_between h (k + 1) (n - (k + 1)) ≡ all
 object_put h k n out new all less before put =

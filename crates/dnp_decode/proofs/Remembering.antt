@@ -13,7 +13,7 @@ use Rattle.dnp_decode.specs.steps.Remembered.{is_of, assembly_in, IsPlace, Remem
 pub remembers_none : Remembers [] []
 remembers_none = record { each = λ _ _. idle_stands [] nothing_pushed }
 
--- a new port behind the others changes no assembler
+-- a new port after the others changes no assembler
 pub new_port : (ports : List Port) (new : Port) (s d : ℕ) → new.assembler ≡ Idle → assembly_in (ports ++ new ∷ []) s d ≡ assembly_in ports s d
 new_port [] new s d idle = elim (is_of s d new) as (λ b. cond b new.assembler Idle ≡ Idle) [ true ↦ idle | false ↦ refl ]
 new_port (port ∷ ports) new s d idle = ap (λ (a : Assembly). cond (is_of s d port) port.assembler a) (new_port ports new s d idle)
@@ -109,7 +109,7 @@ remembers_more heard frame ports place old new before carries is there source de
 }
 
 -- a search for the first port of a direction has come to this place: the first one of the rest is the first of all, also
--- with more ports behind them
+-- with more ports after them
 pub record Looked (ports : List Port) (s d place : ℕ) : Type 0 where
   pub on : (i : ℕ) (more : List Port) → IsPlace (drop place ports ++ more) s d i → IsPlace (ports ++ more) s d (place + i)
 

@@ -47,7 +47,7 @@ so_far_end stream done lines ports so_far past =
     subst (λ (t : List ℕ). AreLines so_far.heard t []) (sym (drop_all done stream past)) (Ends so_far.heard) in
     subst (λ (xs : List Line). AreLines [] stream xs) (append-nil lines) (so_far.rest [] none)
 
--- two lines and then more behind those before
+-- two lines and then more after those before
 pub two_put : (out one two all more : List Line) (x y x' y' : Line) → one ≡ out ++ x ∷ [] → two ≡ one ++ y ∷ [] → all ≡ two ++ more
     → x ≡ x' → y ≡ y' → all ≡ out ++ (x' ∷ y' ∷ more)
 two_put out one two all more x y x' y' first second last x_is y_is =

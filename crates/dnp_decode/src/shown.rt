@@ -9,7 +9,7 @@ use dnp_objects::{Command, Row, Status};
 use std::fmt;
 use std::fmt::{Display, Formatter, Write};
 
-/// The octets of the header of a frame with its check word: its first block begins behind them.
+/// The octets of the header of a frame with its check word: its first block begins after them.
 const CHECKED_HEADER: usize = 10;
 
 /// The octets of a whole block of user data with its check word.

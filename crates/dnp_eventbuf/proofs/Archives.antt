@@ -46,7 +46,7 @@ all_over from last (x ∷ rows) low =
     ap₂ (λ (b : Bool) (l : List Numbered). cond b (first_of last x ∷ l) l) (under from (last + 1) (omega arith))
     (all_over from (last + 1) rows (omega arith))
 
--- those over a number are the rows that come behind it
+-- those over a number are the rows that come after it
 over_from : (from last k : ℕ) (rows : List Row) → from ≡ last + k → filter (λ x. nat_lt from x.id) (numbered last rows) ≡ numbered from (drop k rows)
 over_from from last zero rows is =
     let same : from ≡ last = omega arith in

@@ -17,7 +17,7 @@ abbrev pub numbered : ℕ → List Row → List Numbered
 numbered last [] = []
 numbered last (row ∷ rows) = record { id = last + 1; row = row } ∷ numbered (last + 1) rows
 
--- events are put behind the others
+-- events are put after the others
 abbrev pub with_events : Archive → List Row → Archive
 with_events a events = record { rows = a.rows ++ numbered a.last_id events; last_id = a.last_id + length events }
 

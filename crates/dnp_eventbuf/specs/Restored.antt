@@ -16,7 +16,7 @@ with_lost s number lost = with_lane s number (record (lane_at s number) { lost =
 abbrev pub with_marks : Stock → Bool → ℕ → Stock
 with_marks s overflow last_id = record { lanes = s.lanes; overflow = overflow; last_id = last_id }
 
--- a row stands behind the others of its lane, under the id that it had
+-- a row stands after the others of its lane, under the id that it had
 abbrev pub with_old_row : Stock → ℕ → LaneRow → Stock
 with_old_row s id x = with_lane s (lane_number x.lane) (added_in (lane_at s (lane_number x.lane)) (record { id = id; row = x.row }))
 

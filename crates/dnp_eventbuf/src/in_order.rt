@@ -8,7 +8,7 @@ use crate::numbered::Numbered;
 use dnp_objects::Row;
 use std::alloc::{AllocError, Global};
 
-/// The rows with ids up to this, and those behind them.
+/// The rows with ids up to this, and those after them.
 pub fn cut(rows: &[Numbered], upto: u64) -> (&[Numbered], &[Numbered])
     requires rising { AllPairs (λ x y. x.id < y.id) rows.now }
     ensures front { result.0.now ≡ filter (λ x. nat_le x.id upto) rows.now }
@@ -18,7 +18,7 @@ pub fn cut(rows: &[Numbered], upto: u64) -> (&[Numbered], &[Numbered])
     rows.split_at(count)
 }
 
-/// The first rows of these two runs, one behind the other, at most `most`. Memory is asked for once, for just
+/// The first rows of these two runs, one after the other, at most `most`. Memory is asked for once, for just
 /// as many.
 pub fn first_of(
     alloc: Global,

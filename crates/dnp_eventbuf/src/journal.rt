@@ -32,7 +32,7 @@ pub trait JournalStore: Sink {
         ensures sound { Self.honest self.new → IsSoundArchive (archive self.new) }
         ensures value { Self.honest self.new → result ≡ length (archive self.new).rows };
 
-    /// As a sink it puts the events behind the others, and drops none.
+    /// As a sink it puts the events after the others, and drops none.
     ghost takes_events: { (old : Self) (events statics dropped : List Row) (new : Self) → Self.takes old events statics dropped new
         → (archive new ≡ with_events (archive old) events) × (dropped ≡ []) };
 

@@ -4,7 +4,7 @@ ghost use Rattle.dnp_objects.specs.declared.row.Row.{Row};
 ghost use Rattle.dnp_eventbuf.specs.Archive.{Archive, IsSoundArchive, passes_limit, rows_over, with_events};
 ghost use Rattle.dnp_eventbuf.specs.Stock.{row_of};
 
-/// An append puts the events, all and in order, behind the rows that were there.
+/// An append puts the events, all and in order, after the rows that were there.
 /// Appended in two calls they stand as in one.
 pub fn a_journal_keeps_events_in_order()
     ensures rows { (a : Archive) (events : List Row) → map row_of (with_events a events).rows ≡ map row_of a.rows ++ events }

@@ -89,7 +89,7 @@ pub fn a_lane_keeps_its_latest_rows()
 {}
 
 /// What a release takes up to the last id of an offer was offered, whatever was appended since the
-/// offer. If the offer began behind an id, rows with ids up to that one may stand there still, and go too.
+/// offer. If the offer began after an id, rows with ids up to that one may stand there still, and go too.
 pub fn a_release_takes_what_was_offered()
     ensures from_the_oldest { (s : Stock) (rows : List LaneRow) (number most : ℕ) → IsSound s → All IsCarried rows
         → exhausts s rows ≡ false → number < LANES

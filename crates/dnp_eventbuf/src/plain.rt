@@ -93,7 +93,7 @@ impl PlainLanes {
         self.lanes[number].over(count_for(number, rows))
     }
 
-    /// The id of the row at this place among those of the lane of this number and, behind them, these
+    /// The id of the row at this place among those of the lane of this number and, after them, these
     /// that would come for it, if there are so many.
     pub fn id_at(&self, number: usize, rows: &[LaneRow], place: usize) -> Option<u64>
         requires number { number < LANES }

@@ -223,7 +223,7 @@ impl PlainLane {
         self.lost
     }
 
-    /// Whether it has room for a row with this id behind its others.
+    /// Whether it has room for a row with this id after its others.
     pub fn takes(&self, id: u64) -> bool
         ensures { result ≡ not (is_full self.now) && nat_lt (last_of self.now.rows) id }
     {

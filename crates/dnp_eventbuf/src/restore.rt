@@ -29,7 +29,7 @@ impl PlainLanes {
         self.last_id = last_id;
     }
 
-    /// Puts a row back behind the others of its lane, under the id that it had: whether it fits there.
+    /// Puts a row back after the others of its lane, under the id that it had: whether it fits there.
     /// There has to be room for it, and its id has to be above theirs and at most the last one used.
     pub fn restore_row(&mut self, id: u64, x: LaneRow) -> bool
         requires { IsCarried x }

@@ -16,7 +16,7 @@ slice_get-drop (x ∷ xs) (suc n) m =
     let next : suc (n + m) ≡ suc n + m = omega arith in
     slice_get-drop xs n m ∙ ap (slice_get (x ∷ xs)) next
 
--- the members of a list keep their places when more is put behind
+-- the members of a list keep their places when more is put after
 pub slice_get-append : {X : Type 0} (xs ys : List X) (n : ℕ) → n < length xs → slice_get (xs ++ ys) n ≡ slice_get xs n
 slice_get-append [] ys n within = absurd (omega arith)
 slice_get-append (x ∷ xs) ys zero within = refl
@@ -121,7 +121,7 @@ ComesTo-start sent = (0, refl)
 pub ComesTo-gone : {X : Type 0} (sent : List X) → ComesTo [] sent []
 ComesTo-gone sent = (length sent, sym (drop_all (length sent) sent (omega arith)))
 
--- more is sent: it may come, behind what may come already
+-- more is sent: it may come, after what may come already
 pub ComesTo-behind : {X : Type 0} (came sent rest more : List X) → ComesTo came sent rest → ComesTo came (sent ++ more) (rest ++ more)
 ComesTo-behind [] sent rest more h =
     let n : ℕ = min h.0 (length sent) in (

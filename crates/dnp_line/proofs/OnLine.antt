@@ -1,4 +1,4 @@
--- The units on a line: those that are sent go behind the others.
+-- The units on a line: those that are sent go after the others.
 use Rattle.std.proofs.Common.{◌≡◌, ℕ, zero, suc, ◌+◌, ◌%◌, ◌<◌, ◌≤◌, List, [], ◌∷◌, ◌++◌, length, map, refl, sym, ap, ◌∙◌, subst, arith, append_assoc}
 use Rattle.std.specs.Prelude.{nat_le}
 use Rattle.std.proofs.lemmas.Bool.{cond-true, cond-false, le-leb, lt-leb}
@@ -21,7 +21,7 @@ last_from p p' same sent place [] h = h
 last_from p p' same sent place (u ∷ units) h =
     (h.0, h.1, subst (λ f. Spells u f) (same h.0) h.2, last_from p p' same sent (place + 1) units h.3)
 
--- with the units of another fragment behind them
+-- with the units of another fragment after them
 pub last_more : (p : PortState) (sent : List (List ℕ)) (f : List ℕ) (place : ℕ) (units us : List (List ℕ)) → AreLast p sent place units
     → AreLast p (sent ++ f ∷ []) (segment_total sent) us → AreLast p (sent ++ f ∷ []) place (units ++ us)
 last_more p sent f place [] us h new =

@@ -90,7 +90,7 @@ pub record IsAmong (past rest before : List (List ℕ)) (fragment : List ℕ) (a
   pub before_is : before ≡ past ++ between
   pub rest_is : rest ≡ between ++ fragment ∷ after
 
--- a fragment that has a segment behind all those of the past ones is among the rest
+-- a fragment that has a segment after all those of the past ones is among the rest
 pub among_rest : (past rest b : List (List ℕ)) (f : List ℕ) (a : List (List ℕ)) → past ++ rest ≡ b ++ f ∷ a
     → segment_total past < segment_total b + cut_count (length f) → IsAmong past rest b f a
 among_rest [] rest b f a e h = record { between = b; before_is = refl; rest_is = e }

@@ -84,7 +84,7 @@ length-spelled unit f s =
     total-blocks (block_count (length f.user.items)) f.user.items (omega arith) (omega arith) in
     omega arith
 
--- what is written so far, and what is still to come: behind it, the blocks of the rest with their check words make
+-- what is written so far, and what is still to come: after it, the blocks of the rest with their check words make
 -- the parts whole
 pub record Writes (parts : List (List ℕ)) (unit rest : List ℕ) : Type 0 where
   pub joins : (tail : List ℕ) → AreChecked (blocks rest) tail → AreChecked parts (unit ++ tail)

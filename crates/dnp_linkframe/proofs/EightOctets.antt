@@ -1,4 +1,4 @@
--- Eight octets are divided at once: what each leaves after those behind it is added up.
+-- Eight octets are divided at once: what each leaves after those after it is added up.
 use Rattle.std.proofs.Common.{◌≡◌, ◌∙◌, ℕ, suc, ◌+◌, ◌*◌, ◌/◌, ◌<◌, ◌^◌, Bool, zero, List, [], ◌∷◌, ◌++◌, drop, get_or, length, take, refl, sym, ap, subst, arith}
 use Rattle.std.proofs.lemmas.List.{drop-drop, drop-take, get_or-drop, take-append-drop, take-take, take_more}
 use Rattle.std.proofs.lemmas.List.FromFn.{fill_by_all}
@@ -132,7 +132,7 @@ block_more xs n i old new h k l =
     subst (λ (s : List ℕ). Leaves (times_x 16 (message s)) (remainder new)) joined
     (octets_more (take (8 * i) xs) (get_or (first_chunks 8 n xs) i []) old new k l)
 
--- ---- the octets behind the blocks, of which m octets are
+-- ---- the octets after the blocks, of which m octets are
 pub octet_more : (xs : List ℕ) (m i old new : ℕ) → m + i < length xs → Leaves (times_x 16 (message (take (m + i) xs))) (remainder old)
     → Continues (get_or (drop m xs) i 0 ∷ []) old new → Leaves (times_x 16 (message (take (m + (i + 1)) xs))) (remainder new)
 octet_more xs m i old new h k l =

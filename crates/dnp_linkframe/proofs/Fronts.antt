@@ -1,4 +1,4 @@
--- What stands at the front of a stream: it stays there whatever comes behind it, and it is one thing.
+-- What stands at the front of a stream: it stays there whatever comes after it, and it is one thing.
 use Rattle.std.proofs.Common.{◌≡◌, ℕ, ◌+◌, ◌*◌, ◌-◌, ◌<◌, ◌≤◌, List, [], ◌∷◌, ◌++◌, length, take, drop, get_or, refl, sym, ◌∙◌, ap, subst, arith, min, inl, inr}
 use Rattle.std.proofs.lemmas.Bool.{cases_lt, cases_order}
 use Rattle.std.specs.Int.{w16, to_le_bytes}
@@ -111,7 +111,7 @@ begins_less stream size ten there b =
 pub said_less : (stream : List ℕ) (size : ℕ) → 10 ≤ size → said_size (take size stream) ≡ said_size stream
 said_less stream size ten = ap (λ (n : ℕ). frame_size (n - 5)) (get_or-take size stream 2 0 (omega arith))
 
--- what is decided at the front stays so, whatever comes behind
+-- what is decided at the front stays so, whatever comes after
 pub front_more : (stream more : List ℕ) (front : Front) → IsFront stream front → 0 < used front → IsFront (stream ++ more) front
 front_more stream more Waits here some = absurd (omega arith)
 front_more stream more NoHeader (ten, none) some =

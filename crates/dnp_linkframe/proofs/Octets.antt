@@ -50,7 +50,7 @@ octet_looked_up word octet left h k l =
     (sym (low_high sum (xor_lt 16 word octet h (omega arith)) ∙ ap (λ (n : ℕ). plus low (remainder n)) high))
     (leaves_xor low (remainder (word / 256)) left (word / 256) l (leaves_same (remainder (word / 256)) (remainder (word / 256)) (λ i. refl))))
 
--- ---- octets behind octets
+-- ---- octets after octets
 abbrev spread : List ℕ → List Bool
 spread octets = flat_map (λ octet. map (bit octet) (range_with_len 0 8)) octets
 
@@ -76,7 +76,7 @@ times_x_swap m n p =
     let e : m + n ≡ n + m = omega arith in
     times_x_twice m n p ∙ ap (λ (k : ℕ). times_x k p) e ∙ sym (times_x_twice n m p)
 
--- the octets before stand above those behind them
+-- the octets before stand above those after them
 pub message_joined : (before octets : List ℕ) → IsSame (times_x 16 (message (before ++ octets))) (plus (times_x (8 * length octets) (times_x 16 (message before))) (times_x 16 (message octets)))
 message_joined before octets i =
     let n : ℕ = 8 * length octets in

@@ -8,7 +8,7 @@ use Rattle.dnp_linkframe.specs.Stream.{Front, Waits, Whole, IsFront, used, frame
 use Rattle.dnp_linkframe.proofs.Blocks.{length-spelled}
 use Rattle.dnp_linkframe.proofs.Fronts.{front_more, used_within, one_front, spelled_front}
 
--- what was decided stays decided, whatever comes behind
+-- what was decided stays decided, whatever comes after
 pub after_more : (count : ℕ) (stream more : List ℕ) (frames : List Frame) (rest : List ℕ) → After count stream frames rest
     → After count (stream ++ more) frames (rest ++ more)
 after_more zero stream more frames rest (none, is) = (none, ap (λ (t : List ℕ). t ++ more) is)
@@ -112,7 +112,7 @@ spellings (unit ∷ units) (frame ∷ frames) (s, more) =
 pub gives_nothing : (stream rest : List ℕ) → rest ≡ stream → IsFront stream Waits → Gives stream [] rest
 gives_nothing stream rest is waits = record { decisions = 0; after = (refl, is); waits = subst (λ (t : List ℕ). IsFront t Waits) (sym is) waits }
 
--- what has been taken from the stream: so many octets are done with, and their frames stand behind those before
+-- what has been taken from the stream: so many octets are done with, and their frames stand after those before
 pub record Took (stream : List ℕ) (done : ℕ) (before out : List Frame) : Type 0 where
   pub within : done ≤ length stream
   pub frames : List Frame

@@ -27,7 +27,7 @@ pub record Left (user rest : List ℕ) (size : ℕ) : Type 0 where
   pub here : length user + most ≡ size
   pub sized : length rest ≡ most + 2 * block_count most
 
--- `count` blocks are behind and end in their check words, and `rest` is still to be checked
+-- `count` blocks are past and end in their check words, and `rest` is still to be checked
 pub record Checks (octets rest : List ℕ) (count : ℕ) : Type 0 where
   pub place : rest ≡ drop (18 * count) octets
   pub checked : (k : ℕ) → k < count → IsChecked (take 18 (drop (18 * k) octets))
@@ -35,7 +35,7 @@ pub record Checks (octets rest : List ℕ) (count : ℕ) : Type 0 where
 pub checks_none : (octets : List ℕ) → Checks octets octets 0
 checks_none octets = record { place = refl; checked = λ k h. absurd (omega arith) }
 
--- what is cut from the rest is the next block, and the rest behind it stands a block further on
+-- what is cut from the rest is the next block, and the rest after it stands a block further on
 cut_block : (octets rest block after : List ℕ) (count : ℕ) → rest ≡ drop (18 * count) octets → rest ≡ block ++ after
     → length block ≡ min 18 (length rest) → (take 18 (drop (18 * count) octets) ≡ block) × (after ≡ drop (18 * suc count) octets)
 cut_block octets rest block after count place is chunk =
@@ -105,7 +105,7 @@ part_of block h =
     ap (λ (t : List ℕ). take (length block - 2) t) h.has.joined ∙ take_at h.part (to_le_bytes w16 h.has.word) (length block - 2) (omega arith) in
     subst (λ (t : List ℕ). HasCheck t block) (sym first) h.has
 
--- what is left behind a block, and the size of that block
+-- what is left after a block, and the size of that block
 pub record Leaves (user part block after : List ℕ) (size : ℕ) : Type 0 where
   pub left : Left (user ++ part) after size
   pub some : 0 < length part

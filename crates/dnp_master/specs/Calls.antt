@@ -37,7 +37,7 @@ abbrev pub is_selected : Option Command → Command → Bool
 is_selected None command = false
 is_selected (Some selected) command = command_eq selected command
 
--- an OPERATE is asked behind the select of the same command alone
+-- an OPERATE is asked after the select of the same command alone
 abbrev pub may_follow : Option Command → Task → Bool
 may_follow selected (Operate command) = is_selected selected command
 may_follow selected (Poll classes) = true
@@ -135,14 +135,14 @@ taking answered state plan outcome = record {
 abbrev pub report_taken : State → Answered → Taking
 report_taken s answered = taking answered s s.plan None
 
--- behind the last fragment the master is idle, and the task has its outcome
+-- after the last fragment the master is idle, and the task has its outcome
 abbrev pub ended : State → OpenRequest → Answered → Taking
 ended s request answered =
     let echo = echo_after (command_for request.task) request.echo answered.headers in
     taking answered (record s { seq = after s.seq; request = None; selected = selected_by request.task echo }) s.plan
     (Some (outcome_for (command_for request.task) echo answered.iin))
 
--- behind another fragment the next one is awaited, and the response timer starts again
+-- after another fragment the next one is awaited, and the response timer starts again
 abbrev pub going_on : State → ℕ → OpenRequest → Answered → Taking
 going_on s now request answered =
     let echo = echo_after (command_for request.task) request.echo answered.headers in

@@ -12,7 +12,7 @@ use Rattle.dnp_master.specs.Rows.{events_in, statics_in, is_from_plan}
 
 -- these rows were gathered
 pub record Gathers (old : Gathering) (rows : List Row) (new : Gathering) : Type 0 where
-  -- where there was memory for all, they stand behind the others
+  -- where there was memory for all, they stand after the others
   pub behind : new.is_cut ≡ false → (old.is_cut ≡ false) × (new.rows.items ≡ old.rows.items ++ rows)
   -- without rows no memory is asked for
   pub still : rows ≡ [] → new.is_cut ≡ old.is_cut

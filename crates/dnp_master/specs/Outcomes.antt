@@ -65,7 +65,7 @@ abbrev pub outcome_for : Option Command → Echo → Iin → Outcome
 outcome_for None echo iin = Done iin
 outcome_for (Some command) echo iin = outcome_by echo
 
--- the command that stands selected behind this outcome: that of a select that was answered SUCCESS
+-- the command that stands selected after this outcome: that of a select that was answered SUCCESS
 abbrev pub selected_by : Task → Echo → Option Command
 selected_by (Select command) (Same status) = if status == 0 then Some command else None
 selected_by (Select command) Nothing = None

@@ -34,7 +34,7 @@ pub record PassesOver (s : State) (t : Taking) : Type 0 where
   pub confirm : t.confirm ≡ None
 
 -- an open, busy master takes a response with the number that it awaits, all of its events, and confirms it where CON
--- asks for that; it awaits the number that follows, or is idle behind FIN
+-- asks for that; it awaits the number that follows, or is idle after FIN
 pub record TakesResponse (s : State) (octets : List ℕ) (t : Taking) : Type 0 where
   pub was_open : s.is_open ≡ true
   pub busy : is_some s.request ≡ true

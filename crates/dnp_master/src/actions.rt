@@ -12,7 +12,7 @@ pub struct MasterActions {
     pub taken: usize,
     /// The rows that the sink dropped for them.
     pub dropped: Rows,
-    /// The outcome of the task, behind the last fragment of its response.
+    /// The outcome of the task, after the last fragment of its response.
     pub outcome: Option<Outcome>,
     /// Whether the outstation indicates that its device has started again.
     pub restart: bool,

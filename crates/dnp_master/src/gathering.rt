@@ -162,7 +162,7 @@ fn gather_statics(plan: &PointPlan, headers: Headers<'_>, gathering: &mut Gather
 /// The rows of a response for the sink.
 #[derive(Drop)]
 pub(crate) struct Gathered {
-    /// The events, and behind them the present values.
+    /// The events, and after them the present values.
     pub rows: Vec<Row>,
     /// How many events there are.
     pub events: usize,

@@ -170,7 +170,7 @@ impl Master {
         Ok(request)
     }
 
-    /// Whether the task may be asked behind what stands selected.
+    /// Whether the task may be asked after what stands selected.
     fn may_follow(&self, task: &Task) -> bool
         ensures { result ≡ may_follow self.now.selected task.now }
     {

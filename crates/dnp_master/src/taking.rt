@@ -106,7 +106,7 @@ fn indicates_restart(iin: Iin) -> bool
     iin.one / 0x80 % 2 == 1
 }
 
-/// The command that stands selected behind the response to a task.
+/// The command that stands selected after the response to a task.
 fn selected_by(task: &Task, echo: &Echo) -> Option<Command>
     ensures { result ≡ outcomes.selected_by task.now echo.now }
 {

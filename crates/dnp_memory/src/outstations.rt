@@ -99,7 +99,7 @@ fn restart(alloc: Global, station: &mut Station) -> Option<u64> {
     Some(rows.as_slice().len() as u64)
 }
 
-/// A number with `digits` behind it, which are two.
+/// A number with `digits` after it, which are two.
 pub(crate) fn with_digits(number: u64, digits: u64) -> u64 {
     number.wrapping_mul(100).wrapping_add(digits)
 }

@@ -22,7 +22,7 @@ use Rattle.dnp_objects.proofs.CommandOctets.{is_block, is_setpoint}
 number_front : (n x : ℕ) (rest : List ℕ) → x < 256 ^ n → little_number n (little_bytes n x ++ rest) ≡ x
 number_front n x rest small = number_in n x rest ∙ mod-eq_of_lt small
 
--- the octet behind some
+-- the octet after some
 octet_behind : (n : ℕ) (xs : List ℕ) (x : ℕ) → length xs ≡ n → get_or (xs ++ x ∷ []) n 0 ≡ x
 octet_behind n xs x size =
     let here : get_or (drop n (xs ++ x ∷ [])) 0 0 ≡ get_or (xs ++ x ∷ []) (n + 0) 0 = get_or-drop n (xs ++ x ∷ []) 0 0 in

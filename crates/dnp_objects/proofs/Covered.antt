@@ -61,19 +61,19 @@ pub IsCoveredBy-cons : {A : Type 0} (x : A) (xs ys : List A) → IsCoveredBy xs 
 IsCoveredBy-cons x xs ys h =
     record { at_most = λ test. omega (arith, h.at_most test, count_by-cons test x xs, count_by-cons test x ys) }
 
--- covered stays so where each list gets more behind it, covered in its turn
+-- covered stays so where each list gets more after it, covered in its turn
 pub IsCoveredBy-append : {A : Type 0} (xs ys us vs : List A) → IsCoveredBy xs ys → IsCoveredBy us vs → IsCoveredBy (xs ++ us) (ys ++ vs)
 IsCoveredBy-append xs ys us vs h k =
     record { at_most = λ test. omega (arith, h.at_most test, k.at_most test, count_by-append test xs us, count_by-append test ys vs) }
 
--- a list is covered by itself with more behind it, and in front of it
+-- a list is covered by itself with more after it, and in front of it
 pub IsCoveredBy-in_front : {A : Type 0} (xs ys : List A) → IsCoveredBy xs (xs ++ ys)
 IsCoveredBy-in_front xs ys = record { at_most = λ test. omega (arith, count_by-append test xs ys) }
 
 pub IsCoveredBy-behind : {A : Type 0} (xs ys : List A) → IsCoveredBy ys (xs ++ ys)
 IsCoveredBy-behind xs ys = record { at_most = λ test. omega (arith, count_by-append test xs ys) }
 
--- the covering list may get more behind it, and the covered one lose what stands behind
+-- the covering list may get more after it, and the covered one lose what stands after it
 pub IsCoveredBy-more : {A : Type 0} (xs ys zs : List A) → IsCoveredBy xs ys → IsCoveredBy xs (ys ++ zs)
 IsCoveredBy-more xs ys zs h = IsCoveredBy-trans xs ys (ys ++ zs) h (IsCoveredBy-in_front ys zs)
 

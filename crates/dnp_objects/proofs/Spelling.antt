@@ -121,7 +121,7 @@ unfolding first_octet
 first_back k true w t r = refl
 first_back k false w t r = refl
 
--- what stands behind the flags
+-- what stands after the flags
 behind_flags : (k : Kind) (f : Bool) (w : ℕ) (t : Bool) (r : Row)
     → drop (flags_size (shape k f w t)) (row_octets (shape k f w t) r) ≡ little_bytes w (cast_unsigned w64 r.value) ++ time_octets t r.time
 behind_flags k true w t r = refl

@@ -62,7 +62,7 @@ taken_octets n xs small i = elim (cases_lt i n) [
       omega arith
 ]
 
--- octets behind some octets are octets
+-- octets after some octets are octets
 pub dropped_octets : (n : ℕ) (octets : List ℕ) → AreOctets octets → AreOctets (drop n octets)
 dropped_octets n octets small i = subst (λ (x : ℕ). x < 256) (sym (get_or-drop n octets i 0)) (small (n + i))
 

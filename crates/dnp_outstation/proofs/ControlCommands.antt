@@ -10,7 +10,7 @@ pub more_from : {A : Type 0} (f : ℕ → List A) (k n : ℕ) → k < n
     → flat_map f (range_with_len k (n - k)) ≡ f k ++ flat_map f (range_with_len (k + 1) (n - (k + 1)))
 more_from f k n less = let one : n - k ≡ suc (n - (k + 1)) = omega arith in ap (λ m. flat_map f (range_with_len k m)) one
 
--- a command is put behind those before it
+-- a command is put after those before it
 pub one_put : (h : Head) (k n : ℕ) (before all : List Command) (c : Command) → k < n → command_at h k ≡ Some c
     → before ++ commands_from h k (n - k) ≡ all → (before ++ c ∷ []) ++ commands_from h (k + 1) (n - (k + 1)) ≡ all
 one_put h k n before all c less is sum =

@@ -66,7 +66,7 @@ kept_kinds kind rows (Some new) lane all = by (new.lane == lane && new.has_dropp
     by true = All-drop (λ (x : Numbered). x.row.kind ≡ kind) 1 rows all
     by false = all
 
--- where the held rows don't all fit, what comes behind doesn't matter
+-- where the held rows don't all fit, what comes after doesn't matter
 pub held_full : (w w' : Writer) (lane most : ℕ) (all rows kept : List Numbered) (new : Option NewRow) → 1 ≤ most → rows ≡ take most all
     → kept ≡ kept_of rows new lane → Puts w (map (event_of 0 lane) kept) false w'
     → Puts w (map (event_of 0 lane) (kept_of all new lane ++ more_of new lane)) false w'

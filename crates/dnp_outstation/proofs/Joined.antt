@@ -34,7 +34,7 @@ written_of x = of x.item.thing
     of (Event lane row) = written.indexed x.object.group x.object.variation x.object.index x.object.octets
     of (Present static) = written.spanned x.object.group x.object.variation static.row.index x.object.octets
 
--- so many places behind another, under the same header
+-- so many places after another, under the same header
 abbrev pub IsBehind : Laid → ℕ → Laid → Type 0
 IsBehind x k y = by x.item.thing y.item.thing
   where

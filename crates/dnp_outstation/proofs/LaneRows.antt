@@ -185,7 +185,7 @@ filter_swap p q (x ∷ xs) = by (p x) (q x) refl refl (filter_swap p q xs)
     by : (a b : Bool) → p x ≡ a → q x ≡ b → filter p (filter q xs) ≡ filter q (filter p xs) → filter p (filter q (x ∷ xs)) ≡ filter q (filter p (x ∷ xs))
     by a b pa qb same = left (q x) ∙ middle (p x) (q x) same ∙ sym (right (p x))
 
--- a beginning of the rows left is given: what is left then stands behind it
+-- a beginning of the rows left is given: what is left then stands after it
 left_behind : (s : Stock) (stood : ℕ) (given given' : List ℕ) (lane : ℕ) (xs rest : List Numbered) → Rising 0 (lane_at s lane).rows
     → slice_index given' lane ≡ last_or (slice_index given lane) xs → rows_left s stood given lane ≡ xs ++ rest → rows_left s stood given' lane ≡ rest
 left_behind s stood given given' lane xs rest rising last is =

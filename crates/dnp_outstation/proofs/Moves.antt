@@ -99,7 +99,7 @@ held_some law (x ∷ xs) can none =
     let go : CanGo (lay x) = record { stands = All-head CanStand x xs can; says = refl } in
     absurd (let fits : fits_fragment (lay x ∷ []) ≡ true = one_fits law (lay x) go in cc)
 
--- a READ goes on only behind a fragment that holds something
+-- a READ goes on only after a fragment that holds something
 pub goes_on_behind_some : PutLaws → (s : Source) (stood : ℕ) (place next : Place) (headers : List Head) → IsSound s.lanes → AreWritable s
     → (offered s stood place headers).left ≡ Some next → held_of (items_left s stood place headers) ≡ [] → ⊥
 goes_on_behind_some law s stood place next headers sound writable left none =

@@ -170,7 +170,7 @@ length_named r group block kind base lo hi n ps hi_is named =
 
 -- ---- items, one after the other
 
--- behind items that were put stand the others
+-- after items that were put stand the others
 pub puts_more : (w w' : Writer) (fit : Bool) (xs ys more : List Item)
     → Puts w xs fit w' → fit ≡ true → fill w ((xs ++ ys) ++ more) ≡ fill w' (ys ++ more)
 puts_more w w' fit xs ys more put fits =
@@ -204,7 +204,7 @@ next_block : (blocks : List BlockState) (number : ℕ) (block : BlockState) → 
 next_block blocks number block less is =
     drop_more blocks number block less ∙ ap (λ (b : BlockState). b ∷ drop (number + 1) blocks) (sym is)
 
--- what a header asks for of the blocks from one on: first of it, then of those behind it
+-- what a header asks for of the blocks from one on: first of it, then of those after it
 pub block_first : (header skip skip' : ℕ) (r : Range) (kind : Kind) (number : ℕ) (block : BlockState) (blocks : List BlockState)
     → number < length blocks → block ≡ get_or blocks number block
     → skip' ≡ skip - length (in_range r (statics_from (group_of kind) number kind block.base block.points))

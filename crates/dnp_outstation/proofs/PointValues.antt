@@ -89,7 +89,7 @@ abbrev pub after_points : Writer → ℕ → ℕ → ℕ → Built → ℕ → W
 after_points w header group block b n =
     record { builder = b; run = OfBlock header group block; place = passed_by w.place header n; upto = w.upto }
 
--- what is filled from there: where all were put with what comes behind, or else no more
+-- what is filled from there: where all were put with what comes after, or else no more
 abbrev pub Ends : Writer → ℕ → ℕ → ℕ → List Item → Bool → Built → ℕ → Filled
 Ends w header group block more all b n =
     cond all (fill (after_points w header group block b n) more) (ended false (after_points w header group block b n))
@@ -115,7 +115,7 @@ next_count n m = grind (arith, nat_tests)
 no_count : (m : ℕ) → (0 == suc m) ≡ false
 no_count m = grind (arith, nat_tests)
 
--- the first is put, and so are the others behind it
+-- the first is put, and so are the others after it
 first_put : (w : Writer) (b : Built) (header group block : ℕ) (kind : Kind) (index : ℕ) (p : PointState) (ps : List PointState) (more : List Item)
     → built_for w (OfBlock header group block) ≡ b → nat_le (size (with_object b (point group (row_of kind index p.reading)))) MAX_FRAGMENT ≡ true
     → ((w' : Writer) → w'.run ≡ OfBlock header group block → passed_by w'.place header 0 ≡ w'.place

@@ -128,7 +128,7 @@ upto_first id low (x ∷ xs) rising = by (nat_le x.id id) refl (upto_first id x.
           | inr most ↦ absurd (let t : nat_le x.id id ≡ true = le-leb x.id id most in cc)
         ]
 
--- what stands behind the first of those over a number is over the last of these
+-- what stands after the first of those over a number is over the last of these
 pub over_rest : (low id : ℕ) (all xs rest : List Numbered) → Rising low all → filter (over id) all ≡ xs ++ rest → filter (over (last_or id xs)) all ≡ rest
 over_rest low id all [] rest rising is = is
 over_rest low id all (x ∷ xs) rest rising is = over_rest low x.id all xs rest rising (behind low all rising is)

@@ -113,7 +113,7 @@ with_new b h = record { function = b.function; ended = heads b; run = Some h }
 run_broken : (b : Built) → heads (broken b) ≡ heads b
 run_broken b = append-nil (heads b)
 
--- a header that joins nothing is put behind the others
+-- a header that joins nothing is put after the others
 put_new : (b : Built) (object : Head) (o : Option Head) → b.run ≡ o → option_and_then (λ run. joined run object) o ≡ None
     → with_object b object ≡ with_new b object
 unfolding with_object

@@ -46,7 +46,7 @@ AreRowsUpto s upto items = (lane : ℕ) → lane < LANES
 
 -- ---- the fragments of one response
 
--- the rows of each lane come in order, behind the last ones given, and none came after the READ was first answered
+-- the rows of each lane come in order, after the last ones given, and none came after the READ was first answered
 pub record AreNext (given : List ℕ) (stood : ℕ) (items : List Item) : Type 0 where
   pub in_order : (lane : ℕ) → lane < LANES → AllPairs (λ x y. x.id < y.id) (rows_in_lane lane items)
   pub after_given : (lane : ℕ) → lane < LANES → All (λ x. slice_index given lane < x.id) (rows_in_lane lane items)
@@ -57,7 +57,7 @@ pub record IsOnward (given later : List ℕ) : Type 0 where
   pub nine : length later ≡ LANES
   pub rises : (lane : ℕ) → lane < LANES → slice_index given lane ≤ slice_index later lane
 
--- none of these items' rows is behind the last ones given
+-- none of these items' rows is after the last ones given
 abbrev pub AreGiven : List ℕ → List Item → Type 0
 AreGiven given items = (lane : ℕ) → lane < LANES → All (λ x. x.id ≤ slice_index given lane) (rows_in_lane lane items)
 

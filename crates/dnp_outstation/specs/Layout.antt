@@ -77,7 +77,7 @@ stretches (x ∷ xs) = in_front x (stretches xs)
 
 -- ---- the headers
 
--- the range of so many objects more behind this one: of events a count, with an index before each (qualifier 28),
+-- the range of so many objects more after this one: of events a count, with an index before each (qualifier 28),
 -- and of present values the first and the last index (qualifier 01)
 abbrev pub range_of : Thing → ℕ → Range
 range_of (Event lane row) more = range.Indexed true (more + 1)

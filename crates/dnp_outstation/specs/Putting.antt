@@ -11,7 +11,7 @@ use Rattle.dnp_outstation.specs.declared.offer.writer.Writer.{Writer}
 use Rattle.dnp_outstation.specs.Items.{Item, Static, present_of}
 use Rattle.dnp_outstation.specs.Filling.{fill, ended}
 
--- the items were put, all of them or, where they don't fit, as many as do: whatever comes behind
+-- the items were put, all of them or, where they don't fit, as many as do: whatever comes after
 abbrev pub Puts : Writer → List Item → Bool → Writer → Type 0
 Puts w items fit w' = (more : List Item) → fill w (items ++ more) ≡ (if fit then fill w' more else ended false w')
 

@@ -176,7 +176,7 @@ fn spoken(octets: &[u8], answer: Answer) -> Option<Answer>
 /// Carries out a control request, and writes its answer; none, where it has none.
 ///
 /// `selects` is lent as it was before the request came, or as `new_request` has left it, and is left as it is
-/// behind the request: the select of an OPERATE is used up, that of another request forgotten, and a new one
+/// after the request: the select of an OPERATE is used up, that of another request forgotten, and a new one
 /// stands where a SELECT made one. A fault is the outputs' own; nothing has changed then.
 pub(crate) fn execute_control<O: Outputs>(
     writer: &mut Writer,

@@ -57,7 +57,7 @@ pub fn a_fragment_carries_the_rows_up_to_its_ids()
 {}
 
 /// A row stands once at most in a response, of however many fragments: in each lane the rows of a
-/// fragment rise, they are behind all that were given before, and none came after the READ was first
+/// fragment rise, they are after all that were given before, and none came after the READ was first
 /// answered.
 pub fn a_row_stands_once_in_a_response()
     ensures next { (s : Source) (stood : ℕ) (place : Place) (headers : List Head) → IsSound s.lanes
@@ -140,7 +140,7 @@ pub fn a_release_takes_what_the_octets_said()
 }
 
 /// So it is at all times: where a connection begins, and after each call and each change of the lanes. So where
-/// a response goes on behind a confirm, nothing that it gave before is left.
+/// a response goes on after a confirm, nothing that it gave before is left.
 pub fn calls_leave_nothing_else_given()
     ensures further { (s : State) (w : Awaited) (last : LastRequest) (place : Place) → IsSound s.lanes → LeavesNothing s
         → s.core.session.awaited ≡ Some w → s.core.session.last ≡ Some last → last.left ≡ Some place

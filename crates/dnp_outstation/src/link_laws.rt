@@ -137,7 +137,7 @@ pub fn each_case_says_what_came()
 
 /// The end of a call starts an unsolicited response only where the outstation is open, awaits no confirm and
 /// holds no READ. An opening starts the empty one where none was confirmed since the restart. What is sent is
-/// what is kept, behind all that the call has sent.
+/// what is kept, after all that the call has sent.
 pub fn an_unsolicited_response_starts_where_none_is_awaited()
     ensures ends { (now : ℕ) (step : Step) → EndsAs now step }
     ensures opens { (s : State) (now : ℕ) → s.core.times.unsolicited ≡ true → s.core.announced ≡ false
@@ -194,7 +194,7 @@ pub fn a_confirm_releases_what_its_fragment_reported()
     ensures opened { (s : State) (now : ℕ) → ReleasesNone s (opened_of s now) }
 {}
 
-/// A READ that comes while an unsolicited response is awaited is held, and nothing is sent. It is answered behind
+/// A READ that comes while an unsolicited response is awaited is held, and nothing is sent. It is answered after
 /// the confirm, from the lanes as its release leaves them; where none is held the confirm sends nothing.
 pub fn a_held_read_is_answered_behind_the_confirm()
     ensures waits { (s : State) (o : Panel) (now : ℕ) (octets : List ℕ) → case_of s.core octets ≡ case.Waits

@@ -41,7 +41,7 @@ impl SequenceNumber {
         self.0
     }
 
-    /// The one after it: behind 15 comes 0.
+    /// The one after it: after 15 comes 0.
     pub fn next(self) -> SequenceNumber
         ensures { result ≡ (self + 1) % 16 }
     {

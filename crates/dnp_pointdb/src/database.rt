@@ -219,7 +219,7 @@ impl PointDb {
         self.banks[kind.number()].set(kind, index, reading)
     }
 
-    /// The device behind a block can't be reached: in the block with this number in the plan, from
+    /// The device after a block can't be reached: in the block with this number in the plan, from
     /// 0, of each kind that has one, each reading loses the flag ONLINE and gets COMM_LOST. The
     /// last reports stay.
     pub fn mark_lost(&mut self, block: usize)

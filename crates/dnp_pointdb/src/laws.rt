@@ -158,7 +158,7 @@ pub fn a_change_makes_what_its_lane_takes()
 {}
 
 /// An order of blocks finds each index: where it stands in the extent of a place, that is the place that has it, and
-/// where it stands behind the last place that begins up to it, or before all, no block has it.
+/// where it stands after the last place that begins up to it, or before all, no block has it.
 pub fn an_order_finds_each_index()
     ensures found { (es : List Extent) (order : List PlaceValue) (index m : ℕ) (d : PlaceValue) → IsOrder es order → m < length order
         → (slice_index_or order m d).first ≤ index → index < (slice_index_or order m d).first + (slice_index_or order m d).count

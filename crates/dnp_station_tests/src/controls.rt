@@ -103,7 +103,7 @@ pub(crate) const CONTROLS: [Case; 5] = [
         (Gets(&[0xC9, 0x01, 0x0A, 0x00, 0x00, 0x04, 0x05]),
             Sends(&[0xC9, 0x81, 0x00, 0x00, 0x0A, 0x02, 0x01, 0x04, 0x00, 0x05, 0x00, 0x01, 0x81])),
     ]),
-    // A select stands behind an OPERATE that can't be read and behind a confirm, but behind no other request. The
+    // A select stands after an OPERATE that can't be read and after a confirm, but after no other request. The
     // OPERATE has to have the same octets, with their statuses; the bit above a status is never answered.
     (&[], Polled, &[
         OPENS,
@@ -150,7 +150,7 @@ pub(crate) const CONTROLS: [Case; 5] = [
             Sends(&[0xC5, 0x81, 0x00, 0x04])),
     ]),
     // A control request is carried out while a confirm is awaited, and a READ that waited isn't answered then. It
-    // ends the waiting for a response's confirm, so behind its answer, or alone where it has none, the rows go out.
+    // ends the waiting for a response's confirm, so after its answer, or alone where it has none, the rows go out.
     (&[BINARY], Unsolicited, &[
         ANNOUNCES,
         (Gets(&[0xC0, 0x01, 0x3C, 0x02, 0x06]), Nothing),

@@ -117,7 +117,7 @@ fn a_journal_keeps_events_in_order(rt: HostRuntime) -> Result<(), Fail> {
         Append(&[101, 101], &[], 4),
         Rows(0, 9, &[(1, 103), (2, 101), (3, 101), (4, 101)]),
         Append(&[102], &[201], 5),
-        // From behind an id, and up to a limit.
+        // From after an id, and up to a limit.
         Rows(1, 9, &[(2, 101), (3, 101), (4, 101), (5, 102)]),
         Rows(2, 2, &[(3, 101), (4, 101)]),
         Rows(4, 9, &[(5, 102)]),

@@ -130,7 +130,7 @@ const STEPS: [Step<'static>; 37] = [
     Counts(0, 0, 0, 5, false),
     Append(&[(0, 118)], &[]),
     Offer(0, 0, 9, &[(18, 118)]),
-    // An offer begins behind an id, and ends at its limit.
+    // An offer begins after an id, and ends at its limit.
     Append(&[(1, 119), (1, 120), (1, 121), (1, 122)], &[]),
     Offer(1, 19, 2, &[(20, 120), (21, 121)]),
     Offer(1, 22, 9, &[]),

@@ -170,7 +170,7 @@ fn shown(link: &mut PlainLink) -> Option<Shown> {
     ))
 }
 
-/// Whether a link shows behind each row what the row says.
+/// Whether a link shows after each row what the row says.
 fn goes(link: &mut PlainLink, alloc: Global, rows: Rows) -> bool {
     for (times, runs, wanted) in rows {
         if !repeats(link, alloc, *times, runs) || shown(link) != Some(*wanted) {
@@ -190,7 +190,7 @@ const LOSSES: Rows = &[
     (1, &[Polls, Repeats(Down), Delivers(Down, 1), Delivers(Up, 2), Delivers(Down, 1)], (18, 1, 0, 0)),
     // A full lane drops its oldest, and a restart empties the others.
     (1, &[Reads(0), Reads(1), Reads(0), Restarts(End::Outstation)], (18, 1, 3, 0)),
-    // A poll whose response is lost: behind its timer the master asks nothing more.
+    // A poll whose response is lost: after its timer the master asks nothing more.
     (1, &[Opens, Reads(1), Polls, Delivers(Down, 1), Loses(Up), Waits(10_000), Polls], (18, 1, 3, 1)),
     (1, &[Delivers(Down, 1), Delivers(Up, 1), HangsUp(End::Master)], (18, 1, 3, 1)),
 ];

@@ -22,7 +22,7 @@ pub(crate) enum Call<'a> {
     HangsUp,
     /// These octets come.
     Gets(&'a [u8]),
-    /// These two octets come, with these behind them, the objects of a control request.
+    /// These two octets come, with these after them, the objects of a control request.
     Controls([u8; 2], &'a [u8]),
     /// A point reads this value with flags 01 at a time, if it has one.
     Reads(Kind, u16, i64, Option<u64>),
@@ -51,7 +51,7 @@ pub(crate) enum Does<'a> {
     Overwrites(&'a [(u16, i64)], &'a [u8]),
     /// It gives this time, and sends these octets.
     Sets(u64, &'a [u8]),
-    /// It sends these four octets, with these behind them, and from the beginning on its outputs have
+    /// It sends these four octets, with these after them, and from the beginning on its outputs have
     /// performed just these commands.
     Answers([u8; 4], &'a [u8], &'a [Command]),
     /// The same, and it sends these octets, or nothing where there are none.

@@ -54,7 +54,7 @@ pub(crate) const UNSOLICITED: [Case; 8] = [
         (Gets(&[0xC0, 0x17]), Nothing),
         ANNOUNCES,
     ]),
-    // A READ waits, and the one after it in its place, which is answered behind the confirm. Other requests
+    // A READ waits, and the one after it in its place, which is answered after the confirm. Other requests
     // are answered at once; one of them takes the place of a READ, which is never answered then. A request
     // that is repeated goes out again. The next connection begins with number 0, and the class stays enabled.
     (&[BINARIES_4], Unsolicited, &[
@@ -105,9 +105,9 @@ pub(crate) const UNSOLICITED: [Case; 8] = [
         (Gets(&[0xC0, 0x01, 0x6E, 0x00, 0x06]), Nothing),
         (Gets(&[0xD0, 0x00]), Discards(&[(3, 1), (2, 1), (1, 1)], &[0xC0, 0x81, 0x80, 0x02])),
     ]),
-    // The answer to the request that enables a class, and behind it the response with its rows. A READ that
+    // The answer to the request that enables a class, and after it the response with its rows. A READ that
     // waited is answered with the rows that came since; while its confirm is awaited no other response begins, and
-    // behind it one does, or once its timer has ended.
+    // after it one does, or once its timer has ended.
     (&[BINARY, COUNTER_1], Unsolicited, &[
         ANNOUNCES,
         IS_HEARD,

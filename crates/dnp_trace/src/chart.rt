@@ -89,7 +89,7 @@ fn row_y(row: u32) -> u32 {
     row.saturating_mul(ROW).saturating_add(TOP)
 }
 
-/// Where the station of this column stands: the centre, the concentrator, and the substations behind them.
+/// Where the station of this column stands: the centre, the concentrator, and the substations after them.
 fn column_x(column: u32) -> u32 {
     column.saturating_mul(APART).saturating_add(LEFT)
 }

@@ -3,7 +3,7 @@
 use crate::sheet::Sheet;
 use std::alloc::{AllocError, Global};
 
-/// The names of what the words of a list's item say behind its substation, and whether their values stand in quotes.
+/// The names of what the words of a list's item say after its substation, and whether their values stand in quotes.
 static EVENT: [(&str, bool); 5] = [
     ("kind", true),
     ("index", false),

@@ -187,7 +187,7 @@ impl Log {
         }
     }
 
-    /// The unit of this number stands on the line, behind those that stand there.
+    /// The unit of this number stands on the line, after those that stand there.
     fn put_on(&mut self, course: Course, number: usize) {
         let place = self.place(course);
         let kept = match self.standing.get_mut(place) {
@@ -248,7 +248,7 @@ impl Log {
         }
     }
 
-    /// A unit of a round or a control comes to its end. Those that come behind one another on one line were all sent before
+    /// A unit of a round or a control comes to its end. Those that come after one another on one line were all sent before
     /// the first of them came.
     pub fn carried(&mut self, course: Course, octets: &[u8]) {
         if self.carrying != Some(course) {

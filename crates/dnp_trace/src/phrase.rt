@@ -7,7 +7,7 @@ use dnp_appfragment::{
 use dnp_linkframe::read_frame;
 use dnp_linkstation::{PrimaryFunction, SecondaryFunction};
 
-/// How many headers of a fragment are named. Of those behind them the number is said.
+/// How many headers of a fragment are named. Of those after them the number is said.
 const NAMED: u32 = 8;
 
 /// The replies of the link layer.

@@ -1,4 +1,4 @@
-//! Octets that are written one behind the other.
+//! Octets that are written one after the other.
 
 use itoa::{Buffer, Integer};
 use std::alloc::{AllocError, Global};

@@ -6,7 +6,7 @@ use Rattle.dnp_decode.specs.declared.ports.Port.{Port}
 use Rattle.dnp_decode.specs.StreamLines.{IsStep, AreLines}
 use Rattle.dnp_decode.specs.steps.Remembered.{Remembers}
 
--- after these frames, what stands at the front of the stream was read: n octets. Its lines were put behind the old ones
+-- after these frames, what stands at the front of the stream was read: n octets. Its lines were put after the old ones
 pub record Stepped (heard : List Frame) (stream : List ℕ) (n : ℕ) (old new : List Line) (ports : List Port) : Type 0 where
   pub own : List Line
   pub after : List Frame

@@ -1,4 +1,4 @@
--- The port of the frame's direction takes its user data; its lines are put behind the two of the frame and the segment.
+-- The port of the frame's direction takes its user data; its lines are put after the two of the frame and the segment.
 use Rattle.std.proofs.Common.{◌≡◌, ℕ, true, List, ◌∷◌, get_or, sym, ◌∙◌, ap, subst, refl}
 use Rattle.dnp_transport.specs.Assembly.{Assembly, Stands}
 use Rattle.dnp_decode.specs.declared.line.Line.TheVariants as line

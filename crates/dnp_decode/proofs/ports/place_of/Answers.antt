@@ -1,4 +1,4 @@
--- The first port of the direction, or a new one behind the others.
+-- The first port of the direction, or a new one after the others.
 use Rattle.std.proofs.Common.{◌<◌, ◌≤◌, List, length, sym, ◌∙◌, ap, subst, refl, arith}
 use Rattle.dnp_decode.specs.declared.ports.Port.{Port}
 use Rattle.dnp_decode.specs.steps.Remembered.{assembly_in, IsPlace}

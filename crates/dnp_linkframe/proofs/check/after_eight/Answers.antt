@@ -1,4 +1,4 @@
--- Each octet is looked up at the number of those behind it.
+-- Each octet is looked up at the number of those after it.
 use Rattle.std.proofs.Common.{arith}
 use Rattle.dnp_linkframe.proofs.EightOctets.{eight_divided}
 use Rattle.dnp_linkframe.proofs.check.after_eight.Goals as goal

@@ -4,7 +4,7 @@ use Rattle.dnp_outstation.specs.Filling.{fill}
 use Rattle.dnp_outstation.specs.Putting.{group_of, presents}
 use Rattle.dnp_outstation.proofs.offer.writer.Writer.put_blocks.Given as goal
 
--- what is written and what is left to write are the whole, whatever comes behind
+-- what is written and what is left to write are the whole, whatever comes after
 abbrev pub invariant-loop-number : goal.invariant-loop-number
 invariant-loop-number l = record {
   written : (more : List Item) → fill l.self

@@ -3,7 +3,7 @@ use Rattle.dnp_outstation.specs.Items.{Item, enabled_lanes, lane_items}
 use Rattle.dnp_outstation.specs.Filling.{after_release, fill}
 use Rattle.dnp_outstation.proofs.offer.writer.Writer.put_classes.Given as goal
 
--- what is written and what is left to write are the whole, whatever comes behind
+-- what is written and what is left to write are the whole, whatever comes after
 abbrev pub invariant-loop-class : goal.invariant-loop-class
 invariant-loop-class g l = record {
   written : g.L.Lanes.honest l.lanes → (more : List Item) →

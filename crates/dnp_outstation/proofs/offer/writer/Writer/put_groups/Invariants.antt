@@ -5,7 +5,7 @@ use Rattle.dnp_outstation.specs.Filling.{fill}
 use Rattle.dnp_outstation.specs.Putting.{presents}
 use Rattle.dnp_outstation.proofs.offer.writer.Writer.put_groups.Given as goal
 
--- what is written and what is left to write are the whole, whatever comes behind
+-- what is written and what is left to write are the whole, whatever comes after
 abbrev pub invariant-loop-group : goal.invariant-loop-group
 invariant-loop-group g l = record {
   written : (s : Source) → s.points ≡ l.points → s.panel ≡ g.O.Outputs.panel l.outputs → (more : List Item)

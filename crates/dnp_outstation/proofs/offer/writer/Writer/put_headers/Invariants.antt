@@ -3,7 +3,7 @@ use Rattle.dnp_outstation.specs.Items.{Source, Item, part_of, parts_left, items_
 use Rattle.dnp_outstation.specs.Filling.{after_release, fill}
 use Rattle.dnp_outstation.proofs.offer.writer.Writer.put_headers.Given as goal
 
--- what is written and what is left to write are the whole, whatever comes behind
+-- what is written and what is left to write are the whole, whatever comes after
 abbrev pub invariant-loop-header : goal.invariant-loop-header
 invariant-loop-header g l = record {
   few : l.at + length l.header-iterator.headers ≡ l.first + length l.initial.header-iterator.headers;

@@ -4,7 +4,7 @@ use Rattle.dnp_outstation.specs.Items.{Item, event_items, given_after}
 use Rattle.dnp_outstation.specs.Filling.{after_release, fill}
 use Rattle.dnp_outstation.proofs.offer.writer.Writer.put_lanes.Given as goal
 
--- what is written and what is left to write are the whole, whatever comes behind
+-- what is written and what is left to write are the whole, whatever comes after
 abbrev pub invariant-loop-lane : goal.invariant-loop-lane
 invariant-loop-lane g l = record {
   given : g.L.Lanes.honest l.lanes →
