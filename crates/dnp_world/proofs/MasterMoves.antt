@@ -11,13 +11,14 @@ use Rattle.std.proofs.lemmas.Option.{none-some, same_Some}
 use Rattle.dnp_objects.specs.declared.row.Row.{Row}
 use Rattle.dnp_appfragment.specs.declared.fault.AppFault.{AppFault}
 use Rattle.dnp_appfragment.specs.Control.{ControlBits}
+use Rattle.dnp_appfragment.specs.EventRows.{answered_events}
 use Rattle.dnp_appfragment.specs.Fragments.{Answered, confirmation, request_octets}
 use Rattle.dnp_appfragment.specs.Meaning.{response_at}
 use Rattle.dnp_eventbuf.specs.Buffered.{Buffered, buffered_row}
 use Rattle.dnp_master.specs.declared.fault.MasterFault.{MasterFault}
 use Rattle.dnp_master.specs.Calls.{Taking, confirm_for, receive_of, unheeded}
 use Rattle.dnp_master.specs.State.{State}
-use Rattle.dnp_master.specs.Steps.{answered_events, events_at, PassesOver, TakesResponse, TakesReport}
+use Rattle.dnp_master.specs.Steps.{events_at, PassesOver, TakesResponse, TakesReport}
 use Rattle.dnp_world.specs.Lists.{Each}
 use Rattle.dnp_world.specs.Octets.{after, answered_rows, control_in, seq_in, uns_in, con_in, fin_in, rows_in}
 use Rattle.dnp_world.specs.Link.{Fragment, seq_of, fin_of, Down, Confirms, ConfirmsReport, Up, Responds, Reports, Master, Link}
