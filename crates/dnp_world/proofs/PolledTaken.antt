@@ -21,7 +21,7 @@ use Rattle.dnp_master.specs.declared.request.OpenRequest.{OpenRequest}
 use Rattle.dnp_objects.specs.declared.row.Row.{Row}
 use Rattle.dnp_outstation.specs.Items.{Item}
 use Rattle.dnp_outstation.specs.Layout.{fits_fragment, headers_of}
-use Rattle.dnp_outstation.specs.Said.{CanStand, HaveIndexes, rows_said}
+use Rattle.dnp_outstation.specs.Said.{CanStand, HaveIndexes}
 use Rattle.dnp_outstation.specs.Said as said
 use Rattle.dnp_outstation.specs.State as outstation
 use Rattle.dnp_outstation.proofs.ItemsOf.{pushed_stand}
@@ -32,7 +32,7 @@ use Rattle.dnp_world.specs.Rounds.{events_polled}
 
 -- what the crate of outstations promises of items that can be written
 abbrev pub RowsAreSaid : Type 0
-RowsAreSaid = (items : List Item) → All CanStand items → fits_fragment items ≡ true → rows_said (headers_of items) ≡ said.events_in items
+RowsAreSaid = (items : List Item) → All CanStand items → fits_fragment items ≡ true → events_in (headers_of items) ≡ said.events_in items
 
 -- ---- asking
 
