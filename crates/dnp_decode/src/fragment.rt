@@ -32,12 +32,7 @@ pub(crate) const LAST_REQUEST: u8 = 127;
 fn state_at(header: &Header<'_>, group: u8, k: usize) -> Option<Row>
     ensures { result ≡ spec.state_in group (head header.now) k }
 {
-    let states = Header {
-        group,
-        variation: header.variation,
-        range: header.range,
-        octets: header.octets,
-    };
+    let states = Header { group, ..*header };
     states.row(k)
 }
 

@@ -9,6 +9,7 @@ use Rattle.dnp_appfragment.specs.declared.function.Function.{Function}
 use Rattle.dnp_appfragment.specs.declared.function.Function.TheVariants as function
 use Rattle.dnp_appfragment.specs.declared.table.Form.TheVariants as form
 use Rattle.dnp_appfragment.specs.Control.{ControlBits}
+use Rattle.dnp_appfragment.specs.EventRows.{answered_events}
 use Rattle.dnp_appfragment.specs.Fragments.{Answered, confirmation, request_octets}
 use Rattle.dnp_appfragment.specs.Headers.{Head}
 use Rattle.dnp_appfragment.specs.Meaning.{control_of, function_at, response_at}
@@ -21,7 +22,7 @@ use Rattle.dnp_master.specs.declared.request.OpenRequest.{OpenRequest}
 use Rattle.dnp_master.specs.Calls.{Taking, unheeded, is_report, is_solicited, is_next, case_by, case_of, report_taken, ended, going_on, taken_as, checked, heard, receive_of, confirm_for}
 use Rattle.dnp_master.specs.Rows.{is_from_plan}
 use Rattle.dnp_master.specs.State.{State, after}
-use Rattle.dnp_master.specs.Steps.{control_in, answered_events, PassesOver, TakesResponse, TakesReport}
+use Rattle.dnp_master.specs.Steps.{control_in, PassesOver, TakesResponse, TakesReport}
 
 -- ---- the control octet
 

@@ -4,13 +4,14 @@ use Rattle.std.specs.List.{All, list_all}
 use Rattle.std.proofs.lemmas.Bool.{false≢true}
 use Rattle.dnp_objects.specs.declared.row.Row.{Row}
 use Rattle.dnp_appfragment.specs.declared.fault.AppFault.{AppFault}
+use Rattle.dnp_appfragment.specs.EventRows.{events_in}
 use Rattle.dnp_appfragment.specs.Fragments.{Answered}
 use Rattle.dnp_appfragment.specs.Meaning.{response_at}
 use Rattle.dnp_master.specs.declared.fault.MasterFault.TheVariants as fault
 use Rattle.dnp_master.specs.declared.request.Case.{Case}
 use Rattle.dnp_master.specs.declared.request.Case.TheVariants.{Unheeded, Awaited, Report}
 use Rattle.dnp_master.specs.Calls.{Taking, unheeded, case_of, report_taken, ended, going_on, taken_as, checked, heard, receive_of}
-use Rattle.dnp_master.specs.Rows.{events_in, is_from_plan, is_reported}
+use Rattle.dnp_master.specs.Rows.{is_from_plan, is_reported}
 use Rattle.dnp_master.specs.State.{State}
 
 abbrev AreReported : State → Taking → Type 0

@@ -10,6 +10,7 @@ use Rattle.dnp_appfragment.specs.declared.function.Function.{Function}
 use Rattle.dnp_appfragment.specs.declared.function.Function.TheVariants as function
 use Rattle.dnp_appfragment.specs.declared.iin.Iin.{Iin}
 use Rattle.dnp_appfragment.specs.Control.{ControlBits}
+use Rattle.dnp_appfragment.specs.EventRows.{events_in}
 use Rattle.dnp_appfragment.specs.Fragments.{Answered, request_octets, confirmation}
 use Rattle.dnp_appfragment.specs.Meaning.{response_at}
 use Rattle.dnp_pointdb.specs.Plan.{Plan}
@@ -27,7 +28,7 @@ use Rattle.dnp_master.specs.declared.task.Task.{Task}
 use Rattle.dnp_master.specs.declared.task.Task.TheVariants.{Poll, ClearRestart, Enable, Disable, WriteTime, Select, Operate}
 use Rattle.dnp_master.specs.Outcomes.{command_for, echo_after, outcome_for, selected_by}
 use Rattle.dnp_master.specs.Requests.{request_for, is_good}
-use Rattle.dnp_master.specs.Rows.{events_in, statics_in, is_from_plan}
+use Rattle.dnp_master.specs.Rows.{statics_in, is_from_plan}
 use Rattle.dnp_master.specs.State.{State, deadline, after}
 
 -- ---- asking

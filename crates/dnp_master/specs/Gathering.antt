@@ -2,13 +2,14 @@
 use Rattle.std.specs.Prelude.{◌≡◌, ℕ, ◌+◌, ◌<◌, ◌≤◌, true, false, List, [], ◌++◌, length, All, is_some}
 use Rattle.dnp_objects.specs.Events.{IsEvent}
 use Rattle.dnp_objects.specs.declared.row.Row.{Row}
+use Rattle.dnp_appfragment.specs.EventRows.{events_in}
 use Rattle.dnp_appfragment.specs.Headers.{Head}
 use Rattle.dnp_pointdb.specs.Classes.{class_at}
 use Rattle.dnp_pointdb.specs.Plan.{Plan}
 use Rattle.dnp_master.specs.declared.gathering.Gathering.{Gathering}
 use Rattle.dnp_master.specs.declared.gathering.Gathered.{Gathered}
 use Rattle.dnp_master.specs.declared.known.Known.{Known}
-use Rattle.dnp_master.specs.Rows.{events_in, statics_in, is_from_plan}
+use Rattle.dnp_master.specs.Rows.{statics_in, is_from_plan}
 
 -- these rows were gathered
 pub record Gathers (old : Gathering) (rows : List Row) (new : Gathering) : Type 0 where

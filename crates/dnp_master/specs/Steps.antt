@@ -1,24 +1,19 @@
 -- Definition: what the law of a link sees of a master's calls, by octets alone (IEEE Std 1815-2012,
 -- application layer: control octet, responses, confirmation).
-use Rattle.std.specs.Prelude.{◌≡◌, ℕ, true, false, not, List, [], None, is_some, Result, Ok, Err, slice_index_or}
+use Rattle.std.specs.Prelude.{◌≡◌, ℕ, true, false, not, List, [], None, is_some, slice_index_or}
 use Rattle.dnp_objects.specs.declared.row.Row.{Row}
-use Rattle.dnp_appfragment.specs.declared.fault.AppFault.{AppFault}
 use Rattle.dnp_appfragment.specs.Control.{ControlBits}
-use Rattle.dnp_appfragment.specs.Fragments.{Answered, request_octets}
+use Rattle.dnp_appfragment.specs.EventRows.{answered_events}
+use Rattle.dnp_appfragment.specs.Fragments.{request_octets}
 use Rattle.dnp_appfragment.specs.Meaning.{control_of, response_at}
 use Rattle.dnp_master.specs.declared.task.Task.{Task}
 use Rattle.dnp_master.specs.Calls.{Taking, confirm_for}
 use Rattle.dnp_master.specs.Requests.{request_for}
-use Rattle.dnp_master.specs.Rows.{events_in}
 use Rattle.dnp_master.specs.State.{State, after}
 
 -- the control octet is the first one; no fragment is without one
 abbrev pub control_in : List ℕ → ControlBits
 control_in octets = control_of (slice_index_or octets 0 0)
-
-abbrev pub answered_events : Result Answered AppFault → List Row
-answered_events (Ok answered) = events_in answered.headers
-answered_events (Err fault) = []
 
 -- the events of the response that the octets are, in order; octets that are no response have none
 abbrev pub events_at : List ℕ → List Row

@@ -1,18 +1,17 @@
 //! The rows of a response that the sink is given.
 
-ghost use Rattle.std.specs.Prelude.{◌≡◌, ◌≢◌, ◌≤◌, vec_len, ◌<◌, ◌^◌, ◌++◌, ◌⊎◌, true, false, [], ◌∷◌, All, IsTrue, IfOk, IfErr, filter};
+ghost use Rattle.std.specs.Prelude.{◌≡◌, ◌≢◌, ◌≤◌, vec_len, ◌<◌, ◌++◌, ◌⊎◌, true, false, [], ◌∷◌, All, IsTrue, IfOk, IfErr, filter};
 ghost use Rattle.std.specs.Vec.{vec_capacity};
 ghost use Rattle.std.specs.List.{list_all};
 ghost use Rattle.dnp_objects.specs.Events.{IsEvent};
-ghost use Rattle.dnp_appfragment.specs.Seen.{head};
+ghost use Rattle.dnp_appfragment.specs.EventRows.{events_in};
 ghost use Rattle.dnp_master.specs.Gathering.{Gathers, Holds};
 ghost use Rattle.dnp_master.specs.Rows as spec;
 ghost use Rattle.dnp_master.specs.Taking.{events_of, statics_of};
 
 use crate::fault::MasterFault;
 use crate::known::{Known, look_up};
-use dnp_appfragment::laws::{objects_say_rows_and_commands, rows_are_events};
-use dnp_appfragment::{Header, Headers, RowWalk};
+use dnp_appfragment::{Headers, RowWalk};
 use dnp_objects::Row;
 use dnp_pointdb::PointPlan;
 use std::alloc::Global;
@@ -71,13 +70,6 @@ fn is_reported(plan: &PointPlan, row: &Row) -> bool
         .is_some_and(|class| class > 0)
 }
 
-/// Whether the header's objects are events.
-fn is_event_header(header: &Header<'_>) -> bool
-    ensures { result ≡ spec.is_event_header (head header.now) }
-{
-    matches!(header.group, 2 | 22 | 32)
-}
-
 /// Gathers events, of which so many are expected, in order. Whether each is of a point that has events; where one is
 /// not, it ends there.
 fn gather_rows(
@@ -114,34 +106,18 @@ fn gather_planned(plan: &PointPlan, rows: RowWalk<'_>, expected: usize, gatherin
     }
 }
 
-/// An octet is below 2^8, wherever it is read.
-fn octets_are_small(octets: &[u8])
-    ensures { All (λ octet. octet < 2 ^ 8) octets.now }
-{}
-
-/// The rows of a header, in order. Each can be reported as an event.
-fn rows_of<'a>(header: &Header<'a>) -> RowWalk<'a>
-    ensures value { result ≡ spec.header_rows (head header.now) }
-    ensures events { All IsEvent result }
-{
-    objects_say_rows_and_commands();
-    rows_are_events();
-    octets_are_small(header.octets);
-    header.rows()
-}
-
 /// Gathers the events of these headers, in order. Whether each is of a point that has events; where
 /// one is not, it ends there.
 fn gather_events(plan: &PointPlan, headers: Headers<'_>, gathering: &mut Gathering) -> bool
     ensures checked { result ≡ spec.is_from_plan plan.now headers.entry.headers }
-    ensures gathered { IsTrue result → Gathers gathering.old (spec.events_in headers.entry.headers) gathering.new }
-    ensures carried { IsTrue result → All IsEvent (spec.events_in headers.entry.headers) }
+    ensures gathered { IsTrue result → Gathers gathering.old (events_in headers.entry.headers) gathering.new }
+    ensures carried { IsTrue result → All IsEvent (events_in headers.entry.headers) }
 {
     for header in headers {
-        if !is_event_header(&header) {
+        if !header.is_event() {
             continue;
         }
-        if !gather_rows(plan, rows_of(&header), header.count(), gathering) {
+        if !gather_rows(plan, header.rows(), header.count(), gathering) {
             return false;
         }
     }
@@ -153,8 +129,8 @@ fn gather_statics(plan: &PointPlan, headers: Headers<'_>, gathering: &mut Gather
     ensures { Gathers gathering.old (spec.statics_in plan.now headers.entry.headers) gathering.new }
 {
     for header in headers {
-        if !is_event_header(&header) {
-            gather_planned(plan, rows_of(&header), header.count(), gathering);
+        if !header.is_event() {
+            gather_planned(plan, header.rows(), header.count(), gathering);
         }
     }
 }
@@ -211,7 +187,7 @@ impl Gathered {
         ensures stranger { IfErr result (λ e. e ≡ MasterFault.Stranger → spec.is_from_plan plan.now headers.now.headers ≡ false) }
         ensures known { IfErr result (λ e. e ≡ MasterFault.Memory → spec.is_from_plan plan.now headers.now.headers ≡ true) }
         ensures memory { IfErr result (λ e. e ≡ MasterFault.Memory
-            → spec.events_in headers.now.headers ++ spec.statics_in plan.now headers.now.headers ≢ []) }
+            → events_in headers.now.headers ++ spec.statics_in plan.now headers.now.headers ≢ []) }
     {
         let mut gathering = Gathering {
             rows: Vec::new(alloc),

@@ -5,6 +5,7 @@ use Rattle.std.specs.List.{All, list_all}
 use Rattle.dnp_appfragment.specs.declared.fault.AppFault.{AppFault}
 use Rattle.dnp_appfragment.specs.declared.function.Function.{Function}
 use Rattle.dnp_appfragment.specs.declared.function.Function.TheVariants as function
+use Rattle.dnp_appfragment.specs.EventRows.{events_in as rows_said}
 use Rattle.dnp_appfragment.specs.Fragments.{Asked, IsRequest}
 use Rattle.dnp_appfragment.specs.declared.table.Form.{Form}
 use Rattle.dnp_appfragment.specs.declared.table.Form.TheVariants as form
@@ -23,7 +24,6 @@ use Rattle.dnp_outstation.specs.Content.{Content, Executed, plain, answered, con
 use Rattle.dnp_outstation.specs.Controls.{Outcome, commands_in, headers_with, come_to, outcome_of, outcome_at, carried_out, control_content, silently, is_silent, is_control, content_at}
 use Rattle.dnp_outstation.specs.Connection.{function_in}
 use Rattle.dnp_outstation.specs.Links.{KeepsConnection}
-use Rattle.dnp_outstation.specs.Said.{rows_said}
 use Rattle.dnp_outstation.proofs.ControlTable.{headers_stand, headers_silent}
 
 -- the first fragment of a READ, or other headers, which are fine

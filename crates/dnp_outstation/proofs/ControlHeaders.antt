@@ -9,7 +9,7 @@ use Rattle.dnp_objects.specs.Objects.{objects, content_of, object_size}
 use Rattle.dnp_objects.specs.declared.command.Command.{Command}
 use Rattle.dnp_appfragment.specs.declared.table.Form.TheVariants as form
 use Rattle.dnp_appfragment.specs.Table.{Rule, allows, form_eq, rules, takes_of, is_rule, IsInTable}
-use Rattle.dnp_appfragment.specs.Headers.{Head, IsHeader, count_of, octets_of, prefix_size, header_octets, qualifier_of, range_octets, spelled}
+use Rattle.dnp_appfragment.specs.Headers.{Head, head_of, IsHeader, count_of, octets_of, prefix_size, header_octets, qualifier_of, range_octets, spelled}
 use Rattle.dnp_appfragment.specs.declared.header.Range.{Range}
 use Rattle.std.proofs.lemmas.List.Concat.{flat_map-append}
 use Rattle.dnp_appfragment.specs.Built.{Built, heads, size, with_header}
@@ -90,13 +90,11 @@ pub record OfCommands (h : Head) : Type 0 where
   pub answers : (octets : List ℕ) → length octets ≡ length h.octets → IsHeader form.Response (record h { octets = octets })
 
 OfObject : ℕ → ℕ → Type 0
-OfObject g v = (r : Range) (octets : List ℕ) → IsHeader form.Command (record { group = g; variation = v; range = r; octets = octets })
-    → OfCommands (record { group = g; variation = v; range = r; octets = octets })
+OfObject g v = (r : Range) (octets : List ℕ) → IsHeader form.Command (head_of g v r octets) → OfCommands (head_of g v r octets)
 
 -- objects of n octets each, which may stand in a response too
 of_size : (n g v : ℕ) (r : Range) (octets : List ℕ) → 1 ≤ n → object_size g v ≡ Some n → IsInTable form.Response g v (qualifier_of r)
-    → IsHeader form.Command (record { group = g; variation = v; range = r; octets = octets })
-    → OfCommands (record { group = g; variation = v; range = r; octets = octets })
+    → IsHeader form.Command (head_of g v r octets) → OfCommands (head_of g v r octets)
 of_size n g v r octets some size stands is = record {
   each = prefix_size r + n;
   some = omega arith;

@@ -1,18 +1,18 @@
 -- The headers of a control request, with other statuses, stand in the table for responses, and hold no event.
-use Rattle.std.proofs.Common.{◌≡◌, Bool, true, false, IsTrue, refl, subst, ℕ, ◌==◌, ◌&&◌, ◌||◌, cond, List, [], ◌∷◌, None, Some, eqb-true}
+use Rattle.std.proofs.Common.{◌≡◌, Bool, true, false, IsTrue, refl, subst, ℕ, ◌==◌, ◌&&◌, cond, List, [], ◌∷◌, None, Some, eqb-true}
 use Rattle.std.specs.Option.{IsSomeAnd, option_map}
 use Rattle.std.proofs.lemmas.Bool.{and_parts}
 use Rattle.dnp_objects.specs.Objects.{objects}
 use Rattle.dnp_objects.specs.declared.command.Command.{Command}
 use Rattle.dnp_appfragment.specs.declared.table.Form.TheVariants as form
+use Rattle.dnp_appfragment.specs.EventRows.{is_event_group, is_event_header, events_in as rows_said}
 use Rattle.dnp_appfragment.specs.Headers.{Head, IsHeader, AreHeaders, begin, qualifier_of}
 use Rattle.dnp_appfragment.specs.Table.{Rule, takes_of, rules, allows, IsInTable}
 use Rattle.dnp_outstation.specs.Controls.{headers_with}
-use Rattle.dnp_outstation.specs.Said.{rows_said, is_event_header}
 use Rattle.dnp_outstation.proofs.ControlHeaders.{answered_header}
 
 abbrev IsNoEvent : ℕ → Type 0
-IsNoEvent g = ((g == 2) || (g == 22) || (g == 32)) ≡ false
+IsNoEvent g = is_event_group g ≡ false
 
 none_such : (a b c : Bool) (x y z : Rule) (q : ℕ) → a ≡ false → b ≡ false → c ≡ false
     → IsSomeAnd (option_map (λ (r : Rule). r.takes) (cond a (Some x) (cond b (Some y) (cond c (Some z) None)))) (λ t. IsTrue (allows t q)) → ⊥

@@ -11,6 +11,7 @@ use Rattle.dnp_appfragment.specs.declared.function.Function.TheVariants as funct
 use Rattle.dnp_objects.specs.declared.limits.TheConstants.{LANES}
 use Rattle.dnp_objects.specs.declared.row.Row.{Row}
 use Rattle.dnp_appfragment.specs.Control.{ControlBits, IsControl}
+use Rattle.dnp_appfragment.specs.EventRows.{events_in as rows_said}
 use Rattle.dnp_appfragment.specs.Fragments.{Answered, response_octets}
 use Rattle.dnp_appfragment.specs.declared.table.Form.TheVariants as form
 use Rattle.dnp_appfragment.specs.Headers.{Head, AreHeaders, begin}
@@ -25,7 +26,7 @@ use Rattle.dnp_outstation.specs.Items.{Item, no_ids, first_place, last_in, items
 use Rattle.dnp_outstation.specs.Layout.{Laid, item_of, headers_of, fits_fragment}
 use Rattle.dnp_outstation.specs.Offer.{held_laid, last_ids, Filled, offered_of, pushed}
 use Rattle.dnp_outstation.specs.Laws.{rows_in_lane, AreRowsUpto, IsTidy}
-use Rattle.dnp_outstation.specs.Said.{rows_said, CanGo, AreWritable, HaveIndexes}
+use Rattle.dnp_outstation.specs.Said.{CanGo, AreWritable, HaveIndexes}
 use Rattle.dnp_outstation.specs.Links.{Reports}
 use Rattle.dnp_outstation.specs.State.{State}
 use Rattle.dnp_outstation.specs.Content.{Content, plain, content_from, content_of, read_content, source_of, indications}

@@ -6,6 +6,7 @@ use Rattle.std.proofs.lemmas.List.Elements.{recursion_from_All}
 use Rattle.dnp_objects.specs.declared.limits.TheConstants.{LANES}
 use Rattle.dnp_objects.specs.declared.row.Row.{Row}
 use Rattle.dnp_appfragment.specs.Control.{IsControl}
+use Rattle.dnp_appfragment.specs.EventRows.{events_in as rows_said}
 use Rattle.dnp_appfragment.specs.Fragments.{Answered, response_octets}
 use Rattle.dnp_appfragment.specs.Headers.{Head, AreHeaders, begin}
 use Rattle.dnp_appfragment.specs.declared.table.Form.TheVariants as form
@@ -18,7 +19,7 @@ use Rattle.dnp_outstation.specs.Items.{Item, Source, no_ids, items_left, enabled
 use Rattle.dnp_outstation.specs.Layout.{Laid, item_of, headers_of, fits_fragment}
 use Rattle.dnp_outstation.specs.Offer.{held_laid, last_ids, offered_of, offered, pushed}
 use Rattle.dnp_outstation.specs.Laws.{AreRowsUpto, IsTidy}
-use Rattle.dnp_outstation.specs.Said.{rows_said, events_in, CanGo, AreWritable}
+use Rattle.dnp_outstation.specs.Said.{events_in, CanGo, AreWritable}
 use Rattle.dnp_outstation.proofs.ByLanes.{IsLow, same_by_lanes}
 use Rattle.dnp_outstation.proofs.Carried.{fragment_rows, pushed_rows, released_rows}
 use Rattle.dnp_outstation.proofs.HeldItems.{held_longest}

@@ -8,6 +8,7 @@ use Rattle.dnp_objects.specs.Events.{IsEvent, event_object}
 use Rattle.dnp_objects.specs.declared.row.Kind.{Kind}
 use Rattle.dnp_objects.specs.declared.row.Kind.TheVariants.{Binary, Counter, Analog}
 use Rattle.dnp_objects.specs.declared.row.Row.{Row}
+use Rattle.dnp_appfragment.specs.EventRows.{header_rows, is_event_group, is_event_header, event_rows, events_in as rows_said}
 use Rattle.dnp_appfragment.specs.Headers.{Head, count_of}
 use Rattle.dnp_appfragment.specs.Items.{Item as Object, IsOf, Holds, HoldAll, event_item}
 use Rattle.dnp_appfragment.specs.Meaning.{row_in}
@@ -15,7 +16,7 @@ use Rattle.dnp_appfragment.specs.Written.{is_point_group}
 use Rattle.dnp_outstation.specs.Items.{Thing}
 use Rattle.dnp_outstation.specs.Items.Thing.{Event, Present}
 use Rattle.dnp_outstation.specs.Layout.{Laid, item_of, object_of}
-use Rattle.dnp_outstation.specs.Said.{is_event_header, event_rows, rows_said, event_in, events_in, CanGo}
+use Rattle.dnp_outstation.specs.Said.{event_in, events_in, CanGo}
 use Rattle.dnp_outstation.proofs.Stretches.{laid_as}
 
 -- by the laws of what is held and read: an event that a header holds is the row that is said at its place
@@ -35,15 +36,15 @@ by_places f from (y ∷ ys) at =
 
 -- ---- which headers have event rows
 
-is_event_group : (k : Kind) (time : Option ℕ) → (((event_object k time).0 == 2) || ((event_object k time).0 == 22) || ((event_object k time).0 == 32)) ≡ true
-is_event_group Binary (Some time) = refl
-is_event_group Binary None = refl
-is_event_group Counter (Some time) = refl
-is_event_group Counter None = refl
-is_event_group Analog (Some time) = refl
-is_event_group Analog None = refl
+event_in_group : (k : Kind) (time : Option ℕ) → is_event_group (event_object k time).0 ≡ true
+event_in_group Binary (Some time) = refl
+event_in_group Binary None = refl
+event_in_group Counter (Some time) = refl
+event_in_group Counter None = refl
+event_in_group Analog (Some time) = refl
+event_in_group Analog None = refl
 
-not_event_group : (g : ℕ) → IsTrue (is_point_group g) → ((g == 2) || (g == 22) || (g == 32)) ≡ false
+not_event_group : (g : ℕ) → IsTrue (is_point_group g) → is_event_group g ≡ false
 not_event_group g is =
     one 1 (1 == g) refl refl (λ a.
     one 10 (10 == g) refl refl (λ b.
@@ -51,9 +52,8 @@ not_event_group g is =
     one 30 (30 == g) refl refl (λ d.
     absurd (none (1 == g) (10 == g) (20 == g) (30 == g) a b c d is)))))
   where
-    one : (n : ℕ) (b : Bool) → (n == g) ≡ b → ((n == 2) || (n == 22) || (n == 32)) ≡ false
-        → (b ≡ false → ((g == 2) || (g == 22) || (g == 32)) ≡ false) → ((g == 2) || (g == 22) || (g == 32)) ≡ false
-    one n true same here rest = subst (λ (m : ℕ). ((m == 2) || (m == 22) || (m == 32)) ≡ false) (eqb-true n g same) here
+    one : (n : ℕ) (b : Bool) → (n == g) ≡ b → is_event_group n ≡ false → (b ≡ false → is_event_group g ≡ false) → is_event_group g ≡ false
+    one n true same here rest = subst (λ (m : ℕ). is_event_group m ≡ false) (eqb-true n g same) here
     one n false same here rest = rest refl
 
     none : (a b c d : Bool) → a ≡ false → b ≡ false → c ≡ false → d ≡ false → (a || (b || (c || (d || false)))) ≡ true → ⊥
@@ -79,10 +79,10 @@ one_of h x b is can of = go x.item.header x.item.thing b is can of
         → (let y : Laid = laid_as header thing x.object in CanGo y → IsOf h (object_of y) → IsOne b y)
     go header (Event lane row) true is can of = λ none. cc
     go header (Event lane row) false is can of =
-        absurd (let t : is_event_header h ≡ true = ap (λ (g : ℕ). (g == 2) || (g == 22) || (g == 32)) (sym of.group ∙ ap (λ (o : Object). o.group) can.says)
-        ∙ is_event_group row.row.kind row.row.time in let f : true ≡ false = sym t ∙ is in cc)
+        absurd (let t : is_event_header h ≡ true = ap is_event_group (sym of.group ∙ ap (λ (o : Object). o.group) can.says)
+        ∙ event_in_group row.row.kind row.row.time in let f : true ≡ false = sym t ∙ is in cc)
     go header (Present static) true is can of =
-        absurd (let t : is_event_header h ≡ false = ap (λ (g : ℕ). (g == 2) || (g == 22) || (g == 32)) (sym of.group ∙ ap (λ (o : Object). o.group) can.says)
+        absurd (let t : is_event_header h ≡ false = ap is_event_group (sym of.group ∙ ap (λ (o : Object). o.group) can.says)
         ∙ not_event_group static.group can.stands.0.group_is in let f : false ≡ true = sym t ∙ is in cc)
     go header (Present static) false is can of = refl
 
@@ -134,11 +134,8 @@ no_events (x ∷ xs) all = go x.item.thing all.0 (no_events xs all.1)
 header_says : EventsAreSaid → (h : Head) (xs : List Laid) → AllByRecursion CanGo xs → Holds h (map object_of xs) → event_rows h ≡ events_in (map item_of xs)
 header_says said h xs can holds = by (is_event_header h) refl
   where
-    rows : List Row
-    rows = flat_map (λ k. option_to_list (row_in h k)) (range_with_len 0 (count_of h.range))
-
-    chosen : (b : Bool) → is_event_header h ≡ b → event_rows h ≡ (if b then rows else [])
-    chosen b is = ap (λ (t : Bool). if t then rows else []) is
+    chosen : (b : Bool) → is_event_header h ≡ b → event_rows h ≡ (if b then header_rows h else [])
+    chosen b is = ap (λ (t : Bool). if t then header_rows h else []) is
 
     by : (b : Bool) → is_event_header h ≡ b → event_rows h ≡ events_in (map item_of xs)
     by true is =

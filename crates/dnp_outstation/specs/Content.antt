@@ -13,7 +13,7 @@ use Rattle.dnp_appfragment.specs.declared.header.Range.{Range}
 use Rattle.dnp_appfragment.specs.declared.header.Range.TheVariants as range
 use Rattle.dnp_appfragment.specs.declared.iin.Iin.{Iin}
 use Rattle.dnp_appfragment.specs.Fragments.{Asked}
-use Rattle.dnp_appfragment.specs.Headers.{Head}
+use Rattle.dnp_appfragment.specs.Headers.{Head, head_of}
 use Rattle.dnp_appfragment.specs.Meaning.{request_at}
 use Rattle.dnp_eventbuf.specs.Stock.{Stock, lane_at, last_of}
 use Rattle.dnp_controls.specs.Panel.{Panel}
@@ -199,7 +199,7 @@ switch_executed on s headers = answered (record s { core = record s.core { enabl
 
 -- the time between a request and its answer is not measured: a delay (52.2), counted, of 0 milliseconds
 abbrev pub no_delay : Head
-no_delay = record { group = 52; variation = 2; range = range.Count false 1; octets = 0 ∷ 0 ∷ [] }
+no_delay = head_of 52 2 (range.Count false 1) (0 ∷ 0 ∷ [])
 
 abbrev pub delay_executed : State → Executed
 delay_executed s = answered s (plain 0 (no_delay ∷ []))

@@ -8,6 +8,7 @@ use Rattle.dnp_appfragment.specs.declared.fault.AppFault.{AppFault}
 use Rattle.dnp_appfragment.specs.declared.function.Function.{Function}
 use Rattle.dnp_appfragment.specs.declared.function.Function.TheVariants as function
 use Rattle.dnp_appfragment.specs.Control.{ControlBits}
+use Rattle.dnp_appfragment.specs.EventRows.{events_in as rows_said}
 use Rattle.dnp_appfragment.specs.Fragments.{Asked, Answered}
 use Rattle.dnp_appfragment.specs.Meaning.{request_at, response_at}
 use Rattle.dnp_appfragment.specs.Table.{function_octet}
@@ -22,7 +23,6 @@ use Rattle.dnp_outstation.specs.declared.session.Reply.{Reply}
 use Rattle.dnp_outstation.specs.declared.session.Reply.TheVariants.{Held, Silent, First, Further}
 use Rattle.dnp_outstation.specs.declared.session.Unsolicited.{Unsolicited}
 use Rattle.dnp_outstation.specs.Offer.{pushed}
-use Rattle.dnp_outstation.specs.Said.{rows_said}
 use Rattle.dnp_outstation.specs.State.{Core, State, Step, new_session, holds_read}
 use Rattle.dnp_outstation.specs.Content.{content_from}
 use Rattle.dnp_outstation.specs.Controls.{commands_in, objects_in}

@@ -1,33 +1,15 @@
--- Definition: the event rows that a response's headers say, by the reading of `dnp_appfragment`, and the items that
--- can be written (IEEE Std 1815-2012, application layer: responses; object library: groups 2, 22 and 32).
-use Rattle.std.specs.Prelude.{◌≡◌, ℕ, ◌<◌, ◌^◌, Bool, ◌||◌, ◌==◌, if◌then◌else◌, List, [], option_to_list, Option, None, Some, All}
-use Rattle.std.specs.List.{flat_map, filter_map, range_with_len}
+-- Definition: the event rows among items, and the items that can be written (IEEE Std 1815-2012, application layer:
+-- responses).
+use Rattle.std.specs.Prelude.{◌≡◌, ℕ, ◌<◌, ◌^◌, List, Option, None, Some, All}
+use Rattle.std.specs.List.{filter_map}
 use Rattle.dnp_objects.specs.Events.{IsEvent}
 use Rattle.dnp_objects.specs.declared.limits.TheConstants.{LANES}
 use Rattle.dnp_objects.specs.declared.row.Row.{Row}
-use Rattle.dnp_appfragment.specs.Headers.{Head, count_of}
-use Rattle.dnp_appfragment.specs.Meaning.{row_in}
 use Rattle.dnp_appfragment.specs.Written.{FitsPoint}
 use Rattle.dnp_eventbuf.specs.Stock.{Stock, lane_at}
 use Rattle.dnp_outstation.specs.Items.{Thing, Item, Source, statics_of}
 use Rattle.dnp_outstation.specs.Items.Thing.{Event, Present}
 use Rattle.dnp_outstation.specs.Layout.{Laid, own_object}
-
--- ---- what headers say
-
--- an event object: group 2, 22 or 32
-abbrev pub is_event_header : Head → Bool
-is_event_header h = (h.group == 2) || (h.group == 22) || (h.group == 32)
-
--- the rows of a header of event objects, in order
-abbrev pub event_rows : Head → List Row
-event_rows h = if is_event_header h then flat_map (λ k. option_to_list (row_in h k)) (range_with_len 0 (count_of h.range)) else []
-
--- those of headers, one after the other
-abbrev pub rows_said : List Head → List Row
-rows_said hs = flat_map event_rows hs
-
--- ---- what items are
 
 -- the item's event row, if it is one
 abbrev pub event_in : Item → Option Row

@@ -15,12 +15,8 @@ impl Writer {
         requires { self.old ≡ empty_from first_place }
         ensures { self.new ≡ record self.old { builder = with_header self.old.builder no_delay } }
     {
-        let no_delay = Header {
-            group: 52,
-            variation: 2,
-            range: Range::Count { wide: false, n: 1 },
-            octets: &[0, 0],
-        };
+        let range = Range::Count { wide: false, n: 1 };
+        let no_delay = Header::new(52, 2, range, &[0, 0]);
         let _put = self.builder.header(&no_delay);
     }
 }

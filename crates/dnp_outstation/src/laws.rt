@@ -7,6 +7,7 @@ ghost use Rattle.dnp_objects.specs.declared.row.Kind.{Kind};
 ghost use Rattle.dnp_pointdb.specs.declared.reading.Reading.{Reading};
 ghost use Rattle.dnp_controls.specs.Panel.{Panel};
 ghost use Rattle.dnp_appfragment.specs.Control.{IsControl};
+ghost use Rattle.dnp_appfragment.specs.EventRows.{events_in as rows_said};
 ghost use Rattle.dnp_appfragment.specs.Fragments.{Answered, response_octets};
 ghost use Rattle.dnp_appfragment.specs.Headers.{Head};
 ghost use Rattle.dnp_appfragment.specs.Items.{HoldAll};
@@ -21,7 +22,7 @@ ghost use Rattle.dnp_outstation.specs.Items.{Source, Item, no_ids, items_left, e
 ghost use Rattle.dnp_outstation.specs.Layout.{Laid, laid, item_of, object_of, headers_of, response_size, fits_fragment};
 ghost use Rattle.dnp_outstation.specs.Offer.{held_laid, held_of, offered_of, offered, pushed};
 ghost use Rattle.dnp_outstation.specs.Laws.{IsLongest, rows_by_lane, AreRowsUpto, IsTidy, LeavesOnly, AreNext, IsOnward, AreGiven, AreBefore};
-ghost use Rattle.dnp_outstation.specs.Said.{rows_said, events_in, CanGo, HaveIndexes, AreWritable};
+ghost use Rattle.dnp_outstation.specs.Said.{events_in, CanGo, HaveIndexes, AreWritable};
 ghost use Rattle.dnp_outstation.specs.State.{State};
 ghost use Rattle.dnp_outstation.specs.Connection.{closed};
 ghost use Rattle.dnp_outstation.specs.Calls.{connection_after, tick_of, change_of, opened_of, restart_of};

@@ -7,6 +7,7 @@ ghost use Rattle.dnp_objects.specs.declared.limits.TheConstants.{LANES};
 ghost use Rattle.dnp_objects.specs.declared.row.Kind.{Kind};
 ghost use Rattle.dnp_appfragment.specs.declared.function.Function.TheVariants as function;
 ghost use Rattle.dnp_appfragment.specs.Control.{ControlBits};
+ghost use Rattle.dnp_appfragment.specs.EventRows.{events_in as rows_said};
 ghost use Rattle.dnp_appfragment.specs.Headers.{Head};
 ghost use Rattle.dnp_appfragment.specs.Table.{function_octet};
 ghost use Rattle.dnp_pointdb.specs.declared.reading.Reading.{Reading};
@@ -24,7 +25,7 @@ ghost use Rattle.dnp_outstation.specs.declared.session.Unsolicited.{Unsolicited}
 ghost use Rattle.dnp_outstation.specs.Items.{Source, no_ids, items_left};
 ghost use Rattle.dnp_outstation.specs.Offer.{pushed};
 ghost use Rattle.dnp_outstation.specs.Laws.{IsTidy};
-ghost use Rattle.dnp_outstation.specs.Said.{rows_said, AreWritable, HaveIndexes};
+ghost use Rattle.dnp_outstation.specs.Said.{AreWritable, HaveIndexes};
 ghost use Rattle.dnp_outstation.specs.Links.{Reports, KeepsConnection, EndsAs, begun, Performs, IsSelected, IsMade, Releases, ReleasesNone, unsolicited_confirmed, ExecutesNothing, CaseSays, IsInOrder};
 ghost use Rattle.dnp_outstation.specs.State.{Core, State, Step, nothing, sending, still, with_session, holds_read};
 ghost use Rattle.dnp_outstation.specs.Content.{Content, content_of, content_from, plain, read_content, source_of};

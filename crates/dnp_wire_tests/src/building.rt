@@ -71,12 +71,12 @@ const TIME: Part =
 /// Objects from the first index to the last.
 macro_rules! ranged {
     ($group:literal, $variation:literal, $first:literal, $last:literal, $octets:expr) => {
-        Whole(Header {
-            group: $group,
-            variation: $variation,
-            range: Range::Span { wide: false, first: $first, last: $last },
-            octets: $octets,
-        })
+        Whole(header!(
+            $group,
+            $variation,
+            Range::Span { wide: false, first: $first, last: $last },
+            $octets
+        ))
     };
 }
 

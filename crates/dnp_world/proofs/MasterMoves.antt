@@ -9,17 +9,15 @@ use Rattle.std.proofs.lemmas.List.{append-nil, map-append}
 use Rattle.std.proofs.lemmas.List.Sorted.{IsPermutation-refl, IsPermutation-trans, IsPermutation-append_right, IsPermutation-sym}
 use Rattle.std.proofs.lemmas.Option.{none-some, same_Some}
 use Rattle.dnp_objects.specs.declared.row.Row.{Row}
-use Rattle.dnp_appfragment.specs.declared.fault.AppFault.{AppFault}
 use Rattle.dnp_appfragment.specs.Control.{ControlBits}
-use Rattle.dnp_appfragment.specs.Fragments.{Answered, confirmation, request_octets}
-use Rattle.dnp_appfragment.specs.Meaning.{response_at}
+use Rattle.dnp_appfragment.specs.Fragments.{confirmation, request_octets}
 use Rattle.dnp_eventbuf.specs.Buffered.{Buffered, buffered_row}
 use Rattle.dnp_master.specs.declared.fault.MasterFault.{MasterFault}
 use Rattle.dnp_master.specs.Calls.{Taking, confirm_for, receive_of, unheeded}
 use Rattle.dnp_master.specs.State.{State}
-use Rattle.dnp_master.specs.Steps.{answered_events, events_at, PassesOver, TakesResponse, TakesReport}
+use Rattle.dnp_master.specs.Steps.{events_at, PassesOver, TakesResponse, TakesReport}
 use Rattle.dnp_world.specs.Lists.{Each}
-use Rattle.dnp_world.specs.Octets.{after, answered_rows, control_in, seq_in, uns_in, con_in, fin_in, rows_in}
+use Rattle.dnp_world.specs.Octets.{after, control_in, seq_in, uns_in, con_in, fin_in, rows_in}
 use Rattle.dnp_world.specs.Link.{Fragment, seq_of, fin_of, Down, Confirms, ConfirmsReport, Up, Responds, Reports, Master, Link}
 use Rattle.dnp_world.specs.Moves.{Says, confirm_of, taken, report_taken, lost_up, Move, Done, Then, Take, TakeReport, LoseUp}
 use Rattle.dnp_world.specs.Standing.{IsOfStood, Stands}
@@ -33,13 +31,9 @@ Law = (s : State) (now : ℕ) (octets : List ℕ) → IfOk (receive_of s now oct
 
 -- ---- octets
 
-same_event_rows : (r : Result Answered AppFault) → answered_events r ≡ answered_rows r
-same_event_rows (Ok answered) = refl
-same_event_rows (Err fault) = refl
-
 pub events_are_rows : (octets : List ℕ) → events_at octets ≡ rows_in octets
 unfolding rows_in
-events_are_rows octets = same_event_rows (response_at octets)
+events_are_rows octets = refl
 
 -- the confirm of a number reads as one of that number
 own_seq : (seq : ℕ) (uns : Bool) → seq < 16 → seq_in (request_octets (confirmation seq uns)) ≡ seq

@@ -1,17 +1,16 @@
 -- Lists of rows, as a link keeps them.
-use Rattle.std.proofs.Common.{◌≡◌, ℕ, zero, suc, ◌+◌, ◌*◌, ◌^◌, ◌<◌, ◌≤◌, List, [], ◌∷◌, ◌++◌, length, map, take, refl, sym, ap, ◌∙◌, arith, length-append, append_assoc, true, cond, Bool, None, Ok, Err}
-use Rattle.std.specs.Prelude.{slice_index_or, Option, Some, option_to_list}
-use Rattle.std.specs.List.{flat_map, range_with_len, slice_get}
+use Rattle.std.proofs.Common.{◌≡◌, ℕ, zero, suc, ◌+◌, ◌*◌, ◌^◌, ◌<◌, ◌≤◌, List, [], ◌∷◌, ◌++◌, length, map, take, ap, ◌∙◌, arith, length-append, true, cond, Bool, Ok, Err}
+use Rattle.std.specs.Prelude.{slice_index_or}
 use Rattle.std.proofs.lemmas.List.{take_all, length-map}
 use Rattle.dnp_objects.specs.declared.limits.TheConstants.{LANES}
 use Rattle.dnp_objects.specs.declared.row.Row.{Row}
-use Rattle.dnp_appfragment.specs.Headers.{Head}
+use Rattle.dnp_appfragment.specs.EventRows.{answered_events, events_in}
 use Rattle.dnp_appfragment.specs.Meaning.{response_at}
 use Rattle.dnp_appfragment.specs.declared.fault.AppFault.{AppFault}
 use Rattle.dnp_appfragment.specs.Fragments.{Answered}
 use Rattle.dnp_eventbuf.specs.Sound.{IsSound}
 use Rattle.dnp_eventbuf.specs.Stock.{Stock, LaneState, no_lane, lane_at, lane_rows, row_of, rows_in}
-use Rattle.dnp_world.specs.Octets.{is_event_header, event_rows, answered_rows, rows_in as rows_read}
+use Rattle.dnp_world.specs.Octets.{rows_in as rows_read}
 
 -- ---- rows that wait
 
@@ -63,39 +62,14 @@ all_counted honest contents start lanes count number i high h =
 
 -- ---- rows of headers
 
--- what f gives from m on is the list, which ends within n steps
-from : {A : Type 0} (xs : List A) (f : ℕ → Option A) (m n : ℕ) → ((k : ℕ) → slice_get xs k ≡ f (m + k)) → length xs ≤ n
-    → flat_map (λ k. option_to_list (f k)) (range_with_len m n) ≡ xs
-from [] f m zero items few = refl
-from (x ∷ xs) f m zero items few = absurd (omega arith)
-from {A} [] f m (suc n) items few =
-    let first : f m ≡ None = sym (items 0 ∙ ap f (omega arith)) in
-    ap (λ (o : Option A). option_to_list o ++ flat_map (λ k. option_to_list (f k)) (range_with_len (m + 1) n)) first
-    ∙ from [] f (m + 1) n (λ k. items (k + 1) ∙ ap f (omega arith)) (omega arith)
-from {A} (x ∷ xs) f m (suc n) items few =
-    let first : f m ≡ Some x = sym (items 0 ∙ ap f (omega arith)) in
-    ap (λ (o : Option A). option_to_list o ++ flat_map (λ k. option_to_list (f k)) (range_with_len (m + 1) n)) first
-    ∙ ap (λ (ys : List A). x ∷ ys) (from xs f (m + 1) n (λ k. items (suc k) ∙ ap f (omega arith)) (omega arith))
-
-pub walked : {A : Type 0} (xs : List A) (f : ℕ → Option A) (n : ℕ) → ((k : ℕ) → slice_get xs k ≡ f k) → length xs ≤ n
-    → flat_map (λ k. option_to_list (f k)) (range_with_len 0 n) ≡ xs
-walked xs f n items few = from xs f 0 n (λ k. items k ∙ ap f (omega arith)) few
-
--- one header more, of events or not
-pub header_put : (h : Head) (rest headers : List Head) (list new all : List Row) → headers ≡ h ∷ rest → is_event_header h ≡ true
-    → new ≡ list ++ event_rows h → (list ++ flat_map event_rows headers) ≡ all → (new ++ flat_map event_rows rest) ≡ all
-header_put h rest headers list new all is event put whole =
-    ap (λ (rows : List Row). rows ++ flat_map event_rows rest) put ∙ append_assoc list (event_rows h) (flat_map event_rows rest)
-    ∙ ap (λ (hs : List Head). list ++ flat_map event_rows hs) (sym is) ∙ whole
-
 -- what octets say
-pub read_rows : (octets : List ℕ) (answered : Answered) → Ok answered ≡ response_at octets → flat_map event_rows answered.headers ≡ rows_read octets
+pub read_rows : (octets : List ℕ) (answered : Answered) → Ok answered ≡ response_at octets → events_in answered.headers ≡ rows_read octets
 unfolding rows_read
-read_rows octets answered e = ap answered_rows e
+read_rows octets answered e = ap answered_events e
 
 pub no_rows : (octets : List ℕ) (fault : AppFault) → Err fault ≡ response_at octets → [] ≡ rows_read octets
 unfolding rows_read
-no_rows octets fault e = ap answered_rows e
+no_rows octets fault e = ap answered_events e
 
 -- ---- a list that has room
 

@@ -9,6 +9,7 @@ use Rattle.dnp_appfragment.specs.declared.function.Function.{Function}
 use Rattle.dnp_appfragment.specs.declared.function.Function.TheVariants as function
 use Rattle.dnp_appfragment.specs.declared.table.Form.TheVariants as form
 use Rattle.dnp_appfragment.specs.Control.{ControlBits}
+use Rattle.dnp_appfragment.specs.EventRows.{answered_events}
 use Rattle.dnp_appfragment.specs.Fragments.{Asked, Answered}
 use Rattle.dnp_appfragment.specs.Headers.{Head, count_of}
 use Rattle.dnp_appfragment.specs.Meaning.{control_of, command_in, function_at, request_at, response_at}
@@ -24,7 +25,7 @@ use Rattle.dnp_outstation.specs.Links as links
 use Rattle.dnp_world.specs.Lanes.{HasLanes}
 use Rattle.dnp_world.specs.Link.{Fragment, Asks, Confirms, ConfirmsReport, Link}
 use Rattle.dnp_world.specs.Moves.{IsOffered}
-use Rattle.dnp_world.specs.Octets.{control_in, seq_in, uns_in, fin_in, rows_in, commands_in, answered_rows, asked_commands, header_commands}
+use Rattle.dnp_world.specs.Octets.{control_in, seq_in, uns_in, fin_in, rows_in, commands_in, asked_commands, header_commands}
 use Rattle.dnp_world.specs.OutstationSeen.{down_of}
 
 -- ---- the control octet of a response
@@ -71,9 +72,9 @@ module _ (s : Stock) (octets : List ℕ) (control : ControlBits) (upto : List �
   unfolding uns_in
   reported_uns = ap (λ (c : ControlBits). c.uns) reported_control
 
-  reported_rows : rows_in octets ≡ answered_rows (Ok reports.answered)
+  reported_rows : rows_in octets ≡ answered_events (Ok reports.answered)
   unfolding rows_in
-  reported_rows = ap answered_rows reports.read
+  reported_rows = ap answered_events reports.read
 
   -- it is offered by the link that has these lanes
   pub reported_offer : (uns : Bool) (l : Link) → control.uns ≡ uns → HasLanes s l → IsOffered uns l.lanes l.last_id (made_of octets upto l)
@@ -83,7 +84,7 @@ module _ (s : Stock) (octets : List ℕ) (control : ControlBits) (upto : List �
     says = record {
       uns_is = reported_uns ∙ uns_is;
       rows_are = subst (λ (rows : List Row). IsPermutation rows (map buffered_row (filter (is_upto upto) l.lanes))) (sym reported_rows)
-          (subst (λ (xs : List Buffered). IsPermutation (answered_rows (Ok reports.answered)) (map buffered_row (filter (is_upto upto) xs)))
+          (subst (λ (xs : List Buffered). IsPermutation (answered_events (Ok reports.answered)) (map buffered_row (filter (is_upto upto) xs)))
           (sym lanes.rows) reports.rows);
     };
   }

@@ -4,6 +4,7 @@ use Rattle.std.specs.List.{All, list_all}
 use Rattle.std.proofs.lemmas.Bool.{and_from, and_parts}
 use Rattle.std.proofs.lemmas.List.Elements.{All-head, All-tail}
 use Rattle.dnp_appfragment.specs.Control.{ControlBits}
+use Rattle.dnp_appfragment.specs.EventRows.{events_in}
 use Rattle.dnp_appfragment.specs.Fragments.{Answered}
 use Rattle.dnp_appfragment.specs.Meaning.{response_at}
 use Rattle.dnp_appfragment.specs.declared.function.Function.{Function}
@@ -11,7 +12,7 @@ use Rattle.dnp_appfragment.specs.declared.function.Function.TheVariants as funct
 use Rattle.dnp_eventbuf.specs.Sound.{IsSound}
 use Rattle.dnp_eventbuf.specs.Stock.{Stock}
 use Rattle.dnp_master.specs.Calls.{Taking, ask_answer, asked, asked_by, asking, ended, going_on, heard, receive_of, unheeded}
-use Rattle.dnp_master.specs.Rows.{events_in, is_from_plan, is_reported}
+use Rattle.dnp_master.specs.Rows.{is_from_plan, is_reported}
 use Rattle.dnp_master.specs.State.{State, deadline, is_idle}
 use Rattle.dnp_master.specs.declared.fault.AskFault.{AskFault}
 use Rattle.dnp_master.specs.declared.fault.AskFault.TheVariants.{Busy, Closed}
@@ -19,7 +20,7 @@ use Rattle.dnp_master.specs.declared.outcome.Echo.TheVariants.{Nothing}
 use Rattle.dnp_master.specs.declared.request.OpenRequest.{OpenRequest}
 use Rattle.dnp_objects.specs.declared.row.Row.{Row}
 use Rattle.dnp_outstation.specs.Layout.{Laid, item_of, fits_fragment, headers_of}
-use Rattle.dnp_outstation.specs.Said.{CanGo, HaveIndexes, rows_said}
+use Rattle.dnp_outstation.specs.Said.{CanGo, HaveIndexes}
 use Rattle.dnp_outstation.specs.Said as said
 use Rattle.dnp_outstation.specs.State as outstation
 use Rattle.dnp_outstation.proofs.ItemsOf.{pushed_stand}
@@ -30,7 +31,7 @@ use Rattle.dnp_world.specs.Rounds.{events_polled}
 
 -- what the crate of outstations promises of items that can be written
 abbrev pub RowsAreSaid : Type 0
-RowsAreSaid = (held : List Laid) → All CanGo held → fits_fragment held ≡ true → rows_said (headers_of held) ≡ said.events_in (map item_of held)
+RowsAreSaid = (held : List Laid) → All CanGo held → fits_fragment held ≡ true → events_in (headers_of held) ≡ said.events_in (map item_of held)
 
 -- ---- asking
 

@@ -4,6 +4,7 @@ use Rattle.std.specs.List.{All}
 use Rattle.std.proofs.lemmas.Bool.{and_parts}
 use Rattle.std.proofs.lemmas.Option.{none-some, same_Some}
 use Rattle.dnp_appfragment.specs.Control.{ControlBits, IsControl}
+use Rattle.dnp_appfragment.specs.EventRows.{events_in}
 use Rattle.dnp_appfragment.specs.Fragments.{Answered, confirmation, request_octets, response_octets}
 use Rattle.dnp_appfragment.specs.Meaning.{response_at}
 use Rattle.dnp_appfragment.specs.Table.{function_octet, is_response}
@@ -14,7 +15,7 @@ use Rattle.dnp_controls.specs.Selecting.{deadline}
 use Rattle.dnp_eventbuf.specs.Sound.{IsSound}
 use Rattle.dnp_eventbuf.specs.Stock.{Stock, all_up_to, without}
 use Rattle.dnp_master.specs.Calls.{Taking, asked, asking, heard, receive_of, report_taken, unheeded}
-use Rattle.dnp_master.specs.Rows.{events_in, is_reported}
+use Rattle.dnp_master.specs.Rows.{is_reported}
 use Rattle.dnp_master.specs.State as master
 use Rattle.dnp_master.specs.declared.fault.MasterFault.TheVariants.{Stranger}
 use Rattle.dnp_objects.specs.declared.command.Command.{Command}

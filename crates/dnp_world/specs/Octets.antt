@@ -1,6 +1,6 @@
 -- Definition: what the law looks at in the octets of a fragment, by the reading of `dnp_appfragment` (IEEE Std 1815-2012,
 -- application layer: control octet, function codes, object headers).
-use Rattle.std.specs.Prelude.{ℕ, ◌+◌, ◌%◌, Bool, true, false, ◌||◌, ◌==◌, if◌then◌else◌, List, [], map, option_to_list, slice_index_or, Result, Ok, Err}
+use Rattle.std.specs.Prelude.{ℕ, ◌+◌, ◌%◌, Bool, true, false, if◌then◌else◌, List, [], map, option_to_list, slice_index_or, Result, Ok, Err}
 use Rattle.std.specs.List.{flat_map, range_with_len}
 use Rattle.dnp_objects.specs.declared.row.Row.{Row}
 use Rattle.dnp_objects.specs.declared.command.Command.{Command}
@@ -8,9 +8,10 @@ use Rattle.dnp_appfragment.specs.declared.fault.AppFault.{AppFault}
 use Rattle.dnp_appfragment.specs.declared.function.Function.{Function}
 use Rattle.dnp_appfragment.specs.declared.function.Function.TheVariants as function
 use Rattle.dnp_appfragment.specs.Control.{ControlBits}
-use Rattle.dnp_appfragment.specs.Fragments.{Asked, Answered}
+use Rattle.dnp_appfragment.specs.EventRows.{answered_events}
+use Rattle.dnp_appfragment.specs.Fragments.{Asked}
 use Rattle.dnp_appfragment.specs.Headers.{Head, count_of}
-use Rattle.dnp_appfragment.specs.Meaning.{control_of, request_at, response_at, row_in, command_in}
+use Rattle.dnp_appfragment.specs.Meaning.{control_of, request_at, response_at, command_in}
 
 -- the sequence number that follows: four bits
 abbrev pub after : ℕ → ℕ
@@ -36,21 +37,9 @@ fin_in octets = (control_in octets).fin
 
 -- ---- the event rows of a response
 
--- an event object: group 2, 22 or 32
-abbrev pub is_event_header : Head → Bool
-is_event_header h = (h.group == 2) || (h.group == 22) || (h.group == 32)
-
--- the rows of a header of event objects, in order
-abbrev pub event_rows : Head → List Row
-event_rows h = if is_event_header h then flat_map (λ k. option_to_list (row_in h k)) (range_with_len 0 (count_of h.range)) else []
-
-abbrev pub answered_rows : Result Answered AppFault → List Row
-answered_rows (Ok answered) = flat_map event_rows answered.headers
-answered_rows (Err fault) = []
-
 -- the event rows of the response that the octets are; octets that are no response have none
 unfoldable pub rows_in : List ℕ → List Row
-rows_in octets = answered_rows (response_at octets)
+rows_in octets = answered_events (response_at octets)
 
 -- ---- the commands that a request would have performed
 

@@ -13,7 +13,7 @@ ghost use Rattle.dnp_world.specs.MasterEnds.{ComesToMaster, TakesBy};
 use crate::ends::{MasterEnd, OutstationEnd};
 use crate::event::Damaged;
 use crate::link_event::{End, Way};
-use crate::listing::events_of;
+use crate::listing::count_events;
 use crate::sending::{FRAGMENT_UNITS, hear, send, send_all, send_confirm, shows};
 use crate::stopped::cause_of;
 use arrayvec::ArrayVec;
@@ -328,8 +328,7 @@ impl Channel {
     {
         what_comes_is_taken_or_passed_over();
         let fragment = self.master_port.fragment();
-        let events = events_of(alloc, fragment)?;
-        dropped.reserve(events.len())?;
+        dropped.reserve(count_events(fragment))?;
         self.down.reserve(FRAGMENT_UNITS)?;
         match end.take_in(alloc, link, now, fragment) {
             Ok(actions) => {

@@ -114,10 +114,8 @@ impl Writer {
     {
         fill(octets, outputs, told, header);
         let answered = Header {
-            group: header.group,
-            variation: header.variation,
-            range: header.range,
             octets: octets.as_slice(),
+            ..*header
         };
         let _put = self.builder.header(&answered);
     }

@@ -5,6 +5,7 @@ use Rattle.dnp_appfragment.specs.declared.table.Form.{Form}
 use Rattle.dnp_appfragment.specs.declared.table.Form.TheVariants as form
 use Rattle.dnp_appfragment.specs.declared.header.Range.TheVariants as range
 use Rattle.dnp_appfragment.specs.Headers.{Head, head_of, IsHeader}
+use Rattle.dnp_appfragment.specs.Table.{form_of}
 use Rattle.dnp_master.proofs.RequestHeaders.{time_fits}
 use Rattle.dnp_master.proofs.requesting.put_time.Goals as goal
 
@@ -18,4 +19,5 @@ put-requires-clause-fits c =
     ap (λ (xs : List ℕ). take 6 xs) c.to_le_bytes-octets.ensures ∙ take-bytes_low_first 0 8 6 c.args.time (omega arith) in
     let here : IsHeader form.Write (made (take 6 c.to_le_bytes-octets.result)) =
     subst (λ (xs : List ℕ). IsHeader form.Write (made xs)) (sym six) (time_fits c.args.time) in
-    subst (λ (f : Form). IsHeader f (made (take 6 c.to_le_bytes-octets.result))) (sym c.requires.function) here
+    subst (λ (h : Head). IsHeader (form_of c.args.builder.now.function) h) (sym c.new-header.ensures.value)
+    (subst (λ (f : Form). IsHeader f (made (take 6 c.to_le_bytes-octets.result))) (sym c.requires.function) here)

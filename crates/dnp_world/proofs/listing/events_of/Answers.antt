@@ -1,10 +1,9 @@
 -- What was put is what the headers say; what is no response has no events.
 use Rattle.std.proofs.Common.{◌∙◌, List, ◌++◌, sym, ap}
-use Rattle.std.specs.List.{flat_map}
 use Rattle.dnp_objects.specs.declared.row.Row.{Row}
+use Rattle.dnp_appfragment.specs.EventRows.{events_in}
 use Rattle.dnp_appfragment.specs.Headers.{Head}
 use Rattle.dnp_appfragment.specs.Whole.{response}
-use Rattle.dnp_world.specs.Octets.{event_rows}
 use Rattle.dnp_world.proofs.OneLinkLists.{read_rows, no_rows}
 use Rattle.dnp_world.proofs.listing.events_of.Goals as goal
 
@@ -13,6 +12,6 @@ returns-in_default c = c.new-events.ensures.items ∙ no_rows c.args.octets.now 
 
 pub returns : goal.returns
 returns c =
-    c.in_ok-put_events.ensures ∙ ap (λ (rows : List Row). rows ++ flat_map event_rows c.after.result.headers) c.new-events.ensures.items
-    ∙ ap (λ (hs : List Head). flat_map event_rows hs) c.after.ensures.headers
+    c.in_ok-put_events.ensures ∙ ap (λ (rows : List Row). rows ++ events_in c.after.result.headers) c.new-events.ensures.items
+    ∙ ap (λ (hs : List Head). events_in hs) c.after.ensures.headers
     ∙ read_rows c.args.octets.now (response c.in-Ok.response) (sym c.in-Ok.ensures.value)

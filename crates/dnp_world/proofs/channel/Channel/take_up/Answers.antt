@@ -22,9 +22,7 @@ returns-in-Ok-clause-took g c = λ well.
     c.take_in.ensures c.in-Ok.is well in
     let rows : List Row = c.as_slice.result.now in
     let same_rows : rows ≡ a.dropped = c.as_slice.ensures in
-    let read : c.in_ok-events.events.items ≡ rows_in fragment = c.in_ok-events.ensures in
-    let room : length rows ≤ c.len.result =
-    omega (arith, few, c.len.ensures, ap (λ (xs : List Row). length xs) same_rows, ap (λ (xs : List Row). length xs) read) in
+    let room : length rows ≤ c.count_events.result = omega (arith, few, c.count_events.ensures, ap (λ (xs : List Row). length xs) same_rows) in
     let listed : c.extend_from_slice.new.self.items ≡ c.args.dropped.now.items ++ a.dropped =
     extended (is_ok c.extend_from_slice.result) c.reserve.new.self.items rows c.extend_from_slice.new.self.items c.extend_from_slice.ensures.items
     (c.extend_from_slice.ensures.succeeds (omega (arith, room, c.in_ok-reserve.ensures.ok)))
@@ -36,8 +34,8 @@ returns-in-Ok-clause-took g c = λ well.
           (ap (λ (line : HeldLine). record old { down = line.state }) c.in_ok-reserve-2.ensures.ok) c.confirm.ensures listed,
     )
 
-pub returns-clause-took : goal.returns-clause-took
-returns-clause-took g c = λ well.
+pub returns-in-None-clause-took : goal.returns-in-None-clause-took
+returns-in-None-clause-took g c = λ well.
     let old = state_of c.args.self.now in
     let fragment : List ℕ = c.fragment-fragment.result.now in
     let made = receive_of (g.E.MasterEnd.master c.args.end.now c.args.link) c.args.now fragment in (

@@ -3,7 +3,7 @@ use Rattle.dnp_objects.specs.Objects.{content_of, objects}
 use Rattle.dnp_appfragment.specs.declared.function.Function.{Function}
 use Rattle.dnp_appfragment.specs.declared.table.Form.TheVariants as form
 use Rattle.dnp_appfragment.specs.Table.{form_of, rules, takes_of}
-use Rattle.dnp_appfragment.specs.Headers.{IsHeader}
+use Rattle.dnp_appfragment.specs.Headers.{Head, IsHeader}
 use Rattle.dnp_outstation.specs.declared.offer.writer.Writer.{Writer}
 use Rattle.dnp_outstation.specs.Content.{no_delay}
 use Rattle.dnp_outstation.proofs.offer.writer.Writer.put_delay.Goals as goal
@@ -15,4 +15,5 @@ delay_is_header = record { object = refl; fits = omega arith; forward = tt; obje
 
 pub header-put-requires : goal.header-put-requires
 header-put-requires c =
-    subst (λ (f : Function). IsHeader (form_of f) no_delay) (sym (ap (λ (w : Writer). w.builder.function) c.requires)) delay_is_header
+    subst (λ (h : Head). IsHeader (form_of c.args.self.now.builder.function) h) (sym c.new-no_delay.ensures.value)
+    (subst (λ (f : Function). IsHeader (form_of f) no_delay) (sym (ap (λ (w : Writer). w.builder.function) c.requires)) delay_is_header)
