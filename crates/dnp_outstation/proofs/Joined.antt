@@ -7,7 +7,7 @@ use Rattle.std.proofs.lemmas.List.{map_push, flat_map_more, length_push}
 use Rattle.dnp_appfragment.specs.declared.header.Range.{Range}
 use Rattle.dnp_appfragment.specs.declared.header.Range.TheVariants as range
 use Rattle.dnp_appfragment.specs.Headers.{Head}
-use Rattle.dnp_appfragment.specs.Items.{Item as Object, item_octets}
+use Rattle.dnp_appfragment.specs.Items.{item_octets}
 use Rattle.dnp_appfragment.specs.Joining.{joined, joined_range}
 use Rattle.dnp_appfragment.specs.Written as written
 use Rattle.dnp_outstation.specs.declared.offer.writer.Run.{Run}

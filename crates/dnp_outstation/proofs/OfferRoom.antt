@@ -135,7 +135,8 @@ put_grows w header lane x = by (is_same_run w.run (OfLane lane))
         (heads_broken w.builder) in
         omega (arith, at_least x.row)
 
-pub put_room : (w w' : Writer) (header lane : ℕ) (x : Numbered) → w' ≡ put w (event_of header lane x) → size w.builder + least_octets x.row.kind ≤ size w'.builder
+pub put_room : (w w' : Writer) (header lane : ℕ) (x : Numbered) → w' ≡ put w (event_of header lane x)
+    → size w.builder + least_octets x.row.kind ≤ size w'.builder
 put_room w w' header lane x is = let same = ap (λ (v : Writer). size v.builder) is in let more = put_grows w header lane x in omega arith
 
 -- ---- rows of one kind

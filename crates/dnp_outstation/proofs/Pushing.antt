@@ -16,7 +16,6 @@ use Rattle.dnp_eventbuf.specs.declared.numbered.Numbered.{Numbered}
 use Rattle.dnp_objects.specs.declared.limits.TheConstants.{LANES, MAX_FRAGMENT, MAX_ID}
 use Rattle.dnp_eventbuf.specs.Stock.{Stock, lane_at}
 use Rattle.dnp_eventbuf.specs.Sound.{IsSound}
-use Rattle.dnp_outstation.specs.declared.offer.writer.Run.{Run}
 use Rattle.dnp_outstation.specs.declared.offer.writer.Writer.{Writer}
 use Rattle.dnp_outstation.specs.Items.{Item, no_ids, first_place, place_after, given_after, rows_left, event_of, event_items, class_lanes, enabled_lanes, lane_items}
 use Rattle.dnp_outstation.specs.Filling.{after_release, is_same_run, put_laid, fits, fill_laid, fill, ended, built_for, empty_for, empty_from}

@@ -1,5 +1,5 @@
 -- What the octets of a response say is what it holds, and what a release of its ids takes.
-use Rattle.std.proofs.Common.{◌≡◌, true, refl, sym, subst, ℕ, ◌<◌, ◌≤◌, ◌^◌, Bool, List, map, length, Ok}
+use Rattle.std.proofs.Common.{◌≡◌, true, sym, subst, ℕ, ◌<◌, ◌≤◌, ◌^◌, Bool, List, map, length, Ok}
 use Rattle.std.specs.List.{All}
 use Rattle.std.specs.List.Sorted.{IsPermutation}
 use Rattle.std.proofs.lemmas.List.Elements.{recursion_from_All}

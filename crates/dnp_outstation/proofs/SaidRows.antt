@@ -98,13 +98,15 @@ record EventAt (xs : List Laid) (k : ℕ) (row : Row) : Type 0 where
   is_event : IsEvent row
   at : slice_get (map object_of xs) k ≡ Some (event_item row)
 
-event_at : (xs : List Laid) (k : ℕ) (row : Row) → AllOne true xs → AllByRecursion CanGo xs → slice_get (events_in (map item_of xs)) k ≡ Some row → EventAt xs k row
+event_at : (xs : List Laid) (k : ℕ) (row : Row) → AllOne true xs → AllByRecursion CanGo xs
+    → slice_get (events_in (map item_of xs)) k ≡ Some row → EventAt xs k row
 event_at [] k row all can at = cc
 event_at (x ∷ xs) k row all can at = go x.item.header x.item.thing k all.0 can.0 at (λ j. event_at xs j row all.1 can.1)
   where
     go : (header : ℕ) (thing : Thing) (k : ℕ)
         → (let y : Laid = laid_as header thing x.object in
-        IsOne true y → CanGo y → slice_get (events_in (map item_of (y ∷ xs))) k ≡ Some row → ((j : ℕ) → slice_get (events_in (map item_of xs)) j ≡ Some row → EventAt xs j row)
+        IsOne true y → CanGo y → slice_get (events_in (map item_of (y ∷ xs))) k ≡ Some row
+        → ((j : ℕ) → slice_get (events_in (map item_of xs)) j ≡ Some row → EventAt xs j row)
         → EventAt (y ∷ xs) k row)
     go header (Event lane r) zero one fits at behind =
         let same : r.row ≡ row = cc in
@@ -127,7 +129,8 @@ no_events : (xs : List Laid) → AllOne false xs → events_in (map item_of xs) 
 no_events [] all = refl
 no_events (x ∷ xs) all = go x.item.thing all.0 (no_events xs all.1)
   where
-    go : (thing : Thing) → (let y : Laid = laid_as x.item.header thing x.object in IsOne false y → events_in (map item_of xs) ≡ [] → events_in (map item_of (y ∷ xs)) ≡ [])
+    go : (thing : Thing) → (let y : Laid = laid_as x.item.header thing x.object in
+        IsOne false y → events_in (map item_of xs) ≡ [] → events_in (map item_of (y ∷ xs)) ≡ [])
     go (Event lane row) one behind = absurd (let e : Some row.row ≡ None = one in cc)
     go (Present static) one behind = behind
 
@@ -165,7 +168,8 @@ none_of : (xs : List Laid) → map object_of xs ≡ [] → xs ≡ []
 none_of [] none = refl
 none_of (x ∷ xs) none = absurd (omega (arith, ap length none))
 
-pub headers_say : EventsAreSaid → (hs : List Head) (xs : List Laid) → AllByRecursion CanGo xs → HoldAll hs (map object_of xs) → rows_said hs ≡ events_in (map item_of xs)
+pub headers_say : EventsAreSaid → (hs : List Head) (xs : List Laid) → AllByRecursion CanGo xs → HoldAll hs (map object_of xs)
+    → rows_said hs ≡ events_in (map item_of xs)
 headers_say said [] xs can all = ap (λ (l : List Laid). events_in (map item_of l)) (sym (none_of xs all))
 headers_say said (h ∷ hs) xs can all =
     let n = length all.0 in

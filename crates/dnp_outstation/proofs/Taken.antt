@@ -253,7 +253,8 @@ within_size b h run_is =
     let inner : length (range_octets h.range ++ h.octets) ≡ length (range_octets h.range) + length h.octets = length-append (range_octets h.range) h.octets in
     omega arith
 
-pub few : (b : Built) (first : Laid) (more : List Laid) → b.run ≡ Some (header_of (record { first = first; more = more })) → size b ≤ MAX_FRAGMENT → IsFew first more
+pub few : (b : Built) (first : Laid) (more : List Laid) → b.run ≡ Some (header_of (record { first = first; more = more }))
+    → size b ≤ MAX_FRAGMENT → IsFew first more
 few b first more run_is small = go first.item.thing run_is
   where
     go : (thing : Thing)

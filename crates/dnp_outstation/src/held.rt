@@ -1,7 +1,7 @@
 //! Rows that are held while a reading is appended, for the unsolicited response that may begin then: whether
 //! a full lane drops its oldest row, and which id the new one has, is known only after it.
 
-ghost use Rattle.std.specs.Prelude.{◌≡◌, ◌≢◌, ◌<◌, ◌≤◌, ◌+◌, ◌*◌, ℕ, All, true, false, if◌then◌else◌, IsTrue, IfOk, IfErr, IfSome, Err, [], map, length, take, nat_lt, option_to_list, ◌++◌, List, Option};
+ghost use Rattle.std.specs.Prelude.{◌≡◌, ◌≢◌, ◌<◌, ◌+◌, ◌*◌, All, true, false, if◌then◌else◌, IsTrue, IfOk, IfErr, IfSome, Err, [], map, length, nat_lt, option_to_list, ◌++◌, List, Option};
 ghost use Rattle.dnp_objects.specs.declared.lane.LaneRow.{LaneRow as LaneRowValue};
 ghost use Rattle.dnp_objects.specs.Events.{IsEvent};
 ghost use Rattle.dnp_appfragment.specs.declared.function.Function.TheVariants as function;

@@ -31,7 +31,8 @@ returns-then-not-put_held_lane-2-clause-written c = λ s made sound new_is held_
     (c.if-not-put_held_lane.ensures.written (lane_at s a).rows (subst (AreFirst (lane_at s a).rows) (sym c.as_slice.ensures.value) held.binary)))
     (lanes_full t ((a + 1) ∷ []) ((a + 2) ∷ []) v w
     (lane_put s made c.args.new.now (a + 1) v w false sound (omega arith) new_is
-    (c.if-not-put_held_lane-2.ensures.written (lane_at s (a + 1)).rows (subst (AreFirst (lane_at s (a + 1)).rows) (sym c.as_slice-2.ensures.value) held.counter)))))
+    (c.if-not-put_held_lane-2.ensures.written (lane_at s (a + 1)).rows
+    (subst (AreFirst (lane_at s (a + 1)).rows) (sym c.as_slice-2.ensures.value) held.counter)))))
 
 pub returns-clause-written : goal.returns-clause-written
 returns-clause-written c = λ s made sound new_is held_if.
@@ -49,6 +50,7 @@ returns-clause-written c = λ s made sound new_is held_if.
     (c.if-not-put_held_lane.ensures.written (lane_at s a).rows (subst (AreFirst (lane_at s a).rows) (sym c.as_slice.ensures.value) held.binary)))
     (lanes_put t ((a + 1) ∷ []) ((a + 2) ∷ []) v w z fit
     (lane_put s made c.args.new.now (a + 1) v w true sound (omega arith) new_is
-    (c.if-not-put_held_lane-2.ensures.written (lane_at s (a + 1)).rows (subst (AreFirst (lane_at s (a + 1)).rows) (sym c.as_slice-2.ensures.value) held.counter)))
+    (c.if-not-put_held_lane-2.ensures.written (lane_at s (a + 1)).rows
+    (subst (AreFirst (lane_at s (a + 1)).rows) (sym c.as_slice-2.ensures.value) held.counter)))
     (lane_put s made c.args.new.now (a + 2) w z fit sound (omega arith) new_is
     (c.put_held_lane-3.ensures.written (lane_at s (a + 2)).rows (subst (AreFirst (lane_at s (a + 2)).rows) (sym c.as_slice-3.ensures.value) held.analog)))))
