@@ -193,6 +193,7 @@ refuses_plan with-retries-in-quotes 2 'retries: a string, where a whole number f
 refuses_plan with-half-a-millisecond 2 "select_ms: a number that isn't whole, where a whole number from 1 to 3600000 belongs" 's/^select_ms = .*/select_ms = 0.5/'
 refuses_plan with-a-queue-of-one-lane 2 'queue: a list of 1, where a list of 9 whole numbers belongs' 's/^queue = .*/queue = [1]/'
 refuses_plan without-substations 2 'substation is missing' '/^\[\[/,$d'
+refuses_plan with-a-substation-that-is-no-table 2 'substation: item 1 is a whole number, where a table belongs' -e 's/^\[\[.*/substation = [3]/' -e '/^lanes/,$d'
 refuses_plan with-lanes-of-half-a-row 2 "substation 0, lanes: item 2 is a number that isn't whole, where a whole number from 1 to 4096 belongs" 's/^lanes = .*/lanes = [1, 0.5]/'
 refuses_plan with-a-deadband-too-many 2 'substation 0, deadband: a list of 1, where a list of one whole number for each item of analog belongs' 's/^deadband = .*/deadband = [1]/'
 refuses_plan with-another-key-of-a-substation 2 "substation 0, unknown key 'colour'" '$s/$/\ncolour = 1/'

@@ -85,8 +85,19 @@ impl ScriptLine {
     }
 }
 
+/// The text of a script, and what its lines are read by.
+#[derive(Clone, Copy, Debug)]
+pub(crate) struct ScriptText<'a> {
+    /// The text.
+    pub text: &'a str,
+    /// How many substations the plan has.
+    pub substations: usize,
+    /// Whether units are carried: a line that loses, repeats or damages one doesn't fit then.
+    pub carried: bool,
+}
+
 /// Reads one line; where units are carried, one that loses, repeats or damages a unit doesn't fit.
-fn read_line_by(
+pub(crate) fn read_line_by(
     alloc: Global,
     line: &str,
     substations: usize,
@@ -112,29 +123,13 @@ pub fn read_script(alloc: Global, text: &str, plan: &Plan) -> Result<Vec<ScriptL
     ensures refused { (line : ℕ) → result ≡ Err (ScriptFault.Line line)
         → first_misfit (length plan.now.substations) (lines_of text.now) ≡ Some line }
 {
-    read_lines(alloc, text, plan, false)
-}
-
-/// Reads a script as [`read_script`] does; where its units are to be carried, refused is also a line that loses, repeats or
-/// damages a unit.
-pub(crate) fn read_lines(
-    alloc: Global,
-    text: &str,
-    plan: &Plan,
-    carried: bool,
-) -> Result<Vec<ScriptLine>, ScriptFault>
-    ensures read { IfOk result (λ script.
-        map (reading_by carried (length plan.now.substations)) (lines_of text.now) ≡ map Some script.items) }
-    ensures refused { (line : ℕ) → result ≡ Err (ScriptFault.Line line)
-        → first_unread (reading_by carried (length plan.now.substations)) (lines_of text.now) ≡ Some line }
-{
     let substations = plan.substations.as_slice().len();
     let mut script = Vec::new(alloc);
     let mut number = 1;
     let mut rest = text;
     while !rest.is_empty() {
         let (line, more) = first_line(rest);
-        let Some(read) = read_line_by(alloc, line, substations, carried)? else {
+        let Some(read) = read_line(alloc, line, substations)? else {
             return Err(ScriptFault::Line(number));
         };
         script.push(read)?;
@@ -142,4 +137,31 @@ pub(crate) fn read_lines(
         rest = more;
     }
     Ok(script)
+}
+
+/// Whether a text is a script, which [`read_script`] reads; where its units are to be carried, refused is also a line that
+/// loses, repeats or damages a unit. It keeps no line.
+pub(crate) fn check_script(
+    alloc: Global,
+    text: &str,
+    plan: &Plan,
+    carried: bool,
+) -> Result<(), ScriptFault>
+    ensures read { OnOk result ((script : List ScriptLine)
+        × (map (reading_by carried (length plan.now.substations)) (lines_of text.now) ≡ map Some script)) }
+    ensures refused { (line : ℕ) → result ≡ Err (ScriptFault.Line line)
+        → first_unread (reading_by carried (length plan.now.substations)) (lines_of text.now) ≡ Some line }
+{
+    let substations = plan.substations.as_slice().len();
+    let mut number = 1;
+    let mut rest = text;
+    while !rest.is_empty() {
+        let (line, more) = first_line(rest);
+        let Some(_) = read_line_by(alloc, line, substations, carried)? else {
+            return Err(ScriptFault::Line(number));
+        };
+        number += 1;
+        rest = more;
+    }
+    Ok(())
 }
