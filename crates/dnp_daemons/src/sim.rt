@@ -11,7 +11,7 @@ ghost use Rattle.dnp_daemons.specs.steps.Readings.{Says};
 use crate::run::ScriptStop;
 use crate::run::carried::Carried;
 use crate::run::reporting::run_to_report;
-use crate::script::ScriptText;
+use crate::script::checking::ScriptText;
 use crate::sim::judging::{Judged, judge, print_refusal};
 use dnp_concentrator::Plan;
 use dnp_controls::PlainBook;

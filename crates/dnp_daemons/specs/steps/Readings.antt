@@ -1,7 +1,7 @@
 -- Private steps: a script that is run from its text.
 use Rattle.std.specs.Prelude.{◌≡◌, ℕ, List, map, Option, Some, Result, Ok, Err, ⊤}
 use Rattle.dnp_daemons.specs.declared.script.ScriptLine.{ScriptLine}
-use Rattle.dnp_daemons.specs.declared.script.ScriptText.{ScriptText}
+use Rattle.dnp_daemons.specs.declared.script.checking.ScriptText.{ScriptText}
 use Rattle.dnp_daemons.specs.declared.run.ScriptStop.{ScriptStop}
 use Rattle.dnp_daemons.specs.declared.run.ScriptStop.TheVariants as stop
 use Rattle.dnp_daemons.specs.Scripted.{Law}

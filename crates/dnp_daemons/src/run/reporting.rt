@@ -6,9 +6,10 @@ ghost use Rattle.dnp_daemons.specs.ScriptReports.{ReportEnds};
 ghost use Rattle.dnp_daemons.specs.steps.Readings.{Says};
 
 use crate::report_text::{PrintFault, print_report};
+use crate::run::ScriptStop;
 use crate::run::scripted::Scripted;
-use crate::run::{ScriptStop, run_text};
-use crate::script::ScriptText;
+use crate::run::text::run_text;
+use crate::script::checking::ScriptText;
 use dnp_world::Cause;
 use std::alloc::Global;
 use std::io::Write;

@@ -8,9 +8,10 @@ ghost use Rattle.dnp_daemons.specs.Words.{lines_of, words_of};
 ghost use Rattle.dnp_daemons.specs.steps.Forms.{most_taken, taken};
 ghost use Rattle.dnp_daemons.specs.steps.Judging.{reading_by};
 
+use crate::script::ScriptFault;
+use crate::script::checking::check_script;
 use crate::script::forms::{Form, Slot};
 use crate::script::words::first_line;
-use crate::script::{ScriptFault, check_script};
 use dnp_concentrator::Plan;
 use std::alloc::{AllocError, Global};
 

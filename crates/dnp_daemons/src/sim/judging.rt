@@ -6,7 +6,8 @@ ghost use Rattle.dnp_daemons.specs.steps.Judging.{IsJudged, SaysRefused, reading
 
 use crate::run::ScriptStop;
 use crate::run::printing::write_parts;
-use crate::script::{ScriptFault, check_script};
+use crate::script::ScriptFault;
+use crate::script::checking::check_script;
 use dnp_concentrator::Plan;
 use dnp_plantext::{PlanTextFault, read_plan};
 use dnp_world::Cause;

@@ -4,7 +4,7 @@ use denote.Shadow.{shadow}
 use Rattle.dnp_daemons.specs.declared.script.ScriptLine.{ScriptLine}
 use Rattle.dnp_daemons.specs.Words.{lines_of}
 use Rattle.dnp_daemons.specs.steps.Judging.{reading_by}
-use Rattle.dnp_daemons.proofs.script.check_script.Given as goal
+use Rattle.dnp_daemons.proofs.script.checking.check_script.Given as goal
 
 -- the lines that were read and those to come are all lines
 abbrev pub invariant-loop-rest : goal.invariant-loop-rest
