@@ -158,14 +158,23 @@ got=0 && head -c 67108865 /dev/zero | "$dnp" sim --plan "$plan" >out 2>err || go
 judge refuses-a-script-over-64-MB 3 '' "$got"
 says says-that-it-is-over-64-MB "dnp: standard input: over the 67108864 octets that '--limit' allows"
 
-# The text is held once: 60,000,000 octets of it take less than half as much again
-head -c 60000000 /dev/zero | tr '\0' x >script
-python3 - "$dnp" "$plan" >out <<'P'
+# takes_under NAME OCTETS: at no moment has the run of the script 'script' more memory
+takes_under() {
+    python3 - "$dnp" "$plan" "$2" >out <<'P'
 import resource, subprocess, sys
 subprocess.run([sys.argv[1], "sim", "--plan", sys.argv[2]], stdin=open("script"), stdout=subprocess.DEVNULL, stderr=subprocess.DEVNULL)
-print(resource.getrusage(resource.RUSAGE_CHILDREN).ru_maxrss * 1024 < 90_000_000)
+print(resource.getrusage(resource.RUSAGE_CHILDREN).ru_maxrss * 1024 < int(sys.argv[3]))
 P
-judge holds-a-script-once 0 True 0
+    judge "$1" 0 True 0
+}
+
+# The text is held once: 60,000,000 octets of it take less than half as much again
+head -c 60000000 /dev/zero | tr '\0' x >script
+takes_under holds-a-script-once 90000000
+
+# No list of its lines is held: a million changes, a text of 30,000,000 octets, leave two lists of a million rows
+seq 1 1000000 | awk '{ print "change 0 binary 0 " $1 % 2 " 01 " $1 }' >script
+takes_under holds-no-list-of-lines 126000000
 
 # A reader that goes away is no fault that is told of
 seq 1 20000 | awk '{ print "change 0 binary 0 " $1 % 2 " 01 " $1 }' >script
@@ -193,6 +202,7 @@ refuses_plan with-retries-in-quotes 2 'retries: a string, where a whole number f
 refuses_plan with-half-a-millisecond 2 "select_ms: a number that isn't whole, where a whole number from 1 to 3600000 belongs" 's/^select_ms = .*/select_ms = 0.5/'
 refuses_plan with-a-queue-of-one-lane 2 'queue: a list of 1, where a list of 9 whole numbers belongs' 's/^queue = .*/queue = [1]/'
 refuses_plan without-substations 2 'substation is missing' '/^\[\[/,$d'
+refuses_plan with-a-substation-that-is-no-table 2 'substation: item 1 is a whole number, where a table belongs' -e 's/^\[\[.*/substation = [3]/' -e '/^lanes/,$d'
 refuses_plan with-lanes-of-half-a-row 2 "substation 0, lanes: item 2 is a number that isn't whole, where a whole number from 1 to 4096 belongs" 's/^lanes = .*/lanes = [1, 0.5]/'
 refuses_plan with-a-deadband-too-many 2 'substation 0, deadband: a list of 1, where a list of one whole number for each item of analog belongs' 's/^deadband = .*/deadband = [1]/'
 refuses_plan with-another-key-of-a-substation 2 "substation 0, unknown key 'colour'" '$s/$/\ncolour = 1/'

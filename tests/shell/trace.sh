@@ -121,6 +121,11 @@ traces an-unsolicited-response unsolicited.toml "open 0${lf}flush 0 up${lf}flush
 looked a-line-that-breaks "$plan"
 cut -d ' ' -f 4-6 a-line-that-breaks.trace | LC_ALL=C sort | uniq -c | sed 's/^ *//' >out
 judge trace-of-a-line-that-breaks 0 "34 down repeated READ${lf}1 down sent READ${lf}1 down stands READ${lf}2 up dropped unseen${lf}32 up lost RESPONSE${lf}32 up sent RESPONSE${lf}2 up sent unseen" 0
+# 40 responses that stand at the end: of those after the 32nd nobody has seen more than that
+{ printf '%s\n' 'open 0' 'poll 0 1' && yes 'repeat 0 down' | head -n 40; } >script
+looked more-responses-than-are-seen "$plan"
+cut -d ' ' -f 4-6 more-responses-than-are-seen.trace | LC_ALL=C sort | uniq -c | sed 's/^ *//' >out
+judge trace-of-more-responses-than-are-seen 0 "40 down repeated READ${lf}1 down sent READ${lf}1 down stands READ${lf}32 up sent RESPONSE${lf}8 up sent unseen${lf}32 up stands RESPONSE${lf}8 up stands unseen" 0
 # Two units that say the same one after the other, thirty times over: 60 segments
 { printf '%s\n' 'open 0' && yes 'round 0' | head -n 30; } >script
 looked thirty-rounds "$plan"

@@ -49,7 +49,7 @@ EXIT STATUS
   1  the input was refused
   2  the command line is wrong
   3  the program failed: out of memory, or the input or the output was lost; a line on
-     standard error says which, and why";
+     standard error says which, and why, but for an output whose reader has gone";
 
 /// What is wrong with an address that is refused.
 const NO_ADDRESS: &str = "not a decimal number from 0 to 65519";

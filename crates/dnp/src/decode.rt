@@ -32,8 +32,10 @@ INPUT
   Lines of hexadecimal octets on standard input, two digits each, upper or lower case, with blanks
   between them or none: the octets of all lines, one after the other, are one stream. With --raw the
   octets themselves. With --pcap a capture in the classic form (Ethernet, raw IP or loopback): the
-  octets that TCP and UDP carry, each direction of each connection a stream of its own. At most
-  16,777,216 octets of input.
+  octets that TCP and UDP carry, each direction of each connection a stream of its own. A connection
+  in which no frame is read is taken for another protocol's, and has no line; octets that the capture
+  lacks are not told of, and what it has before and after them is joined. At most 16,777,216 octets of
+  input.
 
 EXAMPLE
   Master 1 asks outstation 10 for its events and its static data:
@@ -53,7 +55,7 @@ OUTPUT
   On standard output a line for each link frame, transport segment, fragment, object header and
   object, in the words of the standard. It begins with the line of the input in which the frame ends,
   with the number of its packet in a capture, or with the place of its first octet under --raw, from
-  0. The segments of what one station sends to another are joined apart from all others. Behind that
+  0. The segments of what one station sends to another are joined apart from all others. After that
   number stands, with two blanks more for each layer above frames:
     1>10 C4 UNCONFIRMED_USER_DATA 15 octets, words good
               a frame from station 1 to station 10, its CONTROL octet and function, how many octets
@@ -63,16 +65,19 @@ OUTPUT
     request seq 0 fir fin con READ, response seq 0 fir fin, iin 80 00
               a fragment, with the bits that are set, its function or its internal indications
     30.1 5..6, 2.2 x1, 60.2 all
-              an object header, group 30 variation 1: the indexes 5 to 6, one object, or all
+              an object header, group 30 variation 1: the indexes 5 to 6, one object, or all; one with
+              objects has no line of its own (with --json it has): each of its objects repeats it
     2.2 x1: 3 = 1 flags 01 at 2026-01-31T12:00:00.000Z
-              an object behind its header: the index, the value, the flags, the time (UTC). So are
-              the states of outputs, 10.2, and setpoints, 40.1 and 40.2; an indication, 80.1, has no flags, and a time, 50.1, and
-              a delay, 52.2, have no index
+              an object after its header: the index, the value, the flags without the state bit, the
+              time (UTC). So are the states of outputs, 10.2, and setpoints, 40.1 and 40.2; an
+              indication, 80.1, has no flags, and a time, 50.1, and a delay, 52.2, have no index
     12.1 x1: 5 code 81 count 2 on 100 off 200 status 0, 41.2 x1: 5 set -2 status 0
-              a command to output 5, times in milliseconds
+              a command to output 5, its code in hexadecimal, times in milliseconds
   What is refused has a line with the fault's name and its place, an octet of the frame or the
-  fragment, from 0, as 'frame refused: BlockCheck 1 at octet 28'; what stands before it in a fragment
-  has its lines. Octets at which no frame begins are 'skipped'. docs/decode.md lists all the names.
+  fragment, from 0, as 'frame refused: BlockCheck 1 at octet 28'. In a fragment it is the place where
+  the header with the fault begins; the headers before it have their lines. Functions and objects that
+  the stations here don't speak are unknown to it. Octets at which no frame begins are 'skipped', which
+  is refused too; a fragment whose last segments are missing is not. docs/decode.md lists all the names.
   With --json each line is a JSON object: 'at' is that number, 'layer' says what the line is of, and
   'refused' is there where something is refused; docs/decode.md has the members. A file that is no
   capture is 'refused capture NAME' with or without it.
@@ -81,8 +86,9 @@ EXIT STATUS
   0  all was read
   1  something was refused, or the file is no capture that is read here
   2  the command line is wrong
-  3  the program failed: the file can't be read, the input is over its limit, out of memory, or the input or the output was lost;
-     a line on standard error says which, and why";
+  3  the program failed: the file can't be read, the input is over its limit, out of
+     memory, or the input or the output was lost; a line on standard error says which, and why, but
+     for an output whose reader has gone";
 
 /// The most octets of input that are read. So no input can fill the memory.
 const MAX_INPUT: u64 = 16 * 1_024 * 1_024;

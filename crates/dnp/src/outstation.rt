@@ -32,8 +32,9 @@ CONNECTIONS
   It listens on the port at all addresses of the machine, and serves one connection after the
   other; who connects meanwhile waits. A connection ends when the master ends it, when the
   station closes it, or after 300 seconds in which nothing came, or in which nothing could be
-  sent. Why a connection failed is said on standard error, and the next one is served. What the
-  station ignores, such as a frame for another address, is not told.
+  sent. Why a connection failed is said on standard error, and the next one is served; it has its
+  'served N' too, and the status stays 0. What the station ignores, such as a frame for another
+  address, is not told.
   Timers are looked at when octets come: a select ends in time, and nothing is sent unasked
   but an unsolicited response when the master connects or has confirmed one.
 
@@ -41,7 +42,7 @@ OUTPUT
   On standard output a line for each connection when it has ended, 'served N': N is how many
   fragments came whole from its master. Or 'refused plan N', where the plan is refused: 1 it is
   no TOML, 2 a key is missing, unknown or of another type or length, 3 a number is outside its
-  range, 4 a class is over 3, 5 an index above would be over 65,535, 6 two substations would
+  range, 4 a class is 4 to 255, 5 an index above would be over 65,535, 6 two substations would
   share an index above; then a line on standard error names the key, what stands there, and what
   belongs there.
 
@@ -50,7 +51,8 @@ EXIT STATUS
   1  the plan was refused
   2  the command line is wrong, or the plan has no such substation
   3  the program failed: the plan can't be read, the port can't be had, as when it is in use,
-     out of memory, or the output was lost; a line on standard error says which, and why";
+     out of memory, or the output was lost; a line on standard error says which, and why, but for
+     an output whose reader has gone";
 
 /// The highest number that a substation of a plan can have.
 const MAX_STATION: u64 = MAX_SUBSTATIONS as u64 - 1;

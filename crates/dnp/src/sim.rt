@@ -53,11 +53,15 @@ EXAMPLE
 
 OUTPUT
   On standard output:
-    'round L ok' or 'round L refused N' for each line 'round L': 1 the link is not quiet;
+    'round L ok' or 'round L refused N' for each line 'round L', one poll of all events, its
+    response's first fragment and the confirm of that: 1 the link is not quiet (it is closed or
+    broken, something stands on its lines, or its master awaits an answer);
     'control ID ok' or 'control ID refused N' for each line 'control ID': 1 a link is not quiet,
     2 it is not the next control, 3 a station refused it;
     and at the end the report: each list's name and length, and below it its events, as
-    ' 0 binary 3 1 01 1000' (substation, kind, index, value, flags, time), or its commands.
+    ' 0 binary 3 1 01 1000' (substation, kind, index, value, flags, time), or its commands, as
+    ' 0 block 3 129 1 100 200' (substation, form, index, code, count, ms on, ms off) or
+    ' 0 set16 3 -2' (substation, form, index, value).
   The report's lists:
     journal      events that the centre has
     queue        events that wait in the concentrator
@@ -71,14 +75,16 @@ OUTPUT
   and last 'lost N': N events of the concentrator were dropped so far, by its own count.
   Or one line, and then nothing has run:
     'refused plan N', where the plan is refused: 1 it is no TOML, 2 a key is missing, unknown or
-    of another type or length, 3 a number is outside its range, 4 a class is over 3, 5 an index
+    of another type or length, 3 a number is outside its range, 4 a class is 4 to 255, 5 an index
     above would be over 65,535, 6 two substations would share an index above; then a line on
-    standard error names the key, its substation, what stands there, and what belongs there;
+    standard error names the key, its substation, counted from 0, its item, counted from 1, what
+    stands there, and what belongs there;
     'refused line N', where line N of the script, counted from 1, is the first that doesn't fit;
     then a line on standard error says which of its words stops fitting, and what belongs there.
   Where a line of the script is out of memory, 'stopped N', N lines having been done.
   On standard error, where lines can do nothing, as one that names no point of the plan: how many
-  they are, the number of the first, and why it does nothing.
+  they are, the number of the first, and why it does nothing. A line that finds nothing to do as
+  the system stands, as a delivery where no unit is, isn't counted.
 
 SOMETHING TO LOOK AT
   What the units on the lines do, in a run of its own: the report stays as it is. A file is written
@@ -87,11 +93,13 @@ SOMETHING TO LOOK AT
                     way, what it does and what it says, as '12 link 0 up sent RESPONSE seq 1 fir fin
                     con, 2.2 x1'. It is 'sent', it 'arrives', is 'repeated' (it arrives, and stays on
                     the line), 'lost', 'damaged' or 'dropped' (its line was cleared), or 'stands' on
-                    the line at the end. With '-' the lines stand on standard output, before the
-                    report; the other two can't go there.
+                    the line at the end. What comes after 32 others on a line may be 'unseen'. The way
+                    is up to the master, or down. With '-' the lines stand on standard output, before
+                    the report; the other two can't go there.
     --chart FILE    the same as a sequence chart for a browser, time going down
     --capture FILE  what arrives, for Wireshark: a TCP conversation to port 20000 for each link, from
-                    and to 192.0.2.A, where A is the station's link address
+                    and to 192.0.2.A, where A is the station's link address: the centre's is 1, the
+                    concentrator's 9 above and 2 below, substation S's 10 + S
     --json          in place of the text an object: 'outcomes' has how rounds and controls came out,
                     and then come the report's lists by their names. What is refused, or stops, is
                     printed as without it.

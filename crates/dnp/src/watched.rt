@@ -76,11 +76,17 @@ fn empty(
     what: What,
 ) -> Result<(), Cause> {
     for _ in 0..world.standing(on, way) {
+        if world.standing(on, way) == 0 {
+            break;
+        }
         look_at(world, watcher, on, way);
         watcher.log.front_comes_to(course_of(on, way), what);
         happens(alloc, world, &Event::Lose(on, way))?;
     }
-    look_at(world, watcher, on, way);
+    // A line breaks at its 32nd loss in a row: what is left comes to this too, unseen.
+    for _ in 0..watcher.log.standing(course_of(on, way)) {
+        watcher.log.front_comes_to(course_of(on, way), what);
+    }
     Ok(())
 }
 

@@ -10,6 +10,7 @@ mod Numbers
 mod OctetDigits
 mod ReportLists
 mod RoundResults
+mod ScriptReading
 mod ScriptReporting
 mod ScriptRunning
 mod Scripts

@@ -8,15 +8,16 @@ use Rattle.dnp_daemons.specs.declared.run.ScriptStop.TheVariants as stop
 use Rattle.dnp_daemons.specs.declared.script.ScriptLine.{ScriptLine}
 use Rattle.dnp_daemons.specs.ReportText.{report_text}
 use Rattle.dnp_daemons.specs.Scripted.{Law}
-use Rattle.dnp_daemons.specs.ScriptRuns.{DoesAll, EndsBy}
-use Rattle.dnp_daemons.specs.ScriptReports.{IsReported, IsReportCut, ReportEnds}
+use Rattle.dnp_daemons.specs.ScriptRuns.{DoesAll}
+use Rattle.dnp_daemons.specs.steps.Readings.{TextEndsBy}
+use Rattle.dnp_daemons.specs.ScriptReports.{IsReported, IsReportCut, ReportEnds, Unread}
 
 -- a script that was not done has no report
 pub no_report : {State : Type 0} (law : Law State) (old : State) (script : List ScriptLine) (by : ScriptStop) (new : State) (held held' : Option (List ℕ))
-    → EndsBy law old script (Err by) new held held' → ReportEnds law old script (Err by) new held held'
+    → TextEndsBy law old script (Err by) new held held' → ReportEnds law old script (Err by) new held held'
 no_report law old script (stop.Stopped n) new held held' ends = ends
 no_report law old script stop.WriteFailed new held held' ends = inl ends
-no_report law old script (stop.Fault cause) new held held' ends = absurd ends
+no_report law old script (stop.Fault cause) new held held' ends = Unread ends
 
 is_reported : {State : Type 0} (law : Law State) (old : State) (script : List ScriptLine) (mid new : State) (text : List ℕ) (report : Report)
     → DoesAll law old script mid text → new ≡ mid → law.shows mid report → IsReported law old script new (text ++ report_text report)

@@ -1,9 +1,9 @@
 -- Scripts read line by line.
-use Rattle.std.proofs.Common.{◌≡◌, ℕ, ◌+◌, ◌<◌, true, not, nat_lt, List, [], ◌∷◌, ◌++◌, length, map, Option, Some, None, refl, sym, ◌∙◌, ap, arith, length-append}
+use Rattle.std.proofs.Common.{◌≡◌, ℕ, ◌+◌, ◌<◌, true, not, nat_lt, List, [], ◌∷◌, ◌++◌, length, map, Option, Some, None, refl, sym, ◌∙◌, ap, append_assoc, arith, length-append}
 use Rattle.std.specs.List.{position, position_or_len}
 use Rattle.std.specs.Option.{is_some, option_map}
 use Rattle.std.proofs.lemmas.Bool.Decides.{nat_tests}
-use Rattle.std.proofs.lemmas.List.{length-map}
+use Rattle.std.proofs.lemmas.List.{length-map, map-append}
 use Rattle.dnp_daemons.specs.declared.script.ScriptLine.{ScriptLine}
 use Rattle.dnp_daemons.specs.declared.script.words.TheConstants.{MAX_WORDS}
 use Rattle.dnp_daemons.specs.ScriptLines.{line_named}
@@ -55,3 +55,10 @@ misfit_here r script line rest lines none e =
     let within : nat_lt (length script) (length lines) ≡ true =
     let low : length script < length lines = is_within r script line rest lines e in grind (arith, nat_tests) in
     rw (at, within) refl
+
+-- the line stands after those that were read
+pub read_here : (r : List ℕ → Option ScriptLine) (script : List ScriptLine) (line : List ℕ) (rest : List (List ℕ)) (all : List (Option ScriptLine))
+    (read : ScriptLine) → r line ≡ Some read → map Some script ++ map r (line ∷ rest) ≡ all → map Some (script ++ read ∷ []) ++ map r rest ≡ all
+read_here r script line rest all read is e =
+    ap (λ l. l ++ map r rest) (map-append Some script (read ∷ [])) ∙ append_assoc (map Some script) (Some read ∷ []) (map r rest)
+    ∙ ap (λ o. map Some script ++ o ∷ map r rest) (sym is) ∙ e

@@ -1,9 +1,10 @@
 -- The texts of a plan and a script, run or refused.
-use Rattle.std.proofs.Common.{◌≡◌, ℕ, ◌≤◌, List, [], ◌∷◌, length, Option, Ok, Err, refl, subst}
+use Rattle.std.proofs.Common.{◌≡◌, ℕ, ◌≤◌, Bool, List, [], ◌∷◌, length, map, Option, Some, Ok, Err, refl, subst}
 use Rattle.std.specs.Prelude.{⊤, Result, All}
 use Rattle.std.proofs.lemmas.List.Elements.{All-weaker}
 use Rattle.dnp_concentrator.specs.Plan.{IsCapacity, KeepsLimits}
 use Rattle.dnp_concentrator.specs.declared.plan.Plan.{Plan}
+use Rattle.dnp_concentrator.specs.declared.plan.SubPlan.{SubPlan}
 use Rattle.dnp_controls.specs.Book.{empty_ledger}
 use Rattle.dnp_eventbuf.specs.Sound.{IsSound}
 use Rattle.dnp_eventbuf.specs.Stock.{empty_stock, lost_in, rows_in}
@@ -18,7 +19,8 @@ use Rattle.dnp_daemons.specs.Simulations.{Run, AreUnfinished, RefusalCut, Begun,
 use Rattle.dnp_daemons.specs.ScriptLines.{LineReader}
 use Rattle.dnp_daemons.specs.ScriptReports.{ReportEnds}
 use Rattle.dnp_daemons.specs.ScriptWorlds.{law_of_worlds, plain_system}
-use Rattle.dnp_daemons.specs.steps.Judging.{SaysRefused}
+use Rattle.dnp_daemons.specs.steps.Judging.{SaysRefused, reading_by}
+use Rattle.dnp_daemons.specs.Words.{lines_of}
 use Rattle.dnp_world.specs.Systems.{System}
 
 -- a refusal that was not written to its end
@@ -28,6 +30,11 @@ cut_refusal reads plan script name number stop.WriteFailed held held' refusal sa
     RefusalCut said.0 said.1 (subst (IsRefusal reads plan script) said.2 refusal) refl said.3
 cut_refusal reads plan script name number (stop.Stopped n) held held' refusal said = absurd said
 cut_refusal reads plan script name number (stop.Fault cause) held held' refusal said = absurd said
+
+-- the text says these lines, for as many substations as the plan has
+pub says_so : (carried : Bool) (text : List ℕ) (lines : List ScriptLine) {subs subs' : List SubPlan} → subs ≡ subs'
+    → map (reading_by carried (length subs)) (lines_of text) ≡ map Some lines → map (reading_by carried (length subs')) (lines_of text) ≡ map Some lines
+says_so carried text lines same read = subst (λ s. map (reading_by carried (length s)) (lines_of text) ≡ map Some lines) same read
 
 -- a script that was run to its report
 pub run_done : (reads : LineReader) (plan script : List ℕ) (of : Plan) (lines : List ScriptLine) (done : ⊤) (held held' : Option (List ℕ)) → AreGood reads plan script of lines

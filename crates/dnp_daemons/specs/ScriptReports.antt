@@ -1,13 +1,14 @@
 -- Definition: a script that is run to its end, and the report there.
 use Rattle.std.specs.Prelude.{◌≡◌, ℕ, ◌⊎◌, List, ◌++◌, Option, Result, Ok, Err, ⊤}
 use Rattle.std.specs.Io.KnownBytes.{Appends}
+use Rattle.dnp_concentrator.specs.declared.cause.Cause.{Cause}
 use Rattle.dnp_world.specs.declared.report.Report.{Report}
 use Rattle.dnp_daemons.specs.declared.script.ScriptLine.{ScriptLine}
 use Rattle.dnp_daemons.specs.declared.run.ScriptStop.{ScriptStop}
 use Rattle.dnp_daemons.specs.declared.run.ScriptStop.TheVariants as stop
 use Rattle.dnp_daemons.specs.ReportText.{report_text}
 use Rattle.dnp_daemons.specs.Scripted.{Law}
-use Rattle.dnp_daemons.specs.ScriptRuns.{DoesAll, StopsAt, IsCut}
+use Rattle.dnp_daemons.specs.ScriptRuns.{DoesAll, StopsAt, IsCut, IsUnread}
 
 -- the script is done, and all that it printed and its report are this text
 pub record IsReported {State : Type 0} (law : Law State) (old : State) (script : List ScriptLine) (new : State) (text : List ℕ) : Type 0 where
@@ -24,12 +25,17 @@ pub record IsReportCut {State : Type 0} (law : Law State) (old : State) (script 
   pub reported : IsReported law old script new (written ++ unwritten)
   pub appended : Appends held held' written
 
--- how a script with its report ends, and what was written; where a fault kept the report back, the script was done
+-- a fault kept the report back: the script was done, or memory for the octets of its next line was refused; so much was written
+pub data IsKeptBack {State : Type 0} (law : Law State) (old : State) (script : List ScriptLine) (cause : Cause) (new : State)
+    (held held' : Option (List ℕ)) : Type 0 where
+  Unreported : (text : List ℕ) → DoesAll law old script new text → Appends held held' text → IsKeptBack law old script cause new held held'
+  Unread : IsUnread law old script cause new held held' → IsKeptBack law old script cause new held held'
+
+-- how a script with its report ends, and what was written
 abbrev pub ReportEnds : {State : Type 0} → Law State → State → List ScriptLine → Result ⊤ ScriptStop → State → Option (List ℕ) → Option (List ℕ) → Type 0
 ReportEnds law old script (Ok done) new held held' = (text : List ℕ) × IsReported law old script new text × Appends held held' text
 ReportEnds law old script (Err (stop.Stopped done)) new held held' =
     (text : List ℕ) × StopsAt law old script done new text × Appends held held' text
 ReportEnds law old script (Err stop.WriteFailed) new held held' =
     IsCut law old script new held held' ⊎ IsReportCut law old script new held held'
-ReportEnds law old script (Err (stop.Fault cause)) new held held' =
-    (text : List ℕ) × DoesAll law old script new text × Appends held held' text
+ReportEnds law old script (Err (stop.Fault cause)) new held held' = IsKeptBack law old script cause new held held'

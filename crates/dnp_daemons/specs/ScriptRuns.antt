@@ -1,6 +1,8 @@
 -- Definition: what a script makes of a system, and what it prints.
-use Rattle.std.specs.Prelude.{◌≡◌, ℕ, ◌<◌, List, [], ◌∷◌, ◌++◌, take, slice_get, Option, Some, None, Result, Ok, Err, ⊤}
+use Rattle.std.specs.Prelude.{◌≡◌, ℕ, ◌<◌, List, [], ◌∷◌, ◌++◌, length, take, slice_get, Option, Some, None, Result, Ok, Err, ⊤}
 use Rattle.std.specs.Io.KnownBytes.{Appends}
+use Rattle.dnp_concentrator.specs.declared.cause.Cause.{Cause}
+use Rattle.dnp_concentrator.specs.declared.cause.Cause.TheVariants as causes
 use Rattle.dnp_world.specs.declared.event.Event.TheVariants.{Deliver}
 use Rattle.dnp_world.specs.declared.event.Link.{Link}
 use Rattle.dnp_world.specs.declared.link_event.Way.{Way}
@@ -73,3 +75,13 @@ EndsBy law old script (Err (stop.Stopped done)) new held held' =
     (text : List ℕ) × StopsAt law old script done new text × Appends held held' text
 EndsBy law old script (Err stop.WriteFailed) new held held' = IsCut law old script new held held'
 EndsBy law old script (Err (stop.Fault cause)) new held held' = ⊥
+
+-- so many lines of a script that is read as it runs are done, and memory for the octets of the next one was refused
+pub record IsUnread {State : Type 0} (law : Law State) (old : State) (script : List ScriptLine) (cause : Cause) (new : State)
+    (held held' : Option (List ℕ)) : Type 0 where
+  pub why : cause ≡ causes.Memory
+  pub done : ℕ
+  pub some : done < length script
+  pub printed : List ℕ
+  pub did : DoesAll law old (take done script) new printed
+  pub appended : Appends held held' printed

@@ -2,4 +2,5 @@
 pub mod Forms
 pub mod Judging
 pub mod Lines
+pub mod Readings
 pub mod Idle

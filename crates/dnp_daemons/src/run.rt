@@ -17,6 +17,7 @@ mod line;
 pub(crate) mod printing;
 pub(crate) mod reporting;
 mod scripted;
+pub(crate) mod text;
 mod world;
 
 pub use scripted::Scripted;

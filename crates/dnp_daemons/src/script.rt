@@ -1,8 +1,7 @@
 //! A script, read from its text.
 
 ghost use Rattle.std.specs.Prelude.{◌≡◌, ℕ, Err, IfOk, Some, length, map};
-ghost use Rattle.dnp_daemons.specs.ScriptLines.{first_misfit, first_unread, is_lossless, reading_of};
-ghost use Rattle.dnp_daemons.specs.steps.Judging.{reading_by};
+ghost use Rattle.dnp_daemons.specs.ScriptLines.{first_misfit, reading_of};
 ghost use Rattle.dnp_daemons.specs.Words.{lines_of};
 
 use crate::script::lines::read_line;
@@ -12,6 +11,7 @@ use dnp_world::{Event, Link, Way};
 use std::alloc::{AllocError, AllocFailed, Global};
 use thiserror::Error;
 
+pub(crate) mod checking;
 mod forms;
 mod idle;
 mod lines;
@@ -19,7 +19,7 @@ mod names;
 mod numbers;
 mod reason;
 mod said;
-mod words;
+pub(crate) mod words;
 
 pub use idle::{IdleLines, IdleReason, idle_lines};
 pub use numbers::number_in;
@@ -73,33 +73,6 @@ impl<T: Drop> From<AllocFailed<T>> for ScriptFault {
     }
 }
 
-impl ScriptLine {
-    /// Whether the line loses, repeats and damages no unit.
-    fn lossless(&self) -> bool
-        ensures { result ≡ is_lossless self.now }
-    {
-        !matches!(
-            self,
-            ScriptLine::One(Event::Lose(..) | Event::Repeat(..) | Event::Damage(..))
-        )
-    }
-}
-
-/// Reads one line; where units are carried, one that loses, repeats or damages a unit doesn't fit.
-fn read_line_by(
-    alloc: Global,
-    line: &str,
-    substations: usize,
-    carried: bool,
-) -> Result<Option<ScriptLine>, AllocError>
-    ensures { IfOk result (λ read. read ≡ reading_by carried substations line.now) }
-{
-    match read_line(alloc, line, substations)? {
-        Some(read) if !carried || read.lossless() => Ok(Some(read)),
-        _ => Ok(None),
-    }
-}
-
 /// Reads a script for a plan: one event, flush, round or control a line. Each line ends in a line feed, which the last may
 /// lack; its words are separated by single spaces.
 ///
@@ -112,29 +85,13 @@ pub fn read_script(alloc: Global, text: &str, plan: &Plan) -> Result<Vec<ScriptL
     ensures refused { (line : ℕ) → result ≡ Err (ScriptFault.Line line)
         → first_misfit (length plan.now.substations) (lines_of text.now) ≡ Some line }
 {
-    read_lines(alloc, text, plan, false)
-}
-
-/// Reads a script as [`read_script`] does; where its units are to be carried, refused is also a line that loses, repeats or
-/// damages a unit.
-pub(crate) fn read_lines(
-    alloc: Global,
-    text: &str,
-    plan: &Plan,
-    carried: bool,
-) -> Result<Vec<ScriptLine>, ScriptFault>
-    ensures read { IfOk result (λ script.
-        map (reading_by carried (length plan.now.substations)) (lines_of text.now) ≡ map Some script.items) }
-    ensures refused { (line : ℕ) → result ≡ Err (ScriptFault.Line line)
-        → first_unread (reading_by carried (length plan.now.substations)) (lines_of text.now) ≡ Some line }
-{
     let substations = plan.substations.as_slice().len();
     let mut script = Vec::new(alloc);
     let mut number = 1;
     let mut rest = text;
     while !rest.is_empty() {
         let (line, more) = first_line(rest);
-        let Some(read) = read_line_by(alloc, line, substations, carried)? else {
+        let Some(read) = read_line(alloc, line, substations)? else {
             return Err(ScriptFault::Line(number));
         };
         script.push(read)?;

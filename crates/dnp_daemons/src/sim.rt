@@ -1,14 +1,17 @@
 //! A plan and a script, judged and then run.
 
+ghost use Rattle.std.specs.Prelude.{List};
 ghost use Rattle.dnp_concentrator.specs.Plan.{KeepsLimits};
+ghost use Rattle.dnp_daemons.specs.declared.script.ScriptLine.{ScriptLine};
 ghost use Rattle.dnp_daemons.specs.ScriptLines.{lossless_reading_of, reading_of};
 ghost use Rattle.dnp_daemons.specs.Simulations.{PlanEnds, TextsEnd};
 ghost use Rattle.dnp_daemons.specs.steps.Judging.{reading_by};
+ghost use Rattle.dnp_daemons.specs.steps.Readings.{Says};
 
 use crate::run::ScriptStop;
 use crate::run::carried::Carried;
 use crate::run::reporting::run_to_report;
-use crate::script::ScriptLine;
+use crate::script::checking::ScriptText;
 use crate::sim::judging::{Judged, judge, print_refusal};
 use dnp_concentrator::Plan;
 use dnp_controls::PlainBook;
@@ -31,12 +34,13 @@ const REFUSED: u8 = 1;
 fn simulate<C: Carrier + Drop, W: Write>(
     alloc: Global,
     plan: &Plan,
-    script: &[ScriptLine],
+    script: &ScriptText<'_>,
     carrier: C,
     out: &mut W,
 ) -> Result<(), ScriptStop>
-    requires { KeepsLimits plan.now }
-    ensures { PlanEnds plan.now script.now result (W.contents out.old) (W.contents out.new) }
+    requires limits { KeepsLimits plan.now }
+    requires fits { (lines : List ScriptLine) × Says script.now lines }
+    ensures { (lines : List ScriptLine) → Says script.now lines → PlanEnds plan.now lines result (W.contents out.old) (W.contents out.new) }
 {
     plans_have_all_lanes(plan);
     lanes_stay_sound();
@@ -76,10 +80,17 @@ fn texts_by<C: Carrier + Drop, W: Write>(
         Err(stop) => return Err(stop),
     };
     match judged {
-        Judged::Good(plan, script) => match simulate(alloc, &plan, &script, carrier, out) {
-            Ok(()) => Ok(DONE),
-            Err(stop) => Err(stop),
-        },
+        Judged::Good(plan) => {
+            let script = ScriptText {
+                text: script,
+                substations: plan.substations.as_slice().len(),
+                carried,
+            };
+            match simulate(alloc, &plan, &script, carrier, out) {
+                Ok(()) => Ok(DONE),
+                Err(stop) => Err(stop),
+            }
+        }
         Judged::NoPlan(number) => match print_refusal(b"plan", number, out) {
             Ok(()) => Ok(REFUSED),
             Err(stop) => Err(stop),

@@ -19,30 +19,35 @@ fn print<F: Display>(alloc: Global, faults: &[(F, &str)]) -> Result<bool, AllocE
     Ok(true)
 }
 
+/// Whether the faults of lines of octets print as they should.
+fn octets_print(alloc: Global) -> Result<bool, AllocError> {
+    Ok(print(
+        alloc,
+        &[
+            (
+                TextFault::NoDigit(3, b' '),
+                "column 4: a space, where a hexadecimal digit belongs",
+            ),
+            (
+                TextFault::NoSpace(2, b'6'),
+                "column 3: '6', where one space or the end belongs",
+            ),
+            (
+                TextFault::Ends(79),
+                "column 80: the line ends, where a hexadecimal digit belongs",
+            ),
+            (
+                TextFault::TooLong,
+                "the line has more than 2,000 characters",
+            ),
+        ],
+    )?)
+}
+
 /// Whether the faults of streams print as they should.
 fn streams_print(alloc: Global) -> Result<bool, AllocError> {
     Ok(
         print(
-            alloc,
-            &[
-                (
-                    TextFault::NoDigit(3, b' '),
-                    "column 4: a space, where a hexadecimal digit belongs",
-                ),
-                (
-                    TextFault::NoSpace(2, b'6'),
-                    "column 3: '6', where one space or the end belongs",
-                ),
-                (
-                    TextFault::Ends(79),
-                    "column 80: the line ends, where a hexadecimal digit belongs",
-                ),
-                (
-                    TextFault::TooLong,
-                    "the line has more than 2,000 characters",
-                ),
-            ],
-        )? && print(
             alloc,
             &[
                 (AnswerFault::WriteFailed, "the answer could not be written"),
@@ -72,33 +77,38 @@ fn streams_print(alloc: Global) -> Result<bool, AllocError> {
     )
 }
 
-/// Whether the faults of texts print as they should.
-fn texts_print(alloc: Global) -> Result<bool, AllocError> {
+/// Whether the faults of plans print as they should.
+fn plans_print(alloc: Global) -> Result<bool, AllocError> {
+    Ok(print(
+        alloc,
+        &[
+            (PlanTextFault::Syntax, "the plan is no TOML"),
+            (
+                PlanTextFault::Field,
+                "a key of the plan is missing, unknown or of another type or length",
+            ),
+            (
+                PlanTextFault::Range,
+                "a number of the plan is outside its range",
+            ),
+            (PlanTextFault::Class, "a class of the plan is over 3"),
+            (
+                PlanTextFault::TooWide,
+                "an index above would be over 65,535",
+            ),
+            (
+                PlanTextFault::Overlap,
+                "two substations would share an index above",
+            ),
+            (PlanTextFault::Memory, "out of memory"),
+        ],
+    )?)
+}
+
+/// Whether the faults of scripts, and why lines do nothing, print as they should.
+fn scripts_print(alloc: Global) -> Result<bool, AllocError> {
     Ok(
         print(
-            alloc,
-            &[
-                (PlanTextFault::Syntax, "the plan is no TOML"),
-                (
-                    PlanTextFault::Field,
-                    "a key of the plan is missing, unknown or of another type or length",
-                ),
-                (
-                    PlanTextFault::Range,
-                    "a number of the plan is outside its range",
-                ),
-                (PlanTextFault::Class, "a class of the plan is over 3"),
-                (
-                    PlanTextFault::TooWide,
-                    "an index above would be over 65,535",
-                ),
-                (
-                    PlanTextFault::Overlap,
-                    "two substations would share an index above",
-                ),
-                (PlanTextFault::Memory, "out of memory"),
-            ],
-        )? && print(
             alloc,
             &[
                 (ScriptFault::Line(7), "line 7 of the script doesn't fit"),
@@ -141,7 +151,9 @@ fn texts_print(alloc: Global) -> Result<bool, AllocError> {
 #[test]
 fn faults_say_their_cause(rt: HostRuntime) -> Result<(), Fail> {
     let alloc = rt.alloc();
+    assert!(rt; octets_print(alloc)?);
     assert!(rt; streams_print(alloc)?);
-    assert!(rt; texts_print(alloc)?);
+    assert!(rt; plans_print(alloc)?);
+    assert!(rt; scripts_print(alloc)?);
     Ok(())
 }

@@ -2,7 +2,7 @@
 -- the plan's own keys, its substations' count, and then substation by substation, key by key, item by item.
 use Rattle.std.specs.Prelude.{◌≡◌, ℕ, suc, ◌+◌, max, ℤ, pos, Bool, ◌==◌, not, ◌&&◌, nat_le, nat_lt, if◌then◌else◌, List, [], ◌∷◌, length, Option, Some, None, codes}
 use Rattle.std.specs.Option.{is_some, option_or}
-use Rattle.toml.specs.Data.{Data, string, integer, float, boolean, datetime, array, table, Items, no_items, item, get, as_integer, as_array}
+use Rattle.toml.specs.Data.{Data, string, integer, float, boolean, datetime, array, table, Items, no_items, item, get, as_integer, as_array, as_table}
 use Rattle.toml.specs.Parse.{parse_document}
 use Rattle.dnp_objects.specs.declared.limits.TheConstants.{CLASSES, LANES}
 use Rattle.dnp_pointdb.specs.declared.limits.TheConstants.{INDICES, MAX_POINTS}
@@ -143,10 +143,16 @@ abbrev pub first_fault : Option ℕ → Data → List PlanKey → Option PlanPla
 first_fault substation t [] = None
 first_fault substation t (key ∷ more) = key_fault substation key t <|> first_fault substation t more
 
+-- a substation that is no table, and else the first of its keys
+abbrev pub sub_fault : ℕ → Data → Option PlanPlace
+sub_fault n t =
+    if is_some (as_table t) then first_fault (Some n) t sub_keys
+    else Some (place None keys.Substation (Some n) (type_found t))
+
 -- of substations that are counted from this number on
 abbrev pub subs_fault : ℕ → Items → Option PlanPlace
 subs_fault n no_items = None
-subs_fault n (item first more) = first_fault (Some n) first sub_keys <|> subs_fault (suc n) more
+subs_fault n (item first more) = sub_fault n first <|> subs_fault (suc n) more
 
 -- a key that no plan has, where the others are all there
 abbrev pub unknown_fault : Option ℕ → ℕ → Data → Option PlanPlace

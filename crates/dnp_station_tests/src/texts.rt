@@ -23,33 +23,38 @@ fn print<F: Display>(alloc: Global, faults: &[(F, &str)]) -> Result<bool, AllocE
     Ok(true)
 }
 
-/// Whether the faults of the wire print as they should.
-fn wire_prints(alloc: Global) -> Result<bool, AllocError> {
+/// Whether the faults of frames print as they should.
+fn frames_print(alloc: Global) -> Result<bool, AllocError> {
+    Ok(print(
+        alloc,
+        &[
+            (FrameFault::Short, "fewer than 10 octets"),
+            (FrameFault::Start, "the first two octets are not 05 64"),
+            (
+                FrameFault::HeaderCheck,
+                "the check word of the header is wrong",
+            ),
+            (FrameFault::Length, "LENGTH is under 5"),
+            (
+                FrameFault::Size,
+                "another number of octets than LENGTH says",
+            ),
+            (
+                FrameFault::BlockCheck(0),
+                "the check word of block 0 is wrong",
+            ),
+            (
+                FrameFault::BlockCheck(15),
+                "the check word of block 15 is wrong",
+            ),
+        ],
+    )?)
+}
+
+/// Whether the faults of fragments and objects print as they should.
+fn fragments_print(alloc: Global) -> Result<bool, AllocError> {
     Ok(
         print(
-            alloc,
-            &[
-                (FrameFault::Short, "fewer than 10 octets"),
-                (FrameFault::Start, "the first two octets are not 05 64"),
-                (
-                    FrameFault::HeaderCheck,
-                    "the check word of the header is wrong",
-                ),
-                (FrameFault::Length, "LENGTH is under 5"),
-                (
-                    FrameFault::Size,
-                    "another number of octets than LENGTH says",
-                ),
-                (
-                    FrameFault::BlockCheck(0),
-                    "the check word of block 0 is wrong",
-                ),
-                (
-                    FrameFault::BlockCheck(15),
-                    "the check word of block 15 is wrong",
-                ),
-            ],
-        )? && print(
             alloc,
             &[
                 (AppFault::Short, "too few octets for a fragment"),
@@ -155,7 +160,14 @@ fn stations_print(alloc: Global) -> Result<bool, AllocError> {
                 (MasterFault::Memory, "out of memory"),
                 (MasterFault::Device, "the sink's device failed"),
             ],
-        )? && print(
+        )?,
+    )
+}
+
+/// Whether the faults of index maps and of commands that are issued print as they should.
+fn concentrators_print(alloc: Global) -> Result<bool, AllocError> {
+    Ok(
+        print(
             alloc,
             &[
                 (MapFault::TooWide, "an index above would be over 65,535"),
@@ -224,9 +236,11 @@ fn systems_print(alloc: Global) -> Result<bool, AllocError> {
 #[test]
 fn faults_say_their_cause(rt: HostRuntime) -> Result<(), Fail> {
     let alloc = rt.alloc();
-    assert!(rt; wire_prints(alloc)?);
+    assert!(rt; frames_print(alloc)?);
+    assert!(rt; fragments_print(alloc)?);
     assert!(rt; stores_print(alloc)?);
     assert!(rt; stations_print(alloc)?);
+    assert!(rt; concentrators_print(alloc)?);
     assert!(rt; systems_print(alloc)?);
     Ok(())
 }

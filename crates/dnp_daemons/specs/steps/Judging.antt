@@ -1,6 +1,7 @@
 -- Private steps: the texts of a plan and a script as they are judged, and a refusal that is written.
 use Rattle.std.specs.Prelude.{◌≡◌, ℕ, Bool, true, false, List, ◌++◌, Option, Result, Ok, Err, ⊤}
 use Rattle.std.specs.Io.KnownBytes.{Appends}
+use Rattle.dnp_daemons.specs.declared.script.ScriptLine.{ScriptLine}
 use Rattle.dnp_daemons.specs.declared.run.ScriptStop.{ScriptStop}
 use Rattle.dnp_daemons.specs.declared.run.ScriptStop.TheVariants as stop
 use Rattle.dnp_daemons.specs.declared.sim.judging.Judged.{Judged}
@@ -15,7 +16,7 @@ reading_by false = reading_of
 
 -- what the texts are judged to be
 abbrev pub IsJudged : LineReader → List ℕ → List ℕ → Judged → Type 0
-IsJudged reads plan script (Good of lines) = AreGood reads plan script of lines.items
+IsJudged reads plan script (Good of) = (lines : List ScriptLine) × AreGood reads plan script of lines
 IsJudged reads plan script (NoPlan number) = HasNoPlan plan number
 IsJudged reads plan script (NoScript line) = HasNoScript reads plan script line
 

@@ -1,26 +1,32 @@
 //! A script run to its end, with the report there.
 
+ghost use Rattle.std.specs.Prelude.{List};
+ghost use Rattle.dnp_daemons.specs.declared.script.ScriptLine.{ScriptLine};
 ghost use Rattle.dnp_daemons.specs.ScriptReports.{ReportEnds};
+ghost use Rattle.dnp_daemons.specs.steps.Readings.{Says};
 
 use crate::report_text::{PrintFault, print_report};
+use crate::run::ScriptStop;
 use crate::run::scripted::Scripted;
-use crate::run::{ScriptStop, run_script};
-use crate::script::ScriptLine;
+use crate::run::text::run_text;
+use crate::script::checking::ScriptText;
 use dnp_world::Cause;
 use std::alloc::Global;
 use std::io::Write;
 
-/// Runs a script, and prints the report at its end.
+/// Runs a script from its text, and prints the report at its end.
 pub(crate) fn run_to_report<S: Scripted, W: Write>(
     alloc: Global,
     system: &mut S,
-    script: &[ScriptLine],
+    script: &ScriptText<'_>,
     out: &mut W,
 ) -> Result<(), ScriptStop>
+    requires fits { (lines : List ScriptLine) × Says script.now lines }
     ensures held { S.honest system.new → S.honest system.old }
-    ensures ends { S.honest system.new → ReportEnds S.law (S.state system.old) script.now result (S.state system.new) (W.contents out.old) (W.contents out.new) }
+    ensures ends { S.honest system.new → (lines : List ScriptLine) → Says script.now lines
+        → ReportEnds S.law (S.state system.old) lines result (S.state system.new) (W.contents out.old) (W.contents out.new) }
 {
-    match run_script(alloc, system, script, out) {
+    match run_text(alloc, system, script, out) {
         Ok(()) => {}
         Err(stop) => return Err(stop),
     }

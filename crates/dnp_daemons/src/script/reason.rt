@@ -8,9 +8,10 @@ ghost use Rattle.dnp_daemons.specs.Words.{lines_of, words_of};
 ghost use Rattle.dnp_daemons.specs.steps.Forms.{most_taken, taken};
 ghost use Rattle.dnp_daemons.specs.steps.Judging.{reading_by};
 
+use crate::script::ScriptFault;
+use crate::script::checking::check_script;
 use crate::script::forms::{Form, Slot};
 use crate::script::words::first_line;
-use crate::script::{ScriptFault, read_lines};
 use dnp_concentrator::Plan;
 use std::alloc::{AllocError, Global};
 
@@ -99,8 +100,8 @@ pub fn script_fault<'a>(
         (λ fault. StopsAt carried (length plan.now.substations) text.now fault.line fault.good)) }
 {
     let substations = plan.substations.as_slice().len();
-    match read_lines(alloc, text, plan, carried) {
-        Ok(_) => Ok(None),
+    match check_script(alloc, text, plan, carried) {
+        Ok(()) => Ok(None),
         Err(ScriptFault::Memory) => Err(AllocError),
         Err(ScriptFault::Line(line)) => {
             let stops = line_at(text, line.saturating_sub(1));

@@ -6,7 +6,8 @@ ghost use Rattle.dnp_daemons.specs.steps.Judging.{IsJudged, SaysRefused, reading
 
 use crate::run::ScriptStop;
 use crate::run::printing::write_parts;
-use crate::script::{ScriptFault, ScriptLine, read_lines};
+use crate::script::ScriptFault;
+use crate::script::checking::check_script;
 use dnp_concentrator::Plan;
 use dnp_plantext::{PlanTextFault, read_plan};
 use dnp_world::Cause;
@@ -17,8 +18,8 @@ use std::io::Write;
 /// What the texts of a plan and a script are.
 #[derive(Drop)]
 pub(crate) enum Judged {
-    /// A plan, and a script for it.
-    Good(Plan, Vec<ScriptLine>),
+    /// A plan, and the other text is a script for it.
+    Good(Plan),
     /// No plan, by the fault of this number.
     NoPlan(usize),
     /// A plan, and no script for it: this line, counted from 1, is the first that doesn't fit.
@@ -40,8 +41,8 @@ pub(crate) fn judge(
         Err(PlanTextFault::Memory) => return Err(ScriptStop::Fault(Cause::Memory)),
         Err(fault) => return Ok(Judged::NoPlan(fault as usize)),
     };
-    match read_lines(alloc, script, &plan, carried) {
-        Ok(script) => Ok(Judged::Good(plan, script)),
+    match check_script(alloc, script, &plan, carried) {
+        Ok(()) => Ok(Judged::Good(plan)),
         Err(ScriptFault::Line(number)) => Ok(Judged::NoScript(number)),
         Err(ScriptFault::Memory) => Err(ScriptStop::Fault(Cause::Memory)),
     }

@@ -200,14 +200,22 @@ fn own_fault(alloc: Global, table: &Value) -> Result<Option<PlanPlace>, AllocErr
     first_fault(alloc, table, None, &keys)
 }
 
-/// The first key of a substation that is wrong.
+/// Where a substation is wrong: it is no table, or a key of it is wrong.
 fn sub_fault(
     alloc: Global,
     table: &Value,
     substation: usize,
 ) -> Result<Option<PlanPlace>, AllocError>
-    ensures { IfOk result (λ place. place ≡ spec.first_fault (Option.Some substation) (view table.now) spec.sub_keys) }
+    ensures { IfOk result (λ place. place ≡ spec.sub_fault substation (view table.now)) }
 {
+    if !table.is_table() {
+        return Ok(Some(PlanPlace {
+            substation: None,
+            key: PlanKey::Substation,
+            item: Some(substation),
+            found: Found::of(table),
+        }));
+    }
     let keys = [
         PlanKey::Lanes,
         PlanKey::Binary,
@@ -221,7 +229,7 @@ fn sub_fault(
     first_fault(alloc, table, Some(substation), &keys)
 }
 
-/// The first key of all substations that is wrong.
+/// The first place of all substations that is wrong.
 fn subs_fault(alloc: Global, items: &Array) -> Result<Option<PlanPlace>, AllocError>
     ensures { IfOk result (λ place. place ≡ spec.subs_fault 0 (array_view items.now)) }
 {

@@ -1,21 +1,21 @@
-use Rattle.std.proofs.Common.{codes, refl}
+use Rattle.std.proofs.Common.{codes, refl, sym}
 use Rattle.dnp_daemons.specs.Judgements.{NoPlan, NoScript, refused_line}
 use Rattle.dnp_daemons.specs.Simulations.{Refused}
 use Rattle.dnp_daemons.specs.steps.Judging.{reading_by}
-use Rattle.dnp_daemons.proofs.Simulating.{cut_refusal, run_cut, run_done}
+use Rattle.dnp_daemons.proofs.Simulating.{cut_refusal, run_cut, run_done, says_so}
 use Rattle.dnp_daemons.proofs.sim.texts_by.Goals as goal
 
 pub returns-in-Ok-simulate : goal.returns-in-Ok-simulate
 returns-in-Ok-simulate g c =
-    let good = rw c.in-Good.is at c.in-Ok.ensures.judged in
-    let ends = rw c.deref.ensures.value at c.in-Ok-simulate.ensures in
-    run_done (reading_by c.args.carried) c.args.plan.now c.args.script.now _ _ c.in-Ok-simulate.field-0 _ _ good ends
+    let (lines, good) = rw c.in-Good.is at c.in-Ok.ensures.judged in
+    let says = says_so c.args.carried c.args.script.now lines (sym c.as_slice.ensures) good.read in
+    run_done (reading_by c.args.carried) c.args.plan.now c.args.script.now _ lines c.in-Ok-simulate.field-0 _ _ good (c.in-Ok-simulate.ensures lines says)
 
 pub returns-in-Good : goal.returns-in-Good
 returns-in-Good g c =
-    let good = rw c.in-Good.is at c.in-Ok.ensures.judged in
-    let ends = rw c.deref.ensures.value at c.in-Err-simulate.ensures in
-    run_cut (reading_by c.args.carried) c.args.plan.now c.args.script.now _ _ c.in-Err-simulate.stop _ _ good ends
+    let (lines, good) = rw c.in-Good.is at c.in-Ok.ensures.judged in
+    let says = says_so c.args.carried c.args.script.now lines (sym c.as_slice.ensures) good.read in
+    run_cut (reading_by c.args.carried) c.args.plan.now c.args.script.now _ lines c.in-Err-simulate.stop _ _ good (c.in-Err-simulate.ensures lines says)
 
 pub returns-in-Ok-print_refusal : goal.returns-in-Ok-print_refusal
 returns-in-Ok-print_refusal g c =
