@@ -122,13 +122,13 @@ IsFew x more = by x.item.thing
 
 joined_by : (a b : Head) (r : Range) (octets : List ℕ) → a.group ≡ b.group → a.variation ≡ b.variation → joined_range a.range b.range ≡ Some r
     → octets ≡ a.octets ++ b.octets
-    → joined a b ≡ Some (record { group = a.group; variation = a.variation; range = r; octets = octets })
+    → joined a b ≡ Some (record a { range = r; octets = octets })
 joined_by a b r octets group variation range_is octets_are =
     let same : ((a.group == b.group) && (a.variation == b.variation)) ≡ true = and_from _ _ (eq-eqb _ _ group) (eq-eqb _ _ variation) in
-    ap (λ (t : Bool). if t then option_map (λ (q : Range). record { group = a.group; variation = a.variation; range = q; octets = a.octets ++ b.octets })
+    ap (λ (t : Bool). if t then option_map (λ (q : Range). record a { range = q; octets = a.octets ++ b.octets })
     (joined_range a.range b.range) else None) same
-    ∙ ap (option_map (λ (q : Range). record { group = a.group; variation = a.variation; range = q; octets = a.octets ++ b.octets })) range_is
-    ∙ ap (λ (o : List ℕ). Some (record { group = a.group; variation = a.variation; range = r; octets = o })) (sym octets_are)
+    ∙ ap (option_map (λ (q : Range). record a { range = q; octets = a.octets ++ b.octets })) range_is
+    ∙ ap (λ (o : List ℕ). Some (record a { range = r; octets = o })) (sym octets_are)
 
 pub joins : (x : Laid) (more : List Laid) (y : Laid) → IsBehind x (length more + 1) y → IsFew x more
     → joined (header_of (record { first = x; more = more })) (written_of y) ≡ Some (header_of (record { first = x; more = more ++ y ∷ [] }))
@@ -172,7 +172,7 @@ joins x more y behind few = go x.item.thing y.item.thing behind few
 
 no_join_by : (a b : Head) → ((a.group == b.group) && (a.variation == b.variation)) ≡ false → joined a b ≡ None
 no_join_by a b other =
-    ap (λ (t : Bool). if t then option_map (λ (q : Range). record { group = a.group; variation = a.variation; range = q; octets = a.octets ++ b.octets })
+    ap (λ (t : Bool). if t then option_map (λ (q : Range). record a { range = q; octets = a.octets ++ b.octets })
     (joined_range a.range b.range) else None) other
 
 none_either_way : (t : Bool) (f : Range → Head) (o : Option Range) → o ≡ None → (if t then option_map f o else None) ≡ None
@@ -225,7 +225,7 @@ no_join x more last y behind same off = go x.item.thing last.item.thing y.item.t
             let apart : (b.row.index + 1 == c.row.index) ≡ false = other_by _ _ same_variation (other_by _ _ one other) in
             let apart' : (a.row.index + length more + 1 == c.row.index) ≡ false = ap (λ (i : ℕ). i + 1 == c.row.index) at ∙ apart in
             none_either_way ((a'.group == c'.group) && (a'.variation == c'.variation))
-            (λ (q : Range). record { group = a'.group; variation = a'.variation; range = q; octets = a'.octets ++ c'.octets })
+            (λ (q : Range). record a' { range = q; octets = a'.octets ++ c'.octets })
             (joined_range a'.range c'.range) (ap (λ (t : Bool). if t then Some (range.Span true a.row.index c.row.index) else None) apart')
         by false another =
             no_join_by a' c' (others p.0 p.1 (and_right (last.object.group == y.object.group) _ another))

@@ -52,16 +52,10 @@ joined_size run longer group variation index octets is = by ((run.group == group
     object = number true index ++ octets
 
     by : (b : Bool) (o : Option Range) → joined_range run.range (range.Indexed true 1) ≡ o
-        → cond b (option_map (λ (r : Range). let h : Head = record {
-          group = run.group;
-          variation = run.variation;
-          range = r;
-          octets = run.octets
-              ++ object;
-        } in h) o) None ≡ Some longer
+        → cond b (option_map (λ (r : Range). let h : Head = record run { range = r; octets = run.octets ++ object } in h) o) None ≡ Some longer
         → length (header_octets run) + (2 + length octets) ≤ length (header_octets longer)
     by true (Some r) joint it =
-        let same : (let h : Head = record { group = run.group; variation = run.variation; range = r; octets = run.octets ++ object } in h) ≡ longer = cc in
+        let same : (let h : Head = record run { range = r; octets = run.octets ++ object } in h) ≡ longer = cc in
         let old = header_size run in
         let new = header_size longer in
         let range_is : length (range_octets longer.range) ≡ length (range_octets run.range) = ap (λ (h : Head). length (range_octets h.range)) (sym same)

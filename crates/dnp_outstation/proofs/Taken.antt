@@ -99,12 +99,12 @@ alone_is x = go x.item.thing
     go : (thing : Thing) → (let y : Laid = laid_as x.item.header thing x.object in written_of y ≡ header_of (alone y))
     go (Event lane row) =
         let h = written_of (laid_as x.item.header (Event lane row) x.object) in
-        ap (λ (o : List ℕ). record { group = h.group; variation = h.variation; range = h.range; octets = o }) (sym (append-nil h.octets))
+        ap (λ (o : List ℕ). record h { range = h.range; octets = o }) (sym (append-nil h.octets))
     go (Present static) =
         let h = written_of (laid_as x.item.header (Present static) x.object) in
         let e : static.row.index ≡ static.row.index + 0 = omega arith in
-        ap (λ (o : List ℕ). record { group = h.group; variation = h.variation; range = h.range; octets = o }) (sym (append-nil h.octets))
-        ∙ ap (λ (last : ℕ). record { group = h.group; variation = h.variation; range = range.Span true static.row.index last; octets = h.octets ++ [] }) e
+        ap (λ (o : List ℕ). record h { range = h.range; octets = o }) (sym (append-nil h.octets))
+        ∙ ap (λ (last : ℕ). record h { range = range.Span true static.row.index last; octets = h.octets ++ [] }) e
 
 -- a header more
 abbrev with_new : Built → Head → Built

@@ -4,7 +4,7 @@ use Rattle.std.specs.Prelude.{ℕ, ◌+◌, ◌==◌, Bool, true, false, ◌&&�
 use Rattle.std.specs.List.{flat_map}
 use Rattle.dnp_appfragment.specs.declared.header.Range.{Range}
 use Rattle.dnp_appfragment.specs.declared.header.Range.TheVariants as range
-use Rattle.dnp_appfragment.specs.Headers.{Head, spelled}
+use Rattle.dnp_appfragment.specs.Headers.{Head, head_of, spelled}
 use Rattle.dnp_appfragment.specs.Items.{Item as Object, item_octets, event_item, point_item}
 use Rattle.dnp_objects.specs.declared.limits.TheConstants.{MAX_FRAGMENT}
 use Rattle.dnp_outstation.specs.Items.{Thing, Item}
@@ -84,12 +84,8 @@ range_of (Event lane row) more = range.Indexed true (more + 1)
 range_of (Present static) more = range.Span true static.row.index (static.row.index + more)
 
 abbrev pub header_of : Stretch → Head
-header_of s = record {
-  group = s.first.object.group;
-  variation = s.first.object.variation;
-  range = range_of s.first.item.thing (length s.more);
-  octets = flat_map (item_octets (range_of s.first.item.thing (length s.more))) (map object_of (s.first ∷ s.more));
-}
+header_of s = head_of s.first.object.group s.first.object.variation (range_of s.first.item.thing (length s.more))
+    (flat_map (item_octets (range_of s.first.item.thing (length s.more))) (map object_of (s.first ∷ s.more)))
 
 abbrev pub headers_of : List Laid → List Head
 headers_of items = map header_of (stretches items)

@@ -3,7 +3,7 @@ use Rattle.std.proofs.Common.{◌≡◌, Bool, true, false, if◌then◌else◌,
 use Rattle.std.specs.Prelude.{fold}
 use Rattle.std.specs.List.{cons_option, flat_map}
 use Rattle.std.proofs.lemmas.List.{length-map, take-map}
-use Rattle.dnp_appfragment.specs.Headers.{Head, spelled}
+use Rattle.dnp_appfragment.specs.Headers.{Head, head_of, spelled}
 use Rattle.dnp_appfragment.specs.Items.{Item as Object, item_octets}
 use Rattle.dnp_eventbuf.specs.Sound.{IsSound}
 use Rattle.dnp_eventbuf.specs.Stock.{Stock, lane_at}
@@ -104,12 +104,8 @@ plain_objects [] = refl
 plain_objects (x ∷ xs) = ap (λ (os : List Object). object_of x ∷ os) (plain_objects xs)
 
 abbrev header_with : Laid → ℕ → List Object → Head
-header_with first more objects = record {
-  group = first.object.group;
-  variation = first.object.variation;
-  range = range_of first.item.thing more;
-  octets = flat_map (item_octets (range_of first.item.thing more)) (first.object ∷ objects);
-}
+header_with first more objects = head_of first.object.group first.object.variation (range_of first.item.thing more)
+    (flat_map (item_octets (range_of first.item.thing more)) (first.object ∷ objects))
 
 plain_header : (x : Stretch) → header_of (plain_stretch x) ≡ header_of x
 plain_header x =
