@@ -91,11 +91,12 @@ SOMETHING TO LOOK AT
   before the report is printed, and not where the plan or the script is refused.
     --trace FILE    a line for each thing that a unit does: the moment in milliseconds, the link, the
                     way, what it does and what it says, as '12 link 0 up sent RESPONSE seq 1 fir fin
-                    con, 2.2 x1', or of a segment of a longer fragment 'segment FIR 0'. It is 'sent', it 'arrives', is 'repeated' (it arrives, and stays on
-                    the line), 'lost', 'damaged' or 'dropped' (its line was cleared), or 'stands' on
-                    the line at the end. What comes after 32 others on a line may be 'unseen'. The way
-                    is up to the master, or down. With '-' the lines stand on standard output, before
-                    the report; the other two can't go there.
+                    con, 2.2 x1', or of a segment of a longer fragment 'segment FIR 0'. It is 'sent',
+                    it 'arrives', is 'repeated' (it arrives, and stays on the line), 'lost', 'damaged'
+                    or 'dropped' (its line was cleared), or 'stands' on the line at the end. What comes
+                    after 32 others on a line may be 'unseen'. The way is up to the master, or down.
+                    With '-' the lines stand on standard output, before the report; the other two
+                    can't go there.
     --chart FILE    the same as a sequence chart for a browser, time going down: an arrow for each
                     unit, broken off where it is lost or damaged, dashed where it is repeated, dotted
                     where it is dropped or stands at the end
