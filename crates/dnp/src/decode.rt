@@ -76,8 +76,9 @@ OUTPUT
   What is refused has a line with the fault's name and its place, an octet of the frame or the
   fragment, from 0, as 'frame refused: BlockCheck 1 at octet 28'. In a fragment it is the place where
   the header with the fault begins; the headers before it have their lines. Functions and objects that
-  the stations here don't speak are unknown to it. Octets at which no frame begins are 'skipped', which
-  is refused too; a fragment whose last segments are missing is not. docs/decode.md lists all the names.
+  the stations here don't speak are unknown to it. Octets at which no frame begins are 'skipped', and
+  those at the end of the input that are too few for a frame are 'Cut': both count as refused. A
+  fragment whose last segments are missing doesn't. docs/decode.md lists all the names.
   With --json each line is a JSON object: 'at' is that number, 'layer' says what the line is of, and
   'refused' is there where something is refused; docs/decode.md has the members. A file that is no
   capture is 'refused capture NAME' with or without it.

@@ -91,12 +91,15 @@ SOMETHING TO LOOK AT
   before the report is printed, and not where the plan or the script is refused.
     --trace FILE    a line for each thing that a unit does: the moment in milliseconds, the link, the
                     way, what it does and what it says, as '12 link 0 up sent RESPONSE seq 1 fir fin
-                    con, 2.2 x1'. It is 'sent', it 'arrives', is 'repeated' (it arrives, and stays on
-                    the line), 'lost', 'damaged' or 'dropped' (its line was cleared), or 'stands' on
-                    the line at the end. What comes after 32 others on a line may be 'unseen'. The way
-                    is up to the master, or down. With '-' the lines stand on standard output, before
-                    the report; the other two can't go there.
-    --chart FILE    the same as a sequence chart for a browser, time going down
+                    con, 2.2 x1', or of a segment of a longer fragment 'segment FIR 0'. It is 'sent',
+                    it 'arrives', is 'repeated' (it arrives, and stays on the line), 'lost', 'damaged'
+                    or 'dropped' (its line was cleared), or 'stands' on the line at the end. What comes
+                    after 32 others on a line may be 'unseen'. The way is up to the master, or down.
+                    With '-' the lines stand on standard output, before the report; the other two
+                    can't go there.
+    --chart FILE    the same as a sequence chart for a browser, time going down: an arrow for each
+                    unit, broken off where it is lost or damaged, dashed where it is repeated, dotted
+                    where it is dropped or stands at the end
     --capture FILE  what arrives, for Wireshark: a TCP conversation to port 20000 for each link, from
                     and to 192.0.2.A, where A is the station's link address: the centre's is 1, the
                     concentrator's 9 above and 2 below, substation S's 10 + S
