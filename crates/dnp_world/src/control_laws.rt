@@ -36,8 +36,7 @@ use dnp_objects::Command;
 use dnp_objects::laws::equality_is_decided;
 use dnp_outstation::link_laws::{
     a_confirm_releases_what_its_fragment_reported, a_repeated_request_executes_nothing,
-    commands_are_performed_as_they_are_asked, content_leaves_the_connection_alone,
-    each_case_says_what_came,
+    commands_are_performed_as_they_are_asked, each_case_says_what_came,
 };
 
 /// An open outstation that is asked a SELECT which isn't its last request again repeats its command with the status of its outputs,
@@ -130,7 +129,6 @@ pub fn a_clean_control_operates()
     equality_is_decided::<u64, Command>();
     what_is_sent_arrives();
     ids_go_on();
-    content_leaves_the_connection_alone();
     each_case_says_what_came();
     a_confirm_releases_what_its_fragment_reported();
     a_release_conserves_rows();

@@ -8,8 +8,6 @@ use Rattle.dnp_world.proofs.control_laws.a_clean_control_operates.Goals as goal
 
 coming_of : goal.After-commands_are_undone → ComingLaws
 coming_of c = record {
-  keeps = c.content_leaves_the_connection_alone.ensures.keeps;
-  keeps_held = c.content_leaves_the_connection_alone.ensures.keeps_held;
   says = c.each_case_says_what_came.ensures;
   solicited = c.a_confirm_releases_what_its_fragment_reported.ensures.solicited;
   unsolicited = c.a_confirm_releases_what_its_fragment_reported.ensures.unsolicited;
