@@ -1,4 +1,5 @@
 pub mod Statements
+pub mod Stepping
 pub mod Counting
 pub mod IdRows
 pub mod QueueStatements

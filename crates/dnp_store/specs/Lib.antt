@@ -7,6 +7,7 @@ pub mod JournalKept
 pub mod BookTables
 pub mod BookKept
 -- Words of private steps.
+pub mod Inside
 pub mod Steps
 pub mod Making
 pub mod Shown

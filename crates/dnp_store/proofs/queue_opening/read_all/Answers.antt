@@ -8,6 +8,7 @@ use Rattle.dnp_store.specs.Tables.{IsCounted}
 use Rattle.dnp_store.specs.QueueTables.{Figures, figures_rows}
 use Rattle.dnp_store.specs.Shown.{AreNine, IsBegun, PutBack, Restores, ShowsCount}
 use Rattle.dnp_store.proofs.Restoring.{opened}
+use Rattle.dnp_store.proofs.Stepping.{step_then, step_as}
 use Rattle.dnp_store.proofs.queue_opening.read_all.Goals as goal
 
 pub returns-then-restore_rows-clause-read : goal.returns-then-restore_rows-clause-read
@@ -16,9 +17,9 @@ returns-then-restore_rows-clause-read g c clean counted f q l sound has =
     let one = state g.S.Store c.read_form.new.tx.conn.now in
     let two = state g.S.Store c.read_figures.new.tx.conn.now in
     let three = state g.S.Store c.read_counts.new.tx.conn.now in
-    let clean_3 : HasCleanDisk three = omega (arith, clean, c.read_queued.ensures.survives.clean) in
-    let clean_2 : HasCleanDisk two = omega (arith, clean_3, c.read_counts.ensures.survives.clean) in
-    let clean_1 : HasCleanDisk one = omega (arith, clean_2, c.read_figures.ensures.survives.clean) in
+    let clean_3 : HasCleanDisk three = omega (arith, clean, c.read_queued.ensures.step.survives.clean) in
+    let clean_2 : HasCleanDisk two = omega (arith, clean_3, c.read_counts.ensures.step.survives.clean) in
+    let clean_1 : HasCleanDisk one = omega (arith, clean_2, c.read_figures.ensures.step.survives.clean) in
     let figures = c.in_ok-figures.figures.items in
     let counts = c.in_ok-counts.counts.items in
     let rows = c.in_ok-rows.rows.items in
@@ -39,3 +40,14 @@ returns-then-restore_rows-clause-read g c clean counted f q l sound has =
     let put = r4.1 a b begun.nine (λ k low. ap (λ (lane : LaneState). lane.rows) (begun.lanes k low)) restores in
     opened old.now f q l figures a b n has r1.1 nine (subst (λ (d : Database). IsPermutation (figures_rows 0 figures) (d.trees 3)) same_1 r2.1)
     (subst (λ (d : Database). IsCounted (codes "queue") (d.trees 2) n) same_2 (r3.1 n shows)) begun (subst (λ (d : Database). PutBack (d.trees 1) a b) same_3 put)
+
+pub returns-then-restore_rows-clause-step : goal.returns-then-restore_rows-clause-step
+returns-then-restore_rows-clause-step g c =
+    let old = c.args.tx.now.conn in
+    let one = c.read_form.new.tx.conn in
+    let two = c.read_figures.new.tx.conn in
+    let three = c.read_counts.new.tx.conn in
+    let new = c.read_queued.new.tx.conn in
+    let first = step_then g.S.Store old one two _ _ c.in_ok-read_form.ensures.step c.in_ok-figures.ensures.step in
+    let second = step_then g.S.Store old two three _ _ first c.in_ok-counts.ensures.step in
+    step_as g.S.Store old new _ _ (step_then g.S.Store old three new _ _ second c.in_ok-rows.ensures.step)
