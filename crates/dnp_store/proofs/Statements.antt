@@ -48,6 +48,16 @@ pub finished : (X Y : Type 0) (mid new : State) (P : Database → Type 0) (r : R
 finished X Y mid new P (Ok _) holds h = (h.1.is_open, subst P (sym h.1.committed_is) holds)
 finished X Y mid new P (Err _) holds h = tt
 
+pub survives_as : (old new : State) (P Q : Trees → Type 0) → ((db : Trees) → P db → Q db) → Survives old new P → Survives old new Q
+survives_as old new P Q more h = record {
+  clean = h.clean;
+  shield = h.shield;
+  counts = h.counts;
+  limit = h.limit;
+  closes = h.closes;
+  crash = λ clean db may. elim (h.crash clean db may) [ inl before ↦ inl before | inr made ↦ inr (more db made) ];
+}
+
 -- what a transaction leaves that did one thing and then committed
 pub survives_commit : {S : Type 0} (g : Ghosts S) (old begun : Held S) (mid new : State) (P : Trees → Type 0) → begun ≡ record old { in_transaction = true }
     → Survives (state g begun) mid (λ _. ⊥) → Survives mid new (λ db. db ≡ mid.now.trees) → (HasCleanDisk new → P mid.now.trees) → Survives (state g old) new P

@@ -1,6 +1,6 @@
 //! The count and the last id of a journal that a database holds.
 
-ghost use Rattle.std.specs.Prelude.{◌≡◌, ◌≤◌, ℕ, false, IsTrue, OnOk, IfOk, List, codes};
+ghost use Rattle.std.specs.Prelude.{◌≡◌, ◌≤◌, ℕ, false, IsTrue, OnOk, IfOk, List};
 ghost use Rattle.sqlite.specs.Effect.{IsDatabase};
 ghost use Rattle.sqlite.specs.Held.{state};
 ghost use Rattle.sqlite.specs.State.{HasCleanDisk, Survives};
@@ -8,18 +8,17 @@ ghost use Rattle.sqlite.specs.Term.{Term};
 ghost use Rattle.dnp_objects.specs.declared.limits.TheConstants as limits;
 ghost use Rattle.dnp_eventbuf.specs.declared.numbered.Numbered.{Numbered};
 ghost use Rattle.dnp_store.specs.Inside.{IsInside, IsStep};
-ghost use Rattle.dnp_store.specs.JournalShown.{AreInOrder, Finds, Logs, ReadsJournal, ShowEvents};
+ghost use Rattle.dnp_store.specs.JournalShown.{AreInOrder, Finds, Logs, ShowEvents};
 ghost use Rattle.dnp_store.specs.JournalTables.{journal_schema};
-ghost use Rattle.dnp_store.specs.QueueTables.{IsForm1};
-ghost use Rattle.dnp_store.specs.Shown.{ShowsCount};
-ghost use Rattle.dnp_store.specs.Tables.{IsCounted};
+ghost use Rattle.dnp_store.specs.Stores.{Reads};
 
-use crate::decoding::{form1, last_used};
+use crate::decoding::last_used;
 use crate::fault::Unread;
 use crate::journal_decoding::{are_in_order, events_in};
 use crate::journal_form::is_of_journal;
 use crate::queue_opening::both;
-use crate::queue_reading::list;
+use crate::store_kind::StoreKind;
+use crate::stores::{list, read_counts, read_form};
 use sqlite::{Alter, Connection, Error, Row, Transaction};
 use std::alloc::Global;
 
@@ -34,39 +33,12 @@ pub(crate) struct Found {
     pub(crate) counted: bool,
 }
 
-/// Looks whether `form` is one row with the number 1.
-fn read_form<S: Alter>(tx: &mut Transaction<'_, S>) -> Result<(), Unread>
-    requires inside { IsInside S.Store tx.old.conn }
-    ensures step { IsStep S.Store tx.old.conn tx.new.conn result }
-    ensures open { HasCleanDisk (state S.Store tx.new.conn.now) → OnOk result (IsTrue (state S.Store tx.old.conn.now).is_open) }
-    ensures read { HasCleanDisk (state S.Store tx.new.conn.now) → OnOk result (ReadsJournal (state S.Store tx.old.conn.now) (state S.Store tx.new.conn.now) (λ db. IsForm1 (db 0))) }
-{
-    let rows = list(tx, "SELECT rowid, number FROM form ORDER BY rowid")?;
-    match form1(&rows) {
-        Some(_id) => Ok(()),
-        None => Err(Unread::Form),
-    }
-}
-
-/// The rows of `sqlite_sequence`: the table and the last id used.
-fn read_counts<S: Alter>(tx: &mut Transaction<'_, S>) -> Result<Vec<Row>, Error>
-    requires inside { IsInside S.Store tx.old.conn }
-    ensures step { IsStep S.Store tx.old.conn tx.new.conn result }
-    ensures open { HasCleanDisk (state S.Store tx.new.conn.now) → OnOk result (IsTrue (state S.Store tx.old.conn.now).is_open) }
-    ensures read { HasCleanDisk (state S.Store tx.new.conn.now) → IfOk result (λ rows. ReadsJournal (state S.Store tx.old.conn.now) (state S.Store tx.new.conn.now) (λ db. (n : ℕ) → ShowsCount (codes "journal") rows.items n → IsCounted (codes "journal") (db 2) n)) }
-{
-    list(
-        tx,
-        "SELECT rowid, name, seq FROM sqlite_sequence ORDER BY rowid",
-    )
-}
-
 /// The rows of `journal`, by their ids.
 fn read_logged<S: Alter>(tx: &mut Transaction<'_, S>) -> Result<Vec<Row>, Error>
     requires inside { IsInside S.Store tx.old.conn }
     ensures step { IsStep S.Store tx.old.conn tx.new.conn result }
     ensures open { HasCleanDisk (state S.Store tx.new.conn.now) → OnOk result (IsTrue (state S.Store tx.old.conn.now).is_open) }
-    ensures read { HasCleanDisk (state S.Store tx.new.conn.now) → IfOk result (λ rows. ReadsJournal (state S.Store tx.old.conn.now) (state S.Store tx.new.conn.now) (λ db. (events : List Numbered) (last : ℕ)
+    ensures read { HasCleanDisk (state S.Store tx.new.conn.now) → IfOk result (λ rows. Reads StoreKind.Journal (state S.Store tx.old.conn.now) (state S.Store tx.new.conn.now) (λ db. (events : List Numbered) (last : ℕ)
         → ShowEvents rows.items events → AreInOrder 0 last events → Logs db events last)) }
 {
     list(

@@ -6,59 +6,26 @@ ghost use Rattle.sqlite.specs.State.{HasCleanDisk, Survives};
 ghost use Rattle.dnp_eventbuf.specs.Stock.{empty_stock};
 ghost use Rattle.dnp_store.specs.Inside.{IsInside, IsStep};
 ghost use Rattle.dnp_store.specs.Kept.{Stands};
-ghost use Rattle.dnp_store.specs.Making.{HasForm, HasRows, HasTables, HasLanes, fresh};
+ghost use Rattle.dnp_store.specs.Making.{HasLanes, fresh};
 ghost use Rattle.dnp_store.specs.QueueTables.{Figures, HoldsStock};
+ghost use Rattle.dnp_store.specs.Stores.{HasNumber};
 ghost use Rattle.dnp_store.specs.Tables.{no_schema};
 
+use crate::store_kind::StoreKind;
+use crate::stores::make_tables;
 use dnp_objects::LANES;
 use sqlite::{Alter, Connection, Error, Transaction, params};
-
-/// Makes `form`.
-pub(crate) fn make_form<S: Alter>(tx: &mut Transaction<'_, S>) -> Result<(), Error>
-    requires inside { IsInside S.Store tx.old.conn }
-    ensures step { IsStep S.Store tx.old.conn tx.new.conn result }
-    ensures made { HasCleanDisk (state S.Store tx.new.conn.now) → OnOk result ((state S.Store tx.old.conn.now).now.schema ≡ no_schema → HasForm (state S.Store tx.new.conn.now).now) }
-{
-    tx.execute(
-        "CREATE TABLE form (number INTEGER NOT NULL CHECK (number BETWEEN 1 AND 1000))",
-        &[],
-    )?;
-    Ok(())
-}
-
-/// Makes `queue`.
-fn make_queue<S: Alter>(tx: &mut Transaction<'_, S>) -> Result<(), Error>
-    requires inside { IsInside S.Store tx.old.conn }
-    ensures step { IsStep S.Store tx.old.conn tx.new.conn result }
-    ensures made { HasCleanDisk (state S.Store tx.new.conn.now) → OnOk result (HasForm (state S.Store tx.old.conn.now).now → HasRows (state S.Store tx.new.conn.now).now) }
-{
-    tx.execute(
-        "CREATE TABLE queue (id INTEGER PRIMARY KEY AUTOINCREMENT CHECK (id BETWEEN 1 AND 4611686018427387904), lane INTEGER NOT NULL CHECK (lane BETWEEN 0 AND 8), point INTEGER NOT NULL CHECK (point BETWEEN 0 AND 65535), flags INTEGER NOT NULL CHECK (flags BETWEEN 0 AND 255), value INTEGER NOT NULL, time INTEGER CHECK (time BETWEEN 0 AND 281474976710655))",
-        &[],
-    )?;
-    Ok(())
-}
 
 /// Makes `lanes`.
 fn make_lanes<S: Alter>(tx: &mut Transaction<'_, S>) -> Result<(), Error>
     requires inside { IsInside S.Store tx.old.conn }
     ensures step { IsStep S.Store tx.old.conn tx.new.conn result }
-    ensures made { HasCleanDisk (state S.Store tx.new.conn.now) → OnOk result (HasRows (state S.Store tx.old.conn.now).now → HasTables (state S.Store tx.new.conn.now).now) }
+    ensures made { HasCleanDisk (state S.Store tx.new.conn.now) → OnOk result (HasNumber StoreKind.Queue (state S.Store tx.old.conn.now).now → HasLanes (state S.Store tx.new.conn.now).now []) }
 {
     tx.execute(
         "CREATE TABLE lanes (lane INTEGER PRIMARY KEY CHECK (lane BETWEEN 0 AND 8), cap INTEGER NOT NULL CHECK (cap BETWEEN 1 AND 4096), lost INTEGER NOT NULL CHECK (lost BETWEEN 0 AND 4611686018427387904), raised INTEGER NOT NULL CHECK (raised BETWEEN 0 AND 1))",
         &[],
     )?;
-    Ok(())
-}
-
-/// Puts the number of the form into `form`.
-fn put_number<S: Alter>(tx: &mut Transaction<'_, S>) -> Result<(), Error>
-    requires inside { IsInside S.Store tx.old.conn }
-    ensures step { IsStep S.Store tx.old.conn tx.new.conn result }
-    ensures made { HasCleanDisk (state S.Store tx.new.conn.now) → OnOk result (HasTables (state S.Store tx.old.conn.now).now → HasLanes (state S.Store tx.new.conn.now).now []) }
-{
-    tx.execute("INSERT INTO form VALUES (1)", &[])?;
     Ok(())
 }
 
@@ -93,10 +60,8 @@ fn make_all<S: Alter>(tx: &mut Transaction<'_, S>, capacities: &[u32; LANES]) ->
     ensures step { IsStep S.Store tx.old.conn tx.new.conn result }
     ensures made { HasCleanDisk (state S.Store tx.new.conn.now) → OnOk result ((state S.Store tx.old.conn.now).now.schema ≡ no_schema → HasLanes (state S.Store tx.new.conn.now).now (map fresh capacities.now)) }
 {
-    make_form(tx)?;
-    make_queue(tx)?;
+    make_tables(tx, StoreKind::Queue)?;
     make_lanes(tx)?;
-    put_number(tx)?;
     put_lanes(tx, capacities)
 }
 
