@@ -1,37 +1,34 @@
 -- What the queries of an open show of a book's tables.
-use Rattle.std.proofs.Common.{◌≡◌, inl, inr, ℕ, suc, ◌<◌, ◌≤◌, ℤ, pos, false, List, [], ◌∷◌, map, length, codes, Some, None, Ok, Err, Result, IfOk, IsTrue, refl, sym, ap, ap₂, subst, ◌∙◌, arith, IsPermutation}
+use Rattle.std.proofs.Common.{◌≡◌, ℕ, suc, ◌<◌, ◌≤◌, ℤ, pos, false, List, [], ◌∷◌, map, length, codes, Some, Ok, Err, Result, IfOk, IsTrue, refl, sym, ap, ap₂, subst, ◌∙◌, arith, IsPermutation}
 use Rattle.std.specs.Prelude.{Vec, AllPairs}
 use Rattle.std.specs.declared.alloc.Global.{Global}
 use Rattle.std.specs.List.{AllByRecursion}
-use Rattle.std.proofs.lemmas.List.{length-map}
 use Rattle.std.proofs.lemmas.List.Elements.{All-from_recursion}
 use Rattle.std.proofs.lemmas.List.Kept.{AllPairs-cons}
 use Rattle.std.proofs.lemmas.List.Sorted.{IsPermutation-sym}
 use Rattle.sqlite_tied.specs.Compute.{everything}
 use Rattle.sqlite_trees.proofs.ListLemmas.{all-permutation, all_weaker}
-use Rattle.sqlite_schema.specs.Rules.{has_computed}
-use Rattle.sqlite_schema.specs.declared.schema.Constraint.TheVariants.{Datatype}
 use Rattle.sqlite.specs.Command.TheVariants.{Select}
 use Rattle.sqlite.specs.declared.types.Value.{Value}
-use Rattle.sqlite.specs.declared.types.Value.TheVariants.{Null, Int, Text}
+use Rattle.sqlite.specs.declared.types.Value.TheVariants.{Null, Int}
 use Rattle.sqlite.specs.Order.{Row, column}
 use Rattle.sqlite.specs.Term.{Term, col}
-use Rattle.sqlite.specs.Schema.{Schema}
-use Rattle.sqlite.specs.Effect.{Database, IsDatabase}
+use Rattle.sqlite.specs.Effect.{Database}
 use Rattle.sqlite.specs.Given.{IsPlain}
 use Rattle.sqlite.specs.Listing.{understood, reads_listing}
 use Rattle.sqlite.specs.State.{State, Shown}
 use Rattle.sqlite.proofs.Callers.{command_of, reads_as}
 use Rattle.dnp_controls.specs.declared.book.Entry.{Entry}
 use Rattle.dnp_controls.specs.Book.{Ledger, IsSound}
-use Rattle.dnp_store.specs.Tables.{form_with, sequence, IsCounted}
+use Rattle.dnp_store.specs.Tables.{IsCounted}
 use Rattle.dnp_store.specs.QueueTables.{IsForm1}
-use Rattle.dnp_store.specs.Shown.{ShowsForm1, ShowsCount}
-use Rattle.dnp_store.specs.BookTables.{book_schema, book_columns, book_with, entry_row, IsBook, status_of}
-use Rattle.dnp_store.specs.BookShown.{ReadsBook, ShowsEntry, ShowEntries, EntriesRise, HoldsEntries, FindsBook}
+use Rattle.dnp_store.specs.BookTables.{book_schema, book_columns, entry_row, IsBook, status_of}
+use Rattle.dnp_store.specs.BookShown.{ShowsEntry, ShowEntries, EntriesRise, HoldsEntries, FindsBook}
 use Rattle.dnp_store.specs.BookKept.{Stands}
-use Rattle.dnp_store.proofs.Rows.{IsTyped, typed, form_columns, form_row, count_row_is, null_is, and_left, at_most}
-use Rattle.dnp_store.proofs.Opening.{query, listed, shown_by, unchanged, alone, none_left, form_query, count_query, form_terms, count_terms}
+use Rattle.dnp_store.specs.declared.store_kind.StoreKind.TheVariants.{Book}
+use Rattle.dnp_store.specs.Stores.{Reads}
+use Rattle.dnp_store.proofs.Rows.{IsTyped, typed_rows, null_is, and_left, at_most}
+use Rattle.dnp_store.proofs.Opening.{query, listed, shown_by, unchanged}
 
 -- ---- what the texts are
 
@@ -40,24 +37,6 @@ control_query = codes "SELECT id, target, kind, point, code, count, on_ms, off_m
 
 abbrev control_terms : List Term
 control_terms = col 1 0 ∷ col 1 2 ∷ col 1 3 ∷ col 1 4 ∷ col 1 5 ∷ col 1 6 ∷ col 1 7 ∷ col 1 8 ∷ col 1 9 ∷ col 1 10 ∷ col 1 11 ∷ []
-
-form_is : (f c : List Term) → (command_of (understood (book_schema f c) form_query) ≡ Select (record { lets = []; body = query 0 form_terms })
-    (codes "rowid" ∷ codes "number" ∷ [])) × (reads_listing (book_schema f c) form_query ≡ false)
-unfolding understood everything
-form_is f c = (refl, refl)
-
-form_plain : (f c : List Term) → IsPlain (understood (book_schema f c) form_query)
-unfolding understood everything
-form_plain f c = (refl, refl)
-
-count_is : (f c : List Term) → (command_of (understood (book_schema f c) count_query) ≡ Select (record { lets = []; body = query 2 count_terms })
-    (codes "rowid" ∷ codes "name" ∷ codes "seq" ∷ [])) × (reads_listing (book_schema f c) count_query ≡ false)
-unfolding understood everything
-count_is f c = (refl, refl)
-
-count_plain : (f c : List Term) → IsPlain (understood (book_schema f c) count_query)
-unfolding understood everything
-count_plain f c = (refl, refl)
 
 control_is : (f c : List Term) → (command_of (understood (book_schema f c) control_query) ≡ Select (record { lets = []; body = query 1 control_terms })
     (codes "id" ∷ codes "target" ∷ codes "kind" ∷ codes "point" ∷ codes "code" ∷ codes "count" ∷ codes "on_ms" ∷ codes "off_ms" ∷ codes "value" ∷ codes "state"
@@ -68,24 +47,6 @@ control_is f c = (refl, refl)
 control_plain : (f c : List Term) → IsPlain (understood (book_schema f c) control_query)
 unfolding understood everything
 control_plain f c = (refl, refl)
-
--- ---- rows have their tables' columns
-
-module _ (db : Database) (f c : List Term) (has : db.schema ≡ book_schema f c) (sound : IsDatabase db) where
-  typed_form : AllByRecursion (IsTyped None form_columns) (db.trees 0)
-  typed_form =
-      let all = subst (λ (s : Schema). IsDatabase (record { schema = s; trees = db.trees })) has sound in
-      typed None form_columns (has_computed (form_with f)) (db.trees 0) (all.obeys.rules Datatype).0
-
-  typed_control : AllByRecursion (IsTyped (Some 0) book_columns) (db.trees 1)
-  typed_control =
-      let all = subst (λ (s : Schema). IsDatabase (record { schema = s; trees = db.trees })) has sound in
-      typed (Some 0) book_columns (has_computed (book_with c)) (db.trees 1) (all.obeys.rules Datatype).1.0
-
-  typed_counts : AllByRecursion (IsTyped None sequence.columns) (db.trees 2)
-  typed_counts =
-      let all = subst (λ (s : Schema). IsDatabase (record { schema = s; trees = db.trees })) has sound in
-      typed None sequence.columns (has_computed sequence) (db.trees 2) (all.obeys.rules Datatype).1.1.0
 
 -- ---- entries of rows
 
@@ -169,43 +130,12 @@ sound_of_rise last es h = record {
 -- ---- what the queries say of the trees
 
 module _ (old new : State) (rows : List Row) where
-  pub reads_form : (id : ℤ) → Shown form_query [] old new rows → ShowsForm1 rows id → ReadsBook old new (λ db. IsForm1 (db 0))
-  reads_form id shows one f c sound has =
-      let read = reads_as form_query [] old new (book_schema f c) has _ (form_is f c).0 (form_plain f c) (form_is f c).1 rows shows in
-      let got = listed 0 form_terms old.now.trees rows refl (read.answer Null) in
-      let at = alone (shown_by form_terms) (old.now.trees 0) got.0 rows got.1 got.2 one.one in
-      let types = subst (AllByRecursion (IsTyped None form_columns)) at.1 (typed_form old.now f c has sound) in
-      let id_is : column at.0 0 ≡ Int id = ap (λ r. column r 0) (sym at.2) ∙ one.id_is in
-      let number : column at.0 1 ≡ Int (pos 1) = ap (λ r. column r 1) (sym at.2) ∙ one.number in (
-        unchanged form_query old new (book_schema f c) rows has (form_plain f c) shows,
-        (id, at.1 ∙ ap (λ r. r ∷ []) (form_row at.0 id types.0 number id_is)),
-      )
-
-  pub reads_counts : Shown count_query [] old new rows
-      → ReadsBook old new (λ db. (n : ℕ) → ShowsCount (codes "control") rows n → IsCounted (codes "control") (db 2) n)
-  reads_counts shows f c sound has =
-      let read = reads_as count_query [] old new (book_schema f c) has _ (count_is f c).0 (count_plain f c) (count_is f c).1 rows shows in
-      let got = listed 2 count_terms old.now.trees rows refl (read.answer Null) in
-      (unchanged count_query old new (book_schema f c) rows has (count_plain f c) shows, λ n one. go got n one)
-    where
-      go : ((rs : List Row) × IsPermutation (old.now.trees 2) rs × (rows ≡ map (shown_by count_terms) rs)) → (n : ℕ) → ShowsCount (codes "control") rows n
-          → IsCounted (codes "control") (old.now.trees 2) n
-      go got n (inl none) =
-          inl (none_left (old.now.trees 2) got.0 got.1 (sym (length-map got.0 (shown_by count_terms)) ∙ ap length (sym got.2) ∙ none.0), none.1)
-      go got n (inr one) =
-          let at = alone (shown_by count_terms) (old.now.trees 2) got.0 rows got.1 got.2 one.1 in
-          let types = subst (AllByRecursion (IsTyped None sequence.columns)) at.1 (typed_counts old.now f c has sound) in
-          let id_is : column at.0 0 ≡ Int (pos one.0) = ap (λ r. column r 0) (sym at.2) ∙ one.2.id_is in
-          let name : column at.0 1 ≡ Text (codes "control") = ap (λ r. column r 1) (sym at.2) ∙ one.2.name in
-          let count : column at.0 2 ≡ Int (pos n) = ap (λ r. column r 2) (sym at.2) ∙ one.2.count in
-          inr (pos one.0, at.1 ∙ ap (λ r. r ∷ []) (count_row_is at.0 (pos one.0) (pos n) (codes "control") types.0 id_is name count))
-
   pub reads_controls : Shown control_query [] old new rows
-      → ReadsBook old new (λ db. (entries : List Entry) → ShowEntries rows entries → HoldsEntries db entries)
-  reads_controls shows f c sound has =
+      → Reads Book old new (λ db. (entries : List Entry) → ShowEntries rows entries → HoldsEntries db entries)
+  reads_controls shows f c m sound has =
       let read = reads_as control_query [] old new (book_schema f c) has _ (control_is f c).0 (control_plain f c) (control_is f c).1 rows shows in
       let got = listed 1 control_terms old.now.trees rows refl (read.answer Null) in
-      let types = all-permutation (IsTyped (Some 0) book_columns) (old.now.trees 1) got.0 got.1 (typed_control old.now f c has sound) in (
+      let types = all-permutation (IsTyped (Some 0) book_columns) (old.now.trees 1) got.0 got.1 (typed_rows Book old.now f c m has sound) in (
         unchanged control_query old new (book_schema f c) rows has (control_plain f c) shows,
         λ entries each.
             let is = controls got.0 entries types (subst (λ (xs : List Row). ShowEntries xs entries) got.2 each) in
@@ -213,13 +143,8 @@ module _ (old new : State) (rows : List Row) where
       )
 
 module _ {E : Type 0} (old new : State) where
-  pub counts_if : (r : Result (Vec (List Value) Global) E) → IfOk r (λ rows. Shown count_query [] old new rows.items)
-      → IfOk r (λ rows. ReadsBook old new (λ db. (n : ℕ) → ShowsCount (codes "control") rows.items n → IsCounted (codes "control") (db 2) n))
-  counts_if (Ok rows) shows = reads_counts old new rows.items shows
-  counts_if (Err e) shows = tt
-
   pub controls_if : (r : Result (Vec (List Value) Global) E) → IfOk r (λ rows. Shown control_query [] old new rows.items)
-      → IfOk r (λ rows. ReadsBook old new (λ db. (entries : List Entry) → ShowEntries rows.items entries → HoldsEntries db entries))
+      → IfOk r (λ rows. Reads Book old new (λ db. (entries : List Entry) → ShowEntries rows.items entries → HoldsEntries db entries))
   controls_if (Ok rows) shows = reads_controls old new rows.items shows
   controls_if (Err e) shows = tt
 

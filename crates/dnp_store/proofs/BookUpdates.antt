@@ -41,7 +41,8 @@ use Rattle.dnp_store.proofs.Counting.{cast_int, cast_null}
 use Rattle.dnp_store.proofs.IdRows.{put_apart}
 use Rattle.dnp_store.proofs.QueueDeletes.{passes_on, and_true}
 use Rattle.dnp_store.proofs.QueueUpdates.{others_left}
-use Rattle.dnp_store.proofs.BookStatements.{quiet}
+use Rattle.dnp_store.specs.declared.store_kind.StoreKind.TheVariants.{Book}
+use Rattle.dnp_store.proofs.Inserting.{quiet}
 use Rattle.dnp_store.proofs.Tests.{eq_holds, has_is, is_other}
 
 abbrev pub update_text : List ℕ
@@ -211,7 +212,7 @@ turns f c limit id s es old db a is rise at named h =
     let edited_to = went queried.2 in
     let out = same_value edited_to.2 in
     let edit = λ (rs : List Row). edit_of db (book_with c) (ids_of rs) Given 1 rs in
-    let step = one_step (book_schema f c) Enforced db edited_to.0 (edit queried.0) (quiet f c db (edit queried.0)) edited_to.1 in
+    let step = one_step (book_schema f c) Enforced db edited_to.0 (edit queried.0) (quiet Book f c [] db (edit queried.0)) edited_to.1 in
     let row = entry_row new in
     let rest = without_rowid (pos old.id) (db 1) in
     let made_of : a.trees 1 ≡ put_row row rest = ap (λ (w : Written). w.trees 1) out ∙ step.rows

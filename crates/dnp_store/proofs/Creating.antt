@@ -1,4 +1,4 @@
--- What CREATE TABLE makes of a database without tables.
+-- What CREATE TABLE makes of a database: the tables that every store begins with, and the lanes of a queue.
 use Rattle.std.proofs.Common.{◌≡◌, ℕ, List, [], ◌∷◌, codes, true, false, None, Ok, Err, Result, refl, sym, ap, subst, subst₂, ◌∙◌, ◌++◌}
 use Rattle.sqlite_tied.specs.Compute.{everything}
 use Rattle.sqlite_resolve.specs.Compile.{table_defined_by}
@@ -14,20 +14,16 @@ use Rattle.sqlite.specs.State.{State, Executes, mode_of}
 use Rattle.sqlite.specs.Listing.{understood}
 use Rattle.sqlite.specs.Given.{IsPlain}
 use Rattle.sqlite.proofs.Callers.{command_of, statement_of, runs_as}
-use Rattle.dnp_store.specs.Tables.{form_with, no_table, no_schema}
+use Rattle.dnp_store.specs.Tables.{form_with, schema_of, no_table, no_schema}
 use Rattle.dnp_store.specs.QueueTables.{queue_with, queue_schema}
-use Rattle.dnp_store.specs.Making.{form_schema, rows_schema, HasForm, HasRows, HasTables}
+use Rattle.dnp_store.specs.declared.store_kind.StoreKind.{StoreKind}
+use Rattle.dnp_store.specs.declared.store_kind.StoreKind.TheVariants.{Queue, Journal, Book}
+use Rattle.dnp_store.specs.Stores.{form_schema, rows_text, rows_with, HasForm, HasTables, HasNumber}
+use Rattle.dnp_store.specs.Making.{HasLanes}
 use Rattle.dnp_store.proofs.Statements.{went, same_value, picked, otherwise}
 
 abbrev pub form_text : List ℕ
 form_text = codes "CREATE TABLE form (number INTEGER NOT NULL CHECK (number BETWEEN 1 AND 1000))"
-
-abbrev pub queue_text : List ℕ
-queue_text =
-    codes "CREATE TABLE queue (id INTEGER PRIMARY KEY AUTOINCREMENT CHECK (id BETWEEN 1 AND 4611686018427387904), "
-    ++ codes "lane INTEGER NOT NULL CHECK (lane BETWEEN 0 AND 8), point INTEGER NOT NULL CHECK (point BETWEEN 0 AND 65535), "
-    ++ codes "flags INTEGER NOT NULL CHECK (flags BETWEEN 0 AND 255), value INTEGER NOT NULL, "
-    ++ codes "time INTEGER CHECK (time BETWEEN 0 AND 281474976710655))"
 
 abbrev pub lanes_text : List ℕ
 lanes_text =
@@ -54,21 +50,25 @@ form_plain : IsPlain (understood no_schema form_text)
 unfolding understood everything
 form_plain = (refl, refl)
 
-queue_is : (f : List Term) → (command_of (understood (form_schema f) queue_text) ≡ CreateTable)
-    × (statement_of queue_text (understood (form_schema f) queue_text) ≡ queue_text)
+rows_is : (kind : StoreKind) (f : List Term) → (command_of (understood (form_schema f) (rows_text kind)) ≡ CreateTable)
+    × (statement_of (rows_text kind) (understood (form_schema f) (rows_text kind)) ≡ rows_text kind)
 unfolding understood everything
-queue_is f = (refl, refl)
+rows_is Queue f = (refl, refl)
+rows_is Journal f = (refl, refl)
+rows_is Book f = (refl, refl)
 
-queue_plain : (f : List Term) → IsPlain (understood (form_schema f) queue_text)
+rows_plain : (kind : StoreKind) (f : List Term) → IsPlain (understood (form_schema f) (rows_text kind))
 unfolding understood everything
-queue_plain f = (refl, refl)
+rows_plain Queue f = (refl, refl)
+rows_plain Journal f = (refl, refl)
+rows_plain Book f = (refl, refl)
 
-lanes_is : (f q : List Term) → (command_of (understood (rows_schema f q) lanes_text) ≡ CreateTable)
-    × (statement_of lanes_text (understood (rows_schema f q) lanes_text) ≡ lanes_text)
+lanes_is : (f q : List Term) → (command_of (understood (schema_of f (queue_with q) []) lanes_text) ≡ CreateTable)
+    × (statement_of lanes_text (understood (schema_of f (queue_with q) []) lanes_text) ≡ lanes_text)
 unfolding understood everything
 lanes_is f q = (refl, refl)
 
-lanes_plain : (f q : List Term) → IsPlain (understood (rows_schema f q) lanes_text)
+lanes_plain : (f q : List Term) → IsPlain (understood (schema_of f (queue_with q) []) lanes_text)
 unfolding understood everything
 lanes_plain f q = (refl, refl)
 
@@ -99,55 +99,66 @@ created_form old new count has h =
     let same : new.now ≡ run.0 = same_value (otherwise _ (lacks_sequence run.0.schema) (ap lacks_sequence mid) run.2) in
     record { form = f; schema = ap (λ (d : Database). d.schema) same ∙ mid; empty = ap (λ (d : Database). d.trees 0) same ∙ made.empty }
 
-abbrev two_schema : List Term → List Term → Schema
-two_schema f q = record { tables = form_with f ∷ queue_with q ∷ []; indexes = []; views = [] }
+-- the rows' table comes first, then that of the counts
+abbrev two_schema : StoreKind → List Term → List Term → Schema
+two_schema kind f r = record { tables = form_with f ∷ rows_with kind r ∷ []; indexes = []; views = [] }
 
-abbrev q_checks : List Term
-q_checks = (table_of_text (table_defined_by queue_text)).checks
+abbrev checks_of : StoreKind → List Term
+checks_of kind = (table_of_text (table_defined_by (rows_text kind))).checks
+
+rows_joined : (kind : StoreKind) (f : List Term) → created (form_schema f) (table_of_text (table_defined_by (rows_text kind)))
+    ≡ two_schema kind f (checks_of kind)
+unfolding everything
+rows_joined Queue f = refl
+rows_joined Journal f = refl
+rows_joined Book f = refl
+
+sequence_joined : (kind : StoreKind) (f r : List Term) → created (two_schema kind f r) (table_of_text (table_defined_by sequence_text))
+    ≡ schema_of f (rows_with kind r) []
+unfolding everything
+sequence_joined kind f r = refl
+
+lacks : (kind : StoreKind) (f r : List Term) → lacks_sequence (two_schema kind f r) ≡ true
+unfolding everything
+lacks Queue f r = refl
+lacks Journal f r = refl
+lacks Book f r = refl
+
+pub created_rows : (kind : StoreKind) (old new : State) (count : ℕ) → HasForm old.now → Executes (rows_text kind) [] old new (Ok count) → HasTables kind new.now
+created_rows kind old new count has h =
+    let f = has.form in
+    let r = checks_of kind in
+    let run = makes old new (rows_text kind) (form_schema f) count has.schema (rows_is kind f) (rows_plain kind f) h in
+    let made = run.1 in
+    let mid : run.0.schema ≡ two_schema kind f r = made.is ∙ ap (created (form_schema f)) (sym (ap table_of_text made.defined)) ∙ rows_joined kind f in
+    let seq : MakesTable sequence_text run.0 (Ok new.now) = picked _ (lacks_sequence run.0.schema) (ap lacks_sequence mid ∙ lacks kind f r) run.2 in
+    let end : new.now.schema ≡ schema_of f (rows_with kind r) [] = seq.is ∙ ap (λ s. created s seq.table) mid
+    ∙ ap (created (two_schema kind f r)) (sym (ap table_of_text seq.defined)) ∙ sequence_joined kind f r in
+    let kept = subst (λ (s : Schema). KeepsRows s.tables run.0.trees new.now.trees) mid seq.others in
+    let third : new.now.trees 2 ≡ [] = subst (λ (s : Schema). new.now.trees (next_tree s) ≡ []) mid seq.empty in
+    record { form = f; rows = r; schema = end; empty = (kept.0 ∙ made.others.0 ∙ has.empty, kept.1.0 ∙ made.empty, third) }
+
+-- ---- the lanes
 
 abbrev l_checks : List Term
 l_checks = (table_of_text (table_defined_by lanes_text)).checks
 
-queue_joined : (f : List Term) → created (form_schema f) (table_of_text (table_defined_by queue_text)) ≡ two_schema f q_checks
-unfolding everything
-queue_joined f = refl
-
-sequence_joined : (f q : List Term) → created (two_schema f q) (table_of_text (table_defined_by sequence_text)) ≡ rows_schema f q
-unfolding everything
-sequence_joined f q = refl
-
-lanes_joined : (f q : List Term) → created (rows_schema f q) (table_of_text (table_defined_by lanes_text)) ≡ queue_schema f q l_checks
+lanes_joined : (f q : List Term) → created (schema_of f (queue_with q) []) (table_of_text (table_defined_by lanes_text)) ≡ queue_schema f q l_checks
 unfolding everything
 lanes_joined f q = refl
-
-lacks : (f q : List Term) → lacks_sequence (two_schema f q) ≡ true
-unfolding everything
-lacks f q = refl
 
 lacks_no_more : (f q l : List Term) → lacks_sequence (queue_schema f q l) ≡ false
 unfolding everything
 lacks_no_more f q l = refl
 
-pub created_queue : (old new : State) (count : ℕ) → HasForm old.now → Executes queue_text [] old new (Ok count) → HasRows new.now
-created_queue old new count has h =
-    let f = has.form in
-    let run = makes old new queue_text (form_schema f) count has.schema (queue_is f) (queue_plain f) h in
-    let made = run.1 in
-    let mid : run.0.schema ≡ two_schema f q_checks = made.is ∙ ap (created (form_schema f)) (sym (ap table_of_text made.defined)) ∙ queue_joined f in
-    let seq : MakesTable sequence_text run.0 (Ok new.now) = picked _ (lacks_sequence run.0.schema) (ap lacks_sequence mid ∙ lacks f q_checks) run.2 in
-    let end : new.now.schema ≡ rows_schema f q_checks = seq.is ∙ ap (λ s. created s seq.table) mid
-    ∙ ap (created (two_schema f q_checks)) (sym (ap table_of_text seq.defined)) ∙ sequence_joined f q_checks in
-    let kept = subst (λ (s : Schema). KeepsRows s.tables run.0.trees new.now.trees) mid seq.others in
-    let third : new.now.trees 2 ≡ [] = subst (λ (s : Schema). new.now.trees (next_tree s) ≡ []) mid seq.empty in
-    record { form = f; queue = q_checks; schema = end; empty = (kept.0 ∙ made.others.0 ∙ has.empty, kept.1.0 ∙ made.empty, third) }
-
-pub created_lanes : (old new : State) (count : ℕ) → HasRows old.now → Executes lanes_text [] old new (Ok count) → HasTables new.now
+pub created_lanes : (old new : State) (count : ℕ) → HasNumber Queue old.now → Executes lanes_text [] old new (Ok count) → HasLanes new.now []
 created_lanes old new count has h =
     let f = has.form in
-    let q = has.queue in
-    let run = makes old new lanes_text (rows_schema f q) count has.schema (lanes_is f q) (lanes_plain f q) h in
+    let q = has.rows in
+    let run = makes old new lanes_text (schema_of f (queue_with q) []) count has.schema (lanes_is f q) (lanes_plain f q) h in
     let made = run.1 in
-    let mid : run.0.schema ≡ queue_schema f q l_checks = made.is ∙ ap (created (rows_schema f q)) (sym (ap table_of_text made.defined)) ∙ lanes_joined f q in
+    let mid : run.0.schema ≡ queue_schema f q l_checks = made.is ∙ ap (created (schema_of f (queue_with q) [])) (sym (ap table_of_text made.defined))
+    ∙ lanes_joined f q in
     let same : new.now ≡ run.0 = same_value (otherwise _ (lacks_sequence run.0.schema) (ap lacks_sequence mid ∙ lacks_no_more f q l_checks) run.2) in
     let kept = made.others in
     record {
@@ -155,10 +166,12 @@ created_lanes old new count has h =
       queue = q;
       lanes = l_checks;
       schema = ap (λ (d : Database). d.schema) same ∙ mid;
-      empty = (
-        ap (λ (d : Database). d.trees 0) same ∙ kept.0 ∙ has.empty.0,
-        ap (λ (d : Database). d.trees 1) same ∙ kept.1.0 ∙ has.empty.1,
-        ap (λ (d : Database). d.trees 2) same ∙ kept.1.1.0 ∙ has.empty.2,
-        ap (λ (d : Database). d.trees 3) same ∙ made.empty,
-      );
+      holds = record {
+        number = ap (λ (d : Database). d.trees 0) same ∙ kept.0 ∙ has.holds.number;
+        empty = (
+          ap (λ (d : Database). d.trees 1) same ∙ kept.1.0 ∙ has.holds.empty.0,
+          ap (λ (d : Database). d.trees 2) same ∙ kept.1.1.0 ∙ has.holds.empty.1,
+        );
+      };
+      filled = ap (λ (d : Database). d.trees 3) same ∙ made.empty;
     }

@@ -1,5 +1,5 @@
 -- What the first INSERTs make of a queue's tables.
-use Rattle.std.proofs.Common.{◌≡◌, ◌≢◌, ℕ, zero, suc, ◌+◌, ◌<◌, pos, List, [], ◌∷◌, ◌++◌, length, map, get_or, inl, codes, false, Option, None, Ok, refl, sym, ap, subst, ◌∙◌, arith}
+use Rattle.std.proofs.Common.{◌≡◌, ℕ, zero, suc, ◌+◌, ◌<◌, pos, List, [], ◌∷◌, ◌++◌, length, map, get_or, inl, codes, false, Option, None, Ok, refl, sym, ap, subst, ◌∙◌, arith}
 use Rattle.sqlite_tied.specs.Compute.{everything}
 use Rattle.sqlite_schema.specs.declared.schema.Keys.TheVariants.{Enforced}
 use Rattle.sqlite.specs.declared.types.Value.TheVariants.{Null, Int}
@@ -17,36 +17,23 @@ use Rattle.sqlite.specs.Listing.{understood}
 use Rattle.sqlite.specs.Given.{IsPlain}
 use Rattle.sqlite.specs.State.{State, Executes, mode_of}
 use Rattle.sqlite.proofs.Callers.{command_of, statement_of, runs_as, one_step}
-use Rattle.dnp_store.specs.Tables.{form_with}
 use Rattle.dnp_store.specs.QueueTables.{queue_schema, lanes_with, Figures, figures_cells, figures_rows, no_figures, is_raised, IsQueue}
 use Rattle.dnp_store.proofs.Statements.{went, written, same_value}
 use Rattle.dnp_store.proofs.Counting.{cast_int, cast_null}
 use Rattle.dnp_store.proofs.IdRows.{is_less}
 use Rattle.sqlite_trees.proofs.ListLemmas.{IsPermutation-same}
-use Rattle.dnp_store.proofs.QueueStatements.{quiet}
+use Rattle.dnp_store.specs.declared.store_kind.StoreKind.TheVariants.{Queue}
+use Rattle.dnp_store.proofs.Inserting.{quiet}
 use Rattle.dnp_objects.specs.declared.limits.TheConstants.{LANES}
 use Rattle.dnp_eventbuf.specs.Stock.{empty_stock, empty_lane, no_lane}
-use Rattle.dnp_store.specs.Making.{HasTables, HasLanes, fresh, number_row}
-
-abbrev pub number_text : List ℕ
-number_text = codes "INSERT INTO form VALUES (1)"
+use Rattle.dnp_store.specs.Making.{HasLanes, fresh}
+use Rattle.dnp_store.proofs.Numbering.{PutsIn}
 
 abbrev pub lane_text : List ℕ
 lane_text = codes "INSERT INTO lanes VALUES (?1, ?2, 0, 0)"
 
-abbrev number_terms : List Term
-number_terms = lit Null ∷ lit (Int (pos 1)) ∷ []
-
 abbrev lane_terms : List Term
 lane_terms = col 0 0 ∷ lit Null ∷ col 0 1 ∷ lit (Int (pos 0)) ∷ lit (Int (pos 0)) ∷ []
-
-number_is : (f q l : List Term) → command_of (understood (queue_schema f q l) number_text) ≡ Insert 0 (Values number_terms 2)
-unfolding understood everything
-number_is f q l = refl
-
-number_plain : (f q l : List Term) → IsPlain (understood (queue_schema f q l) number_text)
-unfolding understood everything
-number_plain f q l = (refl, refl)
 
 lane_is : (f q l : List Term) → command_of (understood (queue_schema f q l) lane_text) ≡ Insert 3 (Values lane_terms 5)
 unfolding understood everything
@@ -56,39 +43,11 @@ lane_plain : (f q l : List Term) → IsPlain (understood (queue_schema f q l) la
 unfolding understood everything
 lane_plain f q l = (refl, refl)
 
-abbrev number_task : List Term → List Term → List Term → Option ℕ → Task
-number_task f q l limit = record { limit = limit; keys = Enforced; schema = queue_schema f q l; table = form_with f; params = [] }
-
 abbrev lane_task : List Term → List Term → List Term → Option ℕ → Row → Task
 lane_task f q l limit params = record { limit = limit; keys = Enforced; schema = queue_schema f q l; table = lanes_with l; params = params }
 
 abbrev pub lane_params : ℕ → ℕ → Row
 lane_params number capacity = Int (pos number) ∷ Int (pos capacity) ∷ []
-
--- one table has one row more, and no other changes
-pub record PutsIn (tree : ℕ) (row : Row) (db now : Trees) : Type 0 where
-  pub table : now tree ≡ put_row row (db tree)
-  pub others : (t : ℕ) → t ≢ tree → now t ≡ db t
-
-number_put : (f q l : List Term) (limit : Option ℕ) (db : Trees) (a : Written) → db 0 ≡ []
-    → Inserts (number_task f q l limit) (Values number_terms 2) db (Ok a) → PutsIn 0 number_row db a.trees
-unfolding everything
-number_put f q l limit db a empty h =
-    let sourced = went h in
-    let counter = went sourced.2 in
-    let edited_to = went counter.2 in
-    let next = went edited_to.2 in
-    let out = same_value next.2 in
-    let source : sourced.0 ≡ (Null ∷ Int (pos 1) ∷ []) ∷ [] = sourced.1.1 in
-    let edit = λ (rows : List Row). edit_of db (form_with f) [] Chosen 0 rows in
-    let news : (edit sourced.0).news ≡ number_row ∷ [] =
-    ap (λ rows. (edit rows).news) source ∙ rw (cast_null, cast_int (pos 1), empty) refl in
-    let step = one_step (queue_schema f q l) Enforced db edited_to.0 (edit sourced.0) (quiet f q l db (edit sourced.0)) edited_to.1 in
-    let last : next.0 ≡ edited_to.0 = same_value next.1 in
-    record {
-      table = ap (λ (w : Written). w.trees 0) out ∙ ap (λ (t : Trees). t 0) last ∙ step.rows ∙ ap (put_all (db 0)) news;
-      others = λ t not_0. ap (λ (w : Written). w.trees t) out ∙ ap (λ (d : Trees). d t) last ∙ step.others t not_0 tt;
-    }
 
 lane_put : (f q l : List Term) (limit : Option ℕ) (number capacity : ℕ) (db : Trees) (a : Written)
     → Inserts (lane_task f q l limit (lane_params number capacity)) (Values lane_terms 5) db (Ok a)
@@ -105,7 +64,7 @@ lane_put f q l limit number capacity db a h =
     let edit = λ (rows : List Row). edit_of db (lanes_with l) [] Chosen 0 rows in
     let news : (edit sourced.0).news ≡ row ∷ [] =
     ap (λ rows. (edit rows).news) source ∙ rw (cast_int (pos number), cast_null, cast_int (pos capacity), cast_int (pos 0)) refl in
-    let step = one_step (queue_schema f q l) Enforced db edited_to.0 (edit sourced.0) (quiet f q l db (edit sourced.0)) edited_to.1 in
+    let step = one_step (queue_schema f q l) Enforced db edited_to.0 (edit sourced.0) (quiet Queue f q l db (edit sourced.0)) edited_to.1 in
     let last : next.0 ≡ edited_to.0 = same_value next.1 in
     record {
       table = ap (λ (w : Written). w.trees 3) out ∙ ap (λ (t : Trees). t 3) last ∙ step.rows ∙ ap (put_all (db 3)) news;
@@ -119,32 +78,6 @@ put_end n number (f ∷ fs) new is = rw (is_less n number (omega arith))
     (ap (λ rows. (Int (pos n) ∷ figures_cells f) ∷ rows) (put_end (n + 1) number fs new (omega arith)))
 
 -- ---- the statements
-
-pub numbers : (old new : State) (count : ℕ) → HasTables old.now → Executes number_text [] old new (Ok count) → HasLanes new.now []
-numbers old new count has h =
-    let f = has.form in
-    let q = has.queue in
-    let l = has.lanes in
-    let command = Insert 0 (Values number_terms 2) in
-    let w = runs_as number_text [] old new (queue_schema f q l) has.schema command (number_is f q l) (number_plain f q l) count h in
-    let does = subst (λ s. Does old.step_limit (mode_of old) [] (record old.now { schema = s })
-    (statement_of number_text (understood (queue_schema f q l) number_text)) None command (Ok (w.tally, new.now))) has.schema w.changed in
-    let done = written (number_task f q l old.step_limit) (mode_of old) command old.now.trees w.tally new.now does in
-    let put = number_put f q l old.step_limit old.now.trees done.0 has.empty.0 done.1 in
-    let is = done.2 in
-    record {
-      form = f;
-      queue = q;
-      lanes = l;
-      schema = ap (λ (d : Database). d.schema) is;
-      numbered = ap (λ (d : Database). d.trees 0) is ∙ put.table ∙ ap (put_row number_row) has.empty.0;
-      empty = (
-        ap (λ (d : Database). d.trees 1) is ∙ put.others 1 (λ e. absurd (omega arith)) ∙ has.empty.1,
-        ap (λ (d : Database). d.trees 2) is
-            ∙ put.others 2 (λ e. absurd (omega arith)) ∙ has.empty.2,
-      );
-      filled = ap (λ (d : Database). d.trees 3) is ∙ put.others 3 (λ e. absurd (omega arith)) ∙ has.empty.3;
-    }
 
 pub lane_made : (old new : State) (number capacity count : ℕ) (fs : List Figures) → number ≡ length fs → HasLanes old.now fs
     → Executes lane_text (lane_params number capacity) old new (Ok count)
@@ -167,12 +100,13 @@ lane_made old new number capacity count fs at has h =
       queue = q;
       lanes = l;
       schema = ap (λ (d : Database). d.schema) is;
-      numbered = ap (λ (d : Database). d.trees 0) is ∙ put.others 0 (λ e. absurd (omega arith)) ∙ has.numbered;
-      empty = (
-        ap (λ (d : Database). d.trees 1) is ∙ put.others 1 (λ e. absurd (omega arith)) ∙ has.empty.0,
-        ap (λ (d : Database). d.trees 2) is
-            ∙ put.others 2 (λ e. absurd (omega arith)) ∙ has.empty.1,
-      );
+      holds = record {
+        number = ap (λ (d : Database). d.trees 0) is ∙ put.others 0 (λ e. absurd (omega arith)) ∙ has.holds.number;
+        empty = (
+          ap (λ (d : Database). d.trees 1) is ∙ put.others 1 (λ e. absurd (omega arith)) ∙ has.holds.empty.0,
+          ap (λ (d : Database). d.trees 2) is ∙ put.others 2 (λ e. absurd (omega arith)) ∙ has.holds.empty.1,
+        );
+      };
       filled = ap (λ (d : Database). d.trees 3) is ∙ put.table ∙ ap (put_row row) has.filled ∙ put_end 0 number fs (fresh capacity) (omega arith);
     }
 
@@ -199,12 +133,12 @@ made_empty db capacities nine has = record {
   schema = has.schema;
   holds = record {
     figures = map fresh capacities;
-    form = (pos 1, has.numbered);
+    form = (pos 1, has.holds.number);
     lanes = record {
       queued = [];
-      queue_is = IsPermutation-same [] (db.trees 1) (sym has.empty.0);
+      queue_is = IsPermutation-same [] (db.trees 1) (sym has.holds.empty.0);
       lanes_is = IsPermutation-same (figures_rows 0 (map fresh capacities)) (db.trees 3) (sym has.filled);
-      counted = inl (has.empty.1, refl);
+      counted = inl (has.holds.empty.1, refl);
       rise = tt;
       up_to_last = tt;
       nine = length_fresh capacities ∙ nine;

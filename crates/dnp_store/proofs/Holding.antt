@@ -2,6 +2,7 @@
 use Rattle.std.proofs.Common.{◌≡◌, ◌≢◌, inl, inr, ℕ, zero, suc, ◌+◌, ◌-◌, ◌*◌, ◌<◌, ◌≤◌, ◌==◌, ◌&&◌, nat_le, nat_lt, not, Bool, true, false, cond, List, [], ◌∷◌, ◌++◌, map, filter, length, set, get_or, codes, refl, sym, ap, ap₂, subst, subst₂, ◌∙◌, arith, append-nil, IsPermutation}
 use Rattle.std.specs.Prelude.{slice_index_or}
 use Rattle.std.specs.List.{AllByRecursion}
+use Rattle.sqlite.specs.Order.{Row as SqlRow}
 use Rattle.sqlite.specs.Tree.{Trees}
 use Rattle.dnp_objects.specs.declared.limits.TheConstants.{LANES}
 use Rattle.dnp_objects.specs.declared.row.Kind.{Kind}
@@ -11,7 +12,7 @@ use Rattle.dnp_objects.specs.Lanes.{lane_number, kind_number}
 use Rattle.dnp_eventbuf.specs.Carried.{IsCarried}
 use Rattle.dnp_eventbuf.specs.Stock.{LaneState, Stock, lane_at, no_lane, added_in, above}
 use Rattle.dnp_store.specs.Tables.{IsCounted}
-use Rattle.dnp_store.specs.QueueTables.{Queued, queued_row, queued_cells, event_of, kind_in, Figures, no_figures, figures_rows, in_lane, lane_of, HoldsLanes}
+use Rattle.dnp_store.specs.QueueTables.{Queued, queued_row, queued_cells, event_of, kind_in, Figures, no_figures, figures_rows, in_lane, lane_of, HoldsLanes, HoldsIn}
 use Rattle.std.proofs.lemmas.Bool.{cases_eq}
 use Rattle.std.proofs.lemmas.List.{map-append, get_or-set_same, get_or-set_other}
 use Rattle.std.proofs.Common.{length-set}
@@ -115,9 +116,9 @@ at_lane s number k new P nine low here else = elim (cases_eq k number) [
   | inr other ↦ subst P (sym (get_or-set_other s.lanes number k new no_lane other)) (else other)
 ]
 
-pub put : (db now : Trees) (s : Stock) (fs : List Figures) (x : LaneRow) → HoldsLanes db s fs → length s.lanes ≡ LANES → lane_number x.lane < LANES
+pub put : (db now : Trees) (s : Stock) (fs : List Figures) (x : LaneRow) → HoldsIn db s fs → length s.lanes ≡ LANES → lane_number x.lane < LANES
     → IsCarried x
-    → PutsAt (codes "queue") db (queued_cells (queued_for (s.last_id + 1) x)) s.last_id now → HoldsLanes now (added s x) fs
+    → PutsAt (codes "queue") db (queued_cells (queued_for (s.last_id + 1) x)) s.last_id now → HoldsIn now (added s x) fs
 put db now s fs x h nine low carried puts =
     let number = lane_number x.lane in
     let new = queued_for (s.last_id + 1) x in
@@ -145,8 +146,8 @@ put db now s fs x h nine low carried puts =
           (sym (pushed_else k h.queued new (λ e. other (sym e)))));
     }
 
-pub took : (db now : Trees) (s : Stock) (fs : List Figures) (number upto : ℕ) (h : HoldsLanes db s fs) → length s.lanes ≡ LANES → number < LANES
-    → Takes db number upto h.queued now → HoldsLanes now (cut s number upto) fs
+pub took : (db now : Trees) (s : Stock) (fs : List Figures) (number upto : ℕ) (h : HoldsIn db s fs) → length s.lanes ≡ LANES → number < LANES
+    → Takes db number upto h.queued now → HoldsIn now (cut s number upto) fs
 took db now s fs number upto h nine low takes =
     let id_of : Queued → ℕ = λ y. y.id in
     let left = filter (stays number upto) h.queued in
@@ -168,8 +169,8 @@ took db now s fs number upto h nine low takes =
           (sym (cut_else number upto k h.queued other)));
     }
 
-pub noted_in : (db now : Trees) (s : Stock) (fs : List Figures) (number lost : ℕ) (raised : Bool) → HoldsLanes db s fs → length s.lanes ≡ LANES → number < LANES
-    → Notes db number lost raised fs now → HoldsLanes now (counted s number lost) (set fs number (noted_as (slice_index_or fs number no_figures) lost raised))
+pub noted_in : (db now : Trees) (s : Stock) (fs : List Figures) (number lost : ℕ) (raised : Bool) → HoldsIn db s fs → length s.lanes ≡ LANES → number < LANES
+    → Notes db number lost raised fs now → HoldsIn now (counted s number lost) (set fs number (noted_as (slice_index_or fs number no_figures) lost raised))
 noted_in db now s fs number lost raised h nine low notes =
     let new = noted_as (slice_index_or fs number no_figures) lost raised in
     let all = set fs number new in
@@ -193,13 +194,13 @@ noted_in db now s fs number lost raised h nine low notes =
     }
 
 -- stocks of the same lanes
-pub same_stock : (db : Trees) (s t : Stock) (fs : List Figures) → HoldsLanes db s fs → ((k : ℕ) → k < LANES → lane_at t k ≡ lane_at s k)
-    → t.last_id ≡ s.last_id → HoldsLanes db t fs
-same_stock db s t fs h same last = record {
+pub same_stock : (name : List ℕ) (events counts numbers : List SqlRow) (s t : Stock) (fs : List Figures) → HoldsLanes name events counts numbers s fs
+    → ((k : ℕ) → k < LANES → lane_at t k ≡ lane_at s k) → t.last_id ≡ s.last_id → HoldsLanes name events counts numbers t fs
+same_stock name events counts numbers s t fs h same last = record {
   queued = h.queued;
   queue_is = h.queue_is;
   lanes_is = h.lanes_is;
-  counted = subst (λ (n : ℕ). IsCounted (codes "queue") (db 2) n) (sym last) h.counted;
+  counted = subst (λ (n : ℕ). IsCounted name counts n) (sym last) h.counted;
   rise = h.rise;
   up_to_last = subst (λ (n : ℕ). AllByRecursion (λ x. x.id ≤ n) h.queued) (sym last) h.up_to_last;
   nine = h.nine;

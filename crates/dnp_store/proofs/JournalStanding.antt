@@ -16,6 +16,7 @@ use Rattle.dnp_eventbuf.specs.Archive.{Archive, IsSoundArchive, rows_over}
 use Rattle.dnp_store.specs.JournalTables.{HoldsArchive, IsJournal, archive_in}
 use Rattle.dnp_store.specs.JournalShown.{Finds}
 use Rattle.dnp_store.specs.JournalKept.{Kept, Keeps, IsHonest, Stands, archive_of, held_archive}
+use Rattle.dnp_store.proofs.Statements.{leaves_committed, leaves_either}
 use Rattle.sqlite_trees.specs.declared.store.Store.{Ghosts}
 use Rattle.sqlite.specs.Held.{Held, state}
 
@@ -26,22 +27,16 @@ stands_if new a (Err _) h = tt
 -- what an open connection may leave is its last commit
 pub leaves_last : (s : State) (a : Archive) → ((db : Trees) → IsTrue s.is_open → s.may_leave db → db ≡ s.committed.trees) → Stands s a → (db : Trees)
     → s.may_leave db → HoldsArchive db a
-leaves_last s a settled stands db may = subst (λ d. HoldsArchive d a) (sym (settled db stands.is_open may)) stands.holds.holds
+leaves_last s a settled stands = leaves_committed s (λ db. HoldsArchive db a) settled stands.is_open stands.holds.holds
 
 -- a call and one that commits nothing leave what stood before, or what the first was to commit
 pub either_of : (old mid new : State) (a : Archive) (next : Archive → Archive) → HasCleanDisk new → HasCleanDisk mid
     → ((db : Trees) → IsTrue old.is_open → old.may_leave db → db ≡ old.committed.trees) → Stands old a
     → Survives old mid (λ db. (b : Archive) → Stands old b → HoldsArchive db (next b)) → Survives mid new (λ _. ⊥) → (db : Trees) → new.may_leave db
     → HoldsArchive db a ⊎ HoldsArchive db (next a)
-either_of old mid new a next clean early settled stands one two db may = go (two.crash clean db may)
-  where
-    left : old.may_leave db ⊎ ((b : Archive) → Stands old b → HoldsArchive db (next b)) → HoldsArchive db a ⊎ HoldsArchive db (next a)
-    left (inl before) = inl (leaves_last old a settled stands db before)
-    left (inr after) = inr (after a stands)
-
-    go : mid.may_leave db ⊎ ⊥ → HoldsArchive db a ⊎ HoldsArchive db (next a)
-    go (inl may_mid) = left (one.crash early db may_mid)
-    go (inr none) = absurd none
+either_of old mid new a next clean early settled stands =
+    leaves_either old mid new (λ db. HoldsArchive db a) (λ db. HoldsArchive db (next a)) (λ db. (b : Archive) → Stands old b → HoldsArchive db (next b))
+    (λ db made. made a stands) clean early settled stands.is_open stands.holds.holds
 
 -- ---- what is held is what the trees tell
 

@@ -1,50 +1,25 @@
--- What the statements of a journal make of its tables.
-use Rattle.std.proofs.Common.{◌≡◌, ℕ, ◌+◌, ◌≤◌, pos, true, List, [], ◌∷◌, ◌++◌, codes, Option, Some, None, Ok, inl, refl, sym, ap, subst, ◌∙◌, arith}
+-- What the INSERTs of a journal make of its tables.
+use Rattle.std.proofs.Common.{◌≡◌, ℕ, ◌+◌, ◌≤◌, pos, List, [], ◌∷◌, codes, Option, Ok, refl}
 use Rattle.sqlite_tied.specs.Compute.{everything}
-use Rattle.sqlite_schema.specs.declared.schema.Keys.TheVariants.{Enforced}
-use Rattle.sqlite_resolve.specs.Compile.{table_defined_by}
-use Rattle.sqlite.specs.declared.types.Value.TheVariants.{Null, Int}
-use Rattle.sqlite.specs.Command.TheVariants.{Insert, CreateTable}
+use Rattle.sqlite.specs.declared.types.Value.TheVariants.{Null}
+use Rattle.sqlite.specs.Command.TheVariants.{Insert}
 use Rattle.sqlite.specs.Source.TheVariants.{Values}
-use Rattle.sqlite.specs.Schema.{Schema}
 use Rattle.sqlite.specs.Term.{Term, lit, col}
 use Rattle.sqlite.specs.Order.{Row}
-use Rattle.sqlite.specs.Tree.{Trees, put_row}
-use Rattle.sqlite.specs.Edit.{Edit, edit_of, put_all, taken_by}
-use Rattle.sqlite.specs.Rowids.TheVariants.{Chosen}
-use Rattle.sqlite.specs.Effect.{Database}
-use Rattle.sqlite.specs.Does.{Does, MakesTable, lacks_sequence, sequence_text}
-use Rattle.sqlite_catalog.specs.Change.{created, KeepsRows, next_tree}
-use Rattle.sqlite.specs.Rows.{Task, Written, Sourced, Inserts, stamped, sequence as counters_of}
+use Rattle.sqlite.specs.Tree.{Trees}
+use Rattle.sqlite.specs.Rows.{Sourced, stamped}
 use Rattle.sqlite.specs.Cast.{cast_row}
-use Rattle.sqlite_rules.specs.Action.{works}
 use Rattle.sqlite.specs.Listing.{understood}
 use Rattle.sqlite.specs.Given.{IsPlain}
-use Rattle.sqlite.specs.State.{State, Executes, mode_of}
-use Rattle.sqlite.proofs.Callers.{command_of, statement_of, runs_as, one_step}
-use Rattle.sqlite_trees.proofs.ListLemmas.{IsPermutation-same}
-use Rattle.dnp_store.specs.Making.{form_schema, HasForm, number_row}
-use Rattle.dnp_store.specs.Tables.{form_with, sequence, IsCounted}
+use Rattle.sqlite.specs.State.{State, Executes}
+use Rattle.sqlite.proofs.Callers.{command_of}
+use Rattle.dnp_store.specs.Tables.{IsCounted}
 use Rattle.dnp_store.specs.QueueTables.{Queued}
-use Rattle.dnp_store.specs.JournalTables.{journal_schema, journal_with, journal_columns, IsJournal, empty_archive}
-use Rattle.dnp_store.specs.JournalShown.{HasTables}
-use Rattle.dnp_store.proofs.Creating.{makes, table_of_text}
-use Rattle.dnp_store.proofs.Filling.{PutsIn, number_text}
+use Rattle.dnp_store.specs.JournalTables.{journal_schema, journal_with}
+use Rattle.dnp_store.specs.declared.store_kind.StoreKind.TheVariants.{Journal}
 use Rattle.dnp_store.proofs.QueueStatements.{cast_time, insert_params, whole_cells}
-use Rattle.dnp_store.proofs.Statements.{went, written, same_value, picked}
-use Rattle.dnp_store.proofs.Counting as counting
+use Rattle.dnp_store.proofs.Inserting as inserting
 use Rattle.dnp_store.proofs.Counting.{cast_int, cast_null, PutsAt}
-
--- no table refers to another
-pub quiet : (f j : List Term) (db : Trees) (e : Edit) → works (journal_schema f j) Enforced 0 e.table.tree (taken_by db e) e.news ≡ []
-unfolding everything
-quiet f j db e = refl
-
-listed : (f j : List Term) → counters_of (journal_schema f j) ≡ Some sequence
-unfolding everything
-listed f j = refl
-
--- ---- INSERT of an event
 
 abbrev pub insert_text : List ℕ
 insert_text = codes "INSERT INTO journal (kind, point, flags, value, time) VALUES (?1, ?2, ?3, ?4, ?5)"
@@ -74,127 +49,5 @@ pub inserts : (old new : State) (f j : List Term) (x : Queued) (n m count : ℕ)
     → Rattle.sqlite.specs.Edit.next_rowid (old.now.trees 1) ≡ pos m → m ≤ n + 1 → Executes insert_text (insert_params x) old new (Ok count)
     → (new.now.schema ≡ journal_schema f j) × PutsAt (codes "journal") old.now.trees (whole_cells x) n new.now.trees
 inserts old new f j x n m count has counted next low h =
-    let w = runs_as insert_text (insert_params x) old new (journal_schema f j) has (Insert 1 (Values insert_terms 7)) (insert_is f j) (insert_plain f j)
-    count h in
-    let task = counting.task (codes "journal") journal_columns f j [] old.step_limit (insert_params x) in
-    let does = subst (λ s. Does old.step_limit (mode_of old) (insert_params x) (record old.now { schema = s })
-    (statement_of insert_text (understood (journal_schema f j) insert_text)) None (Insert 1 (Values insert_terms 7)) (Ok (w.tally, new.now))) has
-    w.changed in
-    let done = written task (mode_of old) (Insert 1 (Values insert_terms 7)) old.now.trees w.tally new.now does in
-    let put = counting.inserted (codes "journal") journal_columns f j [] (listed f j) (quiet f j) old.step_limit (insert_params x)
-    old.now.trees done.0 (Null ∷ whole_cells x) (whole_cells x)
-    (Values insert_terms 7) n m counted next low (insert_sources f j old.step_limit old.now.trees x) (insert_casts j x) done.1 in
-    (ap (λ (d : Database). d.schema) done.2, subst (λ (d : Database). PutsAt (codes "journal") old.now.trees (whole_cells x) n d.trees) (sym done.2) put)
-
--- ---- CREATE TABLE
-
-abbrev pub journal_text : List ℕ
-journal_text =
-    codes "CREATE TABLE journal (id INTEGER PRIMARY KEY AUTOINCREMENT CHECK (id BETWEEN 1 AND 4611686018427387904), "
-    ++ codes "kind INTEGER NOT NULL CHECK (kind BETWEEN 0 AND 2), point INTEGER NOT NULL CHECK (point BETWEEN 0 AND 65535), "
-    ++ codes "flags INTEGER NOT NULL CHECK (flags BETWEEN 0 AND 255), value INTEGER NOT NULL, "
-    ++ codes "time INTEGER CHECK (time BETWEEN 0 AND 281474976710655))"
-
-journal_is : (f : List Term) → (command_of (understood (form_schema f) journal_text) ≡ CreateTable)
-    × (statement_of journal_text (understood (form_schema f) journal_text) ≡ journal_text)
-unfolding understood everything
-journal_is f = (refl, refl)
-
-journal_plain : (f : List Term) → IsPlain (understood (form_schema f) journal_text)
-unfolding understood everything
-journal_plain f = (refl, refl)
-
-abbrev two_schema : List Term → List Term → Schema
-two_schema f j = record { tables = form_with f ∷ journal_with j ∷ []; indexes = []; views = [] }
-
-abbrev j_checks : List Term
-j_checks = (table_of_text (table_defined_by journal_text)).checks
-
-journal_joined : (f : List Term) → created (form_schema f) (table_of_text (table_defined_by journal_text)) ≡ two_schema f j_checks
-unfolding everything
-journal_joined f = refl
-
-sequence_joined : (f j : List Term) → created (two_schema f j) (table_of_text (table_defined_by sequence_text)) ≡ journal_schema f j
-unfolding everything
-sequence_joined f j = refl
-
-lacks : (f j : List Term) → lacks_sequence (two_schema f j) ≡ true
-unfolding everything
-lacks f j = refl
-
-pub created_journal : (old new : State) (count : ℕ) → HasForm old.now → Executes journal_text [] old new (Ok count) → HasTables new.now
-created_journal old new count has h =
-    let f = has.form in
-    let run = makes old new journal_text (form_schema f) count has.schema (journal_is f) (journal_plain f) h in
-    let made = run.1 in
-    let mid : run.0.schema ≡ two_schema f j_checks = made.is ∙ ap (created (form_schema f)) (sym (ap table_of_text made.defined)) ∙ journal_joined f in
-    let seq : MakesTable sequence_text run.0 (Ok new.now) = picked _ (lacks_sequence run.0.schema) (ap lacks_sequence mid ∙ lacks f j_checks) run.2 in
-    let end : new.now.schema ≡ journal_schema f j_checks = seq.is ∙ ap (λ s. created s seq.table) mid
-    ∙ ap (created (two_schema f j_checks)) (sym (ap table_of_text seq.defined)) ∙ sequence_joined f j_checks in
-    let kept = subst (λ (s : Schema). KeepsRows s.tables run.0.trees new.now.trees) mid seq.others in
-    let third : new.now.trees 2 ≡ [] = subst (λ (s : Schema). new.now.trees (next_tree s) ≡ []) mid seq.empty in
-    record { form = f; journal = j_checks; schema = end; empty = (kept.0 ∙ made.others.0 ∙ has.empty, kept.1.0 ∙ made.empty, third) }
-
--- ---- the number of the form
-
-abbrev number_terms : List Term
-number_terms = lit Null ∷ lit (Int (pos 1)) ∷ []
-
-number_is : (f j : List Term) → command_of (understood (journal_schema f j) number_text) ≡ Insert 0 (Values number_terms 2)
-unfolding understood everything
-number_is f j = refl
-
-number_plain : (f j : List Term) → IsPlain (understood (journal_schema f j) number_text)
-unfolding understood everything
-number_plain f j = (refl, refl)
-
-abbrev number_task : List Term → List Term → Option ℕ → Task
-number_task f j limit = record { limit = limit; keys = Enforced; schema = journal_schema f j; table = form_with f; params = [] }
-
-number_put : (f j : List Term) (limit : Option ℕ) (db : Trees) (a : Written) → db 0 ≡ []
-    → Inserts (number_task f j limit) (Values number_terms 2) db (Ok a) → PutsIn 0 number_row db a.trees
-unfolding everything
-number_put f j limit db a empty h =
-    let sourced = went h in
-    let counter = went sourced.2 in
-    let edited_to = went counter.2 in
-    let next = went edited_to.2 in
-    let out = same_value next.2 in
-    let source : sourced.0 ≡ (Null ∷ Int (pos 1) ∷ []) ∷ [] = sourced.1.1 in
-    let edit = λ (rows : List Row). edit_of db (form_with f) [] Chosen 0 rows in
-    let news : (edit sourced.0).news ≡ number_row ∷ [] =
-    ap (λ rows. (edit rows).news) source ∙ rw (cast_null, cast_int (pos 1), empty) refl in
-    let step = one_step (journal_schema f j) Enforced db edited_to.0 (edit sourced.0) (quiet f j db (edit sourced.0)) edited_to.1 in
-    let last : next.0 ≡ edited_to.0 = same_value next.1 in
-    record {
-      table = ap (λ (w : Written). w.trees 0) out ∙ ap (λ (t : Trees). t 0) last ∙ step.rows ∙ ap (put_all (db 0)) news;
-      others = λ t not_0. ap (λ (w : Written). w.trees t) out ∙ ap (λ (d : Trees). d t) last ∙ step.others t not_0 tt;
-    }
-
-pub numbers : (old new : State) (count : ℕ) → HasTables old.now → Executes number_text [] old new (Ok count) → IsJournal new.now empty_archive
-numbers old new count has h =
-    let f = has.form in
-    let j = has.journal in
-    let command = Insert 0 (Values number_terms 2) in
-    let w = runs_as number_text [] old new (journal_schema f j) has.schema command (number_is f j) (number_plain f j) count h in
-    let does = subst (λ s. Does old.step_limit (mode_of old) [] (record old.now { schema = s })
-    (statement_of number_text (understood (journal_schema f j) number_text)) None command (Ok (w.tally, new.now))) has.schema w.changed in
-    let done = written (number_task f j old.step_limit) (mode_of old) command old.now.trees w.tally new.now does in
-    let put = number_put f j old.step_limit old.now.trees done.0 has.empty.0 done.1 in
-    let is = done.2 in
-    let rows : new.now.trees 1 ≡ [] = ap (λ (d : Database). d.trees 1) is ∙ put.others 1 (λ e. absurd (omega arith)) ∙ has.empty.1 in
-    let counts : new.now.trees 2 ≡ [] = ap (λ (d : Database). d.trees 2) is ∙ put.others 2 (λ e. absurd (omega arith)) ∙ has.empty.2 in
-    record {
-      form_checks = f;
-      journal_checks = j;
-      schema = ap (λ (d : Database). d.schema) is;
-      holds = record {
-        form = (pos 1, ap (λ (d : Database). d.trees 0) is ∙ put.table ∙ ap (put_row number_row) has.empty.0);
-        logged = [];
-        logged_is = IsPermutation-same [] (new.now.trees 1) (sym rows);
-        counted = inl (counts, refl);
-        rise = tt;
-        in_range = tt;
-        rows = refl;
-      };
-    }
+    inserting.inserts Journal f j [] old new insert_text (insert_params x) (Null ∷ whole_cells x) (whole_cells x) (Values insert_terms 7) n m count
+    (insert_is f j) (insert_plain f j) (insert_sources f j old.step_limit old.now.trees x) (insert_casts j x) has counted next low h

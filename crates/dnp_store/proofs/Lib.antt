@@ -1,6 +1,8 @@
 pub mod Statements
+pub mod Stepping
 pub mod Counting
 pub mod IdRows
+pub mod Inserting
 pub mod QueueStatements
 pub mod QueueDeletes
 pub mod QueueUpdates
@@ -11,6 +13,7 @@ pub mod Trimming
 pub mod Standing
 pub mod Releasing
 pub mod Creating
+pub mod Numbering
 pub mod Filling
 pub mod Without
 pub mod Tests

@@ -1,4 +1,4 @@
--- What the queries of an open show of a queue's tables.
+-- What the queries of an open show of every store's tables, and of a queue's lanes.
 use Rattle.std.proofs.Common.{◌≡◌, inl, inr, ℕ, ◌+◌, ℤ, pos, negsuc, false, List, [], ◌∷◌, map, flat_map, length, codes, get_or, Some, None, Ok, Err, Result, IfOk, refl, sym, ap, subst, subst₂, ◌∙◌, arith, IsPermutation}
 use Rattle.std.specs.Prelude.{Vec}
 use Rattle.std.specs.declared.alloc.Global.{Global}
@@ -25,7 +25,10 @@ use Rattle.sqlite.specs.Clock.{timed}
 use Rattle.sqlite.proofs.Callers.{command_of, reads_as, one_permutation}
 use Rattle.dnp_store.specs.Tables.{sequence, IsCounted}
 use Rattle.dnp_store.specs.QueueTables.{queue_schema, lanes_columns, Figures, no_figures, figures_rows, IsForm1}
-use Rattle.dnp_store.specs.Shown.{Reads, ShowsForm1, ShowsFigures, ShowNine, AreNine, ShowsCount}
+use Rattle.dnp_store.specs.Shown.{ShowsForm1, ShowsFigures, ShowNine, AreNine, ShowsCount}
+use Rattle.dnp_store.specs.declared.store_kind.StoreKind.{StoreKind}
+use Rattle.dnp_store.specs.declared.store_kind.StoreKind.TheVariants.{Queue, Journal, Book}
+use Rattle.dnp_store.specs.Stores.{Reads, schema_for}
 use Rattle.dnp_store.proofs.Rows.{IsTyped, form_columns, shown_lane, typed_form, typed_lanes, typed_counts, form_row, lanes_rows, count_row_is}
 
 -- ---- a query over one table
@@ -88,14 +91,15 @@ count_terms = col 1 0 ∷ col 1 1 ∷ col 1 2 ∷ []
 abbrev pub queue_terms : List Term
 queue_terms = col 1 0 ∷ col 1 2 ∷ col 1 3 ∷ col 1 4 ∷ col 1 5 ∷ col 1 6 ∷ []
 
-form_is : (f q l : List Term) → (command_of (understood (queue_schema f q l) form_query) ≡ Select (record { lets = []; body = query 0 form_terms })
-    (codes "rowid" ∷ codes "number" ∷ [])) × (reads_listing (queue_schema f q l) form_query ≡ false)
+form_is : (kind : StoreKind) (f r m : List Term)
+    → (command_of (understood (schema_for kind f r m) form_query) ≡ Select (record { lets = []; body = query 0 form_terms })
+    (codes "rowid" ∷ codes "number" ∷ [])) × (reads_listing (schema_for kind f r m) form_query ≡ false)
 unfolding understood everything
-form_is f q l = (refl, refl)
+form_is kind f r m = (refl, refl)
 
-form_plain : (f q l : List Term) → IsPlain (understood (queue_schema f q l) form_query)
+form_plain : (kind : StoreKind) (f r m : List Term) → IsPlain (understood (schema_for kind f r m) form_query)
 unfolding understood everything
-form_plain f q l = (refl, refl)
+form_plain kind f r m = (refl, refl)
 
 lanes_is : (f q l : List Term) → (command_of (understood (queue_schema f q l) lanes_query) ≡ Select (record { lets = []; body = query 3 lanes_terms })
     (codes "lane" ∷ codes "cap" ∷ codes "lost" ∷ codes "raised" ∷ [])) × (reads_listing (queue_schema f q l) lanes_query ≡ false)
@@ -106,14 +110,19 @@ lanes_plain : (f q l : List Term) → IsPlain (understood (queue_schema f q l) l
 unfolding understood everything
 lanes_plain f q l = (refl, refl)
 
-count_is : (f q l : List Term) → (command_of (understood (queue_schema f q l) count_query) ≡ Select (record { lets = []; body = query 2 count_terms })
-    (codes "rowid" ∷ codes "name" ∷ codes "seq" ∷ [])) × (reads_listing (queue_schema f q l) count_query ≡ false)
+count_is : (kind : StoreKind) (f r m : List Term)
+    → (command_of (understood (schema_for kind f r m) count_query) ≡ Select (record { lets = []; body = query 2 count_terms })
+    (codes "rowid" ∷ codes "name" ∷ codes "seq" ∷ [])) × (reads_listing (schema_for kind f r m) count_query ≡ false)
 unfolding understood everything
-count_is f q l = (refl, refl)
+count_is Queue f r m = (refl, refl)
+count_is Journal f r m = (refl, refl)
+count_is Book f r m = (refl, refl)
 
-count_plain : (f q l : List Term) → IsPlain (understood (queue_schema f q l) count_query)
+count_plain : (kind : StoreKind) (f r m : List Term) → IsPlain (understood (schema_for kind f r m) count_query)
 unfolding understood everything
-count_plain f q l = (refl, refl)
+count_plain Queue f r m = (refl, refl)
+count_plain Journal f r m = (refl, refl)
+count_plain Book f r m = (refl, refl)
 
 pub queue_is : (f q l : List Term) → (command_of (understood (queue_schema f q l) queue_query) ≡ Select (record { lets = []; body = query 1 queue_terms })
     (codes "id" ∷ codes "lane" ∷ codes "point" ∷ codes "flags" ∷ codes "value" ∷ codes "time" ∷ [])) × (reads_listing (queue_schema f q l) queue_query ≡ false)
@@ -157,20 +166,21 @@ none_left [] rs perm none = refl
 none_left (r ∷ db) rs perm none = absurd (let h = length_permutation (r ∷ db) rs perm in omega arith)
 
 module _ (old new : State) (rows : List Row) where
-  pub reads_form : (id : ℤ) → Shown form_query [] old new rows → ShowsForm1 rows id → Reads old new (λ db. IsForm1 (db 0))
-  reads_form id shown one f q l sound has =
-      let read = reads_as form_query [] old new (queue_schema f q l) has _ (form_is f q l).0 (form_plain f q l) (form_is f q l).1 rows shown in
+  pub reads_form : (id : ℤ) → Shown form_query [] old new rows → ShowsForm1 rows id → (kind : StoreKind) → Reads kind old new (λ db. IsForm1 (db 0))
+  reads_form id shown one kind f r m sound has =
+      let read = reads_as form_query [] old new (schema_for kind f r m) has _ (form_is kind f r m).0
+      (form_plain kind f r m) (form_is kind f r m).1 rows shown in
       let got = listed 0 form_terms old.now.trees rows refl (read.answer Null) in
       let at = alone (shown_by form_terms) (old.now.trees 0) got.0 rows got.1 got.2 one.one in
-      let typed = subst (AllByRecursion (IsTyped None form_columns)) at.1 (typed_form old.now f q l has sound) in
+      let typed = subst (AllByRecursion (IsTyped None form_columns)) at.1 (typed_form kind old.now f r m has sound) in
       let id_is : column at.0 0 ≡ Int id = ap (λ r. column r 0) (sym at.2) ∙ one.id_is in
       let number : column at.0 1 ≡ Int (pos 1) = ap (λ r. column r 1) (sym at.2) ∙ one.number in (
-        unchanged form_query old new (queue_schema f q l) rows has (form_plain f q l) shown,
+        unchanged form_query old new (schema_for kind f r m) rows has (form_plain kind f r m) shown,
         (id, at.1 ∙ ap (λ r. r ∷ []) (form_row at.0 id typed.0 number id_is)),
       )
 
   pub reads_lanes : (figures : List Figures) → Shown lanes_query [] old new rows → AreNine figures → ShowNine rows figures
-      → Reads old new (λ db. IsPermutation (figures_rows 0 figures) (db 3))
+      → Reads Queue old new (λ db. IsPermutation (figures_rows 0 figures) (db 3))
   reads_lanes figures shown nine shows f q l sound has =
       let read = reads_as lanes_query [] old new (queue_schema f q l) has _ (lanes_is f q l).0 (lanes_plain f q l) (lanes_is f q l).1 rows shown in
       let got = listed 3 lanes_terms old.now.trees rows refl (read.answer Null) in
@@ -187,31 +197,33 @@ module _ (old new : State) (rows : List Row) where
       zero-first : (k : ℕ) → k ≡ 0 + k
       zero-first k = omega arith
 
-  pub reads_counts : Shown count_query [] old new rows → Reads old new (λ db. (n : ℕ) → ShowsCount (codes "queue") rows n → IsCounted (codes "queue") (db 2) n)
-  reads_counts shown f q l sound has =
-      let read = reads_as count_query [] old new (queue_schema f q l) has _ (count_is f q l).0 (count_plain f q l) (count_is f q l).1 rows shown in
+  pub reads_counts : Shown count_query [] old new rows → (kind : StoreKind)
+      → Reads kind old new (λ db. (table : List ℕ) (n : ℕ) → ShowsCount table rows n → IsCounted table (db 2) n)
+  reads_counts shown kind f r m sound has =
+      let read = reads_as count_query [] old new (schema_for kind f r m) has _ (count_is kind f r m).0
+      (count_plain kind f r m) (count_is kind f r m).1 rows shown in
       let got = listed 2 count_terms old.now.trees rows refl (read.answer Null) in
-      (unchanged count_query old new (queue_schema f q l) rows has (count_plain f q l) shown, λ n shows. go got n shows)
+      (unchanged count_query old new (schema_for kind f r m) rows has (count_plain kind f r m) shown, λ table n shows. go got table n shows)
     where
-      go : ((rs : List Row) × IsPermutation (old.now.trees 2) rs × (rows ≡ map (shown_by count_terms) rs)) → (n : ℕ) → ShowsCount (codes "queue") rows n
-          → IsCounted (codes "queue") (old.now.trees 2) n
-      go got n (inl none) =
+      go : ((rs : List Row) × IsPermutation (old.now.trees 2) rs × (rows ≡ map (shown_by count_terms) rs)) → (table : List ℕ) (n : ℕ)
+          → ShowsCount table rows n → IsCounted table (old.now.trees 2) n
+      go got table n (inl none) =
           inl (none_left (old.now.trees 2) got.0 got.1 (sym (length-map got.0 (shown_by count_terms)) ∙ ap length (sym got.2) ∙ none.0), none.1)
-      go got n (inr one) =
+      go got table n (inr one) =
           let at = alone (shown_by count_terms) (old.now.trees 2) got.0 rows got.1 got.2 one.1 in
-          let typed = subst (AllByRecursion (IsTyped None sequence.columns)) at.1 (typed_counts old.now f q l has sound) in
+          let typed = subst (AllByRecursion (IsTyped None sequence.columns)) at.1 (typed_counts kind old.now f r m has sound) in
           let id_is : column at.0 0 ≡ Int (pos one.0) = ap (λ r. column r 0) (sym at.2) ∙ one.2.id_is in
-          let name : column at.0 1 ≡ Text (codes "queue") = ap (λ r. column r 1) (sym at.2) ∙ one.2.name in
+          let name : column at.0 1 ≡ Text table = ap (λ r. column r 1) (sym at.2) ∙ one.2.name in
           let count : column at.0 2 ≡ Int (pos n) = ap (λ r. column r 2) (sym at.2) ∙ one.2.count in
-          inr (pos one.0, at.1 ∙ ap (λ r. r ∷ []) (count_row_is at.0 (pos one.0) (pos n) (codes "queue") typed.0 id_is name count))
+          inr (pos one.0, at.1 ∙ ap (λ r. r ∷ []) (count_row_is at.0 (pos one.0) (pos n) table typed.0 id_is name count))
 
 module _ {E : Type 0} (old new : State) (rows : List Row) where
   pub lanes_if : (r : Result (Vec Figures Global) E) → Shown lanes_query [] old new rows → IfOk r (λ figures. AreNine figures.items)
-      → IfOk r (λ figures. ShowNine rows figures.items) → IfOk r (λ figures. Reads old new (λ db. IsPermutation (figures_rows 0 figures.items) (db 3)))
+      → IfOk r (λ figures. ShowNine rows figures.items) → IfOk r (λ figures. Reads Queue old new (λ db. IsPermutation (figures_rows 0 figures.items) (db 3)))
   lanes_if (Ok figures) shown nine shows = reads_lanes old new rows figures.items shown nine shows
   lanes_if (Err e) shown nine shows = tt
 
 pub counts_if : {E : Type 0} (old new : State) (r : Result (Vec (List Value) Global) E) → IfOk r (λ rows. Shown count_query [] old new rows.items)
-    → IfOk r (λ rows. Reads old new (λ db. (n : ℕ) → ShowsCount (codes "queue") rows.items n → IsCounted (codes "queue") (db 2) n))
+    → IfOk r (λ rows. (kind : StoreKind) → Reads kind old new (λ db. (table : List ℕ) (n : ℕ) → ShowsCount table rows.items n → IsCounted table (db 2) n))
 counts_if old new (Ok rows) shown = reads_counts old new rows.items shown
 counts_if old new (Err e) shown = tt

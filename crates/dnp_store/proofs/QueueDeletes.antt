@@ -36,7 +36,8 @@ use Rattle.dnp_store.specs.QueueTables.{queue_schema, queue_with, queue_columns,
 use Rattle.dnp_store.proofs.Statements.{went, written, same_value}
 use Rattle.dnp_store.proofs.Without.{HasInt, deleted}
 use Rattle.dnp_store.proofs.Counting as counting
-use Rattle.dnp_store.proofs.QueueStatements.{quiet}
+use Rattle.dnp_store.specs.declared.store_kind.StoreKind.TheVariants.{Queue}
+use Rattle.dnp_store.proofs.Inserting.{quiet}
 
 abbrev pub delete_text : List ℕ
 delete_text = codes "DELETE FROM queue WHERE lane = ?1 AND id <= ?2"
@@ -140,7 +141,7 @@ takes f q l limit number upto xs db a is rise h =
     let edited_to = went queried.2 in
     let out = same_value edited_to.2 in
     let edit = edit_of db (queue_with q) (ids_of queried.0) Given 0 [] in
-    let step = one_step (queue_schema f q l) Enforced db edited_to.0 edit (quiet f q l db edit) edited_to.1 in
+    let step = one_step (queue_schema f q l) Enforced db edited_to.0 edit (quiet Queue f q l db edit) edited_to.1 in
     let table = id_rows.is_table (λ (x : Queued). x.id) queued_cells xs rise in
     let rest : Row → Bool = λ r. not (is_taken_by params r) in
     let gone : a.trees 1 ≡ filter rest (db 1) = ap (λ (w : Written). w.trees 1) out ∙ step.rows

@@ -39,7 +39,8 @@ use Rattle.dnp_store.specs.QueueTables.{queue_schema, lanes_with, Figures, no_fi
 use Rattle.dnp_store.proofs.Statements.{went, written, same_value}
 use Rattle.dnp_store.proofs.Counting.{cast_int, cast_null}
 use Rattle.dnp_store.proofs.IdRows.{is_less, put_apart}
-use Rattle.dnp_store.proofs.QueueStatements.{quiet}
+use Rattle.dnp_store.specs.declared.store_kind.StoreKind.TheVariants.{Queue}
+use Rattle.dnp_store.proofs.Inserting.{quiet}
 use Rattle.dnp_store.proofs.QueueDeletes.{passes_on, and_true}
 use Rattle.dnp_store.proofs.Tests.{eq_holds, has_is, is_same, is_other}
 
@@ -199,7 +200,7 @@ notes f q l limit number lost raised fs db a is low h =
     let edited_to = went queried.2 in
     let out = same_value edited_to.2 in
     let edit = λ (rs : List Row). edit_of db (lanes_with l) (ids_of rs) Given 1 rs in
-    let step = one_step (queue_schema f q l) Enforced db edited_to.0 (edit queried.0) (quiet f q l db (edit queried.0)) edited_to.1 in
+    let step = one_step (queue_schema f q l) Enforced db edited_to.0 (edit queried.0) (quiet Queue f q l db (edit queried.0)) edited_to.1 in
     let row = cells_row number new in
     let made_of : a.trees 3 ≡ put_row row (without_rowid (pos number) (db 3)) = ap (λ (w : Written). w.trees 3) out ∙ step.rows
     ∙ ap (λ rs. put_all (Rattle.sqlite.specs.Edit.without_all (db 3) (edit rs).gone) (edit rs).news) rows

@@ -7,8 +7,8 @@ use Rattle.std.proofs.lemmas.Bool.{leb-true}
 use Rattle.std.proofs.lemmas.List.Sorted.{IsPermutation-sym}
 use Rattle.sqlite_trees.proofs.ListLemmas.{all-permutation, all_weaker}
 use Rattle.sqlite.specs.declared.types.Value.{Value}
-use Rattle.sqlite.specs.Order.{Row, column}
-use Rattle.sqlite.specs.Tree.{Trees, IsAscending}
+use Rattle.sqlite.specs.Order.{Row}
+use Rattle.sqlite.specs.Tree.{IsAscending}
 use Rattle.sqlite.specs.State.{State, Shown}
 use Rattle.sqlite.proofs.Callers.{reads_as}
 use Rattle.dnp_objects.specs.declared.limits.TheConstants.{LANES}
@@ -23,11 +23,13 @@ use Rattle.dnp_store.specs.Tables.{IsCounted}
 use Rattle.dnp_store.specs.QueueTables.{queue_schema, queue_columns, Queued, queued_row, event_of, in_lane, Figures, figures_rows, IsForm1, IsQueue}
 use Rattle.sqlite.specs.Effect.{Database}
 use Rattle.sqlite.specs.Term.{Term}
-use Rattle.dnp_store.specs.Shown.{Reads, AreNine, IsBegun, Restores, PutBack}
+use Rattle.dnp_store.specs.Shown.{AreNine, IsBegun, Restores, PutBack}
 use Rattle.dnp_store.proofs.Appending.{behind}
 use Rattle.dnp_store.proofs.Holding.{at_lane, kind_is}
 use Rattle.dnp_store.proofs.Opening.{listed, queue_is, queue_plain, queue_query, queue_terms, shown_by, unchanged}
-use Rattle.dnp_store.proofs.Rows.{IsTyped, typed_queue, queue_row, queued_of}
+use Rattle.dnp_store.specs.declared.store_kind.StoreKind.TheVariants.{Queue}
+use Rattle.dnp_store.specs.Stores.{Reads}
+use Rattle.dnp_store.proofs.Rows.{IsTyped, typed_rows, queue_row, queued_of}
 use Rattle.dnp_store.proofs.Tests.{is_same, is_other}
 
 abbrev row_of : ℕ → LaneRow → Bool → Queued
@@ -120,11 +122,12 @@ restored last (r ∷ rs) a b typed nine h =
     }
 
 pub reads_queued : (old new : State) (rows : List Row) → Shown queue_query [] old new rows
-    → Reads old new (λ db. (a b : Stock) → length a.lanes ≡ LANES → ((k : ℕ) → k < LANES → (lane_at a k).rows ≡ []) → Restores 0 rows a b → PutBack (db 1) a b)
+    → Reads Queue old new (λ db. (a b : Stock) → length a.lanes ≡ LANES → ((k : ℕ) → k < LANES → (lane_at a k).rows ≡ [])
+    → Restores 0 rows a b → PutBack (db 1) a b)
 reads_queued old new rows shown f q l sound has =
     let read = reads_as queue_query [] old new (queue_schema f q l) has _ (queue_is f q l).0 (queue_plain f q l) (queue_is f q l).1 rows shown in
     let got = listed 1 queue_terms old.now.trees rows refl (read.answer Rattle.sqlite.specs.declared.types.Value.TheVariants.Null) in
-    let typed = all-permutation (IsTyped (Some 0) queue_columns) (old.now.trees 1) got.0 got.1 (typed_queue old.now f q l has sound) in (
+    let typed = all-permutation (IsTyped (Some 0) queue_columns) (old.now.trees 1) got.0 got.1 (typed_rows Queue old.now f q l has sound) in (
       unchanged queue_query old new (queue_schema f q l) rows has (queue_plain f q l) shown,
       λ a b nine none restores.
           let did = restored 0 got.0 a b typed nine (subst (λ (xs : List Row). Restores 0 xs a b) got.2 restores) in
@@ -142,7 +145,8 @@ reads_queued old new rows shown f q l sound has =
 
 pub queued_if : {E : Type 0} (old new : State) (r : Result (Vec (List Value) Global) E)
     → IfOk r (λ rows. Shown queue_query [] old new rows.items)
-    → IfOk r (λ rows. Reads old new (λ db. (a b : Stock) → length a.lanes ≡ LANES → ((k : ℕ) → k < LANES → (lane_at a k).rows ≡ []) → Restores 0 rows.items a b
+    → IfOk r (λ rows. Reads Queue old new (λ db. (a b : Stock) → length a.lanes ≡ LANES → ((k : ℕ) → k < LANES → (lane_at a k).rows ≡ [])
+    → Restores 0 rows.items a b
     → PutBack (db 1) a b))
 queued_if old new (Ok rows) shown = reads_queued old new rows.items shown
 queued_if old new (Err e) shown = tt

@@ -15,8 +15,11 @@ use Rattle.sqlite.specs.Term.{Term}
 use Rattle.sqlite.specs.Schema.{Schema}
 use Rattle.sqlite.specs.Effect.{Database, IsDatabase}
 use Rattle.dnp_store.specs.Tables.{or_null, column_of, sequence, form_with}
-use Rattle.dnp_store.specs.QueueTables.{queue_schema, queue_columns, lanes_columns, Queued, queued_row, Figures, no_figures, figures_rows, figures_cells}
+use Rattle.dnp_store.specs.QueueTables.{queue_schema, queue_columns, lanes_columns, lanes_with, Queued, queued_row, Figures, no_figures, figures_rows, figures_cells}
 use Rattle.dnp_store.specs.Shown.{ShowsFigures}
+use Rattle.dnp_store.specs.declared.store_kind.StoreKind.{StoreKind}
+use Rattle.dnp_store.specs.declared.store_kind.StoreKind.TheVariants.{Queue}
+use Rattle.dnp_store.specs.Stores.{columns_of, rows_with, schema_for}
 
 pub and_left : (a b : Bool) → (a && b) ≡ true → a ≡ true
 and_left true b h = refl
@@ -53,26 +56,23 @@ pub typed : (key : Option ℕ) (columns : List Column) (other : Row → Bool) (r
 typed key columns other [] h = tt
 typed key columns other (r ∷ rows) h = (and_left _ _ h.0, typed key columns other rows h.1)
 
-module _ (db : Database) (f q l : List Term) (has : db.schema ≡ queue_schema f q l) (sound : IsDatabase db) where
-  pub typed_form : AllByRecursion (IsTyped None form_columns) (db.trees 0)
-  typed_form =
-      let all = subst (λ (s : Schema). IsDatabase (record { schema = s; trees = db.trees })) has sound in
-      typed None form_columns (has_computed (form_with f)) (db.trees 0) (all.obeys.rules Datatype).0
+module _ (kind : StoreKind) (db : Database) (f r m : List Term) (has : db.schema ≡ schema_for kind f r m) (sound : IsDatabase db) where
+  rules_hold : IsDatabase (record { schema = schema_for kind f r m; trees = db.trees })
+  rules_hold = subst (λ (s : Schema). IsDatabase (record { schema = s; trees = db.trees })) has sound
 
-  pub typed_queue : AllByRecursion (IsTyped (Some 0) queue_columns) (db.trees 1)
-  typed_queue =
-      let all = subst (λ (s : Schema). IsDatabase (record { schema = s; trees = db.trees })) has sound in
-      typed (Some 0) queue_columns (has_computed (Rattle.dnp_store.specs.QueueTables.queue_with q)) (db.trees 1) (all.obeys.rules Datatype).1.0
+  pub typed_form : AllByRecursion (IsTyped None form_columns) (db.trees 0)
+  typed_form = typed None form_columns (has_computed (form_with f)) (db.trees 0) (rules_hold.obeys.rules Datatype).0
+
+  pub typed_rows : AllByRecursion (IsTyped (Some 0) (columns_of kind)) (db.trees 1)
+  typed_rows = typed (Some 0) (columns_of kind) (has_computed (rows_with kind r)) (db.trees 1) (rules_hold.obeys.rules Datatype).1.0
 
   pub typed_counts : AllByRecursion (IsTyped None sequence.columns) (db.trees 2)
-  typed_counts =
-      let all = subst (λ (s : Schema). IsDatabase (record { schema = s; trees = db.trees })) has sound in
-      typed None sequence.columns (has_computed sequence) (db.trees 2) (all.obeys.rules Datatype).1.1.0
+  typed_counts = typed None sequence.columns (has_computed sequence) (db.trees 2) (rules_hold.obeys.rules Datatype).1.1.0
 
-  pub typed_lanes : AllByRecursion (IsTyped (Some 0) lanes_columns) (db.trees 3)
-  typed_lanes =
-      let all = subst (λ (s : Schema). IsDatabase (record { schema = s; trees = db.trees })) has sound in
-      typed (Some 0) lanes_columns (has_computed (Rattle.dnp_store.specs.QueueTables.lanes_with l)) (db.trees 3) (all.obeys.rules Datatype).1.1.1.0
+pub typed_lanes : (db : Database) (f q l : List Term) → db.schema ≡ queue_schema f q l → IsDatabase db
+    → AllByRecursion (IsTyped (Some 0) lanes_columns) (db.trees 3)
+typed_lanes db f q l has sound =
+    typed (Some 0) lanes_columns (has_computed (lanes_with l)) (db.trees 3) ((rules_hold Queue db f q l has sound).obeys.rules Datatype).1.1.1.0
 
 -- ---- `form`
 

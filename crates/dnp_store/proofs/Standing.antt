@@ -1,5 +1,5 @@
 -- What stays where a call failed, and what a crash leaves.
-use Rattle.std.proofs.Common.{inl, inr, IsTrue, ◌≡◌, ◌⊎◌, [], List, ℕ, refl, subst, sym, arith, Ok, Err, Result}
+use Rattle.std.proofs.Common.{inl, inr, IsTrue, ◌≡◌, ◌⊎◌, [], List, ℕ, refl, arith, Ok, Err, Result}
 use Rattle.sqlite.specs.Effect.{Database}
 use Rattle.std.specs.Prelude.{OnOk}
 use Rattle.sqlite.specs.Order.{Row}
@@ -10,6 +10,7 @@ use Rattle.sqlite.proofs.InsideLemmas.{unchanged_keeps}
 use Rattle.dnp_eventbuf.specs.Stock.{Stock}
 use Rattle.dnp_store.specs.QueueTables.{queue_schema, IsQueue, HoldsStock}
 use Rattle.dnp_store.specs.Kept.{Stands}
+use Rattle.dnp_store.proofs.Statements.{leaves_committed, leaves_either}
 
 pub stands_if : (new : State) (b : Stock) (r : Result (Unit {0}) Error) → OnOk r (IsTrue new.is_open × IsQueue new.committed b) → OnOk r (Stands new b)
 stands_if new b (Ok _) h = record { is_open = h.0; holds = h.1 }
@@ -29,22 +30,16 @@ survives_itself s = record {
 -- what an open store may leave is its last commit
 pub leaves_last : (s : State) (stock : Stock) → ((db : Trees) → IsTrue s.is_open → s.may_leave db → db ≡ s.committed.trees) → Stands s stock → (db : Trees)
     → s.may_leave db → HoldsStock db stock
-leaves_last s stock settled stands db may = subst (λ d. HoldsStock d stock) (sym (settled db stands.is_open may)) stands.holds.holds
+leaves_last s stock settled stands = leaves_committed s (λ db. HoldsStock db stock) settled stands.is_open stands.holds.holds
 
 -- a call and one that commits nothing leave what stood before, or what the first was to commit
 pub either_of : (old mid new : State) (stock next : Stock) → HasCleanDisk new → HasCleanDisk mid
     → ((db : Trees) → IsTrue old.is_open → old.may_leave db → db ≡ old.committed.trees) → Stands old stock
     → Survives old mid (λ db. Stands old stock → HoldsStock db next) → Survives mid new (λ _. ⊥) → (db : Trees) → new.may_leave db
     → HoldsStock db stock ⊎ HoldsStock db next
-either_of old mid new stock next clean early settled stands one two db may = go (two.crash clean db may)
-  where
-    left : old.may_leave db ⊎ (Stands old stock → HoldsStock db next) → HoldsStock db stock ⊎ HoldsStock db next
-    left (inl before) = inl (leaves_last old stock settled stands db before)
-    left (inr after) = inr (after stands)
-
-    go : mid.may_leave db ⊎ ⊥ → HoldsStock db stock ⊎ HoldsStock db next
-    go (inl may_mid) = left (one.crash early db may_mid)
-    go (inr none) = absurd none
+either_of old mid new stock next clean early settled stands =
+    leaves_either old mid new (λ db. HoldsStock db stock) (λ db. HoldsStock db next) (λ db. Stands old stock → HoldsStock db next) (λ db made. made stands)
+    clean early settled stands.is_open stands.holds.holds
 
 pub keeps_open : (old new : State) (sql : List ℕ) (params : Row) (e : Error) → IsNotRun old new sql params e → IsTrue new.is_open → IsTrue old.is_open
     × (new.committed ≡ old.committed)

@@ -48,9 +48,38 @@ pub finished : (X Y : Type 0) (mid new : State) (P : Database → Type 0) (r : R
 finished X Y mid new P (Ok _) holds h = (h.1.is_open, subst P (sym h.1.committed_is) holds)
 finished X Y mid new P (Err _) holds h = tt
 
+pub survives_as : (old new : State) (P Q : Trees → Type 0) → ((db : Trees) → P db → Q db) → Survives old new P → Survives old new Q
+survives_as old new P Q more h = record {
+  clean = h.clean;
+  shield = h.shield;
+  counts = h.counts;
+  limit = h.limit;
+  closes = h.closes;
+  crash = λ clean db may. elim (h.crash clean db may) [ inl before ↦ inl before | inr made ↦ inr (more db made) ];
+}
+
 -- what a transaction leaves that did one thing and then committed
 pub survives_commit : {S : Type 0} (g : Ghosts S) (old begun : Held S) (mid new : State) (P : Trees → Type 0) → begun ≡ record old { in_transaction = true }
     → Survives (state g begun) mid (λ _. ⊥) → Survives mid new (λ db. db ≡ mid.now.trees) → (HasCleanDisk new → P mid.now.trees) → Survives (state g old) new P
 survives_commit g old begun mid new P is one two holds =
     survives_then (state g old) mid new (λ _. ⊥) (λ db. db ≡ mid.now.trees) P (λ _ db none. absurd none) (λ clean db same. subst P (sym same) (holds clean))
     (survives_begin g old mid (λ _. ⊥) (subst (λ h. Survives (state g h) mid (λ _. ⊥)) is one)) two
+
+-- what an open connection may leave is its last commit
+pub leaves_committed : (s : State) (P : Trees → Type 0) → ((db : Trees) → IsTrue s.is_open → s.may_leave db → db ≡ s.committed.trees) → IsTrue s.is_open
+    → P s.committed.trees → (db : Trees) → s.may_leave db → P db
+leaves_committed s P settled is_open holds db may = subst P (sym (settled db is_open may)) holds
+
+-- a call and one that commits nothing leave what stood before, or what the first was to commit
+pub leaves_either : (old mid new : State) (P Q Commits : Trees → Type 0) → ((db : Trees) → Commits db → Q db) → HasCleanDisk new → HasCleanDisk mid
+    → ((db : Trees) → IsTrue old.is_open → old.may_leave db → db ≡ old.committed.trees) → IsTrue old.is_open → P old.committed.trees
+    → Survives old mid Commits → Survives mid new (λ _. ⊥) → (db : Trees) → new.may_leave db → P db ⊎ Q db
+leaves_either old mid new P Q Commits commits clean early settled is_open holds one two db may = go (two.crash clean db may)
+  where
+    left : old.may_leave db ⊎ Commits db → P db ⊎ Q db
+    left (inl before) = inl (leaves_committed old P settled is_open holds db before)
+    left (inr after) = inr (commits db after)
+
+    go : mid.may_leave db ⊎ ⊥ → P db ⊎ Q db
+    go (inl may_mid) = left (one.crash early db may_mid)
+    go (inr none) = absurd none

@@ -1,5 +1,5 @@
 -- A lane that drops its oldest rows.
-use Rattle.std.proofs.Common.{◌≡◌, ◌≢◌, inl, inr, ℕ, zero, suc, ◌+◌, ◌-◌, ◌<◌, ◌≤◌, ◌^◌, ◌==◌, ◌||◌, nat_lt, Bool, true, false, cond, Some, List, [], ◌∷◌, ◌++◌, length, drop, set, map, filter, refl, sym, ap, ap₂, subst, ◌∙◌, arith, length-append, length-set}
+use Rattle.std.proofs.Common.{◌≡◌, ◌≢◌, inl, inr, ℕ, zero, suc, ◌+◌, ◌-◌, ◌<◌, ◌≤◌, ◌^◌, ◌==◌, ◌||◌, nat_lt, Bool, true, false, cond, Some, List, [], ◌∷◌, ◌++◌, length, drop, set, map, filter, refl, sym, ap, ap₂, subst, ◌∙◌, arith, length-append, length-set, codes}
 use Rattle.std.specs.Prelude.{slice_get, option_map}
 use Rattle.std.specs.List.{AllByRecursion}
 use Rattle.std.proofs.lemmas.Bool.{cases_eq, cases_lt}
@@ -95,7 +95,7 @@ same_queue db s t fs h same last = record {
   lanes_checks = h.lanes_checks;
   schema = h.schema;
   form = h.form;
-  lanes = same_stock db.trees s t fs h.lanes same last;
+  lanes = same_stock (codes "queue") (db.trees 1) (db.trees 2) (db.trees 3) s t fs h.lanes same last;
 }
 
 -- ---- the mark

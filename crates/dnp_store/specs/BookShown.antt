@@ -4,20 +4,14 @@ use Rattle.std.specs.List.Sorted.{IsPermutation}
 use Rattle.sqlite.specs.declared.types.Value.TheVariants.{Int}
 use Rattle.sqlite.specs.Order.{Row as SqlRow, column}
 use Rattle.sqlite.specs.Tree.{Trees}
-use Rattle.sqlite.specs.Term.{Term}
-use Rattle.sqlite.specs.Effect.{Database, IsDatabase}
-use Rattle.sqlite.specs.State.{State}
+use Rattle.sqlite.specs.Effect.{Database}
 use Rattle.dnp_objects.specs.declared.command.Command.{Command}
 use Rattle.dnp_objects.specs.declared.command.Command.TheVariants.{Set16}
 use Rattle.dnp_objects.specs.Commands.{index_of}
 use Rattle.dnp_controls.specs.declared.book.Entry.{Entry}
 use Rattle.dnp_controls.specs.declared.book.State.{State as Control}
 use Rattle.dnp_controls.specs.declared.book.State.TheVariants.{Pending}
-use Rattle.dnp_store.specs.BookTables.{book_schema, IsBook, entry_row, kind_of, code_of, count_of, on_of, off_of, value_of, state_of, status_of}
-
--- a book's database shows this of its trees, and stays as it was
-abbrev pub ReadsBook : State → State → (Trees → Type 0) → Type 0
-ReadsBook old new P = (f c : List Term) → IsDatabase old.now → old.now.schema ≡ book_schema f c → (new.now ≡ old.now) × P old.now.trees
+use Rattle.dnp_store.specs.BookTables.{IsBook, entry_row, kind_of, code_of, count_of, on_of, off_of, value_of, state_of, status_of}
 
 -- a row that a query shows of `control`: its command
 pub record ShowsCommand (row : SqlRow) (command : Command) : Type 0 where

@@ -1,31 +1,18 @@
--- Words of private steps: a journal's database while its tables are made, and what queries show of them.
+-- Words of private steps: what queries show of a journal's tables.
 use Rattle.std.specs.Prelude.{◌≡◌, ℕ, ◌<◌, ◌≤◌, pos, List, [], ◌∷◌, map, length, slice_index_or, None}
 use Rattle.std.specs.List.{AllByRecursion}
 use Rattle.std.specs.List.Sorted.{IsPermutation}
 use Rattle.sqlite.specs.declared.types.Value.TheVariants.{Int}
 use Rattle.sqlite.specs.Order.{Row as SqlRow, column}
 use Rattle.sqlite.specs.Tree.{Trees, IsAscending}
-use Rattle.sqlite.specs.Term.{Term}
-use Rattle.sqlite.specs.Effect.{Database, IsDatabase}
-use Rattle.sqlite.specs.State.{State}
+use Rattle.sqlite.specs.Effect.{Database}
 use Rattle.dnp_objects.specs.declared.row.Kind.TheVariants.{Binary}
 use Rattle.dnp_objects.specs.Lanes.{kind_number}
 use Rattle.dnp_eventbuf.specs.declared.numbered.Numbered.{Numbered}
 use Rattle.dnp_eventbuf.specs.Archive.{Archive, rows_over}
 use Rattle.dnp_store.specs.Tables.{or_null}
-use Rattle.dnp_store.specs.JournalTables.{journal_schema, IsJournal, IsLogged}
+use Rattle.dnp_store.specs.JournalTables.{IsJournal, IsLogged}
 use Rattle.dnp_store.specs.QueueTables.{Queued, queued_row, event_of}
-
--- the tables are there and have no row
-pub record HasTables (db : Database) : Type 0 where
-  pub form : List Term
-  pub journal : List Term
-  pub schema : db.schema ≡ journal_schema form journal
-  pub empty : (db.trees 0 ≡ []) × (db.trees 1 ≡ []) × (db.trees 2 ≡ [])
-
--- a journal's database shows this of its trees, and stays as it was
-abbrev pub ReadsJournal : State → State → (Trees → Type 0) → Type 0
-ReadsJournal old new P = (f j : List Term) → IsDatabase old.now → old.now.schema ≡ journal_schema f j → (new.now ≡ old.now) × P old.now.trees
 
 -- a row that a query shows of `journal`
 pub record ShowsEvent (row : SqlRow) (e : Numbered) : Type 0 where

@@ -7,9 +7,10 @@ pub mod JournalKept
 pub mod BookTables
 pub mod BookKept
 -- Words of private steps.
+pub mod Inside
 pub mod Steps
+pub mod Stores
 pub mod Making
 pub mod Shown
 pub mod JournalShown
-pub mod BookMaking
 pub mod BookShown

@@ -98,17 +98,21 @@ lane_of rows figures number = record {
   lost = (slice_index_or figures number no_figures).lost;
 }
 
--- the rows of `queue`, by their ids, and of `lanes`, by their numbers, are those of the nine lanes; in a table rows stand
--- in no order
-pub record HoldsLanes (db : Trees) (s : Stock) (figures : List Figures) : Type 0 where
+-- the rows of a queue's table, by their ids, and of its lanes', by their numbers, are those of the nine lanes, and the
+-- last id used stands among the counts under the table's name; in a table rows stand in no order
+pub record HoldsLanes (name : List ℕ) (events counts numbers : List SqlRow) (s : Stock) (figures : List Figures) : Type 0 where
   pub queued : List Queued
-  pub queue_is : IsPermutation (map queued_row queued) (db 1)
-  pub lanes_is : IsPermutation (figures_rows 0 figures) (db 3)
-  pub counted : IsCounted (codes "queue") (db 2) s.last_id
+  pub queue_is : IsPermutation (map queued_row queued) events
+  pub lanes_is : IsPermutation (figures_rows 0 figures) numbers
+  pub counted : IsCounted name counts s.last_id
   pub rise : IsAscending (λ x y. x.id < y.id) queued
   pub up_to_last : AllByRecursion (λ x. x.id ≤ s.last_id) queued
   pub nine : length figures ≡ LANES
   pub lanes : (number : ℕ) → number < LANES → lane_at s number ≡ lane_of queued figures number
+
+-- in `queue`, `sqlite_sequence` and `lanes`
+abbrev pub HoldsIn : Trees → Stock → List Figures → Type 0
+HoldsIn db = HoldsLanes (codes "queue") (db 1) (db 2) (db 3)
 
 -- `form` is one row with the number 1
 abbrev pub IsForm1 : List SqlRow → Type 0
@@ -121,7 +125,7 @@ pub record HoldsQueue (db : Database) (s : Stock) (figures : List Figures) : Typ
   pub lanes_checks : List Term
   pub schema : db.schema ≡ queue_schema form_checks queue_checks lanes_checks
   pub form : IsForm1 (db.trees 0)
-  pub lanes : HoldsLanes db.trees s figures
+  pub lanes : HoldsIn db.trees s figures
 
 -- the overflow stands where some lane has raised it
 abbrev pub is_raised : List Figures → Bool
@@ -131,7 +135,7 @@ is_raised figures = list_any (λ f. f.raised) figures
 pub record HoldsStock (db : Trees) (s : Stock) : Type 0 where
   pub figures : List Figures
   pub form : IsForm1 (db 0)
-  pub lanes : HoldsLanes db s figures
+  pub lanes : HoldsIn db s figures
   pub overflow : s.overflow ≡ is_raised figures
 
 -- the database is a queue's, and holds these lanes

@@ -1,13 +1,10 @@
--- Words of private steps: what queries show of a queue's tables, and the lanes that are put together from it.
+-- Words of private steps: what queries show of tables, and the lanes that are put together from it.
 use Rattle.std.specs.Prelude.{◌≡◌, ◌⊎◌, ℕ, ◌<◌, ◌≤◌, ℤ, pos, true, if◌then◌else◌, List, [], ◌∷◌, map, length, slice_index_or}
 use Rattle.std.specs.List.{AllByRecursion}
 use Rattle.std.specs.List.Sorted.{IsPermutation}
 use Rattle.sqlite.specs.declared.types.Value.TheVariants.{Int, Text}
 use Rattle.sqlite.specs.Order.{Row as SqlRow, column}
-use Rattle.sqlite.specs.Tree.{Trees, IsAscending}
-use Rattle.sqlite.specs.Term.{Term}
-use Rattle.sqlite.specs.Effect.{IsDatabase}
-use Rattle.sqlite.specs.State.{State}
+use Rattle.sqlite.specs.Tree.{IsAscending}
 use Rattle.dnp_objects.specs.declared.limits.TheConstants.{LANES, MAX_ID}
 use Rattle.dnp_objects.specs.declared.lane.LaneRow.{LaneRow}
 use Rattle.dnp_objects.specs.Lanes.{lane_number}
@@ -16,11 +13,7 @@ use Rattle.dnp_eventbuf.specs.Carried.{IsCarried}
 use Rattle.dnp_eventbuf.specs.Restored.{with_old_row, fits_behind}
 use Rattle.dnp_eventbuf.specs.Stock.{Stock, lane_at}
 use Rattle.dnp_store.specs.Tables.{or_null}
-use Rattle.dnp_store.specs.QueueTables.{queue_schema, Queued, queued_row, Figures, no_figures, in_lane, is_raised}
-
--- a queue's database shows this of its trees, and stays as it was
-abbrev pub Reads : State → State → (Trees → Type 0) → Type 0
-Reads old new P = (f q l : List Term) → IsDatabase old.now → old.now.schema ≡ queue_schema f q l → (new.now ≡ old.now) × P old.now.trees
+use Rattle.dnp_store.specs.QueueTables.{Queued, queued_row, Figures, no_figures, in_lane, is_raised}
 
 -- ---- `form`
 

@@ -10,9 +10,10 @@ ghost use Rattle.dnp_store.specs.Tables.{no_schema};
 
 use crate::book::ControlBook;
 use crate::book_opening::read_book;
-use crate::book_tables::write_tables;
 use crate::fault::{is_lost, is_taken, serves};
 use crate::open::{OpenFault, is_bare, open_fault, unread_fault};
+use crate::store_kind::StoreKind;
+use crate::stores::write_tables;
 use sqlite::{Alter, Connection};
 use std::alloc::Global;
 
@@ -39,7 +40,7 @@ impl<S: Alter> ControlBook<S> {
         }
         let owned = is_bare(&conn);
         let mut conn = conn;
-        if let Err(error) = write_tables(&mut conn) {
+        if let Err(error) = write_tables(&mut conn, StoreKind::Book) {
             let lost = is_lost(&mut conn, &error);
             return Err((open_fault(is_taken(&error), lost), conn));
         }

@@ -1,25 +1,25 @@
 //! The entries of a book that a database holds.
 
-ghost use Rattle.std.specs.Prelude.{◌≡◌, ◌≤◌, ℕ, false, IsTrue, OnOk, IfOk, List, [], codes};
+ghost use Rattle.std.specs.Prelude.{◌≡◌, ◌≤◌, false, IsTrue, OnOk, IfOk, List, []};
 ghost use Rattle.sqlite.specs.Effect.{IsDatabase};
 ghost use Rattle.sqlite.specs.Held.{state};
-ghost use Rattle.sqlite.specs.State.{HasCleanDisk, KeepsCommit, Survives};
+ghost use Rattle.sqlite.specs.State.{HasCleanDisk, Survives};
 ghost use Rattle.sqlite.specs.Term.{Term};
 ghost use Rattle.dnp_objects.specs.declared.limits.TheConstants as limits;
 ghost use Rattle.dnp_controls.specs.declared.book.Entry.{Entry};
 ghost use Rattle.dnp_controls.specs.Book.{IsSound};
-ghost use Rattle.dnp_store.specs.BookShown.{FindsBook, HoldsEntries, ReadsBook, ShowEntries};
+ghost use Rattle.dnp_store.specs.Inside.{IsInside, IsStep};
+ghost use Rattle.dnp_store.specs.BookShown.{FindsBook, HoldsEntries, ShowEntries};
 ghost use Rattle.dnp_store.specs.BookTables.{book_schema};
-ghost use Rattle.dnp_store.specs.QueueTables.{IsForm1};
-ghost use Rattle.dnp_store.specs.Shown.{ShowsCount};
-ghost use Rattle.dnp_store.specs.Tables.{IsCounted};
+ghost use Rattle.dnp_store.specs.Stores.{Reads};
 
 use crate::book_decoding::{are_in_order, put_entries};
 use crate::book_form::is_of_book;
-use crate::decoding::{form1, last_used};
+use crate::decoding::last_used;
 use crate::fault::Unread;
 use crate::queue_opening::both;
-use crate::queue_reading::list;
+use crate::store_kind::StoreKind;
+use crate::stores::{list, read_counts, read_form};
 use dnp_controls::Entry;
 use sqlite::{Alter, Connection, Error, Row, Transaction};
 
@@ -32,49 +32,13 @@ pub(crate) struct FoundBook {
     pub(crate) counted: bool,
 }
 
-/// The rows of `sqlite_sequence`: the table and the last id used.
-fn read_counts<S: Alter>(tx: &mut Transaction<'_, S>) -> Result<Vec<Row>, Error>
-    requires inside { HasCleanDisk (state S.Store tx.old.conn.now) → IsTrue (state S.Store tx.old.conn.now).in_transaction }
-    ensures same_reference { tx.new.conn.ghost_name ≡ tx.old.conn.ghost_name }
-    ensures inside { HasCleanDisk (state S.Store tx.new.conn.now) → OnOk result (IsTrue (state S.Store tx.new.conn.now).in_transaction) }
-    ensures open { HasCleanDisk (state S.Store tx.new.conn.now) → OnOk result (IsTrue (state S.Store tx.old.conn.now).is_open) }
-    ensures read { HasCleanDisk (state S.Store tx.new.conn.now) → IfOk result (λ rows. ReadsBook (state S.Store tx.old.conn.now) (state S.Store tx.new.conn.now) (λ db. (n : ℕ) → ShowsCount (codes "control") rows.items n → IsCounted (codes "control") (db 2) n)) }
-    ensures kept { HasCleanDisk (state S.Store tx.new.conn.now) → KeepsCommit (state S.Store tx.old.conn.now) (state S.Store tx.new.conn.now) }
-    ensures survives { Survives (state S.Store tx.old.conn.now) (state S.Store tx.new.conn.now) (λ _. ⊥) }
-{
-    list(
-        tx,
-        "SELECT rowid, name, seq FROM sqlite_sequence ORDER BY rowid",
-    )
-}
-
-/// Looks whether `form` is one row with the number 1.
-fn read_form<S: Alter>(tx: &mut Transaction<'_, S>) -> Result<(), Unread>
-    requires inside { HasCleanDisk (state S.Store tx.old.conn.now) → IsTrue (state S.Store tx.old.conn.now).in_transaction }
-    ensures same_reference { tx.new.conn.ghost_name ≡ tx.old.conn.ghost_name }
-    ensures inside { HasCleanDisk (state S.Store tx.new.conn.now) → OnOk result (IsTrue (state S.Store tx.new.conn.now).in_transaction) }
-    ensures open { HasCleanDisk (state S.Store tx.new.conn.now) → OnOk result (IsTrue (state S.Store tx.old.conn.now).is_open) }
-    ensures read { HasCleanDisk (state S.Store tx.new.conn.now) → OnOk result (ReadsBook (state S.Store tx.old.conn.now) (state S.Store tx.new.conn.now) (λ db. IsForm1 (db 0))) }
-    ensures kept { HasCleanDisk (state S.Store tx.new.conn.now) → KeepsCommit (state S.Store tx.old.conn.now) (state S.Store tx.new.conn.now) }
-    ensures survives { Survives (state S.Store tx.old.conn.now) (state S.Store tx.new.conn.now) (λ _. ⊥) }
-{
-    let rows = list(tx, "SELECT rowid, number FROM form ORDER BY rowid")?;
-    match form1(&rows) {
-        Some(_id) => Ok(()),
-        None => Err(Unread::Form),
-    }
-}
-
 /// The rows of `control`, by their ids.
 fn read_controls<S: Alter>(tx: &mut Transaction<'_, S>) -> Result<Vec<Row>, Error>
-    requires inside { HasCleanDisk (state S.Store tx.old.conn.now) → IsTrue (state S.Store tx.old.conn.now).in_transaction }
-    ensures same_reference { tx.new.conn.ghost_name ≡ tx.old.conn.ghost_name }
-    ensures inside { HasCleanDisk (state S.Store tx.new.conn.now) → OnOk result (IsTrue (state S.Store tx.new.conn.now).in_transaction) }
+    requires inside { IsInside S.Store tx.old.conn }
+    ensures step { IsStep S.Store tx.old.conn tx.new.conn result }
     ensures open { HasCleanDisk (state S.Store tx.new.conn.now) → OnOk result (IsTrue (state S.Store tx.old.conn.now).is_open) }
-    ensures read { HasCleanDisk (state S.Store tx.new.conn.now) → IfOk result (λ rows. ReadsBook (state S.Store tx.old.conn.now) (state S.Store tx.new.conn.now) (λ db. (entries : List Entry)
+    ensures read { HasCleanDisk (state S.Store tx.new.conn.now) → IfOk result (λ rows. Reads StoreKind.Book (state S.Store tx.old.conn.now) (state S.Store tx.new.conn.now) (λ db. (entries : List Entry)
         → ShowEntries rows.items entries → HoldsEntries db entries)) }
-    ensures kept { HasCleanDisk (state S.Store tx.new.conn.now) → KeepsCommit (state S.Store tx.old.conn.now) (state S.Store tx.new.conn.now) }
-    ensures survives { Survives (state S.Store tx.old.conn.now) (state S.Store tx.new.conn.now) (λ _. ⊥) }
 {
     list(
         tx,
@@ -87,17 +51,14 @@ fn read_all<S: Alter>(
     tx: &mut Transaction<'_, S>,
     entries: &mut Vec<Entry>,
 ) -> Result<FoundBook, Unread>
-    requires inside { HasCleanDisk (state S.Store tx.old.conn.now) → IsTrue (state S.Store tx.old.conn.now).in_transaction }
+    requires inside { IsInside S.Store tx.old.conn }
     requires empty { entries.old.items ≡ [] }
-    ensures same_reference { tx.new.conn.ghost_name ≡ tx.old.conn.ghost_name }
-    ensures inside { HasCleanDisk (state S.Store tx.new.conn.now) → OnOk result (IsTrue (state S.Store tx.new.conn.now).in_transaction) }
+    ensures step { IsStep S.Store tx.old.conn tx.new.conn result }
     ensures open { HasCleanDisk (state S.Store tx.new.conn.now) → OnOk result (IsTrue (state S.Store tx.old.conn.now).is_open) }
     ensures range { IfOk result (λ found. found.last_id ≤ limits.MAX_ID) }
     ensures sound { IfOk result (λ found. IsSound (record { entries = entries.new.items; last_id = found.last_id })) }
     ensures read { HasCleanDisk (state S.Store tx.new.conn.now) → IfOk result (λ found. IsTrue found.counted → (f c : List Term) → IsDatabase (state S.Store tx.old.conn.now).now
         → (state S.Store tx.old.conn.now).now.schema ≡ book_schema f c → FindsBook (state S.Store tx.old.conn.now).now entries.new.items found.last_id) }
-    ensures kept { HasCleanDisk (state S.Store tx.new.conn.now) → KeepsCommit (state S.Store tx.old.conn.now) (state S.Store tx.new.conn.now) }
-    ensures survives { Survives (state S.Store tx.old.conn.now) (state S.Store tx.new.conn.now) (λ _. ⊥) }
 {
     read_form(tx)?;
     let counts = read_counts(tx)?;

@@ -2,8 +2,9 @@
 
 ghost use Rattle.std.specs.Prelude.{◌≡◌, ◌<◌, ◌^◌, false, IsSome, IsTrue, OnOk, OnErr};
 ghost use Rattle.sqlite.specs.Held.{state};
-ghost use Rattle.sqlite.specs.State.{HasCleanDisk, KeepsCommit, Survives};
+ghost use Rattle.sqlite.specs.State.{HasCleanDisk, Survives};
 ghost use Rattle.dnp_controls.specs.Book.{IsSound, Ledger, added, entry_of, in_state};
+ghost use Rattle.dnp_store.specs.Inside.{IsInside, IsStep};
 ghost use Rattle.dnp_store.specs.BookKept.{Stands};
 ghost use Rattle.dnp_store.specs.BookTables.{HoldsBook, IsBook};
 
@@ -14,13 +15,10 @@ use sqlite::{Alter, Connection, Error, Transaction, params};
 
 /// Puts a pending entry into the table, under the next id.
 fn insert<S: Alter>(tx: &mut Transaction<'_, S>, target: u8, command: &Command) -> Result<(), Error>
-    requires inside { HasCleanDisk (state S.Store tx.old.conn.now) → IsTrue (state S.Store tx.old.conn.now).in_transaction }
-    ensures same_reference { tx.new.conn.ghost_name ≡ tx.old.conn.ghost_name }
-    ensures inside { HasCleanDisk (state S.Store tx.new.conn.now) → OnOk result (IsTrue (state S.Store tx.new.conn.now).in_transaction) }
+    requires inside { IsInside S.Store tx.old.conn }
+    ensures step { IsStep S.Store tx.old.conn tx.new.conn result }
     ensures added { HasCleanDisk (state S.Store tx.new.conn.now) → OnOk result ((book : Ledger) → IsSound book → IsBook (state S.Store tx.old.conn.now).now book
         → IsBook (state S.Store tx.new.conn.now).now (added book target command.now)) }
-    ensures kept { HasCleanDisk (state S.Store tx.new.conn.now) → KeepsCommit (state S.Store tx.old.conn.now) (state S.Store tx.new.conn.now) }
-    ensures survives { Survives (state S.Store tx.old.conn.now) (state S.Store tx.new.conn.now) (λ _. ⊥) }
 {
     let target = u32::from(target);
     let columns = columns_of(command);
@@ -40,14 +38,11 @@ fn insert<S: Alter>(tx: &mut Transaction<'_, S>, target: u8, command: &Command) 
 
 /// Brings an entry into a state.
 fn turn<S: Alter>(tx: &mut Transaction<'_, S>, id: u64, control: State) -> Result<(), Error>
-    requires inside { HasCleanDisk (state S.Store tx.old.conn.now) → IsTrue (state S.Store tx.old.conn.now).in_transaction }
+    requires inside { IsInside S.Store tx.old.conn }
     requires id { id < 2 ^ 63 }
-    ensures same_reference { tx.new.conn.ghost_name ≡ tx.old.conn.ghost_name }
-    ensures inside { HasCleanDisk (state S.Store tx.new.conn.now) → OnOk result (IsTrue (state S.Store tx.new.conn.now).in_transaction) }
+    ensures step { IsStep S.Store tx.old.conn tx.new.conn result }
     ensures turned { HasCleanDisk (state S.Store tx.new.conn.now) → OnOk result ((book : Ledger) → IsSound book → IsSome (entry_of book.entries id) → IsBook (state S.Store tx.old.conn.now).now book
         → IsBook (state S.Store tx.new.conn.now).now (record book { entries = in_state book.entries id control })) }
-    ensures kept { HasCleanDisk (state S.Store tx.new.conn.now) → KeepsCommit (state S.Store tx.old.conn.now) (state S.Store tx.new.conn.now) }
-    ensures survives { Survives (state S.Store tx.old.conn.now) (state S.Store tx.new.conn.now) (λ _. ⊥) }
 {
     let id = id as i64;
     let (number, status) = state_columns(control);

@@ -10,8 +10,9 @@ ghost use Rattle.dnp_store.specs.Tables.{no_schema};
 use crate::fault::{is_lost, is_taken, serves};
 use crate::journal::Journal;
 use crate::journal_opening::read_journal;
-use crate::journal_tables::write_tables;
 use crate::open::{OpenFault, is_bare, open_fault, unread_fault};
+use crate::store_kind::StoreKind;
+use crate::stores::write_tables;
 use sqlite::{Alter, Connection};
 use std::alloc::Global;
 
@@ -36,7 +37,7 @@ impl<S: Alter> Journal<S> {
         }
         let owned = is_bare(&conn);
         let mut conn = conn;
-        if let Err(error) = write_tables(&mut conn) {
+        if let Err(error) = write_tables(&mut conn, StoreKind::Journal) {
             let lost = is_lost(&mut conn, &error);
             return Err((open_fault(is_taken(&error), lost), conn));
         }

@@ -1,24 +1,24 @@
 //! The count and the last id of a journal that a database holds.
 
-ghost use Rattle.std.specs.Prelude.{◌≡◌, ◌≤◌, ℕ, false, IsTrue, OnOk, IfOk, List, codes};
+ghost use Rattle.std.specs.Prelude.{◌≡◌, ◌≤◌, ℕ, false, IsTrue, OnOk, IfOk, List};
 ghost use Rattle.sqlite.specs.Effect.{IsDatabase};
 ghost use Rattle.sqlite.specs.Held.{state};
-ghost use Rattle.sqlite.specs.State.{HasCleanDisk, KeepsCommit, Survives};
+ghost use Rattle.sqlite.specs.State.{HasCleanDisk, Survives};
 ghost use Rattle.sqlite.specs.Term.{Term};
 ghost use Rattle.dnp_objects.specs.declared.limits.TheConstants as limits;
 ghost use Rattle.dnp_eventbuf.specs.declared.numbered.Numbered.{Numbered};
-ghost use Rattle.dnp_store.specs.JournalShown.{AreInOrder, Finds, Logs, ReadsJournal, ShowEvents};
+ghost use Rattle.dnp_store.specs.Inside.{IsInside, IsStep};
+ghost use Rattle.dnp_store.specs.JournalShown.{AreInOrder, Finds, Logs, ShowEvents};
 ghost use Rattle.dnp_store.specs.JournalTables.{journal_schema};
-ghost use Rattle.dnp_store.specs.QueueTables.{IsForm1};
-ghost use Rattle.dnp_store.specs.Shown.{ShowsCount};
-ghost use Rattle.dnp_store.specs.Tables.{IsCounted};
+ghost use Rattle.dnp_store.specs.Stores.{Reads};
 
-use crate::decoding::{form1, last_used};
+use crate::decoding::last_used;
 use crate::fault::Unread;
 use crate::journal_decoding::{are_in_order, events_in};
 use crate::journal_form::is_of_journal;
 use crate::queue_opening::both;
-use crate::queue_reading::list;
+use crate::store_kind::StoreKind;
+use crate::stores::{list, read_counts, read_form};
 use sqlite::{Alter, Connection, Error, Row, Transaction};
 use std::alloc::Global;
 
@@ -33,49 +33,13 @@ pub(crate) struct Found {
     pub(crate) counted: bool,
 }
 
-/// Looks whether `form` is one row with the number 1.
-fn read_form<S: Alter>(tx: &mut Transaction<'_, S>) -> Result<(), Unread>
-    requires inside { HasCleanDisk (state S.Store tx.old.conn.now) → IsTrue (state S.Store tx.old.conn.now).in_transaction }
-    ensures same_reference { tx.new.conn.ghost_name ≡ tx.old.conn.ghost_name }
-    ensures inside { HasCleanDisk (state S.Store tx.new.conn.now) → OnOk result (IsTrue (state S.Store tx.new.conn.now).in_transaction) }
-    ensures open { HasCleanDisk (state S.Store tx.new.conn.now) → OnOk result (IsTrue (state S.Store tx.old.conn.now).is_open) }
-    ensures read { HasCleanDisk (state S.Store tx.new.conn.now) → OnOk result (ReadsJournal (state S.Store tx.old.conn.now) (state S.Store tx.new.conn.now) (λ db. IsForm1 (db 0))) }
-    ensures kept { HasCleanDisk (state S.Store tx.new.conn.now) → KeepsCommit (state S.Store tx.old.conn.now) (state S.Store tx.new.conn.now) }
-    ensures survives { Survives (state S.Store tx.old.conn.now) (state S.Store tx.new.conn.now) (λ _. ⊥) }
-{
-    let rows = list(tx, "SELECT rowid, number FROM form ORDER BY rowid")?;
-    match form1(&rows) {
-        Some(_id) => Ok(()),
-        None => Err(Unread::Form),
-    }
-}
-
-/// The rows of `sqlite_sequence`: the table and the last id used.
-fn read_counts<S: Alter>(tx: &mut Transaction<'_, S>) -> Result<Vec<Row>, Error>
-    requires inside { HasCleanDisk (state S.Store tx.old.conn.now) → IsTrue (state S.Store tx.old.conn.now).in_transaction }
-    ensures same_reference { tx.new.conn.ghost_name ≡ tx.old.conn.ghost_name }
-    ensures inside { HasCleanDisk (state S.Store tx.new.conn.now) → OnOk result (IsTrue (state S.Store tx.new.conn.now).in_transaction) }
-    ensures open { HasCleanDisk (state S.Store tx.new.conn.now) → OnOk result (IsTrue (state S.Store tx.old.conn.now).is_open) }
-    ensures read { HasCleanDisk (state S.Store tx.new.conn.now) → IfOk result (λ rows. ReadsJournal (state S.Store tx.old.conn.now) (state S.Store tx.new.conn.now) (λ db. (n : ℕ) → ShowsCount (codes "journal") rows.items n → IsCounted (codes "journal") (db 2) n)) }
-    ensures kept { HasCleanDisk (state S.Store tx.new.conn.now) → KeepsCommit (state S.Store tx.old.conn.now) (state S.Store tx.new.conn.now) }
-    ensures survives { Survives (state S.Store tx.old.conn.now) (state S.Store tx.new.conn.now) (λ _. ⊥) }
-{
-    list(
-        tx,
-        "SELECT rowid, name, seq FROM sqlite_sequence ORDER BY rowid",
-    )
-}
-
 /// The rows of `journal`, by their ids.
 fn read_logged<S: Alter>(tx: &mut Transaction<'_, S>) -> Result<Vec<Row>, Error>
-    requires inside { HasCleanDisk (state S.Store tx.old.conn.now) → IsTrue (state S.Store tx.old.conn.now).in_transaction }
-    ensures same_reference { tx.new.conn.ghost_name ≡ tx.old.conn.ghost_name }
-    ensures inside { HasCleanDisk (state S.Store tx.new.conn.now) → OnOk result (IsTrue (state S.Store tx.new.conn.now).in_transaction) }
+    requires inside { IsInside S.Store tx.old.conn }
+    ensures step { IsStep S.Store tx.old.conn tx.new.conn result }
     ensures open { HasCleanDisk (state S.Store tx.new.conn.now) → OnOk result (IsTrue (state S.Store tx.old.conn.now).is_open) }
-    ensures read { HasCleanDisk (state S.Store tx.new.conn.now) → IfOk result (λ rows. ReadsJournal (state S.Store tx.old.conn.now) (state S.Store tx.new.conn.now) (λ db. (events : List Numbered) (last : ℕ)
+    ensures read { HasCleanDisk (state S.Store tx.new.conn.now) → IfOk result (λ rows. Reads StoreKind.Journal (state S.Store tx.old.conn.now) (state S.Store tx.new.conn.now) (λ db. (events : List Numbered) (last : ℕ)
         → ShowEvents rows.items events → AreInOrder 0 last events → Logs db events last)) }
-    ensures kept { HasCleanDisk (state S.Store tx.new.conn.now) → KeepsCommit (state S.Store tx.old.conn.now) (state S.Store tx.new.conn.now) }
-    ensures survives { Survives (state S.Store tx.old.conn.now) (state S.Store tx.new.conn.now) (λ _. ⊥) }
 {
     list(
         tx,
@@ -85,15 +49,12 @@ fn read_logged<S: Alter>(tx: &mut Transaction<'_, S>) -> Result<Vec<Row>, Error>
 
 /// What the tables hold, where they are a journal's.
 fn read_all<S: Alter>(tx: &mut Transaction<'_, S>, alloc: Global) -> Result<Found, Unread>
-    requires inside { HasCleanDisk (state S.Store tx.old.conn.now) → IsTrue (state S.Store tx.old.conn.now).in_transaction }
-    ensures same_reference { tx.new.conn.ghost_name ≡ tx.old.conn.ghost_name }
-    ensures inside { HasCleanDisk (state S.Store tx.new.conn.now) → OnOk result (IsTrue (state S.Store tx.new.conn.now).in_transaction) }
+    requires inside { IsInside S.Store tx.old.conn }
+    ensures step { IsStep S.Store tx.old.conn tx.new.conn result }
     ensures open { HasCleanDisk (state S.Store tx.new.conn.now) → OnOk result (IsTrue (state S.Store tx.old.conn.now).is_open) }
     ensures range { IfOk result (λ found. (found.last_id ≤ limits.MAX_ID) × (found.count ≤ found.last_id)) }
     ensures read { HasCleanDisk (state S.Store tx.new.conn.now) → IfOk result (λ found. IsTrue found.counted → (f j : List Term) → IsDatabase (state S.Store tx.old.conn.now).now
         → (state S.Store tx.old.conn.now).now.schema ≡ journal_schema f j → Finds (state S.Store tx.old.conn.now).now found.last_id found.count) }
-    ensures kept { HasCleanDisk (state S.Store tx.new.conn.now) → KeepsCommit (state S.Store tx.old.conn.now) (state S.Store tx.new.conn.now) }
-    ensures survives { Survives (state S.Store tx.old.conn.now) (state S.Store tx.new.conn.now) (λ _. ⊥) }
 {
     read_form(tx)?;
     let counts = read_counts(tx)?;

@@ -3,14 +3,16 @@
 ghost use Rattle.std.specs.Prelude.{◌≡◌, false, IsTrue, OnOk, IfOk, List};
 ghost use Rattle.sqlite.specs.Effect.{IsDatabase};
 ghost use Rattle.sqlite.specs.Held.{state};
-ghost use Rattle.sqlite.specs.State.{HasCleanDisk, KeepsCommit, Survives};
+ghost use Rattle.sqlite.specs.State.{HasCleanDisk, Survives};
 ghost use Rattle.sqlite.specs.Term.{Term};
+ghost use Rattle.dnp_store.specs.Inside.{IsInside, IsStep};
 ghost use Rattle.dnp_store.specs.QueueTables.{IsQueue, queue_schema};
 
 use crate::decoding::{begun, last_used, restore_rows};
 use crate::fault::Unread;
 use crate::queue_form::is_of_queue;
-use crate::queue_reading::{read_counts, read_figures, read_form, read_queued};
+use crate::queue_reading::{read_figures, read_queued};
+use crate::stores::{read_counts, read_form};
 use dnp_eventbuf::PlainLanes;
 use sqlite::{Alter, Connection, Transaction};
 use std::alloc::Global;
@@ -20,14 +22,11 @@ fn read_all<S: Alter>(
     tx: &mut Transaction<'_, S>,
     alloc: Global,
 ) -> Result<(PlainLanes, bool), Unread>
-    requires inside { HasCleanDisk (state S.Store tx.old.conn.now) → IsTrue (state S.Store tx.old.conn.now).in_transaction }
-    ensures same_reference { tx.new.conn.ghost_name ≡ tx.old.conn.ghost_name }
-    ensures inside { HasCleanDisk (state S.Store tx.new.conn.now) → OnOk result (IsTrue (state S.Store tx.new.conn.now).in_transaction) }
+    requires inside { IsInside S.Store tx.old.conn }
+    ensures step { IsStep S.Store tx.old.conn tx.new.conn result }
     ensures open { HasCleanDisk (state S.Store tx.new.conn.now) → OnOk result (IsTrue (state S.Store tx.old.conn.now).is_open) }
     ensures read { HasCleanDisk (state S.Store tx.new.conn.now) → IfOk result (λ found. IsTrue found.1 → (f q l : List Term) → IsDatabase (state S.Store tx.old.conn.now).now
         → (state S.Store tx.old.conn.now).now.schema ≡ queue_schema f q l → IsQueue (state S.Store tx.old.conn.now).now found.0) }
-    ensures kept { HasCleanDisk (state S.Store tx.new.conn.now) → KeepsCommit (state S.Store tx.old.conn.now) (state S.Store tx.new.conn.now) }
-    ensures survives { Survives (state S.Store tx.old.conn.now) (state S.Store tx.new.conn.now) (λ _. ⊥) }
 {
     read_form(tx)?;
     let figures = read_figures(tx, alloc)?;

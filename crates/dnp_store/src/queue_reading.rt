@@ -1,64 +1,34 @@
 //! What the tables of a queue show, each query inside a transaction.
 
-ghost use Rattle.std.specs.Prelude.{◌≡◌, ◌<◌, ℕ, IsTrue, OnOk, IfOk, [], codes, length};
+ghost use Rattle.std.specs.Prelude.{◌≡◌, ◌<◌, ℕ, IsTrue, OnOk, IfOk, [], length};
 ghost use Rattle.std.specs.List.Sorted.{IsPermutation};
 ghost use Rattle.sqlite.specs.Held.{state};
-ghost use Rattle.sqlite.specs.State.{HasCleanDisk, KeepsCommit, Shown, Survives};
+ghost use Rattle.sqlite.specs.State.{HasCleanDisk};
 ghost use Rattle.dnp_objects.specs.declared.limits.TheConstants as limits;
 ghost use Rattle.dnp_eventbuf.specs.Stock.{Stock, lane_at};
-ghost use Rattle.dnp_store.specs.QueueTables.{IsForm1, figures_rows};
-ghost use Rattle.dnp_store.specs.Shown.{AreNine, Reads, ShowsCount, PutBack, Restores};
-ghost use Rattle.dnp_store.specs.Tables.{IsCounted};
+ghost use Rattle.dnp_store.specs.Inside.{IsInside, IsStep};
+ghost use Rattle.dnp_store.specs.QueueTables.{figures_rows};
+ghost use Rattle.dnp_store.specs.Shown.{AreNine, PutBack, Restores};
+ghost use Rattle.dnp_store.specs.Stores.{Reads};
 
-use crate::decoding::{all_figures, form1};
+use crate::decoding::all_figures;
 use crate::fault::Unread;
 use crate::figures::Figures;
+use crate::store_kind::StoreKind;
+use crate::stores::list;
 use sqlite::{Alter, Error, Row, Transaction};
 use std::alloc::Global;
-
-/// What a query without parameters shows.
-pub(crate) fn list<S: Alter>(tx: &mut Transaction<'_, S>, sql: &str) -> Result<Vec<Row>, Error>
-    requires inside { HasCleanDisk (state S.Store tx.old.conn.now) → IsTrue (state S.Store tx.old.conn.now).in_transaction }
-    ensures same_reference { tx.new.conn.ghost_name ≡ tx.old.conn.ghost_name }
-    ensures inside { HasCleanDisk (state S.Store tx.new.conn.now) → OnOk result (IsTrue (state S.Store tx.new.conn.now).in_transaction) }
-    ensures open { HasCleanDisk (state S.Store tx.new.conn.now) → OnOk result (IsTrue (state S.Store tx.old.conn.now).is_open) }
-    ensures shown { HasCleanDisk (state S.Store tx.new.conn.now) → IfOk result (λ rows. Shown sql.now [] (state S.Store tx.old.conn.now) (state S.Store tx.new.conn.now) rows.items) }
-    ensures kept { HasCleanDisk (state S.Store tx.new.conn.now) → KeepsCommit (state S.Store tx.old.conn.now) (state S.Store tx.new.conn.now) }
-    ensures survives { Survives (state S.Store tx.old.conn.now) (state S.Store tx.new.conn.now) (λ _. ⊥) }
-{
-    tx.query_all(sql, &[])
-}
-
-/// Looks whether `form` is one row with the number 1.
-pub(crate) fn read_form<S: Alter>(tx: &mut Transaction<'_, S>) -> Result<(), Unread>
-    requires inside { HasCleanDisk (state S.Store tx.old.conn.now) → IsTrue (state S.Store tx.old.conn.now).in_transaction }
-    ensures same_reference { tx.new.conn.ghost_name ≡ tx.old.conn.ghost_name }
-    ensures inside { HasCleanDisk (state S.Store tx.new.conn.now) → OnOk result (IsTrue (state S.Store tx.new.conn.now).in_transaction) }
-    ensures open { HasCleanDisk (state S.Store tx.new.conn.now) → OnOk result (IsTrue (state S.Store tx.old.conn.now).is_open) }
-    ensures read { HasCleanDisk (state S.Store tx.new.conn.now) → OnOk result (Reads (state S.Store tx.old.conn.now) (state S.Store tx.new.conn.now) (λ db. IsForm1 (db 0))) }
-    ensures kept { HasCleanDisk (state S.Store tx.new.conn.now) → KeepsCommit (state S.Store tx.old.conn.now) (state S.Store tx.new.conn.now) }
-    ensures survives { Survives (state S.Store tx.old.conn.now) (state S.Store tx.new.conn.now) (λ _. ⊥) }
-{
-    let rows = list(tx, "SELECT rowid, number FROM form ORDER BY rowid")?;
-    match form1(&rows) {
-        Some(_id) => Ok(()),
-        None => Err(Unread::Form),
-    }
-}
 
 /// The capacities and counts of the nine lanes.
 pub(crate) fn read_figures<S: Alter>(
     tx: &mut Transaction<'_, S>,
     alloc: Global,
 ) -> Result<Vec<Figures>, Unread>
-    requires inside { HasCleanDisk (state S.Store tx.old.conn.now) → IsTrue (state S.Store tx.old.conn.now).in_transaction }
-    ensures same_reference { tx.new.conn.ghost_name ≡ tx.old.conn.ghost_name }
-    ensures inside { HasCleanDisk (state S.Store tx.new.conn.now) → OnOk result (IsTrue (state S.Store tx.new.conn.now).in_transaction) }
+    requires inside { IsInside S.Store tx.old.conn }
+    ensures step { IsStep S.Store tx.old.conn tx.new.conn result }
     ensures open { HasCleanDisk (state S.Store tx.new.conn.now) → OnOk result (IsTrue (state S.Store tx.old.conn.now).is_open) }
     ensures in_range { IfOk result (λ figures. AreNine figures.items) }
-    ensures read { HasCleanDisk (state S.Store tx.new.conn.now) → IfOk result (λ figures. Reads (state S.Store tx.old.conn.now) (state S.Store tx.new.conn.now) (λ db. IsPermutation (figures_rows 0 figures.items) (db 3))) }
-    ensures kept { HasCleanDisk (state S.Store tx.new.conn.now) → KeepsCommit (state S.Store tx.old.conn.now) (state S.Store tx.new.conn.now) }
-    ensures survives { Survives (state S.Store tx.old.conn.now) (state S.Store tx.new.conn.now) (λ _. ⊥) }
+    ensures read { HasCleanDisk (state S.Store tx.new.conn.now) → IfOk result (λ figures. Reads StoreKind.Queue (state S.Store tx.old.conn.now) (state S.Store tx.new.conn.now) (λ db. IsPermutation (figures_rows 0 figures.items) (db 3))) }
 {
     let rows = list(
         tx,
@@ -67,32 +37,13 @@ pub(crate) fn read_figures<S: Alter>(
     all_figures(alloc, &rows)
 }
 
-/// The rows of `sqlite_sequence`: the table and the last id used.
-pub(crate) fn read_counts<S: Alter>(tx: &mut Transaction<'_, S>) -> Result<Vec<Row>, Error>
-    requires inside { HasCleanDisk (state S.Store tx.old.conn.now) → IsTrue (state S.Store tx.old.conn.now).in_transaction }
-    ensures same_reference { tx.new.conn.ghost_name ≡ tx.old.conn.ghost_name }
-    ensures inside { HasCleanDisk (state S.Store tx.new.conn.now) → OnOk result (IsTrue (state S.Store tx.new.conn.now).in_transaction) }
-    ensures open { HasCleanDisk (state S.Store tx.new.conn.now) → OnOk result (IsTrue (state S.Store tx.old.conn.now).is_open) }
-    ensures read { HasCleanDisk (state S.Store tx.new.conn.now) → IfOk result (λ rows. Reads (state S.Store tx.old.conn.now) (state S.Store tx.new.conn.now) (λ db. (n : ℕ) → ShowsCount (codes "queue") rows.items n → IsCounted (codes "queue") (db 2) n)) }
-    ensures kept { HasCleanDisk (state S.Store tx.new.conn.now) → KeepsCommit (state S.Store tx.old.conn.now) (state S.Store tx.new.conn.now) }
-    ensures survives { Survives (state S.Store tx.old.conn.now) (state S.Store tx.new.conn.now) (λ _. ⊥) }
-{
-    list(
-        tx,
-        "SELECT rowid, name, seq FROM sqlite_sequence ORDER BY rowid",
-    )
-}
-
 /// The rows of `queue`, by their ids.
 pub(crate) fn read_queued<S: Alter>(tx: &mut Transaction<'_, S>) -> Result<Vec<Row>, Error>
-    requires inside { HasCleanDisk (state S.Store tx.old.conn.now) → IsTrue (state S.Store tx.old.conn.now).in_transaction }
-    ensures same_reference { tx.new.conn.ghost_name ≡ tx.old.conn.ghost_name }
-    ensures inside { HasCleanDisk (state S.Store tx.new.conn.now) → OnOk result (IsTrue (state S.Store tx.new.conn.now).in_transaction) }
+    requires inside { IsInside S.Store tx.old.conn }
+    ensures step { IsStep S.Store tx.old.conn tx.new.conn result }
     ensures open { HasCleanDisk (state S.Store tx.new.conn.now) → OnOk result (IsTrue (state S.Store tx.old.conn.now).is_open) }
-    ensures read { HasCleanDisk (state S.Store tx.new.conn.now) → IfOk result (λ rows. Reads (state S.Store tx.old.conn.now) (state S.Store tx.new.conn.now) (λ db. (a b : Stock) → length a.lanes ≡ limits.LANES
+    ensures read { HasCleanDisk (state S.Store tx.new.conn.now) → IfOk result (λ rows. Reads StoreKind.Queue (state S.Store tx.old.conn.now) (state S.Store tx.new.conn.now) (λ db. (a b : Stock) → length a.lanes ≡ limits.LANES
         → ((k : ℕ) → k < limits.LANES → (lane_at a k).rows ≡ []) → Restores 0 rows.items a b → PutBack (db 1) a b)) }
-    ensures kept { HasCleanDisk (state S.Store tx.new.conn.now) → KeepsCommit (state S.Store tx.old.conn.now) (state S.Store tx.new.conn.now) }
-    ensures survives { Survives (state S.Store tx.old.conn.now) (state S.Store tx.new.conn.now) (λ _. ⊥) }
 {
     list(
         tx,

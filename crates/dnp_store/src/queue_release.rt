@@ -2,10 +2,11 @@
 
 ghost use Rattle.std.specs.Prelude.{◌≡◌, ℕ, ◌<◌, false, IsTrue, OnOk, OnErr, List, length};
 ghost use Rattle.sqlite.specs.Held.{state};
-ghost use Rattle.sqlite.specs.State.{HasCleanDisk, KeepsCommit, Survives};
+ghost use Rattle.sqlite.specs.State.{HasCleanDisk, Survives};
 ghost use Rattle.dnp_objects.specs.declared.limits.TheConstants as limits;
 ghost use Rattle.dnp_eventbuf.specs.Sound.{IsSound};
 ghost use Rattle.dnp_eventbuf.specs.Stock.{Stock, lane_at, without};
+ghost use Rattle.dnp_store.specs.Inside.{IsInside, IsStep};
 ghost use Rattle.dnp_store.specs.Kept.{Stands};
 ghost use Rattle.dnp_store.specs.QueueTables.{Figures, HoldsQueue, HoldsStock, IsQueue, is_raised};
 ghost use Rattle.dnp_store.specs.Steps.{left, released};
@@ -18,13 +19,10 @@ use sqlite::{Alter, Connection, Error, Transaction};
 
 /// Takes the rows of each lane with ids up to its number out of the table.
 fn take_all<S: Alter>(tx: &mut Transaction<'_, S>, upto: &Upto) -> Result<(), Error>
-    requires inside { HasCleanDisk (state S.Store tx.old.conn.now) → IsTrue (state S.Store tx.old.conn.now).in_transaction }
-    ensures same_reference { tx.new.conn.ghost_name ≡ tx.old.conn.ghost_name }
-    ensures inside { HasCleanDisk (state S.Store tx.new.conn.now) → OnOk result (IsTrue (state S.Store tx.new.conn.now).in_transaction) }
+    requires inside { IsInside S.Store tx.old.conn }
+    ensures step { IsStep S.Store tx.old.conn tx.new.conn result }
     ensures taken { HasCleanDisk (state S.Store tx.new.conn.now) → OnOk result ((s : Stock) (figures : List Figures) → IsSound s
         → HoldsQueue (state S.Store tx.old.conn.now).now s figures → HoldsQueue (state S.Store tx.new.conn.now).now (left s upto.now) figures) }
-    ensures kept { HasCleanDisk (state S.Store tx.new.conn.now) → KeepsCommit (state S.Store tx.old.conn.now) (state S.Store tx.new.conn.now) }
-    ensures survives { Survives (state S.Store tx.old.conn.now) (state S.Store tx.new.conn.now) (λ _. ⊥) }
 {
     // (a law, for the proof: it does nothing)
     a_release_is_lane_by_lane();
@@ -36,15 +34,12 @@ fn take_all<S: Alter>(tx: &mut Transaction<'_, S>, upto: &Upto) -> Result<(), Er
 
 /// Notes for each lane that it doesn't raise the overflow.
 fn lower_all<S: Alter>(tx: &mut Transaction<'_, S>, lanes: &PlainLanes) -> Result<(), Error>
-    requires inside { HasCleanDisk (state S.Store tx.old.conn.now) → IsTrue (state S.Store tx.old.conn.now).in_transaction }
+    requires inside { IsInside S.Store tx.old.conn }
     requires sound { IsSound lanes.now }
-    ensures same_reference { tx.new.conn.ghost_name ≡ tx.old.conn.ghost_name }
-    ensures inside { HasCleanDisk (state S.Store tx.new.conn.now) → OnOk result (IsTrue (state S.Store tx.new.conn.now).in_transaction) }
+    ensures step { IsStep S.Store tx.old.conn tx.new.conn result }
     ensures lowered { HasCleanDisk (state S.Store tx.new.conn.now) → OnOk result ((s : Stock) (figures : List Figures) → length s.lanes ≡ limits.LANES
         → ((k : ℕ) → k < limits.LANES → (lane_at s k).lost ≡ (lane_at lanes.now k).lost) → HoldsQueue (state S.Store tx.old.conn.now).now s figures
         → (lowered : List Figures) × HoldsQueue (state S.Store tx.new.conn.now).now s lowered × (is_raised lowered ≡ false)) }
-    ensures kept { HasCleanDisk (state S.Store tx.new.conn.now) → KeepsCommit (state S.Store tx.old.conn.now) (state S.Store tx.new.conn.now) }
-    ensures survives { Survives (state S.Store tx.old.conn.now) (state S.Store tx.new.conn.now) (λ _. ⊥) }
 {
     for number in 0..LANES {
         note(tx, number, lanes.lost_in(number), false)?;
@@ -59,13 +54,11 @@ fn release_in<S: Alter>(
     upto: &Upto,
     lower: bool,
 ) -> Result<(), Error>
-    requires inside { HasCleanDisk (state S.Store tx.old.conn.now) → IsTrue (state S.Store tx.old.conn.now).in_transaction }
+    requires inside { IsInside S.Store tx.old.conn }
     requires sound { IsSound lanes.now }
-    ensures same_reference { tx.new.conn.ghost_name ≡ tx.old.conn.ghost_name }
+    ensures step { IsStep S.Store tx.old.conn tx.new.conn result }
     ensures released { HasCleanDisk (state S.Store tx.new.conn.now) → OnOk result (
         IsQueue (state S.Store tx.old.conn.now).now lanes.now → IsQueue (state S.Store tx.new.conn.now).now (released lanes.now upto.now lower)) }
-    ensures kept { HasCleanDisk (state S.Store tx.new.conn.now) → KeepsCommit (state S.Store tx.old.conn.now) (state S.Store tx.new.conn.now) }
-    ensures survives { Survives (state S.Store tx.old.conn.now) (state S.Store tx.new.conn.now) (λ _. ⊥) }
 {
     take_all(tx, upto)?;
     if lower {

@@ -1,13 +1,13 @@
 //! The statements of a queue, each inside a transaction.
 
-ghost use Rattle.std.specs.Prelude.{◌≡◌, ◌^◌, ◌<◌, IsTrue, IfSome, OnOk, List, length, option_map, pos, slice_index_or, slice_set};
+ghost use Rattle.std.specs.Prelude.{◌≡◌, ◌^◌, ◌<◌, IfSome, OnOk, List, length, option_map, pos};
 ghost use Rattle.sqlite.specs.Held.{state};
-ghost use Rattle.sqlite.specs.State.{HasCleanDisk, KeepsCommit, Survives};
+ghost use Rattle.sqlite.specs.State.{HasCleanDisk};
 ghost use Rattle.dnp_objects.specs.declared.limits.TheConstants as limits;
-ghost use Rattle.dnp_objects.specs.Lanes.{lane_number};
 ghost use Rattle.dnp_eventbuf.specs.Carried.{IsCarried};
 ghost use Rattle.dnp_eventbuf.specs.Stock.{Stock};
-ghost use Rattle.dnp_store.specs.QueueTables.{Figures, HoldsQueue, no_figures};
+ghost use Rattle.dnp_store.specs.Inside.{IsInside, IsStep};
+ghost use Rattle.dnp_store.specs.QueueTables.{Figures, HoldsQueue};
 ghost use Rattle.dnp_store.specs.Steps.{added, counted, cut, noted};
 
 use dnp_eventbuf::LaneRow;
@@ -26,14 +26,11 @@ pub(crate) fn whole_time(time: Option<u64>) -> Option<i64>
 
 /// Puts a row into the table, under the next id.
 pub(crate) fn insert<S: Alter>(tx: &mut Transaction<'_, S>, x: &LaneRow) -> Result<(), Error>
-    requires inside { HasCleanDisk (state S.Store tx.old.conn.now) → IsTrue (state S.Store tx.old.conn.now).in_transaction }
+    requires inside { IsInside S.Store tx.old.conn }
     requires carried { IsCarried x.now }
-    ensures same_reference { tx.new.conn.ghost_name ≡ tx.old.conn.ghost_name }
-    ensures inside { HasCleanDisk (state S.Store tx.new.conn.now) → OnOk result (IsTrue (state S.Store tx.new.conn.now).in_transaction) }
+    ensures step { IsStep S.Store tx.old.conn tx.new.conn result }
     ensures added { HasCleanDisk (state S.Store tx.new.conn.now) → OnOk result ((s : Stock) (figures : List Figures) → length s.lanes ≡ limits.LANES
         → HoldsQueue (state S.Store tx.old.conn.now).now s figures → HoldsQueue (state S.Store tx.new.conn.now).now (added s x.now) figures) }
-    ensures kept { HasCleanDisk (state S.Store tx.new.conn.now) → KeepsCommit (state S.Store tx.old.conn.now) (state S.Store tx.new.conn.now) }
-    ensures survives { Survives (state S.Store tx.old.conn.now) (state S.Store tx.new.conn.now) (λ _. ⊥) }
 {
     let lane = x.lane.number() as u32;
     let index = u32::from(x.row.index);
@@ -53,15 +50,12 @@ pub(crate) fn take<S: Alter>(
     number: usize,
     upto: u64,
 ) -> Result<(), Error>
-    requires inside { HasCleanDisk (state S.Store tx.old.conn.now) → IsTrue (state S.Store tx.old.conn.now).in_transaction }
+    requires inside { IsInside S.Store tx.old.conn }
     requires number { number < limits.LANES }
     requires upto { upto < 2 ^ 63 }
-    ensures same_reference { tx.new.conn.ghost_name ≡ tx.old.conn.ghost_name }
-    ensures inside { HasCleanDisk (state S.Store tx.new.conn.now) → OnOk result (IsTrue (state S.Store tx.new.conn.now).in_transaction) }
+    ensures step { IsStep S.Store tx.old.conn tx.new.conn result }
     ensures cut { HasCleanDisk (state S.Store tx.new.conn.now) → OnOk result ((s : Stock) (figures : List Figures) → length s.lanes ≡ limits.LANES
         → HoldsQueue (state S.Store tx.old.conn.now).now s figures → HoldsQueue (state S.Store tx.new.conn.now).now (cut s number upto) figures) }
-    ensures kept { HasCleanDisk (state S.Store tx.new.conn.now) → KeepsCommit (state S.Store tx.old.conn.now) (state S.Store tx.new.conn.now) }
-    ensures survives { Survives (state S.Store tx.old.conn.now) (state S.Store tx.new.conn.now) (λ _. ⊥) }
 {
     let lane = number as u32;
     let upto = upto as i64;
@@ -79,15 +73,12 @@ pub(crate) fn note<S: Alter>(
     lost: u64,
     raised: bool,
 ) -> Result<(), Error>
-    requires inside { HasCleanDisk (state S.Store tx.old.conn.now) → IsTrue (state S.Store tx.old.conn.now).in_transaction }
+    requires inside { IsInside S.Store tx.old.conn }
     requires number { number < limits.LANES }
     requires lost { lost < 2 ^ 63 }
-    ensures same_reference { tx.new.conn.ghost_name ≡ tx.old.conn.ghost_name }
-    ensures inside { HasCleanDisk (state S.Store tx.new.conn.now) → OnOk result (IsTrue (state S.Store tx.new.conn.now).in_transaction) }
+    ensures step { IsStep S.Store tx.old.conn tx.new.conn result }
     ensures noted { HasCleanDisk (state S.Store tx.new.conn.now) → OnOk result ((s : Stock) (figures : List Figures) → length s.lanes ≡ limits.LANES
         → HoldsQueue (state S.Store tx.old.conn.now).now s figures → HoldsQueue (state S.Store tx.new.conn.now).now (counted s number lost) (noted figures number lost raised)) }
-    ensures kept { HasCleanDisk (state S.Store tx.new.conn.now) → KeepsCommit (state S.Store tx.old.conn.now) (state S.Store tx.new.conn.now) }
-    ensures survives { Survives (state S.Store tx.old.conn.now) (state S.Store tx.new.conn.now) (λ _. ⊥) }
 {
     let lane = number as u32;
     let lost = lost as i64;

@@ -2,56 +2,25 @@
 
 ghost use Rattle.std.specs.Prelude.{◌≡◌, ◌++◌, false, IsTrue, OnOk, OnErr, List, [], ◌∷◌, length, map};
 ghost use Rattle.sqlite.specs.Held.{state};
-ghost use Rattle.sqlite.specs.State.{HasCleanDisk, KeepsCommit, Survives};
+ghost use Rattle.sqlite.specs.State.{HasCleanDisk, Survives};
 ghost use Rattle.dnp_eventbuf.specs.Stock.{empty_stock};
+ghost use Rattle.dnp_store.specs.Inside.{IsInside, IsStep};
 ghost use Rattle.dnp_store.specs.Kept.{Stands};
-ghost use Rattle.dnp_store.specs.Making.{HasForm, HasRows, HasTables, HasLanes, fresh};
+ghost use Rattle.dnp_store.specs.Making.{HasLanes, fresh};
 ghost use Rattle.dnp_store.specs.QueueTables.{Figures, HoldsStock};
+ghost use Rattle.dnp_store.specs.Stores.{HasNumber};
 ghost use Rattle.dnp_store.specs.Tables.{no_schema};
 
+use crate::store_kind::StoreKind;
+use crate::stores::make_tables;
 use dnp_objects::LANES;
 use sqlite::{Alter, Connection, Error, Transaction, params};
 
-/// Makes `form`.
-pub(crate) fn make_form<S: Alter>(tx: &mut Transaction<'_, S>) -> Result<(), Error>
-    requires inside { HasCleanDisk (state S.Store tx.old.conn.now) → IsTrue (state S.Store tx.old.conn.now).in_transaction }
-    ensures same_reference { tx.new.conn.ghost_name ≡ tx.old.conn.ghost_name }
-    ensures inside { HasCleanDisk (state S.Store tx.new.conn.now) → OnOk result (IsTrue (state S.Store tx.new.conn.now).in_transaction) }
-    ensures made { HasCleanDisk (state S.Store tx.new.conn.now) → OnOk result ((state S.Store tx.old.conn.now).now.schema ≡ no_schema → HasForm (state S.Store tx.new.conn.now).now) }
-    ensures kept { HasCleanDisk (state S.Store tx.new.conn.now) → KeepsCommit (state S.Store tx.old.conn.now) (state S.Store tx.new.conn.now) }
-    ensures survives { Survives (state S.Store tx.old.conn.now) (state S.Store tx.new.conn.now) (λ _. ⊥) }
-{
-    tx.execute(
-        "CREATE TABLE form (number INTEGER NOT NULL CHECK (number BETWEEN 1 AND 1000))",
-        &[],
-    )?;
-    Ok(())
-}
-
-/// Makes `queue`.
-fn make_queue<S: Alter>(tx: &mut Transaction<'_, S>) -> Result<(), Error>
-    requires inside { HasCleanDisk (state S.Store tx.old.conn.now) → IsTrue (state S.Store tx.old.conn.now).in_transaction }
-    ensures same_reference { tx.new.conn.ghost_name ≡ tx.old.conn.ghost_name }
-    ensures inside { HasCleanDisk (state S.Store tx.new.conn.now) → OnOk result (IsTrue (state S.Store tx.new.conn.now).in_transaction) }
-    ensures made { HasCleanDisk (state S.Store tx.new.conn.now) → OnOk result (HasForm (state S.Store tx.old.conn.now).now → HasRows (state S.Store tx.new.conn.now).now) }
-    ensures kept { HasCleanDisk (state S.Store tx.new.conn.now) → KeepsCommit (state S.Store tx.old.conn.now) (state S.Store tx.new.conn.now) }
-    ensures survives { Survives (state S.Store tx.old.conn.now) (state S.Store tx.new.conn.now) (λ _. ⊥) }
-{
-    tx.execute(
-        "CREATE TABLE queue (id INTEGER PRIMARY KEY AUTOINCREMENT CHECK (id BETWEEN 1 AND 4611686018427387904), lane INTEGER NOT NULL CHECK (lane BETWEEN 0 AND 8), point INTEGER NOT NULL CHECK (point BETWEEN 0 AND 65535), flags INTEGER NOT NULL CHECK (flags BETWEEN 0 AND 255), value INTEGER NOT NULL, time INTEGER CHECK (time BETWEEN 0 AND 281474976710655))",
-        &[],
-    )?;
-    Ok(())
-}
-
 /// Makes `lanes`.
 fn make_lanes<S: Alter>(tx: &mut Transaction<'_, S>) -> Result<(), Error>
-    requires inside { HasCleanDisk (state S.Store tx.old.conn.now) → IsTrue (state S.Store tx.old.conn.now).in_transaction }
-    ensures same_reference { tx.new.conn.ghost_name ≡ tx.old.conn.ghost_name }
-    ensures inside { HasCleanDisk (state S.Store tx.new.conn.now) → OnOk result (IsTrue (state S.Store tx.new.conn.now).in_transaction) }
-    ensures made { HasCleanDisk (state S.Store tx.new.conn.now) → OnOk result (HasRows (state S.Store tx.old.conn.now).now → HasTables (state S.Store tx.new.conn.now).now) }
-    ensures kept { HasCleanDisk (state S.Store tx.new.conn.now) → KeepsCommit (state S.Store tx.old.conn.now) (state S.Store tx.new.conn.now) }
-    ensures survives { Survives (state S.Store tx.old.conn.now) (state S.Store tx.new.conn.now) (λ _. ⊥) }
+    requires inside { IsInside S.Store tx.old.conn }
+    ensures step { IsStep S.Store tx.old.conn tx.new.conn result }
+    ensures made { HasCleanDisk (state S.Store tx.new.conn.now) → OnOk result (HasNumber StoreKind.Queue (state S.Store tx.old.conn.now).now → HasLanes (state S.Store tx.new.conn.now).now []) }
 {
     tx.execute(
         "CREATE TABLE lanes (lane INTEGER PRIMARY KEY CHECK (lane BETWEEN 0 AND 8), cap INTEGER NOT NULL CHECK (cap BETWEEN 1 AND 4096), lost INTEGER NOT NULL CHECK (lost BETWEEN 0 AND 4611686018427387904), raised INTEGER NOT NULL CHECK (raised BETWEEN 0 AND 1))",
@@ -60,27 +29,11 @@ fn make_lanes<S: Alter>(tx: &mut Transaction<'_, S>) -> Result<(), Error>
     Ok(())
 }
 
-/// Puts the number of the form into `form`.
-fn put_number<S: Alter>(tx: &mut Transaction<'_, S>) -> Result<(), Error>
-    requires inside { HasCleanDisk (state S.Store tx.old.conn.now) → IsTrue (state S.Store tx.old.conn.now).in_transaction }
-    ensures same_reference { tx.new.conn.ghost_name ≡ tx.old.conn.ghost_name }
-    ensures inside { HasCleanDisk (state S.Store tx.new.conn.now) → OnOk result (IsTrue (state S.Store tx.new.conn.now).in_transaction) }
-    ensures made { HasCleanDisk (state S.Store tx.new.conn.now) → OnOk result (HasTables (state S.Store tx.old.conn.now).now → HasLanes (state S.Store tx.new.conn.now).now []) }
-    ensures kept { HasCleanDisk (state S.Store tx.new.conn.now) → KeepsCommit (state S.Store tx.old.conn.now) (state S.Store tx.new.conn.now) }
-    ensures survives { Survives (state S.Store tx.old.conn.now) (state S.Store tx.new.conn.now) (λ _. ⊥) }
-{
-    tx.execute("INSERT INTO form VALUES (1)", &[])?;
-    Ok(())
-}
-
 /// Puts an empty lane into `lanes`.
 fn put_lane<S: Alter>(tx: &mut Transaction<'_, S>, number: u32, capacity: u32) -> Result<(), Error>
-    requires inside { HasCleanDisk (state S.Store tx.old.conn.now) → IsTrue (state S.Store tx.old.conn.now).in_transaction }
-    ensures same_reference { tx.new.conn.ghost_name ≡ tx.old.conn.ghost_name }
-    ensures inside { HasCleanDisk (state S.Store tx.new.conn.now) → OnOk result (IsTrue (state S.Store tx.new.conn.now).in_transaction) }
+    requires inside { IsInside S.Store tx.old.conn }
+    ensures step { IsStep S.Store tx.old.conn tx.new.conn result }
     ensures made { HasCleanDisk (state S.Store tx.new.conn.now) → OnOk result ((figures : List Figures) → number ≡ length figures → HasLanes (state S.Store tx.old.conn.now).now figures → HasLanes (state S.Store tx.new.conn.now).now (figures ++ fresh capacity ∷ [])) }
-    ensures kept { HasCleanDisk (state S.Store tx.new.conn.now) → KeepsCommit (state S.Store tx.old.conn.now) (state S.Store tx.new.conn.now) }
-    ensures survives { Survives (state S.Store tx.old.conn.now) (state S.Store tx.new.conn.now) (λ _. ⊥) }
 {
     tx.execute(
         "INSERT INTO lanes VALUES (?1, ?2, 0, 0)",
@@ -91,12 +44,9 @@ fn put_lane<S: Alter>(tx: &mut Transaction<'_, S>, number: u32, capacity: u32) -
 
 /// Puts nine empty lanes into `lanes`.
 fn put_lanes<S: Alter>(tx: &mut Transaction<'_, S>, capacities: &[u32; LANES]) -> Result<(), Error>
-    requires inside { HasCleanDisk (state S.Store tx.old.conn.now) → IsTrue (state S.Store tx.old.conn.now).in_transaction }
-    ensures same_reference { tx.new.conn.ghost_name ≡ tx.old.conn.ghost_name }
-    ensures inside { HasCleanDisk (state S.Store tx.new.conn.now) → OnOk result (IsTrue (state S.Store tx.new.conn.now).in_transaction) }
+    requires inside { IsInside S.Store tx.old.conn }
+    ensures step { IsStep S.Store tx.old.conn tx.new.conn result }
     ensures made { HasCleanDisk (state S.Store tx.new.conn.now) → OnOk result (HasLanes (state S.Store tx.old.conn.now).now [] → HasLanes (state S.Store tx.new.conn.now).now (map fresh capacities.now)) }
-    ensures kept { HasCleanDisk (state S.Store tx.new.conn.now) → KeepsCommit (state S.Store tx.old.conn.now) (state S.Store tx.new.conn.now) }
-    ensures survives { Survives (state S.Store tx.old.conn.now) (state S.Store tx.new.conn.now) (λ _. ⊥) }
 {
     for number in 0..LANES {
         put_lane(tx, number as u32, capacities[number])?;
@@ -106,17 +56,12 @@ fn put_lanes<S: Alter>(tx: &mut Transaction<'_, S>, capacities: &[u32; LANES]) -
 
 /// Makes the tables and what stands in them at first.
 fn make_all<S: Alter>(tx: &mut Transaction<'_, S>, capacities: &[u32; LANES]) -> Result<(), Error>
-    requires inside { HasCleanDisk (state S.Store tx.old.conn.now) → IsTrue (state S.Store tx.old.conn.now).in_transaction }
-    ensures same_reference { tx.new.conn.ghost_name ≡ tx.old.conn.ghost_name }
-    ensures inside { HasCleanDisk (state S.Store tx.new.conn.now) → OnOk result (IsTrue (state S.Store tx.new.conn.now).in_transaction) }
+    requires inside { IsInside S.Store tx.old.conn }
+    ensures step { IsStep S.Store tx.old.conn tx.new.conn result }
     ensures made { HasCleanDisk (state S.Store tx.new.conn.now) → OnOk result ((state S.Store tx.old.conn.now).now.schema ≡ no_schema → HasLanes (state S.Store tx.new.conn.now).now (map fresh capacities.now)) }
-    ensures kept { HasCleanDisk (state S.Store tx.new.conn.now) → KeepsCommit (state S.Store tx.old.conn.now) (state S.Store tx.new.conn.now) }
-    ensures survives { Survives (state S.Store tx.old.conn.now) (state S.Store tx.new.conn.now) (λ _. ⊥) }
 {
-    make_form(tx)?;
-    make_queue(tx)?;
+    make_tables(tx, StoreKind::Queue)?;
     make_lanes(tx)?;
-    put_number(tx)?;
     put_lanes(tx, capacities)
 }
 

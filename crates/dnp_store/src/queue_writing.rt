@@ -2,11 +2,12 @@
 
 ghost use Rattle.std.specs.Prelude.{◌≡◌, ◌≤◌, ◌<◌, ◌+◌, ◌^◌, Bool, false, IsTrue, OnOk, OnErr, All, List, length};
 ghost use Rattle.sqlite.specs.Held.{state};
-ghost use Rattle.sqlite.specs.State.{HasCleanDisk, KeepsCommit, Survives};
+ghost use Rattle.sqlite.specs.State.{HasCleanDisk, Survives};
 ghost use Rattle.dnp_objects.specs.declared.limits.TheConstants as limits;
 ghost use Rattle.dnp_eventbuf.specs.Carried.{IsCarried};
 ghost use Rattle.dnp_eventbuf.specs.Sound.{IsSound};
-ghost use Rattle.dnp_eventbuf.specs.Stock.{Stock, exhausts, with_rows};
+ghost use Rattle.dnp_eventbuf.specs.Stock.{Stock, with_rows};
+ghost use Rattle.dnp_store.specs.Inside.{IsInside, IsStep};
 ghost use Rattle.dnp_store.specs.Kept.{Stands};
 ghost use Rattle.dnp_store.specs.QueueTables.{Figures, HoldsQueue, HoldsStock};
 ghost use Rattle.dnp_store.specs.Steps.{IsTrimmed, all_added};
@@ -19,14 +20,11 @@ use sqlite::{Alter, Connection, Error, Transaction};
 
 /// Puts the rows into the table, under the ids that follow the last one used.
 fn insert_all<S: Alter>(tx: &mut Transaction<'_, S>, rows: &[LaneRow]) -> Result<(), Error>
-    requires inside { HasCleanDisk (state S.Store tx.old.conn.now) → IsTrue (state S.Store tx.old.conn.now).in_transaction }
+    requires inside { IsInside S.Store tx.old.conn }
     requires carried { All IsCarried rows.now }
-    ensures same_reference { tx.new.conn.ghost_name ≡ tx.old.conn.ghost_name }
-    ensures inside { HasCleanDisk (state S.Store tx.new.conn.now) → OnOk result (IsTrue (state S.Store tx.new.conn.now).in_transaction) }
+    ensures step { IsStep S.Store tx.old.conn tx.new.conn result }
     ensures added { HasCleanDisk (state S.Store tx.new.conn.now) → OnOk result ((s : Stock) (figures : List Figures) → length s.lanes ≡ limits.LANES
         → HoldsQueue (state S.Store tx.old.conn.now).now s figures → HoldsQueue (state S.Store tx.new.conn.now).now (all_added s rows.now) figures) }
-    ensures kept { HasCleanDisk (state S.Store tx.new.conn.now) → KeepsCommit (state S.Store tx.old.conn.now) (state S.Store tx.new.conn.now) }
-    ensures survives { Survives (state S.Store tx.old.conn.now) (state S.Store tx.new.conn.now) (λ _. ⊥) }
 {
     for x in rows {
         insert(tx, x)?;
@@ -41,17 +39,14 @@ fn trim<S: Alter>(
     number: usize,
     rows: &[LaneRow],
 ) -> Result<(), Error>
-    requires inside { HasCleanDisk (state S.Store tx.old.conn.now) → IsTrue (state S.Store tx.old.conn.now).in_transaction }
+    requires inside { IsInside S.Store tx.old.conn }
     requires number { number < limits.LANES }
     requires sound { IsSound lanes.now }
     requires after { IsSound (with_rows lanes.now rows.now) }
     requires few { lanes.now.last_id + length rows.now ≤ 2 ^ 62 }
-    ensures same_reference { tx.new.conn.ghost_name ≡ tx.old.conn.ghost_name }
-    ensures inside { HasCleanDisk (state S.Store tx.new.conn.now) → OnOk result (IsTrue (state S.Store tx.new.conn.now).in_transaction) }
+    ensures step { IsStep S.Store tx.old.conn tx.new.conn result }
     ensures trimmed { HasCleanDisk (state S.Store tx.new.conn.now) → OnOk result ((raised : Bool)
         → IsTrimmed (state S.Store tx.old.conn.now).now lanes.now rows.now raised number → IsTrimmed (state S.Store tx.new.conn.now).now lanes.now rows.now raised (number + 1)) }
-    ensures kept { HasCleanDisk (state S.Store tx.new.conn.now) → KeepsCommit (state S.Store tx.old.conn.now) (state S.Store tx.new.conn.now) }
-    ensures survives { Survives (state S.Store tx.old.conn.now) (state S.Store tx.new.conn.now) (λ _. ⊥) }
 {
     // (a law, for the proof: it does nothing)
     a_lane_keeps_its_latest_rows();
@@ -74,16 +69,13 @@ fn trim_all<S: Alter>(
     lanes: &PlainLanes,
     rows: &[LaneRow],
 ) -> Result<(), Error>
-    requires inside { HasCleanDisk (state S.Store tx.old.conn.now) → IsTrue (state S.Store tx.old.conn.now).in_transaction }
+    requires inside { IsInside S.Store tx.old.conn }
     requires sound { IsSound lanes.now }
     requires after { IsSound (with_rows lanes.now rows.now) }
     requires few { lanes.now.last_id + length rows.now ≤ 2 ^ 62 }
-    ensures same_reference { tx.new.conn.ghost_name ≡ tx.old.conn.ghost_name }
-    ensures inside { HasCleanDisk (state S.Store tx.new.conn.now) → OnOk result (IsTrue (state S.Store tx.new.conn.now).in_transaction) }
+    ensures step { IsStep S.Store tx.old.conn tx.new.conn result }
     ensures trimmed { HasCleanDisk (state S.Store tx.new.conn.now) → OnOk result ((raised : Bool)
         → IsTrimmed (state S.Store tx.old.conn.now).now lanes.now rows.now raised 0 → IsTrimmed (state S.Store tx.new.conn.now).now lanes.now rows.now raised limits.LANES) }
-    ensures kept { HasCleanDisk (state S.Store tx.new.conn.now) → KeepsCommit (state S.Store tx.old.conn.now) (state S.Store tx.new.conn.now) }
-    ensures survives { Survives (state S.Store tx.old.conn.now) (state S.Store tx.new.conn.now) (λ _. ⊥) }
 {
     for number in 0..LANES {
         trim(tx, lanes, number, rows)?;

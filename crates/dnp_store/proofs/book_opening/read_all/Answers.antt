@@ -1,10 +1,11 @@
-use Rattle.std.proofs.Common.{rules, ◌≡◌, codes, arith, sym, ap, subst, ◌∙◌}
+use Rattle.std.proofs.Common.{rules, ◌≡◌, [], codes, arith, sym, ap, subst, ◌∙◌}
 use Rattle.sqlite.specs.State.{HasCleanDisk}
 use Rattle.sqlite.specs.Held.{state}
 use Rattle.sqlite.specs.Effect.{Database, IsDatabase}
 use Rattle.dnp_store.specs.Tables.{IsCounted}
 use Rattle.dnp_store.specs.Shown.{ShowsCount}
 use Rattle.dnp_store.specs.BookShown.{EntriesRise, ShowEntries, HoldsEntries}
+use Rattle.dnp_store.specs.declared.store_kind.StoreKind.TheVariants.{Book}
 use Rattle.dnp_store.proofs.BookOpening.{opened, sound_of_rise}
 use Rattle.dnp_store.proofs.book_opening.read_all.Goals as goal
 
@@ -13,20 +14,20 @@ returns-clause-read g c clean counted f j sound has =
     let old = state g.S.Store c.args.tx.now.conn.now in
     let one = state g.S.Store c.read_form.new.tx.conn.now in
     let two = state g.S.Store c.read_counts.new.tx.conn.now in
-    let clean_2 : HasCleanDisk two = omega (arith, clean, c.read_controls.ensures.survives.clean) in
-    let clean_1 : HasCleanDisk one = omega (arith, clean_2, c.read_counts.ensures.survives.clean) in
+    let clean_2 : HasCleanDisk two = omega (arith, clean, c.read_controls.ensures.step.survives.clean) in
+    let clean_1 : HasCleanDisk one = omega (arith, clean_2, c.read_counts.ensures.step.survives.clean) in
     let counts = c.in_ok-counts.counts.items in
     let rows = c.in_ok-rows.rows.items in
     let entries = c.put_entries.new.entries.items in
     let last = c.in-Some.last_id in
     let shows : ShowsCount (codes "control") counts last = search rules in
     let each : ShowEntries rows entries = search rules in
-    let r1 = c.in_ok-read_form.ensures.read clean_1 f j sound has in
+    let r1 = c.in_ok-read_form.ensures.read clean_1 Book f j [] sound has in
     let same_1 : one.now ≡ old.now = r1.0 in
-    let r2 = c.in_ok-counts.ensures.read clean_2 f j (subst IsDatabase (sym same_1) sound) (ap (λ (d : Database). d.schema) same_1 ∙ has) in
+    let r2 = c.in_ok-counts.ensures.read clean_2 Book f j [] (subst IsDatabase (sym same_1) sound) (ap (λ (d : Database). d.schema) same_1 ∙ has) in
     let same_2 : two.now ≡ old.now = r2.0 ∙ same_1 in
-    let r3 = c.in_ok-rows.ensures.read clean f j (subst IsDatabase (sym same_2) sound) (ap (λ (d : Database). d.schema) same_2 ∙ has) in
-    opened old.now f j entries last has r1.1 (subst (λ (d : Database). IsCounted (codes "control") (d.trees 2) last) same_1 (r2.1 last shows))
+    let r3 = c.in_ok-rows.ensures.read clean f j [] (subst IsDatabase (sym same_2) sound) (ap (λ (d : Database). d.schema) same_2 ∙ has) in
+    opened old.now f j entries last has r1.1 (subst (λ (d : Database). IsCounted (codes "control") (d.trees 2) last) same_1 (r2.1 (codes "control") last shows))
     (subst (λ (d : Database). HoldsEntries d.trees entries) same_2 (r3.1 entries each))
 
 pub returns-clause-sound : goal.returns-clause-sound

@@ -40,5 +40,5 @@ returns-clause-survives g c =
     let same : c.commit.new.self.0 ≡ c.conn-2-1.given.0 = search rules in
     subst (λ h. Survives (state g.S.Store old) (state g.S.Store h) P) same
     (survives_commit g.S.Store old c.transaction-tx.result.conn.now mid end P c.transaction-tx.ensures.begun
-    c.insert_all.ensures.survives c.commit.ensures.survives
+    c.insert_all.ensures.step.survives c.commit.ensures.survives
     (λ clean a stood. (let early : HasCleanDisk mid = omega (arith, clean, c.commit.ensures.survives.clean) in (done g c a early stood).holds)))

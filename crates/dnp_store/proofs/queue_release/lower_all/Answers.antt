@@ -1,40 +1,34 @@
 use Rattle.std.proofs.Common.{◌≡◌, ◌<◌, false, arith, sym, ◌∙◌}
 use Rattle.sqlite.specs.State.{HasCleanDisk}
 use Rattle.sqlite.specs.Held.{state}
-use Rattle.sqlite.proofs.InsideLemmas.{keeps_then}
-use Rattle.sqlite.proofs.StateLemmas.{survives_then}
 use Rattle.dnp_objects.specs.declared.limits.TheConstants.{LANES}
 use Rattle.dnp_store.specs.Steps.{noted}
 use Rattle.dnp_store.proofs.Releasing.{note_step, lowered_step, none_raised}
+use Rattle.dnp_store.proofs.Stepping.{step_then}
 use Rattle.dnp_store.proofs.queue_release.lower_all.Goals as goal
 
 pub loop-number-preserved : goal.loop-number-preserved
 loop-number-preserved g c =
-    let old = state g.S.Store c.args.tx.now.conn.now in
     let mid = state g.S.Store c.loop-number.tx.conn.now in
     let new = state g.S.Store c.note.new.tx.conn.now in
     let number = c.loop-number.number in
-    let lost = c.lost_in.result in (
-      c.note.ensures.same_reference ∙ c.loop-number.invariant.0,
-      survives_then old mid new (λ _. ⊥) (λ _. ⊥) (λ _. ⊥) (λ _ db none. none) (λ _ db none. none) c.loop-number.invariant.1 c.note.ensures.survives,
-      λ clean.
-          let early : HasCleanDisk mid = omega (arith, c.note.ensures.survives.clean) in
-          let was = c.loop-number.invariant.2 early in (
-            c.in_ok-note.ensures.inside clean,
-            keeps_then old mid new was.1 (c.in_ok-note.ensures.kept clean),
-            λ s figures nine same held.
-                let low : number < LANES = omega arith in
-                let so = was.2 s figures nine same held in
-                let did = c.in_ok-note.ensures.noted clean s so.0 nine so.1 in (
-                  noted so.0 number lost false,
-                  note_step new.now s (noted so.0 number lost false) number lost nine low (c.lost_in.ensures ∙ sym (same number low)) did,
-                  λ k k_low. lowered_step so.0 number lost (omega (arith, so.1.lanes.nine)) so.2 k (omega arith),
-                ),
-          ),
-    )
+    let lost = c.lost_in.result in record {
+      step = step_then g.S.Store c.args.tx.now.conn c.loop-number.tx.conn c.note.new.tx.conn _ _ c.loop-number.invariant.step c.in_ok-note.ensures.step;
+      lowered = λ clean.
+          let early : HasCleanDisk mid = omega (arith, c.note.ensures.step.survives.clean) in
+          let was = c.loop-number.invariant.lowered early in
+          λ s figures nine same held.
+          let low : number < LANES = omega arith in
+          let so = was s figures nine same held in
+          let did = c.in_ok-note.ensures.noted clean s so.0 nine so.1 in (
+            noted so.0 number lost false,
+            note_step new.now s (noted so.0 number lost false) number lost nine low (c.lost_in.ensures ∙ sym (same number low)) did,
+            λ k k_low. lowered_step so.0 number lost (omega (arith, so.1.lanes.nine)) so.2 k (omega arith),
+          );
+    }
 
 pub returns-clause-lowered : goal.returns-clause-lowered
 returns-clause-lowered g c clean s figures nine same held =
-    let so = (c.loop-number.invariant.2 clean).2 s figures nine same held in
+    let so = c.loop-number.invariant.lowered clean s figures nine same held in
     let all : c.loop-number.number ≡ LANES = omega arith in
     (so.0, so.1, none_raised so.0 (λ k low. so.2 k (omega (arith, so.1.lanes.nine))))

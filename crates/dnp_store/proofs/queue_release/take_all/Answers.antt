@@ -1,37 +1,31 @@
 use Rattle.std.proofs.Common.{rules, ◌≡◌, ◌<◌, min, length, get_or, arith, sym, subst, ◌∙◌, add-one}
 use Rattle.sqlite.specs.State.{HasCleanDisk}
 use Rattle.sqlite.specs.Held.{state}
-use Rattle.sqlite.proofs.InsideLemmas.{keeps_then}
-use Rattle.sqlite.proofs.StateLemmas.{survives_then}
 use Rattle.dnp_objects.specs.declared.limits.TheConstants.{LANES, MAX_ID}
 use Rattle.dnp_store.specs.QueueTables.{HoldsQueue}
 use Rattle.dnp_store.specs.Steps.{left, mixed}
 use Rattle.dnp_store.proofs.Releasing.{cut_step, nine_left}
 use Rattle.dnp_store.proofs.Trimming.{nine_mixed}
+use Rattle.dnp_store.proofs.Stepping.{step_then}
 use Rattle.dnp_store.proofs.queue_release.take_all.Goals as goal
 
 pub loop-number-preserved : goal.loop-number-preserved
 loop-number-preserved g c =
-    let old = state g.S.Store c.args.tx.now.conn.now in
     let mid = state g.S.Store c.loop-number.tx.conn.now in
     let new = state g.S.Store c.take.new.tx.conn.now in
     let number = c.loop-number.number in
-    let upto = c.args.upto.now in (
-      c.take.ensures.same_reference ∙ c.loop-number.invariant.0,
-      survives_then old mid new (λ _. ⊥) (λ _. ⊥) (λ _. ⊥) (λ _ db none. none) (λ _ db none. none) c.loop-number.invariant.1 c.take.ensures.survives,
-      λ clean.
-          let early : HasCleanDisk mid = omega (arith, c.take.ensures.survives.clean) in
-          let was = c.loop-number.invariant.2 early in (
-            c.in_ok-take.ensures.inside clean,
-            keeps_then old mid new was.1 (c.in_ok-take.ensures.kept clean),
-            λ s figures sound held.
-                let nine_u : length upto ≡ LANES = search rules in
-                let low : number < LANES = omega arith in
-                let u_is : c.min.result ≡ min (get_or upto number 0) MAX_ID = search rules in
-                let nine : length (mixed number s (left s upto)).lanes ≡ LANES = nine_mixed number s (left s upto) sound.nine (nine_left s upto sound.nine)
-                (omega arith) in
-                let did = c.in_ok-take.ensures.cut clean (mixed number s (left s upto)) figures nine (was.2 s figures sound held) in
-                subst (λ n. HoldsQueue new.now (mixed n s (left s upto)) figures) (sym (add-one number))
-                (cut_step c.a_release_is_lane_by_lane.ensures new.now s upto figures number c.min.result sound nine_u low u_is did),
-          ),
-    )
+    let upto = c.args.upto.now in record {
+      step = step_then g.S.Store c.args.tx.now.conn c.loop-number.tx.conn c.take.new.tx.conn _ _ c.loop-number.invariant.step c.in_ok-take.ensures.step;
+      taken = λ clean.
+          let early : HasCleanDisk mid = omega (arith, c.take.ensures.step.survives.clean) in
+          let was = c.loop-number.invariant.taken early in
+          λ s figures sound held.
+          let nine_u : length upto ≡ LANES = search rules in
+          let low : number < LANES = omega arith in
+          let u_is : c.min.result ≡ min (get_or upto number 0) MAX_ID = search rules in
+          let nine : length (mixed number s (left s upto)).lanes ≡ LANES = nine_mixed number s (left s upto) sound.nine (nine_left s upto sound.nine)
+          (omega arith) in
+          let did = c.in_ok-take.ensures.cut clean (mixed number s (left s upto)) figures nine (was s figures sound held) in
+          subst (λ n. HoldsQueue new.now (mixed n s (left s upto)) figures) (sym (add-one number))
+          (cut_step c.a_release_is_lane_by_lane.ensures new.now s upto figures number c.min.result sound nine_u low u_is did);
+    }

@@ -2,34 +2,28 @@ use Rattle.std.proofs.Common.{rules, ◌≡◌, ◌+◌, ◌<◌, ◌++◌, [], 
 use Rattle.std.proofs.lemmas.List.{take_more, map-append}
 use Rattle.sqlite.specs.State.{HasCleanDisk}
 use Rattle.sqlite.specs.Held.{state}
-use Rattle.sqlite.proofs.InsideLemmas.{keeps_then}
-use Rattle.sqlite.proofs.StateLemmas.{survives_then}
 use Rattle.dnp_objects.specs.declared.limits.TheConstants.{LANES}
 use Rattle.dnp_store.specs.Making.{HasLanes, fresh}
 use Rattle.dnp_store.proofs.Filling.{length_fresh}
+use Rattle.dnp_store.proofs.Stepping.{step_then}
 use Rattle.dnp_store.proofs.queue_tables.put_lanes.Goals as goal
 
 pub loop-number-preserved : goal.loop-number-preserved
 loop-number-preserved g c =
-    let old = state g.S.Store c.args.tx.now.conn.now in
     let mid = state g.S.Store c.loop-number.tx.conn.now in
     let new = state g.S.Store c.put_lane.new.tx.conn.now in
     let number = c.loop-number.number in
-    let all = c.args.capacities.now in (
-      c.put_lane.ensures.same_reference ∙ c.loop-number.invariant.0,
-      survives_then old mid new (λ _. ⊥) (λ _. ⊥) (λ _. ⊥) (λ _ db none. none) (λ _ db none. none) c.loop-number.invariant.1 c.put_lane.ensures.survives,
-      λ clean.
-          let early : HasCleanDisk mid = omega (arith, c.put_lane.ensures.survives.clean) in
-          let was = c.loop-number.invariant.2 early in (
-            c.in_ok-put_lane.ensures.inside clean,
-            keeps_then old mid new was.1 (c.in_ok-put_lane.ensures.kept clean),
-            λ has.
-                let nine : length all ≡ LANES = search rules in
-                let low : number < LANES = omega arith in
-                let before = map fresh (take number all) in
-                let at : number ≡ length before = omega (arith, length_fresh (take number all), length-take number all, nine) in
-                let more : map fresh (take (number + 1) all) ≡ before ++ fresh (get_or all number 0) ∷ [] =
-                ap (map fresh) (take_more all number 0 (omega (arith, nine))) ∙ map-append fresh (take number all) (get_or all number 0 ∷ []) in
-                subst (HasLanes new.now) (sym more) (c.in_ok-put_lane.ensures.made clean before at (was.2 has)),
-          ),
-    )
+    let all = c.args.capacities.now in record {
+      step = step_then g.S.Store c.args.tx.now.conn c.loop-number.tx.conn c.put_lane.new.tx.conn _ _ c.loop-number.invariant.step c.in_ok-put_lane.ensures.step;
+      made = λ clean.
+          let early : HasCleanDisk mid = omega (arith, c.put_lane.ensures.step.survives.clean) in
+          let was = c.loop-number.invariant.made early in
+          λ has.
+          let nine : length all ≡ LANES = search rules in
+          let low : number < LANES = omega arith in
+          let before = map fresh (take number all) in
+          let at : number ≡ length before = omega (arith, length_fresh (take number all), length-take number all, nine) in
+          let more : map fresh (take (number + 1) all) ≡ before ++ fresh (get_or all number 0) ∷ [] =
+          ap (map fresh) (take_more all number 0 (omega (arith, nine))) ∙ map-append fresh (take number all) (get_or all number 0 ∷ []) in
+          subst (HasLanes new.now) (sym more) (c.in_ok-put_lane.ensures.made clean before at (was has));
+    }

@@ -1,7 +1,8 @@
-use Rattle.std.proofs.Common.{◌≡◌, [], take, map, IsTrue}
-use Rattle.sqlite.specs.State.{HasCleanDisk, Survives, KeepsCommit}
+use Rattle.std.proofs.Common.{[], take, map}
+use Rattle.sqlite.specs.State.{HasCleanDisk}
 use Rattle.sqlite.specs.Held.{state}
 use Rattle.dnp_store.specs.Making.{HasLanes, fresh}
+use Rattle.dnp_store.proofs.Stepping.{AreSteps}
 use Rattle.dnp_store.proofs.queue_tables.put_lanes.Given as goal
 
 -- the lanes so far stand there
@@ -9,5 +10,7 @@ abbrev pub invariant-loop-number : goal.invariant-loop-number
 invariant-loop-number g l =
     let old = state g.S.Store l.fn.tx.conn.now in
     let now = state g.S.Store l.tx.conn.now in
-    (l.tx.conn.ghost_name ≡ l.fn.tx.conn.ghost_name) × Survives old now (λ _. ⊥)
-    × (HasCleanDisk now → IsTrue now.in_transaction × KeepsCommit old now × (HasLanes old.now [] → HasLanes now.now (map fresh (take l.number l.capacities))))
+    record {
+      step : AreSteps g.S.Store l.fn.tx.conn l.tx.conn;
+      made : HasCleanDisk now → HasLanes old.now [] → HasLanes now.now (map fresh (take l.number l.capacities));
+    }

@@ -8,4 +8,4 @@ pub returns-clause-trimmed : goal.returns-clause-trimmed
 returns-clause-trimmed g c clean raised h =
     let new = state g.S.Store c.loop-number.tx.conn.now in
     let all : c.loop-number.number ≡ LANES = omega arith in
-    subst (λ n. IsTrimmed new.now c.args.lanes.now c.args.rows.now raised n) all ((c.loop-number.invariant.2 clean).2 raised h)
+    subst (λ n. IsTrimmed new.now c.args.lanes.now c.args.rows.now raised n) all (c.loop-number.invariant.trimmed clean raised h)

@@ -20,7 +20,7 @@ done g c clean stood =
     let begun = state g.S.Store c.transaction-tx.result.conn.now in
     let mid = state g.S.Store c.insert_all.new.tx.conn.now in
     let new = state g.S.Store c.trim_all.new.tx.conn.now in
-    let early : HasCleanDisk mid = omega (arith, c.trim_all.ensures.survives.clean) in
+    let early : HasCleanDisk mid = omega (arith, c.trim_all.ensures.step.survives.clean) in
     let idle : IsTrue c.is_autocommit.result = c.is_autocommit.ensures.value ∙ ap not c.requires.idle in
     let same : begun.now ≡ old.committed = ap (λ h. (state g.S.Store h).now) c.transaction-tx.ensures.begun
     ∙ c.is_autocommit.ensures.settled idle stood.is_open in
@@ -51,6 +51,6 @@ returns-clause-survives g c =
     let same : c.commit.new.self.0 ≡ c.conn-2-1.given.0 = search rules in
     subst (λ h. Survives (state g.S.Store old) (state g.S.Store h) P) same
     (survives_commit g.S.Store old c.transaction-tx.result.conn.now mid end P c.transaction-tx.ensures.begun
-    (survives_then begun first mid (λ _. ⊥) (λ _. ⊥) (λ _. ⊥) (λ _ db none. none) (λ _ db none. none) c.insert_all.ensures.survives
-    c.trim_all.ensures.survives) c.commit.ensures.survives
+    (survives_then begun first mid (λ _. ⊥) (λ _. ⊥) (λ _. ⊥) (λ _ db none. none) (λ _ db none. none) c.insert_all.ensures.step.survives
+    c.trim_all.ensures.step.survives) c.commit.ensures.survives
     (λ clean stood. (let early : HasCleanDisk mid = omega (arith, clean, c.commit.ensures.survives.clean) in (done g c early stood).holds)))

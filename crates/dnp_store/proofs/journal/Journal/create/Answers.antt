@@ -5,6 +5,8 @@ use Rattle.dnp_eventbuf.specs.Archive.{Archive}
 use Rattle.dnp_store.specs.JournalKept.{Stands}
 use Rattle.dnp_store.specs.JournalTables.{empty_archive}
 use Rattle.dnp_store.specs.Tables.{no_schema}
+use Rattle.dnp_store.proofs.Numbering.{no_events, fresh_journal}
+use Rattle.dnp_store.proofs.Statements.{survives_as}
 use Rattle.dnp_store.proofs.JournalStanding.{told_is, told_stands}
 use Rattle.dnp_store.proofs.journal.Journal.create.Goals as goal
 
@@ -12,7 +14,8 @@ stood : (g : _) (c : goal.In_default g) → HasCleanDisk (state g.S.Store c.writ
     → Stands (state g.S.Store c.write_tables.new.conn) empty_archive
 stood g c clean own =
     let bare : (state g.S.Store c.args.conn).now.schema ≡ no_schema = search rules in
-    c.in_default.ensures.ok clean bare
+    let made = c.in_default.ensures.ok clean bare in
+    record { is_open = made.0; holds = no_events (state g.S.Store c.write_tables.new.conn).committed made.1 }
 
 pub invariant_of-result : goal.invariant_of-result
 invariant_of-result g c = record {
@@ -28,3 +31,8 @@ returns-clause-empty g c clean own = told_is (state g.S.Store c.write_tables.new
 
 pub returns-clause-stands : goal.returns-clause-stands
 returns-clause-stands g c clean own = told_stands (state g.S.Store c.write_tables.new.conn) empty_archive 0 refl (stood g c clean own)
+
+pub returns-clause-made : goal.returns-clause-made
+returns-clause-made g c =
+    survives_as (state g.S.Store c.args.conn) (state g.S.Store c.write_tables.new.conn) _ _ (λ db made none. fresh_journal db (made none))
+    c.write_tables.ensures.survives

@@ -2,7 +2,7 @@ use Rattle.std.proofs.Common.{rules}
 use Rattle.sqlite.specs.Held.{state}
 use Rattle.dnp_store.specs.Shown.{ShowsForm1}
 use Rattle.dnp_store.proofs.Opening.{reads_form}
-use Rattle.dnp_store.proofs.queue_reading.read_form.Goals as goal
+use Rattle.dnp_store.proofs.stores.read_form.Goals as goal
 
 pub returns-in-Some-clause-read : goal.returns-in-Some-clause-read
 returns-in-Some-clause-read g c clean =

@@ -1,12 +1,12 @@
 use Rattle.std.proofs.Common.{arith}
 use Rattle.sqlite.specs.State.{HasCleanDisk}
 use Rattle.sqlite.specs.Held.{state}
-use Rattle.dnp_store.proofs.JournalStatements.{created_journal}
-use Rattle.dnp_store.proofs.journal_tables.make_journal.Goals as goal
+use Rattle.dnp_store.proofs.Numbering.{numbers}
+use Rattle.dnp_store.proofs.stores.put_number.Goals as goal
 
 pub returns-clause-made : goal.returns-clause-made
-returns-clause-made g c clean has =
+returns-clause-made g c clean kind has =
     let old = state g.S.Store c.args.tx.now.conn.now in
     let new = state g.S.Store c.execute.new.self.conn.now in
     let early : HasCleanDisk old = omega (arith, c.execute.ensures.survives.clean) in
-    created_journal old new c.in_ok-execute.field-0 has (c.in_ok-execute.ensures.runs clean (c.requires.inside early)).0
+    numbers kind old new c.in_ok-execute.field-0 has (c.in_ok-execute.ensures.runs clean (c.requires.inside early)).0

@@ -1,6 +1,6 @@
 use Rattle.sqlite.specs.Held.{state}
 use Rattle.dnp_store.proofs.Opening.{counts_if}
-use Rattle.dnp_store.proofs.queue_reading.read_counts.Goals as goal
+use Rattle.dnp_store.proofs.stores.read_counts.Goals as goal
 
 pub returns-clause-read : goal.returns-clause-read
 returns-clause-read g c clean =

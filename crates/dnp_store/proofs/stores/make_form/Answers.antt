@@ -2,7 +2,7 @@ use Rattle.std.proofs.Common.{arith}
 use Rattle.sqlite.specs.State.{HasCleanDisk}
 use Rattle.sqlite.specs.Held.{state}
 use Rattle.dnp_store.proofs.Creating.{created_form}
-use Rattle.dnp_store.proofs.queue_tables.make_form.Goals as goal
+use Rattle.dnp_store.proofs.stores.make_form.Goals as goal
 
 pub returns-clause-made : goal.returns-clause-made
 returns-clause-made g c clean has =

@@ -1,0 +1,58 @@
+-- What an INSERT of a row under the next id makes of a store's tables.
+use Rattle.std.proofs.Common.{◌≡◌, ℕ, ◌+◌, ◌≤◌, pos, List, [], ◌∷◌, Some, None, Ok, refl, sym, ap, subst}
+use Rattle.sqlite_tied.specs.Compute.{everything}
+use Rattle.sqlite_schema.specs.declared.schema.Keys.TheVariants.{Enforced}
+use Rattle.sqlite.specs.declared.types.Value.TheVariants.{Null}
+use Rattle.sqlite.specs.Command.TheVariants.{Insert}
+use Rattle.sqlite.specs.Source.{Source}
+use Rattle.sqlite.specs.Term.{Term}
+use Rattle.sqlite.specs.Order.{Row}
+use Rattle.sqlite.specs.Tree.{Trees}
+use Rattle.sqlite.specs.Edit.{Edit, next_rowid, taken_by}
+use Rattle.sqlite.specs.Effect.{Database}
+use Rattle.sqlite.specs.Does.{Does}
+use Rattle.sqlite.specs.Rows.{Sourced, stamped, sequence as counters_of}
+use Rattle.sqlite.specs.Cast.{cast_row}
+use Rattle.sqlite_rules.specs.Action.{works}
+use Rattle.sqlite.specs.Listing.{understood}
+use Rattle.sqlite.specs.Given.{IsPlain}
+use Rattle.sqlite.specs.State.{State, Executes, mode_of}
+use Rattle.sqlite.proofs.Callers.{command_of, statement_of, runs_as}
+use Rattle.dnp_store.specs.Tables.{sequence, IsCounted}
+use Rattle.dnp_store.specs.declared.store_kind.StoreKind.{StoreKind}
+use Rattle.dnp_store.specs.declared.store_kind.StoreKind.TheVariants.{Queue, Journal, Book}
+use Rattle.dnp_store.specs.Stores.{name_of, columns_of, rows_with, more_with, schema_for}
+use Rattle.dnp_store.proofs.Statements.{written}
+use Rattle.dnp_store.proofs.Counting as counting
+use Rattle.dnp_store.proofs.Counting.{PutsAt}
+
+-- no table refers to another
+pub quiet : (kind : StoreKind) (f r m : List Term) (db : Trees) (e : Edit) → works (schema_for kind f r m) Enforced 0 e.table.tree (taken_by db e) e.news ≡ []
+unfolding everything
+quiet Queue f r m db e = refl
+quiet Journal f r m db e = refl
+quiet Book f r m db e = refl
+
+listed : (kind : StoreKind) (f r m : List Term) → counters_of (schema_for kind f r m) ≡ Some sequence
+unfolding everything
+listed Queue f r m = refl
+listed Journal f r m = refl
+listed Book f r m = refl
+
+pub inserts : (kind : StoreKind) (f r m : List Term) (old new : State) (text : List ℕ) (params source rest : Row) (from : Source) (n next count : ℕ)
+    → command_of (understood (schema_for kind f r m) text) ≡ Insert 1 from → IsPlain (understood (schema_for kind f r m) text)
+    → ((rows : List Row) → Sourced old.step_limit (record { schema = schema_for kind f r m; trees = old.now.trees })
+    (stamped (rows_with kind r) params) from (Ok rows)
+    → rows ≡ source ∷ [])
+    → cast_row (rows_with kind r) source ≡ Null ∷ rest → old.now.schema ≡ schema_for kind f r m → IsCounted (name_of kind) (old.now.trees 2) n
+    → next_rowid (old.now.trees 1) ≡ pos next → next ≤ n + 1 → Executes text params old new (Ok count)
+    → (new.now.schema ≡ schema_for kind f r m) × PutsAt (name_of kind) old.now.trees rest n new.now.trees
+inserts kind f r m old new text params source rest from n next count is plain sources casts has counted next_is low h =
+    let w = runs_as text params old new (schema_for kind f r m) has (Insert 1 from) is plain count h in
+    let task = counting.task (name_of kind) (columns_of kind) f r (more_with kind m) old.step_limit params in
+    let does = subst (λ s. Does old.step_limit (mode_of old) params (record old.now { schema = s })
+    (statement_of text (understood (schema_for kind f r m) text)) None (Insert 1 from) (Ok (w.tally, new.now))) has w.changed in
+    let done = written task (mode_of old) (Insert 1 from) old.now.trees w.tally new.now does in
+    let put = counting.inserted (name_of kind) (columns_of kind) f r (more_with kind m) (listed kind f r m) (quiet kind f r m) old.step_limit params
+    old.now.trees done.0 source rest from n next counted next_is low sources casts done.1 in
+    (ap (λ (d : Database). d.schema) done.2, subst (λ (d : Database). PutsAt (name_of kind) old.now.trees rest n d.trees) (sym done.2) put)

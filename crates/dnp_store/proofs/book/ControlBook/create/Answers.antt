@@ -1,0 +1,31 @@
+use Rattle.std.proofs.Common.{rules, ◌≡◌, IsTrue}
+use Rattle.sqlite.specs.State.{HasCleanDisk}
+use Rattle.sqlite.specs.Held.{state}
+use Rattle.dnp_controls.specs.Book.{empty_ledger}
+use Rattle.dnp_store.specs.BookKept.{Stands}
+use Rattle.dnp_store.specs.Tables.{no_schema}
+use Rattle.dnp_store.proofs.Numbering.{no_entries, fresh_book}
+use Rattle.dnp_store.proofs.Statements.{survives_as}
+use Rattle.dnp_store.proofs.book.ControlBook.create.Goals as goal
+
+stood : (g : _) (c : goal.After-new g) → HasCleanDisk (state g.S.Store c.write_tables.new.conn) → IsTrue c.is_bare-owned.result
+    → Stands (state g.S.Store c.write_tables.new.conn) empty_ledger
+stood g c clean own =
+    let bare : (state g.S.Store c.args.conn).now.schema ≡ no_schema = search rules in
+    let made = c.in_default.ensures.ok clean bare in
+    record { is_open = made.0; holds = no_entries (state g.S.Store c.write_tables.new.conn).committed made.1 }
+
+pub invariant_of-result : goal.invariant_of-result
+invariant_of-result g c =
+    let stands : HasCleanDisk (state g.S.Store c.write_tables.new.conn) → IsTrue c.is_bare-owned.result
+    → Stands (state g.S.Store c.write_tables.new.conn) empty_ledger = stood g c in search (rules, stands)
+
+pub returns-clause-stands : goal.returns-clause-stands
+returns-clause-stands g c =
+    let stands : HasCleanDisk (state g.S.Store c.write_tables.new.conn) → IsTrue c.is_bare-owned.result
+    → Stands (state g.S.Store c.write_tables.new.conn) empty_ledger = stood g c in search (rules, stands)
+
+pub returns-clause-made : goal.returns-clause-made
+returns-clause-made g c =
+    survives_as (state g.S.Store c.args.conn) (state g.S.Store c.write_tables.new.conn) _ _ (λ db made none. fresh_book db (made none))
+    c.write_tables.ensures.survives

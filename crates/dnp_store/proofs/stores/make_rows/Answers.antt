@@ -1,0 +1,13 @@
+use Rattle.std.proofs.Common.{[], Ok, arith, subst}
+use Rattle.sqlite.specs.State.{HasCleanDisk, Executes}
+use Rattle.sqlite.specs.Held.{state}
+use Rattle.dnp_store.proofs.Creating.{created_rows}
+use Rattle.dnp_store.proofs.stores.make_rows.Goals as goal
+
+pub returns-clause-made : goal.returns-clause-made
+returns-clause-made g c clean has =
+    let old = state g.S.Store c.args.tx.now.conn.now in
+    let new = state g.S.Store c.execute.new.self.conn.now in
+    let early : HasCleanDisk old = omega (arith, c.execute.ensures.survives.clean) in
+    created_rows c.args.kind old new c.in_ok-execute.field-0 has
+    (subst (λ sql. Executes sql [] old new (Ok c.in_ok-execute.field-0)) c.rows_text.ensures (c.in_ok-execute.ensures.runs clean (c.requires.inside early)).0)

@@ -1,0 +1,36 @@
+use Rattle.std.proofs.Common.{rules, ◌≡◌, IsTrue, arith, sym, ap, subst, ◌∙◌}
+use Rattle.std.specs.Prelude.{OnOk}
+use Rattle.sqlite.specs.State.{HasCleanDisk, Survives}
+use Rattle.sqlite.specs.Held.{state}
+use Rattle.sqlite.specs.Tree.{Trees}
+use Rattle.dnp_store.specs.Tables.{no_schema}
+use Rattle.dnp_store.specs.Stores.{HasNumber, IsFresh}
+use Rattle.dnp_store.proofs.Statements.{finished, survives_commit}
+use Rattle.dnp_store.proofs.stores.write_tables.Goals as goal
+
+done : (g : _) (c : goal.After-conn-2-1 g) → HasCleanDisk (state g.S.Store c.make_tables.new.tx.conn.now) → c.args.conn.now.schema ≡ no_schema
+    → HasNumber c.args.kind (state g.S.Store c.make_tables.new.tx.conn.now).now
+done g c clean none =
+    c.in_ok-make_tables.ensures.made clean (ap (λ h. (state g.S.Store h).now.schema) c.transaction-tx.ensures.begun ∙ none)
+
+pub returns-clause-ok : goal.returns-clause-ok
+returns-clause-ok g c clean none =
+    let mid = state g.S.Store c.make_tables.new.tx.conn.now in
+    let end = state g.S.Store c.commit.new.self.0 in
+    let same : c.commit.new.self.0 ≡ c.conn-2-1.given.0 = search rules in
+    let late : HasCleanDisk end = subst (λ h. HasCleanDisk (state g.S.Store h)) (sym same) clean in
+    let early : HasCleanDisk mid = omega (arith, late, c.commit.ensures.survives.clean) in
+    subst (λ h. OnOk c.commit.result (IsTrue (state g.S.Store h).is_open × HasNumber c.args.kind (state g.S.Store h).committed)) same
+    (finished _ _ mid end (HasNumber c.args.kind) c.commit.result (done g c early none) (c.commit.ensures.ok late))
+
+pub returns-clause-survives : goal.returns-clause-survives
+returns-clause-survives g c =
+    let mid = state g.S.Store c.make_tables.new.tx.conn.now in
+    let end = state g.S.Store c.commit.new.self.0 in
+    let old = c.args.conn.now in
+    let P = λ (db : Trees). c.args.conn.now.schema ≡ no_schema → IsFresh db in
+    let same : c.commit.new.self.0 ≡ c.conn-2-1.given.0 = search rules in
+    subst (λ h. Survives (state g.S.Store old) (state g.S.Store h) P) same
+    (survives_commit g.S.Store old c.transaction-tx.result.conn.now mid end P c.transaction-tx.ensures.begun
+    c.make_tables.ensures.step.survives c.commit.ensures.survives
+    (λ clean none. (let early : HasCleanDisk mid = omega (arith, clean, c.commit.ensures.survives.clean) in (done g c early none).holds)))

@@ -1,0 +1,101 @@
+-- Words of private steps: what the databases of the three stores have alike. (Each has the table `form`, that of its rows
+-- under ids that are counted, and that of the counts; a queue has one more.)
+use Rattle.std.specs.Prelude.{◌≡◌, ◌++◌, ℕ, pos, true, List, [], ◌∷◌, codes}
+use Rattle.sqlite.specs.declared.types.Value.TheVariants.{Int}
+use Rattle.sqlite.specs.Table.{Table}
+use Rattle.sqlite.specs.Term.{Term}
+use Rattle.sqlite.specs.Schema.{Schema}
+use Rattle.sqlite.specs.Order.{Row}
+use Rattle.sqlite.specs.Tree.{Trees}
+use Rattle.sqlite.specs.Effect.{Database, IsDatabase}
+use Rattle.sqlite.specs.State.{State}
+use Rattle.sqlite_schema.specs.declared.schema.Column.{Column}
+use Rattle.dnp_store.specs.declared.store_kind.StoreKind.{StoreKind}
+use Rattle.dnp_store.specs.declared.store_kind.StoreKind.TheVariants.{Queue, Journal, Book}
+use Rattle.dnp_store.specs.Tables.{table_of, form_with, schema_of}
+use Rattle.dnp_store.specs.QueueTables.{queue_columns, lanes_with}
+use Rattle.dnp_store.specs.JournalTables.{journal_columns}
+use Rattle.dnp_store.specs.BookTables.{book_columns}
+
+-- ---- their schemas
+
+abbrev pub name_of : StoreKind → List ℕ
+name_of Queue = codes "queue"
+name_of Journal = codes "journal"
+name_of Book = codes "control"
+
+abbrev pub columns_of : StoreKind → List Column
+columns_of Queue = queue_columns
+columns_of Journal = journal_columns
+columns_of Book = book_columns
+
+abbrev pub rows_with : StoreKind → List Term → Table
+rows_with kind checks = table_of (name_of kind) 1 (columns_of kind) true true checks
+
+abbrev pub more_with : StoreKind → List Term → List Table
+more_with Queue checks = lanes_with checks ∷ []
+more_with Journal checks = []
+more_with Book checks = []
+
+abbrev pub schema_for : StoreKind → List Term → List Term → List Term → Schema
+schema_for kind form rows more = schema_of form (rows_with kind rows) (more_with kind more)
+
+-- what makes the table of the rows
+abbrev pub rows_text : StoreKind → List ℕ
+rows_text Queue =
+    codes "CREATE TABLE queue (id INTEGER PRIMARY KEY AUTOINCREMENT CHECK (id BETWEEN 1 AND 4611686018427387904), "
+    ++ codes "lane INTEGER NOT NULL CHECK (lane BETWEEN 0 AND 8), point INTEGER NOT NULL CHECK (point BETWEEN 0 AND 65535), "
+    ++ codes "flags INTEGER NOT NULL CHECK (flags BETWEEN 0 AND 255), value INTEGER NOT NULL, "
+    ++ codes "time INTEGER CHECK (time BETWEEN 0 AND 281474976710655))"
+rows_text Journal =
+    codes "CREATE TABLE journal (id INTEGER PRIMARY KEY AUTOINCREMENT CHECK (id BETWEEN 1 AND 4611686018427387904), "
+    ++ codes "kind INTEGER NOT NULL CHECK (kind BETWEEN 0 AND 2), point INTEGER NOT NULL CHECK (point BETWEEN 0 AND 65535), "
+    ++ codes "flags INTEGER NOT NULL CHECK (flags BETWEEN 0 AND 255), value INTEGER NOT NULL, "
+    ++ codes "time INTEGER CHECK (time BETWEEN 0 AND 281474976710655))"
+rows_text Book =
+    codes "CREATE TABLE control (id INTEGER PRIMARY KEY AUTOINCREMENT CHECK (id BETWEEN 1 AND 4611686018427387904), "
+    ++ codes "target INTEGER NOT NULL CHECK (target BETWEEN 0 AND 15), kind INTEGER NOT NULL CHECK (kind BETWEEN 0 AND 2), "
+    ++ codes "point INTEGER NOT NULL CHECK (point BETWEEN 0 AND 65535), code INTEGER NOT NULL CHECK (code BETWEEN 0 AND 255), "
+    ++ codes "count INTEGER NOT NULL CHECK (count BETWEEN 0 AND 255), on_ms INTEGER NOT NULL CHECK (on_ms BETWEEN 0 AND 4294967295), "
+    ++ codes "off_ms INTEGER NOT NULL CHECK (off_ms BETWEEN 0 AND 4294967295), "
+    ++ codes "value INTEGER NOT NULL CHECK (value BETWEEN -2147483648 AND 2147483647), "
+    ++ codes "state INTEGER NOT NULL CHECK (state BETWEEN 0 AND 2), status INTEGER NOT NULL CHECK (status BETWEEN 0 AND 127))"
+
+-- ---- what queries show of them
+
+-- a store's database shows this of its trees, and stays as it was
+abbrev pub Reads : StoreKind → State → State → (Trees → Type 0) → Type 0
+Reads kind old new P =
+    (form rows more : List Term) → IsDatabase old.now → old.now.schema ≡ schema_for kind form rows more → (new.now ≡ old.now) × P old.now.trees
+
+-- ---- how they are made
+
+abbrev pub form_schema : List Term → Schema
+form_schema form = record { tables = form_with form ∷ []; indexes = []; views = [] }
+
+-- `form` alone is there, and has no row
+pub record HasForm (db : Database) : Type 0 where
+  pub form : List Term
+  pub schema : db.schema ≡ form_schema form
+  pub empty : db.trees 0 ≡ []
+
+-- the three tables are there, and have no row
+pub record HasTables (kind : StoreKind) (db : Database) : Type 0 where
+  pub form : List Term
+  pub rows : List Term
+  pub schema : db.schema ≡ schema_of form (rows_with kind rows) []
+  pub empty : (db.trees 0 ≡ []) × (db.trees 1 ≡ []) × (db.trees 2 ≡ [])
+
+abbrev pub number_row : Row
+number_row = Int (pos 1) ∷ Int (pos 1) ∷ []
+
+-- `form` has its number, and the others have no row
+pub record IsFresh (db : Trees) : Type 0 where
+  pub number : db 0 ≡ number_row ∷ []
+  pub empty : (db 1 ≡ []) × (db 2 ≡ [])
+
+pub record HasNumber (kind : StoreKind) (db : Database) : Type 0 where
+  pub form : List Term
+  pub rows : List Term
+  pub schema : db.schema ≡ schema_of form (rows_with kind rows) []
+  pub holds : IsFresh db.trees

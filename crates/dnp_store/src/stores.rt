@@ -1,0 +1,115 @@
+//! What all stores do alike inside a transaction: they look at the number of their form and at the last id
+//! used, and make the tables that each of them begins with.
+
+ghost use Rattle.std.specs.Prelude.{◌≡◌, ℕ, List, IsTrue, false, OnOk, OnErr, IfOk, []};
+ghost use Rattle.sqlite.specs.Held.{state};
+ghost use Rattle.sqlite.specs.State.{HasCleanDisk, Shown, Survives};
+ghost use Rattle.dnp_store.specs.Inside.{IsInside, IsStep};
+ghost use Rattle.dnp_store.specs.QueueTables.{IsForm1};
+ghost use Rattle.dnp_store.specs.Shown.{ShowsCount};
+ghost use Rattle.dnp_store.specs.Stores.{HasForm, HasNumber, HasTables, IsFresh, Reads};
+ghost use Rattle.dnp_store.specs.Tables.{IsCounted, no_schema};
+
+use crate::decoding::form1;
+use crate::fault::Unread;
+use crate::store_kind::{StoreKind, rows_text};
+use sqlite::{Alter, Connection, Error, Row, Transaction};
+
+/// What a query without parameters shows.
+pub(crate) fn list<S: Alter>(tx: &mut Transaction<'_, S>, sql: &str) -> Result<Vec<Row>, Error>
+    requires inside { IsInside S.Store tx.old.conn }
+    ensures step { IsStep S.Store tx.old.conn tx.new.conn result }
+    ensures open { HasCleanDisk (state S.Store tx.new.conn.now) → OnOk result (IsTrue (state S.Store tx.old.conn.now).is_open) }
+    ensures shown { HasCleanDisk (state S.Store tx.new.conn.now) → IfOk result (λ rows. Shown sql.now [] (state S.Store tx.old.conn.now) (state S.Store tx.new.conn.now) rows.items) }
+{
+    tx.query_all(sql, &[])
+}
+
+/// Looks whether `form` is one row with the number 1.
+pub(crate) fn read_form<S: Alter>(tx: &mut Transaction<'_, S>) -> Result<(), Unread>
+    requires inside { IsInside S.Store tx.old.conn }
+    ensures step { IsStep S.Store tx.old.conn tx.new.conn result }
+    ensures open { HasCleanDisk (state S.Store tx.new.conn.now) → OnOk result (IsTrue (state S.Store tx.old.conn.now).is_open) }
+    ensures read { HasCleanDisk (state S.Store tx.new.conn.now) → OnOk result ((kind : StoreKind) → Reads kind (state S.Store tx.old.conn.now) (state S.Store tx.new.conn.now) (λ db. IsForm1 (db 0))) }
+{
+    let rows = list(tx, "SELECT rowid, number FROM form ORDER BY rowid")?;
+    match form1(&rows) {
+        Some(_id) => Ok(()),
+        None => Err(Unread::Form),
+    }
+}
+
+/// The rows of `sqlite_sequence`: the table and the last id used.
+pub(crate) fn read_counts<S: Alter>(tx: &mut Transaction<'_, S>) -> Result<Vec<Row>, Error>
+    requires inside { IsInside S.Store tx.old.conn }
+    ensures step { IsStep S.Store tx.old.conn tx.new.conn result }
+    ensures open { HasCleanDisk (state S.Store tx.new.conn.now) → OnOk result (IsTrue (state S.Store tx.old.conn.now).is_open) }
+    ensures read { HasCleanDisk (state S.Store tx.new.conn.now) → IfOk result (λ rows. (kind : StoreKind) → Reads kind (state S.Store tx.old.conn.now) (state S.Store tx.new.conn.now)
+        (λ db. (table : List ℕ) (n : ℕ) → ShowsCount table rows.items n → IsCounted table (db 2) n)) }
+{
+    list(
+        tx,
+        "SELECT rowid, name, seq FROM sqlite_sequence ORDER BY rowid",
+    )
+}
+
+/// Makes `form`.
+fn make_form<S: Alter>(tx: &mut Transaction<'_, S>) -> Result<(), Error>
+    requires inside { IsInside S.Store tx.old.conn }
+    ensures step { IsStep S.Store tx.old.conn tx.new.conn result }
+    ensures made { HasCleanDisk (state S.Store tx.new.conn.now) → OnOk result ((state S.Store tx.old.conn.now).now.schema ≡ no_schema → HasForm (state S.Store tx.new.conn.now).now) }
+{
+    tx.execute(
+        "CREATE TABLE form (number INTEGER NOT NULL CHECK (number BETWEEN 1 AND 1000))",
+        &[],
+    )?;
+    Ok(())
+}
+
+/// Makes the table of the store's rows.
+fn make_rows<S: Alter>(tx: &mut Transaction<'_, S>, kind: StoreKind) -> Result<(), Error>
+    requires inside { IsInside S.Store tx.old.conn }
+    ensures step { IsStep S.Store tx.old.conn tx.new.conn result }
+    ensures made { HasCleanDisk (state S.Store tx.new.conn.now) → OnOk result (HasForm (state S.Store tx.old.conn.now).now → HasTables kind (state S.Store tx.new.conn.now).now) }
+{
+    tx.execute(rows_text(kind), &[])?;
+    Ok(())
+}
+
+/// Puts the number of the form into `form`.
+fn put_number<S: Alter>(tx: &mut Transaction<'_, S>) -> Result<(), Error>
+    requires inside { IsInside S.Store tx.old.conn }
+    ensures step { IsStep S.Store tx.old.conn tx.new.conn result }
+    ensures made { HasCleanDisk (state S.Store tx.new.conn.now) → OnOk result ((kind : StoreKind) → HasTables kind (state S.Store tx.old.conn.now).now → HasNumber kind (state S.Store tx.new.conn.now).now) }
+{
+    tx.execute("INSERT INTO form VALUES (1)", &[])?;
+    Ok(())
+}
+
+/// Makes what a store begins with: `form` with its number, and the table of its rows.
+pub(crate) fn make_tables<S: Alter>(
+    tx: &mut Transaction<'_, S>,
+    kind: StoreKind,
+) -> Result<(), Error>
+    requires inside { IsInside S.Store tx.old.conn }
+    ensures step { IsStep S.Store tx.old.conn tx.new.conn result }
+    ensures made { HasCleanDisk (state S.Store tx.new.conn.now) → OnOk result ((state S.Store tx.old.conn.now).now.schema ≡ no_schema → HasNumber kind (state S.Store tx.new.conn.now).now) }
+{
+    make_form(tx)?;
+    make_rows(tx, kind)?;
+    put_number(tx)
+}
+
+/// Makes the tables of a journal or a book without rows, in one transaction.
+pub(crate) fn write_tables<S: Alter>(conn: &mut Connection<S>, kind: StoreKind) -> Result<(), Error>
+    requires idle { conn.old.in_transaction ≡ false }
+    ensures idle { conn.new.in_transaction ≡ false }
+    ensures ok { HasCleanDisk (state S.Store conn.new) → (state S.Store conn.old).now.schema ≡ no_schema
+        → OnOk result (IsTrue (state S.Store conn.new).is_open × HasNumber kind (state S.Store conn.new).committed) }
+    ensures err { HasCleanDisk (state S.Store conn.new) → IsTrue (state S.Store conn.new).is_open → OnErr result (IsTrue (state S.Store conn.old).is_open × ((state S.Store conn.new).committed ≡ (state S.Store conn.old).committed)) }
+    ensures survives { Survives (state S.Store conn.old) (state S.Store conn.new) (λ db. (state S.Store conn.old).now.schema ≡ no_schema → IsFresh db) }
+{
+    let mut tx = conn.transaction();
+    make_tables(&mut tx, kind)?;
+    tx.commit()
+}
