@@ -22,6 +22,10 @@ impl Station for Echo {
 
     ghost state = { λ _. tt };
 
+    ghost Kept = { ⊤ };
+
+    ghost kept = { λ _. tt };
+
     ghost honest = { λ _. ⊤ };
 
     ghost opens = { λ _ _ _ _. ⊤ };

@@ -34,11 +34,15 @@ impl<'a, Q: Lanes, B: Book> Station for Above<'a, Q, B> {
     ghost use Rattle.dnp_streams.specs.streams.Dialogues.{asks_nothing};
     ghost use Rattle.dnp_streams.specs.streams.Outstations.{Seen, IsOpened, Receives, hung_up_of};
     ghost use Rattle.dnp_streams.specs.streams.Concentrators.{above_seen};
-    ghost use Rattle.dnp_streams.specs.streams.Lent.{lent_above};
+    ghost use Rattle.dnp_streams.specs.streams.Lent.{KeptAbove, kept_above, lent_above};
 
     ghost State = { Seen };
 
     ghost state = { λ s. above_seen Q.contents B.contents (lent_above s).now };
+
+    ghost Kept = { KeptAbove };
+
+    ghost kept = { λ s. kept_above s };
 
     ghost honest = { λ s. Q.honest (queue_of (lent_above s).now) × IsBookWell B.honest B.is_stopped (lent_above s).now };
 

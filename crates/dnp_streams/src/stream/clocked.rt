@@ -3,7 +3,7 @@
 ghost use Rattle.std.specs.Prelude.{◌≡◌, ◌+◌, ◌<◌, min, length, All, IfOk, OnErr};
 ghost use Rattle.dnp_streams.specs.streams.Clocks.{OpensSometime, ReceivesSometime};
 ghost use Rattle.dnp_streams.specs.streams.Counts.{most};
-ghost use Rattle.dnp_streams.specs.streams.Lent.{clock_of, fragments_given, lent_station, moment_of};
+ghost use Rattle.dnp_streams.specs.streams.Lent.{clock_of, fragments_given, kept_clocked, lent_station, moment_of};
 ghost use Rattle.dnp_streams.specs.streams.Stations.{answer_of};
 
 use crate::stream::station::{Answer, Station, StationFault};
@@ -64,11 +64,15 @@ impl<'a, S: Station, C: Clock> Clocked<'a, S, C> {
 impl<'a, S: Station, C: Clock> Station for Clocked<'a, S, C> {
     ghost use Rattle.dnp_streams.specs.streams.Dialogues.{asks_nothing};
     ghost use Rattle.dnp_streams.specs.streams.Clocks.{OpensSometime, ReceivesSometime};
-    ghost use Rattle.dnp_streams.specs.streams.Lent.{lent_station};
+    ghost use Rattle.dnp_streams.specs.streams.Lent.{KeptClocked, lent_station};
 
     ghost State = { S.State };
 
     ghost state = { λ s. S.state (lent_station s).now };
+
+    ghost Kept = { KeptClocked S.Kept };
+
+    ghost kept = { λ s. kept_clocked S.kept s };
 
     ghost honest = { λ s. S.honest (lent_station s).now };
 
@@ -81,6 +85,7 @@ impl<'a, S: Station, C: Clock> Station for Clocked<'a, S, C> {
     ghost hung_up_of = { S.hung_up_of };
 
     fn opened(&mut self, alloc: Global, _now: u64) -> Result<Answer, StationFault>
+        ensures kept { kept_clocked S.kept self.new ≡ kept_clocked S.kept self.old }
         ensures held { S.honest (lent_station self.new).now → S.honest (lent_station self.old).now }
         ensures answered { S.honest (lent_station self.new).now → IfOk result (λ answer. OpensSometime S.opens (S.state (lent_station self.old).now)
             _now (answer_of answer) (S.state (lent_station self.new).now)) }
@@ -93,6 +98,7 @@ impl<'a, S: Station, C: Clock> Station for Clocked<'a, S, C> {
     }
 
     fn receive(&mut self, alloc: Global, _now: u64, octets: &[u8]) -> Result<Answer, StationFault>
+        ensures kept { kept_clocked S.kept self.new ≡ kept_clocked S.kept self.old }
         ensures held { S.honest (lent_station self.new).now → S.honest (lent_station self.old).now }
         ensures answered { S.honest (lent_station self.new).now → IfOk result (λ answer. ReceivesSometime S.receives (S.state (lent_station self.old).now)
             _now octets.now (answer_of answer) (S.state (lent_station self.new).now)) }
@@ -106,6 +112,7 @@ impl<'a, S: Station, C: Clock> Station for Clocked<'a, S, C> {
     }
 
     fn hung_up(&mut self)
+        ensures kept { kept_clocked S.kept self.new ≡ kept_clocked S.kept self.old }
         ensures held { S.honest (lent_station self.new).now → S.honest (lent_station self.old).now }
         ensures hung_up { S.honest (lent_station self.new).now → S.state (lent_station self.new).now ≡ S.hung_up_of (S.state (lent_station self.old).now) }
         ensures given { fragments_given self.new ≡ fragments_given self.old }

@@ -29,6 +29,7 @@ pub(super) fn answer_with(mut actions: Actions) -> Answer
 }
 
 impl<L: Lanes, O: Outputs> Station for Outstation<L, O> {
+    ghost use Rattle.std.specs.Prelude.{⊤};
     ghost use Rattle.dnp_outstation.specs.Parts.{lanes_of, outputs_of};
     ghost use Rattle.dnp_streams.specs.streams.Dialogues.{asks_nothing};
     ghost use Rattle.dnp_streams.specs.streams.Outstations.{Seen, seen_of, IsOpened, Receives, hung_up_of};
@@ -36,6 +37,10 @@ impl<L: Lanes, O: Outputs> Station for Outstation<L, O> {
     ghost State = { Seen };
 
     ghost state = { λ s. seen_of L.contents O.panel s };
+
+    ghost Kept = { ⊤ };
+
+    ghost kept = { λ _. tt };
 
     ghost honest = { λ s. L.honest (lanes_of s) × O.honest (outputs_of s) };
 

@@ -45,6 +45,12 @@ pub trait Station {
     /// The state that it is in.
     ghost state: { Self → State };
 
+    /// What no call changes, whatever it answers; of a station that was lent something, by which reference it holds that,
+    /// so that whoever lent it knows what it is once the loan is over.
+    ghost Kept: { Type 0 };
+
+    ghost kept: { Self → Kept };
+
     /// So far its stores have given back what was written to them.
     ghost honest: { Self → Type 0 };
 
@@ -62,6 +68,7 @@ pub trait Station {
 
     /// A connection begins.
     fn opened(&mut self, alloc: Global, now: u64) -> Result<Answer, StationFault>
+        ensures kept { kept self.new ≡ kept self.old }
         ensures held { honest self.new → honest self.old }
         ensures answered { honest self.new → IfOk result (λ answer. opens (state self.old) now (answer_of answer) (state self.new)) }
         ensures unchanged { honest self.new → OnErr result (state self.new ≡ state self.old) }
@@ -69,6 +76,7 @@ pub trait Station {
 
     /// A fragment came.
     fn receive(&mut self, alloc: Global, now: u64, octets: &[u8]) -> Result<Answer, StationFault>
+        ensures kept { kept self.new ≡ kept self.old }
         ensures held { honest self.new → honest self.old }
         ensures answered { honest self.new → IfOk result (λ answer. receives (state self.old) now octets.now (answer_of answer) (state self.new)) }
         ensures unchanged { honest self.new → OnErr result (state self.new ≡ state self.old) }
@@ -76,6 +84,7 @@ pub trait Station {
 
     /// The connection ends.
     fn hung_up(&mut self)
+        ensures kept { kept self.new ≡ kept self.old }
         ensures held { honest self.new → honest self.old }
         ensures hung_up { honest self.new → state self.new ≡ hung_up_of (state self.old) };
 }
