@@ -1,9 +1,8 @@
 -- Definition: what masters ask and relay on streams.
 use Rattle.std.specs.Prelude.{◌≡◌, ℕ, ◌<◌, ◌≤◌, ◌&&◌, nat_lt, Bool, List, length, Ok, Err}
-use Rattle.dnp_controls.specs.declared.book.Entry.{Entry}
 use Rattle.dnp_concentrator.specs.Below.{link_in}
-use Rattle.dnp_concentrator.specs.Relayed.{Tells}
-use Rattle.dnp_concentrator.specs.Relaying.{asking, relaying_after, step_of}
+use Rattle.dnp_concentrator.specs.Relayed.{IfSent, IsSpentBy, Tells}
+use Rattle.dnp_concentrator.specs.Relaying.{Step as RelayStep, asking, ledger_after, relaying_after, step_of}
 use Rattle.dnp_concentrator.specs.declared.relayed.Relayed.{Relayed}
 use Rattle.dnp_concentrator.specs.declared.relayed.Relayed.TheVariants.{Nothing}
 use Rattle.dnp_master.specs.Calls.{ask_answer}
@@ -28,11 +27,19 @@ pub data RefusesBelow (old : BelowSeen) (task : Task) (fault : AskFault) : Type 
   Declined : old.link < length old.links → ask_answer (link_in old.links old.link).master task ≡ Err fault → RefusesBelow old task fault
   Missing : length old.links ≤ old.link → fault ≡ Closed → RefusesBelow old task fault
 
--- a step of relaying by what a book has; where there is no such substation, nothing happens
+-- the step of relaying by the concentrator's book
+abbrev pub step_below : BelowSeen → RelayStep
+step_below s = step_of (link_in s.links s.link) s.controls.entries s.link
+
+-- The book becomes what the step makes of it: a control whose OPERATE is sent was pending there, and is spent by this very call. Where
+-- there is no such substation, nothing happens.
 pub data RelaysBelow (old : BelowSeen) (now : ℕ) (relayed : Relayed) (new : BelowSeen) : Type 0 where
-  Stepped : old.link < length old.links → (entries : List Entry)
-      → Tells (link_in old.links old.link).master.seq (step_of (link_in old.links old.link) entries old.link) relayed
-      → new ≡ record old { links = with_link old (λ link. relaying_after link now (step_of link entries old.link)) }
+  Stepped : old.link < length old.links → Tells (link_in old.links old.link).master.seq (step_below old) relayed
+      → new ≡ record old {
+        links = with_link old (λ link. relaying_after link now (step_below old));
+        controls = ledger_after old.controls (step_below old);
+      }
+      → IfSent relayed (IsSpentBy old.controls new.controls)
       → RelaysBelow old now relayed new
   Absent : length old.links ≤ old.link → relayed ≡ Nothing → new ≡ old → RelaysBelow old now relayed new
 
@@ -54,11 +61,15 @@ pub record CentreAsks (old : CentreSeen) (now : ℕ) (task : Task) (request : Li
 abbrev pub CentreRefuses : CentreSeen → Task → AskFault → Type 0
 CentreRefuses old task fault = ask_answer old.link.master task ≡ Err fault
 
--- a step of relaying by what a book has
+-- the step of relaying by the centre's book, whose one target is the station below
+abbrev pub centre_step : CentreSeen → RelayStep
+centre_step s = step_of s.link s.orders.entries 0
+
+-- the book becomes what the step makes of it: a control whose OPERATE is sent was pending there, and is spent by this very call
 pub record CentreRelays (old : CentreSeen) (now : ℕ) (relayed : Relayed) (new : CentreSeen) : Type 0 where
-  pub entries : List Entry
-  pub told : Tells old.link.master.seq (step_of old.link entries 0) relayed
-  pub after : new ≡ record old { link = relaying_after old.link now (step_of old.link entries 0) }
+  pub told : Tells old.link.master.seq (centre_step old) relayed
+  pub after : new ≡ record old { link = relaying_after old.link now (centre_step old); orders = ledger_after old.orders (centre_step old) }
+  pub spent : IfSent relayed (IsSpentBy old.orders new.orders)
 
 abbrev pub is_centre_idle : CentreSeen → Bool
 is_centre_idle s = is_idle s.link.master

@@ -7,7 +7,7 @@ use Rattle.dnp_outstation.specs.State.{Core}
 use Rattle.dnp_outstation.specs.Station.{with_points}
 use Rattle.dnp_concentrator.specs.Below.{link_in, readings_set}
 use Rattle.dnp_concentrator.specs.BookOutputs.{panel_of}
-use Rattle.dnp_concentrator.specs.Concentrator.{above_of, core_of, indices_of, links_of, outputs_of, queue_of, without_link}
+use Rattle.dnp_concentrator.specs.Concentrator.{above_of, book_of, core_of, indices_of, links_of, outputs_of, queue_of, without_link}
 use Rattle.dnp_concentrator.specs.Mapped.{queued_rows}
 use Rattle.dnp_concentrator.specs.Relaying.{Relaying, hung_up, opened, received}
 use Rattle.dnp_concentrator.specs.declared.concentrator.Concentrator.{Concentrator}
@@ -18,17 +18,24 @@ use Rattle.dnp_streams.specs.streams.Stations.{Answer}
 
 -- ---- the link to one substation
 
--- the substation's number; the links, the outstation above, the index map, and what the queue holds
+-- the substation's number; the links, the outstation above, the index map, what the queue holds, and what the book of controls does
 pub record BelowSeen : Type 0 where
   pub link : ℕ
   pub links : List Relaying
   pub core : Core
   pub indices : List Spans
   pub queue : Stock
+  pub controls : Ledger
 
-abbrev pub below_seen : {Q B : Type 0} → (Q → Stock) → Concentrator Q B → ℕ → BelowSeen
-below_seen contents c link =
-    record { link = link; links = links_of c; core = core_of c; indices = indices_of c; queue = contents (queue_of c) }
+abbrev pub below_seen : {Q B : Type 0} → (Q → Stock) → (B → Ledger) → Concentrator Q B → ℕ → BelowSeen
+below_seen contents ledger c link = record {
+  link = link;
+  links = links_of c;
+  core = core_of c;
+  indices = indices_of c;
+  queue = contents (queue_of c);
+  controls = ledger (book_of c);
+}
 
 -- the substation's link becomes this one
 abbrev pub with_link : BelowSeen → (Relaying → Relaying) → List Relaying

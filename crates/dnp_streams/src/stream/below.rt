@@ -49,7 +49,7 @@ impl<'a, Q: Lanes, B: Book> Station for Below<'a, Q, B> {
 
     ghost State = { BelowSeen };
 
-    ghost state = { λ s. below_seen Q.contents (lent_below s).now (substation_of s) };
+    ghost state = { λ s. below_seen Q.contents B.contents (lent_below s).now (substation_of s) };
 
     ghost Kept = { KeptBelow };
 

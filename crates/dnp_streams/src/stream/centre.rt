@@ -18,7 +18,7 @@ impl<J: JournalStore, B: Book> Station for Centre<J, B> {
 
     ghost State = { CentreSeen };
 
-    ghost state = { λ c. centre_seen J.archive c };
+    ghost state = { λ c. centre_seen J.archive B.contents c };
 
     ghost Kept = { List Spans };
 

@@ -1,5 +1,5 @@
 use Rattle.std.proofs.Common.{rules, ◌<◌, length, ap}
-use Rattle.dnp_concentrator.specs.Concentrator.{core_of, indices_of, links_of, queue_of}
+use Rattle.dnp_concentrator.specs.Concentrator.{book_of, core_of, indices_of, links_of, queue_of}
 use Rattle.dnp_streams.proofs.streams.Taken.{relayed_below}
 use Rattle.dnp_streams.proofs.stream.below.BelowAsker.relay.Goals as goal
 
@@ -9,6 +9,7 @@ returns-clause-relayed g c honest =
     let new = c.relay.new.self in
     let at = c.args.self.now.link in
     let there : at < length (links_of old) = search rules in
-    relayed_below c.relay.result _ c.args.now at (links_of old) (links_of new) (core_of old) (core_of new) (indices_of old) (indices_of new)
-    (g.Q.Lanes.contents (queue_of old)) (g.Q.Lanes.contents (queue_of new)) there (c.relay.ensures.told honest.1) (c.relay.ensures.link honest.1)
+    relayed_below c.relay.result c.args.now at (links_of old) (links_of new) (core_of old) (core_of new) (indices_of old) (indices_of new)
+    (g.Q.Lanes.contents (queue_of old)) (g.Q.Lanes.contents (queue_of new)) (g.B.Book.contents (book_of old)) (g.B.Book.contents (book_of new)) there
+    (c.relay.ensures.told honest.1) (c.relay.ensures.link honest.1) (c.relay.ensures.ledger honest.1) (c.relay.ensures.spent honest.1)
     c.relay.ensures.core c.relay.ensures.indices (ap g.Q.Lanes.contents c.relay.ensures.queue)

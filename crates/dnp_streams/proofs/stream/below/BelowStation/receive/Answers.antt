@@ -1,7 +1,7 @@
 use Rattle.std.proofs.Common.{rules, ◌<◌, length, ap}
 use Rattle.std.proofs.lemmas.Result.{MatchResult-at_ok}
 use Rattle.dnp_concentrator.specs.Concentrator.{links_of, taking_at}
-use Rattle.dnp_concentrator.specs.BookOutputs.{map_in}
+use Rattle.dnp_concentrator.specs.BookOutputs.{book_in, map_in}
 use Rattle.dnp_streams.specs.streams.Concentrators.BelowReceives.{Taken}
 use Rattle.dnp_streams.proofs.streams.Taken.{taken, answered, seen}
 use Rattle.dnp_streams.proofs.stream.below.BelowStation.receive.Goals as goal
@@ -18,4 +18,5 @@ returns-in-Ok-clause-answered g c honest =
     let queue = MatchResult-at_ok _ _ found.0 found.1 (told.queued honest.0) in
     let by = MatchResult-at_ok _ _ found.0 found.1 told.actions in
     Taken there found.0 found.1 (answered _ _ found.0 _ c.answer_taking.ensures.answer by)
-    (seen at _ _ _ _ _ _ _ _ links core (ap (λ outputs. map_in outputs) told.outputs) queue)
+    (seen at _ _ _ _ _ _ _ _ _ _ links core (ap (λ outputs. map_in outputs) told.outputs) queue
+    (ap (λ outputs. g.B.Book.contents (book_in outputs)) told.outputs))
