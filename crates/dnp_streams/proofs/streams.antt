@@ -8,3 +8,4 @@ pub mod Clocking
 pub mod Taken
 pub mod Dialogues
 pub mod Talking
+pub mod Refused

@@ -5,7 +5,7 @@ ghost use Rattle.dnp_linkframe.specs.Stream.{Gives};
 ghost use Rattle.dnp_streams.specs.AnswerLine.{IsPrinted};
 ghost use Rattle.dnp_streams.specs.streams.Spelled.{AreSpelled};
 ghost use Rattle.dnp_streams.specs.streams.OneWay.{OpensOneWay, ReceivesOneWay, OneOutput};
-ghost use Rattle.dnp_streams.specs.streams.Outstations.{IsOpened, Receives, ShowOneWay};
+ghost use Rattle.dnp_streams.specs.streams.Outstations.{ShowOneWay, outstation_opens, outstation_receives};
 ghost use Rattle.dnp_streams.specs.declared.address.TheConstants as address;
 ghost use Rattle.dnp_streams.specs.declared.input.TheConstants as input;
 ghost use Rattle.dnp_streams.specs.declared.octets.TheConstants as octets;
@@ -47,8 +47,8 @@ pub fn what_is_written_is_read()
 
 /// The steps of an outstation come out in one way, where what its outputs show does.
 pub fn an_outstation_comes_out_in_one_way<O: Outputs>()
-    ensures opens { OpensOneWay IsOpened }
-    ensures receives { ShowOneWay O.panel O.performs → ReceivesOneWay (Receives O.panel O.performs) }
+    ensures opens { OpensOneWay outstation_opens }
+    ensures receives { ShowOneWay O.panel O.performs → ReceivesOneWay (outstation_receives O.panel O.performs) }
 {}
 
 /// What outputs in memory show after commands comes out in one way. So does what no outputs show.

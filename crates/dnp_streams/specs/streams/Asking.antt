@@ -1,8 +1,10 @@
 -- Definition: what masters ask and relay on streams.
-use Rattle.std.specs.Prelude.{◌≡◌, ℕ, ◌<◌, ◌≤◌, ◌&&◌, nat_lt, Bool, List, length, Ok, Err}
+use Rattle.std.specs.Prelude.{◌≡◌, ◌≢◌, ℕ, ◌<◌, ◌≤◌, ◌&&◌, nat_lt, Bool, true, List, length, Ok, Err}
+use Rattle.dnp_controls.specs.declared.book.BookFault.{BookFault}
+use Rattle.dnp_controls.specs.declared.book.BookFault.TheVariants.{Exhausted}
 use Rattle.dnp_concentrator.specs.Below.{link_in}
-use Rattle.dnp_concentrator.specs.Relayed.{IfSent, IsSpentBy, Tells}
-use Rattle.dnp_concentrator.specs.Relaying.{Step as RelayStep, asking, ledger_after, relaying_after, step_of}
+use Rattle.dnp_concentrator.specs.Relayed.{IfSent, IsSpentBy, Tells, asks_book}
+use Rattle.dnp_concentrator.specs.Relaying.{Relaying, Step as RelayStep, asking, ledger_after, relaying_after, step_of}
 use Rattle.dnp_concentrator.specs.declared.relayed.Relayed.{Relayed}
 use Rattle.dnp_concentrator.specs.declared.relayed.Relayed.TheVariants.{Nothing}
 use Rattle.dnp_master.specs.Calls.{ask_answer}
@@ -13,6 +15,10 @@ use Rattle.dnp_master.specs.declared.task.Task.{Task}
 use Rattle.dnp_streams.specs.streams.Centres.{CentreSeen}
 use Rattle.dnp_streams.specs.streams.Concentrators.{BelowSeen, with_link}
 use Rattle.dnp_streams.specs.streams.Dialogues.{Asking}
+
+-- a step of relaying is refused by the book alone, where the step asks it, and never for want of numbers
+abbrev pub IsRefusedByBook : Relaying → BookFault → Type 0
+IsRefusedByBook link fault = (asks_book link ≡ true) × (fault ≢ Exhausted)
 
 -- ---- the link to one substation
 
@@ -43,12 +49,17 @@ pub data RelaysBelow (old : BelowSeen) (now : ℕ) (relayed : Relayed) (new : Be
       → RelaysBelow old now relayed new
   Absent : length old.links ≤ old.link → relayed ≡ Nothing → new ≡ old → RelaysBelow old now relayed new
 
+-- the step is refused, where there is such a substation
+pub record RefusesRelayBelow (old : BelowSeen) (fault : BookFault) : Type 0 where
+  pub there : old.link < length old.links
+  pub by_book : IsRefusedByBook (link_in old.links old.link) fault
+
 -- it is open and awaits no response; a substation that is not there never is
 abbrev pub is_below_idle : BelowSeen → Bool
 is_below_idle s = nat_lt s.link (length s.links) && is_idle (link_in s.links s.link).master
 
 abbrev pub below_asking : Asking BelowSeen
-below_asking = record { asks = AsksBelow; refuses = RefusesBelow; relays = RelaysBelow; is_idle = is_below_idle }
+below_asking = record { asks = AsksBelow; refuses = RefusesBelow; relays = RelaysBelow; refuses_relay = RefusesRelayBelow; is_idle = is_below_idle }
 
 -- ---- a centre
 
@@ -71,8 +82,12 @@ pub record CentreRelays (old : CentreSeen) (now : ℕ) (relayed : Relayed) (new 
   pub after : new ≡ record old { link = relaying_after old.link now (centre_step old); orders = ledger_after old.orders (centre_step old) }
   pub spent : IfSent relayed (IsSpentBy old.orders new.orders)
 
+-- the step is refused
+abbrev pub CentreRefusesRelay : CentreSeen → BookFault → Type 0
+CentreRefusesRelay old fault = IsRefusedByBook old.link fault
+
 abbrev pub is_centre_idle : CentreSeen → Bool
 is_centre_idle s = is_idle s.link.master
 
 abbrev pub centre_asking : Asking CentreSeen
-centre_asking = record { asks = CentreAsks; refuses = CentreRefuses; relays = CentreRelays; is_idle = is_centre_idle }
+centre_asking = record { asks = CentreAsks; refuses = CentreRefuses; relays = CentreRelays; refuses_relay = CentreRefusesRelay; is_idle = is_centre_idle }

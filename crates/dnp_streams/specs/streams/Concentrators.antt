@@ -1,7 +1,7 @@
 -- Definition: a concentrator's stations as a stream sees them: the link to one substation, and the outstation above.
 use Rattle.std.specs.Prelude.{◌≡◌, ℕ, ◌<◌, ◌≤◌, nat_lt, if◌then◌else◌, List, Ok, length, slice_set}
 use Rattle.dnp_controls.specs.Book.{Ledger}
-use Rattle.dnp_eventbuf.specs.Stock.{Stock, with_rows}
+use Rattle.dnp_eventbuf.specs.Stock.{Stock, exhausts, with_rows}
 use Rattle.dnp_master.specs.Calls.{Taking, receive_of}
 use Rattle.dnp_outstation.specs.State.{Core}
 use Rattle.dnp_outstation.specs.Station.{with_points}
@@ -12,9 +12,10 @@ use Rattle.dnp_concentrator.specs.Mapped.{queued_rows}
 use Rattle.dnp_concentrator.specs.Relaying.{Relaying, hung_up, opened, received}
 use Rattle.dnp_concentrator.specs.declared.concentrator.Concentrator.{Concentrator}
 use Rattle.dnp_concentrator.specs.declared.span.Spans.{Spans}
-use Rattle.dnp_streams.specs.streams.Masters.{nothing_answered, answer_taking}
+use Rattle.dnp_streams.specs.declared.stream.station.StationFault.{StationFault}
+use Rattle.dnp_streams.specs.streams.Masters.{RefusesRows, nothing_answered, answer_taking}
 use Rattle.dnp_streams.specs.streams.Outstations.{Seen}
-use Rattle.dnp_streams.specs.streams.Stations.{Answer}
+use Rattle.dnp_streams.specs.streams.Stations.{Answer, Opening, Receiving}
 
 -- ---- the link to one substation
 
@@ -63,6 +64,19 @@ pub data BelowReceives (old : BelowSeen) (now : ℕ) (octets : List ℕ) (answer
       }
       → BelowReceives old now octets answer new
   Missing : length old.links ≤ old.link → answer ≡ nothing_answered → new ≡ old → BelowReceives old now octets answer new
+
+-- an opening is never refused
+abbrev pub below_opens : Opening BelowSeen
+below_opens = record { answers = OpensBelow; refuses = λ old now fault. ⊥ }
+
+-- a fragment is, by the master or by the queue, where there is such a substation
+pub record BelowRefuses (old : BelowSeen) (now : ℕ) (octets : List ℕ) (fault : StationFault) : Type 0 where
+  pub there : old.link < length old.links
+  pub by_rows : RefusesRows (receive_of (link_in old.links old.link).master now octets)
+      (λ t. exhausts old.queue (queued_rows old.indices old.core.points old.link t.events)) fault
+
+abbrev pub below_receives : Receiving BelowSeen
+below_receives = record { answers = BelowReceives; refuses = BelowRefuses }
 
 -- a hang-up, after which the readings above are marked lost
 abbrev pub below_hung_up : BelowSeen → BelowSeen

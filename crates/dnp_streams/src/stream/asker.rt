@@ -27,6 +27,7 @@ pub trait Asker: Station {
         ensures kept { Self.kept self.new ≡ Self.kept self.old }
         ensures held { Self.honest self.new → Self.honest self.old }
         ensures relayed { Self.honest self.new → IfOk result (λ relayed. Self.asking.relays (Self.state self.old) now relayed (Self.state self.new)) }
+        ensures refused { Self.honest self.new → IfErr result (λ fault. Self.asking.refuses_relay (Self.state self.old) fault) }
         ensures unchanged { Self.honest self.new → OnErr result (Self.state self.new ≡ Self.state self.old) };
 
     /// Whether the station is open and awaits no response.

@@ -44,7 +44,7 @@ impl<'a, Q: Lanes, B: Book> Below<'a, Q, B> {
 impl<'a, Q: Lanes, B: Book> Station for Below<'a, Q, B> {
     ghost use Rattle.dnp_concentrator.specs.Concentrator.{book_of, queue_of};
     ghost use Rattle.dnp_streams.specs.streams.Asking.{below_asking};
-    ghost use Rattle.dnp_streams.specs.streams.Concentrators.{BelowSeen, OpensBelow, BelowReceives, below_hung_up, below_seen};
+    ghost use Rattle.dnp_streams.specs.streams.Concentrators.{BelowSeen, below_hung_up, below_opens, below_receives, below_seen};
     ghost use Rattle.dnp_streams.specs.streams.Lent.{KeptBelow, kept_below, lent_below, substation_of};
 
     ghost State = { BelowSeen };
@@ -57,9 +57,9 @@ impl<'a, Q: Lanes, B: Book> Station for Below<'a, Q, B> {
 
     ghost honest = { λ s. Q.honest (queue_of (lent_below s).now) × B.honest (book_of (lent_below s).now) };
 
-    ghost opens = { OpensBelow };
+    ghost opens = { below_opens };
 
-    ghost receives = { BelowReceives };
+    ghost receives = { below_receives };
 
     ghost asking = { below_asking };
 

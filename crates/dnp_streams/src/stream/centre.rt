@@ -14,7 +14,7 @@ impl<J: JournalStore, B: Book> Station for Centre<J, B> {
     ghost use Rattle.dnp_concentrator.specs.declared.span.Spans.{Spans};
     ghost use Rattle.std.specs.Prelude.{List};
     ghost use Rattle.dnp_streams.specs.streams.Asking.{centre_asking};
-    ghost use Rattle.dnp_streams.specs.streams.Centres.{CentreSeen, OpensCentre, CentreReceives, centre_hung_up, centre_seen};
+    ghost use Rattle.dnp_streams.specs.streams.Centres.{CentreSeen, centre_hung_up, centre_opens, centre_receives, centre_seen};
 
     ghost State = { CentreSeen };
 
@@ -26,9 +26,9 @@ impl<J: JournalStore, B: Book> Station for Centre<J, B> {
 
     ghost honest = { λ c. J.honest (journal_of c) × B.honest (book_of c) };
 
-    ghost opens = { OpensCentre };
+    ghost opens = { centre_opens };
 
-    ghost receives = { CentreReceives };
+    ghost receives = { centre_receives };
 
     ghost asking = { centre_asking };
 

@@ -1,6 +1,6 @@
 //! A station whose steps are at the moments of a clock.
 
-ghost use Rattle.std.specs.Prelude.{◌≡◌, ◌+◌, ◌<◌, min, length, All, IfOk, OnErr};
+ghost use Rattle.std.specs.Prelude.{◌≡◌, ◌+◌, ◌<◌, min, length, All, IfErr, IfOk, OnErr};
 ghost use Rattle.dnp_streams.specs.streams.Clocks.{OpensSometime, ReceivesSometime};
 ghost use Rattle.dnp_streams.specs.streams.Counts.{most};
 ghost use Rattle.dnp_streams.specs.streams.Lent.{clock_of, fragments_given, kept_clocked, lent_station, moment_of};
@@ -87,8 +87,9 @@ impl<'a, S: Station, C: Clock> Station for Clocked<'a, S, C> {
     fn opened(&mut self, alloc: Global, _now: u64) -> Result<Answer, StationFault>
         ensures kept { kept_clocked S.kept self.new ≡ kept_clocked S.kept self.old }
         ensures held { S.honest (lent_station self.new).now → S.honest (lent_station self.old).now }
-        ensures answered { S.honest (lent_station self.new).now → IfOk result (λ answer. OpensSometime S.opens (S.state (lent_station self.old).now)
+        ensures answered { S.honest (lent_station self.new).now → IfOk result (λ answer. (OpensSometime S.opens).answers (S.state (lent_station self.old).now)
             _now (answer_of answer) (S.state (lent_station self.new).now)) }
+        ensures refused { S.honest (lent_station self.new).now → IfErr result (λ fault. (OpensSometime S.opens).refuses (S.state (lent_station self.old).now) _now fault) }
         ensures unchanged { S.honest (lent_station self.new).now → OnErr result (S.state (lent_station self.new).now ≡ S.state (lent_station self.old).now) }
         ensures some { IfOk result (λ answer. All (λ fragment. 0 < length fragment) (answer_of answer).send) }
         ensures given { fragments_given self.new ≡ fragments_given self.old }
@@ -100,8 +101,10 @@ impl<'a, S: Station, C: Clock> Station for Clocked<'a, S, C> {
     fn receive(&mut self, alloc: Global, _now: u64, octets: &[u8]) -> Result<Answer, StationFault>
         ensures kept { kept_clocked S.kept self.new ≡ kept_clocked S.kept self.old }
         ensures held { S.honest (lent_station self.new).now → S.honest (lent_station self.old).now }
-        ensures answered { S.honest (lent_station self.new).now → IfOk result (λ answer. ReceivesSometime S.receives (S.state (lent_station self.old).now)
+        ensures answered { S.honest (lent_station self.new).now → IfOk result (λ answer. (ReceivesSometime S.receives).answers (S.state (lent_station self.old).now)
             _now octets.now (answer_of answer) (S.state (lent_station self.new).now)) }
+        ensures refused { S.honest (lent_station self.new).now → IfErr result (λ fault. (ReceivesSometime S.receives).refuses (S.state (lent_station self.old).now)
+            _now octets.now fault) }
         ensures unchanged { S.honest (lent_station self.new).now → OnErr result (S.state (lent_station self.new).now ≡ S.state (lent_station self.old).now) }
         ensures some { IfOk result (λ answer. All (λ fragment. 0 < length fragment) (answer_of answer).send) }
         ensures given { fragments_given self.new ≡ min (fragments_given self.old + 1) most }
