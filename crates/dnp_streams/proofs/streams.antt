@@ -9,3 +9,5 @@ pub mod Taken
 pub mod Dialogues
 pub mod Talking
 pub mod Refused
+pub mod MastersOneWay
+pub mod BookOneWay
