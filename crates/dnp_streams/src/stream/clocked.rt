@@ -1,6 +1,6 @@
 //! A station whose steps are at the moments of a clock.
 
-ghost use Rattle.std.specs.Prelude.{◌≡◌, ◌+◌, ◌<◌, min, length, All, IfErr, IfOk, OnErr};
+ghost use Rattle.std.specs.Prelude.{◌≡◌, ◌+◌, ◌<◌, ◌≤◌, min, length, All, IfErr, IfOk, OnErr};
 ghost use Rattle.dnp_streams.specs.streams.Clocks.{OpensSometime, ReceivesSometime};
 ghost use Rattle.dnp_streams.specs.streams.Counts.{most};
 ghost use Rattle.dnp_streams.specs.streams.Lent.{clock_of, fragments_given, kept_clocked, lent_station, moment_of};
@@ -51,7 +51,8 @@ impl<'a, S: Station, C: Clock> Clocked<'a, S, C> {
 
     /// The moment of a step that begins, in milliseconds.
     fn moment(&mut self) -> u64
-        ensures { self.new ≡ record self.old { now = result } }
+        ensures moved { self.new ≡ record self.old { now = result } }
+        ensures forward { moment_of self.old ≤ result }
     {
         if let Ok(time) = self.clock.monotonic() {
             let shown = u64::try_from(time.as_millis()).unwrap_or(u64::MAX);
@@ -92,6 +93,9 @@ impl<'a, S: Station, C: Clock> Station for Clocked<'a, S, C> {
         ensures refused { S.honest (lent_station self.new).now → IfErr result (λ fault. (OpensSometime S.opens).refuses (S.state (lent_station self.old).now) _now fault) }
         ensures unchanged { S.honest (lent_station self.new).now → OnErr result (S.state (lent_station self.new).now ≡ S.state (lent_station self.old).now) }
         ensures some { IfOk result (λ answer. All (λ fragment. 0 < length fragment) (answer_of answer).send) }
+        ensures at_moment { S.honest (lent_station self.new).now → IfOk result (λ answer. S.opens.answers (S.state (lent_station self.old).now)
+            (moment_of self.new) (answer_of answer) (S.state (lent_station self.new).now)) }
+        ensures forward { moment_of self.old ≤ moment_of self.new }
         ensures given { fragments_given self.new ≡ fragments_given self.old }
     {
         let now = self.moment();
@@ -107,6 +111,9 @@ impl<'a, S: Station, C: Clock> Station for Clocked<'a, S, C> {
             _now octets.now fault) }
         ensures unchanged { S.honest (lent_station self.new).now → OnErr result (S.state (lent_station self.new).now ≡ S.state (lent_station self.old).now) }
         ensures some { IfOk result (λ answer. All (λ fragment. 0 < length fragment) (answer_of answer).send) }
+        ensures at_moment { S.honest (lent_station self.new).now → IfOk result (λ answer. S.receives.answers (S.state (lent_station self.old).now)
+            (moment_of self.new) octets.now (answer_of answer) (S.state (lent_station self.new).now)) }
+        ensures forward { moment_of self.old ≤ moment_of self.new }
         ensures given { fragments_given self.new ≡ min (fragments_given self.old + 1) most }
     {
         let now = self.moment();
