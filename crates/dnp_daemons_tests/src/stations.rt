@@ -22,11 +22,15 @@ impl Station for Echo {
 
     ghost state = { λ _. tt };
 
+    ghost Kept = { ⊤ };
+
+    ghost kept = { λ _. tt };
+
     ghost honest = { λ _. ⊤ };
 
-    ghost opens = { λ _ _ _ _. ⊤ };
+    ghost opens = { record { answers = λ _ _ _ _. ⊤; refuses = λ _ _ _. ⊤ } };
 
-    ghost receives = { λ _ _ _ _ _. ⊤ };
+    ghost receives = { record { answers = λ _ _ _ _ _. ⊤; refuses = λ _ _ _ _. ⊤ } };
 
     ghost asking = { asks_nothing };
 

@@ -8,3 +8,6 @@ pub mod Clocking
 pub mod Taken
 pub mod Dialogues
 pub mod Talking
+pub mod Refused
+pub mod MastersOneWay
+pub mod BookOneWay

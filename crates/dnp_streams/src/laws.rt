@@ -5,13 +5,17 @@ ghost use Rattle.dnp_linkframe.specs.Stream.{Gives};
 ghost use Rattle.dnp_streams.specs.AnswerLine.{IsPrinted};
 ghost use Rattle.dnp_streams.specs.streams.Spelled.{AreSpelled};
 ghost use Rattle.dnp_streams.specs.streams.OneWay.{OpensOneWay, ReceivesOneWay, OneOutput};
-ghost use Rattle.dnp_streams.specs.streams.Outstations.{IsOpened, Receives, ShowOneWay};
+ghost use Rattle.dnp_streams.specs.streams.Outstations.{ShowOneWay, outstation_opens, outstation_receives};
+ghost use Rattle.dnp_streams.specs.streams.Centres.{centre_opens, centre_receives};
+ghost use Rattle.dnp_streams.specs.streams.Concentrators.{below_opens, below_receives};
+ghost use Rattle.dnp_concentrator.specs.BookOutputs.{Performs, panel_of};
 ghost use Rattle.dnp_streams.specs.declared.address.TheConstants as address;
 ghost use Rattle.dnp_streams.specs.declared.input.TheConstants as input;
 ghost use Rattle.dnp_streams.specs.declared.octets.TheConstants as octets;
 
 use crate::stream::Station;
-use dnp_controls::{NoOutputs, Outputs, PlainOutputs};
+use dnp_concentrator::laws as concentrator;
+use dnp_controls::{Book, NoOutputs, Outputs, PlainOutputs};
 use dnp_line::laws as lines;
 use dnp_linkframe::laws as frames;
 use dnp_transport::laws as segments;
@@ -47,14 +51,34 @@ pub fn what_is_written_is_read()
 
 /// The steps of an outstation come out in one way, where what its outputs show does.
 pub fn an_outstation_comes_out_in_one_way<O: Outputs>()
-    ensures opens { OpensOneWay IsOpened }
-    ensures receives { ShowOneWay O.panel O.performs → ReceivesOneWay (Receives O.panel O.performs) }
+    ensures opens { OpensOneWay outstation_opens }
+    ensures receives { ShowOneWay O.panel O.performs → ReceivesOneWay (outstation_receives O.panel O.performs) }
 {}
 
 /// What outputs in memory show after commands comes out in one way. So does what no outputs show.
 pub fn plain_outputs_show_one_way()
     ensures plain { ShowOneWay ⟦<PlainOutputs as Outputs>⟧.panel ⟦<PlainOutputs as Outputs>⟧.performs }
     ensures none { ShowOneWay ⟦<NoOutputs as Outputs>⟧.panel ⟦<NoOutputs as Outputs>⟧.performs }
+{}
+
+/// What the outputs of a concentrator show after commands comes out in one way, and so do the steps of its outstation, by
+/// the law of outstations.
+pub fn book_outputs_show_one_way<B: Book>()
+    ensures { ShowOneWay (panel_of B.contents) (Performs B.contents) }
+{
+    concentrator::commands_are_undone();
+}
+
+/// The steps of a centre come out in one way.
+pub fn a_centre_comes_out_in_one_way()
+    ensures opens { OpensOneWay centre_opens }
+    ensures receives { ReceivesOneWay centre_receives }
+{}
+
+/// The steps of a concentrator's link to a substation come out in one way.
+pub fn a_link_below_comes_out_in_one_way()
+    ensures opens { OpensOneWay below_opens }
+    ensures receives { ReceivesOneWay below_receives }
 {}
 
 /// The named limits are these numbers: addresses above are kept for other uses (IEEE Std 1815-2012, data link layer:

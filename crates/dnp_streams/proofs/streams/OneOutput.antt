@@ -56,8 +56,9 @@ fault output step none is one = omega (arith, none, ap (λ (o : Output). o.fault
 
 opens_alike : {S : Type 0} (opens : Opening S) (now : ℕ) (old new other : Endpoint S) (output output' : Output) → OpensOneWay opens → HasHistory old.port
     → Opens opens now old output new → Opens opens now old output' other → NoFault output → NoFault output' → Alike output output' new other
-opens_alike opens now old new other output output' one history (Unopened is same) second none none' = absurd (fault output _ none is refl)
-opens_alike opens now old new other output output' one history (Opened a step is moved) (Unopened is' same) none none' = absurd (fault output' _ none' is' refl)
+opens_alike opens now old new other output output' one history (Unopened why refused is same) second none none' = absurd (fault output _ none is refl)
+opens_alike opens now old new other output output' one history (Opened a step is moved) (Unopened why refused is' same) none none' =
+    absurd (fault output' _ none' is' refl)
 opens_alike {S} opens now old new other output output' one history (Opened a step is moved) (Opened b step' is' moved') none none' =
     let (answers, stations) = one old.station new.station other.station now a b step step' in
     record {
@@ -73,13 +74,13 @@ opens_alike {S} opens now old new other output output' one history (Opened a ste
 hears_alike : {S : Type 0} (receives : Receiving S) (now : ℕ) (old new other : Endpoint S) (frame : Frame) (output output' : Output) → Laws
     → ReceivesOneWay receives → HasHistory old.port
     → Hears receives now old frame output new → Hears receives now old frame output' other → NoFault output → NoFault output' → Alike output output' new other
-hears_alike receives now old new other frame output output' laws one history (Refused taken takes whole is same) second none none' =
+hears_alike receives now old new other frame output output' laws one history (Refused taken fragment takes whole shown why refused is same) second none none' =
     absurd (fault output _ none is refl)
 hears_alike receives now old new other frame output output' laws one history (Unfinished taken takes partial is same)
-    (Refused taken' takes' whole' is' same') none none' =
+    (Refused taken' fragment' takes' whole' shown' why refused is' same') none none' =
     absurd (fault output' _ none' is' refl)
 hears_alike receives now old new other frame output output' laws one history (Answered taken heard fragment takes whole shown a step is moved)
-    (Refused taken' takes' whole' is' same') none none' =
+    (Refused taken' fragment' takes' whole' shown' why refused is' same') none none' =
     absurd (fault output' _ none' is' refl)
 hears_alike receives now old new other frame output output' laws one history (Unfinished taken takes partial is same)
     (Unfinished taken' takes' partial' is' same') none none' =
@@ -103,7 +104,8 @@ hears_alike {S} receives now old new other frame output output' laws one history
     let after = laws.goes_on old.port heard frame taken history takes in
     let shown'' : IsShown heard fragment' = subst (λ (p : PortState). IsShown p fragment') (sym ports) shown' in
     let fragments : fragment ≡ fragment' = laws.shows heard fragment fragment' after shown shown'' in
-    let step'' : receives old.station now fragment b other.station = subst (λ (f : List ℕ). receives old.station now f b other.station) (sym fragments) step' in
+    let step'' : receives.answers old.station now fragment b other.station =
+    subst (λ (f : List ℕ). receives.answers old.station now f b other.station) (sym fragments) step' in
     let (answers, stations) = one old.station new.station other.station now fragment a b step step'' in
     let first : output ≡ record { frames = option_to_list taken'.reply ++ sent_frames heard a.send; fragments = 1; faults = 0; closed = a.close } =
     is ∙ ap (λ (t : Taken). record { frames = option_to_list t.reply ++ sent_frames heard a.send; fragments = 1; faults = 0; closed = a.close }) takens in

@@ -8,7 +8,7 @@ use Rattle.dnp_outstation.specs.Calls.{opened_of, connection_after, performed_in
 use Rattle.dnp_outstation.specs.State.{State, Actions, Step}
 use Rattle.dnp_streams.specs.streams.Stations.{Answer}
 use Rattle.dnp_streams.specs.streams.OneWay.{OpensOneWay, ReceivesOneWay}
-use Rattle.dnp_streams.specs.streams.Outstations.{Seen, answer_by, Perform, IsOpened, Receives, ShowOneWay}
+use Rattle.dnp_streams.specs.streams.Outstations.{Seen, answer_by, Perform, ShowOneWay, outstation_opens, outstation_receives}
 
 abbrev seen : State → Panel → Seen
 seen whole panel = record { whole = whole; panel = panel }
@@ -24,7 +24,7 @@ same_step step a b does does' answer answer' first second is is' =
     let both : record { state = a; does = does } ≡ record { state = b; does = does' } = sym first ∙ second in
     (is ∙ ap (λ (s : Step). answer_by s.does) both ∙ sym is', ap (λ (s : Step). s.state) both)
 
-pub opens_one_way : OpensOneWay IsOpened
+pub opens_one_way : OpensOneWay outstation_opens
 opens_one_way old new other now a b first second =
     let (answers, states) = same_step (opened_of old.whole now)
     new.whole other.whole first.does second.does a b first.step second.step first.answered second.answered in
@@ -45,7 +45,7 @@ panels panel performs one old (command ∷ commands) new other idle idle' perfor
     ∙ second.shows
 
 pub receives_one_way : {O : Type 0} (panel : O → Panel) (performs : O → List Command → O → Type 0) → ShowOneWay panel performs
-    → ReceivesOneWay (Receives panel performs)
+    → ReceivesOneWay (outstation_receives panel performs)
 receives_one_way panel performs one old new other now octets a b first second =
     let (answers, states) =
     same_step (connection_after old.whole old.panel now octets)

@@ -3,15 +3,15 @@ use Rattle.std.specs.Prelude.{◌≡◌, ℕ, ◌<◌, false, List, Result, Ok, 
 use Rattle.std.proofs.Common.{refl, ap, ◌∙◌}
 use Rattle.dnp_objects.specs.declared.row.Row.{Row}
 use Rattle.dnp_controls.specs.declared.book.BookFault.{BookFault}
-use Rattle.dnp_controls.specs.declared.book.Entry.{Entry}
+use Rattle.dnp_controls.specs.Book.{Ledger}
 use Rattle.dnp_master.specs.Calls.{Taking, actions_of}
 use Rattle.dnp_master.specs.declared.actions.MasterActions.{MasterActions}
 use Rattle.dnp_eventbuf.specs.Stock.{Stock}
 use Rattle.dnp_outstation.specs.State.{Core}
 use Rattle.dnp_pointdb.specs.Plan as points
 use Rattle.dnp_concentrator.specs.Below.{link_in}
-use Rattle.dnp_concentrator.specs.Relayed.{Tells}
-use Rattle.dnp_concentrator.specs.Relaying.{Relaying, relaying_after, step_of}
+use Rattle.dnp_concentrator.specs.Relayed.{IfSent, IsSpentBy, Tells}
+use Rattle.dnp_concentrator.specs.Relaying.{Relaying, ledger_after, relaying_after, step_of}
 use Rattle.dnp_concentrator.specs.declared.relayed.Relayed.{Relayed}
 use Rattle.dnp_concentrator.specs.declared.span.Spans.{Spans}
 use Rattle.dnp_streams.specs.streams.Asking.{RelaysBelow, Stepped}
@@ -33,26 +33,30 @@ answered answer actions t dropped is by =
 
 -- a link of a concentrator is seen as its parts are
 pub seen : (link : ℕ) (links links' : List Relaying) (core core' : Core) (indices indices' : List Spans) (plan plan' : points.Plan)
-    (queue queue' : Stock)
-    → links ≡ links' → core ≡ core' → indices ≡ indices' → plan ≡ plan' → queue ≡ queue'
-    → ◌≡◌ {A = BelowSeen} record { link = link; links = links; core = core; indices = indices; points = plan; queue = queue }
-    record { link = link; links = links'; core = core'; indices = indices'; points = plan'; queue = queue' }
-seen link links links' core core' indices indices' plan plan' queue queue' links_are core_is indices_are plan_is queue_is =
-    ap (λ (ls : List Relaying). record { link = link; links = ls; core = core; indices = indices; points = plan; queue = queue }) links_are
-    ∙ ap (λ (k : Core). record { link = link; links = links'; core = k; indices = indices; points = plan; queue = queue }) core_is
-    ∙ ap (λ (spans : List Spans). record { link = link; links = links'; core = core'; indices = spans; points = plan; queue = queue }) indices_are
-    ∙ ap (λ (p : points.Plan). record { link = link; links = links'; core = core'; indices = indices'; points = p; queue = queue }) plan_is
-    ∙ ap (λ (q : Stock). record { link = link; links = links'; core = core'; indices = indices'; points = plan'; queue = q }) queue_is
+    (queue queue' : Stock) (book book' : Ledger)
+    → links ≡ links' → core ≡ core' → indices ≡ indices' → plan ≡ plan' → queue ≡ queue' → book ≡ book'
+    → ◌≡◌ {A = BelowSeen} record { link = link; links = links; core = core; indices = indices; points = plan; queue = queue; controls = book }
+    record { link = link; links = links'; core = core'; indices = indices'; points = plan'; queue = queue'; controls = book' }
+seen link links links' core core' indices indices' plan plan' queue queue' book book' links_are core_is indices_are plan_is queue_is book_is =
+    ap (λ (ls : List Relaying). record { link = link; links = ls; core = core; indices = indices; points = plan; queue = queue; controls = book }) links_are
+    ∙ ap (λ (k : Core). record { link = link; links = links'; core = k; indices = indices; points = plan; queue = queue; controls = book }) core_is
+    ∙ ap (λ (s : List Spans). record { link = link; links = links'; core = core'; indices = s; points = plan; queue = queue; controls = book }) indices_are
+    ∙ ap (λ (p : points.Plan). record { link = link; links = links'; core = core'; indices = indices'; points = p; queue = queue; controls = book }) plan_is
+    ∙ ap (λ (q : Stock). record { link = link; links = links'; core = core'; indices = indices'; points = plan'; queue = q; controls = book }) queue_is
+    ∙ ap (λ (b : Ledger). record { link = link; links = links'; core = core'; indices = indices'; points = plan'; queue = queue'; controls = b }) book_is
 
 -- a step of relaying below is seen as its parts are
-pub relayed_below : (result : Result Relayed BookFault) (entries : List Entry) (now link : ℕ) (links links' : List Relaying) (core core' : Core)
-    (indices indices' : List Spans) (plan plan' : points.Plan) (queue queue' : Stock)
-    → link < length links → IfOk result (λ relayed. Tells (link_in links link).master.seq (step_of (link_in links link) entries link) relayed)
-    → OnOk result (links' ≡ slice_set links link (relaying_after (link_in links link) now (step_of (link_in links link) entries link)))
-    → core' ≡ core → indices' ≡ indices → plan' ≡ plan → queue' ≡ queue
-    → IfOk result (λ relayed. RelaysBelow (record { link = link; links = links; core = core; indices = indices; points = plan; queue = queue }) now relayed
-    (record { link = link; links = links'; core = core'; indices = indices'; points = plan'; queue = queue' }))
-relayed_below (Ok relayed) entries now link links links' core core' indices indices' plan plan' queue queue' there told set core_is indices_are plans queues =
-    Stepped there entries told (seen link links' _ core' core indices' indices plan' plan queue' queue set core_is indices_are plans queues)
-relayed_below (Err fault) entries now link links links' core core' indices indices' plan plan' queue queue' there told set core_is indices_are plans queues =
+pub relayed_below : (result : Result Relayed BookFault) (now link : ℕ) (links links' : List Relaying) (core core' : Core)
+    (indices indices' : List Spans) (plan plan' : points.Plan) (queue queue' : Stock) (book book' : Ledger)
+    → link < length links → IfOk result (λ relayed. Tells (link_in links link).master.seq (step_of (link_in links link) book.entries link) relayed)
+    → OnOk result (links' ≡ slice_set links link (relaying_after (link_in links link) now (step_of (link_in links link) book.entries link)))
+    → OnOk result (book' ≡ ledger_after book (step_of (link_in links link) book.entries link))
+    → IfOk result (λ relayed. IfSent relayed (IsSpentBy book book')) → core' ≡ core → indices' ≡ indices → plan' ≡ plan → queue' ≡ queue
+    → IfOk result (λ relayed. RelaysBelow (record { link = link; links = links; core = core; indices = indices; points = plan; queue = queue; controls = book })
+    now relayed (record { link = link; links = links'; core = core'; indices = indices'; points = plan'; queue = queue'; controls = book' }))
+relayed_below (Ok relayed) now link links links' core core' indices indices' plan plan' queue queue' book book' there told set moved spent core_is indices_are
+    plans queues =
+    Stepped there told (seen link links' _ core' core indices' indices plan' plan queue' queue book' _ set core_is indices_are plans queues moved) spent
+relayed_below (Err fault) now link links links' core core' indices indices' plan plan' queue queue' book book' there told set moved spent core_is indices_are
+    plans queues =
     told

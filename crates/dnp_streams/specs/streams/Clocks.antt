@@ -3,7 +3,13 @@ use Rattle.std.specs.Prelude.{ℕ}
 use Rattle.dnp_streams.specs.streams.Stations.{Opening, Receiving}
 
 abbrev pub OpensSometime : {S : Type 0} → Opening S → Opening S
-OpensSometime opens old now answer new = (moment : ℕ) × opens old moment answer new
+OpensSometime opens = record {
+  answers = λ old now answer new. (moment : ℕ) × opens.answers old moment answer new;
+  refuses = λ old now fault. (moment : ℕ) × opens.refuses old moment fault;
+}
 
 abbrev pub ReceivesSometime : {S : Type 0} → Receiving S → Receiving S
-ReceivesSometime receives old now octets answer new = (moment : ℕ) × receives old moment octets answer new
+ReceivesSometime receives = record {
+  answers = λ old now octets answer new. (moment : ℕ) × receives.answers old moment octets answer new;
+  refuses = λ old now octets fault. (moment : ℕ) × receives.refuses old moment octets fault;
+}

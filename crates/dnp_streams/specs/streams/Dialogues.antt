@@ -1,6 +1,7 @@
 -- Definition: a dialogue of a station and its port on a stream: while the station is idle it asks tasks, one after the other, and then
 -- relays controls; else it hears what comes.
 use Rattle.std.specs.Prelude.{◌≡◌, ℕ, ◌+◌, min, Bool, true, false, List, [], ◌∷◌, ◌++◌, option_to_list}
+use Rattle.dnp_controls.specs.declared.book.BookFault.{BookFault}
 use Rattle.dnp_concentrator.specs.declared.relayed.Relayed.{Relayed}
 use Rattle.dnp_concentrator.specs.declared.relayed.Relayed.TheVariants.{Nothing, Selecting, Sent, Finished}
 use Rattle.dnp_line.specs.Ports.{PortState, Takes, IsShown}
@@ -9,18 +10,20 @@ use Rattle.dnp_linkframe.specs.declared.frame.Frame.{Frame}
 use Rattle.dnp_master.specs.declared.fault.AskFault.{AskFault}
 use Rattle.dnp_master.specs.declared.outcome.Outcome.{Outcome}
 use Rattle.dnp_master.specs.declared.task.Task.{Task}
+use Rattle.dnp_streams.specs.declared.stream.station.StationFault.{StationFault}
 use Rattle.dnp_streams.specs.streams.Counts.{most}
 use Rattle.dnp_streams.specs.streams.Spelled.{sent_frames, port_after}
 use Rattle.dnp_streams.specs.streams.Stations.{Answer, Opening, Receiving, Endpoint}
 
 -- ---- how stations ask
 
--- how a station asks a task by a request, and how it refuses one; what a step of relaying does; and whether it is open and awaits
--- no response
+-- how a station asks a task by a request, and why it refuses one; what a step of relaying does, and why it is refused; and whether
+-- the station is open and awaits no response
 pub record Asking (S : Type 0) : Type 1 where
   pub asks : S → ℕ → Task → List ℕ → S → Type 0
   pub refuses : S → Task → AskFault → Type 0
   pub relays : S → ℕ → Relayed → S → Type 0
+  pub refuses_relay : S → BookFault → Type 0
   pub is_idle : S → Bool
 
 -- a station that never asks, relays, or is idle
@@ -29,6 +32,7 @@ asks_nothing = record {
   asks = λ old now task request new. ⊥;
   refuses = λ old task fault. ⊥;
   relays = λ old now relayed new. ⊥;
+  refuses_relay = λ old fault. ⊥;
   is_idle = λ s. false;
 }
 
@@ -101,19 +105,21 @@ requested d station requests = record d { station = station; port = port_after d
 
 -- the station is opened: it answers, or refuses and stays as it was
 pub data Begins {S : Type 0} (opens : Opening S) (now : ℕ) (old : Dialogue S) (sent : List Frame) (new : Dialogue S) : Type 0 where
-  Opened : (answer : Answer) (station : S) → opens old.station now answer station → sent ≡ sent_frames old.port answer.send
+  Opened : (answer : Answer) (station : S) → opens.answers old.station now answer station → sent ≡ sent_frames old.port answer.send
       → new ≡ answered (record old { is_begun = true }) station old.port answer → Begins opens now old sent new
-  Unopened : sent ≡ [] → new ≡ refused (record old { is_begun = true }) → Begins opens now old sent new
+  Unopened : (fault : StationFault) → opens.refuses old.station now fault → sent ≡ []
+      → new ≡ refused (record old { is_begun = true }) → Begins opens now old sent new
 
 -- a frame comes: the port takes it and replies to it, and a fragment that it completes is answered by the station, or refused
 pub data Hears {S : Type 0} (receives : Receiving S) (now : ℕ) (old : Dialogue S) (frame : Frame) (sent : List Frame) (new : Dialogue S) : Type 0 where
   Unfinished : (taken : Taken) (port : PortState) → Takes old.port frame port taken → taken.whole ≡ false
       → sent ≡ option_to_list taken.reply → new ≡ record old { port = port } → Hears receives now old frame sent new
   Answered : (taken : Taken) (port : PortState) (fragment : List ℕ) → Takes old.port frame port taken → taken.whole ≡ true → IsShown port fragment
-      → (answer : Answer) (station : S) → receives old.station now fragment answer station
+      → (answer : Answer) (station : S) → receives.answers old.station now fragment answer station
       → sent ≡ option_to_list taken.reply ++ sent_frames port answer.send → new ≡ answered old station port answer
       → Hears receives now old frame sent new
-  Unanswered : (taken : Taken) (port : PortState) → Takes old.port frame port taken → taken.whole ≡ true
+  Unanswered : (taken : Taken) (port : PortState) (fragment : List ℕ) → Takes old.port frame port taken → taken.whole ≡ true → IsShown port fragment
+      → (fault : StationFault) → receives.refuses old.station now fragment fault
       → sent ≡ option_to_list taken.reply → new ≡ refused (record old { port = port }) → Hears receives now old frame sent new
 
 -- The idle station asks the first of the tasks that are left, or refuses it, and stays as it was. Where none is left, it relays;
@@ -127,7 +133,8 @@ pub data Goes {S : Type 0} (asking : Asking S) (now : ℕ) (old : Dialogue S) (s
   Relays : old.left ≡ [] → (relayed : Relayed) (station : S) → asking.relays old.station now relayed station
       → sent ≡ sent_frames old.port (sent_by relayed) → new ≡ requested (record old { is_over = is_nothing relayed }) station (sent_by relayed)
       → Goes asking now old sent new
-  Unrelayed : old.left ≡ [] → sent ≡ [] → new ≡ refused (record old { is_over = true }) → Goes asking now old sent new
+  Unrelayed : old.left ≡ [] → (fault : BookFault) → asking.refuses_relay old.station fault → sent ≡ []
+      → new ≡ refused (record old { is_over = true }) → Goes asking now old sent new
 
 -- the opening, a step of the idle station, or a frame that comes
 pub data Step : Type 0 where

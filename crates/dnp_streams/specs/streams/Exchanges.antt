@@ -4,6 +4,7 @@ use Rattle.dnp_linkframe.specs.declared.frame.Frame.{Frame}
 use Rattle.dnp_linkframe.specs.Stream.{Gives}
 use Rattle.dnp_line.specs.declared.port.Taken.{Taken}
 use Rattle.dnp_line.specs.Ports.{PortState, Takes, IsShown}
+use Rattle.dnp_streams.specs.declared.stream.station.StationFault.{StationFault}
 use Rattle.dnp_streams.specs.streams.Stations.{Answer, Opening, Receiving, Endpoint}
 use Rattle.dnp_streams.specs.streams.Spelled.{sent_frames, port_after}
 
@@ -29,11 +30,12 @@ output_with first more = record {
 
 -- The opening of the station: it answers, or refuses it and stays as it was.
 pub data Opens {S : Type 0} (opens : Opening S) (now : ℕ) (old : Endpoint S) (output : Output) (new : Endpoint S) : Type 0 where
-  Opened : (answer : Answer) → opens old.station now answer new.station
+  Opened : (answer : Answer) → opens.answers old.station now answer new.station
       → output ≡ record { frames = sent_frames old.port answer.send; fragments = 0; faults = 0; closed = answer.close }
       → new.port ≡ port_after old.port answer.send
       → Opens opens now old output new
-  Unopened : output ≡ record no_output { faults = 1 } → new ≡ old → Opens opens now old output new
+  Unopened : (fault : StationFault) → opens.refuses old.station now fault
+      → output ≡ record no_output { faults = 1 } → new ≡ old → Opens opens now old output new
 
 -- A frame comes: the port takes it and replies to it. Where it completes a fragment, the station answers that, or
 -- refuses it and stays as it was.
@@ -42,11 +44,12 @@ pub data Hears {S : Type 0} (receives : Receiving S) (now : ℕ) (old : Endpoint
       → output ≡ record no_output { frames = option_to_list taken.reply } → new.station ≡ old.station
       → Hears receives now old frame output new
   Answered : (taken : Taken) (heard : PortState) (fragment : List ℕ) → Takes old.port frame heard taken → taken.whole ≡ true → IsShown heard fragment
-      → (answer : Answer) → receives old.station now fragment answer new.station
+      → (answer : Answer) → receives.answers old.station now fragment answer new.station
       → output ≡ record { frames = option_to_list taken.reply ++ sent_frames heard answer.send; fragments = 1; faults = 0; closed = answer.close }
       → new.port ≡ port_after heard answer.send
       → Hears receives now old frame output new
-  Refused : (taken : Taken) → Takes old.port frame new.port taken → taken.whole ≡ true
+  Refused : (taken : Taken) (fragment : List ℕ) → Takes old.port frame new.port taken → taken.whole ≡ true → IsShown new.port fragment
+      → (fault : StationFault) → receives.refuses old.station now fragment fault
       → output ≡ record { frames = option_to_list taken.reply; fragments = 1; faults = 1; closed = false } → new.station ≡ old.station
       → Hears receives now old frame output new
 

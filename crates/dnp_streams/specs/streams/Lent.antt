@@ -1,6 +1,10 @@
--- Definition: what stations on streams were lent: a concentrator, or a station and a clock.
-use Rattle.std.specs.Prelude.{ℕ}
+-- Definition: what stations on streams were lent: a concentrator, or a station and a clock; and what of that no call of theirs
+-- changes.
+use base.Fml.{GName}
+use Rattle.std.specs.Prelude.{ℕ, List}
 use Rattle.std.specs.Borrow.{MutBor}
+use Rattle.dnp_concentrator.specs.Concentrator.{links_of}
+use Rattle.dnp_concentrator.specs.Relaying.{Relaying}
 use Rattle.dnp_concentrator.specs.declared.concentrator.Concentrator.{Concentrator}
 use Rattle.dnp_streams.specs.declared.stream.above.Above.{Above}
 use Rattle.dnp_streams.specs.declared.stream.below.Below.{Below}
@@ -10,12 +14,28 @@ use Rattle.dnp_streams.specs.declared.stream.clocked.Clocked.{Clocked}
 abbrev pub lent_above : {Q B : Type 0} → Above Q B → MutBor (Concentrator Q B)
 lent_above s = s.concentrator
 
+-- the reference by which it holds that, and the links below, which are not the outstation's
+pub record KeptAbove : Type 0 where
+  pub reference : GName
+  pub links : List Relaying
+
+abbrev pub kept_above : {Q B : Type 0} → Above Q B → KeptAbove
+kept_above s = record { reference = s.concentrator.ghost_name; links = links_of s.concentrator.now }
+
 -- the concentrator whose link it is, and the number of the substation at the link's other end
 abbrev pub lent_below : {Q B : Type 0} → Below Q B → MutBor (Concentrator Q B)
 lent_below s = s.concentrator
 
 abbrev pub substation_of : {Q B : Type 0} → Below Q B → ℕ
 substation_of s = s.link
+
+-- the reference by which it holds the concentrator, and that number
+pub record KeptBelow : Type 0 where
+  pub reference : GName
+  pub substation : ℕ
+
+abbrev pub kept_below : {Q B : Type 0} → Below Q B → KeptBelow
+kept_below s = record { reference = s.concentrator.ghost_name; substation = s.link }
 
 -- the station and the clock; the moment of the station's last step, and how many fragments it was given
 abbrev pub lent_station : {S C : Type 0} → Clocked S C → MutBor S
@@ -29,3 +49,11 @@ moment_of s = s.now
 
 abbrev pub fragments_given : {S C : Type 0} → Clocked S C → ℕ
 fragments_given s = s.fragments
+
+-- the reference by which it holds the station, and what no call changes of that
+pub record KeptClocked (Kept : Type 0) : Type 0 where
+  pub reference : GName
+  pub station : Kept
+
+abbrev pub kept_clocked : {S C Kept : Type 0} → (S → Kept) → Clocked S C → KeptClocked Kept
+kept_clocked kept s = record { reference = s.station.ghost_name; station = kept s.station.now }

@@ -1,6 +1,11 @@
--- Definition: what a master answers on a stream.
-use Rattle.std.specs.Prelude.{false, [], None, length, option_to_list}
-use Rattle.dnp_master.specs.Calls.{Taking}
+-- Definition: what a master answers on a stream, and why it refuses what comes.
+use Rattle.std.specs.Prelude.{◌≡◌, ◌↔◌, Bool, IsTrue, false, [], None, Result, IfOk, IsErr, length, option_to_list}
+use Rattle.dnp_concentrator.specs.declared.cause.Cause.TheVariants as cause
+use Rattle.dnp_master.specs.Calls.{Taking, has_rows}
+use Rattle.dnp_master.specs.declared.fault.MasterFault.{MasterFault}
+use Rattle.dnp_master.specs.declared.fault.MasterFault.TheVariants.{Malformed, Stranger, Exhausted, Memory, Device}
+use Rattle.dnp_streams.specs.declared.stream.station.StationFault.{StationFault}
+use Rattle.dnp_streams.specs.declared.stream.station.StationFault.TheVariants.{Message, Cause}
 use Rattle.dnp_streams.specs.streams.Stations.{Answer}
 
 -- nothing is sent
@@ -11,3 +16,18 @@ nothing_answered = record { send = []; close = false; taken = 0; outcome = None 
 abbrev pub answer_taking : Taking → Answer
 answer_taking taking =
     record { send = option_to_list taking.confirm; close = false; taken = length taking.events; outcome = taking.outcome }
+
+-- a master's fault, as its station says it
+abbrev pub fault_told : MasterFault → StationFault
+fault_told Malformed = Message
+fault_told Stranger = Message
+fault_told Exhausted = Cause cause.Exhausted
+fault_told Memory = Cause cause.Memory
+fault_told Device = Cause cause.Device
+
+-- Why a fragment is refused, by what the master finds of it: as a message that it can't take, where it takes it not; else for its rows,
+-- and for want of numbers only where the store has none for them.
+pub record RefusesRows (found : Result Taking MasterFault) (exhausts : Taking → Bool) (told : StationFault) : Type 0 where
+  pub message : (told ≡ Message) ↔ IsErr found
+  pub rows : IfOk found (λ t. IsTrue (has_rows t))
+  pub exhausted : told ≡ Cause cause.Exhausted → IfOk found (λ t. IsTrue (exhausts t))

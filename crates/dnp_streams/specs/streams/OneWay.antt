@@ -7,12 +7,12 @@ use Rattle.dnp_streams.specs.streams.Serving.{Serves}
 
 -- an opening comes out in one way
 abbrev pub OpensOneWay : {S : Type 0} → Opening S → Type 0
-OpensOneWay {S} opens = (old new other : S) (now : ℕ) (a b : Answer) → opens old now a new → opens old now b other → (a ≡ b) × (new ≡ other)
+OpensOneWay {S} opens = (old new other : S) (now : ℕ) (a b : Answer) → opens.answers old now a new → opens.answers old now b other → (a ≡ b) × (new ≡ other)
 
 -- so does a fragment that comes
 abbrev pub ReceivesOneWay : {S : Type 0} → Receiving S → Type 0
 ReceivesOneWay {S} receives = (old new other : S) (now : ℕ) (octets : List ℕ) (a b : Answer)
-    → receives old now octets a new → receives old now octets b other → (a ≡ b) × (new ≡ other)
+    → receives.answers old now octets a new → receives.answers old now octets b other → (a ≡ b) × (new ≡ other)
 
 -- Two streams that were served to their ends for the same station and port at the same moment, of which the same octets
 -- were read, and nothing was refused: the same was written, and the same became of station and port.

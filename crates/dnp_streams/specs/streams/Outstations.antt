@@ -1,14 +1,19 @@
 -- Definition: an outstation as a stream sees it.
-use Rattle.std.specs.Prelude.{◌≡◌, ◌≢◌, ℕ, List, [], None}
+use Rattle.std.specs.Prelude.{◌≡◌, ◌≢◌, ℕ, true, List, [], None}
 use Rattle.dnp_controls.specs.Panel.{Panel}
 use Rattle.dnp_eventbuf.specs.Stock.{Stock}
 use Rattle.dnp_objects.specs.declared.command.Command.{Command}
 use Rattle.dnp_outstation.specs.Calls.{opened_of, connection_after, performed_in}
-use Rattle.dnp_outstation.specs.Connection.{closed}
+use Rattle.dnp_outstation.specs.Connection.{closed, is_looked_at}
 use Rattle.dnp_outstation.specs.Parts.{outputs_of, whole_of}
 use Rattle.dnp_outstation.specs.State.{State, Actions}
+use Rattle.dnp_outstation.specs.declared.fault.Fault.{Fault}
+use Rattle.dnp_outstation.specs.declared.fault.Fault.TheVariants as store
 use Rattle.dnp_outstation.specs.declared.outstation.Outstation.{Outstation}
-use Rattle.dnp_streams.specs.streams.Stations.{Answer}
+use Rattle.dnp_concentrator.specs.declared.cause.Cause.TheVariants as cause
+use Rattle.dnp_streams.specs.declared.stream.station.StationFault.{StationFault}
+use Rattle.dnp_streams.specs.declared.stream.station.StationFault.TheVariants.{Message, Cause}
+use Rattle.dnp_streams.specs.streams.Stations.{Answer, Opening, Receiving}
 
 -- its state with its lanes, and what its outputs answer and show
 pub record Seen : Type 0 where
@@ -47,6 +52,29 @@ pub record Receives {O : Type 0} (panel : O → Panel) (performs : O → List Co
   pub idle : performed_in old.whole.core old.panel now octets ≡ [] → new.panel ≡ old.panel
   pub performed : performed_in old.whole.core old.panel now octets ≢ []
       → Perform panel performs old.panel (performed_in old.whole.core old.panel now octets) new.panel
+
+-- the fault of a store under it, as its station says it; a reading that its points refuse is none of a stream
+abbrev pub cause_told : Fault → StationFault
+cause_told store.Exhausted = Cause cause.Exhausted
+cause_told store.Device = Cause cause.Device
+cause_told _ = Cause cause.Memory
+
+-- an opening is refused for the lanes' sake, and only where unsolicited responses are on
+pub record RefusesOpening (old : Seen) (now : ℕ) (fault : StationFault) : Type 0 where
+  pub unsolicited : old.whole.core.times.unsolicited ≡ true
+  pub message : fault ≢ Message
+  pub exhausted : fault ≢ Cause cause.Exhausted
+
+-- a fragment that is looked at may be refused for the sake of lanes or outputs, and none as a message that can't be taken
+pub record RefusesFragment (old : Seen) (now : ℕ) (octets : List ℕ) (fault : StationFault) : Type 0 where
+  pub looked_at : is_looked_at old.whole.core octets ≡ true
+  pub message : fault ≢ Message
+
+abbrev pub outstation_opens : Opening Seen
+outstation_opens = record { answers = IsOpened; refuses = RefusesOpening }
+
+abbrev pub outstation_receives : {O : Type 0} → (O → Panel) → (O → List Command → O → Type 0) → Receiving Seen
+outstation_receives panel performs = record { answers = Receives panel performs; refuses = RefusesFragment }
 
 -- a hang-up
 abbrev pub hung_up_of : Seen → Seen

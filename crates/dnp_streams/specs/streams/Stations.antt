@@ -4,6 +4,7 @@ use Rattle.dnp_line.specs.Ports.{PortState}
 use Rattle.dnp_master.specs.declared.outcome.Outcome.{Outcome}
 use Rattle.dnp_outstation.specs.Station.{sent_of}
 use Rattle.dnp_streams.specs.declared.stream.station.Answer as code
+use Rattle.dnp_streams.specs.declared.stream.station.StationFault.{StationFault}
 
 -- what a call of a station answers: the fragments that are sent, in order; whether the station closed the connection;
 -- how many event rows were stored; how a task came out
@@ -16,13 +17,16 @@ pub record Answer : Type 0 where
 abbrev pub answer_of : code.Answer → Answer
 answer_of a = record { send = sent_of a.send; close = a.close; taken = a.taken; outcome = a.outcome }
 
--- how stations open: at this moment an opening is answered so, and makes the second state of the first
-abbrev pub Opening : Type 0 → Type 1
-Opening S = S → ℕ → Answer → S → Type 0
+-- how stations open: at this moment an opening is answered so, and makes the second state of the first; and why it is refused
+pub record Opening (S : Type 0) : Type 1 where
+  pub answers : S → ℕ → Answer → S → Type 0
+  pub refuses : S → ℕ → StationFault → Type 0
 
--- how they take what comes: at this moment a fragment of these octets is answered so, and makes the second of the first
-abbrev pub Receiving : Type 0 → Type 1
-Receiving S = S → ℕ → List ℕ → Answer → S → Type 0
+-- how they take what comes: at this moment a fragment of these octets is answered so, and makes the second of the first; and why it is
+-- refused
+pub record Receiving (S : Type 0) : Type 1 where
+  pub answers : S → ℕ → List ℕ → Answer → S → Type 0
+  pub refuses : S → ℕ → List ℕ → StationFault → Type 0
 
 -- a station's state, and its port to the stream
 pub record Endpoint (S : Type 0) : Type 0 where

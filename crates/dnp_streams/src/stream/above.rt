@@ -3,12 +3,12 @@
 ghost use Rattle.std.specs.Prelude.{◌≡◌};
 ghost use Rattle.dnp_streams.specs.streams.Lent.{lent_above};
 
-use crate::stream::outstation::answer_with;
+use crate::stream::outstation::{answer_with, cause_of};
 use crate::stream::station::{Answer, Station, StationFault};
-use dnp_concentrator::{Cause, Concentrator};
+use dnp_concentrator::Concentrator;
 use dnp_controls::Book;
 use dnp_eventbuf::Lanes;
-use dnp_outstation::Actions;
+use dnp_outstation::{Actions, Fault};
 use std::alloc::Global;
 
 /// The outstation of a lent concentrator.
@@ -32,19 +32,23 @@ impl<'a, Q: Lanes, B: Book> Station for Above<'a, Q, B> {
     ghost use Rattle.dnp_concentrator.specs.BookOutputs.{Performs, panel_of};
     ghost use Rattle.dnp_concentrator.specs.Concentrator.{IsBookWell, queue_of};
     ghost use Rattle.dnp_streams.specs.streams.Dialogues.{asks_nothing};
-    ghost use Rattle.dnp_streams.specs.streams.Outstations.{Seen, IsOpened, Receives, hung_up_of};
+    ghost use Rattle.dnp_streams.specs.streams.Outstations.{Seen, hung_up_of, outstation_opens, outstation_receives};
     ghost use Rattle.dnp_streams.specs.streams.Concentrators.{above_seen};
-    ghost use Rattle.dnp_streams.specs.streams.Lent.{lent_above};
+    ghost use Rattle.dnp_streams.specs.streams.Lent.{KeptAbove, kept_above, lent_above};
 
     ghost State = { Seen };
 
     ghost state = { λ s. above_seen Q.contents B.contents (lent_above s).now };
 
+    ghost Kept = { KeptAbove };
+
+    ghost kept = { λ s. kept_above s };
+
     ghost honest = { λ s. Q.honest (queue_of (lent_above s).now) × IsBookWell B.honest B.is_stopped (lent_above s).now };
 
-    ghost opens = { IsOpened };
+    ghost opens = { outstation_opens };
 
-    ghost receives = { Receives (panel_of B.contents) (Performs B.contents) };
+    ghost receives = { outstation_receives (panel_of B.contents) (Performs B.contents) };
 
     ghost asking = { asks_nothing };
 
@@ -54,7 +58,7 @@ impl<'a, Q: Lanes, B: Book> Station for Above<'a, Q, B> {
         let mut actions = Actions::none(alloc);
         match self.concentrator.opened_above(&mut actions, alloc, now) {
             Ok(()) => Ok(answer_with(actions)),
-            Err(fault) => Err(StationFault::Cause(Cause::from(fault))),
+            Err(fault) => Err(cause_of(Fault::from(fault))),
         }
     }
 
@@ -65,7 +69,7 @@ impl<'a, Q: Lanes, B: Book> Station for Above<'a, Q, B> {
             .receive_above(&mut actions, alloc, now, octets)
         {
             Ok(()) => Ok(answer_with(actions)),
-            Err(fault) => Err(StationFault::Cause(Cause::from(fault))),
+            Err(fault) => Err(cause_of(Fault::from(fault))),
         }
     }
 

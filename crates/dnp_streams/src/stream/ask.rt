@@ -33,6 +33,7 @@ fn go_on<S: Asker, W: Write>(
     log: &mut Log,
 ) -> Result<bool, ServeFault>
     requires { progress.old.is_begun ≡ true }
+    ensures kept { S.kept station.new ≡ S.kept station.old }
     ensures held { S.honest station.new → S.honest station.old }
     ensures turns { S.honest station.new → Turns S.opens S.receives S.asking now (dialogue_of (S.state station.old) port.old progress.old) []
         result (W.contents out.old) (W.contents out.new) (dialogue_of (S.state station.new) port.new progress.new) }
@@ -68,6 +69,7 @@ fn finish<S: Asker, W: Write>(
     log: &mut Log,
 ) -> Result<bool, ServeFault>
     requires { progress.old.is_begun ≡ true }
+    ensures kept { S.kept station.new ≡ S.kept station.old }
     ensures held { S.honest station.new → S.honest station.old }
     ensures turns { S.honest station.new → (before : Dialogue S.State) (step : Step) → before.is_over ≡ false
         → Puts (λ sent. Makes S.opens S.receives S.asking now before step sent (dialogue_of (S.state station.old) port.old progress.old)) octets.now
@@ -95,6 +97,7 @@ fn begin<S: Asker, W: Write>(
 ) -> Result<bool, ServeFault>
     requires begun { progress.old.is_begun ≡ false }
     requires goes_on { progress.old.is_over ≡ false }
+    ensures kept { S.kept station.new ≡ S.kept station.old }
     ensures held { S.honest station.new → S.honest station.old }
     ensures turns { S.honest station.new → Turns S.opens S.receives S.asking now (dialogue_of (S.state station.old) port.old progress.old) []
         result (W.contents out.old) (W.contents out.new) (dialogue_of (S.state station.new) port.new progress.new) }
@@ -122,6 +125,7 @@ fn hear_one<S: Asker, W: Write>(
     log: &mut Log,
 ) -> Result<bool, ServeFault>
     requires { Listens S.asking.is_idle (S.state station.old) progress.old }
+    ensures kept { S.kept station.new ≡ S.kept station.old }
     ensures held { S.honest station.new → S.honest station.old }
     ensures turns { S.honest station.new → Turns S.opens S.receives S.asking now (dialogue_of (S.state station.old) port.old progress.old) (frame.now ∷ [])
         result (W.contents out.old) (W.contents out.new) (dialogue_of (S.state station.new) port.new progress.new) }
@@ -149,6 +153,7 @@ fn hear_each<S: Asker, W: Write>(
     log: &mut Log,
 ) -> Result<bool, ServeFault>
     requires { Listens S.asking.is_idle (S.state station.old) progress.old }
+    ensures kept { S.kept station.new ≡ S.kept station.old }
     ensures held { S.honest station.new → S.honest station.old }
     ensures turns { S.honest station.new → Turns S.opens S.receives S.asking now (dialogue_of (S.state station.old) port.old progress.old) frames.now
         result (W.contents out.old) (W.contents out.new) (dialogue_of (S.state station.new) port.new progress.new) }
@@ -179,6 +184,7 @@ fn ask_on<S: Asker, R: Read, W: Write>(
 ) -> Result<(), ServeFault>
     requires fresh { IsFresh progress.old }
     requires log { log.old ≡ new_log }
+    ensures kept { S.kept station.new ≡ S.kept station.old }
     ensures held { S.honest station.new → S.honest station.old }
     ensures talks { S.honest station.new → Talks S.opens S.receives S.asking now turns (endpoint (S.state station.old) port.old) progress.old.left.now
         (R.remaining reader.old) (R.remaining reader.new) (W.contents out.old) (W.contents out.new)
@@ -228,6 +234,7 @@ pub fn ask_noted<S: Asker, R: Read, W: Write>(
     log: &mut Log,
 ) -> Result<Asked, ServeFault>
     requires { log.old ≡ new_log }
+    ensures kept { S.kept station.new ≡ S.kept station.old }
     ensures held { S.honest station.new → S.honest station.old }
     ensures talks { S.honest station.new → (ended : S.State) × IsLeft S.hung_up_of result ended (S.state station.new)
         × Talks S.opens S.receives S.asking now turns (endpoint (S.state station.old) port.old) tasks.now
@@ -278,6 +285,7 @@ pub fn ask_stream<S: Asker, R: Read, W: Write>(
     out: &mut W,
     turns: u64,
 ) -> Result<Asked, ServeFault>
+    ensures kept { S.kept station.new ≡ S.kept station.old }
     ensures held { S.honest station.new → S.honest station.old }
     ensures talks { S.honest station.new → (ended : S.State) × IsLeft S.hung_up_of result ended (S.state station.new)
         × Talks S.opens S.receives S.asking now turns (endpoint (S.state station.old) port.old) tasks.now

@@ -16,6 +16,7 @@ use std::alloc::Global;
 pub trait Asker: Station {
     /// Asks a task: the request, to be sent.
     fn ask(&mut self, now: u64, task: Task) -> Result<Fragment, AskFault>
+        ensures kept { Self.kept self.new ≡ Self.kept self.old }
         ensures held { Self.honest self.new → Self.honest self.old }
         ensures asked { Self.honest self.new → IfOk result (λ request. Self.asking.asks (Self.state self.old) now task request.items (Self.state self.new)) }
         ensures refused { Self.honest self.new → IfErr result (λ fault. Self.asking.refuses (Self.state self.old) task fault) }
@@ -23,8 +24,10 @@ pub trait Asker: Station {
 
     /// One step of relaying controls.
     fn relay(&mut self, alloc: Global, now: u64) -> Result<Relayed, BookFault>
+        ensures kept { Self.kept self.new ≡ Self.kept self.old }
         ensures held { Self.honest self.new → Self.honest self.old }
         ensures relayed { Self.honest self.new → IfOk result (λ relayed. Self.asking.relays (Self.state self.old) now relayed (Self.state self.new)) }
+        ensures refused { Self.honest self.new → IfErr result (λ fault. Self.asking.refuses_relay (Self.state self.old) fault) }
         ensures unchanged { Self.honest self.new → OnErr result (Self.state self.new ≡ Self.state self.old) };
 
     /// Whether the station is open and awaits no response.

@@ -23,6 +23,7 @@ pub(super) fn open_to<S: Station>(
     progress: &mut Progress<'_>,
 )
     requires { HasRoom progress.old.asked }
+    ensures kept { S.kept station.new ≡ S.kept station.old }
     ensures held { S.honest station.new → S.honest station.old }
     ensures begins { S.honest station.new → Puts (λ sent. Begins S.opens now (dialogue_of (S.state station.old) port.old progress.old) sent
         (dialogue_of (S.state station.new) port.new progress.new)) out.new.items }
@@ -52,6 +53,7 @@ pub(super) fn hear_to<S: Station>(
     progress: &mut Progress<'_>,
 )
     requires { HasRoom progress.old.asked }
+    ensures kept { S.kept station.new ≡ S.kept station.old }
     ensures held { S.honest station.new → S.honest station.old }
     ensures hears { S.honest station.new → Puts (λ sent. Hears S.receives now (dialogue_of (S.state station.old) port.old progress.old) frame.now sent
         (dialogue_of (S.state station.new) port.new progress.new)) out.new.items }
@@ -82,6 +84,7 @@ fn relay_to<S: Asker>(
     progress: &mut Progress<'_>,
 )
     requires { progress.old.left.now ≡ [] }
+    ensures kept { S.kept station.new ≡ S.kept station.old }
     ensures held { S.honest station.new → S.honest station.old }
     ensures goes { S.honest station.new → progress.old.is_over ≡ false → Puts (λ sent. Goes S.asking now (dialogue_of (S.state station.old) port.old progress.old) sent
         (dialogue_of (S.state station.new) port.new progress.new)) out.new.items }
@@ -110,6 +113,7 @@ pub(super) fn go_to<S: Asker>(
     out: &mut Outgoing,
     progress: &mut Progress<'_>,
 )
+    ensures kept { S.kept station.new ≡ S.kept station.old }
     ensures held { S.honest station.new → S.honest station.old }
     ensures goes { S.honest station.new → progress.old.is_over ≡ false → Puts (λ sent. Goes S.asking now (dialogue_of (S.state station.old) port.old progress.old) sent
         (dialogue_of (S.state station.new) port.new progress.new)) out.new.items }

@@ -44,18 +44,22 @@ impl<'a, Q: Lanes, B: Book> Below<'a, Q, B> {
 impl<'a, Q: Lanes, B: Book> Station for Below<'a, Q, B> {
     ghost use Rattle.dnp_concentrator.specs.Concentrator.{book_of, queue_of};
     ghost use Rattle.dnp_streams.specs.streams.Asking.{below_asking};
-    ghost use Rattle.dnp_streams.specs.streams.Concentrators.{BelowSeen, OpensBelow, BelowReceives, below_hung_up, below_seen};
-    ghost use Rattle.dnp_streams.specs.streams.Lent.{lent_below, substation_of};
+    ghost use Rattle.dnp_streams.specs.streams.Concentrators.{BelowSeen, below_hung_up, below_opens, below_receives, below_seen};
+    ghost use Rattle.dnp_streams.specs.streams.Lent.{KeptBelow, kept_below, lent_below, substation_of};
 
     ghost State = { BelowSeen };
 
-    ghost state = { λ s. below_seen Q.contents (lent_below s).now (substation_of s) };
+    ghost state = { λ s. below_seen Q.contents B.contents (lent_below s).now (substation_of s) };
+
+    ghost Kept = { KeptBelow };
+
+    ghost kept = { λ s. kept_below s };
 
     ghost honest = { λ s. Q.honest (queue_of (lent_below s).now) × B.honest (book_of (lent_below s).now) };
 
-    ghost opens = { OpensBelow };
+    ghost opens = { below_opens };
 
-    ghost receives = { BelowReceives };
+    ghost receives = { below_receives };
 
     ghost asking = { below_asking };
 

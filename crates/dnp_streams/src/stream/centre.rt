@@ -10,19 +10,25 @@ use dnp_master::{AskFault, Fragment, Task};
 use std::alloc::Global;
 
 impl<J: JournalStore, B: Book> Station for Centre<J, B> {
-    ghost use Rattle.dnp_concentrator.specs.Centre.{book_of, journal_of};
+    ghost use Rattle.dnp_concentrator.specs.Centre.{book_of, indices_of, journal_of};
+    ghost use Rattle.dnp_concentrator.specs.declared.span.Spans.{Spans};
+    ghost use Rattle.std.specs.Prelude.{List};
     ghost use Rattle.dnp_streams.specs.streams.Asking.{centre_asking};
-    ghost use Rattle.dnp_streams.specs.streams.Centres.{CentreSeen, OpensCentre, CentreReceives, centre_hung_up, centre_seen};
+    ghost use Rattle.dnp_streams.specs.streams.Centres.{CentreSeen, centre_hung_up, centre_opens, centre_receives, centre_seen};
 
     ghost State = { CentreSeen };
 
-    ghost state = { λ c. centre_seen J.archive c };
+    ghost state = { λ c. centre_seen J.archive B.contents c };
+
+    ghost Kept = { List Spans };
+
+    ghost kept = { λ c. indices_of c };
 
     ghost honest = { λ c. J.honest (journal_of c) × B.honest (book_of c) };
 
-    ghost opens = { OpensCentre };
+    ghost opens = { centre_opens };
 
-    ghost receives = { CentreReceives };
+    ghost receives = { centre_receives };
 
     ghost asking = { centre_asking };
 

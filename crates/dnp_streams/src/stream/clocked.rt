@@ -1,9 +1,9 @@
 //! A station whose steps are at the moments of a clock.
 
-ghost use Rattle.std.specs.Prelude.{◌≡◌, ◌+◌, ◌<◌, min, length, All, IfOk, OnErr};
+ghost use Rattle.std.specs.Prelude.{◌≡◌, ◌+◌, ◌<◌, ◌≤◌, min, length, All, IfErr, IfOk, OnErr};
 ghost use Rattle.dnp_streams.specs.streams.Clocks.{OpensSometime, ReceivesSometime};
 ghost use Rattle.dnp_streams.specs.streams.Counts.{most};
-ghost use Rattle.dnp_streams.specs.streams.Lent.{clock_of, fragments_given, lent_station, moment_of};
+ghost use Rattle.dnp_streams.specs.streams.Lent.{clock_of, fragments_given, kept_clocked, lent_station, moment_of};
 ghost use Rattle.dnp_streams.specs.streams.Stations.{answer_of};
 
 use crate::stream::station::{Answer, Station, StationFault};
@@ -51,7 +51,8 @@ impl<'a, S: Station, C: Clock> Clocked<'a, S, C> {
 
     /// The moment of a step that begins, in milliseconds.
     fn moment(&mut self) -> u64
-        ensures { self.new ≡ record self.old { now = result } }
+        ensures moved { self.new ≡ record self.old { now = result } }
+        ensures forward { moment_of self.old ≤ result }
     {
         if let Ok(time) = self.clock.monotonic() {
             let shown = u64::try_from(time.as_millis()).unwrap_or(u64::MAX);
@@ -64,11 +65,15 @@ impl<'a, S: Station, C: Clock> Clocked<'a, S, C> {
 impl<'a, S: Station, C: Clock> Station for Clocked<'a, S, C> {
     ghost use Rattle.dnp_streams.specs.streams.Dialogues.{asks_nothing};
     ghost use Rattle.dnp_streams.specs.streams.Clocks.{OpensSometime, ReceivesSometime};
-    ghost use Rattle.dnp_streams.specs.streams.Lent.{lent_station};
+    ghost use Rattle.dnp_streams.specs.streams.Lent.{KeptClocked, lent_station};
 
     ghost State = { S.State };
 
     ghost state = { λ s. S.state (lent_station s).now };
+
+    ghost Kept = { KeptClocked S.Kept };
+
+    ghost kept = { λ s. kept_clocked S.kept s };
 
     ghost honest = { λ s. S.honest (lent_station s).now };
 
@@ -81,11 +86,16 @@ impl<'a, S: Station, C: Clock> Station for Clocked<'a, S, C> {
     ghost hung_up_of = { S.hung_up_of };
 
     fn opened(&mut self, alloc: Global, _now: u64) -> Result<Answer, StationFault>
+        ensures kept { kept_clocked S.kept self.new ≡ kept_clocked S.kept self.old }
         ensures held { S.honest (lent_station self.new).now → S.honest (lent_station self.old).now }
-        ensures answered { S.honest (lent_station self.new).now → IfOk result (λ answer. OpensSometime S.opens (S.state (lent_station self.old).now)
+        ensures answered { S.honest (lent_station self.new).now → IfOk result (λ answer. (OpensSometime S.opens).answers (S.state (lent_station self.old).now)
             _now (answer_of answer) (S.state (lent_station self.new).now)) }
+        ensures refused { S.honest (lent_station self.new).now → IfErr result (λ fault. (OpensSometime S.opens).refuses (S.state (lent_station self.old).now) _now fault) }
         ensures unchanged { S.honest (lent_station self.new).now → OnErr result (S.state (lent_station self.new).now ≡ S.state (lent_station self.old).now) }
         ensures some { IfOk result (λ answer. All (λ fragment. 0 < length fragment) (answer_of answer).send) }
+        ensures at_moment { S.honest (lent_station self.new).now → IfOk result (λ answer. S.opens.answers (S.state (lent_station self.old).now)
+            (moment_of self.new) (answer_of answer) (S.state (lent_station self.new).now)) }
+        ensures forward { moment_of self.old ≤ moment_of self.new }
         ensures given { fragments_given self.new ≡ fragments_given self.old }
     {
         let now = self.moment();
@@ -93,11 +103,17 @@ impl<'a, S: Station, C: Clock> Station for Clocked<'a, S, C> {
     }
 
     fn receive(&mut self, alloc: Global, _now: u64, octets: &[u8]) -> Result<Answer, StationFault>
+        ensures kept { kept_clocked S.kept self.new ≡ kept_clocked S.kept self.old }
         ensures held { S.honest (lent_station self.new).now → S.honest (lent_station self.old).now }
-        ensures answered { S.honest (lent_station self.new).now → IfOk result (λ answer. ReceivesSometime S.receives (S.state (lent_station self.old).now)
+        ensures answered { S.honest (lent_station self.new).now → IfOk result (λ answer. (ReceivesSometime S.receives).answers (S.state (lent_station self.old).now)
             _now octets.now (answer_of answer) (S.state (lent_station self.new).now)) }
+        ensures refused { S.honest (lent_station self.new).now → IfErr result (λ fault. (ReceivesSometime S.receives).refuses (S.state (lent_station self.old).now)
+            _now octets.now fault) }
         ensures unchanged { S.honest (lent_station self.new).now → OnErr result (S.state (lent_station self.new).now ≡ S.state (lent_station self.old).now) }
         ensures some { IfOk result (λ answer. All (λ fragment. 0 < length fragment) (answer_of answer).send) }
+        ensures at_moment { S.honest (lent_station self.new).now → IfOk result (λ answer. S.receives.answers (S.state (lent_station self.old).now)
+            (moment_of self.new) octets.now (answer_of answer) (S.state (lent_station self.new).now)) }
+        ensures forward { moment_of self.old ≤ moment_of self.new }
         ensures given { fragments_given self.new ≡ min (fragments_given self.old + 1) most }
     {
         let now = self.moment();
@@ -106,6 +122,7 @@ impl<'a, S: Station, C: Clock> Station for Clocked<'a, S, C> {
     }
 
     fn hung_up(&mut self)
+        ensures kept { kept_clocked S.kept self.new ≡ kept_clocked S.kept self.old }
         ensures held { S.honest (lent_station self.new).now → S.honest (lent_station self.old).now }
         ensures hung_up { S.honest (lent_station self.new).now → S.state (lent_station self.new).now ≡ S.hung_up_of (S.state (lent_station self.old).now) }
         ensures given { fragments_given self.new ≡ fragments_given self.old }

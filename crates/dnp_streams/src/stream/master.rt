@@ -1,7 +1,7 @@
 //! What a master does, as an answer on a stream.
 
 ghost use Rattle.std.specs.Prelude.{◌≡◌, ◌<◌, false, All, length, option_to_list};
-ghost use Rattle.dnp_streams.specs.streams.Masters.{nothing_answered};
+ghost use Rattle.dnp_streams.specs.streams.Masters.{fault_told, nothing_answered};
 ghost use Rattle.dnp_streams.specs.streams.Stations.{answer_of};
 
 use crate::stream::station::{Answer, StationFault};
@@ -48,7 +48,9 @@ pub(super) fn answer_taking(actions: MasterActions) -> Answer
 }
 
 /// Why a master refused what came, as a station's fault.
-pub(super) fn fault_of(fault: MasterFault) -> StationFault {
+pub(super) fn fault_of(fault: MasterFault) -> StationFault
+    ensures { result ≡ fault_told fault }
+{
     match fault {
         MasterFault::Malformed | MasterFault::Stranger => StationFault::Message,
         MasterFault::Exhausted => StationFault::Cause(Cause::Exhausted),

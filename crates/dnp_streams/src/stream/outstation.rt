@@ -3,7 +3,7 @@
 ghost use Rattle.std.specs.Prelude.{◌≡◌};
 ghost use Rattle.dnp_outstation.specs.Station.{actions_of};
 ghost use Rattle.dnp_streams.specs.streams.Stations.{answer_of};
-ghost use Rattle.dnp_streams.specs.streams.Outstations.{answer_by};
+ghost use Rattle.dnp_streams.specs.streams.Outstations.{answer_by, cause_told};
 
 use crate::stream::station::{Answer, Station, StationFault};
 use dnp_concentrator::Cause;
@@ -28,20 +28,38 @@ pub(super) fn answer_with(mut actions: Actions) -> Answer
     }
 }
 
+/// The fault of a store under an outstation, as a station's. A reading that its points refuse is none of a stream.
+pub(super) fn cause_of(fault: Fault) -> StationFault
+    ensures { result ≡ cause_told fault }
+{
+    match fault {
+        Fault::Exhausted => StationFault::Cause(Cause::Exhausted),
+        Fault::Device => StationFault::Cause(Cause::Device),
+        Fault::NoPoint | Fault::ValueRange | Fault::TimeRange | Fault::Memory => {
+            StationFault::Cause(Cause::Memory)
+        }
+    }
+}
+
 impl<L: Lanes, O: Outputs> Station for Outstation<L, O> {
+    ghost use Rattle.std.specs.Prelude.{⊤};
     ghost use Rattle.dnp_outstation.specs.Parts.{lanes_of, outputs_of};
     ghost use Rattle.dnp_streams.specs.streams.Dialogues.{asks_nothing};
-    ghost use Rattle.dnp_streams.specs.streams.Outstations.{Seen, seen_of, IsOpened, Receives, hung_up_of};
+    ghost use Rattle.dnp_streams.specs.streams.Outstations.{Seen, hung_up_of, outstation_opens, outstation_receives, seen_of};
 
     ghost State = { Seen };
 
     ghost state = { λ s. seen_of L.contents O.panel s };
 
+    ghost Kept = { ⊤ };
+
+    ghost kept = { λ _. tt };
+
     ghost honest = { λ s. L.honest (lanes_of s) × O.honest (outputs_of s) };
 
-    ghost opens = { IsOpened };
+    ghost opens = { outstation_opens };
 
-    ghost receives = { Receives O.panel O.performs };
+    ghost receives = { outstation_receives O.panel O.performs };
 
     ghost asking = { asks_nothing };
 
@@ -50,14 +68,14 @@ impl<L: Lanes, O: Outputs> Station for Outstation<L, O> {
     fn opened(&mut self, alloc: Global, now: u64) -> Result<Answer, StationFault> {
         match self.opened(alloc, now) {
             Ok(actions) => Ok(answer_with(actions)),
-            Err(fault) => Err(StationFault::Cause(Cause::from(fault))),
+            Err(fault) => Err(cause_of(fault)),
         }
     }
 
     fn receive(&mut self, alloc: Global, now: u64, octets: &[u8]) -> Result<Answer, StationFault> {
         match self.receive(alloc, now, octets) {
             Ok(actions) => Ok(answer_with(actions)),
-            Err(fault) => Err(StationFault::Cause(Cause::from(fault))),
+            Err(fault) => Err(cause_of(fault)),
         }
     }
 

@@ -45,6 +45,7 @@ fn greet<S: Station, W: Write>(
     served: &mut Served,
     log: &mut Log,
 ) -> Result<(), NotWritten>
+    ensures kept { S.kept station.new ≡ S.kept station.old }
     ensures held { S.honest station.new → S.honest station.old }
     ensures greeted { S.honest station.new →
         (greets : Greets S.opens now (endpoint (S.state station.old) port.old) (endpoint (S.state station.new) port.new) served.old served.new)
@@ -69,6 +70,7 @@ fn hear_all<S: Station, W: Write>(
     log: &mut Log,
 ) -> Result<(), NotWritten>
     requires { served.old.closed ≡ false }
+    ensures kept { S.kept station.new ≡ S.kept station.old }
     ensures held { S.honest station.new → S.honest station.old }
     ensures heard { S.honest station.new →
         (some : HearsSome S.receives now (endpoint (S.state station.old) port.old) frames.now (endpoint (S.state station.new) port.new) served.old served.new)
@@ -102,6 +104,7 @@ fn serve<S: Station, R: Read, W: Write>(
     log: &mut Log,
 ) -> Result<Served, ServeFault>
     requires { log.old ≡ new_log }
+    ensures kept { S.kept station.new ≡ S.kept station.old }
     ensures held { S.honest station.new → S.honest station.old }
     ensures serves { S.honest station.new → Serves S.opens S.receives now turns (endpoint (S.state station.old) port.old)
         (R.remaining reader.old) (R.remaining reader.new)
@@ -155,6 +158,7 @@ pub fn serve_noted<S: Station, R: Read, W: Write>(
     log: &mut Log,
 ) -> Result<Served, ServeFault>
     requires { log.old ≡ new_log }
+    ensures kept { S.kept station.new ≡ S.kept station.old }
     ensures held { S.honest station.new → S.honest station.old }
     ensures serves { S.honest station.new → (ended : S.State) × IsLeft S.hung_up_of result ended (S.state station.new)
         × Serves S.opens S.receives now turns (endpoint (S.state station.old) port.old)
@@ -191,6 +195,7 @@ pub fn serve_stream<S: Station, R: Read, W: Write>(
     out: &mut W,
     turns: u64,
 ) -> Result<Served, ServeFault>
+    ensures kept { S.kept station.new ≡ S.kept station.old }
     ensures held { S.honest station.new → S.honest station.old }
     ensures serves { S.honest station.new → (ended : S.State) × IsLeft S.hung_up_of result ended (S.state station.new)
         × Serves S.opens S.receives now turns (endpoint (S.state station.old) port.old)

@@ -1,8 +1,8 @@
 //! What a stream needs of a station.
 
-ghost use Rattle.std.specs.Prelude.{◌≡◌, ℕ, ◌<◌, List, length, All, IfOk, OnErr};
+ghost use Rattle.std.specs.Prelude.{◌≡◌, ◌<◌, length, All, IfErr, IfOk, OnErr};
 ghost use Rattle.dnp_streams.specs.streams.Dialogues.{Asking};
-ghost use Rattle.dnp_streams.specs.streams.Stations.{Answer as AnswerValue, answer_of};
+ghost use Rattle.dnp_streams.specs.streams.Stations.{Opening, Receiving, answer_of};
 
 use dnp_concentrator::Cause;
 use dnp_master::Outcome;
@@ -45,14 +45,20 @@ pub trait Station {
     /// The state that it is in.
     ghost state: { Self → State };
 
+    /// What no call changes, whatever it answers; of a station that was lent something, by which reference it holds that,
+    /// so that whoever lent it knows what it is once the loan is over.
+    ghost Kept: { Type 0 };
+
+    ghost kept: { Self → Kept };
+
     /// So far its stores have given back what was written to them.
     ghost honest: { Self → Type 0 };
 
-    /// At this moment an opening answers this, and makes the second state of the first.
-    ghost opens: { State → ℕ → AnswerValue → State → Type 0 };
+    /// How it answers an opening, and why it refuses one.
+    ghost opens: { Opening State };
 
-    /// At this moment a fragment of these octets is answered this, and makes the second state of the first.
-    ghost receives: { State → ℕ → List ℕ → AnswerValue → State → Type 0 };
+    /// How it answers a fragment, and why it refuses one.
+    ghost receives: { Receiving State };
 
     /// What a hang-up makes of a state.
     ghost hung_up_of: { State → State };
@@ -62,20 +68,25 @@ pub trait Station {
 
     /// A connection begins.
     fn opened(&mut self, alloc: Global, now: u64) -> Result<Answer, StationFault>
+        ensures kept { kept self.new ≡ kept self.old }
         ensures held { honest self.new → honest self.old }
-        ensures answered { honest self.new → IfOk result (λ answer. opens (state self.old) now (answer_of answer) (state self.new)) }
+        ensures answered { honest self.new → IfOk result (λ answer. opens.answers (state self.old) now (answer_of answer) (state self.new)) }
+        ensures refused { honest self.new → IfErr result (λ fault. opens.refuses (state self.old) now fault) }
         ensures unchanged { honest self.new → OnErr result (state self.new ≡ state self.old) }
         ensures some { IfOk result (λ answer. All (λ fragment. 0 < length fragment) (answer_of answer).send) };
 
     /// A fragment came.
     fn receive(&mut self, alloc: Global, now: u64, octets: &[u8]) -> Result<Answer, StationFault>
+        ensures kept { kept self.new ≡ kept self.old }
         ensures held { honest self.new → honest self.old }
-        ensures answered { honest self.new → IfOk result (λ answer. receives (state self.old) now octets.now (answer_of answer) (state self.new)) }
+        ensures answered { honest self.new → IfOk result (λ answer. receives.answers (state self.old) now octets.now (answer_of answer) (state self.new)) }
+        ensures refused { honest self.new → IfErr result (λ fault. receives.refuses (state self.old) now octets.now fault) }
         ensures unchanged { honest self.new → OnErr result (state self.new ≡ state self.old) }
         ensures some { IfOk result (λ answer. All (λ fragment. 0 < length fragment) (answer_of answer).send) };
 
     /// The connection ends.
     fn hung_up(&mut self)
+        ensures kept { kept self.new ≡ kept self.old }
         ensures held { honest self.new → honest self.old }
         ensures hung_up { honest self.new → state self.new ≡ hung_up_of (state self.old) };
 }

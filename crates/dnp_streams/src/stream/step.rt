@@ -19,6 +19,7 @@ pub(super) fn open<S: Station>(
     now: u64,
     out: &mut Outgoing,
 ) -> Served
+    ensures kept { S.kept station.new ≡ S.kept station.old }
     ensures held { S.honest station.new → S.honest station.old }
     ensures opened { S.honest station.new → OpensTo S.opens now (endpoint (S.state station.old) port.old)
         (endpoint (S.state station.new) port.new) result out.new.items }
@@ -43,6 +44,7 @@ pub(super) fn hear<S: Station>(
     frame: &Frame,
     out: &mut Outgoing,
 ) -> Served
+    ensures kept { S.kept station.new ≡ S.kept station.old }
     ensures held { S.honest station.new → S.honest station.old }
     ensures heard { S.honest station.new → HearsTo S.receives now (endpoint (S.state station.old) port.old) frame.now
         (endpoint (S.state station.new) port.new) result out.new.items }

@@ -34,6 +34,7 @@ loop-init g c =
           (from_unbegun S.opens S.receives S.asking c.args.now _ _ c.args.progress.now _ _ _ _ _ c.requires.fresh
           (rw c.in-Ok-false.field-0-test at (c.in-Ok-false.ensures.turns honest)))
           c.new-stream.ensures.gives,
+      c.begin.ensures.kept,
     )
 
 pub returns-in-Err-read_noted-clause-talks : goal.returns-in-Err-read_noted-clause-talks
@@ -111,6 +112,7 @@ loop-preserved g c =
           let long : 0 < length piece = search rules in
           goes_on_more S.opens S.receives S.asking c.args.now c.loop.counter _ _ _ _ _ _ _ _ _ _ c.feed.new.self piece frames i
           c.in-Ok.ensures.octets.0 long gives heard,
+      c.hear_each.ensures.kept ∙ c.loop.invariant.4,
     )
 
 pub returns-clause-talks : goal.returns-clause-talks

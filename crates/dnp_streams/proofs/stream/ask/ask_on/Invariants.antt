@@ -15,3 +15,4 @@ invariant-loop g l =
     (unbegun (endpoint (g.S.Station.state l.fn.station) l.fn.port) l.fn.progress.left.now)
     (g.R.Read.remaining l.fn.reader) (g.R.Read.remaining l.reader) (g.W.Write.contents l.fn.out) (g.W.Write.contents l.out) l.stream
     (dialogue_of (g.S.Station.state l.station) l.port l.progress))
+    × (g.S.Station.kept l.station ≡ g.S.Station.kept l.fn.station)

@@ -27,4 +27,5 @@ loop-preserved g c = (
             (turns_one S.opens S.receives S.asking c.args.now _ _ Going c.go_to.new.out.items c.deref.result.now _ _ c.if-progress.false puts c.deref.ensures.0 c.in-Ok.ensures.whole) refl,
         omega (arith, many, length-append turns.steps (Going ∷ [])),
       ),
+  c.go_to.ensures.kept ∙ c.loop.invariant.4,
 )

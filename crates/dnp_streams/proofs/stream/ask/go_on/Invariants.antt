@@ -11,3 +11,4 @@ invariant-loop g l =
     (turns : Turns g.S.Station.opens g.S.Station.receives g.S.Station.asking l.now (dialogue_of (g.S.Station.state l.fn.station) l.fn.port l.fn.progress) [] (Ok false)
     (g.W.Write.contents l.fn.out) (g.W.Write.contents l.out) (dialogue_of (g.S.Station.state l.station) l.port l.progress))
     × (l.counter ≤ length turns.steps))
+    × (g.S.Station.kept l.station ≡ g.S.Station.kept l.fn.station)

@@ -34,4 +34,5 @@ loop-frame-preserved g c =
       λ honest.
           turns_then _ _ _ _ _ _ _ (take n xs) (frame ∷ []) (take (n + 1) xs) _ _ _ _ (c.loop-frame.invariant.3 (c.hear_one.ensures.held honest))
           (rw c.in-Ok-false.field-0-test at (c.in-Ok-false.ensures.turns honest)) (next_is xs n frame c.loop-frame-test.true c.frame-item.is),
+      c.hear_one.ensures.kept ∙ c.loop-frame.invariant.4,
     )

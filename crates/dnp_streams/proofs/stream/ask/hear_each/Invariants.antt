@@ -10,3 +10,4 @@ invariant-loop-frame g l =
     × (g.S.Station.honest l.station →
     Turns g.S.Station.opens g.S.Station.receives g.S.Station.asking l.now (dialogue_of (g.S.Station.state l.fn.station) l.fn.port l.fn.progress)
     (take l.frame-index l.frames) (Ok false) (g.W.Write.contents l.fn.out) (g.W.Write.contents l.out) (dialogue_of (g.S.Station.state l.station) l.port l.progress))
+    × (g.S.Station.kept l.station ≡ g.S.Station.kept l.fn.station)

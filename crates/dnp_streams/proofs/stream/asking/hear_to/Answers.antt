@@ -41,7 +41,8 @@ returns-in-Err-clause-hears g c honest =
     let frames = option_to_list taken.reply in
     record {
       sent = frames;
-      sends = Unanswered taken c.take-taken.new.self c.take-taken.ensures.takes c.if-not-taken.false refl
+      sends = Unanswered taken c.take-taken.new.self c.fragment.result.now c.take-taken.ensures.takes c.if-not-taken.false c.fragment.ensures.shown
+          c.in-Err.field-0 (c.in-Err.ensures.refused honest) refl
           (dialogue_is _ _ _ _ _ _ _ _ _ _ _ _ _ _ _ _ (c.in-Err.ensures.unchanged honest) refl refl c.refuse.ensures.rows c.refuse.ensures.outcomes c.refuse.ensures.faults refl refl);
       spelled = put_alone frames c.put_reply.new.out.items c.put_reply.ensures.put;
     }

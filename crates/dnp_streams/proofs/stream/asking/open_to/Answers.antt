@@ -24,7 +24,7 @@ returns-in-Ok-clause-begins g c honest =
 pub returns-in-Err-clause-begins : goal.returns-in-Err-clause-begins
 returns-in-Err-clause-begins g c honest = record {
   sent = [];
-  sends = Unopened refl
+  sends = Unopened c.in-Err.field-0 (c.in-Err.ensures.refused honest) refl
       (dialogue_is _ _ _ _ _ _ _ _ _ _ _ _ _ _ _ _ (c.in-Err.ensures.unchanged honest) refl refl c.refuse.ensures.rows c.refuse.ensures.outcomes c.refuse.ensures.faults refl refl);
   spelled = subst (λ (t : List ℕ). AreSpelled [] t) (sym c.clear.ensures) spelled_none;
 }

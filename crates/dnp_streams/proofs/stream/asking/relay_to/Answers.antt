@@ -1,7 +1,7 @@
 use Rattle.std.proofs.Common.{ℕ, List, [], refl, sym, subst}
 use Rattle.dnp_concentrator.specs.declared.relayed.Relayed.TheVariants.{Nothing, Selecting, Sent, Finished}
 use Rattle.dnp_streams.specs.streams.Spelled.{AreSpelled, sent_frames}
-use Rattle.dnp_streams.specs.streams.Dialogues.{Relays, sendable}
+use Rattle.dnp_streams.specs.streams.Dialogues.{Relays, Unrelayed, sendable}
 use Rattle.dnp_streams.proofs.streams.Dialogues.{dialogue_is}
 use Rattle.dnp_streams.proofs.streams.Spelling.{spelled_none, put_alone}
 use Rattle.dnp_streams.proofs.stream.asking.relay_to.Goals as goal
@@ -47,5 +47,15 @@ returns-in-Ok-Finished-clause-goes g c honest goes_on = record {
       Relays c.requires (Finished c.in-Ok-Finished.field-0-0 c.in-Ok-Finished.field-0-1) (g.S.Station.state c.relay.new.self)
       (rw c.in-Ok-Finished.field-0-is at (c.in-Ok-Finished.ensures.relayed honest)) refl
       (dialogue_is _ _ _ _ _ _ _ _ _ _ _ _ _ _ _ _ refl refl refl refl refl refl refl goes_on);
+  spelled = subst (λ (t : List ℕ). AreSpelled [] t) (sym c.clear.ensures) spelled_none;
+}
+
+pub returns-in-Err-clause-goes : goal.returns-in-Err-clause-goes
+returns-in-Err-clause-goes g c honest goes_on = record {
+  sent = [];
+  sends =
+      Unrelayed c.requires c.in-Err.field-0 (c.in-Err.ensures.refused honest) refl
+      (dialogue_is _ _ _ _ _ _ _ _ _ _ _ _ _ _ _ _ (c.in-Err.ensures.unchanged honest) refl refl c.refuse.ensures.rows c.refuse.ensures.outcomes
+      c.refuse.ensures.faults refl refl);
   spelled = subst (λ (t : List ℕ). AreSpelled [] t) (sym c.clear.ensures) spelled_none;
 }

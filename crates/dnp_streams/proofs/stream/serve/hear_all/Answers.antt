@@ -11,7 +11,7 @@ next_is xs n x low is = take_more xs n x low ∙ ap (λ (y : Frame). take n xs +
 
 pub loop-frame-init : goal.loop-frame-init
 loop-frame-init g c =
-    (c.requires, refl, λ honest. honest, λ honest. has_heard_none _ _ _ _ _ (search rules, search rules))
+    (c.requires, refl, λ honest. honest, λ honest. has_heard_none _ _ _ _ _ (search rules, search rules), refl)
 
 pub loop-frame-preserved : goal.loop-frame-preserved
 loop-frame-preserved g c =
@@ -26,6 +26,7 @@ loop-frame-preserved g c =
           (before.3 (c.hear.ensures.held honest)) before.0 (next_is xs n c.frame-item.result c.loop-frame-test.true c.frame-item.is)
           (c.hear.ensures.heard honest) c.add.ensures
           (subst (Appends (g.W.Write.contents c.loop-frame.out) (g.W.Write.contents c.write_noted.new.out)) c.deref.ensures.0 c.in-Ok.ensures.whole),
+      c.hear.ensures.kept ∙ before.4,
     )
 
 pub returns-then-served-clause-heard : goal.returns-then-served-clause-heard

@@ -11,3 +11,4 @@ invariant-loop-frame g l =
     HasHeard g.S.Station.receives l.now (record { station = g.S.Station.state l.fn.station; port = l.fn.port }) (take l.frame-index l.frames)
     (record { station = g.S.Station.state l.station; port = l.port }) l.fn.served l.served
     (g.W.Write.contents l.fn.out) (g.W.Write.contents l.out))
+    × (g.S.Station.kept l.station ≡ g.S.Station.kept l.fn.station)

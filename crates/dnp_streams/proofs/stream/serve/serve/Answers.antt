@@ -26,6 +26,7 @@ loop-init g c = (
       let (greets, written) = c.in-Ok.ensures.greeted honest in
       going_first _ _ _ _ _ _ _ _ c.new-stream.result _ (greets_first _ _ _ _ c.of-served.result _ c.of-served.ensures greets)
       written c.new-stream.ensures.gives,
+  c.greet.ensures.kept,
 )
 
 pub returns-in-Err-read_noted-clause-serves : goal.returns-in-Err-read_noted-clause-serves
@@ -92,6 +93,7 @@ loop-preserved g c = (
       going_on _ _ _ c.loop.counter _ _ _ _ _ _ _ _ _ _ c.feed.new.self piece frames _ _ i c.loop.invariant.0 c.in-Ok-read_noted.ensures.octets.0
       long gives some both.0
       (both.1 c.if-served-2.false),
+  c.hear_all.ensures.kept ∙ c.loop.invariant.4,
 )
 
 pub returns-clause-serves : goal.returns-clause-serves

@@ -11,3 +11,4 @@ invariant-loop g l =
     Going g.S.Station.opens g.S.Station.receives l.now l.counter (record { station = g.S.Station.state l.fn.station; port = l.fn.port })
     (g.R.Read.remaining l.fn.reader) (g.R.Read.remaining l.reader) (g.W.Write.contents l.fn.out) (g.W.Write.contents l.out) l.stream l.served
     (record { station = g.S.Station.state l.station; port = l.port }))
+    × (g.S.Station.kept l.station ≡ g.S.Station.kept l.fn.station)

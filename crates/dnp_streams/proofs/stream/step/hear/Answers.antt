@@ -41,7 +41,9 @@ returns-in-Err-clause-heard g c honest =
     let frames = option_to_list taken.reply in
     record {
       output = record { frames = frames; fragments = 1; faults = 1; closed = false };
-      hearing = Refused taken c.take-taken.ensures.takes c.if-not-taken.false refl (c.in-Err.ensures.unchanged honest);
+      hearing =
+          Refused taken c.fragment.result.now c.take-taken.ensures.takes c.if-not-taken.false c.fragment.ensures.shown
+          c.in-Err.field-0 (c.in-Err.ensures.refused honest) refl (c.in-Err.ensures.unchanged honest);
       counted = c.of-in-Err.ensures;
       spelled = put_alone frames c.put_reply.new.out.items c.put_reply.ensures.put;
     }

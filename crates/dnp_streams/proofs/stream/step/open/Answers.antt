@@ -23,7 +23,7 @@ pub returns-in-Err-clause-opened : goal.returns-in-Err-clause-opened
 returns-in-Err-clause-opened g c honest = record {
   output = record no_output { faults = 1 };
   opening =
-      Unopened refl
+      Unopened c.in-Err.field-0 (c.in-Err.ensures.refused honest) refl
       (ap (λ (s : g.S.Station.State). record { station = s; port = c.args.port.now }) (c.in-Err.ensures.unchanged honest));
   counted = c.of-in-Err.ensures;
   spelled = subst (λ (t : List ℕ). AreSpelled [] t) (sym c.clear.ensures) spelled_none;

@@ -2,6 +2,7 @@ use Rattle.std.proofs.Common.{ap, refl}
 use Rattle.dnp_outstation.specs.Station.{actions_of}
 use Rattle.dnp_concentrator.specs.BookOutputs.{panel_of}
 use Rattle.dnp_concentrator.specs.Concentrator.{outputs_of}
+use Rattle.dnp_streams.proofs.streams.Refused.{no_message_above}
 use Rattle.dnp_streams.proofs.stream.above.AboveStation.receive.Goals as goal
 
 pub returns-in-Ok-clause-answered : goal.returns-in-Ok-clause-answered
@@ -19,3 +20,7 @@ returns-in-Ok-clause-answered g c honest =
         performed = c.in-Ok.ensures.performed honest.1 some;
       };
     }
+
+pub returns-in-Err-clause-refused : goal.returns-in-Err-clause-refused
+returns-in-Err-clause-refused g c honest =
+    record { looked_at = c.in-Err.ensures.looked_at refl; message = no_message_above c.cause_of.result c.from.result c.cause_of.ensures }

@@ -1,6 +1,10 @@
 use Rattle.std.proofs.Common.{rules, ◌<◌, length, ap}
-use Rattle.dnp_concentrator.specs.Concentrator.{core_of, indices_of, links_of, plan_above, queue_of}
+use Rattle.dnp_concentrator.specs.Concentrator.{book_of, core_of, indices_of, links_of, plan_above, queue_of}
 use Rattle.dnp_streams.proofs.streams.Taken.{relayed_below}
+use Rattle.std.proofs.lemmas.Result.{IfErr-weaker}
+use Rattle.dnp_concentrator.specs.Concentrator.{link_at}
+use Rattle.dnp_concentrator.specs.Relayed.{asks_book}
+use Rattle.dnp_streams.proofs.streams.Refused.{refused_relay}
 use Rattle.dnp_streams.proofs.stream.below.BelowAsker.relay.Goals as goal
 
 pub returns-clause-relayed : goal.returns-clause-relayed
@@ -9,7 +13,16 @@ returns-clause-relayed g c honest =
     let new = c.relay.new.self in
     let at = c.args.self.now.link in
     let there : at < length (links_of old) = search rules in
-    relayed_below c.relay.result _ c.args.now at (links_of old) (links_of new) (core_of old) (core_of new) (indices_of old) (indices_of new)
-    (plan_above old) (plan_above new) (g.Q.Lanes.contents (queue_of old)) (g.Q.Lanes.contents (queue_of new)) there
-    (c.relay.ensures.told honest.1) (c.relay.ensures.link honest.1) c.relay.ensures.core c.relay.ensures.indices c.relay.ensures.plan
-    (ap g.Q.Lanes.contents c.relay.ensures.queue)
+    relayed_below c.relay.result c.args.now at (links_of old) (links_of new) (core_of old) (core_of new) (indices_of old) (indices_of new)
+    (plan_above old) (plan_above new) (g.Q.Lanes.contents (queue_of old)) (g.Q.Lanes.contents (queue_of new))
+    (g.B.Book.contents (book_of old)) (g.B.Book.contents (book_of new)) there
+    (c.relay.ensures.told honest.1) (c.relay.ensures.link honest.1) (c.relay.ensures.ledger honest.1) (c.relay.ensures.spent honest.1)
+    c.relay.ensures.core c.relay.ensures.indices c.relay.ensures.plan (ap g.Q.Lanes.contents c.relay.ensures.queue)
+
+pub returns-clause-refused : goal.returns-clause-refused
+returns-clause-refused g c honest =
+    let old = c.args.self.now.concentrator.now in
+    let at = c.args.self.now.link in
+    let there : at < length (links_of old) = search rules in
+    IfErr-weaker c.relay.result _ _ (λ fault by. record { there = there; by_book = by })
+    (refused_relay (asks_book (link_at old at)) c.relay.result c.relay.ensures.unasked c.relay.ensures.named)

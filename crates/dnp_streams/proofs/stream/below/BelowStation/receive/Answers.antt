@@ -1,9 +1,12 @@
 use Rattle.std.proofs.Common.{rules, ◌<◌, length, ap}
 use Rattle.std.proofs.lemmas.Result.{MatchResult-at_ok}
 use Rattle.dnp_concentrator.specs.Concentrator.{links_of, taking_at}
-use Rattle.dnp_concentrator.specs.BookOutputs.{map_in}
+use Rattle.dnp_concentrator.specs.BookOutputs.{book_in, map_in}
 use Rattle.dnp_streams.specs.streams.Concentrators.BelowReceives.{Taken}
 use Rattle.dnp_streams.proofs.streams.Taken.{taken, answered, seen}
+use Rattle.dnp_concentrator.specs.Concentrator.{link_at, queue_of, queued_at}
+use Rattle.dnp_eventbuf.specs.Stock.{exhausts}
+use Rattle.dnp_streams.proofs.streams.Refused.{refused_rows}
 use Rattle.dnp_streams.proofs.stream.below.BelowStation.receive.Goals as goal
 
 pub returns-in-Ok-clause-answered : goal.returns-in-Ok-clause-answered
@@ -18,4 +21,18 @@ returns-in-Ok-clause-answered g c honest =
     let queue = MatchResult-at_ok _ _ found.0 found.1 (told.queued honest.0) in
     let by = MatchResult-at_ok _ _ found.0 found.1 told.actions in
     Taken there found.0 found.1 (answered _ _ found.0 _ c.answer_taking.ensures.answer by)
-    (seen at _ _ _ _ _ _ _ _ _ _ links core (ap (λ outputs. map_in outputs) told.outputs) told.plan queue)
+    (seen at _ _ _ _ _ _ _ _ _ _ _ _ links core (ap (λ outputs. map_in outputs) told.outputs) told.plan queue
+    (ap (λ outputs. g.B.Book.contents (book_in outputs)) told.outputs))
+
+pub returns-in-Err-clause-refused : goal.returns-in-Err-clause-refused
+returns-in-Err-clause-refused g c honest =
+    let old = c.args.self.now.concentrator.now in
+    let at = c.args.self.now.link in
+    let there : at < length (links_of old) = search rules in
+    record {
+      there = there;
+      by_rows =
+          refused_rows (link_at old at).master c.args.now c.args.octets.now
+          (λ t. exhausts (g.Q.Lanes.contents (queue_of old)) (queued_at old at t.events)) c.in-Err.fault c.fault_of.result c.fault_of.ensures
+          c.in-Err.ensures.named (c.in-Err.ensures.exhausted honest.0);
+    }

@@ -1,0 +1,12 @@
+use Rattle.std.proofs.Common.{refl}
+use Rattle.dnp_streams.proofs.streams.Refused.{no_message_above, no_number_above, passed_on}
+use Rattle.dnp_streams.proofs.stream.above.AboveStation.opened.Goals as goal
+
+pub returns-in-Err-clause-refused : goal.returns-in-Err-clause-refused
+returns-in-Err-clause-refused g c honest = record {
+  unsolicited = c.in-Err.ensures.asks refl;
+  message = no_message_above c.cause_of.result c.from.result c.cause_of.ensures;
+  exhausted =
+      no_number_above c.cause_of.result c.from.result c.cause_of.ensures
+      (passed_on c.in-Err.fault c.from.result c.from.ensures c.in-Err.ensures.look.named);
+}

@@ -1,0 +1,10 @@
+use Rattle.dnp_concentrator.specs.Centre.{journal_of, link_of}
+use Rattle.dnp_eventbuf.specs.Archive.{passes_limit}
+use Rattle.dnp_streams.proofs.streams.Refused.{refused_rows}
+use Rattle.dnp_streams.proofs.stream.centre.CentreStation.receive.Goals as goal
+
+pub returns-in-Err-clause-refused : goal.returns-in-Err-clause-refused
+returns-in-Err-clause-refused g c honest =
+    let old = c.args.self.now in
+    refused_rows (link_of old).master c.args.now c.args.octets.now (λ t. passes_limit (g.J.JournalStore.archive (journal_of old)) t.events)
+    c.in-Err.fault c.fault_of.result c.fault_of.ensures c.in-Err.ensures.named (c.in-Err.ensures.exhausted honest.0)

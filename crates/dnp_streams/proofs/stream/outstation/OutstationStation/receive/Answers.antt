@@ -1,0 +1,7 @@
+use Rattle.std.proofs.Common.{refl}
+use Rattle.dnp_streams.proofs.streams.Refused.{no_message_above}
+use Rattle.dnp_streams.proofs.stream.outstation.OutstationStation.receive.Goals as goal
+
+pub returns-in-Err-clause-refused : goal.returns-in-Err-clause-refused
+returns-in-Err-clause-refused g c honest =
+    record { looked_at = c.in-Err.ensures.looked_at refl; message = no_message_above c.cause_of.result c.in-Err.fault c.cause_of.ensures }
