@@ -6,7 +6,7 @@ behind zero xs x more e = ap (drop 1) e
 behind (suc k) [] x more e = ap (drop 1) e
 behind (suc k) (y ∷ xs) x more e = behind k xs x more e
 
--- behind the first of what is left
+-- after the first of what is left
 pub one_further : {A : Type 0} (k : ℕ) (xs : List A) (x : A) (more : List A) → drop k xs ≡ x ∷ more → drop (k + 1) xs ≡ more
 one_further k xs x more e =
     let next : suc k ≡ k + 1 = omega arith in

@@ -28,7 +28,7 @@ from_digits word (high ∷ []) done octet two is before = absurd (omega arith)
 from_digits word (high ∷ low ∷ more) done octet two is before =
     before ∙ ap (option_map (λ more. done ++ more)) (first_octet high low octet more is) ∙ joined done octet (octets_in_digits more)
 
--- one octet more is read, and the digits behind its own are still to come
+-- one octet more is read, and the digits after its own are still to come
 pub octet_more : (word rest done : List ℕ) (octet : ℕ) → 2 ≤ length rest → octet_named (get_or rest 0 0) (get_or rest 1 0) ≡ Some octet →
     octets_in_digits word ≡ option_map (λ more. done ++ more) (octets_in_digits rest) →
     octets_in_digits word ≡ option_map (λ more. (done ++ octet ∷ []) ++ more) (octets_in_digits (take (length rest - 2) (drop 2 rest)))

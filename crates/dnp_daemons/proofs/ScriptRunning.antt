@@ -106,7 +106,7 @@ said_stopped law old script done line before new held held' held'' text low is d
     }
 said_stopped law old script done line before new held held' held'' text low is did wrote stopped (stop.Fault cause) said = absurd said
 
--- ---- texts, one behind the other
+-- ---- texts, one after the other
 
 front : {A : Type 0} (f : A → List ℕ) (parts : List A) (i : ℕ) (d : A) → i < length parts
     → drop i (map f parts) ≡ f (get_or parts i d) ∷ drop (i + 1) (map f parts)

@@ -27,7 +27,7 @@ head_is x y xs ys e = cc
 tail_is : {A : Type 0} (x y : A) (xs ys : List A) → x ∷ xs ≡ y ∷ ys → xs ≡ ys
 tail_is x y xs ys e = cc
 
--- the line that doesn't fit stands behind those that were read
+-- the line that doesn't fit stands after those that were read
 behind : (r : List ℕ → Option ScriptLine) (script : List ScriptLine) (line : List ℕ) (rest lines : List (List ℕ)) → r line ≡ None →
     map Some script ++ map r (line ∷ rest) ≡ map r lines → position_or_len (λ l. not (is_some (r l))) lines ≡ length script
 behind r [] line rest [] none e = cc

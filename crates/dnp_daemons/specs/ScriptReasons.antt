@@ -23,7 +23,7 @@ pub record StopBehind (reads : WordReader) (words : List (List ℕ)) (good : ℕ
   pub begin : BeginLine reads (take good words)
   pub stop : good < length words → BeginLine reads (take (suc good) words) → ⊥
 
--- this line of the text, counted from 1, is the first that doesn't fit, and it stops fitting behind so many words
+-- this line of the text, counted from 1, is the first that doesn't fit, and it stops fitting after so many words
 pub record StopsAt (carried : Bool) (substations : ℕ) (text : List ℕ) (line good : ℕ) : Type 0 where
   pub first : first_unread (λ l. words_by carried substations (words_of l)) (lines_of text) ≡ Some line
   pub words : StopBehind (words_by carried substations) (words_of (slice_index_or (lines_of text) (line - 1) [])) good

@@ -56,7 +56,7 @@ pub record StopsAt {State : Type 0} (law : Law State) (old : State) (script : Li
   pub stopped : StopsIn law before line new
   pub whole : text ≡ printed ++ stopped_line done
 
--- some first lines are done, or a line stops behind them; all this is to be printed by then
+-- some first lines are done, or a line stops after them; all this is to be printed by then
 pub data Reaches {State : Type 0} (law : Law State) (old : State) (script : List ScriptLine) (new : State) (text : List ℕ) : Type 0 where
   Done : (done : ℕ) → DoesAll law old (take done script) new text → Reaches law old script new text
   Stopped : (done : ℕ) → StopsAt law old script done new text → Reaches law old script new text

@@ -22,7 +22,7 @@ mod world;
 
 pub use scripted::Scripted;
 
-/// Why a script, or the report behind it, was not done to its end.
+/// Why a script, or the report after it, was not done to its end.
 #[derive(Clone, Copy, Debug, PartialEq, Eq, Error)]
 pub enum ScriptStop {
     /// So many lines were done, and the next one stopped: a store or a request for memory refused.

@@ -12,7 +12,7 @@ pub struct Giving<'a> {
     pub octets: &'a [u8],
     /// The most octets of a call.
     pub most: usize,
-    /// Whether it fails behind the last octet.
+    /// Whether it fails after the last octet.
     pub fails: bool,
 }
 

@@ -79,7 +79,7 @@ reply_alone own peer frame new taken none lines h silent empty appended = (
       (subst (λ (fs : List Frame). AreLinesOf fs appended.lines) h.reply appended.are),
 )
 
--- the reply, and behind it what the outstation answers
+-- the reply, and after it what the outstation answers
 pub reply_and_answer : (own peer : ℕ) (frame : Frame) (new : PortState) (taken : Taken) (fragment none begun lines : List ℕ) (send : List (List ℕ)) → HasTaken own peer frame new taken
     → taken.whole ≡ true → IsShown new fragment → none ≡ [] → AreAppended none (option_to_list taken.reply) begun → send ≡ responses fragment
     → AreAppended begun (frames_of (ends new.link) new.number send) lines

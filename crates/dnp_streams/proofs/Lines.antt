@@ -50,7 +50,7 @@ all_begun e f n k count start text all past begun =
     subst (λ (j : ℕ). AreLinesOf (map (sent e) (map (cut f n) (range_with_len k j))) []) (sym none) refl in
     subst (λ (t : List ℕ). AreAppended start all t) (append-nil text) (begun [] lines)
 
--- lines behind lines
+-- lines after lines
 pub lines_joined : (fs gs : List Frame) (a b : List ℕ) → AreLinesOf fs a → AreLinesOf gs b → AreLinesOf (fs ++ gs) (a ++ b)
 lines_joined [] gs a b first second = subst (λ (t : List ℕ). AreLinesOf gs (t ++ b)) (sym first) second
 lines_joined (f ∷ fs) gs a b (unit, rest, spells, later, is) second = (

@@ -1,4 +1,4 @@
--- A line with a space behind it is a row of octets, each with a space behind it, so that it is read
+-- A line with a space after it is a row of octets, each with a space after it, so that it is read
 -- three characters at a time.
 use Rattle.std.proofs.Common.{◌≡◌, ◌≢◌, ℕ, ◌-◌, ◌*◌, ◌/◌, ◌%◌, ◌<◌, List, [], ◌∷◌, ◌++◌, length, arith, ap, sym, ◌∙◌, refl}
 use Rattle.std.specs.List.{All}
@@ -12,17 +12,17 @@ use Rattle.dnp_streams.proofs.OctetText.{octet_same}
 abbrev pub IsByte : ℕ → Type 0
 IsByte octet = octet < 256
 
--- octets as text, with a space behind each
+-- octets as text, with a space after each
 abbrev pub spaced : List ℕ → List ℕ
 spaced [] = []
 spaced (octet ∷ octets) = digit (octet / 16) ∷ digit (octet % 16) ∷ 32 ∷ spaced octets
 
--- a text in capitals with a space behind it, or nothing where there is no text
+-- a text in capitals with a space after it, or nothing where there is no text
 abbrev pub closed : List ℕ → List ℕ
 closed [] = []
 closed (x ∷ xs) = str_to_ascii_uppercase (x ∷ xs) ++ 32 ∷ []
 
--- a line of some octets with a space behind it
+-- a line of some octets with a space after it
 line_of-space : (octet : ℕ) (octets : List ℕ) → line_of (octet ∷ octets) ++ 32 ∷ [] ≡ spaced (octet ∷ octets)
 line_of-space octet [] = refl
 line_of-space octet (next ∷ octets) =

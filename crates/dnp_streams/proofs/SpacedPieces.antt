@@ -86,7 +86,7 @@ pub record Goes (text : List ℕ) : Type 0 where
   pub bytes : All IsByte more
   pub is : text ≡ spaced more
 
--- what comes behind a part of a row is a row
+-- what comes after a part of a row is a row
 goes : (octets text all : List ℕ) → All IsByte all → spaced octets ++ text ≡ spaced all → Goes text
 goes [] text all bytes is = record { more = all; bytes = bytes; is = is }
 goes (octet ∷ octets) text [] bytes is = cc
@@ -114,7 +114,7 @@ refused line octets rest all reads some none bytes digits =
     let going : Goes (closed rest) = rest_goes line octets rest all reads bytes digits in
     no_row rest going.more some going.bytes none going.is
 
--- a piece of at most three characters, and what comes behind it
+-- a piece of at most three characters, and what comes after it
 take-piece : (piece after : List ℕ) → length piece ≡ min 3 (length (piece ++ after)) → take 3 (piece ++ after) ≡ piece
 take-piece piece after size =
     sym (take_min 3 (piece ++ after)) ∙ take_at piece after (min 3 (length (piece ++ after))) size

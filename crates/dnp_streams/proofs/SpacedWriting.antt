@@ -4,14 +4,14 @@ use Rattle.std.proofs.lemmas.List.{take_more, length-take-le, append_assoc}
 use Rattle.dnp_streams.specs.OctetLines.{digit, octet_text, line_of}
 use Rattle.dnp_streams.proofs.Spaced.{length-line_of}
 
--- one octet behind others
+-- one octet after others
 line_of-push : (octets : List ℕ) (octet : ℕ) → 0 < length octets → line_of (octets ++ octet ∷ []) ≡ line_of octets ++ 32 ∷ octet_text octet
 line_of-push [] octet some = absurd (omega arith)
 line_of-push (x ∷ []) octet some = refl
 line_of-push (x ∷ y ∷ xs) octet some =
     ap (λ (t : List ℕ). digit (x / 16) ∷ digit (x % 16) ∷ 32 ∷ t) (line_of-push (y ∷ xs) octet (omega arith))
 
--- the line of one octet more, behind others
+-- the line of one octet more, after others
 pub line_of-more : (octets : List ℕ) (i d : ℕ) → i < length octets → 0 < i →
     line_of (take (i + 1) octets) ≡ line_of (take i octets) ++ 32 ∷ octet_text (get_or octets i d)
 line_of-more octets i d within later =
@@ -27,7 +27,7 @@ line_of-first octets i d within first =
     ∙ ap (λ (t : List ℕ). line_of (t ++ get_or octets i d ∷ [])) none
     ∙ ap (λ (t : List ℕ). line_of t ++ octet_text (get_or octets i d)) (sym none)
 
--- two digits pushed one by one, and the same behind a space
+-- two digits pushed one by one, and the same after a space
 pub two_pushed : (line : List ℕ) (octet : ℕ) →
     (line ++ digit (octet / 16) ∷ []) ++ digit (octet % 16) ∷ [] ≡ line ++ octet_text octet
 two_pushed line octet = append_assoc line (digit (octet / 16) ∷ []) (digit (octet % 16) ∷ [])

@@ -1,4 +1,4 @@
--- What is under way on the lines of a link arrives: what a quiet link carries, what is sent behind it, and what deliveries make of it.
+-- What is under way on the lines of a link arrives: what a quiet link carries, what is sent after it, and what deliveries make of it.
 use Rattle.std.proofs.Common.{◌≡◌, ℕ, zero, suc, ◌+◌, Bool, List, [], ◌∷◌, ◌++◌, length, Option, Some, refl, sym, ap, ◌∙◌, subst, arith, append_assoc, append-nil}
 use Rattle.std.specs.Prelude.{if◌then◌else◌, slice_get}
 use Rattle.std.proofs.lemmas.Option.{same_Some}
@@ -91,7 +91,7 @@ hears_at Up tail was is h =
     let with_line : LineState → ChannelState = λ l. record was { up = l; master_port = is.master_port } in
     h.after ∙ ap with_line (sym (ap (λ (c : ChannelState). c.up) h.after))
 
--- one fragment has arrived, and others stand behind it
+-- one fragment has arrived, and others stand after it
 record OneArrived (on : Link) (way : Way) (f : List ℕ) (fragments behind rest : List (List ℕ)) (old new : System) : Type 0 where
   answers : List (List ℕ)
   arrives : Arrives on way f answers old new

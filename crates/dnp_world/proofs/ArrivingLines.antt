@@ -1,4 +1,4 @@
--- Fragments that stand on a line, when more are sent behind them, when some came, and when something happens on the way back.
+-- Fragments that stand on a line, when more are sent after them, when some came, and when something happens on the way back.
 use Rattle.std.proofs.Common.{◌≡◌, ℕ, ◌<◌, false, List, [], ◌∷◌, ◌++◌, length, refl, sym, ap, ◌∙◌, subst, arith, append_assoc, append-nil}
 use Rattle.std.proofs.lemmas.Bool.Decides.{nat_tests}
 use Rattle.dnp_linkframe.specs.Frames.{Spells}
@@ -59,7 +59,7 @@ units_more s (g ∷ fragments) f units us h one = (
 unbroken_few : (lost : ℕ) → is_broken (line_of [] lost) ≡ false → lost < BROKEN_LOSSES
 unbroken_few lost h = grind (arith, nat_tests)
 
--- one fragment is sent behind the others
+-- one fragment is sent after the others
 sent_one : (fragments : List (List ℕ)) (f : List ℕ) (line line' : LineState) (port port' receiver : PortState) → IsSent f line port line' port'
     → StandOn fragments line port receiver → StandOn (fragments ++ f ∷ []) line' port' receiver
 sent_one fragments f line line' port port' receiver s h =

@@ -66,7 +66,7 @@ status_told book id e status found =
 idle_again : (r : Relaying) (t : Task) (status : ℕ) → r.master.is_open ≡ true → is_idle (heard_status r t status).master ≡ true
 idle_again r t status opens = rw opens refl
 
--- the step behind a SELECT that was answered with another status
+-- the step after a SELECT that was answered with another status
 told_next : (target : ℕ) (entry : Entry) (ends : Ends) (r : Relaying) (status : ℕ) → ends.link ≡ heard_status r (task.Select entry.command) status
     → r.progress ≡ Some (record { id = entry.id; command = entry.command; stage = stage.Selecting }) → r.master.is_open ≡ true
     → (status == success) ≡ false → next_step target ends ≡ Finishes entry.id status

@@ -62,7 +62,7 @@ no_reports = All-nil (λ (f : List ℕ). uns_in f ≡ true)
 was_asked : (octets : List ℕ) (c d : Core) → d ≡ c → WasAsked octets c → WasAsked octets d
 was_asked octets c d e was = subst (WasAsked octets) (sym e) was
 
--- behind the last fragment nothing more is sent
+-- after the last fragment nothing more is sent
 last_sends : (first later : List (List ℕ)) (sent : List (List ℕ)) → sent ≡ first ++ later → later ≡ [] → sent ≡ first
 last_sends first later sent is none = is ∙ ap (λ (xs : List (List ℕ)). first ++ xs) none ∙ append-nil first
 
@@ -112,7 +112,7 @@ other_asked c octets last was differs = by (is_some c.session.last) (bytes_eq oc
 is_new : (octets : List ℕ) (c d : Core) → d ≡ c → IsNewTo octets c → IsNewTo octets d
 is_new octets c d e new = subst (IsNewTo octets) (sym e) new
 
--- octets that are new stay so behind the confirm of a report
+-- octets that are new stay so after the confirm of a report
 pub stays_new : (s : State) (o : Panel) (now number : ℕ) (octets : List ℕ) → number < 16 → IsNewTo octets s.core
     → IsNewTo octets (connection_after s o now (request_octets (confirmation number true))).state.core
 stays_new s o now number octets four new =
@@ -186,7 +186,7 @@ sent_behind command seq check new first later sent none more commands reports se
   those = commands_is ∙ ap (λ (xs : List Command). xs ++ more) none_is ∙ h.those;
 }
 
--- an OPERATE comes behind confirms of reports
+-- an OPERATE comes after confirms of reports
 pub operate_comes : ControlLaws → (now seq status : ℕ) (command : Command) (going : List (List ℕ)) (s new : State) (sent : List (List ℕ))
     (commands : List Command) → seq < 16 → HasWidths command → status < 128 → AreConfirms going → IsNewTo (asking seq function.Operate command) s.core
     → AnswersAll now (ChecksAs command status) (going ++ asking seq function.Operate command ∷ []) s new sent commands

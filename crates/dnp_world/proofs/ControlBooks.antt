@@ -21,7 +21,7 @@ rising_head x xs pairs = λ k d low. pairs 0 (suc k) d (omega arith) (omega arit
 rising_tail : (x : Entry) (xs : List Entry) → AllPairs (λ (a b : Entry). a.id < b.id) (x ∷ xs) → AllPairs (λ (a b : Entry). a.id < b.id) xs
 rising_tail x xs pairs = λ i j d before low. pairs (suc i) (suc j) d (omega arith) (omega arith)
 
--- the entry at the front, or the one behind it
+-- the entry at the front, or the one after it
 abbrev first_over : ℕ → List Entry → Option Entry
 first_over id entries = first_with id (take 1 (filter (λ (e : Entry). nat_lt (id - 1) e.id) entries))
 

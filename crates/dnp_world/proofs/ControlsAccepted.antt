@@ -206,7 +206,7 @@ module _ (laws : ControlLaws) (on : Link) (target check : ℕ) (entry : Entry) (
   pub ended_good : (old operated new : System) (a : AnsweredOver old operated) → PassesBack on (Some entry.id) operated new → a.comes.status ≡ success
   ended_good old operated new a finishes = (over.back operated new a.after a.view finishes a.taken).told a.comes.status a.comes.told
 
-  -- what the book says behind one step more
+  -- what the book says after one step more
   pub ended_says : (old operated ended new : System) (a : AnsweredOver old operated) (e : Ended over.View over.Kept target (told_to target a.after) [] operated ended)
       → over.book new ≡ told_to target e.after → status_at (over.book new) entry.id ≡ Some a.comes.status
   ended_says old operated ended new a e is = ap (λ (b : Ledger). status_at b entry.id) (is ∙ e.leaves.same ∙ e.is) ∙ a.comes.told

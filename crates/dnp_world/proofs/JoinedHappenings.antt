@@ -109,7 +109,7 @@ refused_change database kind index reading fault e =
     same_blocks database kind (changed_in (blocks_of database kind) kind index reading)
     (refused_if (blocks_of database kind) kind index reading fault (state_in (blocks_of database kind) index) (is_carried kind reading) (is_in_time reading.time) refl refl refl e)
 
--- ---- the points behind an event
+-- ---- the points after an event
 
 step_points : {Sink : Type 0} (points : Database) (s new : LinkState Sink) (step : Step) → Leaves points step → Steps step s new
     → new.outstation.core.points ≡ points

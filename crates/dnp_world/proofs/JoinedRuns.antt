@@ -37,7 +37,7 @@ use Rattle.dnp_world.proofs.JoinedSteps.{left_behind, stays_as}
 use Rattle.dnp_world.proofs.Keeping.{moves_stand}
 use Rattle.dnp_world.proofs.OutstationSteps.{moves_after}
 
--- ---- one behind the other
+-- ---- one after the other
 
 follows_both : {Sink : Type 0} (others first second : List Row) (before : List Command) (l : Link) (next new : LinkState Sink)
     (f : Follows others first [] before l next)

@@ -66,7 +66,7 @@ shows_still s l l' same lanes last_id shows = record {
   well = shows.well;
 }
 
--- rows that leave go behind those that left
+-- rows that leave go after those that left
 pub left_behind : (all first others gone : List Row) → IsPermutation all (first ++ others)
     → IsPermutation (all ++ gone) ((first ++ gone) ++ others)
 left_behind all first others gone h =

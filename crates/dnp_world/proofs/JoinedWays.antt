@@ -141,7 +141,7 @@ heard_behind (Some unit) old new g given (NoFrame never same e) =
 
 -- ---- what it gives
 
--- behind what was given before, as behind nothing
+-- after what was given before, as after nothing
 same_behind : {X : Type 0} (xs ys zs : List X) → xs ++ ys ≡ xs ++ zs → ys ≡ zs
 same_behind [] ys zs e = e
 same_behind (x ∷ xs) ys zs e = same_behind xs ys zs (ap (λ (l : List _). drop 1 l) e)

@@ -37,7 +37,7 @@ nothing_more r i = record { same = λ test. omega (arith, count_by-append test (
 pub rests : (old new : System) → IsSteady old → new ≡ old → Goes (λ i. []) old new
 rests old new s same = subst (Goes (λ i. []) old) (sym same) (record { steady = s; fate = nothing_more (report_of old) })
 
--- one list behind another
+-- one list after another
 pub goes_on : LastingLaws → (first second : ℕ → List Row) (old mid new : System) → Goes first old mid → Goes second mid new
     → Goes (λ i. first i ++ second i) old new
 goes_on laws first second old mid new f s = record {
@@ -77,7 +77,7 @@ stops laws (event.Pass ms) old new s same = rests old new s same
 stops laws (event.Tick on end) old new s same = rests old new s same
 stops laws (event.Restart place) old new s same = rests old new s same
 
--- what a list made, and nothing behind it
+-- what a list made, and nothing after it
 goes_then : LastingLaws → (made : ℕ → List Row) (old mid new : System) → Goes made old mid → Goes (λ i. []) mid new → Goes made old new
 goes_then laws made old mid new f g = record {
   steady = g.steady;

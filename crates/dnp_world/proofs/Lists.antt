@@ -33,7 +33,7 @@ end_trans xs (y ∷ ys) zs h k =
       | inr t ↦ end_trans xs ys zs t (end_tail y ys zs k)
     ]
 
--- what is sent comes behind
+-- what is sent comes after
 pub end_more : {X : Type 0} (xs ys zs : List X) → IsEnd xs ys → IsEnd (xs ++ zs) (ys ++ zs)
 end_more xs [] zs e = end_same (xs ++ zs) zs (ap (λ (l : List _). l ++ zs) e)
 end_more xs (y ∷ ys) zs h =
@@ -86,7 +86,7 @@ pub turns_each : {X : Type 0} (Old New : X → Type 0) (xs : List X) → Each Ne
 turns_each Old New [] h = tt
 turns_each Old New (x ∷ xs) h = inl h
 
--- new ones come behind
+-- new ones come after
 pub turns_more : {X : Type 0} (Old New : X → Type 0) (xs ys : List X) → Turns Old New xs → Each New ys → Turns Old New (xs ++ ys)
 turns_more Old New [] ys h k = turns_each Old New ys k
 turns_more Old New (x ∷ xs) ys h k =
@@ -139,7 +139,7 @@ turns_twice Old New (w ∷ ws) x xs h =
       | inr o ↦ inr (o.0, turns_twice Old New ws x xs o.1)
     ]
 
--- behind a new one all are new
+-- after a new one all are new
 pub turns_head : {X : Type 0} (Old New : X → Type 0) (x : X) (xs : List X) → (Old x → ⊥) → Turns Old New (x ∷ xs) → Each New (x ∷ xs)
 turns_head Old New x xs never h = elim h [ inl n ↦ n | inr o ↦ absurd (never o.0) ]
 

@@ -133,7 +133,7 @@ opens_quiet (Below station) old new has off h =
     opens_below station old new has off (subst (λ (b : Bool). IfThere b (OpensOn (Below station)) old new) has h)
 opens_quiet Above old new has off h = opens_above old new off h
 
--- ---- behind a list of events
+-- ---- after a list of events
 
 -- a link that isn't there before its opening isn't there after it
 last_opens : (on : Link) (b : Bool) (old new : System) → has_link old on ≡ b → has_link new on ≡ true → reports_on new on ≡ false

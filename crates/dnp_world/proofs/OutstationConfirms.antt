@@ -96,7 +96,7 @@ marked_ids (Some last) h = by last.reply h
     by (First f) h = h
     by Further h = tt
 
--- the state behind the release
+-- the state after the release
 abbrev pub confirmed_state : State → Awaited → State
 confirmed_state s w = record (with_session s (confirmed s.core.session)) { lanes = without s.lanes w.upto }
 

@@ -58,7 +58,7 @@ pub record ReleaseLaws : Type 0 where
   pub sound : (s : Stock) (upto : List ℕ) → IsSound s → length upto ≡ LANES → IsSound (without s upto)
   pub indexes : (s : Stock) (upto : List ℕ) → HaveIndexes s → HaveIndexes (without s upto)
 
--- of a response that goes on behind a confirm
+-- of a response that goes on after a confirm
 pub record FurtherLaws : Type 0 where
   pub tidy : (s : State) (w : Awaited) (last : LastRequest) (place : Place) → IsSound s.lanes → LeavesNothing s → s.core.session.awaited ≡ Some w
       → s.core.session.last ≡ Some last → last.left ≡ Some place → IsTidy (without s.lanes w.upto) place.given × (length place.given ≡ LANES)

@@ -1,4 +1,4 @@
--- The confirm of a report that comes to an outstation, as moves of its link: a READ that was held is answered behind it.
+-- The confirm of a report that comes to an outstation, as moves of its link: a READ that was held is answered after it.
 use Rattle.std.proofs.Common.{◌≡◌, ℕ, ◌≤◌, true, false, List, [], ◌∷◌, length, refl, sym, ap, ◌∙◌, subst, Option, Some, None, IfSome, IsSome, is_some, option_map}
 use Rattle.std.proofs.lemmas.Bool.{both_ways}
 use Rattle.dnp_objects.specs.declared.limits.TheConstants.{LANES}
@@ -109,7 +109,7 @@ goes_report_confirm ends answers releases laws s o now octets w l rest shown see
         (sym (ap (λ (o : Outstation). o.report) sees.outstation)
         ∙ ap (λ (x : Option Unsolicited). option_map (report_seen s.core.session) x) waits) refl)
 
-    -- the end of the call behind a step that goes on
+    -- the end of the call after a step that goes on
     ended : (step : Step) → connection_after s o now octets ≡ at_end now (discarding s w.upto step) → GoesOn step (confirmed_link s w l)
         → Goes [] [] (connection_after s o now octets) l
     ended step is on =

@@ -134,7 +134,7 @@ goes_behind came commands step l next grown goes = record {
   octets = goes.octets;
 }
 
--- the whole call, once it is known what holds of the state behind it
+-- the whole call, once it is known what holds of the state after it
 pub goes_simulates : (s : State) (came : List Row) (commands : List Command) (step : Step) (l : Link)
     → step.state.performed ≡ s.performed ++ commands → IsInOrder step.state.core → LeavesNothing step.state → Goes came commands step l
     → Simulates s came step l

@@ -34,7 +34,7 @@ none_of_none : {A : Type 0} (n : ℕ) → take n (let xs : List A = [] in xs) �
 none_of_none zero = refl
 none_of_none (suc n) = refl
 
--- the first rows of a lane, and then the first ones of those behind it
+-- the first rows of a lane, and then the first ones of those after it
 begins_lane : (s : Stock) (n lane : ℕ) (lanes : List ℕ) (b : Begins n (map (event_of 0 lane) (lane_at s lane).rows) (lane_items s lanes))
     → take n (lane_items s (lane ∷ lanes)) ≡ map (event_of 0 lane) (take n (lane_at s lane).rows) ++ take b.more (lane_items s lanes)
 begins_lane s n lane lanes b =

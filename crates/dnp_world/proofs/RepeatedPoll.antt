@@ -58,7 +58,7 @@ pub record ReportLaws : Type 0 where
       → function_in octets ≢ function_octet function.DirectOperate → function_in octets ≢ function_octet function.DirectOperateNr
       → (connection_after s o now octets).state.performed ≡ s.performed
 
--- ---- the last request again, behind its first fragment
+-- ---- the last request again, after its first fragment
 
 pub comes_again : (c : Core) (seq : ℕ) → seq < 16 → c.is_open ≡ true → is_last_request c.session (poll_octets seq) ≡ true → case_of c (poll_octets seq) ≡ Again
 comes_again c seq low opens again =

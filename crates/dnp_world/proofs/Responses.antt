@@ -70,7 +70,7 @@ new_request Continuing t last c q rest p other h =
       | inr k ↦ absurd (confirms_ask_nothing c (con_of c) q rest k)
     ]
 
--- it was asked, and nothing is on the way behind it
+-- it was asked, and nothing is on the way after it
 pub is_asked : (v : Conversation) (q : List ℕ) (rest : List Down) → v.down ≡ Asks q ∷ rest → IsOther q v.last → Solicited v →
     (v.phase ≡ Requested q) × (rest ≡ [])
 is_asked v q rest at other s =

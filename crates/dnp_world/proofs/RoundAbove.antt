@@ -35,7 +35,7 @@ use Rattle.dnp_world.proofs.RoundSteps.{asks_so, one_arrives}
 abbrev step_in : ConcentratorState → ℕ → List ℕ → Step
 step_in c now fragment = connection_after (middle_of c) (middle_panel c) now fragment
 
--- the concentrator behind a fragment
+-- the concentrator after a fragment
 abbrev concentrator_after : ConcentratorState → ℕ → List ℕ → ConcentratorState
 concentrator_after c now fragment = record c {
   core = (step_in c now fragment).state.core;

@@ -44,7 +44,7 @@ use Rattle.dnp_world.specs.declared.link_event.Way.TheVariants as way
 
 -- ---- one outstation
 
--- behind a call that started one it awaits a confirm, and a closed one starts none
+-- after a call that started one it awaits a confirm, and a closed one starts none
 not_free : (a b c d e f : Bool) → (a && (b && (c && ((d && (false && e)) && f)))) ≡ false
 not_free true true true true e f = refl
 not_free true true true false e f = refl

@@ -70,7 +70,7 @@ ran_flush P on way old new is ran = record {
   ran = ran;
 }
 
--- one list behind another
+-- one list after another
 pub ran_both : (P : Event → Type 0) (old mid new : System) → Ran P old mid → Ran P mid new → Ran P old new
 ran_both P old mid new first more = record {
   events = first.events ++ more.events;

@@ -181,7 +181,7 @@ fated laws goes_on indices station links old new b t i =
     happened_stood laws indices after new (turned goes_on indices station links old new b t) i in
     record { same = λ test. sym (shown.same test) ∙ now.same test ∙ ap (count_by test) (of_station-append i was (at_station station t.here.made)) }
 
--- ---- one behind the other, and in another order
+-- ---- one after the other, and in another order
 
 -- what happened by two lists of events is what happened by the one and then by the other
 pub fates_joined : (first second : ℕ → List Row) (a b c : Report) → IsFate first a b → IsFate second b c → IsFate (λ i. first i ++ second i) a c

@@ -58,7 +58,7 @@ pub record Repeats (command : Command) (seq status : ℕ) (fragment : List ℕ) 
 abbrev pub AreReports : List (List ℕ) → Type 0
 AreReports fragments = All (λ fragment. uns_in fragment ≡ true) fragments
 
--- a call for the request of a command sends its answer, and behind it at most reports; these commands were performed
+-- a call for the request of a command sends its answer, and after it at most reports; these commands were performed
 pub record Answers (command : Command) (seq status : ℕ) (octets : List ℕ) (before performs : List Command) (step : Step) : Type 0 where
   pub response : List ℕ
   pub reports : List (List ℕ)

@@ -67,7 +67,7 @@ next_step target ends = relaying.step_of ends.link ends.book.entries target
 abbrev pub told_to : ℕ → Ends → Ledger
 told_to target ends = relaying.ledger_after ends.book (next_step target ends)
 
--- A step of relaying, and all that comes of it: its request comes to the outstation behind what was on its way there, and what the
+-- A step of relaying, and all that comes of it: its request comes to the outstation after what was on its way there, and what the
 -- outstation sends comes to the master. These commands were performed.
 pub record GoesOver (target now : ℕ) (IsOutputs : Panel → Type 0) (commands : List Command) (old new : Ends) : Type 0 where
   pub sent : List (List ℕ)

@@ -1,4 +1,4 @@
--- Definition: what may still come of a way: a list that loses members at the front and gets new ones behind
+-- Definition: what may still come of a way: a list that loses members at the front and gets new ones after
 -- (own rule: the line keeps the order, may lose what it carries, and may give it again at once).
 use Rattle.std.specs.Prelude.{◌≡◌, List, [], ◌∷◌, ◌++◌, ◌⊎◌, ⊤}
 

@@ -31,7 +31,7 @@ abbrev pub with_master_of : State → Link → Link
 with_master_of s l = record l { master = master_of s }
 
 -- a fragment made this of the link, by moves: the sink took the rows, but for order, and the confirm, if one is sent,
--- goes behind what may still come down; all else that is no matter of the connection alone is as before
+-- goes after what may still come down; all else that is no matter of the connection alone is as before
 pub record MasterTakes (t : Taking) (l : Link) : Type 0 where
   pub link : Link
   pub moves : Moves l link

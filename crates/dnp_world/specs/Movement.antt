@@ -28,7 +28,7 @@ pub data Leave (portion : Portion) (old new : Stock) : Type 0 where
 abbrev pub rows_queued : ConcentratorState → ℕ → List Row → List LaneRow
 rows_queued c station rows = queued_rows c.indices c.points station rows
 
--- The rows left the substation's lanes, confirmed, and came into the queue behind all others, in their order; what full lanes of the
+-- The rows left the substation's lanes, confirmed, and came into the queue after all others, in their order; what full lanes of the
 -- queue dropped for them is listed. The substation's outputs, the other substations, the concentrator's book and the centre are as
 -- they were, so no other row moved, and no command.
 pub record MovesBelow (station : ℕ) (portion_in : State → Portion) (old new : System) : Type 0 where
@@ -52,7 +52,7 @@ pub record MovesBelow (station : ℕ) (portion_in : State → Portion) (old new 
 
 -- ---- over the link between concentrator and centre
 
--- The rows left the queue, and came into the journal behind all others, in their order. The substations, the history and the two
+-- The rows left the queue, and came into the journal after all others, in their order. The substations, the history and the two
 -- books are as they were, so no other row moved, and no command.
 pub record MovesAbove (portion_in : State → Portion) (old new : System) : Type 0 where
   pub left : Leave (portion_in (middle_of old.concentrator)) old.concentrator.queue new.concentrator.queue

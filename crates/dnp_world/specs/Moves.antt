@@ -76,7 +76,7 @@ asking q l = record l {
 abbrev pub confirm_of : Fragment → Down → List Down
 confirm_of f confirm = if con_of f then confirm ∷ [] else []
 
--- the sink takes the events of a response, and then its confirm is sent; behind FIN the master is idle
+-- the sink takes the events of a response, and then its confirm is sent; after FIN the master is idle
 abbrev pub taken : Fragment → Link → Link
 taken f l = record l {
   master = record l.master { is_busy = not (fin_of f); seq = after l.master.seq };
@@ -201,7 +201,7 @@ pub data Move (old new : Link) : Type 0 where
   -- a solicited confirm comes with the number that is awaited
   Confirm : (w : Awaited) (rest : List Down) → old.down ≡ Confirms w.seq ∷ rest → old.outstation.is_open ≡ true →
       old.outstation.awaited ≡ Some w → new ≡ confirmed w old → Move old new
-  -- behind it the response goes on, with the number that follows, where there is more to send
+  -- after it the response goes on, with the number that follows, where there is more to send
   Continue : (a : LastRequest) (rest : List Down) (f : Fragment) (more : Bool) (awaited : Option Awaited) →
       old.down ≡ Confirms (seq_of old.current) ∷ rest → old.outstation.last ≡ Some a → a.more ≡ true →
       seq_of f ≡ after (seq_of old.current) → IsOffered false old.lanes old.last_id f → (more ≡ true → fin_of f ≡ false) →

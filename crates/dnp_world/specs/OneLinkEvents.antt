@@ -260,7 +260,7 @@ may_stop (event.Tick end.Outstation) = true
 may_stop (event.Restart end.Master) = false
 may_stop (event.Restart end.Outstation) = true
 
--- so many events were done, and the list stopped at the one behind them
+-- so many events were done, and the list stopped at the one after them
 pub record StopsAfter {Sink : Type 0} (takes : Sink → List Row → List Row → List Row → Sink → Type 0) (keeps : Sink → Sink → Type 0)
     (old : LinkState Sink) (events : List LinkEvent) (done : ℕ) (new : LinkState Sink) : Type 0 where
   pub before : LinkState Sink

@@ -71,7 +71,7 @@ may_stop (event.Restart place.Centre) = false
 may_stop (event.Restart place.Concentrator) = false
 may_stop (event.Restart (place.Substation station)) = true
 
--- so many events were done, and the list stopped at the one behind them, whose refusal has changed nothing
+-- so many events were done, and the list stopped at the one after them, whose refusal has changed nothing
 pub record StopsAfter (old : System) (events : List Event) (done : ℕ) (new : System) : Type 0 where
   pub before : System
   pub ran : RunsTo old (take done events) before

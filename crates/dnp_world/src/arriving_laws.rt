@@ -17,7 +17,7 @@ use dnp_linkstation::laws::what_is_sent_is_for_the_peer;
 use dnp_transport::laws::{a_push_goes_on, cuts_give_whole, segments_say_their_places};
 
 /// What is sent over a quiet link arrives, all of it, in order, and nothing else: a quiet link is clear; what a station sends is
-/// under way behind what is; and after as many deliveries as units stand on a line what was under way there has arrived, each
+/// under way after what is; and after as many deliveries as units stand on a line what was under way there has arrived, each
 /// fragment was answered before the next came, and the answers are under way back.
 pub fn what_is_sent_arrives()
     ensures quiet { (on : Link) (s : System) → IsStanding s → is_quiet_on s on ≡ true → IsClearOn on s }

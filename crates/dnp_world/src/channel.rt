@@ -306,7 +306,7 @@ impl Channel {
         whole
     }
 
-    /// The master's end takes in the fragment that its port shows. What its stores drop for it is put behind the rows. Where
+    /// The master's end takes in the fragment that its port shows. What its stores drop for it is put after the rows. Where
     /// it refuses, the lines, the ports and the rows stay.
     fn take_up<E: MasterEnd>(
         &mut self,
@@ -344,7 +344,7 @@ impl Channel {
     }
 
     /// The front unit comes to the master's end, and stays on the line where it is repeated. What the stores there drop for
-    /// what it brings is put behind the rows. Where they refuse, the lines, the ports and the rows stay.
+    /// what it brings is put after the rows. Where they refuse, the lines, the ports and the rows stay.
     pub fn come_up<E: MasterEnd>(
         &mut self,
         alloc: Global,

@@ -24,7 +24,7 @@ pub(crate) fn rows_waiting<L: Lanes>(lanes: &mut L) -> usize
     count
 }
 
-/// Puts the rows behind the list. An error says that it ran out of memory.
+/// Puts the rows after the list. An error says that it ran out of memory.
 fn put_rows(rows: RowWalk<'_>, list: &mut Vec<Row>) -> Result<(), AllocError>
     ensures { OnOk result (list.new.items ≡ list.old.items ++ rows.entry) }
 {
@@ -34,7 +34,7 @@ fn put_rows(rows: RowWalk<'_>, list: &mut Vec<Row>) -> Result<(), AllocError>
     Ok(())
 }
 
-/// Puts the events of these headers behind the list, in order. An error says that it ran out of memory.
+/// Puts the events of these headers after the list, in order. An error says that it ran out of memory.
 fn put_events(headers: Headers<'_>, list: &mut Vec<Row>) -> Result<(), AllocError>
     ensures { OnOk result (list.new.items ≡ list.old.items ++ events_in headers.entry.headers) }
 {

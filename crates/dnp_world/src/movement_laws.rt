@@ -54,7 +54,7 @@ pub fn a_master_takes_what_it_polled()
 }
 
 /// What a clean round over a quiet link moves: the first rows of the lanes below, as many as fit into a fragment, leave them and
-/// come to the end above, in their order, and nothing else moves. Where its READ is taken for the last request, as it can be behind
+/// come to the end above, in their order, and nothing else moves. Where its READ is taken for the last request, as it can be after
 /// a response of a multiple of sixteen fragments, nothing moves, but for an unsolicited response that the concentrator starts then,
 /// and the master goes on waiting.
 pub fn a_clean_round_moves_rows()

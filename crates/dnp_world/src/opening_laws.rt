@@ -9,7 +9,7 @@ ghost use Rattle.dnp_world.specs.declared.event.Event.{Event};
 ghost use Rattle.dnp_world.specs.declared.event.Event.TheVariants.{Open};
 ghost use Rattle.dnp_world.specs.declared.event.Link.{Link};
 
-/// A link that was opened is quiet, whatever was before, where its outstation sends no unsolicited responses. So it is behind each
+/// A link that was opened is quiet, whatever was before, where its outstation sends no unsolicited responses. So it is after each
 /// list of events that ends with its opening.
 pub fn an_opened_link_is_quiet()
     ensures event { (on : Link) (old new : System) → has_link old on ≡ true → reports_on new on ≡ false → Happens old (Open on) new

@@ -79,7 +79,7 @@ pub(crate) fn lost_rows<L: Lanes>(lanes: &mut L) -> u64
     lost
 }
 
-/// Puts rows of a substation behind the list. An error says that it ran out of memory.
+/// Puts rows of a substation after the list. An error says that it ran out of memory.
 pub(crate) fn put_rows_of(
     list: &mut Vec<(u8, Row)>,
     station: u8,
@@ -93,7 +93,7 @@ pub(crate) fn put_rows_of(
     Ok(())
 }
 
-/// Puts a row above behind the list, as it stands at its substation. An error says that it ran out of memory.
+/// Puts a row above after the list, as it stands at its substation. An error says that it ran out of memory.
 fn put_below(list: &mut Vec<(u8, Row)>, map: &IndexMap, row: &Row) -> Result<(), AllocError>
     ensures { OnOk result (list.new.items ≡ list.old.items ++ option_to_list (mapped.row_below map.now row.now)) }
 {

@@ -47,7 +47,7 @@ impl<T: Copy> StationList<T> {
         self.items.reserve(count)
     }
 
-    /// Puts a thing of a substation behind the others. There must be room.
+    /// Puts a thing of a substation after the others. There must be room.
     pub fn put(&mut self, station: u8, thing: T)
         requires { 0 < self.old.room }
         ensures items { self.new.items ≡ self.old.items ++ (station, thing) ∷ [] }
@@ -56,7 +56,7 @@ impl<T: Copy> StationList<T> {
         let _ = self.items.push((station, thing));
     }
 
-    /// Puts things of a substation behind the others. There must be room for all of them.
+    /// Puts things of a substation after the others. There must be room for all of them.
     pub fn put_all(&mut self, station: u8, things: &[T])
         requires { length things.now ≤ self.old.room }
         ensures { self.new.items ≡ self.old.items ++ at_station station things.now }

@@ -11,7 +11,7 @@ use thiserror::Error;
 #[derive(Clone, Copy, Debug, PartialEq, Eq, Hash, Error)]
 #[error("stopped at an event: {cause}")]
 pub struct Stopped {
-    /// How many events were done. The one behind them counts as `Lose` if it is `Deliver`, and else it is left out.
+    /// How many events were done. The one after them counts as `Lose` if it is `Deliver`, and else it is left out.
     pub done: usize,
     /// Why.
     pub cause: Cause,

@@ -84,7 +84,7 @@ impl Substation {
         self.channel.tick(actions, alloc, now, &mut self.outstation)
     }
 
-    /// The outstation of the substation of this number reads a point. What a full lane dropped for it is put behind the list.
+    /// The outstation of the substation of this number reads a point. What a full lane dropped for it is put after the list.
     /// A reading that its points refuse does nothing.
     pub fn change(
         &mut self,
@@ -173,7 +173,7 @@ impl Substation {
     }
 
     /// The device of the substation of this number starts again: the outstation hangs up, and its lanes are emptied. Their
-    /// rows are put behind the list.
+    /// rows are put after the list.
     pub fn restart(
         &mut self,
         alloc: Global,

@@ -227,7 +227,7 @@ pub(crate) fn items_of_capture(alloc: Global, file: &[u8]) -> Result<Vec<Item>, 
     Ok(items_of_packets(alloc, file, link, swapped)?)
 }
 
-/// The items of the packets behind a capture's own header.
+/// The items of the packets after a capture's own header.
 fn items_of_packets(
     alloc: Global,
     file: &[u8],

@@ -112,7 +112,7 @@ fn address_at(octets: &[u8], place: usize, count: usize) -> [u8; ADDRESS] {
     address
 }
 
-/// What an IP packet has behind its own header: its protocol, its addresses and the octets.
+/// What an IP packet has after its own header: its protocol, its addresses and the octets.
 struct Inner<'a> {
     /// The protocol's number.
     protocol: u8,

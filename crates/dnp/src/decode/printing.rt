@@ -130,7 +130,7 @@ impl Printer {
         Ok(())
     }
 
-    /// Prints an item as text: an object behind its header, and a header alone where it has no objects.
+    /// Prints an item as text: an object after its header, and a header alone where it has no objects.
     fn print<W: Write>(&mut self, item: &Item, out: &mut W) -> io::Result<()> {
         let What::Line(line) = item.what else {
             self.print_header(out)?;

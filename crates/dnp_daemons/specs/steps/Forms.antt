@@ -44,7 +44,7 @@ is_gentle _ = true
 abbrev pub allows : Bool → Form → Bool
 allows carried form = not carried || is_gentle form
 
--- what the words behind the first say
+-- what the words after the first say
 abbrev pub slots_behind : Form → List Slot
 slots_behind forms.Open = slots.Link ∷ []
 slots_behind forms.Clear = slots.Link ∷ []

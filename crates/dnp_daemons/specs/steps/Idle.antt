@@ -10,7 +10,7 @@ found_after found number None = found
 found_after None number (Some reason) = Some (record { count = 1; first = number; reason = reason })
 found_after (Some found) number (Some reason) = Some (record found { count = found.count + 1 })
 
--- those found, and these behind them
+-- those found, and these after them
 abbrev pub found_before : Option IdleLines → List (ℕ × IdleReason) → Option IdleLines
 found_before None more = summed more
 found_before (Some found) more = Some (record found { count = found.count + length more })

@@ -22,7 +22,7 @@ abbrev pub line_result : Result ⊤ NotWritten → Result ⊤ LineStop
 line_result (Ok done) = Ok done
 line_result (Err fault) = Err Unwritten
 
--- how a script ends that stopped behind so many lines, and what was written of that
+-- how a script ends that stopped after so many lines, and what was written of that
 abbrev pub SaysStopped : ℕ → ScriptStop → Option (List ℕ) → Option (List ℕ) → Type 0
 SaysStopped done (stop.Stopped n) held held' = (n ≡ done) × Appends held held' (stopped_line done)
 SaysStopped done stop.WriteFailed held held' =

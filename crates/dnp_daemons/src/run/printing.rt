@@ -10,7 +10,7 @@ use dnp_world::Link;
 use itoa::Buffer;
 use std::io::Write;
 
-/// Writes these texts, one behind the other.
+/// Writes these texts, one after the other.
 pub(crate) fn write_parts<W: Write>(parts: &[&[u8]], out: &mut W) -> Result<(), NotWritten>
     ensures whole { OnOk result (Appends (W.contents out.old) (W.contents out.new) (concat (map (λ part. part.now) parts.now))) }
     ensures part { OnErr result ((part rest : List ℕ) × (concat (map (λ part. part.now) parts.now) ≡ part ++ rest)

@@ -85,7 +85,7 @@ fn told_alike(one: Slot, other: Slot) -> bool {
 }
 
 impl LineFault<'_> {
-    /// What a form wants behind the words that begin a line that fits, if it takes these.
+    /// What a form wants after the words that begin a line that fits, if it takes these.
     fn wants(&self, form: Form) -> Option<Slot> {
         let is_one = !self.carried || form.is_gentle();
         if is_one && taken(self.text, form.slots(), self.substations) == self.good {

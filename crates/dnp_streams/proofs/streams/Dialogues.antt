@@ -65,7 +65,7 @@ ends_then steps others new unheard sent more u v w (Err Memory) first (written, 
 ends_then steps others new unheard sent more u v w (Err ReadFailed) first ends = absurd ends
 ends_then steps others new unheard sent more u v w (Err TurnsSpent) first ends = absurd ends
 
--- frames behind a stop are not heard
+-- frames after a stop are not heard
 ends_before : {S : Type 0} (steps : List Step) (new : Dialogue S) (unheard others sent : List Frame) (u v : Option (List ℕ)) (result : Result Bool ServeFault)
     → (result ≡ Ok false → ⊥) → StepsEnd steps new unheard sent u v result → StepsEnd steps new (unheard ++ others) sent u v result
 ends_before steps new unheard others sent u v (Ok true) stops ends = ends

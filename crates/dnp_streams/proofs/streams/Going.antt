@@ -48,7 +48,7 @@ greets_first opens now old new none served first g = record {
 pub gives_none : Gives [] [] []
 gives_none = record { decisions = 0; after = (refl, refl); waits = λ ten. absurd (omega (arith, ten)) }
 
--- frames that were put behind none
+-- frames that were put after none
 pub given_to : (out none frames : List Frame) → frames ≡ out → none ≡ [] → out ≡ none ++ frames
 given_to out none frames same empty = sym same ∙ sym (ap (λ (fs : List Frame). fs ++ frames) empty)
 

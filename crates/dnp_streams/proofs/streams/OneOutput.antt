@@ -41,7 +41,7 @@ endpoint_of station port = record { station = station; port = port }
 same_endpoint : {S : Type 0} (s t : S) (p q : PortState) → s ≡ t → p ≡ q → endpoint_of s p ≡ endpoint_of t q
 same_endpoint s t p q stations ports = cc
 
--- two steps that came out alike, behind which the port has a history still
+-- two steps that came out alike, after which the port has a history still
 pub record Alike {S : Type 0} (output output' : Output) (new other : Endpoint S) : Type 0 where
   pub outputs : output ≡ output'
   pub ends : new ≡ other
@@ -123,7 +123,7 @@ hears_alike {S} receives now old new other frame output output' laws one history
       history = subst HasHistory (sym moved) (has_history_after heard a.send after);
     }
 
--- what is behind the frames that came, and was not heard, is nothing, unless a step closed the connection
+-- what is after the frames that came, and was not heard, is nothing, unless a step closed the connection
 abbrev pub Finishes : Output → List Frame → Type 0
 Finishes output unheard = output.closed ≡ false → unheard ≡ []
 
@@ -145,7 +145,7 @@ parts_without_fault output first more both none =
     let sum : first.faults + more.faults ≡ 0 = sym (ap (λ (o : Output). o.faults) both) ∙ none in
     (omega (arith, sum), omega (arith, sum))
 
--- nothing is left behind the rest either
+-- nothing is left after the rest either
 rest_finishes : (output first more : Output) (unheard : List Frame) → output ≡ output_with first more → first.closed ≡ false → Finishes output unheard
     → Finishes more unheard
 rest_finishes output first more unheard both open_still finishes closed =

@@ -1,4 +1,4 @@
--- Fragments that are put one behind the other.
+-- Fragments that are put one after the other.
 use Rattle.std.proofs.Common.{◌≡◌, ℕ, ◌<◌, List, [], ◌∷◌, ◌++◌, length, map, Option, Some, None, refl, sym, ap, ◌∙◌, subst, append_assoc, arith, get_or}
 use Rattle.std.specs.List.{All}
 use Rattle.std.proofs.lemmas.List.Elements.{All-nil, All-head, All-tail, All-push}
@@ -12,7 +12,7 @@ use Rattle.dnp_streams.specs.streams.Spelled.{sent_frames, port_after}
 use Rattle.dnp_streams.specs.steps.Outgoing.{ArePut}
 use Rattle.dnp_streams.proofs.streams.Spelling.{put_more}
 
--- some fragments, and others behind them
+-- some fragments, and others after them
 pub port_after_more : (p : PortState) (fs gs : List (List ℕ)) → port_after p (fs ++ gs) ≡ port_after (port_after p fs) gs
 port_after_more p [] gs = refl
 port_after_more p (f ∷ fs) gs = port_after_more (moved_on (cut_count (length f)) p) fs gs

@@ -1,4 +1,4 @@
--- Frames that are spelled one behind the other.
+-- Frames that are spelled one after the other.
 use Rattle.std.proofs.Common.{◌≡◌, ℕ, ◌+◌, ◌-◌, ◌<◌, ◌≤◌, suc, List, [], ◌∷◌, ◌++◌, length, map, refl, sym, ap, ◌∙◌, subst, arith, append_assoc, append-nil}
 use Rattle.std.specs.List.{concat, range_with_len}
 use Rattle.std.proofs.lemmas.List.Folds.{concat-append}
@@ -32,7 +32,7 @@ spelled_joined fs gs a b first second = record {
       ∙ sym (concat-append first.units second.units);
 }
 
--- ---- octets put behind others
+-- ---- octets put after others
 
 pub put_none : (old : List ℕ) → ArePut old [] old
 put_none old = record { octets = []; spelled = spelled_none; whole = sym (append-nil old) }
@@ -47,7 +47,7 @@ put_more old mid new fs gs first second = record {
 pub put_unit : (old new : List ℕ) (frame : Frame) (unit : List ℕ) → Spells unit frame → new ≡ old ++ unit → ArePut old (frame ∷ []) new
 put_unit old new frame unit spells is = record { octets = unit; spelled = spelled_one frame unit spells; whole = is }
 
--- what is put behind no octets is all there is
+-- what is put after no octets is all there is
 pub put_alone : (frames : List Frame) (new : List ℕ) → ArePut [] frames new → AreSpelled frames new
 put_alone frames new put = subst (λ (t : List ℕ). AreSpelled frames t) (sym put.whole) put.spelled
 

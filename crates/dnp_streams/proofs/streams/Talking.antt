@@ -164,7 +164,7 @@ talks_fault opens receives asking now turns old tasks station port p frames octe
 talks_fault opens receives asking now turns old tasks station port p frames octets waiting left left' held held' ReadFailed t gives read = absurd t.ends
 talks_fault opens receives asking now turns old tasks station port p frames octets waiting left left' held held' TurnsSpent t gives read = absurd t.ends
 
--- what was talked so far, behind which memory was refused for some octets
+-- what was talked so far, after which memory was refused for some octets
 abbrev pub so_far : {S : Type 0} (opens : Opening S) (receives : Receiving S) (asking : Asking S) (now reads : ℕ) (old : Dialogue S)
     (left left' held held' : Option (List ℕ)) (waiting : List ℕ) (new : Dialogue S) → GoesOn opens receives asking now reads old left left' held held' waiting new
     → List ℕ → Talk S

@@ -1,4 +1,4 @@
--- Private steps: octets that are put behind others, and what one step puts.
+-- Private steps: octets that are put after others, and what one step puts.
 use Rattle.std.specs.Prelude.{◌≡◌, ℕ, List, ◌++◌}
 use Rattle.dnp_linkframe.specs.declared.frame.Frame.{Frame}
 use Rattle.dnp_streams.specs.streams.Stations.{Opening, Receiving, Endpoint}
@@ -7,7 +7,7 @@ use Rattle.dnp_streams.specs.streams.Exchanges.{Output, Opens, Hears}
 use Rattle.dnp_streams.specs.streams.Counts.{served_of}
 use Rattle.dnp_streams.specs.declared.stream.served.Served.{Served}
 
--- the units of these frames stand behind the old octets
+-- the units of these frames stand after the old octets
 pub record ArePut (old : List ℕ) (frames : List Frame) (new : List ℕ) : Type 0 where
   pub octets : List ℕ
   pub spelled : AreSpelled frames octets

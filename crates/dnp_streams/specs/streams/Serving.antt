@@ -11,7 +11,7 @@ use Rattle.dnp_streams.specs.declared.stream.served.Served.{Served}
 use Rattle.dnp_streams.specs.declared.stream.serve.ServeFault.{ServeFault}
 use Rattle.dnp_streams.specs.declared.stream.serve.ServeFault.TheVariants.{ReadFailed, WriteFailed, TurnsSpent, Memory}
 
--- What went through a stream: the octets that were read and looked at, and behind them those for which memory was
+-- What went through a stream: the octets that were read and looked at, and after them those for which memory was
 -- refused; the output that they made, and the frames that they gave and that were not heard; the octets of the output
 -- that were written, and those that were not.
 pub record Traffic : Type 0 where

@@ -1,4 +1,4 @@
--- Definition: the octets in which a port sends fragments: those of their frames, one behind the other (IEEE Std
+-- Definition: the octets in which a port sends fragments: those of their frames, one after the other (IEEE Std
 -- 1815-2012, transport function over data link layer).
 use Rattle.std.specs.Prelude.{◌≡◌, ℕ, List, [], ◌∷◌, length}
 use Rattle.std.specs.List.{concat}
@@ -9,7 +9,7 @@ use Rattle.dnp_transport.specs.Cuts.{cut_count}
 use Rattle.dnp_line.specs.Ports.{PortState, moved_on}
 use Rattle.dnp_streams.specs.Units.{frames_of}
 
--- the octets are the units that spell these frames, one behind the other
+-- the octets are the units that spell these frames, one after the other
 pub record AreSpelled (frames : List Frame) (octets : List ℕ) : Type 0 where
   pub units : List (List ℕ)
   pub spell : SpellEach units frames

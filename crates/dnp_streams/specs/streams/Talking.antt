@@ -13,7 +13,7 @@ use Rattle.dnp_streams.specs.streams.Dialogues.{Asking, Dialogue, Step, MakesAll
 use Rattle.dnp_streams.specs.streams.Spelled.{AreSpelled}
 use Rattle.dnp_streams.specs.streams.Stations.{Opening, Receiving, Endpoint, endpoint}
 
--- What went through a stream: the octets that were read and looked at, and behind them those for which memory was refused; the
+-- What went through a stream: the octets that were read and looked at, and after them those for which memory was refused; the
 -- steps, what they sent and what they came to; the frames that the octets gave and that were not heard; the octets of what was sent
 -- that were written, and those that were not.
 pub record Talk (S : Type 0) : Type 0 where
@@ -36,7 +36,7 @@ pub record IsWaiting {S : Type 0} (is_idle : S → Bool) (t : Talk S) : Type 0 w
   pub answered : t.unwritten ≡ []
 
 -- All that was sent was written, and what came of it is told. It ended because all was over, or because nothing more came while the
--- station was waiting; or else behind the largest number of steps.
+-- station was waiting; or else after the largest number of steps.
 pub record IsAsked {S : Type 0} (is_idle : S → Bool) (t : Talk S) (at_end : Type 0) (asked : Asked) : Type 0 where
   pub rows : asked.rows ≡ t.ended.rows
   pub outcomes : asked.outcomes.items ≡ t.ended.outcomes

@@ -267,7 +267,7 @@ pub fn ask_noted<S: Asker, R: Read, W: Write>(
 ///
 /// A task that is refused is counted, and passed over; a refused step of relaying is counted, and ends the call with Ok.
 /// So does the end of the input, whatever is left to be asked, and a step by which the station closed the connection.
-/// Frames behind the last step are not heard.
+/// Frames after the last step are not heard.
 ///
 /// A fault is ReadFailed or WriteFailed where the reader or the writer failed, WriteFailed also where the writer took
 /// none of the octets that it was given; TurnsSpent after `turns` reads; or Memory for the frames of what was read last,

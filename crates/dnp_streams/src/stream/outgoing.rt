@@ -21,7 +21,7 @@ const MAX_STEP: usize = MAX_UNIT + 2 * MAX_SENT;
 /// The octets that one step sends.
 pub(super) type Outgoing = ArrayVec<u8, MAX_STEP>;
 
-/// Puts the units in which the port's station sends a fragment of at most [`MAX_FRAGMENT`] octets behind the others,
+/// Puts the units in which the port's station sends a fragment of at most [`MAX_FRAGMENT`] octets after the others,
 /// and moves the port's number on.
 fn put_fragment(port: &mut Port, fragment: &[u8], out: &mut Outgoing)
     requires some { 0 < length fragment.now }

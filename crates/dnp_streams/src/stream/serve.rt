@@ -176,7 +176,7 @@ pub fn serve_noted<S: Station, R: Read, W: Write>(
 /// Serves a stream of octets: opens the station, hands it the fragments that come, and writes what it and its port
 /// answer, to each frame the link layer's reply first.
 ///
-/// It ends with Ok where the input ends, or behind the step by which the station closed the connection; the caller hangs
+/// It ends with Ok where the input ends, or after the step by which the station closed the connection; the caller hangs
 /// the station up then. What was written is what the definitions of `specs/` make of what was read. A fragment that the
 /// station refuses is counted, and is answered by the link layer alone.
 ///

@@ -31,7 +31,7 @@ fn copied<T: Copy>(alloc: Global, list: &[(u8, T)]) -> Result<Listed<(u8, T)>, A
     Ok(Listed::new(Vec::from_slice(alloc, list)?))
 }
 
-/// Puts the rows in the lanes of the substation of this number behind the list, lane by lane.
+/// Puts the rows in the lanes of the substation of this number after the list, lane by lane.
 fn put_buffered(
     alloc: Global,
     substation: &mut Substation,

@@ -55,8 +55,7 @@ loop-rest-preserved-in-Ok g c =
     let (utf8, few, said, held, did) = c.loop-rest.invariant in
     let from = c.in-Ok-Some.ensures in
     let some = c.in-Ok-Some.field-0-is in
-    let is : r line ≡ Some c.in-Ok-Some.read = cc in
-    (
+    let is : r line ≡ Some c.in-Ok-Some.read = cc in (
       search rules,
       omega arith,
       λ lines says. (next_said r lines c.loop-rest.done line more c.in-Ok-Some.read (ap (map r) (sym c.first_line.ensures.lines) ∙ said lines says) is).left,
@@ -76,8 +75,7 @@ loop-rest-preserved-in-Ok-2 g c =
     let (utf8, few, said, held, did) = c.loop-rest.invariant in
     let from = c.in-Ok-Some.ensures in
     let some = c.in-Ok-Some.field-0-is in
-    let is : r line ≡ Some c.in-Ok-Some.read = cc in
-    (
+    let is : r line ≡ Some c.in-Ok-Some.read = cc in (
       search rules,
       omega arith,
       λ lines says. (next_said r lines c.loop-rest.done line more c.in-Ok-Some.read (ap (map r) (sym c.first_line.ensures.lines) ∙ said lines says) is).left,
@@ -97,8 +95,7 @@ loop-rest-preserved g c =
     let (utf8, few, said, held, did) = c.loop-rest.invariant in
     let from = c.in-Ok-Some.ensures in
     let some = c.in-Ok-Some.field-0-is in
-    let is : r line ≡ Some c.in-Ok-Some.read = cc in
-    (
+    let is : r line ≡ Some c.in-Ok-Some.read = cc in (
       search rules,
       omega arith,
       λ lines says. (next_said r lines c.loop-rest.done line more c.in-Ok-Some.read (ap (map r) (sym c.first_line.ensures.lines) ∙ said lines says) is).left,

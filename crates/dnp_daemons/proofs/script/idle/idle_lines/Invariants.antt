@@ -6,7 +6,7 @@ use Rattle.dnp_daemons.specs.Words.{lines_of}
 use Rattle.dnp_daemons.specs.steps.Idle.{found_before}
 use Rattle.dnp_daemons.proofs.script.idle.idle_lines.Given as goal
 
--- those found, and those of the lines to come behind them, are those of all lines
+-- those found, and those of the lines to come after them, are those of all lines
 abbrev pub invariant-loop-rest : goal.invariant-loop-rest
 invariant-loop-rest l =
     shadow (Utf8 l.rest)
