@@ -53,33 +53,30 @@ fn frames_print(alloc: Global) -> Result<bool, AllocError> {
 
 /// Whether the faults of fragments and objects print as they should.
 fn fragments_print(alloc: Global) -> Result<bool, AllocError> {
+    let fragments = [
+        (AppFault::Short, "too few octets for a fragment"),
+        (AppFault::FunctionUnknown, "unknown function"),
+        (AppFault::HeaderCut, "an object header that is cut"),
+        (AppFault::QualifierUnknown, "unknown qualifier"),
+        (AppFault::ObjectUnknown, "unknown object"),
+        (
+            AppFault::RangeBackward,
+            "a range whose stop is under its start",
+        ),
+        (AppFault::ObjectsCut, "objects that are cut"),
+    ];
+    let objects = [
+        (ObjectFault::ObjectUnknown, "no such object"),
+        (ObjectFault::Cut, "not the object's number of octets"),
+        (
+            ObjectFault::ValueRange,
+            "a row that does not fit the object",
+        ),
+    ];
     Ok(
-        print(
-            alloc,
-            &[
-                (AppFault::Short, "too few octets for a fragment"),
-                (AppFault::FunctionUnknown, "unknown function"),
-                (AppFault::HeaderCut, "an object header that is cut"),
-                (AppFault::QualifierUnknown, "unknown qualifier"),
-                (AppFault::ObjectUnknown, "unknown object"),
-                (
-                    AppFault::RangeBackward,
-                    "a range whose stop is under its start",
-                ),
-                (AppFault::ObjectsCut, "objects that are cut"),
-            ],
-        )? && print(alloc, &[(Full, "no room in the fragment")])?
-            && print(
-                alloc,
-                &[
-                    (ObjectFault::ObjectUnknown, "no such object"),
-                    (ObjectFault::Cut, "not the object's number of octets"),
-                    (
-                        ObjectFault::ValueRange,
-                        "a row that does not fit the object",
-                    ),
-                ],
-            )?,
+        print(alloc, &fragments)?
+            && print(alloc, &[(Full, "no room in the fragment")])?
+            && print(alloc, &objects)?,
     )
 }
 
