@@ -32,10 +32,10 @@ INPUT
   Lines of hexadecimal octets on standard input, two digits each, upper or lower case, with blanks
   between them or none: the octets of all lines, one after the other, are one stream. With --raw the
   octets themselves. With --pcap a capture in the classic form (Ethernet, raw IP or loopback): the
-  octets that TCP and UDP carry, each direction of each connection a stream of its own. A connection
-  in which no frame is read is taken for another protocol's, and has no line; octets that the capture
-  lacks are not told of, and what it has before and after them is joined. At most 16,777,216 octets of
-  input.
+  octets that TCP and UDP carry, each direction of each connection a stream of its own. One that would
+  have nothing but 'skipped' and 'Cut' lines is taken for another protocol's: it has none, and doesn't
+  count as refused. Octets that the capture lacks are not told of, and what it has before and after
+  them is joined. At most 16,777,216 octets of input.
 
 EXAMPLE
   Master 1 asks outstation 10 for its events and its static data:
@@ -69,7 +69,8 @@ OUTPUT
               objects has no line of its own (with --json it has): each of its objects repeats it
     2.2 x1: 3 = 1 flags 01 at 2026-01-31T12:00:00.000Z
               an object after its header: the index, the value, the flags without the state bit, the
-              time (UTC). So are the states of outputs, 10.2, and setpoints, 40.1 and 40.2; an
+              time (UTC). So are the states of outputs, 10.2, and setpoints, 40.1 and 40.2; 1.1,
+              20.5, 20.6, 30.3 and 30.4 have no flags of their own, and are printed with 01; an
               indication, 80.1, has no flags, and a time, 50.1, and a delay, 52.2, have no index
     12.1 x1: 5 code 81 count 2 on 100 off 200 status 0, 41.2 x1: 5 set -2 status 0
               a command to output 5, its code in hexadecimal, times in milliseconds
@@ -78,7 +79,8 @@ OUTPUT
   the header with the fault begins; the headers before it have their lines. Functions and objects that
   the stations here don't speak are unknown to it. Octets at which no frame begins are 'skipped', and
   those at the end of the input that are too few for a frame are 'Cut': both count as refused. A
-  fragment whose last segments are missing doesn't. docs/decode.md lists all the names.
+  fragment whose first or last segments are missing has no line, and doesn't. A line that isn't
+  hexadecimal is 'text refused', and none of its octets are taken. docs/decode.md lists all the names.
   With --json each line is a JSON object: 'at' is that number, 'layer' says what the line is of, and
   'refused' is there where something is refused; docs/decode.md has the members. A file that is no
   capture is 'refused capture NAME' with or without it.

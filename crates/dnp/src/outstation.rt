@@ -36,7 +36,8 @@ CONNECTIONS
   'served N' too, and the status stays 0. What the station ignores, such as a frame for another
   address, is not told.
   Timers are looked at when octets come: a select ends in time, and nothing is sent unasked
-  but an unsolicited response when the master connects or has confirmed one.
+  but an unsolicited response when the master connects or has confirmed one. While one awaits its
+  confirm no READ is answered, and it isn't repeated: the READ waits for that confirm.
 
 OUTPUT
   On standard output a line for each connection when it has ended, 'served N': N is how many

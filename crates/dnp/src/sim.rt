@@ -54,14 +54,16 @@ EXAMPLE
 OUTPUT
   On standard output:
     'round L ok' or 'round L refused N' for each line 'round L', one poll of all events, its
-    response's first fragment and the confirm of that: 1 the link is not quiet (it is closed or
-    broken, something stands on its lines, or its master awaits an answer);
+    response's first fragment and the confirm of that; the rest of a longer response then stands
+    on the line. 1 the link is not quiet: something stands on its lines, its master awaits an
+    answer, or it is broken or closed, as by a master that has waited too long ('open L' opens it);
     'control ID ok' or 'control ID refused N' for each line 'control ID': 1 a link is not quiet,
     2 it is not the next control, 3 a station refused it;
     and at the end the report: each list's name and length, and below it its events, as
     ' 0 binary 3 1 01 1000' (substation, kind, index, value, flags, time), or its commands, as
     ' 0 block 3 129 1 100 200' (substation, form, index, code, count, ms on, ms off) or
-    ' 0 set16 3 -2' (substation, form, index, value).
+    ' 0 set16 3 -2' (substation, form, index, value). The index is the substation's own; on the
+    link above the plan's base is added to it.
   The report's lists:
     journal      events that the centre has
     queue        events that wait in the concentrator
@@ -93,16 +95,18 @@ SOMETHING TO LOOK AT
                     way, what it does and what it says, as '12 link 0 up sent RESPONSE seq 1 fir fin
                     con, 2.2 x1', or of a segment of a longer fragment 'segment FIR 0'. It is 'sent',
                     it 'arrives', is 'repeated' (it arrives, and stays on the line), 'lost', 'damaged'
-                    or 'dropped' (its line was cleared), or 'stands' on the line at the end. What comes
-                    after 32 others on a line may be 'unseen'. The way is up to the master, or down.
+                    or 'dropped' (its line was cleared), or 'stands' on the line at the end. What
+                    comes after 32 others on a line may be 'unseen'. The way is up to the master, or
+                    down. A station that closes its connection has no line.
                     With '-' the lines stand on standard output, before the report; the other two
                     can't go there.
     --chart FILE    the same as a sequence chart for a browser, time going down: an arrow for each
                     unit, broken off where it is lost or damaged, dashed where it is repeated, dotted
                     where it is dropped or stands at the end
-    --capture FILE  what arrives, for Wireshark: a TCP conversation to port 20000 for each link, from
-                    and to 192.0.2.A, where A is the station's link address: the centre's is 1, the
-                    concentrator's 9 above and 2 below, substation S's 10 + S
+    --capture FILE  what arrives, and so no unit that is lost, damaged or dropped, for Wireshark: a
+                    TCP conversation to port 20000 for each link, from and to 192.0.2.A, where A is
+                    the station's link address: the centre's is 1, the concentrator's 9 above and 2
+                    below, substation S's 10 + S
     --json          in place of the text an object: 'outcomes' has how rounds and controls came out,
                     and then come the report's lists by their names. What is refused, or stops, is
                     printed as without it.
