@@ -252,7 +252,7 @@ else
 fi
 # The same in less memory than it takes: of these limits one lets the script begin, and not end
 told=''
-for limit in 100000 110000 120000 130000 140000; do
+for limit in 50000 60000 70000 80000 90000; do
     got=0 && (ulimit -v $limit && exec "$top/crates/dnp/out/dnp" sim --plan "$plan") <script >out 2>err || got=$?
     read -r word lines <out || true
     [ "$got $word" = '3 stopped' ] && told="$(<err)" && break
