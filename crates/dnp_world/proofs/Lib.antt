@@ -70,6 +70,8 @@ mod RelaySteps
 mod RelayLinks
 mod RelayWidths
 mod RelayKeeps
+mod Touches
+mod EventTouches
 mod StepBooks
 mod StepEvents
 mod StepHappens
@@ -93,7 +95,6 @@ mod BelowTakes
 mod BelowArrives
 mod HappenedEvents
 mod PlannedPoints
-mod PlannedEvents
 mod PlannedRows
 mod PlannedMasters
 mod PlannedLanes

@@ -197,7 +197,7 @@ pub nothing_to_show : (plan : Plan) (queue : Stock) (journal : Archive) (control
 nothing_to_show plan queue journal controls orders empty =
     ap (shown_of (map_of plan)) (nothing_in plan queue journal controls orders empty)
 
-masters_ask : (times : Times) (plans : List SubPlan) → map points_asked (map (new_link times) plans) ≡ map points_below plans
+pub masters_ask : (times : Times) (plans : List SubPlan) → map points_asked (map (new_link times) plans) ≡ map points_below plans
 masters_ask times [] = refl
 masters_ask times (s ∷ plans) = ap (λ (ps : List points.Plan). points_below s ∷ ps) (masters_ask times plans)
 

@@ -147,7 +147,7 @@ step_goes laws o lists now r entries target was is l (Finishes id status) from w
     (ap (at_lines o lists now r.master) (none_goes was is down)) j
 
 -- the points that its master asks for stay
-points_stay : (s : master.State) (now : ℕ) (t : Task) (answer : Result (List ℕ) AskFault) → (asked_by s now t answer).plan ≡ s.plan
+pub points_stay : (s : master.State) (now : ℕ) (t : Task) (answer : Result (List ℕ) AskFault) → (asked_by s now t answer).plan ≡ s.plan
 points_stay s now t (Ok octets) = refl
 points_stay s now t (Err fault) = refl
 

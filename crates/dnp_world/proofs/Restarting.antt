@@ -138,7 +138,7 @@ link_of_map [] i = refl
 link_of_map (r ∷ links) zero = refl
 link_of_map (r ∷ links) (suc i) = link_of_map links i
 
-asked_of_map : (links : List Relaying) → map points_asked (map relaying.hung_up links) ≡ map points_asked links
+pub asked_of_map : (links : List Relaying) → map points_asked (map relaying.hung_up links) ≡ map points_asked links
 asked_of_map [] = refl
 asked_of_map (r ∷ links) = ap (λ (ps : List points.Plan). points_asked r ∷ ps) (asked_of_map links)
 

@@ -1,55 +1,38 @@
--- The controls in progress stay in step with the books at each event.
-use Rattle.std.proofs.Common.{◌≡◌, ℕ, zero, suc, ◌==◌, Bool, true, false, List, [], ◌∷◌, Option, Some, None, IfSome, refl, sym, ap, subst}
+-- The controls in progress and the books, where one of them is another: they stay in step.
+use Rattle.std.proofs.Common.{◌≡◌, ℕ, zero, suc, ◌==◌, Bool, true, false, List, [], ◌∷◌, Option, Some, None, IfSome, refl}
 use Rattle.std.specs.Prelude.{if◌then◌else◌, slice_set}
 use Rattle.std.specs.List.{All}
 use Rattle.std.proofs.lemmas.Bool.{eqb-false}
-use Rattle.dnp_objects.specs.declared.command.Command.{Command}
 use Rattle.dnp_controls.specs.Book.{Ledger, IsSound, entry_of}
 use Rattle.dnp_controls.specs.declared.book.Entry.{Entry}
 use Rattle.dnp_concentrator.specs.Below.{link_in}
-use Rattle.dnp_concentrator.specs.BookOutputs.{all_added}
 use Rattle.dnp_concentrator.specs.Relaying.{Relaying, heard, progress_heard, status_of}
 use Rattle.dnp_concentrator.specs.declared.progress.Progress.{Progress}
 use Rattle.dnp_concentrator.specs.declared.progress.Stage.{Stage}
 use Rattle.dnp_concentrator.specs.declared.progress.Stage.TheVariants.{Selecting, Selected, Operating, Known}
 use Rattle.dnp_master.specs.declared.outcome.Outcome.{Outcome}
 use Rattle.dnp_objects.specs.Status.{success}
-use Rattle.dnp_outstation.specs.State as outstation
-use Rattle.dnp_world.specs.declared.event.Link.{Link}
-use Rattle.dnp_world.specs.declared.event.Link.TheVariants.{Below, Above}
-use Rattle.dnp_world.specs.Channels.{ChannelState}
 use Rattle.dnp_world.specs.ControlsInStep.{GoesWith, InStep, IsOfEntry, IsUnspent}
-use Rattle.dnp_world.specs.SystemEvents.{LinesChange, MiddleSteps}
 use Rattle.dnp_world.specs.Systems.{System}
 use Rattle.dnp_world.proofs.RelayWidths.{FitsEntry}
-use Rattle.dnp_world.proofs.StepBooks.{Carries, SoundLaw, all_added_carries, carried}
+use Rattle.dnp_world.proofs.StepBooks.{Carries, carried}
+use Rattle.dnp_world.proofs.Touches.{Ends, Use, LinkOpens, LinkHangsUp, LinkAsks, LinkHears, LinkTicks, after_use, ends_of}
 
--- ---- parts of a system
+-- ---- a system without its lines
 
--- what is in progress below, and above
-abbrev pub AreInStep : List Relaying → Ledger → Type 0
-AreInStep links book = (station : ℕ) → IfSome (link_in links station).progress (GoesWith book station)
+pub record AreInStep (e : Ends) : Type 0 where
+  pub below : (station : ℕ) → IfSome (link_in e.links station).progress (GoesWith e.controls station)
+  pub above : IfSome e.centre.progress (GoesWith e.orders 0)
+  pub controls : IsSound e.controls
+  pub orders : IsSound e.orders
+  pub widths : All FitsEntry e.orders.entries
 
--- where the links and the books are those of another system
-pub in_step_as : (old new : System) → new.concentrator.links ≡ old.concentrator.links → new.concentrator.controls ≡ old.concentrator.controls
-    → new.centre.link ≡ old.centre.link → new.centre.orders ≡ old.centre.orders → InStep old → InStep new
-in_step_as old new links controls link orders h = record {
-  below = subst (λ (xs : List Relaying). AreInStep xs new.concentrator.controls) (sym links)
-      (subst (AreInStep old.concentrator.links) (sym controls) h.below);
-  above = subst (λ (r : Relaying). IfSome r.progress (GoesWith new.centre.orders 0)) (sym link)
-      (subst (λ (book : Ledger). IfSome old.centre.link.progress (GoesWith book 0)) (sym orders) h.above);
-  controls = subst IsSound (sym controls) h.controls;
-  orders = subst IsSound (sym orders) h.orders;
-  widths = subst (λ (book : Ledger). All FitsEntry book.entries) (sym orders) h.widths;
-}
+pub ends_in_step : (s : System) → InStep s → AreInStep (ends_of s)
+ends_in_step s h = record { below = h.below; above = h.above; controls = h.controls; orders = h.orders; widths = h.widths }
 
--- the substations, the lines, the moment and the history are others, and so is the rest of the concentrator
-pub rest_changes : (old new : System) → new.concentrator.links ≡ old.concentrator.links → new.concentrator.controls ≡ old.concentrator.controls
-    → new.centre ≡ old.centre → InStep old → InStep new
-rest_changes old new links controls centre h =
-    in_step_as old new links controls (ap (λ c. c.link) centre) (ap (λ c. c.orders) centre) h
+pub system_in_step : (s : System) → AreInStep (ends_of s) → InStep s
+system_in_step s h = record { below = h.below; above = h.above; controls = h.controls; orders = h.orders; widths = h.widths }
 
--- the link to one substation becomes another
 set_all : (P : ℕ → Relaying → Type 0) (links : List Relaying) (station : ℕ) (r : Relaying) → P station r → ((i : ℕ) → P i (link_in links i))
     → (i : ℕ) → P i (link_in (slice_set links station r) i)
 set_all P [] station r here all i = all i
@@ -58,55 +41,23 @@ set_all P (x ∷ links) zero r here all (suc i) = all (suc i)
 set_all P (x ∷ links) (suc station) r here all zero = all zero
 set_all P (x ∷ links) (suc station) r here all (suc i) = set_all (λ (n : ℕ) (y : Relaying). P (suc n) y) links station r here (λ n. all (suc n)) i
 
--- its control in progress goes with a book that carries the old one
-pub link_changes : (old new : System) (station : ℕ) (r : Relaying) → Carries old.concentrator.controls new.concentrator.controls
-    → new.concentrator.links ≡ slice_set old.concentrator.links station r → IfSome r.progress (GoesWith new.concentrator.controls station)
-    → new.centre ≡ old.centre → InStep old → InStep new
-link_changes old new station r book links here centre h = record {
-  below = subst (λ (xs : List Relaying). AreInStep xs new.concentrator.controls) (sym links)
-      (set_all (λ (i : ℕ) (x : Relaying). IfSome x.progress (GoesWith new.concentrator.controls i)) old.concentrator.links station r here
-      (λ i. carried old.concentrator.controls new.concentrator.controls i (link_in old.concentrator.links i).progress book (h.below i)));
-  above = subst (λ c. IfSome c.link.progress (GoesWith c.orders 0)) (sym centre) h.above;
-  controls = book.sound h.controls;
-  orders = subst (λ c. IsSound c.orders) (sym centre) h.orders;
-  widths = subst (λ c. All FitsEntry c.orders.entries) (sym centre) h.widths;
+-- the control in progress over a link, and a book that carries the old one
+pub link_changes : (e : Ends) (station : ℕ) (r : Relaying) (book : Ledger) → Carries e.controls book → IfSome r.progress (GoesWith book station)
+    → AreInStep e → AreInStep (record e { links = slice_set e.links station r; controls = book })
+link_changes e station r book carries here h = record {
+  below = set_all (λ (i : ℕ) (x : Relaying). IfSome x.progress (GoesWith book i)) e.links station r here
+      (λ i. carried e.controls book i (link_in e.links i).progress carries (h.below i));
+  above = h.above;
+  controls = carries.sound h.controls;
+  orders = h.orders;
+  widths = h.widths;
 }
 
--- the link above does, and the centre's book
-pub centre_changes : (old new : System) → Carries old.concentrator.controls new.concentrator.controls
-    → new.concentrator.links ≡ old.concentrator.links → IfSome new.centre.link.progress (GoesWith new.centre.orders 0)
-    → IsSound new.centre.orders → All FitsEntry new.centre.orders.entries → InStep old → InStep new
-centre_changes old new book links above sound widths h = record {
-  below = subst (λ (xs : List Relaying). AreInStep xs new.concentrator.controls) (sym links)
-      (λ i. carried old.concentrator.controls new.concentrator.controls i (link_in old.concentrator.links i).progress book (h.below i));
-  above = above;
-  controls = book.sound h.controls;
-  orders = sound;
-  widths = widths;
-}
-
--- ---- lines
-
--- lines alone
-pub lines_change : (on : Link) (Change : ChannelState → ChannelState → Type 0) (old new : System) → LinesChange on Change old new → InStep old
-    → InStep new
-lines_change (Below station) Change old new e h = subst InStep (sym e.after) (rest_changes old _ refl refl refl h)
-lines_change Above Change old new e h = subst InStep (sym e.1) (rest_changes old (record old { above = new.above }) refl refl refl h)
-
--- ---- the concentrator's outstation
-
-pub middle_steps : SoundLaw → (step : outstation.Step) (commands : List Command) (lines : ChannelState) (old new : System)
-    → MiddleSteps step commands lines old new → InStep old → InStep new
-middle_steps sound step commands lines old new m h =
-    subst InStep (sym m.after)
-    (centre_changes old (record old {
-      concentrator = record old.concentrator {
-        core = step.state.core;
-        queue = step.state.lanes;
-        controls = all_added old.concentrator.indices old.concentrator.controls commands;
-      };
-      above = new.above;
-    }) (all_added_carries sound old.concentrator.indices old.concentrator.controls commands) refl h.above h.orders h.widths h)
+-- the one above, and the centre's book
+pub centre_changes : (e : Ends) (r : Relaying) (book : Ledger) → IfSome r.progress (GoesWith book 0) → IsSound book → All FitsEntry book.entries
+    → AreInStep e → AreInStep (record e { centre = r; orders = book })
+centre_changes e r book above sound widths h =
+    record { below = h.below; above = above; controls = h.controls; orders = sound; widths = widths }
 
 -- ---- masters
 
@@ -122,7 +73,7 @@ heard_unspent Operating outcome unspent = absurd unspent
 heard_unspent (Known status) outcome unspent = unspent
 
 -- an outcome changes how far a control is
-pub heard_goes : (book : Ledger) (target : ℕ) (o : Option Progress) (outcome : Option Outcome) → IfSome o (GoesWith book target)
+heard_goes : (book : Ledger) (target : ℕ) (o : Option Progress) (outcome : Option Outcome) → IfSome o (GoesWith book target)
     → IfSome (progress_heard o outcome) (GoesWith book target)
 heard_goes book target None outcome h = h
 heard_goes book target (Some p) None h = h
@@ -131,3 +82,12 @@ heard_goes book target (Some p) (Some outcome) h = record { given = h.given; ent
     by : (o : Option Entry) → IfSome o (IsOfEntry target p) → IfSome o (IsOfEntry target (record p { stage = heard p.stage outcome }))
     by None k = tt
     by (Some e) k = (k.0, k.1, λ pending. heard_unspent p.stage outcome (k.2 pending))
+
+-- a call of a master that takes no step of relaying
+pub use_goes : (book : Ledger) (target : ℕ) (r : Relaying) (call : Use r) → IfSome r.progress (GoesWith book target)
+    → IfSome (after_use r call).progress (GoesWith book target)
+use_goes book target r LinkOpens h = tt
+use_goes book target r LinkHangsUp h = tt
+use_goes book target r (LinkAsks now task) h = h
+use_goes book target r (LinkHears now fragment t is) h = heard_goes book target r.progress t.outcome h
+use_goes book target r (LinkTicks now) h = h

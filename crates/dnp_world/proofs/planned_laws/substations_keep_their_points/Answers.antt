@@ -1,6 +1,6 @@
 -- The laws that the body calls are what the lemmas ask for.
-use Rattle.dnp_world.proofs.PlannedEvents.{event_keeps}
 use Rattle.dnp_world.proofs.PlannedPoints.{ClassLaws, planned_on}
+use Rattle.dnp_world.proofs.EventTouches.{touches}
 use Rattle.dnp_world.proofs.planned_laws.substations_keep_their_points.Goals as goal
 
 laws_of : goal.After-a_change_is_of_one_point → ClassLaws
@@ -15,4 +15,4 @@ laws_of c = record {
 }
 
 pub returns : goal.returns
-returns c = λ plan old new event happens. planned_on plan old new (event_keeps (laws_of c) old new event happens)
+returns c = λ plan old new event happens. planned_on (laws_of c) plan old new (touches old new event happens)

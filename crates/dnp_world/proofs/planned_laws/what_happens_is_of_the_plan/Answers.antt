@@ -21,9 +21,9 @@ use Rattle.dnp_world.specs.Systems.{SubstationState, System}
 use Rattle.dnp_world.specs.declared.link_event.LinkEvent.TheVariants as event
 use Rattle.dnp_world.proofs.HappenedEvents.{MakesEvents, all_made_events, none_happened}
 use Rattle.dnp_world.proofs.HappenedRows.{RowTests, all_fated, all_made}
-use Rattle.dnp_world.proofs.PlannedEvents.{reads_keep}
 use Rattle.dnp_world.proofs.PlannedPoints.{ClassLaws, planned_on}
 use Rattle.dnp_world.proofs.PlannedRows.{all_reported, new_planned}
+use Rattle.dnp_world.proofs.EventTouches.{touched_by_reading}
 use Rattle.dnp_world.proofs.planned_laws.what_happens_is_of_the_plan.Goals as goal
 
 tests_of : goal.After-points_are_those_of_the_plan → RowTests
@@ -80,8 +80,7 @@ pub returns-clause-read : goal.returns-clause-read
 returns-clause-read c plan old new station kind index reading planned reads keeps =
     let made : List Row = rows_made_by reads.was.core.points (event.Change kind index reading ∷ []) in
     record {
-      points = planned_on plan old new
-          (reads_keep (class_laws_of c) station kind index reading reads.was _ old new reads.there reads.reads) planned.points;
+      points = planned_on (class_laws_of c) plan old new (touched_by_reading station kind index reading old new reads) planned.points;
       rows = all_fated (tests_of c) (IsPlanned plan) (made_at station made) (report_of old) (report_of new) keeps.fate
           (all_made (IsPlanned plan) station made
           (made_planned c.a_change_makes_what_its_lane_takes.ensures plan old station kind index reading reads.was planned.points reads.there))

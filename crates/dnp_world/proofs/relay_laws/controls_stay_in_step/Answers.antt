@@ -2,6 +2,7 @@
 use Rattle.std.specs.Prelude.{nat_eq}
 use Rattle.dnp_objects.specs.Equality.{command_eq}
 use Rattle.dnp_world.proofs.StepHappens.{StepLaws, fresh_in_step, stays_in_step}
+use Rattle.dnp_world.proofs.EventTouches.{touches}
 use Rattle.dnp_world.proofs.relay_laws.controls_stay_in_step.Goals as goal
 
 laws_of : goal.After-link_law → StepLaws
@@ -16,7 +17,7 @@ laws_of c = record {
 }
 
 pub returns-clause-event : goal.returns-clause-event
-returns-clause-event c = λ old new e happens s h. stays_in_step (laws_of c) old new e s h happens
+returns-clause-event c = λ old new e happens s h. stays_in_step (laws_of c) old new s h (touches old new e happens)
 
 pub returns-clause-at_first : goal.returns-clause-at_first
 returns-clause-at_first c = fresh_in_step

@@ -1,9 +1,10 @@
--- Event by event.
-use Rattle.dnp_world.proofs.Settling.{event_settles, fresh_settled}
+-- By what each event touches.
+use Rattle.dnp_world.proofs.Settling.{all_settle, fresh_settled}
+use Rattle.dnp_world.proofs.EventTouches.{touches}
 use Rattle.dnp_world.proofs.settled_laws.substations_stay_settled.Goals as goal
 
 pub returns-clause-at_first : goal.returns-clause-at_first
 returns-clause-at_first c = λ plan queue journal controls orders. fresh_settled plan.times 0 plan.substations
 
 pub returns-clause-event : goal.returns-clause-event
-returns-clause-event c = λ old new event settled happens. event_settles old new event happens settled
+returns-clause-event c = λ old new event settled happens. all_settle old new (touches old new event happens) settled
