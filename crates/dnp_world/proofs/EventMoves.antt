@@ -149,62 +149,31 @@ lanes_stood v r =
     all_left (Contains v.stood) v.lanes (v.released ++ v.left)
     (All-permutation (Contains v.stood) v.stood (v.lanes ++ (v.released ++ v.left)) r.whole (All-contains_itself v.stood))
 
+-- other fragments are on the way up, and others are current
+rows_up : (v : Inventory) (up : List Up) (current reported : Fragment) → Each (IsOfStood v.stood) up → IsOfLanes false v.lanes v.stood v.last_id current
+    → IsOfLanes true v.lanes v.stood v.last_id reported → Events v → Events (record v { up = up; current = current; reported = reported })
+rows_up v up current reported there sent says r =
+    record { whole = r.whole; once = r.once; ids = r.ids; released = r.released; took = r.took; up = there; current = sent; reported = says }
+
 pub rows_sent : (v : Inventory) (f : Fragment) → IsOffered false v.lanes v.last_id f → Events v →
     Events (record v { up = v.up ++ Responds f ∷ []; current = f })
 rows_sent v f o r =
     let new : IsOfLanes false v.lanes v.stood v.last_id f = of_lanes_offered false v.lanes v.stood v.last_id f (lanes_stood v r) o in
-    record {
-      whole = r.whole;
-      once = r.once;
-      ids = r.ids;
-      released = r.released;
-      took = r.took;
-      up = each_both (IsOfStood v.stood) v.up (Responds f ∷ []) r.up ((new.rows, new.says), tt);
-      current = new;
-      reported = r.reported;
-    }
+    rows_up v (v.up ++ Responds f ∷ []) f v.reported (each_both (IsOfStood v.stood) v.up (Responds f ∷ []) r.up ((new.rows, new.says), tt)) new r.reported r
 
 pub rows_reported : (v : Inventory) (f : Fragment) → IsOffered true v.lanes v.last_id f → Events v →
     Events (record v { up = v.up ++ Reports f ∷ []; reported = f })
 rows_reported v f o r =
     let new : IsOfLanes true v.lanes v.stood v.last_id f = of_lanes_offered true v.lanes v.stood v.last_id f (lanes_stood v r) o in
-    record {
-      whole = r.whole;
-      once = r.once;
-      ids = r.ids;
-      released = r.released;
-      took = r.took;
-      up = each_both (IsOfStood v.stood) v.up (Reports f ∷ []) r.up ((new.rows, new.says), tt);
-      current = r.current;
-      reported = new;
-    }
+    rows_up v (v.up ++ Reports f ∷ []) v.current f (each_both (IsOfStood v.stood) v.up (Reports f ∷ []) r.up ((new.rows, new.says), tt)) r.current new r
 
 -- a fragment goes up, whose rows stood
 pub rows_again : (v : Inventory) (f : Up) → IsOfStood v.stood f → Events v → Events (record v { up = v.up ++ f ∷ [] })
 rows_again v f there r =
-    record {
-      whole = r.whole;
-      once = r.once;
-      ids = r.ids;
-      released = r.released;
-      took = r.took;
-      up = each_both (IsOfStood v.stood) v.up (f ∷ []) r.up (there, tt);
-      current = r.current;
-      reported = r.reported;
-    }
+    rows_up v (v.up ++ f ∷ []) v.current v.reported (each_both (IsOfStood v.stood) v.up (f ∷ []) r.up (there, tt)) r.current r.reported r
 
 pub rows_lost : (v : Inventory) (up : List Up) → IsEnd up v.up → Events v → Events (record v { up = up })
-rows_lost v up k r =
-    record {
-      whole = r.whole;
-      once = r.once;
-      ids = r.ids;
-      released = r.released;
-      took = r.took;
-      up = each_end (IsOfStood v.stood) up v.up k r.up;
-      current = r.current;
-      reported = r.reported;
-    }
+rows_lost v up k r = rows_up v up v.current v.reported (each_end (IsOfStood v.stood) up v.up k r.up) r.current r.reported r
 
 pub rows_taken : (v : Inventory) (f : Up) (rest : List Up) → v.up ≡ f ∷ rest → Events v → Events (record v { took = v.took ++ (fragment_of f).rows })
 rows_taken v f rest up_is r =
@@ -227,13 +196,5 @@ lanes_ids v r =
 
 pub rows_opened : (v : Inventory) → Events v → Events (record v { up = []; current = nothing_sent; reported = nothing_reported })
 rows_opened v r =
-    record {
-      whole = r.whole;
-      once = r.once;
-      ids = r.ids;
-      released = r.released;
-      took = r.took;
-      up = tt;
-      current = of_lanes_sent v.lanes v.stood v.last_id (lanes_ids v r);
-      reported = of_lanes_reported v.lanes v.stood v.last_id (lanes_ids v r);
-    }
+    rows_up v [] nothing_sent nothing_reported tt (of_lanes_sent v.lanes v.stood v.last_id (lanes_ids v r))
+    (of_lanes_reported v.lanes v.stood v.last_id (lanes_ids v r)) r

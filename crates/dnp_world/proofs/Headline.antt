@@ -89,21 +89,27 @@ happened_stood laws indices links k b i =
 
 -- ---- nothing is invented
 
--- a row of the journal was taken above, so it stood in the queue; it was taken below, so it stood in its substation's lanes
-journal_happened : Laws → (indices : List Spans) (links : Links) (k : Kept) → IsBehind indices links k → (x : ℕ × Row)
-    → 0 < times x (rows_below indices k.journal) → 1 ≤ times x (happened (shown_of indices k))
-journal_happened laws indices links k b x some =
-    let test : Row → Bool = λ row. passes (pair_eq nat_eq row_eq x) (row_below indices row) in
+-- a row that stood in the queue was taken below, so it stood in its substation's lanes
+stood_happened : Laws → (indices : List Spans) (links : Links) (k : Kept) → IsBehind indices links k → (x : ℕ × Row)
+    → 0 < count_by (λ row. passes (pair_eq nat_eq row_eq x) (row_below indices row)) (rows_of links.above.stood)
+    → 0 < times x (happened (shown_of indices k))
+stood_happened laws indices links k b x stood =
     let came : List (ℕ × Row) = rows_below indices (rows_of links.above.stood) in
     let all : List (ℕ × Row) = happened (shown_of indices k) in
-    let counted : (rows : List Row) → times x (rows_below indices rows) ≡ count_by test rows =
-    count_by-filter_map (pair_eq nat_eq row_eq x) (row_below indices) in
-    let above : 0 < count_by test (rows_of links.above.took) = omega (arith, some, counted k.journal, b.journal.same test) in
-    let stood : 0 < count_by test (rows_of links.above.stood) = took_stood laws links.above b.above_stands test above in
+    let counted = count_by-filter_map (pair_eq nat_eq row_eq x) (row_below indices) (rows_of links.above.stood) in
     let took : 0 < count_by (row_eq x.1) (rows_of (links.below x.0).took) =
-    omega (arith, stood, counted (rows_of links.above.stood), count_pair row_eq x came, (b.joined x.0).same (row_eq x.1)) in
+    omega (arith, stood, counted, count_pair row_eq x came, (b.joined x.0).same (row_eq x.1)) in
     let below : 0 < count_by (row_eq x.1) (rows_of (links.below x.0).stood) = took_stood laws (links.below x.0) (b.below_stands x.0) (row_eq x.1) took in
     omega (arith, below, (happened_stood laws indices links k b x.0).same (row_eq x.1), count_pair row_eq x all)
+
+-- a row of the journal was taken above, so it stood in the queue
+journal_happened : Laws → (indices : List Spans) (links : Links) (k : Kept) → IsBehind indices links k → (x : ℕ × Row)
+    → 0 < times x (rows_below indices k.journal) → 0 < times x (happened (shown_of indices k))
+journal_happened laws indices links k b x some =
+    let test : Row → Bool = λ row. passes (pair_eq nat_eq row_eq x) (row_below indices row) in
+    let counted = count_by-filter_map (pair_eq nat_eq row_eq x) (row_below indices) k.journal in
+    stood_happened laws indices links k b x
+    (took_stood laws links.above b.above_stands test (omega (arith, some, counted, b.journal.same test)))
 
 nothing_invented : Laws → (indices : List Spans) (links : Links) (k : Kept) → IsBehind indices links k
     → All (λ x. 1 ≤ times x (happened (shown_of indices k))) (rows_below indices k.journal)
@@ -115,51 +121,53 @@ nothing_invented laws indices links k b =
 
 -- ---- what stands in the queue
 
--- a row of the queue was taken below too
+-- a row of the queue stood there
 pub queue_happened : Laws → (indices : List Spans) (links : Links) (k : Kept) → IsBehind indices links k → (x : ℕ × Row)
     → 0 < times x (rows_below indices k.queue) → 0 < times x (happened (shown_of indices k))
 queue_happened laws indices links k b x some =
     let test : Row → Bool = λ row. passes (pair_eq nat_eq row_eq x) (row_below indices row) in
-    let came : List (ℕ × Row) = rows_below indices (rows_of links.above.stood) in
-    let all : List (ℕ × Row) = happened (shown_of indices k) in
-    let counted : (rows : List Row) → times x (rows_below indices rows) ≡ count_by test rows =
-    count_by-filter_map (pair_eq nat_eq row_eq x) (row_below indices) in
-    let above : 0 < count_by test (rows_of links.above.lanes) = omega (arith, some, counted k.queue, b.queue.same test) in
-    let stood : 0 < count_by test (rows_of links.above.stood) = omega (arith, above, stood_counts laws links.above b.above_stands test) in
-    let took : 0 < count_by (row_eq x.1) (rows_of (links.below x.0).took) =
-    omega (arith, stood, counted (rows_of links.above.stood), count_pair row_eq x came, (b.joined x.0).same (row_eq x.1)) in
-    let below : 0 < count_by (row_eq x.1) (rows_of (links.below x.0).stood) = took_stood laws (links.below x.0) (b.below_stands x.0) (row_eq x.1) took in
-    omega (arith, below, (happened_stood laws indices links k b x.0).same (row_eq x.1), count_pair row_eq x all)
+    let counted = count_by-filter_map (pair_eq nat_eq row_eq x) (row_below indices) k.queue in
+    stood_happened laws indices links k b x
+    (omega (arith, some, counted, b.queue.same test, stood_counts laws links.above b.above_stands test))
 
--- and each has a substation, as all rows that stood in the queue have
+-- ---- each has a substation
+
+-- Of rows that each have one, so have these, beside which others are counted.
+part_mapped : (indices : List Spans) (all rows : List Row) (others : (Row → Bool) → ℕ) → length (rows_below indices all) ≡ length all
+    → ((test : Row → Bool) → count_by test all ≡ count_by test rows + others test)
+    → ((test : Row → Bool) → others test ≤ others (λ _. true)) → length (rows_below indices rows) ≡ length rows
+part_mapped indices all rows others mapped parts most =
+    let test : Row → Bool = λ row. passes (λ _. true) (row_below indices row) in
+    let below : (xs : List Row) → length (rows_below indices xs) ≡ count_by test xs = λ xs.
+    sym (counted_all (rows_below indices xs)) ∙ count_by-filter_map (λ _. true) (row_below indices) xs in
+    omega (
+      arith,
+      mapped,
+      parts test,
+      parts (λ _. true),
+      most test,
+      below all,
+      below rows,
+      counted_all all,
+      counted_all rows,
+      count_by-le-length test rows,
+    )
+
+least : (test : Row → Bool) (rows : List Row) → count_by test rows ≤ count_by (λ _. true) rows
+least test rows = omega (arith, counted_all rows, count_by-le-length test rows)
+
+-- as all rows that stood in the queue have
+stood_mapped : (indices : List Spans) (links : Links) (k : Kept) → IsBehind indices links k
+    → length (rows_below indices (rows_of links.above.stood)) ≡ length (rows_of links.above.stood)
+stood_mapped indices links k b = omega (arith, b.mapped, length-map links.above.stood buffered_row)
+
 pub queue_mapped : Laws → (indices : List Spans) (links : Links) (k : Kept) → IsBehind indices links k → length (rows_below indices k.queue) ≡ length k.queue
 queue_mapped laws indices links k b =
     let l : Link = links.above in
-    let parts : (test : Row → Bool) → count_by test (rows_of l.stood) ≡ count_by test (rows_of l.lanes) + (count_by test
-    (rows_of l.released) + count_by test (rows_of l.left)) =
-    stood_counts laws l b.above_stands in
-    let mapped : Row → Bool = λ row. passes (λ _. true) (row_below indices row) in
-    let below : (rows : List Row) → length (rows_below indices rows) ≡ count_by mapped rows = λ rows.
-    sym (counted_all (rows_below indices rows)) ∙ count_by-filter_map (λ _. true) (row_below indices) rows in
-    omega (
-      arith,
-      b.mapped,
-      length-map l.stood buffered_row,
-      parts mapped,
-      parts (λ _. true),
-      below (rows_of l.stood),
-      below k.queue,
-      b.queue.same mapped,
-      b.queue.same (λ _. true),
-      counted_all (rows_of l.stood),
-      counted_all (rows_of l.left),
-      counted_all (rows_of l.released),
-      counted_all (rows_of l.lanes),
-      counted_all k.queue,
-      count_by-le-length mapped (rows_of l.lanes),
-      count_by-le-length mapped (rows_of l.released),
-      count_by-le-length mapped (rows_of l.left),
-    )
+    part_mapped indices (rows_of l.stood) k.queue (λ test. count_by test (rows_of l.released) + count_by test (rows_of l.left))
+    (stood_mapped indices links k b)
+    (λ test. omega (arith, stood_counts laws l b.above_stands test, b.queue.same test))
+    (λ test. omega (arith, least test (rows_of l.released), least test (rows_of l.left)))
 
 -- ---- nothing vanishes
 
@@ -207,36 +215,14 @@ nothing_vanishes laws indices links k b =
 
 -- ---- what was dropped was counted
 
--- the rows that full lanes dropped each have a substation, as all rows that stood in the queue have
 dropped_mapped : Laws → (indices : List Spans) (links : Links) (k : Kept) → IsBehind indices links k
     → length (rows_below indices k.dropped) ≡ length k.dropped
 dropped_mapped laws indices links k b =
     let l : Link = links.above in
-    let parts : (test : Row → Bool) → count_by test (rows_of l.stood) ≡ count_by test (rows_of l.lanes) + (count_by test
-    (rows_of l.released) + count_by test (rows_of l.left)) =
-    stood_counts laws l b.above_stands in
-    let mapped : Row → Bool = λ row. passes (λ _. true) (row_below indices row) in
-    let below : (rows : List Row) → length (rows_below indices rows) ≡ count_by mapped rows = λ rows.
-    sym (counted_all (rows_below indices rows)) ∙ count_by-filter_map (λ _. true) (row_below indices) rows in
-    omega (
-      arith,
-      b.mapped,
-      length-map l.stood buffered_row,
-      parts mapped,
-      parts (λ _. true),
-      below (rows_of l.stood),
-      below k.dropped,
-      b.dropped.same mapped,
-      b.dropped.same (λ _. true),
-      counted_all (rows_of l.stood),
-      counted_all (rows_of l.left),
-      counted_all (rows_of l.released),
-      counted_all (rows_of l.lanes),
-      counted_all k.dropped,
-      count_by-le-length mapped (rows_of l.lanes),
-      count_by-le-length mapped (rows_of l.released),
-      count_by-le-length mapped (rows_of l.left),
-    )
+    part_mapped indices (rows_of l.stood) k.dropped (λ test. count_by test (rows_of l.lanes) + count_by test (rows_of l.released))
+    (stood_mapped indices links k b)
+    (λ test. omega (arith, stood_counts laws l b.above_stands test, b.dropped.same test))
+    (λ test. omega (arith, least test (rows_of l.lanes), least test (rows_of l.released)))
 
 -- ---- no command twice
 
