@@ -1,9 +1,9 @@
 -- Events on the link between concentrator and centre, which keep what stands behind the system.
-use Rattle.std.proofs.Common.{◌≡◌, ℕ, Bool, true, false, List, [], ◌∷◌, ◌++◌, map, Result, Ok, Err, refl, sym, ap, ◌∙◌, subst, append-nil}
+use Rattle.std.proofs.Common.{◌≡◌, ℕ, Bool, true, false, List, [], ◌∷◌, ◌++◌, Result, Ok, Err, refl, sym, ap, ◌∙◌, subst, append-nil}
 use Rattle.std.specs.Prelude.{⊤}
 use Rattle.dnp_concentrator.specs.Relaying as relaying
 use Rattle.dnp_concentrator.specs.Relaying.{Relaying}
-use Rattle.dnp_eventbuf.specs.Stock.{lost_in, row_of}
+use Rattle.dnp_eventbuf.specs.Stock.{lost_in}
 use Rattle.dnp_master.specs.Calls.{ask_answer, asked_by}
 use Rattle.dnp_master.specs.declared.fault.AskFault.{AskFault}
 use Rattle.dnp_master.specs.declared.task.Task.{Task}
@@ -25,9 +25,10 @@ use Rattle.dnp_world.specs.OneLinkEvents.{AsksBy, AsksIfOwn, HappensOn, LinkStat
 use Rattle.dnp_world.specs.Systems.{System, middle_of, middle_panel}
 use Rattle.dnp_world.specs.SystemEvents.{AsksOn, HangsUpOn, LinesChange, LosesOn, MasterTicks, MiddleSteps, OpensOn, OutstationTicks, request_of}
 use Rattle.dnp_world.specs.SystemStanding.{RowLists, lists_of, no_sink, seen, seen_above, IsStanding, Keeps}
-use Rattle.dnp_world.proofs.AboveKeeps.{Above, above_keeps, changed_above}
+use Rattle.dnp_world.proofs.AboveKeeps.{Above, above_keeps, changed_above, none_listed}
 use Rattle.dnp_world.proofs.BelowCalls.{none_goes, one_goes}
-use Rattle.dnp_world.proofs.BelowKeeps.{Grounds}
+use Rattle.dnp_world.proofs.BelowEvents.{none_behind}
+use Rattle.dnp_world.proofs.BelowKeeps.{Grounds, none_used}
 use Rattle.dnp_world.proofs.Issuing.{same_keeps}
 
 -- ---- events at which no row is released or taken
@@ -35,13 +36,7 @@ use Rattle.dnp_world.proofs.Issuing.{same_keeps}
 -- nothing of the concentrator's queue and of the journal changes
 abbrev pub with_ends : System → State → Relaying → ChannelState → Above
 with_ends s outstation r lines =
-    record { core = outstation.core; queue = outstation.lanes; link = r; journal = s.centre.journal; lines = lines }
-
-none_listed : (h : RowLists) → record h { taken = h.taken ++ []; released = h.released ++ [] } ≡ h
-none_listed h =
-    let with_lists : List Row → List Row → RowLists = λ taken released. record h { taken = taken; released = released } in
-    ap (λ (xs : List Row). with_lists xs (h.released ++ [])) (append-nil h.taken)
-    ∙ ap (λ (xs : List Row). with_lists h.taken xs) (append-nil h.released)
+    record { core = outstation.core; queue = outstation.lanes; commands = []; link = r; journal = s.centre.journal; lines = lines }
 
 pub quiet_above : Grounds → (old new : System) (h : IsStanding old) (station : ℕ) (outstation : State) (r : Relaying) (lines : ChannelState) (e : LinkEvent)
     → outstation.lanes ≡ old.concentrator.queue
@@ -51,11 +46,9 @@ pub quiet_above : Grounds → (old new : System) (h : IsStanding old) (station :
     → new ≡ changed_above (with_ends old outstation r lines) old → Keeps station [] old new
 quiet_above grounds old new h station outstation r lines e queue none happens after =
     let a : Above = with_ends old outstation r lines in
-    above_keeps grounds old new h station a [] [] e (ap lost_in queue) (sym (append-nil (map row_of old.centre.journal.rows))) none
-    (subst (λ (lists : RowLists). HappensOn no_sink (middle_panel old.concentrator) (seen_above old (lists_of h.links.above)) e
-    (seen_above (changed_above a old) lists))
-    (sym (none_listed (lists_of h.links.above))) happens)
-    after
+    above_keeps grounds old new h station a [] [] (lists_of h.links.above) e
+    (record { lost = ap lost_in queue; journal = none_behind _; performs = none_behind _; used = none_used _; same = refl })
+    (none_listed h.links.above) none happens after
 
 -- the lines alone change
 pub loses_above : Grounds → (old new : System) (station : ℕ) (w : Way) → IsStanding old → LosesOn link.Above w old new → Keeps station [] old new

@@ -1,5 +1,5 @@
 -- What comes to the centre keeps what stands behind the system: the rows that it takes come into its journal.
-use Rattle.std.proofs.Common.{◌≡◌, ℕ, ◌+◌, List, [], ◌∷◌, ◌++◌, map, Result, Ok, Err, refl, sym, ap, ◌∙◌, subst, append-nil}
+use Rattle.std.proofs.Common.{◌≡◌, ℕ, ◌+◌, List, [], ◌∷◌, ◌++◌, map, Result, Ok, Err, refl, sym, ap, ◌∙◌, subst}
 use Rattle.std.specs.Prelude.{⊤}
 use Rattle.std.proofs.lemmas.List.{map-append}
 use Rattle.dnp_concentrator.specs.Relaying as relaying
@@ -26,8 +26,9 @@ use Rattle.dnp_world.specs.SystemEvents.{ComesUp, MasterReceives, MasterTakes}
 use Rattle.dnp_world.specs.SystemStanding.{RowLists, lists_of, no_sink, seen, seen_above, IsStanding, Keeps}
 use Rattle.dnp_world.specs.Systems.{System, middle_of, middle_panel}
 use Rattle.dnp_world.proofs.AboveEvents.{quiet_above}
-use Rattle.dnp_world.proofs.AboveKeeps.{Above, above_keeps, changed_above, lists_above}
-use Rattle.dnp_world.proofs.BelowKeeps.{Grounds}
+use Rattle.dnp_world.proofs.AboveKeeps.{Above, above_keeps, changed_above}
+use Rattle.dnp_world.proofs.BelowEvents.{none_behind}
+use Rattle.dnp_world.proofs.BelowKeeps.{Grounds, none_used}
 
 -- rows of a journal under their ids
 rows_numbered : (last : ℕ) (rows : List Row) → map row_of (numbered last rows) ≡ rows
@@ -69,23 +70,29 @@ received grounds left e as_event old new h station port fragment others heard ma
     let a : Above = record {
       core = old.concentrator.core;
       queue = old.concentrator.queue;
+      commands = [];
       link = relaying.received old.centre.link t;
       journal = with_events old.centre.journal t.events;
       lines = new.above;
     } in
-    let s' : LinkState ⊤ = seen_above (changed_above a old) (lists_above l t.events []) in
-    let seen_on : ChannelState → List Row → LinkState ⊤ = λ c released.
-    seen (middle_of old.concentrator) t.state c old.now (record (lists_of l) { taken = rows_of l.took ++ t.events; released = released }) in
+    let lists : RowLists = record (lists_of l) { taken = rows_of l.took ++ t.events } in
+    let s' : LinkState ⊤ = seen_above (changed_above a old) lists in
     let takes : Takes no_sink t base s' = record {
       given = λ some. ([], tt);
       spared = λ none. refl;
       sent = down.sent;
-      after = ap (λ (c : ChannelState). seen_on c (rows_of l.released ++ [])) down.after
-          ∙ ap (λ (xs : List Row). seen_on (record lines { down = new.above.down; master_port = new.above.master_port }) xs) (append-nil (rows_of l.released));
+      after = ap (λ (c : ChannelState). seen (middle_of old.concentrator) t.state c old.now lists) down.after;
     } in
-    above_keeps grounds old new h station a t.events [] e refl
-    (map-append row_of old.centre.journal.rows (numbered old.centre.journal.last_id t.events)
-    ∙ ap (λ (xs : List Row). map row_of old.centre.journal.rows ++ xs) (rows_numbered old.centre.journal.last_id t.events))
+    above_keeps grounds old new h station a t.events [] lists e
+    (record {
+      lost = refl;
+      journal = map-append row_of old.centre.journal.rows (numbered old.centre.journal.last_id t.events)
+          ∙ ap (λ (xs : List Row). map row_of old.centre.journal.rows ++ xs) (rows_numbered old.centre.journal.last_id t.events);
+      performs = none_behind _;
+      used = none_used _;
+      same = refl;
+    })
+    (record { taken_is = refl; released_is = none_behind _; left_is = refl })
     made
     (as_event (seen_above old (lists_of l)) s' (middle_panel old.concentrator)
     (record {

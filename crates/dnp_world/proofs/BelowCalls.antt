@@ -44,16 +44,16 @@ pub record CallLaws : Type 0 where
 
 -- ---- what the concentrator has of the substation
 
-has_link_to : (s : System) (station : ℕ) → has_station s station ≡ true → station < length s.concentrator.links
+pub has_link_to : (s : System) (station : ℕ) → has_station s station ≡ true → station < length s.concentrator.links
 has_link_to s station has =
     ltb-true station (length s.concentrator.links)
     ((and_parts (nat_lt station (length s.substations)) (nat_lt station (length s.concentrator.links)) has).1)
 
 -- another link to it
-abbrev with_link_to : System → ℕ → Relaying → Middle
+abbrev pub with_link_to : System → ℕ → Relaying → Middle
 with_link_to s station r = record { links = slice_set s.concentrator.links station r; points = s.concentrator.core.points }
 
-link_keeps : (s : System) (station : ℕ) (r : Relaying) → points_asked r ≡ points_asked (link_in s.concentrator.links station)
+pub link_keeps : (s : System) (station : ℕ) (r : Relaying) → points_asked r ≡ points_asked (link_in s.concentrator.links station)
     → KeepsMiddle station (with_link_to s station r) s
 link_keeps s station r same = record {
   others = λ i other. link_there s.concentrator.links station i r other;

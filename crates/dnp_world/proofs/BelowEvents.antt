@@ -68,7 +68,7 @@ none_behind xs = sym (append-nil xs)
 abbrev pub nothing_gone : Gone
 nothing_gone = record { confirmed = []; overwritten = []; emptied = [] }
 
-nothing_listed : (l : Link) → IsListed l nothing_gone (lists_of l)
+pub nothing_listed : (l : Link) → IsListed l nothing_gone (lists_of l)
 nothing_listed l = record { taken = refl; released = none_behind (rows_of l.released); left = none_behind (rows_of l.left) }
 
 pub no_performs : (was is : SubstationState) → is.outputs.performed ≡ was.outputs.performed → performs was is ≡ []
@@ -97,6 +97,14 @@ with_both s station is middle = record (with_substation s station is) {
   concentrator = record s.concentrator { core = with_points s.concentrator.core middle.points; links = middle.links };
 }
 
+pub both_as : (old : System) (station : ℕ) (was is : SubstationState) (middle : Middle) → is.outputs ≡ was.outputs
+    → with_both old station is middle ≡ changed_below station was is middle nothing_gone old
+both_as old station was is middle same =
+    lists_as station was is middle nothing_gone old old.history.confirmed old.history.overwritten old.history.gone old.history.operated
+    (none_behind old.history.confirmed) (none_behind old.history.overwritten) (none_behind old.history.gone)
+    (none_behind old.history.operated
+    ∙ ap (λ (xs : List Command). old.history.operated ++ at_station station xs) (sym (no_performs was is (ap (λ (o : PlainState). o.performed) same))))
+
 pub quiet_with : Grounds → (old new : System) (h : IsStanding old) (station : ℕ) (was is : SubstationState) (middle : Middle) (e : LinkEvent)
     → slice_get old.substations station ≡ Some was → KeepsMiddle station middle old → is.outputs ≡ was.outputs
     → HappensOn no_sink (panel_of was) (seen_at old station was (lists_of (h.links.below station))) e
@@ -106,10 +114,7 @@ quiet_with grounds old new h station was is middle e there keeps same happens af
     below_keeps grounds old new h station was is middle nothing_gone (lists_of (h.links.below station)) e there keeps
     (shown_with was is (few_outputs old h station was there) (ap (λ (o : PlainState). o.outputs) same))
     (nothing_listed (h.links.below station)) happens
-    (after ∙ lists_as station was is middle nothing_gone old old.history.confirmed old.history.overwritten old.history.gone old.history.operated
-    (none_behind old.history.confirmed) (none_behind old.history.overwritten) (none_behind old.history.gone)
-    (none_behind old.history.operated
-    ∙ ap (λ (xs : List Command). old.history.operated ++ at_station station xs) (sym (no_performs was is (ap (λ (o : PlainState). o.performed) same)))))
+    (after ∙ both_as old station was is middle same)
 
 pub quiet : Grounds → (old new : System) (h : IsStanding old) (station : ℕ) (was is : SubstationState) (e : LinkEvent)
     → slice_get old.substations station ≡ Some was → is.outputs ≡ was.outputs

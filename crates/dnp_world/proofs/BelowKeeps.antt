@@ -9,7 +9,9 @@ use Rattle.dnp_objects.specs.Counts.{IsCoveredBy}
 use Rattle.dnp_objects.specs.declared.command.Command.{Command}
 use Rattle.dnp_objects.specs.declared.row.Row.{Row}
 use Rattle.dnp_eventbuf.specs.Stock.{rows_in}
+use Rattle.dnp_controls.specs.Book.{Ledger}
 use Rattle.dnp_controls.specs.Panel.{Panel}
+use Rattle.dnp_concentrator.specs.BookOutputs.{ordered}
 use Rattle.dnp_concentrator.specs.Below.{link_in}
 use Rattle.dnp_outstation.specs.Station.{with_points}
 use Rattle.dnp_pointdb.specs.Database.{Database}
@@ -17,9 +19,9 @@ use Rattle.dnp_pointdb.specs.Sound as points
 use Rattle.dnp_concentrator.specs.Relaying.{Relaying}
 use Rattle.dnp_concentrator.specs.declared.span.Spans.{Spans}
 use Rattle.dnp_world.specs.declared.link_event.LinkEvent.{LinkEvent}
-use Rattle.dnp_world.specs.Behind.{does_nothing, Grows, Links, with_links, IsBehind, Turn, made_at, rows_of}
+use Rattle.dnp_world.specs.Behind.{does_nothing, Does, Grows, Links, with_links, IsBehind, Turn, made_at, rows_of}
 use Rattle.dnp_world.specs.Joined.{Follows, Joined, rows_made_by}
-use Rattle.dnp_world.specs.Kept.{Kept, kept_in, lane_rows_of, shown_of, used_orders, used_commands}
+use Rattle.dnp_world.specs.Kept.{Kept, kept_in, lane_rows_of, orders_in, shown_of, used_orders, used_commands}
 use Rattle.dnp_world.specs.Link.{Link}
 use Rattle.dnp_world.specs.Moves.{Done}
 use Rattle.dnp_world.specs.OneLinkEvents.{LinkState, HappensOn}
@@ -27,8 +29,8 @@ use Rattle.dnp_world.specs.OutstationSeen.{ShowOctets}
 use Rattle.dnp_world.specs.Reports.{IsFate}
 use Rattle.dnp_world.specs.Standing.{Stands}
 use Rattle.dnp_world.specs.Stations.{of_station, HasSameCounts}
-use Rattle.dnp_world.specs.Systems.{SubstationState, System, at_station, panel_of}
-use Rattle.dnp_world.specs.SystemStanding.{RowLists, lists_of, no_sink, points_asked, seen_above, seen_below, IsJoinedBelow, IsStanding, Keeps}
+use Rattle.dnp_world.specs.Systems.{SubstationState, System, at_station, middle_of, panel_of}
+use Rattle.dnp_world.specs.SystemStanding.{RowLists, lists_of, no_sink, points_asked, seen, seen_above, seen_below, IsJoinedBelow, IsStanding, Keeps}
 use Rattle.dnp_world.proofs.Counting.{count_by-append}
 use Rattle.dnp_world.proofs.ListedAt.{set_here, set_there, listed_here, listed_there}
 use Rattle.dnp_world.proofs.OutstationOpenings.{rows_from}
@@ -217,25 +219,38 @@ some_of P o x e h = subst (λ o. IfSome o P) e h
 pub of_some : {S : Type 0} (P : S → Type 0) (o : Option S) (x : S) → o ≡ Some x → P x → IfSome o P
 of_some P o x e h = subst (λ o. IfSome o P) (sym e) h
 
-turn_below : (old : System) (links : Links) (station : ℕ) (was is : SubstationState) (middle : Middle) (gone : Gone) (came : List Row) (link : Link)
-    → IsBehind old.indices links (kept_in old) → slice_get old.substations station ≡ Some was
-    → Grows (links.below station) link
-    (record { made = came; discarded = gone.confirmed; left = gone.overwritten ++ gone.emptied; taken = []; asked = []; performed = performs was is })
-    → rows_of link.lanes ≡ rows_in is.lanes
-    → Turn old.indices station links (kept_in old) (kept_in (changed_below station was is middle gone old))
-turn_below old links station was is middle gone came link b there grows lanes =
-    let new : System = changed_below station was is middle gone old in
+-- and the concentrator's book
+abbrev pub with_controls : Ledger → System → System
+with_controls controls s = record s { concentrator = record s.concentrator { controls = controls } }
+
+-- what the book says of commands that are asked for
+pub record BookShows (old : System) (station : ℕ) (controls : Ledger) (asked : List Command) : Type 0 where
+  pub used : IsCoveredBy (used_orders old.concentrator.controls.entries ++ at_station station asked) (used_orders controls.entries)
+  pub orders : orders_in controls.entries ≡ orders_in old.concentrator.controls.entries
+  pub shown : map (ordered old.concentrator.indices) controls.entries ≡ map (ordered old.concentrator.indices) old.concentrator.controls.entries
+
+-- what happened to the link
+abbrev did : SubstationState → SubstationState → Gone → List Row → List Command → Does
+did was is gone came asked = record {
+  made = came;
+  discarded = gone.confirmed;
+  left = gone.overwritten ++ gone.emptied;
+  taken = [];
+  asked = asked;
+  performed = performs was is;
+}
+
+turn_below : (old : System) (links : Links) (station : ℕ) (was is : SubstationState) (middle : Middle) (controls : Ledger) (gone : Gone)
+    (came : List Row) (asked : List Command) (link : Link)
+    → IsBehind old.indices links (kept_in old) → slice_get old.substations station ≡ Some was → BookShows old station controls asked
+    → Grows (links.below station) link (did was is gone came asked) → rows_of link.lanes ≡ rows_in is.lanes
+    → Turn old.indices station links (kept_in old) (kept_in (with_controls controls (changed_below station was is middle gone old)))
+turn_below old links station was is middle controls gone came asked link b there book grows lanes =
+    let new : System = with_controls controls (changed_below station was is middle gone old) in
     record {
       below = link;
       above = links.above;
-      here = record {
-        made = came;
-        discarded = gone.confirmed;
-        left = gone.overwritten ++ gone.emptied;
-        taken = [];
-        asked = [];
-        performed = performs was is;
-      };
+      here = did was is gone came asked;
       there = does_nothing;
       below_grows = grows;
       above_grows = stays_still links.above;
@@ -255,8 +270,9 @@ turn_below old links station was is middle gone came link b there grows lanes =
       lost = omega arith;
       journal = none_more (kept_in old).journal;
       operated = same_refl new.history.operated;
-      used = none_used (used_orders (kept_in old).controls);
-      added = none_more (map (λ e. (e.target, e.command)) (kept_in old).controls);
+      used = book.used;
+      added = same_is (orders_in controls.entries) (orders_in old.concentrator.controls.entries ++ [])
+          (book.orders ∙ sym (append-nil (orders_in old.concentrator.controls.entries)));
       used_above = none_used (used_commands (kept_in old).orders);
       issues = [];
       issued = none_more old.history.issued;
@@ -270,7 +286,7 @@ pub record IsListed (l : Link) (gone : Gone) (lists : RowLists) : Type 0 where
   pub left : lists.left ≡ rows_of l.left ++ (gone.overwritten ++ gone.emptied)
 
 -- the link to another substation is as it was
-other_stands : (old : System) (h : IsStanding old) (station : ℕ) (is : SubstationState) (relays : List Relaying)
+pub other_stands : (old : System) (h : IsStanding old) (station : ℕ) (is : SubstationState) (relays : List Relaying)
     → ((i : ℕ) → i ≢ station → link_in relays i ≡ link_in old.concentrator.links i) → (i : ℕ) → i ≢ station
     → IfSome (slice_get (slice_set old.substations station is) i) (IsJoinedBelow old.now (link_in relays i) (h.links.below i))
 other_stands old h station is relays others i other =
@@ -278,33 +294,25 @@ other_stands old h station is relays others i other =
     (subst (λ (o : Option SubstationState). IfSome o (IsJoinedBelow old.now (link_in old.concentrator.links i) (h.links.below i)))
     (sym (set_there old.substations station i is other)) (h.below i))
 
--- The event is one of the link by itself.
-pub below_keeps : Grounds → (old new : System) (h : IsStanding old) (station : ℕ)
-    → (was is : SubstationState) (middle : Middle) (gone : Gone) (lists : RowLists) (e : LinkEvent)
+-- The link by itself moves so.
+pub below_follows : TurnLaws → (old : System) (h : IsStanding old) (station : ℕ) (was is : SubstationState) (middle : Middle) (controls : Ledger)
+    (gone : Gone) (lists : RowLists) (came : List Row) (asked : List Command)
     → slice_get old.substations station ≡ Some was → KeepsMiddle station middle old → ShowOctets (panel_of is)
-    → IsListed (h.links.below station) gone lists
-    → HappensOn no_sink (panel_of was) (seen_below old.now (link_in old.concentrator.links station) was (lists_of (h.links.below station))) e
-    (seen_below old.now (link_in middle.links station) is lists)
-    → new ≡ changed_below station was is middle gone old → Keeps station (rows_made_by was.core.points (e ∷ [])) old new
+    → IsListed (h.links.below station) gone lists → BookShows old station controls asked
+    → Follows [] came asked was.outputs.performed (h.links.below station) (seen_below old.now (link_in middle.links station) is lists)
+    → Keeps station came old (with_controls controls (changed_below station was is middle gone old))
 unfolding turn_below
-below_keeps grounds old new h station was is middle gone lists e there keeps shown listed happens after =
+below_follows laws old h station was is middle controls gone lists came asked there keeps shown listed book f =
     let l : Link = h.links.below station in
-    let next : System = changed_below station was is middle gone old in
-    let came : List Row = rows_made_by was.core.points (e ∷ []) in
-    let left : List Row = gone.overwritten ++ gone.emptied in
-    let r : Relaying = link_in old.concentrator.links station in
-    let before : IsJoinedBelow old.now r l was = some_of (IsJoinedBelow old.now r l) (slice_get old.substations station) was there (h.below station) in
-    let s : LinkState ⊤ = seen_below old.now r was (lists_of l) in
+    let next : System = with_controls controls (changed_below station was is middle gone old) in
     let s' : LinkState ⊤ = seen_below old.now (link_in middle.links station) is lists in
-    let f : Follows [] came [] was.outputs.performed l s' =
-    grounds.happens (panel_of was) s s' e l before.shown (h.behind.below_stands station) before.joined happens in
     let link : Link = f.link in
     let t : Turn old.indices station h.links (kept_in old) (kept_in next) =
-    turn_below old h.links station was is middle gone came link h.behind there
-    (grows_by came [] gone.confirmed left [] was.outputs.performed l s' (listed.taken ∙ sym (append-nil (rows_of l.took))) listed.released listed.left f)
+    turn_below old h.links station was is middle controls gone came asked link h.behind there book
+    (grows_by came [] gone.confirmed (gone.overwritten ++ gone.emptied) asked was.outputs.performed l s'
+    (listed.taken ∙ sym (append-nil (rows_of l.took))) listed.released listed.left f)
     (lane_rows s' link f.joined) in
-    subst (λ (x : System). Keeps station came old x) (sym after)
-    (record {
+    record {
       standing = record {
         plan = h.plan;
         of_plan = still_of_plan old next h.plan refl refl refl refl keeps.masters h.of_plan;
@@ -315,9 +323,29 @@ below_keeps grounds old new h station was is middle gone lists e there keeps sho
             (set_here old.substations station was is there)
             (record { joined = relisted s' link old.now f.joined; shown = shown }))
             (other_stands old h station is middle.links keeps.others);
-        above = points_set (seen_above old (lists_of h.links.above)) h.links.above middle.points
-            (keeps.sound h.above.outstation.well.points) h.above;
-        behind = grounds.turns.kept old.indices station h.links (kept_in old) (kept_in next) h.behind t;
+        above = subst (λ (performed : List Command). Joined [] (seen (record (middle_of next.concentrator) { performed = performed })
+            old.centre.link.master old.above old.now (lists_of h.links.above)) h.links.above) (sym book.shown)
+            (points_set (seen_above old (lists_of h.links.above)) h.links.above middle.points (keeps.sound h.above.outstation.well.points) h.above);
+        behind = laws.kept old.indices station h.links (kept_in old) (kept_in next) h.behind t;
       };
-      fate = grounds.turns.fate old.indices station h.links (kept_in old) (kept_in next) h.behind t;
-    })
+      fate = laws.fate old.indices station h.links (kept_in old) (kept_in next) h.behind t;
+    }
+
+-- The event is one of the link by itself, which asks for no command.
+pub below_keeps : Grounds → (old new : System) (h : IsStanding old) (station : ℕ)
+    → (was is : SubstationState) (middle : Middle) (gone : Gone) (lists : RowLists) (e : LinkEvent)
+    → slice_get old.substations station ≡ Some was → KeepsMiddle station middle old → ShowOctets (panel_of is)
+    → IsListed (h.links.below station) gone lists
+    → HappensOn no_sink (panel_of was) (seen_below old.now (link_in old.concentrator.links station) was (lists_of (h.links.below station))) e
+    (seen_below old.now (link_in middle.links station) is lists)
+    → new ≡ changed_below station was is middle gone old → Keeps station (rows_made_by was.core.points (e ∷ [])) old new
+below_keeps grounds old new h station was is middle gone lists e there keeps shown listed happens after =
+    let l : Link = h.links.below station in
+    let came : List Row = rows_made_by was.core.points (e ∷ []) in
+    let r : Relaying = link_in old.concentrator.links station in
+    let before : IsJoinedBelow old.now r l was = some_of (IsJoinedBelow old.now r l) (slice_get old.substations station) was there (h.below station) in
+    subst (λ (x : System). Keeps station came old x) (sym after)
+    (below_follows grounds.turns old h station was is middle old.concentrator.controls gone lists came [] there keeps shown listed
+    (record { used = none_used (used_orders old.concentrator.controls.entries); orders = refl; shown = refl })
+    (grounds.happens (panel_of was) (seen_below old.now r was (lists_of l)) (seen_below old.now (link_in middle.links station) is lists) e l before.shown
+    (h.behind.below_stands station) before.joined happens))

@@ -1,5 +1,5 @@
 -- Rows that a substation's master takes: they happened there, and come into the queue above, which keeps what stands behind the system.
-use Rattle.std.proofs.Common.{◌≡◌, ◌≢◌, ℕ, ◌+◌, ◌<◌, ◌^◌, Bool, false, List, [], ◌∷◌, ◌++◌, length, drop, Option, Some, IfOk, refl, sym, ap, ◌∙◌, subst, append-nil, arith}
+use Rattle.std.proofs.Common.{◌≡◌, ◌≢◌, ℕ, ◌+◌, ◌<◌, ◌^◌, Bool, false, List, [], ◌∷◌, ◌++◌, length, drop, Some, IfOk, refl, sym, ap, ◌∙◌, subst, append-nil, arith}
 use Rattle.std.specs.Prelude.{slice_get, slice_set, IfSome, ⊤}
 use Rattle.std.specs.List.{All, count_by}
 use Rattle.std.proofs.lemmas.List.{drop_all, length-map}
@@ -46,12 +46,12 @@ use Rattle.dnp_world.specs.SystemEvents.{HasNumbers, concentrator_taken, dropped
 use Rattle.dnp_world.specs.Systems.{ConcentratorState, SubstationState, System, middle_of, panel_of}
 use Rattle.dnp_world.specs.SystemStanding.{RowLists, lists_of, no_sink, seen_above, seen_below, IsJoinedBelow, IsStanding, Keeps}
 use Rattle.dnp_world.proofs.BelowEvents.{no_performs}
-use Rattle.dnp_world.proofs.BelowKeeps.{Grounds, grows_by, lane_rows, none_more, none_used, points_set, relisted, some_of}
+use Rattle.dnp_world.proofs.BelowKeeps.{Grounds, grows_by, lane_rows, none_more, none_used, points_set, relisted, some_of, of_some, other_stands}
 use Rattle.dnp_world.proofs.ByStations.{some_there}
 use Rattle.dnp_world.proofs.Counting.{count_by-append}
 use Rattle.dnp_world.proofs.HappenedRows.{all_at, all_counted}
 use Rattle.dnp_world.proofs.JoinedRuns.{append_follows, append_of, listed}
-use Rattle.dnp_world.proofs.ListedAt.{set_here, set_there, listed_here, listed_there}
+use Rattle.dnp_world.proofs.ListedAt.{set_here, listed_here, listed_there}
 use Rattle.dnp_world.proofs.QueuedRows.{IsTaken, LowIndexes, StaySound, all_taken, readings_sound}
 use Rattle.dnp_world.proofs.SystemCounts.{count_by-map, same_is, same_refl}
 use Rattle.dnp_world.proofs.SystemMapping.{RowsBack, queued_undone}
@@ -221,19 +221,6 @@ turn_taken laws old h station was is t below above there all below_grows above_g
       ordered = none_more _;
     }
 
--- the link to another substation is as it was
-other_stands : (old : System) (h : IsStanding old) (station : ℕ) (is : SubstationState) (r : Relaying) (i : ℕ) → i ≢ station
-    → IfSome (slice_get (slice_set old.substations station is) i)
-    (IsJoinedBelow old.now (link_in (slice_set old.concentrator.links station r) i) (h.links.below i))
-other_stands old h station is r i other =
-    subst (λ (x : Relaying). IfSome (slice_get (slice_set old.substations station is) i) (IsJoinedBelow old.now x (h.links.below i)))
-    (sym (link_there old.concentrator.links station i r other))
-    (subst (λ (o : Option SubstationState). IfSome o (IsJoinedBelow old.now (link_in old.concentrator.links i) (h.links.below i)))
-    (sym (set_there old.substations station i is other)) (h.below i))
-
-some_then : {S : Type 0} (P : S → Type 0) (o : Option S) (x : S) → o ≡ Some x → P x → IfSome o P
-some_then P o x e h = subst (λ o. IfSome o P) (sym e) h
-
 -- nothing is performed above
 none_performed : (performed : List Command) → drop (length performed) performed ≡ []
 none_performed performed = drop_all (length performed) performed (omega arith)
@@ -296,11 +283,12 @@ takes_keep grounds laws old new h station was is t e events low there same shown
         below = by_station
             (λ i x. IfSome (slice_get next.substations i) (IsJoinedBelow old.now (link_in (slice_set c.links station (relaying.received r t)) i) x))
             h.links station f.link g.link
-            (some_then (IsJoinedBelow old.now (link_in (slice_set c.links station (relaying.received r t)) station) f.link)
+            (of_some (IsJoinedBelow old.now (link_in (slice_set c.links station (relaying.received r t)) station) f.link)
             (slice_get next.substations station) is (set_here old.substations station was is there)
             (subst (λ (x : Relaying). IsJoinedBelow old.now x f.link is) (sym (link_here c.links station (relaying.received r t) low))
             (record { joined = relisted s' f.link old.now f.joined; shown = shown })))
-            (other_stands old h station is (relaying.received r t));
+            (other_stands old h station is (slice_set c.links station (relaying.received r t))
+            (λ i other. link_there c.links station i (relaying.received r t) other));
         above = points_set
             (record s2 { now = old.now; taken = rows_of g.link.took; released = rows_of g.link.released; left = rows_of g.link.left })
             g.link last sound (relisted s2 g.link old.now g.joined);
