@@ -32,6 +32,7 @@ use Rattle.dnp_world.specs.Stations.{of_station, HasSameCounts}
 use Rattle.dnp_world.specs.Systems.{SubstationState, System, at_station, middle_of, panel_of}
 use Rattle.dnp_world.specs.SystemStanding.{RowLists, lists_of, no_sink, points_asked, seen, seen_above, seen_below, IsJoinedBelow, IsStanding, Keeps}
 use Rattle.dnp_world.proofs.Counting.{count_by-append}
+use Rattle.dnp_world.proofs.JoinedSteps.{with_lists}
 use Rattle.dnp_world.proofs.ListedAt.{set_here, set_there, listed_here, listed_there}
 use Rattle.dnp_world.proofs.OutstationOpenings.{rows_from}
 use Rattle.dnp_world.proofs.SystemCounts.{same_refl, same_is, same_sym, same_permutation}
@@ -76,19 +77,9 @@ stays_still l = record {
 
 pub relisted : (s : LinkState ⊤) (l : Link) (now : ℕ) → Joined [] s l
     → Joined [] (record s { now = now; taken = rows_of l.took; released = rows_of l.released; left = rows_of l.left }) l
-relisted s l now j = record {
-  outstation = j.outstation;
-  master = j.master;
-  number = j.number;
-  going_down = j.going_down;
-  down = j.down;
-  down_is = j.down_is;
-  octets = j.octets;
-  up = j.up;
-  taken = IsPermutation-refl (rows_of l.took);
-  released = refl;
-  left = subst (λ (xs : List Row). IsPermutation (rows_of l.left) xs) (sym (append-nil (rows_of l.left))) (IsPermutation-refl (rows_of l.left));
-}
+relisted s l now j =
+    with_lists [] [] s l s.sink now (rows_of l.took) (rows_of l.released) (rows_of l.left) j (IsPermutation-refl (rows_of l.took)) refl
+    (subst (λ (xs : List Row). IsPermutation (rows_of l.left) xs) (sym (append-nil (rows_of l.left))) (IsPermutation-refl (rows_of l.left)))
 
 -- other readings of its points are no matter of the link
 pub points_set : (s : LinkState ⊤) (l : Link) (database : Database) → points.IsSound database → Joined [] s l

@@ -28,7 +28,7 @@ use Rattle.dnp_world.specs.Link.{Link}
 use Rattle.dnp_world.specs.OneLinkEvents.{LinkState, Changes}
 use Rattle.dnp_world.specs.Standing.{Stands}
 use Rattle.dnp_world.proofs.JoinedLaws.{Laws, OutstationLaws}
-use Rattle.dnp_world.proofs.JoinedSteps.{Beside, after_step, stays_as}
+use Rattle.dnp_world.proofs.JoinedSteps.{Beside, after_step, beside_of, stays_as}
 
 -- ---- an index that the points have is one of 16 bits
 
@@ -91,18 +91,7 @@ change_if {Sink = Sink} laws others s new l kind index reading (Ok made) answer 
     } in
     let ends : s.outstation.core.is_open ≡ false → step ≡ first = still_closed s.now first (laws.outstation.ends s.now first) in
     let base : LinkState Sink = record s { left = s.left ++ step.does.overwritten } in
-    let beside : Beside others s.left base s.outstation.core.is_open l = record {
-      master = j.master;
-      number = j.number;
-      going_down = j.going_down;
-      down = j.down;
-      down_is = j.down_is;
-      octets = j.octets;
-      up = j.up;
-      taken = j.taken;
-      released = j.released;
-      left = j.left;
-    } in
+    let beside : Beside others s.left base s.outstation.core.is_open l = beside_of others (s.left ++ step.does.overwritten) s l j in
     let low : index < 2 ^ 16 = index_low s.outstation.core.points kind index reading made j.outstation.well.points answer in
     let carried : IfSome made (λ x. (x.row.kind ≡ x.lane.kind) × IsEvent x.row) =
     of_ok (λ made. IfSome made (λ x. (x.row.kind ≡ x.lane.kind) × IsEvent x.row)) (answer_of s.outstation.core.points kind index reading) made answer

@@ -29,73 +29,25 @@ use Rattle.dnp_world.proofs.JoinedChanges.{change_follows}
 use Rattle.dnp_world.proofs.JoinedLaws.{Laws}
 use Rattle.dnp_world.proofs.JoinedMaster.{came_up, asks_follow, tick_follows, master_goes}
 use Rattle.dnp_world.proofs.JoinedPoints.{opened_leaves, ticked_leaves}
-use Rattle.dnp_world.proofs.JoinedSteps.{Beside, after_step, left_behind, plain_step, shows_still, stays_as, moves_before, came_down}
-use Rattle.dnp_world.proofs.JoinedWays.{carries_still, carries_cleared, carries_mute, carries_opened, carries_lost, carries_damaged, carries_delivered, carries_repeated, heard_port}
+use Rattle.dnp_world.proofs.JoinedSteps.{Beside, after_step, left_behind, plain_step, shows_still, stays_as, moves_before, came_down, with_lines}
+use Rattle.dnp_world.proofs.JoinedWays.{carries_still, carries_cleared, carries_mute, carries_opened, carries_lost, carries_damaged, carries_delivered, carries_repeated, heard_port, CarriesOver}
 use Rattle.dnp_world.proofs.OutstationSteps.{moves_after, one_move}
 
 -- ---- the front unit of a line
 
-comes_down : {Sink : Type 0} → Laws → (panel : Panel) → ShowOctets panel → (others : List Row) (s new : LinkState Sink) (l : Link)
-    → Stands l → Joined others s l → ComesDown panel (delivered_on s.down) s new → Follows others [] [] s.outstation.performed l new
-comes_down laws panel shown others s new l stands j h =
-    came_down laws panel shown others s new l (delivered_on s.down) h.port h.given stands j (heard_port _ s.outstation_port h.port [] h.given h.heard)
-    (carries_delivered laws.line s.down s.master_port s.outstation_port h.port s.master.is_open j.going_down h.given h.heard j.down) h.came
+comes_down : {Sink : Type 0} → Laws → (left : LineState → LineState) → CarriesOver left → (panel : Panel) → ShowOctets panel → (others : List Row)
+    (s new : LinkState Sink) (l : Link) → Stands l → Joined others s l → ComesDown panel (left s.down) s new
+    → Follows others [] [] s.outstation.performed l new
+comes_down laws left over panel shown others s new l stands j h =
+    came_down laws panel shown others s new l (left s.down) h.port h.given stands j (heard_port _ s.outstation_port h.port [] h.given h.heard)
+    (over s.down s.master_port s.outstation_port h.port s.master.is_open j.going_down h.given h.heard j.down) h.came
 
-comes_down_again : {Sink : Type 0} → Laws → (panel : Panel) → ShowOctets panel → (others : List Row) (s new : LinkState Sink) (l : Link)
-    → Stands l → Joined others s l → ComesDown panel (repeated_on s.down) s new → Follows others [] [] s.outstation.performed l new
-comes_down_again laws panel shown others s new l stands j h =
-    came_down laws panel shown others s new l (repeated_on s.down) h.port h.given stands j (heard_port _ s.outstation_port h.port [] h.given h.heard)
-    (carries_repeated laws.line s.down s.master_port s.outstation_port h.port s.master.is_open j.going_down h.given h.heard j.down) h.came
-
-comes_up : {Sink : Type 0} → Laws → (takes : Sink → List Row → List Row → List Row → Sink → Type 0) (others : List Row)
-    → (s new : LinkState Sink) (l : Link) → Stands l → Joined others s l
-    → ComesUp takes (delivered_on s.up) s new → Follows others [] [] s.outstation.performed l new
-comes_up laws takes others s new l stands j h =
-    came_up laws takes others s new l (delivered_on s.up) h.port h.given stands j (heard_port _ s.master_port h.port [] h.given h.heard)
-    (carries_delivered laws.line s.up s.outstation_port s.master_port h.port s.outstation.core.is_open (map octets_of l.up) h.given h.heard j.up) h.came
-
-comes_up_again : {Sink : Type 0} → Laws → (takes : Sink → List Row → List Row → List Row → Sink → Type 0) (others : List Row)
-    → (s new : LinkState Sink) (l : Link) → Stands l → Joined others s l
-    → ComesUp takes (repeated_on s.up) s new → Follows others [] [] s.outstation.performed l new
-comes_up_again laws takes others s new l stands j h =
-    came_up laws takes others s new l (repeated_on s.up) h.port h.given stands j (heard_port _ s.master_port h.port [] h.given h.heard)
-    (carries_repeated laws.line s.up s.outstation_port s.master_port h.port s.outstation.core.is_open (map octets_of l.up) h.given h.heard j.up) h.came
-
--- ---- a line carries less, or the moment is another
-
-with_lines : {Sink : Type 0} (others : List Row) (s : LinkState Sink) (l : Link) (down up : LineState) (now : ℕ) (j : Joined others s l)
-    → Carries down s.master_port s.outstation_port s.master.is_open j.going_down
-    → Carries up s.outstation_port s.master_port s.outstation.core.is_open (map octets_of l.up)
-    → Joined others (record s { down = down; up = up; now = now }) l
-with_lines others s l down up now j going_down going_up = record {
-  outstation = j.outstation;
-  master = j.master;
-  number = j.number;
-  going_down = j.going_down;
-  down = going_down;
-  down_is = j.down_is;
-  octets = j.octets;
-  up = going_up;
-  taken = j.taken;
-  released = j.released;
-  left = j.left;
-}
-
--- the sink may be another: the law sees what it took, and no more
-pub with_sink : {Sink : Type 0} (others : List Row) (s : LinkState Sink) (l : Link) (sink : Sink) → Joined others s l → Joined others (record s { sink = sink }) l
-with_sink others s l sink j = record {
-  outstation = j.outstation;
-  master = j.master;
-  number = j.number;
-  going_down = j.going_down;
-  down = j.down;
-  down_is = j.down_is;
-  octets = j.octets;
-  up = j.up;
-  taken = j.taken;
-  released = j.released;
-  left = j.left;
-}
+comes_up : {Sink : Type 0} → Laws → (left : LineState → LineState) → CarriesOver left → (takes : Sink → List Row → List Row → List Row → Sink → Type 0)
+    (others : List Row) (s new : LinkState Sink) (l : Link) → Stands l → Joined others s l → ComesUp takes (left s.up) s new
+    → Follows others [] [] s.outstation.performed l new
+comes_up laws left over takes others s new l stands j h =
+    came_up laws takes others s new l (left s.up) h.port h.given stands j (heard_port _ s.master_port h.port [] h.given h.heard)
+    (over s.up s.outstation_port s.master_port h.port s.outstation.core.is_open (map octets_of l.up) h.given h.heard j.up) h.came
 
 -- ---- the outstation goes
 
@@ -193,30 +145,35 @@ pub event_follows : {Sink : Type 0} → Laws → (takes : Sink → List Row → 
 event_follows laws takes panel shown others s new l event.Open stands j h = opens laws others s new l stands j h
 event_follows laws takes panel shown others s new l (event.HangUp end.Master) stands j h = master_goes laws others s new l j h
 event_follows laws takes panel shown others s new l (event.HangUp end.Outstation) stands j h = hangs_up laws others s new l j h
-event_follows laws takes panel shown others s new l (event.Deliver way.Down) stands j h = comes_down laws panel shown others s new l stands j h
-event_follows laws takes panel shown others s new l (event.Deliver way.Up) stands j h = comes_up laws takes others s new l stands j h
-event_follows laws takes panel shown others s new l (event.Repeat way.Down) stands j h = comes_down_again laws panel shown others s new l stands j h
-event_follows laws takes panel shown others s new l (event.Repeat way.Up) stands j h = comes_up_again laws takes others s new l stands j h
+event_follows laws takes panel shown others s new l (event.Deliver way.Down) stands j h =
+    comes_down laws delivered_on (carries_delivered laws.line) panel shown others s new l stands j h
+event_follows laws takes panel shown others s new l (event.Deliver way.Up) stands j h =
+    comes_up laws delivered_on (carries_delivered laws.line) takes others s new l stands j h
+event_follows laws takes panel shown others s new l (event.Repeat way.Down) stands j h =
+    comes_down laws repeated_on (carries_repeated laws.line) panel shown others s new l stands j h
+event_follows laws takes panel shown others s new l (event.Repeat way.Up) stands j h =
+    comes_up laws repeated_on (carries_repeated laws.line) takes others s new l stands j h
 event_follows {Sink = Sink} laws takes panel shown others s new l (event.Lose way.Down) stands j h =
     stays_as others l new (record s { down = lost_on s.down }) h
-    (with_lines others s l (lost_on s.down) s.up s.now j (carries_lost laws.line s.down s.master_port s.outstation_port s.master.is_open j.going_down j.down) j.up)
+    (with_lines others s l (lost_on s.down) s.up s.outstation_port s.master_port s.now j
+    (carries_lost laws.line s.down s.master_port s.outstation_port s.master.is_open j.going_down j.down) j.up)
 event_follows laws takes panel shown others s new l (event.Lose way.Up) stands j h =
     stays_as others l new (record s { up = lost_on s.up }) h
-    (with_lines others s l s.down (lost_on s.up) s.now j j.down
+    (with_lines others s l s.down (lost_on s.up) s.outstation_port s.master_port s.now j j.down
     (carries_lost laws.line s.up s.outstation_port s.master_port s.outstation.core.is_open (map octets_of l.up) j.up))
 event_follows laws takes panel shown others s new l (event.Damage way.Down octets) stands j h =
     stays_as others l new (record s { down = h.damaged }) h.is
-    (with_lines others s l h.damaged s.up s.now j
+    (with_lines others s l h.damaged s.up s.outstation_port s.master_port s.now j
     (carries_damaged laws.line s.down h.damaged s.master_port s.outstation_port s.master.is_open j.going_down octets.items h.damages j.down) j.up)
 event_follows laws takes panel shown others s new l (event.Damage way.Up octets) stands j h =
     stays_as others l new (record s { up = h.damaged }) h.is
-    (with_lines others s l s.down h.damaged s.now j j.down
+    (with_lines others s l s.down h.damaged s.outstation_port s.master_port s.now j j.down
     (carries_damaged laws.line s.up h.damaged s.outstation_port s.master_port s.outstation.core.is_open (map octets_of l.up) octets.items h.damages j.up))
 event_follows laws takes panel shown others s new l (event.Change kind index reading) stands j h =
     subst (λ rows. Follows others (arriving rows) [] s.outstation.performed l new) (sym (append-nil _)) (change_follows laws others s new l kind index reading stands j h)
 event_follows laws takes panel shown others s new l (event.Ask task) stands j h = asks_follow laws others s new l task j h
 event_follows laws takes panel shown others s new l (event.Pass ms) stands j h =
-    stays_as others l new _ h (with_lines others s l s.down s.up _ j j.down j.up)
+    stays_as others l new _ h (with_lines others s l s.down s.up s.outstation_port s.master_port _ j j.down j.up)
 event_follows laws takes panel shown others s new l (event.Tick end.Master) stands j h = tick_follows laws others s new l j h
 event_follows laws takes panel shown others s new l (event.Tick end.Outstation) stands j h =
     plain_step laws.line others s new l (tick_of s.outstation s.now) (ticked_leaves s.outstation s.now).none (laws.outstation.silent_ticked s.outstation s.now) j

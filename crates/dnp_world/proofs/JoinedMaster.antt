@@ -30,7 +30,7 @@ use Rattle.dnp_world.specs.Standing.{Stands}
 use Rattle.dnp_world.proofs.AskedCommands.{own_asks_none}
 use Rattle.dnp_world.proofs.JoinedLaws.{Laws}
 use Rattle.dnp_world.proofs.JoinedOctets.{AreOctets, confirms_octets, asked_octets}
-use Rattle.dnp_world.proofs.JoinedSteps.{shows_still, stays_as, moves_before}
+use Rattle.dnp_world.proofs.JoinedSteps.{shows_still, stays_as, moves_before, with_lines}
 use Rattle.dnp_world.proofs.JoinedWays.{LineLaws, Came, IsSamePort, carries_still, carries_sent, carries_cleared, carries_mute, back_all_sent, back_came}
 use Rattle.dnp_world.proofs.OutstationSteps.{one_move}
 
@@ -142,19 +142,8 @@ came_up {Sink = Sink} laws takes others s new l line port given stands j same ca
     by : MayGive (map octets_of l.up) [] came.left given → Follows others [] [] s.outstation.performed l new
     by (Nothing left_is none) =
         stays_as others l new base (subst (λ (fs : List (List ℕ)). ComeUp takes fs base new) none h)
-        (record {
-          outstation = j.outstation;
-          master = j.master;
-          number = j.number;
-          going_down = j.going_down;
-          down = down;
-          down_is = j.down_is;
-          octets = j.octets;
-          up = subst (λ (fs : List (List ℕ)). Carries line s.outstation_port port s.outstation.core.is_open fs) left_is came.carries;
-          taken = j.taken;
-          released = j.released;
-          left = j.left;
-        })
+        (with_lines others s l s.down line s.outstation_port port s.now j down
+        (subst (λ (fs : List (List ℕ)). Carries line s.outstation_port port s.outstation.core.is_open fs) left_is came.carries))
     by (One n fragment at left_is one) =
         let first : Link = lost_up n l in
         let lose : Move l first = LoseUp n refl in

@@ -30,10 +30,10 @@ use Rattle.dnp_world.specs.Lanes.{fresh_link}
 use Rattle.dnp_world.specs.OneLinkEvents.{LinkState, HappensOn, RunsTo, CountsFor, StopsAt, StopsAfter}
 use Rattle.dnp_world.specs.OutstationSeen.{octets_of, ShowOctets, Shows, Simulates}
 use Rattle.dnp_world.specs.Standing.{Stands}
-use Rattle.dnp_world.proofs.JoinedEvents.{event_follows, with_sink}
+use Rattle.dnp_world.proofs.JoinedEvents.{event_follows}
 use Rattle.dnp_world.proofs.JoinedHappenings.{made_behind, event_points}
 use Rattle.dnp_world.proofs.JoinedLaws.{Laws}
-use Rattle.dnp_world.proofs.JoinedSteps.{left_behind, stays_as}
+use Rattle.dnp_world.proofs.JoinedSteps.{left_behind, stays_as, with_lists}
 use Rattle.dnp_world.proofs.Keeping.{moves_stand}
 use Rattle.dnp_world.proofs.OutstationSteps.{moves_after}
 
@@ -106,7 +106,8 @@ pub stop_follows : {Sink : Type 0} → Laws → (takes : Sink → List Row → L
     (e : LinkEvent) → Stands l → Joined others s l → StopsAt takes keeps s e new
     → Follows others [] [] s.outstation.performed l new
 stop_follows laws takes keeps others s new l e stands j h =
-    counts_follows laws takes others (record s { sink = h.sink }) new l e stands (with_sink others s l h.sink j) h.counts
+    counts_follows laws takes others (record s { sink = h.sink }) new l e stands
+    (with_lists others others s l h.sink s.now s.taken s.released s.left j j.taken j.released j.left) h.counts
 
 pub stopped_follows : {Sink : Type 0} → Laws → (takes : Sink → List Row → List Row → List Row → Sink → Type 0)
     → (keeps : Sink → Sink → Type 0) (others : List Row) (s new : LinkState Sink) (l : Link)
@@ -159,21 +160,11 @@ append_follows others s l rows j sim =
 
 -- what left for others may be listed with the rest
 pub listed : {Sink : Type 0} (others dropped : List Row) (s : LinkState Sink) (l : Link) → Joined (others ++ dropped) s l → Joined others (record s { left = s.left ++ dropped }) l
-listed others dropped s l j = record {
-  outstation = j.outstation;
-  master = j.master;
-  number = j.number;
-  going_down = j.going_down;
-  down = j.down;
-  down_is = j.down_is;
-  octets = j.octets;
-  up = j.up;
-  taken = j.taken;
-  released = j.released;
-  left = IsPermutation-trans (map buffered_row l.left) (s.left ++ (others ++ dropped)) ((s.left ++ dropped) ++ others) j.left
-      (subst (λ (xs : List Row). IsPermutation xs ((s.left ++ dropped) ++ others)) (append_assoc s.left others dropped)
-      (left_behind (s.left ++ others) s.left others dropped (IsPermutation-refl (s.left ++ others))));
-}
+listed others dropped s l j =
+    with_lists (others ++ dropped) others s l s.sink s.now s.taken s.released (s.left ++ dropped) j j.taken j.released
+    (IsPermutation-trans (map buffered_row l.left) (s.left ++ (others ++ dropped)) ((s.left ++ dropped) ++ others) j.left
+    (subst (λ (xs : List Row). IsPermutation xs ((s.left ++ dropped) ++ others)) (append_assoc s.left others dropped)
+    (left_behind (s.left ++ others) s.left others dropped (IsPermutation-refl (s.left ++ others)))))
 
 -- ---- a new link
 

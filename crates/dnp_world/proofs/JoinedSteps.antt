@@ -43,9 +43,9 @@ pub record Beside {Sink : Type 0} (others listed : List Row) (s : LinkState Sink
   pub released : map buffered_row l.released ≡ s.released
   pub left : IsPermutation (map buffered_row l.left) (listed ++ others)
 
-pub beside_of : {Sink : Type 0} (others : List Row) (s : LinkState Sink) (l : Link) → Joined others s l
-    → Beside others s.left s s.outstation.core.is_open l
-beside_of others s l j = record {
+pub beside_of : {Sink : Type 0} (others left : List Row) (s : LinkState Sink) (l : Link) → Joined others s l
+    → Beside others s.left (record s { left = left }) s.outstation.core.is_open l
+beside_of others left s l j = record {
   master = j.master;
   number = j.number;
   going_down = j.going_down;
@@ -56,6 +56,46 @@ beside_of others s l j = record {
   taken = j.taken;
   released = j.released;
   left = j.left;
+}
+
+-- ---- what isn't of the stations changes
+
+-- a line or a port, or the moment
+pub with_lines : {Sink : Type 0} (others : List Row) (s : LinkState Sink) (l : Link) (down up : LineState) (outstation_port master_port : PortState)
+    (now : ℕ) (j : Joined others s l) → Carries down master_port outstation_port s.master.is_open j.going_down
+    → Carries up outstation_port master_port s.outstation.core.is_open (map octets_of l.up)
+    → Joined others (record s { down = down; up = up; outstation_port = outstation_port; master_port = master_port; now = now }) l
+with_lines others s l down up outstation_port master_port now j going_down going_up = record {
+  outstation = j.outstation;
+  master = j.master;
+  number = j.number;
+  going_down = j.going_down;
+  down = going_down;
+  down_is = j.down_is;
+  octets = j.octets;
+  up = going_up;
+  taken = j.taken;
+  released = j.released;
+  left = j.left;
+}
+
+-- the sink, of which the law sees what it took and no more, the moment, or how the rows are listed
+pub with_lists : {Sink : Type 0} (others listed : List Row) (s : LinkState Sink) (l : Link) (sink : Sink) (now : ℕ) (taken released left : List Row)
+    → Joined others s l → IsPermutation taken (map buffered_row l.took) → map buffered_row l.released ≡ released
+    → IsPermutation (map buffered_row l.left) (left ++ listed)
+    → Joined listed (record s { sink = sink; now = now; taken = taken; released = released; left = left }) l
+with_lists others listed s l sink now taken released left j is_taken is_released is_left = record {
+  outstation = j.outstation;
+  master = j.master;
+  number = j.number;
+  going_down = j.going_down;
+  down = j.down;
+  down_is = j.down_is;
+  octets = j.octets;
+  up = j.up;
+  taken = is_taken;
+  released = is_released;
+  left = is_left;
 }
 
 -- a link with the same outstation and lanes
@@ -177,7 +217,7 @@ plain_step line others s new l step none quiet j sim steps =
     after_step line others s.left [] s new s.outstation.core.is_open l step
     (sym (append-nil s.left) ∙ ap (λ (xs : List Row). s.left ++ xs) (sym none))
     (λ closed. still_sends s.outstation step (quiet closed)) (λ closed. still_closed s.outstation step (quiet closed) closed)
-    (beside_of others s l j) sim steps
+    (beside_of others s.left s l j) sim steps
 
 -- what the port gives comes to the outstation
 come_down : {Sink : Type 0} → Laws → (panel : Panel) → ShowOctets panel → (others : List Row) (s new : LinkState Sink) (l : Link)
@@ -206,19 +246,8 @@ came_down {Sink = Sink} laws panel shown others s new l line port given stands j
     by : MayGive j.going_down [] came.left given → Follows others [] [] s.outstation.performed l new
     by (Nothing left_is none) =
         stays_as others l new base (subst (λ (fs : List (List ℕ)). ComeDown panel fs base new) none h)
-        (record {
-          outstation = j.outstation;
-          master = j.master;
-          number = j.number;
-          going_down = j.going_down;
-          down = subst (λ (fs : List (List ℕ)). Carries line s.master_port port s.master.is_open fs) left_is came.carries;
-          down_is = j.down_is;
-          octets = j.octets;
-          up = up;
-          taken = j.taken;
-          released = j.released;
-          left = j.left;
-        })
+        (with_lines others s l line s.up port s.master_port s.now j
+        (subst (λ (fs : List (List ℕ)). Carries line s.master_port port s.master.is_open fs) left_is came.carries) up)
     by (One n fragment at left_is one) =
         let first : Link = lost_down n l in
         let there : drop n j.going_down ≡ fragment ∷ drop (suc n) j.going_down = left_at n j.going_down fragment at in

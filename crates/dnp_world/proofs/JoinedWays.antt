@@ -8,7 +8,7 @@ use Rattle.dnp_transport.specs.Cuts.{cut_count}
 use Rattle.dnp_line.specs.Flows.{AreFacing, Flows, MayGive, Nothing, One, RestMoves}
 use Rattle.dnp_line.specs.Lines.{LineState, front_of, delivered_on, repeated_on, lost_on, cleared_on, Damages}
 use Rattle.dnp_line.specs.Ports.{PortState, moved_on, reset_of}
-use Rattle.dnp_line.specs.Ways.{Way, WayEvent, Send, Deliver, Repeat, Lose, Damage, Clear, SenderReset, WayBack, Happens, opened_on, AFrame, NoFrame, HearsIfAny, all_sent_on}
+use Rattle.dnp_line.specs.Ways.{Way, WayEvent, Send, Deliver, Repeat, Lose, Damage, Clear, SenderReset, WayBack, Happens, Brings, opened_on, AFrame, NoFrame, HearsIfAny, all_sent_on}
 use Rattle.dnp_world.specs.Joined.{Carries}
 use Rattle.dnp_world.specs.OneLinkEvents.{IsSent, AreSent}
 
@@ -159,41 +159,34 @@ pub record Came (line : LineState) (sender receiver : PortState) (is_open : Bool
   pub gives : MayGive rest [] left given
   pub carries : Carries line sender receiver is_open left
 
-pub carries_delivered : LineLaws → (line : LineState) (sender receiver receiver' : PortState) (is_open : Bool) (rest given : List (List ℕ))
+-- the front unit comes to the receiver, and the line is left so
+abbrev pub CarriesOver : (LineState → LineState) → Type 0
+CarriesOver left = (line : LineState) (sender receiver receiver' : PortState) (is_open : Bool) (rest given : List (List ℕ))
     → HearsIfAny (front_of line) receiver receiver' [] given
-    → Carries line sender receiver is_open rest → Came (delivered_on line) sender receiver' is_open rest given
-carries_delivered laws line sender receiver receiver' is_open rest given heard c =
+    → Carries line sender receiver is_open rest → Came (left line) sender receiver' is_open rest given
+
+carries_over : LineLaws → (event : WayEvent) (left : LineState → LineState) → ((old new : Way) → Brings (left old.line) old new → Happens old event new)
+    → ((old new : Way) (rest after : List (List ℕ)) → RestMoves old event new rest after → MayGive rest old.given after new.given) → CarriesOver left
+carries_over laws event left brings gives line sender receiver receiver' is_open rest given heard c =
     let old : Way = way_of line sender receiver c.mute c.sent c.given in
-    let new : Way = way_of (delivered_on line) sender receiver' c.mute c.sent (c.given ++ given) in
-    let h = laws.kept old new Deliver rest c.flows (record {
+    let new : Way = way_of (left line) sender receiver' c.mute c.sent (c.given ++ given) in
+    let h = laws.kept old new event rest c.flows (brings old new (record {
       receiver = receiver';
       given = c.given ++ given;
       heard = heard_behind (front_of line) receiver receiver' c.given given heard;
       after = refl;
-    }) in
+    })) in
     record {
       left = h.0;
-      gives = gives_anew rest c.given h.0 given h.1;
+      gives = gives_anew rest c.given h.0 given (gives old new rest h.0 h.1);
       carries = record { mute = c.mute; sent = c.sent; given = c.given ++ given; flows = h.2; silent = c.silent };
     }
 
-pub carries_repeated : LineLaws → (line : LineState) (sender receiver receiver' : PortState) (is_open : Bool) (rest given : List (List ℕ))
-    → HearsIfAny (front_of line) receiver receiver' [] given
-    → Carries line sender receiver is_open rest → Came (repeated_on line) sender receiver' is_open rest given
-carries_repeated laws line sender receiver receiver' is_open rest given heard c =
-    let old : Way = way_of line sender receiver c.mute c.sent c.given in
-    let new : Way = way_of (repeated_on line) sender receiver' c.mute c.sent (c.given ++ given) in
-    let h = laws.kept old new Repeat rest c.flows (record {
-      receiver = receiver';
-      given = c.given ++ given;
-      heard = heard_behind (front_of line) receiver receiver' c.given given heard;
-      after = refl;
-    }) in
-    record {
-      left = h.0;
-      gives = gives_anew rest c.given h.0 given h.1;
-      carries = record { mute = c.mute; sent = c.sent; given = c.given ++ given; flows = h.2; silent = c.silent };
-    }
+pub carries_delivered : LineLaws → CarriesOver delivered_on
+carries_delivered laws = carries_over laws Deliver delivered_on (λ old new b. b) (λ old new rest after m. m)
+
+pub carries_repeated : LineLaws → CarriesOver repeated_on
+carries_repeated laws = carries_over laws Repeat repeated_on (λ old new b. b) (λ old new rest after m. m)
 
 -- ---- fragments are sent
 
