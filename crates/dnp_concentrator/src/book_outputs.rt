@@ -97,6 +97,7 @@ impl<B: Book> BookOutputs<B> {
         ensures added { IsWell B.honest B.is_stopped self.new → OnOk result (B.contents (book_in self.new) ≡ added_for (B.contents (book_in self.old)) (command_below (map_in self.old) command.now)) }
         ensures not_exhausted { IsWell B.honest B.is_stopped self.new → IsSome (command_below (map_in self.old) command.now) → OnOk result ((B.contents (book_in self.old)).last_id < MAX_ID) }
         ensures exhausted { IsWell B.honest B.is_stopped self.new → IfErr result (λ e. e ≡ StoreFault.Exhausted → MAX_ID ≤ (B.contents (book_in self.old)).last_id) }
+        ensures exhausted_first { IsWell B.honest B.is_stopped self.new → IfErr result (λ e. e ≡ StoreFault.Memory → (B.contents (book_in self.old)).last_id < MAX_ID) }
     {
         if let Some((station, below)) = self.map.command_below(command) {
             if let Err(fault) = self.book.add(alloc, station, &below) {

@@ -46,7 +46,8 @@ impl Gathering {
     /// may come: where there is no room left, it is taken for all of them at once.
     #[inline(always)]
     fn put(&mut self, row: &Row, expected: usize)
-        ensures { Gathers self.old (row.now ∷ []) self.new }
+        ensures gathered { Gathers self.old (row.now ∷ []) self.new }
+        ensures room { vec_len self.old.rows < vec_capacity self.old.rows → self.new.is_cut ≡ self.old.is_cut }
     {
         if self.rows.len() == self.rows.capacity() && !self.take_room(expected) {
             return;

@@ -31,6 +31,7 @@ fn give<S: Sink>(
     ensures not_exhausted { 0 < length events.now + length statics.now → S.honest sink.new
         → OnOk result (S.exhausts sink.old events.now ≡ false) }
     ensures exhausted { S.honest sink.new → IfErr result (λ e. e ≡ MasterFault.Exhausted → IsTrue (S.exhausts sink.old events.now)) }
+    ensures exhausted_first { S.honest sink.new → IfErr result (λ e. e ≡ MasterFault.Memory → S.exhausts sink.old events.now ≡ false) }
     ensures named { IfErr result IsSinkFault }
 {
     if events.is_empty() && statics.is_empty() {

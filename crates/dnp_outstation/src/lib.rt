@@ -24,6 +24,7 @@ mod moments;
 mod offer;
 mod outstation;
 mod outstation_core;
+pub mod poll_laws;
 mod receive;
 mod released;
 mod request;

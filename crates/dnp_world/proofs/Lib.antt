@@ -107,12 +107,6 @@ mod ArrivingTakes
 mod Arriving
 mod ArrivingApart
 mod Opening
-mod PolledItems
-mod PolledLayout
-mod PolledOrder
-mod PolledNone
-mod PolledAnswer
-mod PolledConfirm
 mod PolledTaken
 mod Settling
 mod RoundSteps

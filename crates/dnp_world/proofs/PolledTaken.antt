@@ -1,5 +1,5 @@
 -- What a master that asked a READ of classes 1, 2 and 3 makes of what is offered.
-use Rattle.std.proofs.Common.{◌≡◌, Bool, true, false, not, ◌==◌, if◌then◌else◌, refl, sym, ap, ◌∙◌, subst, ℕ, List, [], ◌∷◌, map, Option, None, Some, is_none, is_some, Result, Ok, Err, eq-eqb, arith}
+use Rattle.std.proofs.Common.{◌≡◌, Bool, true, false, not, ◌==◌, if◌then◌else◌, refl, sym, ap, ◌∙◌, subst, ℕ, ◌≤◌, List, [], ◌∷◌, length, Option, None, Some, is_none, is_some, Result, Ok, Err, eq-eqb, arith}
 use Rattle.std.specs.List.{All, list_all}
 use Rattle.std.proofs.lemmas.Bool.{and_from, and_parts}
 use Rattle.std.proofs.lemmas.List.Elements.{All-head, All-tail}
@@ -19,19 +19,20 @@ use Rattle.dnp_master.specs.declared.fault.AskFault.TheVariants.{Busy, Closed}
 use Rattle.dnp_master.specs.declared.outcome.Echo.TheVariants.{Nothing}
 use Rattle.dnp_master.specs.declared.request.OpenRequest.{OpenRequest}
 use Rattle.dnp_objects.specs.declared.row.Row.{Row}
-use Rattle.dnp_outstation.specs.Layout.{Laid, item_of, fits_fragment, headers_of}
-use Rattle.dnp_outstation.specs.Said.{CanGo, HaveIndexes}
-use Rattle.dnp_outstation.specs.Said as said
+use Rattle.dnp_outstation.specs.Items.{enabled_lanes, lane_items}
+use Rattle.dnp_outstation.specs.Layout.{headers_of}
+use Rattle.dnp_outstation.specs.Offer.{held_laid}
+use Rattle.dnp_outstation.specs.Polled.{Offers, confirm_octets, poll_octets, polled_held, polled_rows, reported}
+use Rattle.dnp_outstation.specs.Said.{HaveIndexes}
 use Rattle.dnp_outstation.specs.State as outstation
-use Rattle.dnp_outstation.proofs.ItemsOf.{pushed_stand}
-use Rattle.dnp_outstation.proofs.Reported.{held_fits}
 use Rattle.dnp_pointdb.specs.Plan.{Plan}
-use Rattle.dnp_world.specs.Polled.{Offers, Takes, confirm_octets, poll_octets, polled_held, polled_items, polled_rows}
+use Rattle.dnp_world.specs.Polled.{Takes}
 use Rattle.dnp_world.specs.Rounds.{events_polled}
 
--- what the crate of outstations promises of items that can be written
-abbrev pub RowsAreSaid : Type 0
-RowsAreSaid = (held : List Laid) → All CanGo held → fits_fragment held ≡ true → events_in (headers_of held) ≡ said.events_in (map item_of held)
+-- what the crate of outstations promises of a fragment of some classes
+abbrev pub SaidLaw : Type 0
+SaidLaw = (s : Stock) (enabled : List Bool) → IsSound s → length enabled ≤ 3 → HaveIndexes s
+    → events_in (headers_of (held_laid (lane_items s (enabled_lanes 0 enabled)))) ≡ (reported s enabled).rows
 
 -- ---- asking
 
@@ -51,9 +52,8 @@ polled_by m now idle = ap (asked_by m now events_polled) (asks_polled m idle)
 
 -- ---- the rows of the fragment
 
-pub rows_are : RowsAreSaid → (s : Stock) → IsSound s → HaveIndexes s → events_in (headers_of (polled_held s)) ≡ polled_rows s
-rows_are law s sound indexes =
-    law (polled_held s) (pushed_stand s (true ∷ true ∷ true ∷ []) sound (omega arith) indexes) (held_fits (polled_items s))
+rows_are : SaidLaw → (s : Stock) → IsSound s → HaveIndexes s → events_in (headers_of (polled_held s)) ≡ polled_rows s
+rows_are law s sound indexes = law s (true ∷ true ∷ true ∷ []) sound (omega arith) indexes
 
 all_pass : {A : Type 0} (p : A → Bool) (xs : List A) → All (λ x. p x ≡ true) xs → list_all p xs ≡ true
 all_pass p [] all = refl
@@ -125,7 +125,7 @@ module _ (m : State) (before now : ℕ) (opens : m.is_open ≡ true) (fragment :
       confirm_by true = refl
       confirm_by false = refl
 
-pub takes_polled : RowsAreSaid → (m : State) (before now : ℕ) (s : outstation.State) (step : outstation.Step) → is_idle m ≡ true → IsSound s.lanes
+pub takes_polled : SaidLaw → (m : State) (before now : ℕ) (s : outstation.State) (step : outstation.Step) → is_idle m ≡ true → IsSound s.lanes
     → HaveIndexes s.lanes → (offer : Offers m.seq s step) → All (λ row. is_reported m.plan row ≡ true) (polled_rows s.lanes)
     → Takes m.seq (polled_rows s.lanes) offer.con (receive_of (asked m before events_polled) now offer.fragment)
 takes_polled law m before now s step idle sound indexes offer planned =

@@ -9,7 +9,6 @@ use Rattle.dnp_appfragment.specs.Fragments.{Answered, confirmation, request_octe
 use Rattle.dnp_appfragment.specs.Meaning.{response_at}
 use Rattle.dnp_appfragment.specs.Table.{function_octet, is_response}
 use Rattle.dnp_appfragment.specs.declared.function.Function.TheVariants as function
-use Rattle.dnp_appfragment.proofs.Controls.{octet_of_control}
 use Rattle.dnp_controls.specs.Panel.{Panel}
 use Rattle.dnp_controls.specs.Selecting.{deadline}
 use Rattle.dnp_eventbuf.specs.Sound.{IsSound}
@@ -29,6 +28,7 @@ use Rattle.dnp_outstation.specs.Layout.{headers_of}
 use Rattle.dnp_outstation.specs.Links.{IsInOrder}
 use Rattle.dnp_outstation.specs.Links as links
 use Rattle.dnp_outstation.specs.Offer.{held_laid, offered_of, pushed}
+use Rattle.dnp_outstation.specs.Polled.{Portion, no_rows, poll_octets, reported}
 use Rattle.dnp_outstation.specs.Said.{HaveIndexes}
 use Rattle.dnp_outstation.specs.State.{Core, State, Step, is_free, still}
 use Rattle.dnp_outstation.specs.declared.case.Case.{Case}
@@ -37,19 +37,21 @@ use Rattle.dnp_outstation.specs.declared.session.LastRequest.{LastRequest}
 use Rattle.dnp_outstation.specs.declared.session.Reply.{Reply}
 use Rattle.dnp_outstation.specs.declared.session.Reply.TheVariants.{Further}
 use Rattle.dnp_outstation.specs.declared.session.Unsolicited.{Unsolicited}
-use Rattle.dnp_outstation.proofs.ItemsOf.{pushed_stand}
-use Rattle.dnp_outstation.proofs.Reported.{held_fits}
 use Rattle.dnp_world.specs.Movement.{first_reported}
-use Rattle.dnp_world.specs.Polled.{Portion, no_rows, poll_octets, reported}
 use Rattle.dnp_world.specs.Rounds.{events_polled}
-use Rattle.dnp_world.proofs.PolledAnswer.{looked_at, quiet_parts}
-use Rattle.dnp_world.proofs.PolledOrder.{reported_released}
-use Rattle.dnp_world.proofs.PolledTaken.{RowsAreSaid, from_plan, polled_by}
-use Rattle.dnp_world.proofs.RoundExchange.{Answer, AreFit, Exchange, Exchanges, Frees, Passes, master_after, polled_step}
+use Rattle.dnp_world.proofs.PolledTaken.{SaidLaw, from_plan, polled_by}
+use Rattle.dnp_world.proofs.RoundExchange.{AgainLaw, Answer, AreFit, Exchange, Exchanges, Frees, Passes, ReleaseLaw, master_after, polled_step}
+
+abbrev report_confirm : ℕ → List ℕ
+report_confirm seq = request_octets (confirmation seq true)
 
 -- what lower crates promise of unsolicited responses
 pub record ReportLaws : Type 0 where
-  pub rows : RowsAreSaid
+  pub again : AgainLaw
+  pub said : SaidLaw
+  pub released : ReleaseLaw
+  pub confirmed : (c : Core) (seq : ℕ) (w : Unsolicited) → seq < 16 → c.is_open ≡ true → c.session.unsolicited ≡ Some w → w.seq ≡ seq
+      → case_of c (report_confirm seq) ≡ ConfirmsUnsolicited
   pub read : (answered : Answered) (s : Stock) (enabled : List Bool) → answered.headers ≡ (pushed s enabled).headers → IsControl answered.control
       → is_response answered.function ≡ true → IsSound s → length enabled ≤ 3 → HaveIndexes s → response_at (response_octets answered) ≡ Ok answered
   pub releases : (s : State) (o : Panel) (now : ℕ) (octets : List ℕ) (w : Unsolicited) → case_of s.core octets ≡ ConfirmsUnsolicited
@@ -60,24 +62,17 @@ pub record ReportLaws : Type 0 where
 
 -- ---- the last request again, after its first fragment
 
-pub comes_again : (c : Core) (seq : ℕ) → seq < 16 → c.is_open ≡ true → is_last_request c.session (poll_octets seq) ≡ true → case_of c (poll_octets seq) ≡ Again
-comes_again c seq low opens again =
-    let octets : List ℕ = poll_octets seq in
-    let by_wait : Bool → Case = λ b. if b then Waits else Asks in
-    let by_last : Bool → Case = λ b. if b then Again else by_wait (is_some c.session.unsolicited) in
-    ap (λ (b : Bool). if not b then PassedOver else by_last (is_last_request c.session octets)) (looked_at c seq low opens) ∙ ap by_last again
-
 -- the response went past its first fragment
 pub record WentOn (s : State) : Type 0 where
   pub last : LastRequest
   pub is : s.core.session.last ≡ Some last
   pub further : last.reply ≡ Further
 
-passed_over : (s : State) (o : Panel) (now seq : ℕ) → seq < 16 → s.core.is_open ≡ true → is_last_request s.core.session (poll_octets seq) ≡ true
+passed_over : AgainLaw → (s : State) (o : Panel) (now seq : ℕ) → seq < 16 → s.core.is_open ≡ true → is_last_request s.core.session (poll_octets seq) ≡ true
     → WentOn s → polled_step s o now seq ≡ at_end now (still s)
-passed_over s o now seq low opens again went =
+passed_over law s o now seq low opens again went =
     let octets : List ℕ = poll_octets seq in
-    ap (received s o now octets) (comes_again s.core seq low opens again)
+    ap (received s o now octets) (law s.core seq low opens again)
     ∙ ap (λ (last : Option LastRequest). at_end now (with_that s last (on_again s now octets))) went.is
     ∙ ap (λ (reply : Reply). at_end now (on_again s now octets (record { reply = reply; stood = went.last.stood; left = went.last.left }))) went.further
 
@@ -85,29 +80,6 @@ passed_over s o now seq low opens again went =
 
 abbrev report_control : ℕ → ControlBits
 report_control seq = record { fir = true; fin = true; con = true; uns = true; seq = seq }
-
-abbrev confirm_control : ℕ → ControlBits
-confirm_control seq = record { fir = true; fin = true; con = false; uns = true; seq = seq }
-
-abbrev report_confirm : ℕ → List ℕ
-report_confirm seq = request_octets (confirmation seq true)
-
-confirm_is : (seq : ℕ) → seq < 16 → control_in (report_confirm seq) ≡ confirm_control seq
-confirm_is seq low = octet_of_control (confirm_control seq) low
-
-confirms : (c : Core) (seq : ℕ) (w : Unsolicited) → seq < 16 → c.is_open ≡ true → c.session.unsolicited ≡ Some w → w.seq ≡ seq
-    → case_of c (report_confirm seq) ≡ ConfirmsUnsolicited
-confirms c seq w low opens waits same =
-    let octets : List ℕ = report_confirm seq in
-    let bits : ControlBits → Bool = λ k. (k.fir && k.fin) && (nat_lt (function_in octets) 129 && (not k.uns || function_in octets == 0)) in
-    let by_number : ControlBits → Case = λ k.
-    if is_number (awaited_number c.session k.uns) k.seq then if k.uns then ConfirmsUnsolicited else Confirms else Stray in
-    ap (λ (b : Bool). if not ((b && (nat_le 2 (length octets) && nat_le (length octets) MAX_FRAGMENT)) && bits (control_in octets)) then PassedOver
-    else by_number (control_in octets)) opens
-    ∙ ap (λ (k : ControlBits). if not ((true && (nat_le 2 (length octets) && nat_le (length octets) MAX_FRAGMENT)) && bits k) then PassedOver
-    else by_number k) (confirm_is seq low)
-    ∙ ap (λ (o : Option Unsolicited). if is_number (option_map (λ x. x.seq) o) seq then ConfirmsUnsolicited else Stray) waits
-    ∙ ap (λ (b : Bool). if b then ConfirmsUnsolicited else Stray) (eq-eqb w.seq seq same)
 
 -- what an unsolicited response of these classes is made of
 pushed_headers : (s : Stock) (enabled : List Bool) → (pushed s enabled).headers ≡ headers_of (held_laid (lane_items s (enabled_lanes 0 enabled)))
@@ -122,6 +94,9 @@ module _ (laws : ReportLaws) (m : master.State) (now : ℕ) (s : State) (o : Pan
     (asked_for : All (λ row. is_reported m.plan row ≡ true) (reported s.lanes s.core.enabled).rows) where
   abbrev enabled : List Bool
   enabled = s.core.enabled
+
+  opens : s.core.is_open ≡ true
+  opens = (and_parts s.core.is_open (is_free s.core) fit.quiet).0
 
   abbrev content : Content
   content = content_from (pushed s.lanes enabled)
@@ -148,9 +123,7 @@ module _ (laws : ReportLaws) (m : master.State) (now : ℕ) (s : State) (o : Pan
 
   rows_are : events_in said.headers ≡ (reported s.lanes enabled).rows
   rows_are =
-      let items : List Item = lane_items s.lanes (enabled_lanes 0 enabled) in
-      ap events_in (pushed_headers s.lanes enabled)
-      ∙ laws.rows (held_laid items) (pushed_stand s.lanes enabled fit.sound order.classes fit.indexes) (held_fits items)
+      ap events_in (pushed_headers s.lanes enabled) ∙ laws.said s.lanes enabled fit.sound order.classes fit.indexes
 
   abbrev taken : Taking
   taken = report_taken (asking m now events_polled) said
@@ -171,10 +144,10 @@ module _ (laws : ReportLaws) (m : master.State) (now : ℕ) (s : State) (o : Pan
   freed performed p =
       let after : State = record { core = started.state.core; lanes = started.state.lanes; performed = performed } in
       let r = laws.releases after p now (report_confirm next) waits
-      (confirms after.core next waits order.number (quiet_parts s.core fit.quiet).is_open refl refl) refl in
+      (laws.confirmed after.core next waits order.number opens refl refl) refl in
       record {
         lanes = r.lanes ∙ ap (without s.lanes) (pushed_ids s.lanes enabled);
-        discarded = r.discarded ∙ ap (all_up_to s.lanes) (pushed_ids s.lanes enabled) ∙ reported_released s.lanes enabled fit.sound order.classes;
+        discarded = r.discarded ∙ ap (all_up_to s.lanes) (pushed_ids s.lanes enabled) ∙ laws.released s.lanes enabled fit.sound order.classes;
         performed_is = laws.only after p now (report_confirm next) (λ e. cc) (λ e. cc) (λ e. cc);
       }
 
@@ -185,7 +158,7 @@ module _ (laws : ReportLaws) (m : master.State) (now : ℕ) (s : State) (o : Pan
     discarded = ap (λ (x : Step). x.does.discarded) is;
     lanes = ap (λ (x : Step). x.state.lanes) is;
     performed = ap (λ (x : Step). x.state.performed) is;
-    released = reported_released s.lanes enabled fit.sound order.classes;
+    released = laws.released s.lanes enabled fit.sound order.classes;
     taken = taken;
     is_taken = taken_is;
     events = rows_are;
@@ -220,4 +193,4 @@ module _ (laws : ReportLaws) (m : master.State) (now : ℕ) (s : State) (o : Pan
   by_end false is = record { answer = Passes is refl; busy = ap (λ (a : master.State). is_some a.request) (polled_by m now fit.idle) }
 
   pub repeated : is_last_request s.core.session (poll_octets m.seq) ≡ true → WentOn s → Repeated (first_reported s)
-  repeated again went = by_end starts_report (passed_over s o now m.seq fit.seq (quiet_parts s.core fit.quiet).is_open again went)
+  repeated again went = by_end starts_report (passed_over laws.again s o now m.seq fit.seq opens again went)

@@ -4,6 +4,7 @@ use Rattle.std.proofs.lemmas.Bool.{and_parts}
 use Rattle.dnp_master.specs.State as master
 use Rattle.dnp_outstation.specs.Connection.{case_of, is_last_request}
 use Rattle.dnp_outstation.specs.Links.{CaseSays, ComesAgain}
+use Rattle.dnp_outstation.specs.Polled.{poll_octets}
 use Rattle.dnp_outstation.specs.State.{Core, State}
 use Rattle.dnp_outstation.specs.declared.case.Case.{Case}
 use Rattle.dnp_outstation.specs.declared.session.LastRequest.{LastRequest}
@@ -14,9 +15,9 @@ use Rattle.dnp_world.specs.Link.{Continuing, Fragment, Idle, Link, Master, Outst
 use Rattle.dnp_world.specs.MasterSeen.{master_of}
 use Rattle.dnp_world.specs.Octets.{after, seq_in}
 use Rattle.dnp_world.specs.OutstationSeen.{Shows, last_seen, reply_seen}
-use Rattle.dnp_world.specs.Polled.{poll_octets}
 use Rattle.dnp_world.specs.Standing.{Agrees, IsReply, Stands}
-use Rattle.dnp_world.proofs.RepeatedPoll.{WentOn, comes_again}
+use Rattle.dnp_world.proofs.RepeatedPoll.{WentOn}
+use Rattle.dnp_world.proofs.RoundExchange.{AgainLaw}
 
 -- what the crate of outstations promises of each case
 abbrev pub CaseLaw : Type 0
@@ -56,11 +57,11 @@ some_last : (o : Option LastRequest) → IsSome o → (last : LastRequest) × (o
 some_last None h = absurd (search (rules, h))
 some_last (Some last) h = (last, refl)
 
-pub went_on : CaseLaw → (s : State) (m : master.State) (l : Link) → Shows s l → l.master ≡ master_of m → Stands l → s.core.is_open ≡ true
+pub went_on : AgainLaw → CaseLaw → (s : State) (m : master.State) (l : Link) → Shows s l → l.master ≡ master_of m → Stands l → s.core.is_open ≡ true
     → master.is_idle m ≡ true → m.seq < 16 → is_last_request s.core.session (poll_octets m.seq) ≡ true → WentOn s
-went_on law s m l shows master_is stands opens idle low again =
+went_on recognized law s m l shows master_is stands opens idle low again =
     let comes : ComesAgain s.core (poll_octets m.seq) =
-    subst (λ (x : Case). CaseSays s.core (poll_octets m.seq) x) (comes_again s.core m.seq low opens again) (law s.core (poll_octets m.seq)) in
+    subst (λ (x : Case). CaseSays s.core (poll_octets m.seq) x) (recognized s.core m.seq low opens again) (law s.core (poll_octets m.seq)) in
     let last = some_last s.core.session.last comes.has_last in
     let parts = and_parts m.is_open (is_none m.request) idle in
     let open_below : l.outstation.is_open ≡ true = sym (ap (λ (o : Outstation). o.is_open) shows.outstation) ∙ opens in

@@ -20,7 +20,7 @@ use Rattle.dnp_outstation.specs.declared.case.Case.TheVariants.{Again, Asks, Con
 use Rattle.dnp_world.specs.Arriving.{Arrives, HearsAt, IsClearOn, UnderWay, confirms_of}
 use Rattle.dnp_world.specs.Channels.{ChannelState, GoDown, are_quiet}
 use Rattle.dnp_world.specs.Movement.{Leave, MovesAbove, Released, Rested}
-use Rattle.dnp_world.specs.Polled.{Portion, no_rows, poll_octets}
+use Rattle.dnp_outstation.specs.Polled.{Portion, no_rows, poll_octets}
 use Rattle.dnp_world.specs.Rounds.{IsRound, events_polled, is_quiet_on}
 use Rattle.dnp_world.specs.SystemEvents.{LinesChange, MasterReceives, MiddleAnswers, SendsDown, centre_taken, relaying_at, taken_above, with_centre_link}
 use Rattle.dnp_world.specs.Systems.{CentreState, ConcentratorState, History, SubstationState, System, middle_of, middle_panel}

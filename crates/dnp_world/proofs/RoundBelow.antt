@@ -15,7 +15,7 @@ use Rattle.dnp_outstation.specs.State.{State, Step, is_quiet, still}
 use Rattle.dnp_world.specs.Arriving.{Arrive, Arrives, HearsAt, IsClearOn, UnderWay, confirms_of}
 use Rattle.dnp_world.specs.Channels.{GoDown}
 use Rattle.dnp_world.specs.Movement.{Leave, MovesBelow, Released, Rested, rows_queued}
-use Rattle.dnp_world.specs.Polled.{Portion, no_rows, poll_octets}
+use Rattle.dnp_outstation.specs.Polled.{Portion, no_rows, poll_octets}
 use Rattle.dnp_world.specs.Rounds.{Flushes, IsRound, events_polled, is_quiet_at, is_quiet_on}
 use Rattle.dnp_world.specs.SystemEvents.{MasterReceives, SendsDown, concentrator_taken, dropped_for, relaying_at, taken_below, with_link}
 use Rattle.dnp_world.specs.SystemStanding.{IsStanding}

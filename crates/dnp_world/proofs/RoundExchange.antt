@@ -1,5 +1,5 @@
 -- What goes over a quiet link in a round: a fragment up, and its confirm down.
-use Rattle.std.proofs.Common.{◌≡◌, ℕ, ◌<◌, ◌≤◌, ◌^◌, Bool, true, false, if◌then◌else◌, List, [], ◌∷◌, Option, Some, None, Ok, refl, sym, ap, ◌∙◌, subst}
+use Rattle.std.proofs.Common.{◌≡◌, ℕ, ◌<◌, ◌≤◌, ◌^◌, Bool, true, false, if◌then◌else◌, List, [], ◌∷◌, length, Option, Some, None, Ok, refl, sym, ap, ◌∙◌, subst, arith}
 use Rattle.std.specs.List.{All}
 use Rattle.std.proofs.lemmas.Option.{none-some, same_Some}
 use Rattle.dnp_controls.specs.Panel.{Panel}
@@ -10,16 +10,26 @@ use Rattle.dnp_master.specs.Rows.{is_reported}
 use Rattle.dnp_master.specs.State as master
 use Rattle.dnp_objects.specs.declared.command.Command.{Command}
 use Rattle.dnp_outstation.specs.Calls.{connection_after}
-use Rattle.dnp_outstation.specs.Connection.{is_last_request}
+use Rattle.dnp_outstation.specs.Connection.{case_of, is_last_request}
 use Rattle.dnp_outstation.specs.Content.{source_of}
 use Rattle.dnp_outstation.specs.Controls.{is_control}
 use Rattle.dnp_outstation.specs.Items.{Source}
+use Rattle.dnp_outstation.specs.Polled.{Awaits, Offers, Portion, Releases, confirm_octets, no_rows, poll_octets, polled, polled_ids, polled_rows, reported}
 use Rattle.dnp_outstation.specs.Said.{AreWritable, HaveIndexes}
-use Rattle.dnp_outstation.specs.State.{State, Step, is_quiet, still}
+use Rattle.dnp_outstation.specs.State.{Core, State, Step, is_quiet, still}
+use Rattle.dnp_outstation.specs.declared.case.Case.TheVariants.{Again}
 use Rattle.dnp_pointdb.specs.Sound as points
-use Rattle.dnp_world.specs.Polled.{Awaits, Offers, Portion, Releases, Takes, confirm_octets, no_rows, poll_octets, polled, polled_ids, polled_rows}
+use Rattle.dnp_world.specs.Polled.{Takes}
 use Rattle.dnp_world.specs.Rounds.{events_polled}
-use Rattle.dnp_world.proofs.PolledOrder.{released_is}
+
+-- a release of a fragment's ids takes its rows, in their order
+abbrev pub ReleaseLaw : Type 0
+ReleaseLaw = (s : Stock) (enabled : List Bool) → IsSound s → length enabled ≤ 3 → all_up_to s (reported s enabled).ids ≡ (reported s enabled).rows
+
+-- the READ of an open outstation's last request is recognized
+abbrev pub AgainLaw : Type 0
+AgainLaw = (c : Core) (seq : ℕ) → seq < 16 → c.is_open ≡ true → is_last_request c.session (poll_octets seq) ≡ true
+    → case_of c (poll_octets seq) ≡ Again
 
 -- what is promised of the two stations
 pub record StationLaws : Type 0 where
@@ -27,6 +37,8 @@ pub record StationLaws : Type 0 where
       → is_last_request s.core.session (poll_octets seq) ≡ false → Offers seq s (connection_after s o now (poll_octets seq))
   pub confirmed : (s : State) (o : Panel) (now seq : ℕ) → seq < 16 → IsSound s.lanes → s.core.is_open ≡ true
       → Awaits seq (polled_ids s.lanes) s → Releases s (connection_after s o now (confirm_octets seq))
+  pub again : AgainLaw
+  pub released : ReleaseLaw
   pub asks : (m : master.State) → master.is_idle m ≡ true → ask_answer m events_polled ≡ Ok (poll_octets m.seq)
   pub takes : (m : master.State) (before now : ℕ) (s : State) (step : Step) → master.is_idle m ≡ true → IsSound s.lanes → HaveIndexes s.lanes
       → (offer : Offers m.seq s step) → All (λ row. is_reported m.plan row ≡ true) (polled_rows s.lanes)
@@ -99,7 +111,7 @@ polled_exchange laws m now s o fit asked_for other = record {
   discarded = offer.discarded;
   lanes = offer.lanes;
   performed = offer.performed;
-  released = released_is s.lanes fit.sound;
+  released = laws.released s.lanes (true ∷ true ∷ true ∷ []) fit.sound (omega arith);
   taken = took.taken;
   is_taken = took.is;
   events = took.events;

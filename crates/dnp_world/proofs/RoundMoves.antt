@@ -2,6 +2,7 @@
 use Rattle.std.proofs.Common.{◌≡◌, ℕ, ◌<◌, ◌≤◌, suc, Bool, true, false, if◌then◌else◌, List, [], ◌∷◌, ◌++◌, length, Option, Some, IfSome, is_some, sym, ap, ◌∙◌, subst, arith}
 use Rattle.std.specs.Prelude.{map, nat_le, slice_get}
 use Rattle.std.specs.List.{All, filter}
+use Rattle.std.proofs.lemmas.Bool.{and_parts}
 use Rattle.std.proofs.lemmas.List.{get_or_append_left, length-append}
 use Rattle.std.proofs.lemmas.List.Elements.{All-append, All-cons, All-filter, All-head, All-map, All-nil, All-tail}
 use Rattle.dnp_controls.specs.Panel.{Panel}
@@ -14,11 +15,11 @@ use Rattle.dnp_objects.specs.declared.row.Row.{Row}
 use Rattle.dnp_outstation.specs.Connection.{is_last_request}
 use Rattle.dnp_outstation.specs.Content.{source_of}
 use Rattle.dnp_outstation.specs.Links.{IsInOrder}
-use Rattle.dnp_outstation.specs.State.{State}
+use Rattle.dnp_outstation.specs.Polled.{Portion, no_rows, poll_octets, polled_rows, reported}
+use Rattle.dnp_outstation.specs.State.{State, is_free}
 use Rattle.dnp_world.specs.Movement.{MovesAbove, MovesBelow, first_reported, first_rows, passed_rows, is_repeated_at, is_repeated_on}
 use Rattle.dnp_world.specs.OutstationSeen.{IsWell, ShowOctets}
 use Rattle.dnp_world.specs.Planned.{IsAsPlanned}
-use Rattle.dnp_world.specs.Polled.{Portion, no_rows, poll_octets, polled_rows, reported}
 use Rattle.dnp_world.specs.Rounds.{IsRound, is_quiet_on}
 use Rattle.dnp_world.specs.Settled.{IsSettled, may_report}
 use Rattle.dnp_world.specs.Steady.{IsSteady}
@@ -26,14 +27,12 @@ use Rattle.dnp_world.specs.SystemEvents.{relaying_at}
 use Rattle.dnp_world.specs.SystemStanding.{IsJoinedBelow, IsStanding}
 use Rattle.dnp_world.specs.Systems.{SubstationState, System, link_at, middle_of, middle_panel, panel_of, station_of}
 use Rattle.dnp_world.specs.declared.event.Link.TheVariants.{Below, Above}
-use Rattle.dnp_world.proofs.PolledAnswer.{quiet_parts}
-use Rattle.dnp_world.proofs.PolledOrder.{reported_released}
 use Rattle.dnp_world.proofs.RepeatedPoll.{ReportLaws, WentOn, repeated}
 use Rattle.dnp_world.proofs.RepeatedRequests.{CaseLaw, went_on}
 use Rattle.dnp_world.proofs.RoundAbove as above
 use Rattle.dnp_world.proofs.RoundBelow as below
 use Rattle.dnp_world.proofs.RoundBelow.{LineLaws}
-use Rattle.dnp_world.proofs.RoundExchange.{Answer, AreFit, Exchanges, StationLaws, master_after, polled_exchange}
+use Rattle.dnp_world.proofs.RoundExchange.{Answer, AreFit, Exchanges, ReleaseLaw, StationLaws, master_after, polled_exchange}
 
 -- the rows in the lanes are asked for at the other end
 pub record LaneLaws : Type 0 where
@@ -67,13 +66,13 @@ first_of_lanes P (lane ∷ lanes) (id ∷ ids) all =
     All-append P (up_to id lane) (lanes_up_to lanes ids) (first_of_lane P id lane (all_front P (map row_of lane.rows) (lane_rows lanes) all))
     (first_of_lanes P lanes ids (all_behind P (map row_of lane.rows) (lane_rows lanes) all))
 
-all_reported : (P : Row → Type 0) (s : Stock) (enabled : List Bool) → IsSound s → length enabled ≤ 3 → All P (rows_in s)
+all_reported : ReleaseLaw → (P : Row → Type 0) (s : Stock) (enabled : List Bool) → IsSound s → length enabled ≤ 3 → All P (rows_in s)
     → All P (reported s enabled).rows
-all_reported P s enabled sound few all =
-    subst (All P) (reported_released s enabled sound few) (first_of_lanes P s.lanes (reported s enabled).ids all)
+all_reported law P s enabled sound few all =
+    subst (All P) (law s enabled sound few) (first_of_lanes P s.lanes (reported s enabled).ids all)
 
-all_polled : (P : Row → Type 0) (s : Stock) → IsSound s → All P (rows_in s) → All P (polled_rows s)
-all_polled P s sound all = all_reported P s (true ∷ true ∷ true ∷ []) sound (omega arith) all
+all_polled : ReleaseLaw → (P : Row → Type 0) (s : Stock) → IsSound s → All P (rows_in s) → All P (polled_rows s)
+all_polled law P s sound all = all_reported law P s (true ∷ true ∷ true ∷ []) sound (omega arith) all
 
 -- ---- the two links
 
@@ -129,7 +128,7 @@ polled_below stations lines lanes station old new steady quiet round other =
     let fit : AreFit m (station_of was) (panel_of was) = fit_below stations station old steady begins in
     (below.moves stations lines station old new begins (lines.quiet (Below station) old steady.standing quiet) first_rows round
     (Exchanges (polled_exchange stations m old.now (station_of was) (panel_of was) fit
-    (all_polled (λ row. is_reported m.plan row ≡ true) was.lanes fit.sound (lanes.below old station was steady.planned begins.low begins.there))
+    (all_polled stations.released (λ row. is_reported m.plan row ≡ true) was.lanes fit.sound (lanes.below old station was steady.planned begins.low begins.there))
     (ap (λ (o : Option SubstationState). is_repeated_at o (poll_octets m.seq)) (sym begins.there) ∙ other)))).moves
 
 pub polled_above : StationLaws → LineLaws → LaneLaws → (old new : System) → IsSteady old → is_quiet_on old Above ≡ true → IsRound Above old new
@@ -141,7 +140,7 @@ polled_above stations lines lanes old new steady quiet round other =
     let fit : AreFit m (middle_of c) (middle_panel c) = fit_above stations old steady begins in
     (above.moves stations lines old new begins (lines.quiet Above old steady.standing quiet) first_rows round
     (Exchanges (polled_exchange stations m old.now (middle_of c) (middle_panel c) fit
-    (all_polled (λ row. is_reported m.plan row ≡ true) c.queue fit.sound (lanes.above old steady.standing steady.planned)) other))).moves
+    (all_polled stations.released (λ row. is_reported m.plan row ≡ true) c.queue fit.sound (lanes.above old steady.standing steady.planned)) other))).moves
 
 -- ---- a poll that is taken for the last request
 
@@ -176,10 +175,10 @@ repeated_below stations lines lanes reports cases station old new steady quiet r
     let same : is_last_request was.core.session (poll_octets m.seq) ≡ true =
     ap (λ (o : Option SubstationState). is_repeated_at o (poll_octets m.seq)) (sym begins.there) ∙ again in
     let went : WentOn (station_of was) =
-    went_on cases (station_of was) m (steady.standing.links.below station) joined.joined.outstation joined.joined.master
-    (steady.standing.behind.below_stands station) (quiet_parts was.core begins.quiet).is_open fit.idle fit.seq same in
+    went_on stations.again cases (station_of was) m (steady.standing.links.below station) joined.joined.outstation joined.joined.master
+    (steady.standing.behind.below_stands station) (and_parts was.core.is_open (is_free was.core) begins.quiet).0 fit.idle fit.seq same in
     let r = repeated reports m old.now (station_of was) (panel_of was) fit order
-    (all_reported (λ row. is_reported m.plan row ≡ true) was.lanes was.core.enabled fit.sound order.classes
+    (all_reported stations.released (λ row. is_reported m.plan row ≡ true) was.lanes was.core.enabled fit.sound order.classes
     (lanes.below old station was steady.planned begins.low begins.there)) same went in
     let settled : may_report (station_of was) ≡ false =
     subst (λ (o : Option SubstationState). IfSome o IsSettled) begins.there (steady.settled station) in
@@ -202,10 +201,10 @@ repeated_above stations lines lanes reports cases old new steady quiet round aga
     let fit : AreFit m (middle_of c) (middle_panel c) = fit_above stations old steady begins in
     let order : IsInOrder c.core = steady.standing.above.outstation.well.order in
     let went : WentOn (middle_of c) =
-    went_on cases (middle_of c) m steady.standing.links.above steady.standing.above.outstation steady.standing.above.master
-    steady.standing.behind.above_stands (quiet_parts c.core begins.quiet).is_open fit.idle fit.seq again in
+    went_on stations.again cases (middle_of c) m steady.standing.links.above steady.standing.above.outstation steady.standing.above.master
+    steady.standing.behind.above_stands (and_parts c.core.is_open (is_free c.core) begins.quiet).0 fit.idle fit.seq again in
     let r = repeated reports m old.now (middle_of c) (middle_panel c) fit order
-    (all_reported (λ row. is_reported m.plan row ≡ true) c.queue c.core.enabled fit.sound order.classes (lanes.above old steady.standing steady.planned))
+    (all_reported stations.released (λ row. is_reported m.plan row ≡ true) c.queue c.core.enabled fit.sound order.classes (lanes.above old steady.standing steady.planned))
     again went in
     let x = above.moves stations lines old new begins (lines.quiet Above old steady.standing quiet) first_reported round r.answer in
     record { moves = x.moves; busy = ap (λ (a : master.State). is_some a.request) x.master_is ∙ r.busy }

@@ -7,8 +7,8 @@ use Rattle.dnp_eventbuf.specs.Stock.{Stock, all_up_to, dropped_by, with_rows, wi
 use Rattle.dnp_objects.specs.declared.lane.LaneRow.{LaneRow}
 use Rattle.dnp_objects.specs.declared.row.Row.{Row}
 use Rattle.dnp_outstation.specs.Connection.{is_last_request}
+use Rattle.dnp_outstation.specs.Polled.{Portion, no_rows, poll_octets, polled, reported}
 use Rattle.dnp_outstation.specs.State.{State}
-use Rattle.dnp_world.specs.Polled.{Portion, no_rows, poll_octets, polled, reported}
 use Rattle.dnp_world.specs.Settled.{may_report}
 use Rattle.dnp_world.specs.SystemEvents.{relaying_at}
 use Rattle.dnp_world.specs.Systems.{ConcentratorState, SubstationState, System, at_station, middle_of, station_of}

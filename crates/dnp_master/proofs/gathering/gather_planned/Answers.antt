@@ -16,5 +16,5 @@ loop-row-preserved c =
       known = finds.known;
       rest = λ n later. c.loop-row.invariant.rest n
           (planned_row c.args.plan.now c.loop-row.gathering c.put.new.self n c.in-Some.row c.next.new.self c.loop-row.row-iterator
-          c.in-Some.ensures.steps finds.planned c.put.ensures later);
+          c.in-Some.ensures.steps finds.planned c.put.ensures.gathered later);
     }

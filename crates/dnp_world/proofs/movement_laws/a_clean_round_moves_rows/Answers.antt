@@ -16,6 +16,8 @@ stations_of : goal.After-each_case_says_what_came → StationLaws
 stations_of c = record {
   offered = c.a_quiet_outstation_offers_its_events.ensures.offered;
   confirmed = c.a_quiet_outstation_offers_its_events.ensures.confirmed;
+  again = c.a_quiet_outstation_offers_its_events.ensures.again;
+  released = c.a_fragment_of_classes_is_said_and_released.ensures.released;
   asks = c.a_master_takes_what_it_polled.ensures.asks;
   takes = c.a_master_takes_what_it_polled.ensures.takes;
   writable = c.what_is_sound_can_be_written.ensures;
@@ -34,7 +36,10 @@ lanes_of c = record { below = c.rows_in_lanes_are_asked_for.ensures.below; above
 
 reports_of : goal.After-each_case_says_what_came → ReportLaws
 reports_of c = record {
-  rows = c.octets_say_what_is_held.ensures.rows;
+  again = c.a_quiet_outstation_offers_its_events.ensures.again;
+  said = c.a_fragment_of_classes_is_said_and_released.ensures.said;
+  released = c.a_fragment_of_classes_is_said_and_released.ensures.released;
+  confirmed = c.a_fragment_of_classes_is_said_and_released.ensures.confirmed;
   read = c.a_release_takes_what_the_octets_said.ensures.unsolicited_read;
   releases = c.a_confirm_releases_what_its_fragment_reported.ensures.unsolicited;
   only = c.commands_are_performed_as_they_are_asked.ensures.only;

@@ -6,4 +6,4 @@ pub returns-clause-asks : goal.returns-clause-asks
 returns-clause-asks c = asks_polled
 
 pub returns-clause-takes : goal.returns-clause-takes
-returns-clause-takes c = takes_polled c.octets_say_what_is_held.ensures.rows
+returns-clause-takes c = takes_polled c.a_fragment_of_classes_is_said_and_released.ensures.said

@@ -15,7 +15,7 @@ use Rattle.dnp_outstation.proofs.Carried.{pushed_rows, released_rows}
 use Rattle.dnp_outstation.proofs.HeldItems.{held_begins}
 use Rattle.dnp_outstation.proofs.LaneRows.{IsApart, rows_at, rows_elsewhere}
 use Rattle.dnp_outstation.proofs.Reported.{nine_ids}
-use Rattle.dnp_world.specs.Polled.{polled_ids, polled_rows, reported}
+use Rattle.dnp_outstation.specs.Polled.{polled_ids, polled_rows, reported}
 
 -- ---- a beginning of two lists
 

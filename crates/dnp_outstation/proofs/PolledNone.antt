@@ -18,8 +18,8 @@ use Rattle.dnp_outstation.specs.Said.{event_in, events_in}
 use Rattle.dnp_outstation.proofs.Carried.{lane_rises}
 use Rattle.dnp_outstation.proofs.HeldItems.{held_whole}
 use Rattle.dnp_outstation.proofs.Rising.{Rising, upto, upto_none}
-use Rattle.dnp_world.specs.Polled.{are_all_polled, polled_ids, polled_items, polled_rows}
-use Rattle.dnp_world.proofs.PolledOrder.{events_of_lane, released_is}
+use Rattle.dnp_outstation.specs.Polled.{are_all_polled, polled_ids, polled_items, polled_rows}
+use Rattle.dnp_outstation.proofs.PolledOrder.{events_of_lane, released_is}
 
 -- ---- no ids
 

@@ -1,7 +1,7 @@
 -- The laws that the body calls are what the lemmas ask for.
-use Rattle.dnp_world.proofs.PolledAnswer.{OfferLaws, offers_rows, quiet_parts}
-use Rattle.dnp_world.proofs.PolledConfirm.{ConfirmLaws, releases_rows}
-use Rattle.dnp_world.proofs.movement_laws.a_quiet_outstation_offers_its_events.Goals as goal
+use Rattle.dnp_outstation.proofs.PolledAnswer.{OfferLaws, comes_again, offers_rows, quiet_parts}
+use Rattle.dnp_outstation.proofs.PolledConfirm.{ConfirmLaws, releases_rows}
+use Rattle.dnp_outstation.proofs.poll_laws.a_quiet_outstation_offers_its_events.Goals as goal
 
 offer_laws_of : goal.After-commands_are_performed_as_they_are_asked → OfferLaws
 offer_laws_of c = record {
@@ -21,3 +21,6 @@ returns-clause-offered c = λ s o now seq sound writable quiet low other.
 
 pub returns-clause-confirmed : goal.returns-clause-confirmed
 returns-clause-confirmed c = releases_rows (confirm_laws_of c)
+
+pub returns-clause-again : goal.returns-clause-again
+returns-clause-again c = comes_again

@@ -8,7 +8,6 @@ use Rattle.dnp_appfragment.specs.Items.{Item as Object, item_octets}
 use Rattle.dnp_eventbuf.specs.Sound.{IsSound}
 use Rattle.dnp_eventbuf.specs.Stock.{Stock, lane_at}
 use Rattle.dnp_eventbuf.specs.declared.numbered.Numbered.{Numbered}
-use Rattle.dnp_master.specs.Requests.{headers_for}
 use Rattle.dnp_objects.specs.declared.limits.TheConstants.{MAX_FRAGMENT}
 use Rattle.dnp_objects.specs.declared.row.Row.{Row}
 use Rattle.dnp_outstation.specs.Items.{Item, Source, Thing, class_lanes, event_of, first_place, given_after, items_left, last_in, no_ids}
@@ -18,9 +17,8 @@ use Rattle.dnp_outstation.specs.Offer.{Filled, held_laid, held_of, last_ids, lon
 use Rattle.dnp_outstation.specs.Said.{event_in, events_in}
 use Rattle.dnp_outstation.proofs.HeldItems.{held_longest, laid_items}
 use Rattle.dnp_outstation.proofs.Stretches.{laid_as}
-use Rattle.dnp_world.specs.Polled.{are_all_polled, polled_held, polled_ids, polled_items, polled_rows}
-use Rattle.dnp_world.specs.Rounds.{events_polled}
-use Rattle.dnp_world.proofs.PolledItems.{by_class, of_lanes, plain_item, plain_read, read_items}
+use Rattle.dnp_outstation.specs.Polled.{are_all_polled, polled_headers, polled_held, polled_ids, polled_items, polled_rows}
+use Rattle.dnp_outstation.proofs.PolledItems.{by_class, of_lanes, plain_item, plain_read, read_items}
 
 -- ---- items that are events
 
@@ -196,7 +194,7 @@ class_polled s =
       all = ap (λ (n : ℕ). n == length items) held_long ∙ ap (λ (n : ℕ). length (held_of (polled_items s)) == n) long;
     }
 
-pub read_polled : (s : Source) → IsSound s.lanes → IsPolled s.lanes (items_left s (last_in s.lanes) first_place (headers_for events_polled))
+pub read_polled : (s : Source) → IsSound s.lanes → IsPolled s.lanes (items_left s (last_in s.lanes) first_place polled_headers)
 read_polled s sound = subst (IsPolled s.lanes) (sym (read_items s sound)) (class_polled s.lanes)
 
 -- as it is offered
@@ -209,9 +207,9 @@ none_by : {A : Type 0} (b : Bool) (x : A) → is_none (if b then None else Some 
 none_by true x = refl
 none_by false x = refl
 
-pub read_offered : (s : Source) → IsSound s.lanes → IsOffered s.lanes (offered s (last_in s.lanes) first_place (headers_for events_polled))
+pub read_offered : (s : Source) → IsSound s.lanes → IsOffered s.lanes (offered s (last_in s.lanes) first_place polled_headers)
 unfolding offered_of
 read_offered s sound =
-    let items : List Item = items_left s (last_in s.lanes) first_place (headers_for events_polled) in
+    let items : List Item = items_left s (last_in s.lanes) first_place polled_headers in
     let p : IsPolled s.lanes items = read_polled s sound in
     record { headers = p.headers; upto = p.upto; last = none_by (length (held_of items) == length items) _ ∙ p.all }

@@ -9,7 +9,6 @@ use Rattle.dnp_objects.specs.declared.limits.TheConstants.{LANES}
 use Rattle.dnp_eventbuf.specs.declared.numbered.Numbered.{Numbered}
 use Rattle.dnp_eventbuf.specs.Sound.{IsSound}
 use Rattle.dnp_eventbuf.specs.Stock.{Stock, lane_at, last_of}
-use Rattle.dnp_master.specs.Requests.{headers_for}
 use Rattle.dnp_outstation.specs.Items.{Item, Part, Source, class_lanes, event_items, event_of, first_place, given_after, items_left, items_of, lane_items, last_in, no_ids, rows_left}
 use Rattle.dnp_outstation.specs.Items.Part.{RowsOf}
 use Rattle.dnp_outstation.specs.Laws.{row_in, rows_in_lane}
@@ -17,8 +16,7 @@ use Rattle.dnp_outstation.proofs.Carried.{lane_rises}
 use Rattle.dnp_outstation.proofs.LaneRows.{IsApart, last_given, length_given, rows_elsewhere}
 use Rattle.dnp_outstation.proofs.LeftLanes.{last_is}
 use Rattle.dnp_outstation.proofs.Rising.{Rising, last_is_over, last_or, over, over_all, upto}
-use Rattle.dnp_world.specs.Polled.{polled_items}
-use Rattle.dnp_world.specs.Rounds.{events_polled}
+use Rattle.dnp_outstation.specs.Polled.{polled_headers, polled_items}
 
 -- ---- the rows of one lane
 
@@ -145,7 +143,7 @@ free_second s lane past low none =
 none_given : (lane : ℕ) → lane < LANES → slice_index no_ids lane ≡ 0
 none_given lane low = get_or-replicate LANES lane 0 0 low
 
-pub read_items : (s : Source) → IsSound s.lanes → items_left s (last_in s.lanes) first_place (headers_for events_polled) ≡ by_class s.lanes
+pub read_items : (s : Source) → IsSound s.lanes → items_left s (last_in s.lanes) first_place polled_headers ≡ by_class s.lanes
 read_items s sound =
     let k : Stock = s.lanes in
     let stood : ℕ = last_in k in

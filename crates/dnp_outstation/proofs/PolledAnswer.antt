@@ -5,15 +5,15 @@ use Rattle.dnp_appfragment.specs.Control.{ControlBits, IsControl}
 use Rattle.dnp_appfragment.specs.Fragments.{Answered, Asked, request_octets, response_octets}
 use Rattle.dnp_appfragment.specs.Headers.{AreHeaders, Head, begin}
 use Rattle.dnp_appfragment.specs.Meaning.{request_at, response_at}
-use Rattle.dnp_appfragment.specs.Table.{form_of, is_response}
+use Rattle.dnp_appfragment.specs.Table.{form_of, is_response, rules, takes_of}
+use Rattle.dnp_appfragment.specs.declared.table.Form.TheVariants as form
 use Rattle.dnp_appfragment.specs.declared.fault.AppFault.{AppFault}
 use Rattle.dnp_appfragment.specs.declared.function.Function.TheVariants as function
 use Rattle.dnp_appfragment.proofs.Controls.{octet_of_control}
 use Rattle.dnp_controls.specs.Panel.{Panel}
 use Rattle.dnp_controls.specs.Selecting.{deadline}
 use Rattle.dnp_eventbuf.specs.Sound.{IsSound}
-use Rattle.dnp_master.specs.Requests.{headers_for, request_for}
-use Rattle.dnp_master.proofs.RequestHeaders.{class_is_read}
+use Rattle.dnp_objects.specs.Objects.{content_of, objects}
 use Rattle.dnp_objects.specs.declared.limits.TheConstants.{MAX_FRAGMENT}
 use Rattle.dnp_outstation.specs.Calls.{connection_after, received}
 use Rattle.dnp_outstation.specs.Connection.{asked, asks_confirm, at_end, case_of, control_for, control_in, function_in, has_enabled_rows, has_rows, is_last_request, is_looked_at, on_request, replied, responds, starts}
@@ -27,10 +27,9 @@ use Rattle.dnp_outstation.specs.declared.case.Case.TheVariants.{Again, Asks, Pas
 use Rattle.dnp_outstation.specs.declared.offer.place.Place.{Place}
 use Rattle.dnp_outstation.specs.declared.session.Awaited.{Awaited}
 use Rattle.dnp_outstation.specs.declared.session.Unsolicited.{Unsolicited}
-use Rattle.dnp_world.specs.Polled.{Offers, are_all_polled, poll_octets, polled_rows}
-use Rattle.dnp_world.specs.Rounds.{events_polled}
-use Rattle.dnp_world.proofs.PolledLayout.{IsOffered, read_offered}
-use Rattle.dnp_world.proofs.PolledNone.{lanes_are_empty, no_rows_polled, none_enabled}
+use Rattle.dnp_outstation.specs.Polled.{Offers, are_all_polled, poll_octets, poll_request, polled_headers, polled_rows}
+use Rattle.dnp_outstation.proofs.PolledLayout.{IsOffered, read_offered}
+use Rattle.dnp_outstation.proofs.PolledNone.{lanes_are_empty, no_rows_polled, none_enabled}
 
 -- what lower crates promise of requests and responses
 pub record OfferLaws : Type 0 where
@@ -76,7 +75,7 @@ asked_control seq = record { fir = true; fin = true; con = false; uns = false; s
 control_is : (seq : ℕ) → seq < 16 → control_in (poll_octets seq) ≡ asked_control seq
 control_is seq low = octet_of_control (asked_control seq) low
 
-pub looked_at : (c : Core) (seq : ℕ) → seq < 16 → c.is_open ≡ true → is_looked_at c (poll_octets seq) ≡ true
+looked_at : (c : Core) (seq : ℕ) → seq < 16 → c.is_open ≡ true → is_looked_at c (poll_octets seq) ≡ true
 looked_at c seq low opens =
     let octets : List ℕ = poll_octets seq in
     let bits : ControlBits → Bool = λ k. (k.fir && k.fin) && (nat_lt (function_in octets) 129 && (not k.uns || function_in octets == 0)) in
@@ -95,16 +94,22 @@ asks c seq low quiet other =
 -- ---- the answer
 
 abbrev content_for : State → Panel → Content
-content_for s o = read_content s o (last_in s.lanes) first_place (headers_for events_polled)
+content_for s o = read_content s o (last_in s.lanes) first_place polled_headers
 
 -- the outstation once it has sent it, before the end of the call
 abbrev pub answer_of : State → Panel → ℕ → ℕ → Step
 answer_of s o now seq = responds (asked s (poll_octets seq)) now (last_in s.lanes) seq (content_for s o)
 
-is_asked : OfferLaws → (seq : ℕ) → seq < 16 → request_at (poll_octets seq) ≡ Ok (request_for seq events_polled)
+are_read : AreHeaders form.Read begin polled_headers
+unfolding takes_of rules content_of objects
+are_read = (
+  record { object = refl; fits = tt; forward = tt; objects = refl },
+  (record { object = refl; fits = tt; forward = tt; objects = refl }, (record { object = refl; fits = tt; forward = tt; objects = refl }, tt)),
+)
+
+is_asked : OfferLaws → (seq : ℕ) → seq < 16 → request_at (poll_octets seq) ≡ Ok (poll_request seq)
 is_asked laws seq low =
-    laws.is_request (request_for seq events_polled) low refl
-    (class_is_read 1 (omega arith), (class_is_read 2 (omega arith), (class_is_read 3 (omega arith), tt)))
+    laws.is_request (poll_request seq) low refl are_read
 
 answers : OfferLaws → (s : State) (o : Panel) (now seq : ℕ) → seq < 16 → on_request s o now (poll_octets seq) ≡ answer_of s o now seq
 answers laws s o now seq low =
@@ -131,7 +136,7 @@ ends_still now step none =
 -- what may be sent then says what is polled
 module _ (laws : OfferLaws) (s : State) (o : Panel) (now seq : ℕ) (low : seq < 16) (sound : IsSound s.lanes) (writable : AreWritable (source_of s o))
     (quiet : IsQuiet s.core) where
-  found : IsOffered s.lanes (offered (source_of s o) (last_in s.lanes) first_place (headers_for events_polled))
+  found : IsOffered s.lanes (offered (source_of s o) (last_in s.lanes) first_place polled_headers)
   found = read_offered (source_of s o) sound
 
   no_more : asks_confirm (content_for s o) ≡ false → (are_all_polled s.lanes ≡ true) × (polled_rows s.lanes ≡ [])
@@ -184,7 +189,7 @@ module _ (laws : OfferLaws) (s : State) (o : Panel) (now seq : ℕ) (low : seq <
     con = asks_confirm (content_for s o);
     answered = said;
     sent = refl;
-    read = laws.is_answer said (source_of s o) (last_in s.lanes) first_place (headers_for events_polled) refl low refl sound writable;
+    read = laws.is_answer said (source_of s o) (last_in s.lanes) first_place polled_headers refl low refl sound writable;
     control = ap (control_with (asks_confirm (content_for s o))) found.last;
     function = refl;
     headers = found.headers;
@@ -209,3 +214,12 @@ module _ (laws : OfferLaws) (s : State) (o : Panel) (now seq : ℕ) (low : seq <
 
   pub offers_rows : is_last_request s.core.session (poll_octets seq) ≡ false → Offers seq s (connection_after s o now (poll_octets seq))
   offers_rows other = subst (Offers seq s) (sym (answer_is other)) offers
+
+-- ---- the last request again
+
+pub comes_again : (c : Core) (seq : ℕ) → seq < 16 → c.is_open ≡ true → is_last_request c.session (poll_octets seq) ≡ true → case_of c (poll_octets seq) ≡ Again
+comes_again c seq low opens again =
+    let octets : List ℕ = poll_octets seq in
+    let by_wait : Bool → Case = λ b. if b then Waits else Asks in
+    let by_last : Bool → Case = λ b. if b then Again else by_wait (is_some c.session.unsolicited) in
+    ap (λ (b : Bool). if not b then PassedOver else by_last (is_last_request c.session octets)) (looked_at c seq low opens) ∙ ap by_last again
