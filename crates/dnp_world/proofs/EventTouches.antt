@@ -1,5 +1,5 @@
 -- What each event touches of a system besides its lines.
-use Rattle.std.proofs.Common.{◌≡◌, ℕ, Bool, true, false, if◌then◌else◌, List, [], ◌∷◌, map, Option, Some, None, option_map, Result, Ok, Err, refl, sym, ap, ◌∙◌, subst}
+use Rattle.std.proofs.Common.{◌≡◌, ℕ, Bool, true, false, ◌&&◌, ◌==◌, if◌then◌else◌, List, [], ◌∷◌, map, Option, Some, None, option_map, Result, Ok, Err, refl, sym, ap, ◌∙◌, subst}
 use Rattle.std.specs.Prelude.{slice_get, slice_set}
 use Rattle.std.proofs.Math.Seq.{map-set_same}
 use Rattle.std.proofs.lemmas.List.{map-set}
@@ -17,6 +17,7 @@ use Rattle.dnp_objects.specs.declared.row.Row.{Row}
 use Rattle.dnp_outstation.specs.Calls.{performed_in}
 use Rattle.dnp_outstation.specs.State.{State}
 use Rattle.dnp_pointdb.specs.Database.{answer_of}
+use Rattle.dnp_pointdb.specs.Runs.{Move, Change as PointReads, Restart as PointsRestart}
 use Rattle.dnp_pointdb.specs.declared.fault.ChangeFault.{ChangeFault}
 use Rattle.dnp_pointdb.specs.declared.reading.Reading.{Reading}
 use Rattle.dnp_world.specs.Channels.{ChannelState}
@@ -24,6 +25,7 @@ use Rattle.dnp_world.specs.OneLinkEvents.{is_own}
 use Rattle.dnp_world.specs.Systems.{ConcentratorState, SubstationState, System, has_link, has_station, link_at, middle_panel, panel_of, station_of}
 use Rattle.dnp_world.specs.SystemEvents as system
 use Rattle.dnp_world.specs.SystemEvents.{Refuses, Steps, AsksOn, ChangesAt, ComesOn, ComesUp, HangsUpOn, IssuesBy, LinesChange, MasterReceives, MasterTakes, MasterTicks, MiddleAnswers, OpensOn, OutstationTicks, ReadsBy, RelaysOn, SubstationAnswers, SubstationRestarts, master_gone, relaying_at, step_on, taken_on, told, with_link, with_lost, with_middle, with_substation}
+use Rattle.dnp_world.specs.Steady.{moves_at}
 use Rattle.dnp_world.specs.SystemRuns.{Happens, IfThere}
 use Rattle.dnp_world.specs.declared.event.Event.{Event}
 use Rattle.dnp_world.specs.declared.event.Event.TheVariants as event
@@ -34,13 +36,30 @@ use Rattle.dnp_world.specs.declared.link_event.End.{End}
 use Rattle.dnp_world.specs.declared.link_event.End.TheVariants as end
 use Rattle.dnp_world.specs.declared.link_event.Way.{Way}
 use Rattle.dnp_world.specs.declared.link_event.Way.TheVariants as way
-use Rattle.dnp_world.proofs.Touches.{Call, Waits, Opens, Hears, Reads, Ticks, HangsUp, Restarts, Nobody, Outstation, LinkOpens, LinkHangsUp, LinkAsks, LinkHears, LinkTicks, Used, Nothing, LinkUsed, CentreUsed, LinkRelays, CentreRelays, Performs, Issues, AllHangUp, Ends, Touches, Touched, after_call, after_used, ends_of}
+use Rattle.dnp_world.proofs.Touches.{Call, Waits, Opens, Hears, Reads, Ticks, HangsUp, Restarts, Nobody, Outstation, LinkOpens, LinkHangsUp, LinkAsks, LinkHears, LinkTicks, Used, Nothing, LinkUsed, CentreUsed, LinkRelays, CentreRelays, Performs, Issues, AllHangUp, Ends, Touches, Touched, after_call, after_used, ends_of, Refused, at_only, moves_in, moves_of}
+
+-- ---- what an event touches, and what it is to the points of each outstation
+
+pub record Moves (moves : ℕ → List Move) (old new : Ends) : Type 0 where
+  pub touched : Touches old new
+  pub moved : (i : ℕ) → moves_in touched.called i ≡ moves i
+
+abbrev pub Moved : (ℕ → List Move) → System → System → Type 0
+Moved moves old new = Moves moves (ends_of old) (ends_of new)
+
+abbrev none : ℕ → List Move
+none i = []
+
+-- no outstation is called
+moved_none : (old new : System) (used : Used (ends_of old))
+    → ends_of new ≡ record (after_used (ends_of old) used) { outstations = map station_of old.substations } → Moved none old new
+moved_none old new used after = record { touched = record { called = Nobody; used = used; after = after }; moved = λ i. refl }
 
 -- the lines, the moment, the history, the queue, the journal and readings above are others, and nothing else
-rests : (old new : System) → ends_of new ≡ ends_of old → Touched old new
-rests old new same = record { called = Nobody; used = Nothing; after = same }
+rests : (old new : System) → ends_of new ≡ ends_of old → Moved none old new
+rests old new same = moved_none old new Nothing same
 
-same_system : (old new : System) → new ≡ old → Touched old new
+same_system : (old new : System) → new ≡ old → Moved none old new
 same_system old new same = rests old new (ap ends_of same)
 
 -- ---- parts of events
@@ -58,89 +77,102 @@ there_of : (xs : List SubstationState) (station : ℕ) (was : SubstationState) �
 there_of xs station was there = slice_get-map station_of xs station ∙ ap (option_map station_of) there
 
 -- one outstation is called, over a system in which a master was used
-pub record IsCalled (was is : SubstationState) : Type 0 where
-  pub call : Call
-  pub after : station_of is ≡ after_call (station_of was) call
+record IsCalled (moves : List Move) (was is : SubstationState) : Type 0 where
+  call : Call
+  after : station_of is ≡ after_call (station_of was) call
+  moved : moves_of call ≡ moves
+
+changes_points : (moves : List Move)
+    → (station : ℕ) (Change : SubstationState → SubstationState → Type 0) (rest : SubstationState → SubstationState → System → System)
+    (old new : System) (middle : ConcentratorState) (used : Used (ends_of old))
+    → ends_of (with_middle old middle) ≡ record (after_used (ends_of old) used) { outstations = map station_of old.substations }
+    → ((was is : SubstationState) (s : System) → ends_of (rest was is s) ≡ ends_of s)
+    → ((was is : SubstationState) → slice_get old.substations station ≡ Some was → Change was is → IsCalled moves was is)
+    → ChangesAt station Change rest (with_middle old middle) new → Moved (at_only station moves) old new
+changes_points moves station Change rest old new middle used uses stays calls c =
+    let x : IsCalled moves c.was c.is = calls c.was c.is c.there c.changed in
+    record {
+      touched = record {
+        called = Outstation station (station_of c.was) x.call (there_of old.substations station c.was c.there);
+        used = used;
+        after = ap ends_of c.after ∙ stays c.was c.is (with_substation (with_middle old middle) station c.is)
+            ∙ ap (λ (e : Ends). record e { outstations = map station_of (slice_set old.substations station c.is) }) uses
+            ∙ ap (λ (xs : List State). record (after_used (ends_of old) used) { outstations = xs })
+            (map-set station_of old.substations station c.is ∙ ap (slice_set (map station_of old.substations) station) x.after);
+      };
+      moved = λ i. ap (λ (moves : List Move). at_only station moves i) x.moved;
+    }
+
+-- and its points stay as they are
+calm : (station : ℕ) (old new : System) → Moved (at_only station []) old new → Moved none old new
+calm station old new m = record { touched = m.touched; moved = λ i. m.moved i ∙ still (station == i) }
+  where
+    still : (b : Bool) → (if b then (let moves : List Move = [] in moves) else []) ≡ []
+    still true = refl
+    still false = refl
 
 changes : (station : ℕ) (Change : SubstationState → SubstationState → Type 0) (rest : SubstationState → SubstationState → System → System)
     (old new : System) (middle : ConcentratorState) (used : Used (ends_of old))
     → ends_of (with_middle old middle) ≡ record (after_used (ends_of old) used) { outstations = map station_of old.substations }
     → ((was is : SubstationState) (s : System) → ends_of (rest was is s) ≡ ends_of s)
-    → ((was is : SubstationState) → slice_get old.substations station ≡ Some was → Change was is → IsCalled was is)
-    → ChangesAt station Change rest (with_middle old middle) new → Touched old new
+    → ((was is : SubstationState) → slice_get old.substations station ≡ Some was → Change was is → IsCalled [] was is)
+    → ChangesAt station Change rest (with_middle old middle) new → Moved none old new
 changes station Change rest old new middle used uses stays calls c =
-    let x : IsCalled c.was c.is = calls c.was c.is c.there c.changed in
-    record {
-      called = Outstation station (station_of c.was) x.call (there_of old.substations station c.was c.there);
-      used = used;
-      after = ap ends_of c.after ∙ stays c.was c.is (with_substation (with_middle old middle) station c.is)
-          ∙ ap (λ (e : Ends). record e { outstations = map station_of (slice_set old.substations station c.is) }) uses
-          ∙ ap (λ (xs : List State). record (after_used (ends_of old) used) { outstations = xs })
-          (map-set station_of old.substations station c.is ∙ ap (slice_set (map station_of old.substations) station) x.after);
-    }
+    calm station old new (changes_points [] station Change rest old new middle used uses stays calls c)
 
 -- and no master is used
 calls_at : (station : ℕ) (Change : SubstationState → SubstationState → Type 0) (rest : SubstationState → SubstationState → System → System)
     (old new : System) → ((was is : SubstationState) (s : System) → ends_of (rest was is s) ≡ ends_of s)
-    → ((was is : SubstationState) → slice_get old.substations station ≡ Some was → Change was is → IsCalled was is)
-    → ChangesAt station Change rest old new → Touched old new
+    → ((was is : SubstationState) → slice_get old.substations station ≡ Some was → Change was is → IsCalled [] was is)
+    → ChangesAt station Change rest old new → Moved none old new
 calls_at station Change rest old new stays calls c = changes station Change rest old new old.concentrator Nothing refl stays calls c
 
 -- ---- events
 
-opens : (on : Link) (old new : System) → OpensOn on old new → Touched old new
+opens : (on : Link) (old new : System) → OpensOn on old new → Moved none old new
 opens (Below station) old new c =
     changes station _ _ old new _ (LinkUsed station LinkOpens) refl (λ was is s. refl)
-    (λ was is there steps. record { call = Opens old.now; after = ap station_of steps.after }) c
-opens Above old new m = record { called = Nobody; used = CentreUsed LinkOpens; after = ap ends_of m.after }
+    (λ was is there steps. record { call = Opens old.now; after = ap station_of steps.after; moved = refl }) c
+opens Above old new m = moved_none old new (CentreUsed LinkOpens) (ap ends_of m.after)
 
-hangs_up : (on : Link) (e : End) (old new : System) → HangsUpOn on e old new → Touched old new
+hangs_up : (on : Link) (e : End) (old new : System) → HangsUpOn on e old new → Moved none old new
 hangs_up (Below station) end.Master old new c =
     changes station _ _ old new _ (LinkUsed station LinkHangsUp) refl (λ was is s. refl)
-    (λ was is there after. record { call = Waits; after = ap station_of after }) c
+    (λ was is there after. record { call = Waits; after = ap station_of after; moved = refl }) c
 hangs_up (Below station) end.Outstation old new c =
-    calls_at station _ _ old new (λ was is s. refl) (λ was is there after. record { call = HangsUp; after = ap station_of after }) c
-hangs_up Above end.Master old new after = record { called = Nobody; used = CentreUsed LinkHangsUp; after = ap ends_of after }
+    calls_at station _ _ old new (λ was is s. refl) (λ was is there after. record { call = HangsUp; after = ap station_of after; moved = refl }) c
+hangs_up Above end.Master old new after = moved_none old new (CentreUsed LinkHangsUp) (ap ends_of after)
 hangs_up Above end.Outstation old new after = rests old new (ap ends_of after)
 
 answers : (given : List (List ℕ)) (now : ℕ) (released : List Row) (was is : SubstationState) (lines : ChannelState)
-    → SubstationAnswers given now released (record was { channel = lines }) is → IsCalled was is
-answers [] now released was is lines h = record { call = Waits; after = ap station_of h.1 }
-answers (fragment ∷ others) now released was is lines h = record { call = Hears (panel_of was) now fragment; after = ap station_of h.1.after }
+    → SubstationAnswers given now released (record was { channel = lines }) is → IsCalled [] was is
+answers [] now released was is lines h = record { call = Waits; after = ap station_of h.1; moved = refl }
+answers (fragment ∷ others) now released was is lines h = record { call = Hears (panel_of was) now fragment; after = ap station_of h.1.after; moved = refl }
 
-middle_answers : (given : List (List ℕ)) (old new : System) → MiddleAnswers given old new → Touched old new
+middle_answers : (given : List (List ℕ)) (old new : System) → MiddleAnswers given old new → Moved none old new
 middle_answers [] old new same = same_system old new same
 middle_answers (fragment ∷ others) old new m =
     let c = old.concentrator in
-    record {
-      called = Nobody;
-      used = Performs c.indices (performed_in c.core (middle_panel c) old.now fragment);
-      after = ap ends_of m.after;
-    }
+    moved_none old new (Performs c.indices (performed_in c.core (middle_panel c) old.now fragment))
+    (ap ends_of m.after)
 
 receives : (on : Link) (now : ℕ) (fragment : List ℕ) (r : Result Taking MasterFault) (old new : System)
-    → receive_of (relaying_at old on).master now fragment ≡ r → MasterReceives on r old new → Touched old new
-receives (Below station) now fragment (Ok t) old new is h = record {
-  called = Nobody;
-  used = LinkUsed station (LinkHears now fragment t is);
-  after = lines_same (Below station) _ (taken_on old (Below station) t) new h.1;
-}
-receives Above now fragment (Ok t) old new is h = record {
-  called = Nobody;
-  used = CentreUsed (LinkHears now fragment t is);
-  after = ap ends_of h.1.1;
-}
+    → receive_of (relaying_at old on).master now fragment ≡ r → MasterReceives on r old new → Moved none old new
+receives (Below station) now fragment (Ok t) old new is h = moved_none old new (LinkUsed station (LinkHears now fragment t is))
+    (lines_same (Below station) _ (taken_on old (Below station) t) new h.1)
+receives Above now fragment (Ok t) old new is h = moved_none old new (CentreUsed (LinkHears now fragment t is))
+    (ap ends_of h.1.1)
 receives on now fragment (Err fault) old new is same = same_system old new same
 
-takes : (on : Link) (given : List (List ℕ)) (old new : System) → MasterTakes on given old new → Touched old new
+takes : (on : Link) (given : List (List ℕ)) (old new : System) → MasterTakes on given old new → Moved none old new
 takes on [] old new same = same_system old new same
 takes on (fragment ∷ others) old new h = receives on old.now fragment _ old new refl h
 
-comes_up : (left : LineState → LineState) (on : Link) (old new : System) → ComesUp left on old new → Touched old new
+comes_up : (left : LineState → LineState) (on : Link) (old new : System) → ComesUp left on old new → Moved none old new
 comes_up left on old new c =
-    subst (λ (e : Ends). Touches e (ends_of new)) (lines_same on _ old c.between c.heard) (takes on c.given c.between new c.came)
+    subst (λ (e : Ends). Moves none e (ends_of new)) (lines_same on _ old c.between c.heard) (takes on c.given c.between new c.came)
 
-comes : (left : LineState → LineState) (on : Link) (w : Way) (old new : System) → ComesOn left on w old new → Touched old new
+comes : (left : LineState → LineState) (on : Link) (w : Way) (old new : System) → ComesOn left on w old new → Moved none old new
 comes left (Below station) way.Down old new c =
     calls_at station _ _ old new (λ was is s. refl)
     (λ was is there h. answers h.given old.now c.released was is _ h.came) c.came
@@ -149,99 +181,107 @@ comes left (Below station) way.Up old new c = comes_up left (Below station) old 
 comes left Above way.Up old new c = comes_up left Above old new c
 
 reads_by : (station : ℕ) (kind : Kind) (index : ℕ) (reading : Reading) (was : SubstationState) (r : Result (Option LaneRow) ChangeFault)
-    (old new : System) → slice_get old.substations station ≡ Some was → ReadsBy r station kind index reading was old new → Touched old new
-reads_by station kind index reading was (Ok made) old new there h =
-    calls_at station _ _ old new (λ x is s. refl)
+    (old new : System) → slice_get old.substations station ≡ Some was → answer_of was.core.points kind index reading ≡ r
+    → ReadsBy r station kind index reading was old new → Moved (at_only station (PointReads kind index reading ∷ [])) old new
+reads_by station kind index reading was (Ok made) old new there is h =
+    changes_points (PointReads kind index reading ∷ []) station _ _ old new old.concentrator Nothing refl (λ x is s. refl)
     (λ x is at steps. record {
       call = Reads old.now kind index reading made;
       after = ap station_of steps.after
           ∙ ap (λ (y : SubstationState). after_call (station_of y) (Reads old.now kind index reading made)) (same_Some was x (sym there ∙ at));
+      moved = refl;
     }) h.1
-reads_by station kind index reading was (Err fault) old new there same = same_system old new same
-
-pub touched_by_reading : (station : ℕ) (kind : Kind) (index : ℕ) (reading : Reading) (old new : System) → system.Reads station kind index reading old new
-    → Touched old new
-touched_by_reading station kind index reading old new c =
-    reads_by station kind index reading c.was (answer_of c.was.core.points kind index reading) old new c.there c.reads
-
-asks : (own : Bool) (on : Link) (task : Task) (old new : System) → AsksOn own on task old new → Touched old new
-asks true (Below station) task old new c = record {
-  called = Nobody;
-  used = LinkUsed station (LinkAsks old.now task);
-  after = lines_same (Below station) _ (with_link old station _) new c;
+reads_by station kind index reading was (Err fault) old new there is same = record {
+  touched = record {
+    called = Refused station (station_of was) kind index reading fault (there_of old.substations station was there) is;
+    used = Nothing;
+    after = ap ends_of same;
+  };
+  moved = λ i. refl;
 }
-asks true Above task old new c = record {
-  called = Nobody;
-  used = CentreUsed (LinkAsks old.now task);
-  after = ap ends_of c.1;
-}
+
+moved_by_reading : (station : ℕ) (kind : Kind) (index : ℕ) (reading : Reading) (old new : System) → system.Reads station kind index reading old new
+    → Moved (at_only station (PointReads kind index reading ∷ [])) old new
+moved_by_reading station kind index reading old new c =
+    reads_by station kind index reading c.was (answer_of c.was.core.points kind index reading) old new c.there refl c.reads
+
+asks : (own : Bool) (on : Link) (task : Task) (old new : System) → AsksOn own on task old new → Moved none old new
+asks true (Below station) task old new c = moved_none old new (LinkUsed station (LinkAsks old.now task))
+    (lines_same (Below station) _ (with_link old station _) new c)
+asks true Above task old new c = moved_none old new (CentreUsed (LinkAsks old.now task))
+    (ap ends_of c.1)
 asks false on task old new same = same_system old new same
 
 issues : (o : Option Command) (station : ℕ) (command : Command) (old new : System) → command_above old.centre.indices station command ≡ o
-    → IssuesBy o station command old new → Touched old new
+    → IssuesBy o station command old new → Moved none old new
 issues None station command old new is same = same_system old new same
 issues (Some above) station command old new is h =
-    record { called = Nobody; used = Issues station command above is h.1; after = ap ends_of h.2 }
+    moved_none old new (Issues station command above is h.1) (ap ends_of h.2)
 
-relays : (on : Link) (old new : System) → RelaysOn on old new → Touched old new
-relays (Below station) old new (Steps pending sends) = record {
-  called = Nobody;
-  used = LinkRelays station old.now;
-  after = lines_same (Below station) _ (with_link (told old (Below station) (step_on old (Below station))) station _) new sends;
-}
-relays Above old new (Steps pending sends) = record {
-  called = Nobody;
-  used = CentreRelays old.now;
-  after = ap ends_of sends.1;
-}
+relays : (on : Link) (old new : System) → RelaysOn on old new → Moved none old new
+relays (Below station) old new (Steps pending sends) = moved_none old new (LinkRelays station old.now)
+    (lines_same (Below station) _ (with_link (told old (Below station) (step_on old (Below station))) station _) new sends)
+relays Above old new (Steps pending sends) = moved_none old new (CentreRelays old.now)
+    (ap ends_of sends.1)
 relays on old new (Refuses refused same) = same_system old new same
 
-master_ticks : (on : Link) (old new : System) → MasterTicks on old new → Touched old new
+master_ticks : (on : Link) (old new : System) → MasterTicks on old new → Moved none old new
 master_ticks (Below station) old new after = by _ after
   where
     ticked : System
     ticked = with_link old station (relaying.ticked (link_at old.concentrator station) old.now)
 
-    by : (b : Bool) → new ≡ (if b then with_lost ticked station else ticked) → Touched old new
-    by true is = record { called = Nobody; used = LinkUsed station (LinkTicks old.now); after = ap ends_of is }
-    by false is = record { called = Nobody; used = LinkUsed station (LinkTicks old.now); after = ap ends_of is }
-master_ticks Above old new after = record { called = Nobody; used = CentreUsed (LinkTicks old.now); after = ap ends_of after }
+    by : (b : Bool) → new ≡ (if b then with_lost ticked station else ticked) → Moved none old new
+    by true is = moved_none old new (LinkUsed station (LinkTicks old.now)) (ap ends_of is)
+    by false is = moved_none old new (LinkUsed station (LinkTicks old.now)) (ap ends_of is)
+master_ticks Above old new after = moved_none old new (CentreUsed (LinkTicks old.now)) (ap ends_of after)
 
-ticks : (on : Link) (old new : System) → OutstationTicks on old new → Touched old new
+ticks : (on : Link) (old new : System) → OutstationTicks on old new → Moved none old new
 ticks (Below station) old new c =
-    calls_at station _ _ old new (λ was is s. refl) (λ was is there steps. record { call = Ticks old.now; after = ap station_of steps.after }) c
+    calls_at station _ _ old new (λ was is s. refl) (λ was is there steps. record { call = Ticks old.now; after = ap station_of steps.after; moved = refl }) c
 ticks Above old new m = rests old new (ap ends_of m.after)
 
 gone_same : (xs : List SubstationState) → map station_of (map master_gone xs) ≡ map station_of xs
 gone_same [] = refl
 gone_same (x ∷ xs) = ap (λ (ys : List State). station_of x ∷ ys) (gone_same xs)
 
-if_there : (b : Bool) (Change : System → System → Type 0) (old new : System) → (Change old new → Touched old new) → IfThere b Change old new
-    → Touched old new
+if_there : (b : Bool) (Change : System → System → Type 0) (old new : System) → (Change old new → Moved none old new) → IfThere b Change old new
+    → Moved none old new
 if_there true Change old new touched h = touched h
 if_there false Change old new touched same = same_system old new same
 
+if_moved : (b : Bool) (Change : System → System → Type 0) (station : ℕ) (moves : List Move) (old new : System)
+    → (Change old new → Moved (at_only station moves) old new) → IfThere b Change old new
+    → Moved (λ i. if b && station == i then moves else []) old new
+if_moved true Change station moves old new moved h = moved h
+if_moved false Change station moves old new moved same = same_system old new same
+
+pub moves : (old new : System) (e : Event) → Happens old e new → Moved (moves_at old e) old new
+moves old new (event.Open on) h = if_there (has_link old on) (OpensOn on) old new (opens on old new) h
+moves old new (event.HangUp on e) h = if_there (has_link old on) (HangsUpOn on e) old new (hangs_up on e old new) h
+moves old new (event.Deliver on w) h = if_there (has_link old on) (ComesOn delivered_on on w) old new (comes delivered_on on w old new) h
+moves old new (event.Repeat on w) h = if_there (has_link old on) (ComesOn repeated_on on w) old new (comes repeated_on on w old new) h
+moves old new (event.Lose on w) h = if_there (has_link old on) _ old new (λ c. rests old new (lines_same on _ old new c)) h
+moves old new (event.Damage on w octets) h = if_there (has_link old on) _ old new (λ c. rests old new (lines_same on _ old new c)) h
+moves old new (event.Change station kind index reading) h =
+    if_moved (has_station old station) (system.Reads station kind index reading) station (PointReads kind index reading ∷ []) old new
+    (moved_by_reading station kind index reading old new) h
+moves old new (event.Ask on task) h = if_there (has_link old on) (AsksOn (is_own task) on task) old new (asks (is_own task) on task old new) h
+moves old new (event.Issue station command) h = issues (command_above old.centre.indices station command) station command old new refl h
+moves old new (event.Relay on) h = if_there (has_link old on) (RelaysOn on) old new (relays on old new) h
+moves old new (event.Pass ms) h = rests old new (ap ends_of h)
+moves old new (event.Tick on end.Master) h = if_there (has_link old on) (MasterTicks on) old new (master_ticks on old new) h
+moves old new (event.Tick on end.Outstation) h = if_there (has_link old on) (OutstationTicks on) old new (ticks on old new) h
+moves old new (event.Restart place.Centre) h = hangs_up Above end.Master old new h
+moves old new (event.Restart place.Concentrator) h = moved_none old new (AllHangUp)
+    (ap ends_of h ∙ ap (λ (xs : List State). record (after_used (ends_of old) AllHangUp) { outstations = xs }) (gone_same old.substations))
+moves old new (event.Restart (place.Substation station)) h =
+    if_moved (has_station old station) (SubstationRestarts station) station (PointsRestart ∷ []) old new
+    (changes_points (PointsRestart ∷ []) station _ _ old new old.concentrator Nothing refl (λ was is s. refl) (λ was is there after. record { call = Restarts; after = ap station_of after; moved = refl })) h
+
 pub touches : (old new : System) (e : Event) → Happens old e new → Touched old new
-touches old new (event.Open on) h = if_there (has_link old on) (OpensOn on) old new (opens on old new) h
-touches old new (event.HangUp on e) h = if_there (has_link old on) (HangsUpOn on e) old new (hangs_up on e old new) h
-touches old new (event.Deliver on w) h = if_there (has_link old on) (ComesOn delivered_on on w) old new (comes delivered_on on w old new) h
-touches old new (event.Repeat on w) h = if_there (has_link old on) (ComesOn repeated_on on w) old new (comes repeated_on on w old new) h
-touches old new (event.Lose on w) h = if_there (has_link old on) _ old new (λ c. rests old new (lines_same on _ old new c)) h
-touches old new (event.Damage on w octets) h = if_there (has_link old on) _ old new (λ c. rests old new (lines_same on _ old new c)) h
-touches old new (event.Change station kind index reading) h =
-    if_there (has_station old station) (system.Reads station kind index reading) old new (touched_by_reading station kind index reading old new) h
-touches old new (event.Ask on task) h = if_there (has_link old on) (AsksOn (is_own task) on task) old new (asks (is_own task) on task old new) h
-touches old new (event.Issue station command) h = issues (command_above old.centre.indices station command) station command old new refl h
-touches old new (event.Relay on) h = if_there (has_link old on) (RelaysOn on) old new (relays on old new) h
-touches old new (event.Pass ms) h = rests old new (ap ends_of h)
-touches old new (event.Tick on end.Master) h = if_there (has_link old on) (MasterTicks on) old new (master_ticks on old new) h
-touches old new (event.Tick on end.Outstation) h = if_there (has_link old on) (OutstationTicks on) old new (ticks on old new) h
-touches old new (event.Restart place.Centre) h = hangs_up Above end.Master old new h
-touches old new (event.Restart place.Concentrator) h = record {
-  called = Nobody;
-  used = AllHangUp;
-  after = ap ends_of h ∙ ap (λ (xs : List State). record (after_used (ends_of old) AllHangUp) { outstations = xs }) (gone_same old.substations);
-}
-touches old new (event.Restart (place.Substation station)) h =
-    if_there (has_station old station) (SubstationRestarts station) old new
-    (calls_at station _ _ old new (λ was is s. refl) (λ was is there after. record { call = Restarts; after = ap station_of after })) h
+touches old new e h = (moves old new e h).touched
+
+pub touched_by_reading : (station : ℕ) (kind : Kind) (index : ℕ) (reading : Reading) (old new : System) → system.Reads station kind index reading old new
+    → Touched old new
+touched_by_reading station kind index reading old new c = (moved_by_reading station kind index reading old new c).touched

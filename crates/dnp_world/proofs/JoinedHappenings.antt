@@ -102,7 +102,7 @@ refused_if blocks kind index reading fault (Some state) true false there is_c is
     ap (λ (b : Bool). if b && is_in_time reading.time then updated_in (changed_state kind index reading) blocks index else blocks) is_c
     ∙ ap (λ (b : Bool). if true && b then updated_in (changed_state kind index reading) blocks index else blocks) is_t
 
-refused_change : (database : Database) (kind : Kind) (index : ℕ) (reading : Reading) (fault : ChangeFault)
+pub refused_change : (database : Database) (kind : Kind) (index : ℕ) (reading : Reading) (fault : ChangeFault)
     → answer_of database kind index reading ≡ Err fault
     → changed_of database kind index reading ≡ database
 refused_change database kind index reading fault e =

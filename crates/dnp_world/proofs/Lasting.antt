@@ -9,7 +9,7 @@ use Rattle.dnp_world.specs.Kept.{report_of}
 use Rattle.dnp_world.specs.Reports.{IsFate, Report, happened}
 use Rattle.dnp_world.specs.Rounds.{IsRound, StopsInRound}
 use Rattle.dnp_world.specs.Stations.{HasSameCounts, of_station}
-use Rattle.dnp_world.specs.Steady.{Goes, IsSteady, Lasts, Makes, made_by}
+use Rattle.dnp_world.specs.Steady.{Goes, IsSteady, Lasts, points_at, rows_made_at}
 use Rattle.dnp_world.specs.SystemRuns.{CountsFor, Happens, RunsTo, StopsAfter}
 use Rattle.dnp_world.specs.Systems.{System}
 use Rattle.dnp_world.specs.declared.event.Event.{Event}
@@ -23,12 +23,15 @@ use Rattle.dnp_world.specs.declared.round_fault.RoundFault.TheVariants as round
 use Rattle.dnp_world.specs.declared.stopped.Stopped.{Stopped}
 use Rattle.dnp_world.specs.declared.round_fault.ControlFault.TheVariants as fault
 use Rattle.dnp_world.proofs.Counting.{count_by-append}
+use Rattle.dnp_world.proofs.EventPoints.{made_after, none_made}
 use Rattle.dnp_world.proofs.SystemControls.{IsOfControl, ran_accepted, ran_back, ran_twice, stops_for}
 use Rattle.dnp_world.proofs.SystemRounds.{IsOfRound, Ran, StopsIn, ran_both, ran_flush, ran_one, ran_poll}
 
 -- what the laws of one event and of lists promise
 pub record LastingLaws : Type 0 where
-  pub goes : (old new : System) (event : Event) → IsSteady old → Happens old event new → Goes (made_by old event) old new
+  pub goes : (old new : System) (event : Event) → IsSteady old → Happens old event new → Goes (rows_made_at old (event ∷ [])) old new
+  pub rows : (old next : System) (event : Event) (events : List Event) → Happens old event next → (i : ℕ)
+      → rows_made_at old (event ∷ events) i ≡ rows_made_at old (event ∷ []) i ++ rows_made_at next events i
   pub joined : (first second : ℕ → List Row) (a b c : Report) → IsFate first a b → IsFate second b c → IsFate (λ i. first i ++ second i) a c
 
 nothing_more : (r : Report) → IsFate (λ i. []) r r
@@ -36,6 +39,15 @@ nothing_more r i = record { same = λ test. omega (arith, count_by-append test (
 
 pub rests : (old new : System) → IsSteady old → new ≡ old → Goes (λ i. []) old new
 rests old new s same = subst (Goes (λ i. []) old) (sym same) (record { steady = s; fate = nothing_more (report_of old) })
+
+-- with the same rows, said otherwise
+pub goes_as : (made rows : ℕ → List Row) (old new : System) → ((i : ℕ) → made i ≡ rows i) → Goes made old new → Goes rows old new
+goes_as made rows old new same g = record {
+  steady = g.steady;
+  fate = λ i.
+      subst (λ (xs : List Row). HasSameCounts (of_station i (happened (report_of new))) (of_station i (happened (report_of old)) ++ xs))
+      (same i) (g.fate i);
+}
 
 -- one list after another
 pub goes_on : LastingLaws → (first second : ℕ → List Row) (old mid new : System) → Goes first old mid → Goes second mid new
@@ -45,25 +57,19 @@ goes_on laws first second old mid new f s = record {
   fate = laws.joined first second (report_of old) (report_of mid) (report_of new) f.fate s.fate;
 }
 
--- the rows that a run makes
-abbrev pub rows_made : (events : List Event) (old new : System) → RunsTo old events new → ℕ → List Row
-rows_made [] old new same = λ i. []
-rows_made (e ∷ events) old new (next, h, ran) = λ i. made_by old e i ++ rows_made events next new ran i
-
-makes : (events : List Event) (old new : System) (ran : RunsTo old events new) → Makes old events (rows_made events old new ran)
-makes [] old new same = λ i. refl
-makes (e ∷ events) old new (next, h, ran) = (next, rows_made events next new ran, h, makes events next new ran, λ i. refl)
-
-pub goes_by : LastingLaws → (events : List Event) (old new : System) → IsSteady old → (ran : RunsTo old events new)
-    → Goes (rows_made events old new ran) old new
-goes_by laws [] old new s same = rests old new s same
+pub goes_by : LastingLaws → (events : List Event) (old new : System) → IsSteady old → RunsTo old events new
+    → Goes (rows_made_at old events) old new
+goes_by laws [] old new s same = goes_as (λ i. []) (rows_made_at old []) old new (λ i. sym (none_made (points_at old i))) (rests old new s same)
 goes_by laws (e ∷ events) old new s (next, h, ran) =
-    let first : Goes (made_by old e) old next = laws.goes old next e s h in
-    goes_on laws (made_by old e) (rows_made events next new ran) old next new first (goes_by laws events next new first.steady ran)
+    let first : Goes (rows_made_at old (e ∷ [])) old next = laws.goes old next e s h in
+    goes_as (λ i. rows_made_at old (e ∷ []) i ++ rows_made_at next events i) (rows_made_at old (e ∷ events)) old new
+    (λ i. sym (laws.rows old next e events h i))
+    (goes_on laws (rows_made_at old (e ∷ [])) (rows_made_at next events) old next new first (goes_by laws events next new first.steady ran))
 
 -- what counts for an event at which a list stops makes no row
 pub stops : LastingLaws → (e : Event) (old new : System) → IsSteady old → CountsFor old e new → Goes (λ i. []) old new
-stops laws (event.Deliver on way) old new s h = laws.goes old new (event.Lose on way) s h
+stops laws (event.Deliver on way) old new s h =
+    goes_as (rows_made_at old (event.Lose on way ∷ [])) (λ i. []) old new (λ i. none_made (points_at old i)) (laws.goes old new (event.Lose on way) s h)
 stops laws (event.Open on) old new s same = rests old new s same
 stops laws (event.HangUp on end) old new s same = rests old new s same
 stops laws (event.Repeat on way) old new s same = rests old new s same
@@ -95,9 +101,9 @@ goes_then laws made old mid new f g = record {
 }
 
 pub goes_stopped : LastingLaws → (events : List Event) (done : ℕ) (old new : System) → IsSteady old → (stop : StopsAfter old events done new)
-    → Goes (rows_made (take done events) old stop.before stop.ran) old new
+    → Goes (rows_made_at old (take done events)) old new
 goes_stopped laws events done old new s stop =
-    let made = rows_made (take done events) old stop.before stop.ran in
+    let made : ℕ → List Row = rows_made_at old (take done events) in
     let first : Goes made old stop.before = goes_by laws (take done events) old stop.before s stop.ran in
     goes_then laws made old stop.before new first (stops laws stop.event stop.before new first.steady stop.counts)
 
@@ -114,23 +120,20 @@ pub steady_of : (made : ℕ → List Row) (old new : System) → ∥ IsSteady ol
 steady_of made old new some goes = ∥∥₁_map some (λ s. (goes s).steady)
 
 pub lasts : LastingLaws → (events : List Event) (old new : System) → ∥ IsSteady old ∥₁ → RunsTo old events new → Lasts events old new
-lasts laws events old new some ran =
-    let made = rows_made events old new ran in
-    record {
-      made = made;
-      makes = makes events old new ran;
-      fate = fate_of made old new some (λ s. goes_by laws events old new s ran);
-    }
+lasts laws events old new some ran = fate_of (rows_made_at old events) old new some (λ s. goes_by laws events old new s ran)
 
 pub lasts_stopped : LastingLaws → (events : List Event) (done : ℕ) (old new : System) → ∥ IsSteady old ∥₁ → StopsAfter old events done new
     → Lasts (take done events) old new
 lasts_stopped laws events done old new some stop =
-    let made = rows_made (take done events) old stop.before stop.ran in
-    record {
-      made = made;
-      makes = makes (take done events) old stop.before stop.ran;
-      fate = fate_of made old new some (λ s. goes_stopped laws events done old new s stop);
-    }
+    fate_of (rows_made_at old (take done events)) old new some (λ s. goes_stopped laws events done old new s stop)
+
+-- two runs, one after the other, are one
+pub lasts_on : LastingLaws → (old mid new : System) (first second : List Event) → RunsTo old first mid → Lasts first old mid → Lasts second mid new
+    → Lasts (first ++ second) old new
+lasts_on laws old mid new first second ran one two i =
+    subst (λ (rows : List Row). HasSameCounts (of_station i (happened (report_of new))) (of_station i (happened (report_of old)) ++ rows))
+    (sym (made_after laws.rows old mid first second ran i))
+    (laws.joined (rows_made_at old first) (rows_made_at mid second) (report_of old) (report_of mid) (report_of new) one two i)
 
 -- ---- events that make no row
 
@@ -143,18 +146,12 @@ all_taken P (suc n) (x ∷ xs) all (suc k) d low =
 
 -- such events make none, in whatever system
 abbrev MakeNone : (Event → Type 0) → Type 0
-MakeNone P = (e : Event) → P e → (s : System) (i : ℕ) → made_by s e i ≡ []
+MakeNone P = (e : Event) → P e → (s : System) (i : ℕ) → rows_made_at s (e ∷ []) i ≡ []
 
 one_calm : LastingLaws → (P : Event → Type 0) → MakeNone P → (e : Event) → P e → (old new : System) → IsSteady old → Happens old e new
     → Goes (λ i. []) old new
 one_calm laws P none e is old new s h =
-    let g : Goes (made_by old e) old new = laws.goes old new e s h in
-    record {
-      steady = g.steady;
-      fate = λ i.
-          subst (λ (rows : List Row). HasSameCounts (of_station i (happened (report_of new))) (of_station i (happened (report_of old)) ++ rows))
-          (none e is old i) (g.fate i);
-    }
+    goes_as (rows_made_at old (e ∷ [])) (λ i. []) old new (none e is old) (laws.goes old new e s h)
 
 pub calm : LastingLaws → (P : Event → Type 0) → MakeNone P → (events : List Event) → All P events → (old new : System) → IsSteady old
     → RunsTo old events new → Goes (λ i. []) old new
@@ -176,12 +173,12 @@ calm_stop laws P none old new s r =
 -- ---- rounds and controls
 
 pub round_makes_none : (on : Link) → MakeNone (IsOfRound on)
-round_makes_none on e (inl is) s i = rw is refl
-round_makes_none on e (inr (w, is)) s i = rw is refl
+round_makes_none on e (inl is) s i = rw is (none_made (points_at s i))
+round_makes_none on e (inr (w, is)) s i = rw is (none_made (points_at s i))
 
 pub control_makes_none : MakeNone IsOfControl
-control_makes_none e (on, inl is) s i = rw is refl
-control_makes_none e (on, inr (w, is)) s i = rw is refl
+control_makes_none e (on, inl is) s i = rw is (none_made (points_at s i))
+control_makes_none e (on, inr (w, is)) s i = rw is (none_made (points_at s i))
 
 pub ran_round : (on : Link) (old new : System) → IsRound on old new → Ran (IsOfRound on) old new
 ran_round on old new r =

@@ -72,6 +72,7 @@ mod RelayWidths
 mod RelayKeeps
 mod Touches
 mod EventTouches
+mod EventPoints
 mod StepBooks
 mod StepEvents
 mod StepHappens

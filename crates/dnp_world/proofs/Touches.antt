@@ -1,6 +1,6 @@
 -- What an event touches of a system besides its lines: at most one outstation below, and at most one master with the book of its
 -- controls, each by a call of it.
-use Rattle.std.proofs.Common.{◌≡◌, ℕ, zero, suc, List, [], ◌∷◌, map, Option, Some, None, IfSome, option_map, Ok, sym, subst}
+use Rattle.std.proofs.Common.{◌≡◌, ℕ, zero, suc, ◌==◌, if◌then◌else◌, List, [], ◌∷◌, map, Option, Some, None, IfSome, option_map, Ok, Err, sym, subst}
 use Rattle.std.specs.Prelude.{slice_get, slice_set}
 use Rattle.std.proofs.lemmas.Option.{slice_get-map}
 use Rattle.dnp_concentrator.specs.Below.{link_in}
@@ -20,6 +20,9 @@ use Rattle.dnp_objects.specs.declared.row.Kind.{Kind}
 use Rattle.dnp_outstation.specs.Calls.{change_of, connection_after, opened_of, restarted_core, tick_of}
 use Rattle.dnp_outstation.specs.Connection.{closed}
 use Rattle.dnp_outstation.specs.State.{State}
+use Rattle.dnp_pointdb.specs.Database.{answer_of}
+use Rattle.dnp_pointdb.specs.Runs.{Move, Change, Restart}
+use Rattle.dnp_pointdb.specs.declared.fault.ChangeFault.{ChangeFault}
 use Rattle.dnp_pointdb.specs.declared.reading.Reading.{Reading}
 use Rattle.dnp_world.specs.CommandWidths.{HasWidths}
 use Rattle.dnp_world.specs.Systems.{SubstationState, System, station_of}
@@ -68,14 +71,31 @@ after_call s (Ticks now) = (tick_of s now).state
 after_call s HangsUp = record s { core = closed s.core }
 after_call s Restarts = record s { core = restarted_core s.core; lanes = without_all s.lanes }
 
--- none of them is called, or the one at a station that was so
+-- none of them is called, or the one at a station that was so, or that one refused a reading
 pub data Called (outstations : List State) : Type 0 where
   Nobody : Called outstations
   Outstation : (station : ℕ) (was : State) (call : Call) → slice_get outstations station ≡ Some was → Called outstations
+  Refused : (station : ℕ) (was : State) (kind : Kind) (index : ℕ) (reading : Reading) (fault : ChangeFault)
+      → slice_get outstations station ≡ Some was → answer_of was.core.points kind index reading ≡ Err fault → Called outstations
 
 abbrev pub after_called : (outstations : List State) → Called outstations → List State
 after_called outstations Nobody = outstations
 after_called outstations (Outstation station was call there) = slice_set outstations station (after_call was call)
+after_called outstations (Refused station was kind index reading fault there refused) = outstations
+
+-- what a call is to the points
+abbrev pub moves_of : Call → List Move
+moves_of (Reads now kind index reading made) = Change kind index reading ∷ []
+moves_of Restarts = Restart ∷ []
+moves_of call = []
+
+abbrev pub at_only : ℕ → List Move → ℕ → List Move
+at_only station moves i = if station == i then moves else []
+
+abbrev pub moves_in : {outstations : List State} → Called outstations → ℕ → List Move
+moves_in Nobody i = []
+moves_in (Outstation station was call there) i = at_only station (moves_of call) i
+moves_in (Refused station was kind index reading fault there refused) i = at_only station (Change kind index reading ∷ []) i
 
 -- ---- calls of a master
 
@@ -175,6 +195,7 @@ each_keeps Has old new keeps t all station =
 
     by : (called : Called (map station_of old.substations)) → EachHas Has (after_called (map station_of old.substations) called)
     by Nobody = before
+    by (Refused n was kind index reading fault there refused) = before
     by (Outstation n was call there) =
         set_has Has (map station_of old.substations) n (after_call was call) before
         (keeps n was call (subst (λ (o : Option State). IfSome o (Has n)) there (before n)))

@@ -1,23 +1,22 @@
 -- Definition: a steady system, one of which what is said of every moment holds, and what happens at its substations while a list of
 -- events is done (own rule: IEEE Std 1815-2012 speaks of one link at a time).
-use Rattle.std.specs.Prelude.{◌≡◌, ℕ, if◌then◌else◌, List, [], ◌∷◌, ◌++◌, slice_get, Option, Some, None}
-use Rattle.dnp_objects.specs.declared.row.Kind.{Kind}
+use Rattle.std.specs.Prelude.{ℕ, ◌==◌, ◌&&◌, if◌then◌else◌, List, [], ◌∷◌, slice_get, option_map, Option, Some, None}
+use Rattle.std.specs.List.{flat_map}
+use Rattle.dnp_eventbuf.specs.Stock.{arriving}
 use Rattle.dnp_objects.specs.declared.row.Row.{Row}
-use Rattle.dnp_pointdb.specs.declared.reading.Reading.{Reading}
-use Rattle.dnp_world.specs.Behind.{made_at}
+use Rattle.dnp_pointdb.specs.Database.{Database}
+use Rattle.dnp_pointdb.specs.Runs.{Move, Change, Restart, rows_of}
 use Rattle.dnp_world.specs.ControlsInStep.{InStep}
 use Rattle.dnp_world.specs.Happened.{HappenedAsEvents}
-use Rattle.dnp_world.specs.Joined.{rows_made_by}
 use Rattle.dnp_world.specs.Kept.{report_of}
 use Rattle.dnp_world.specs.Planned.{IsAsPlanned}
 use Rattle.dnp_world.specs.Reports.{IsFate}
 use Rattle.dnp_world.specs.Settled.{AreSettled}
-use Rattle.dnp_world.specs.SystemRuns.{Happens}
 use Rattle.dnp_world.specs.SystemStanding.{IsStanding}
-use Rattle.dnp_world.specs.Systems.{SubstationState, System, has_station}
+use Rattle.dnp_world.specs.Systems.{System, has_station}
 use Rattle.dnp_world.specs.declared.event.Event.{Event}
 use Rattle.dnp_world.specs.declared.event.Event.TheVariants as event
-use Rattle.dnp_world.specs.declared.link_event.LinkEvent.TheVariants as link_event
+use Rattle.dnp_world.specs.declared.event.Place.TheVariants as place
 
 -- Links of the law stand behind it, what happened at its substations can be reported, it is of a plan, its substations have started
 -- what they may, and its controls are in step with their books.
@@ -30,30 +29,29 @@ pub record IsSteady (s : System) : Type 0 where
 
 -- ---- what happens at the substations
 
--- the row that a reading of a substation's point makes, if it makes one
-abbrev pub read_at : Option SubstationState → Kind → ℕ → Reading → List Row
-read_at None kind index reading = []
-read_at (Some s) kind index reading = rows_made_by s.core.points (link_event.Change kind index reading ∷ [])
+-- what an event is to the points of each substation of the plan: its readings, and its restarts
+abbrev pub moves_at : System → Event → ℕ → List Move
+moves_at s (event.Change station kind index reading) i = if has_station s station && station == i then Change kind index reading ∷ [] else []
+moves_at s (event.Restart (place.Substation station)) i = if has_station s station && station == i then Restart ∷ [] else []
+moves_at s event i = []
 
--- the rows that an event makes at each substation: readings of the plan's substations make some
-abbrev pub made_by : System → Event → ℕ → List Row
-made_by s (event.Change station kind index reading) i =
-    if has_station s station then made_at station (read_at (slice_get s.substations station) kind index reading) i else []
-made_by s event i = []
+abbrev pub points_at : System → ℕ → Option Database
+points_at s i = option_map (λ x. x.core.points) (slice_get s.substations i)
 
--- The events happen one after the other, and make these rows.
-abbrev pub Makes : System → List Event → (ℕ → List Row) → Type 0
-Makes old [] made = (i : ℕ) → made i ≡ []
-Makes old (event ∷ events) made =
-    (next : System) × (rest : ℕ → List Row) × Happens old event next × Makes next events rest × ((i : ℕ) → made i ≡ made_by old event i ++ rest i)
+abbrev pub made_from : Option Database → List Move → List Row
+made_from None moves = []
+made_from (Some points) moves = arriving (rows_of points moves)
+
+-- The rows that these events make at each substation, by its points as they are before the first of them: what the lines, the lanes
+-- and the other stations do has no part in it.
+abbrev pub rows_made_at : System → List Event → ℕ → List Row
+rows_made_at s events i = made_from (points_at s i) (flat_map (λ e. moves_at s e i) events)
 
 -- the system is steady again, and what happened is what had happened and these rows of each substation
 pub record Goes (made : ℕ → List Row) (old new : System) : Type 0 where
   pub steady : IsSteady new
   pub fate : IsFate made (report_of old) (report_of new)
 
--- Events made these rows, and what happened at each substation is what had happened and these.
-pub record Lasts (events : List Event) (old new : System) : Type 0 where
-  pub made : ℕ → List Row
-  pub makes : Makes old events made
-  pub fate : IsFate made (report_of old) (report_of new)
+-- What happened at each substation is what had happened, and the rows that these events make.
+abbrev pub Lasts : List Event → System → System → Type 0
+Lasts events old new = IsFate (rows_made_at old events) (report_of old) (report_of new)

@@ -1,6 +1,6 @@
 //! Laws of a whole system at every moment. Each function does nothing, and its contract is a law.
 
-ghost use Rattle.std.specs.Prelude.{◌≡◌, ℕ, List, [], Result, take, ⊤};
+ghost use Rattle.std.specs.Prelude.{◌≡◌, ℕ, List, [], ◌∷◌, ◌++◌, Result, take, ⊤};
 ghost use Rattle.dnp_concentrator.specs.declared.plan.Plan.{Plan};
 ghost use Rattle.dnp_controls.specs.Book.{Ledger};
 ghost use Rattle.dnp_eventbuf.specs.Archive.{Archive};
@@ -14,7 +14,7 @@ ghost use Rattle.dnp_world.specs.Kept.{report_of};
 ghost use Rattle.dnp_world.specs.NewSystems.{AreEmpty, CanBegin};
 ghost use Rattle.dnp_world.specs.Reports.{Holds};
 ghost use Rattle.dnp_world.specs.Rounds.{IsRound, StopsInRound};
-ghost use Rattle.dnp_world.specs.Steady.{Goes, IsSteady, Lasts, made_by};
+ghost use Rattle.dnp_world.specs.Steady.{Goes, IsSteady, Lasts, rows_made_at};
 ghost use Rattle.dnp_world.specs.SystemRuns.{Happens, RunsTo, StopsAfter};
 ghost use Rattle.dnp_world.specs.Systems.{System};
 
@@ -30,11 +30,21 @@ use crate::system_laws::{
     other_events_keep_what_stands, what_comes_to_the_centre_keeps_what_stands,
     what_stands_is_shown,
 };
+use dnp_outstation::link_laws::content_leaves_the_connection_alone;
+
+/// Which rows events make at a substation follows from its points, and from the events: what a list of them makes is what the first
+/// makes, and then what the others make of the points after it.
+pub fn rows_are_made_by_events_alone()
+    ensures { (old next : System) (event : Event) (events : List Event) → Happens old event next → (i : ℕ)
+        → rows_made_at old (event ∷ events) i ≡ rows_made_at old (event ∷ []) i ++ rows_made_at next events i }
+{
+    content_leaves_the_connection_alone();
+}
 
 /// Whatever happens to a steady system leaves it steady, and what happened at its substations is what had happened and the rows
 /// that a reading makes.
 pub fn every_event_keeps_a_system_steady()
-    ensures { (old new : System) (event : Event) → IsSteady old → Happens old event new → Goes (made_by old event) old new }
+    ensures { (old new : System) (event : Event) → IsSteady old → Happens old event new → Goes (rows_made_at old (event ∷ [])) old new }
 {
     events_below_keep_what_stands();
     calls_below_keep_what_stands();
@@ -61,11 +71,14 @@ pub fn steady_systems_stay_steady()
     ensures ran { (old new : System) (events : List Event) → ∥ IsSteady old ∥₁ → RunsTo old events new → Lasts events old new }
     ensures stopped { (old new : System) (events : List Event) (done : ℕ) → ∥ IsSteady old ∥₁ → StopsAfter old events done new
         → Lasts (take done events) old new }
+    ensures joined { (old mid new : System) (first second : List Event) → RunsTo old first mid → Lasts first old mid → Lasts second mid new
+        → Lasts (first ++ second) old new }
     ensures at_first { (plan : Plan) (queue : Stock) (journal : Archive) (controls orders : Ledger) → CanBegin plan
         → AreEmpty queue journal controls orders → IsSteady (fresh_system plan queue journal controls orders) }
     ensures holds { (s : System) → ∥ IsSteady s ∥₁ → Holds (report_of s) }
 {
     every_event_keeps_a_system_steady();
+    rows_are_made_by_events_alone();
     lists_are_of_links();
     a_new_system_stands();
     what_happened_can_be_reported();
@@ -84,5 +97,6 @@ pub fn rounds_and_controls_keep_a_system_steady()
         → Goes (λ i. []) old new }
 {
     every_event_keeps_a_system_steady();
+    rows_are_made_by_events_alone();
     lists_are_of_links();
 }

@@ -1,12 +1,12 @@
 -- Each event by the law of its kind.
-use Rattle.std.proofs.Common.{◌≡◌, ℕ, Bool, true, false, [], ◌∷◌, refl}
+use Rattle.std.proofs.Common.{◌≡◌, ℕ, Bool, true, false, [], ◌∷◌, refl, sym}
 use Rattle.std.specs.Prelude.{◌+◌, ◌^◌, ◌-◌, if◌then◌else◌, min, slice_get}
 use Rattle.dnp_objects.specs.declared.row.Kind.{Kind}
 use Rattle.dnp_pointdb.specs.declared.reading.Reading.{Reading}
 use Rattle.dnp_world.specs.Behind.{made_at}
 use Rattle.dnp_world.specs.Channels.{DamagesAt}
 use Rattle.dnp_world.specs.OneLinkEvents.{is_own}
-use Rattle.dnp_world.specs.Steady.{Goes, IsSteady, made_by, read_at}
+use Rattle.dnp_world.specs.Steady.{Goes, IsSteady}
 use Rattle.dnp_world.specs.SystemEvents.{AsksOn, ComesDownBelow, ComesUp, HangsUpOn, LinesChange, LosesOn, MasterTicks, OpensOn, OutstationTicks, Reads, RelaysOn, SubstationRestarts}
 use Rattle.dnp_world.specs.SystemRuns.{Happens, IfThere}
 use Rattle.dnp_world.specs.SystemStanding.{Keeps}
@@ -19,6 +19,8 @@ use Rattle.dnp_world.specs.declared.link_event.End.TheVariants as end
 use Rattle.dnp_world.specs.declared.link_event.Way.TheVariants as way
 use Rattle.dnp_world.specs.declared.link_event.LinkEvent.TheVariants as link_event
 use Rattle.dnp_line.specs.Lines.{delivered_on, repeated_on}
+use Rattle.dnp_world.proofs.EventPoints.{made_by, made_once, read_at}
+use Rattle.dnp_world.proofs.Lasting.{goes_as}
 use Rattle.dnp_world.proofs.headline_laws.every_event_keeps_a_system_steady.Goals as goal
 
 -- what keeps links behind a system, with no row made
@@ -145,4 +147,4 @@ goes c old new (event.Restart (place.Substation station)) s h =
     (λ is e. c.events_below_keep_what_stands.ensures.restarted old new station s.standing e) h
 
 pub returns : goal.returns
-returns c = goes c
+returns c = λ old new event s h. goes_as (made_by old event) _ old new (λ i. sym (made_once old event i)) (goes c old new event s h)

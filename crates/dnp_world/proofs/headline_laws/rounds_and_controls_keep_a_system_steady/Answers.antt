@@ -4,7 +4,11 @@ use Rattle.dnp_world.proofs.SystemRounds.{IsOfRound, stops_round}
 use Rattle.dnp_world.proofs.headline_laws.rounds_and_controls_keep_a_system_steady.Goals as goal
 
 laws_of : goal.After-lists_are_of_links → LastingLaws
-laws_of c = record { goes = c.every_event_keeps_a_system_steady.ensures; joined = c.lists_are_of_links.ensures.joined }
+laws_of c = record {
+  goes = c.every_event_keeps_a_system_steady.ensures;
+  rows = c.rows_are_made_by_events_alone.ensures;
+  joined = c.lists_are_of_links.ensures.joined;
+}
 
 pub returns-clause-rests : goal.returns-clause-rests
 returns-clause-rests c = λ old new s same. rests old new s same

@@ -1,10 +1,14 @@
 -- Event by event.
 use Rattle.std.proofs.Math.Logic.{∥∥₁_map}
-use Rattle.dnp_world.proofs.Lasting.{LastingLaws, goes_by, goes_stopped, lasts, lasts_stopped}
+use Rattle.dnp_world.proofs.Lasting.{LastingLaws, goes_by, goes_stopped, lasts, lasts_on, lasts_stopped}
 use Rattle.dnp_world.proofs.headline_laws.steady_systems_stay_steady.Goals as goal
 
 laws_of : goal.After-what_stands_is_shown → LastingLaws
-laws_of c = record { goes = c.every_event_keeps_a_system_steady.ensures; joined = c.lists_are_of_links.ensures.joined }
+laws_of c = record {
+  goes = c.every_event_keeps_a_system_steady.ensures;
+  rows = c.rows_are_made_by_events_alone.ensures;
+  joined = c.lists_are_of_links.ensures.joined;
+}
 
 pub returns-clause-stays : goal.returns-clause-stays
 returns-clause-stays c = λ old new events s ran. (goes_by (laws_of c) events old new s ran).steady
@@ -17,6 +21,9 @@ returns-clause-ran c = λ old new events some ran. lasts (laws_of c) events old 
 
 pub returns-clause-stopped : goal.returns-clause-stopped
 returns-clause-stopped c = λ old new events done some stop. lasts_stopped (laws_of c) events done old new some stop
+
+pub returns-clause-joined : goal.returns-clause-joined
+returns-clause-joined c = lasts_on (laws_of c)
 
 pub returns-clause-at_first : goal.returns-clause-at_first
 returns-clause-at_first c = λ plan queue journal controls orders begins empty. record {
