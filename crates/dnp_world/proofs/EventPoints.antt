@@ -16,14 +16,14 @@ use Rattle.dnp_pointdb.specs.Runs.{Move, Change, Restart, rows_of}
 use Rattle.dnp_pointdb.specs.declared.reading.Reading.{Reading}
 use Rattle.dnp_world.specs.Behind.{made_at}
 use Rattle.dnp_world.specs.Joined.{rows_made_by}
-use Rattle.dnp_world.specs.Steady.{made_from, moves_at, points_at, rows_made_at}
+use Rattle.dnp_world.specs.Steady.{issued_by, made_from, moves_at, points_at, rows_made_at}
 use Rattle.dnp_world.specs.SystemRuns.{Happens, RunsTo}
 use Rattle.dnp_world.specs.Systems.{System, SubstationState, has_station, station_of}
 use Rattle.dnp_world.specs.declared.event.Event.{Event}
 use Rattle.dnp_world.specs.declared.event.Event.TheVariants as event
 use Rattle.dnp_world.specs.declared.event.Place.TheVariants as place
 use Rattle.dnp_world.specs.declared.link_event.LinkEvent.TheVariants as link_event
-use Rattle.dnp_world.proofs.EventTouches.{Moved, moves}
+use Rattle.dnp_world.proofs.EventTouches.{Does, does}
 use Rattle.dnp_world.proofs.JoinedHappenings.{moved_all, refused_change, rows_behind}
 use Rattle.dnp_world.proofs.JoinedPoints.{PointLaws, end_points, opened_leaves, received_leaves, ticked_leaves}
 use Rattle.dnp_world.proofs.ListedAt.{set_here, set_there}
@@ -113,7 +113,10 @@ points_mapped s i = by (slice_get s.substations i) ∙ ap (option_map (λ x. x.c
     by None = refl
     by (Some x) = refl
 
-event_points : PointLaws → (old new : System) (e : Event) → Moved (moves_at old e) old new → (i : ℕ)
+abbrev Done : System → Event → System → Type 0
+Done old e new = Does (moves_at old e) (issued_by old e) (ends_of old) (ends_of new)
+
+event_points : PointLaws → (old new : System) (e : Event) → Done old e new → (i : ℕ)
     → points_at new i ≡ option_map (λ points. moved_all points (moves_at old e i)) (points_at old i)
 event_points laws old new e m i =
     points_mapped new i
@@ -227,7 +230,7 @@ made_once s e i = none_made (points_at s i)
 pub made_behind : PointLaws → (old next : System) (e : Event) (events : List Event) → Happens old e next → (i : ℕ)
     → rows_made_at old (e ∷ events) i ≡ rows_made_at old (e ∷ []) i ++ rows_made_at next events i
 made_behind laws old next e events h i =
-    let m : Moved (moves_at old e) old next = moves old next e h in
+    let m : Done old e next = does old next e h in
     made_in_turn (points_at old i) (moves_at old e i) (flat_map (λ x. moves_at old x i) events)
     ∙ ap (λ (o : Option Database). rows_made_at old (e ∷ []) i ++ made_from o (flat_map (λ x. moves_at old x i) events))
     (sym (event_points laws old next e m i))

@@ -1,5 +1,5 @@
 -- What each event touches of a system besides its lines.
-use Rattle.std.proofs.Common.{◌≡◌, ℕ, Bool, true, false, ◌&&◌, ◌==◌, if◌then◌else◌, List, [], ◌∷◌, map, Option, Some, None, option_map, Result, Ok, Err, refl, sym, ap, ◌∙◌, subst}
+use Rattle.std.proofs.Common.{◌≡◌, ℕ, Bool, true, false, ◌&&◌, ◌==◌, if◌then◌else◌, List, [], ◌∷◌, map, Option, Some, None, is_some, option_map, Result, Ok, Err, refl, sym, ap, ◌∙◌, subst}
 use Rattle.std.specs.Prelude.{slice_get, slice_set}
 use Rattle.std.proofs.Math.Seq.{map-set_same}
 use Rattle.std.proofs.lemmas.List.{map-set}
@@ -25,7 +25,7 @@ use Rattle.dnp_world.specs.OneLinkEvents.{is_own}
 use Rattle.dnp_world.specs.Systems.{ConcentratorState, SubstationState, System, has_link, has_station, link_at, middle_panel, panel_of, station_of}
 use Rattle.dnp_world.specs.SystemEvents as system
 use Rattle.dnp_world.specs.SystemEvents.{Refuses, Steps, AsksOn, ChangesAt, ComesOn, ComesUp, HangsUpOn, IssuesBy, LinesChange, MasterReceives, MasterTakes, MasterTicks, MiddleAnswers, OpensOn, OutstationTicks, ReadsBy, RelaysOn, SubstationAnswers, SubstationRestarts, master_gone, relaying_at, step_on, taken_on, told, with_link, with_lost, with_middle, with_substation}
-use Rattle.dnp_world.specs.Steady.{moves_at}
+use Rattle.dnp_world.specs.Steady.{issued_by, moves_at}
 use Rattle.dnp_world.specs.SystemRuns.{Happens, IfThere}
 use Rattle.dnp_world.specs.declared.event.Event.{Event}
 use Rattle.dnp_world.specs.declared.event.Event.TheVariants as event
@@ -36,24 +36,27 @@ use Rattle.dnp_world.specs.declared.link_event.End.{End}
 use Rattle.dnp_world.specs.declared.link_event.End.TheVariants as end
 use Rattle.dnp_world.specs.declared.link_event.Way.{Way}
 use Rattle.dnp_world.specs.declared.link_event.Way.TheVariants as way
-use Rattle.dnp_world.proofs.Touches.{Call, Waits, Opens, Hears, Reads, Ticks, HangsUp, Restarts, Nobody, Outstation, LinkOpens, LinkHangsUp, LinkAsks, LinkHears, LinkTicks, Used, Nothing, LinkUsed, CentreUsed, LinkRelays, CentreRelays, Performs, Issues, AllHangUp, Ends, Touches, Touched, after_call, after_used, ends_of, Refused, at_only, moves_in, moves_of}
+use Rattle.dnp_world.proofs.Touches.{Call, Waits, Opens, Hears, Reads, Ticks, HangsUp, Restarts, Nobody, Outstation, LinkOpens, LinkHangsUp, LinkAsks, LinkHears, LinkTicks, Used, Nothing, LinkUsed, CentreUsed, LinkRelays, CentreRelays, Performs, Issues, AllHangUp, Ends, Touches, Touched, after_call, after_used, ends_of, Refused, at_only, issued_in, moves_in, moves_of}
 
--- ---- what an event touches, and what it is to the points of each outstation
+-- ---- what an event touches, what it is to the points of each outstation, and which commands it issues
 
-pub record Moves (moves : ℕ → List Move) (old new : Ends) : Type 0 where
+pub record Does (moves : ℕ → List Move) (commands : List (ℕ × Command)) (old new : Ends) : Type 0 where
   pub touched : Touches old new
   pub moved : (i : ℕ) → moves_in touched.called i ≡ moves i
+  pub issued : issued_in touched.used ≡ commands
 
-abbrev pub Moved : (ℕ → List Move) → System → System → Type 0
-Moved moves old new = Moves moves (ends_of old) (ends_of new)
+abbrev Moved : (ℕ → List Move) → System → System → Type 0
+Moved moves old new = Does moves [] (ends_of old) (ends_of new)
 
 abbrev none : ℕ → List Move
 none i = []
 
 -- no outstation is called
 moved_none : (old new : System) (used : Used (ends_of old))
-    → ends_of new ≡ record (after_used (ends_of old) used) { outstations = map station_of old.substations } → Moved none old new
-moved_none old new used after = record { touched = record { called = Nobody; used = used; after = after }; moved = λ i. refl }
+    → ends_of new ≡ record (after_used (ends_of old) used) { outstations = map station_of old.substations }
+    → Does none (issued_in used) (ends_of old) (ends_of new)
+moved_none old new used after =
+    record { touched = record { called = Nobody; used = used; after = after }; moved = λ i. refl; issued = refl }
 
 -- the lines, the moment, the history, the queue, the journal and readings above are others, and nothing else
 rests : (old new : System) → ends_of new ≡ ends_of old → Moved none old new
@@ -85,11 +88,11 @@ record IsCalled (moves : List Move) (was is : SubstationState) : Type 0 where
 changes_points : (moves : List Move)
     → (station : ℕ) (Change : SubstationState → SubstationState → Type 0) (rest : SubstationState → SubstationState → System → System)
     (old new : System) (middle : ConcentratorState) (used : Used (ends_of old))
-    → ends_of (with_middle old middle) ≡ record (after_used (ends_of old) used) { outstations = map station_of old.substations }
+    → issued_in used ≡ [] → ends_of (with_middle old middle) ≡ record (after_used (ends_of old) used) { outstations = map station_of old.substations }
     → ((was is : SubstationState) (s : System) → ends_of (rest was is s) ≡ ends_of s)
     → ((was is : SubstationState) → slice_get old.substations station ≡ Some was → Change was is → IsCalled moves was is)
     → ChangesAt station Change rest (with_middle old middle) new → Moved (at_only station moves) old new
-changes_points moves station Change rest old new middle used uses stays calls c =
+changes_points moves station Change rest old new middle used nothing uses stays calls c =
     let x : IsCalled moves c.was c.is = calls c.was c.is c.there c.changed in
     record {
       touched = record {
@@ -101,11 +104,12 @@ changes_points moves station Change rest old new middle used uses stays calls c 
             (map-set station_of old.substations station c.is ∙ ap (slice_set (map station_of old.substations) station) x.after);
       };
       moved = λ i. ap (λ (moves : List Move). at_only station moves i) x.moved;
+      issued = nothing;
     }
 
 -- and its points stay as they are
 calm : (station : ℕ) (old new : System) → Moved (at_only station []) old new → Moved none old new
-calm station old new m = record { touched = m.touched; moved = λ i. m.moved i ∙ still (station == i) }
+calm station old new m = record { touched = m.touched; moved = λ i. m.moved i ∙ still (station == i); issued = m.issued }
   where
     still : (b : Bool) → (if b then (let moves : List Move = [] in moves) else []) ≡ []
     still true = refl
@@ -113,31 +117,31 @@ calm station old new m = record { touched = m.touched; moved = λ i. m.moved i �
 
 changes : (station : ℕ) (Change : SubstationState → SubstationState → Type 0) (rest : SubstationState → SubstationState → System → System)
     (old new : System) (middle : ConcentratorState) (used : Used (ends_of old))
-    → ends_of (with_middle old middle) ≡ record (after_used (ends_of old) used) { outstations = map station_of old.substations }
+    → issued_in used ≡ [] → ends_of (with_middle old middle) ≡ record (after_used (ends_of old) used) { outstations = map station_of old.substations }
     → ((was is : SubstationState) (s : System) → ends_of (rest was is s) ≡ ends_of s)
     → ((was is : SubstationState) → slice_get old.substations station ≡ Some was → Change was is → IsCalled [] was is)
     → ChangesAt station Change rest (with_middle old middle) new → Moved none old new
-changes station Change rest old new middle used uses stays calls c =
-    calm station old new (changes_points [] station Change rest old new middle used uses stays calls c)
+changes station Change rest old new middle used nothing uses stays calls c =
+    calm station old new (changes_points [] station Change rest old new middle used nothing uses stays calls c)
 
 -- and no master is used
 calls_at : (station : ℕ) (Change : SubstationState → SubstationState → Type 0) (rest : SubstationState → SubstationState → System → System)
     (old new : System) → ((was is : SubstationState) (s : System) → ends_of (rest was is s) ≡ ends_of s)
     → ((was is : SubstationState) → slice_get old.substations station ≡ Some was → Change was is → IsCalled [] was is)
     → ChangesAt station Change rest old new → Moved none old new
-calls_at station Change rest old new stays calls c = changes station Change rest old new old.concentrator Nothing refl stays calls c
+calls_at station Change rest old new stays calls c = changes station Change rest old new old.concentrator Nothing refl refl stays calls c
 
 -- ---- events
 
 opens : (on : Link) (old new : System) → OpensOn on old new → Moved none old new
 opens (Below station) old new c =
-    changes station _ _ old new _ (LinkUsed station LinkOpens) refl (λ was is s. refl)
+    changes station _ _ old new _ (LinkUsed station LinkOpens) refl refl (λ was is s. refl)
     (λ was is there steps. record { call = Opens old.now; after = ap station_of steps.after; moved = refl }) c
 opens Above old new m = moved_none old new (CentreUsed LinkOpens) (ap ends_of m.after)
 
 hangs_up : (on : Link) (e : End) (old new : System) → HangsUpOn on e old new → Moved none old new
 hangs_up (Below station) end.Master old new c =
-    changes station _ _ old new _ (LinkUsed station LinkHangsUp) refl (λ was is s. refl)
+    changes station _ _ old new _ (LinkUsed station LinkHangsUp) refl refl (λ was is s. refl)
     (λ was is there after. record { call = Waits; after = ap station_of after; moved = refl }) c
 hangs_up (Below station) end.Outstation old new c =
     calls_at station _ _ old new (λ was is s. refl) (λ was is there after. record { call = HangsUp; after = ap station_of after; moved = refl }) c
@@ -170,7 +174,7 @@ takes on (fragment ∷ others) old new h = receives on old.now fragment _ old ne
 
 comes_up : (left : LineState → LineState) (on : Link) (old new : System) → ComesUp left on old new → Moved none old new
 comes_up left on old new c =
-    subst (λ (e : Ends). Moves none e (ends_of new)) (lines_same on _ old c.between c.heard) (takes on c.given c.between new c.came)
+    subst (λ (e : Ends). Does none [] e (ends_of new)) (lines_same on _ old c.between c.heard) (takes on c.given c.between new c.came)
 
 comes : (left : LineState → LineState) (on : Link) (w : Way) (old new : System) → ComesOn left on w old new → Moved none old new
 comes left (Below station) way.Down old new c =
@@ -184,7 +188,7 @@ reads_by : (station : ℕ) (kind : Kind) (index : ℕ) (reading : Reading) (was 
     (old new : System) → slice_get old.substations station ≡ Some was → answer_of was.core.points kind index reading ≡ r
     → ReadsBy r station kind index reading was old new → Moved (at_only station (PointReads kind index reading ∷ [])) old new
 reads_by station kind index reading was (Ok made) old new there is h =
-    changes_points (PointReads kind index reading ∷ []) station _ _ old new old.concentrator Nothing refl (λ x is s. refl)
+    changes_points (PointReads kind index reading ∷ []) station _ _ old new old.concentrator Nothing refl refl (λ x is s. refl)
     (λ x is at steps. record {
       call = Reads old.now kind index reading made;
       after = ap station_of steps.after
@@ -198,6 +202,7 @@ reads_by station kind index reading was (Err fault) old new there is same = reco
     after = ap ends_of same;
   };
   moved = λ i. refl;
+  issued = refl;
 }
 
 moved_by_reading : (station : ℕ) (kind : Kind) (index : ℕ) (reading : Reading) (old new : System) → system.Reads station kind index reading old new
@@ -213,7 +218,8 @@ asks true Above task old new c = moved_none old new (CentreUsed (LinkAsks old.no
 asks false on task old new same = same_system old new same
 
 issues : (o : Option Command) (station : ℕ) (command : Command) (old new : System) → command_above old.centre.indices station command ≡ o
-    → IssuesBy o station command old new → Moved none old new
+    → IssuesBy o station command old new
+    → Does none (if is_some o then (station, command) ∷ [] else []) (ends_of old) (ends_of new)
 issues None station command old new is same = same_system old new same
 issues (Some above) station command old new is h =
     moved_none old new (Issues station command above is h.1) (ap ends_of h.2)
@@ -256,31 +262,31 @@ if_moved : (b : Bool) (Change : System → System → Type 0) (station : ℕ) (m
 if_moved true Change station moves old new moved h = moved h
 if_moved false Change station moves old new moved same = same_system old new same
 
-pub moves : (old new : System) (e : Event) → Happens old e new → Moved (moves_at old e) old new
-moves old new (event.Open on) h = if_there (has_link old on) (OpensOn on) old new (opens on old new) h
-moves old new (event.HangUp on e) h = if_there (has_link old on) (HangsUpOn on e) old new (hangs_up on e old new) h
-moves old new (event.Deliver on w) h = if_there (has_link old on) (ComesOn delivered_on on w) old new (comes delivered_on on w old new) h
-moves old new (event.Repeat on w) h = if_there (has_link old on) (ComesOn repeated_on on w) old new (comes repeated_on on w old new) h
-moves old new (event.Lose on w) h = if_there (has_link old on) _ old new (λ c. rests old new (lines_same on _ old new c)) h
-moves old new (event.Damage on w octets) h = if_there (has_link old on) _ old new (λ c. rests old new (lines_same on _ old new c)) h
-moves old new (event.Change station kind index reading) h =
+pub does : (old new : System) (e : Event) → Happens old e new → Does (moves_at old e) (issued_by old e) (ends_of old) (ends_of new)
+does old new (event.Open on) h = if_there (has_link old on) (OpensOn on) old new (opens on old new) h
+does old new (event.HangUp on e) h = if_there (has_link old on) (HangsUpOn on e) old new (hangs_up on e old new) h
+does old new (event.Deliver on w) h = if_there (has_link old on) (ComesOn delivered_on on w) old new (comes delivered_on on w old new) h
+does old new (event.Repeat on w) h = if_there (has_link old on) (ComesOn repeated_on on w) old new (comes repeated_on on w old new) h
+does old new (event.Lose on w) h = if_there (has_link old on) _ old new (λ c. rests old new (lines_same on _ old new c)) h
+does old new (event.Damage on w octets) h = if_there (has_link old on) _ old new (λ c. rests old new (lines_same on _ old new c)) h
+does old new (event.Change station kind index reading) h =
     if_moved (has_station old station) (system.Reads station kind index reading) station (PointReads kind index reading ∷ []) old new
     (moved_by_reading station kind index reading old new) h
-moves old new (event.Ask on task) h = if_there (has_link old on) (AsksOn (is_own task) on task) old new (asks (is_own task) on task old new) h
-moves old new (event.Issue station command) h = issues (command_above old.centre.indices station command) station command old new refl h
-moves old new (event.Relay on) h = if_there (has_link old on) (RelaysOn on) old new (relays on old new) h
-moves old new (event.Pass ms) h = rests old new (ap ends_of h)
-moves old new (event.Tick on end.Master) h = if_there (has_link old on) (MasterTicks on) old new (master_ticks on old new) h
-moves old new (event.Tick on end.Outstation) h = if_there (has_link old on) (OutstationTicks on) old new (ticks on old new) h
-moves old new (event.Restart place.Centre) h = hangs_up Above end.Master old new h
-moves old new (event.Restart place.Concentrator) h = moved_none old new (AllHangUp)
+does old new (event.Ask on task) h = if_there (has_link old on) (AsksOn (is_own task) on task) old new (asks (is_own task) on task old new) h
+does old new (event.Issue station command) h = issues (command_above old.centre.indices station command) station command old new refl h
+does old new (event.Relay on) h = if_there (has_link old on) (RelaysOn on) old new (relays on old new) h
+does old new (event.Pass ms) h = rests old new (ap ends_of h)
+does old new (event.Tick on end.Master) h = if_there (has_link old on) (MasterTicks on) old new (master_ticks on old new) h
+does old new (event.Tick on end.Outstation) h = if_there (has_link old on) (OutstationTicks on) old new (ticks on old new) h
+does old new (event.Restart place.Centre) h = hangs_up Above end.Master old new h
+does old new (event.Restart place.Concentrator) h = moved_none old new (AllHangUp)
     (ap ends_of h ∙ ap (λ (xs : List State). record (after_used (ends_of old) AllHangUp) { outstations = xs }) (gone_same old.substations))
-moves old new (event.Restart (place.Substation station)) h =
+does old new (event.Restart (place.Substation station)) h =
     if_moved (has_station old station) (SubstationRestarts station) station (PointsRestart ∷ []) old new
-    (changes_points (PointsRestart ∷ []) station _ _ old new old.concentrator Nothing refl (λ was is s. refl) (λ was is there after. record { call = Restarts; after = ap station_of after; moved = refl })) h
+    (changes_points (PointsRestart ∷ []) station _ _ old new old.concentrator Nothing refl refl (λ was is s. refl) (λ was is there after. record { call = Restarts; after = ap station_of after; moved = refl })) h
 
 pub touches : (old new : System) (e : Event) → Happens old e new → Touched old new
-touches old new e h = (moves old new e h).touched
+touches old new e h = (does old new e h).touched
 
 pub touched_by_reading : (station : ℕ) (kind : Kind) (index : ℕ) (reading : Reading) (old new : System) → system.Reads station kind index reading old new
     → Touched old new

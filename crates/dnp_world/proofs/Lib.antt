@@ -73,6 +73,7 @@ mod RelayKeeps
 mod Touches
 mod EventTouches
 mod EventPoints
+mod EventsIssue
 mod StepBooks
 mod StepEvents
 mod StepHappens

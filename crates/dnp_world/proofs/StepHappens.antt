@@ -107,9 +107,13 @@ used_in_step laws old s i used = by used
         let is_map : IsMap e.centre_indices = subst IsMap (sym s.of_plan.centre_indices) s.of_plan.is_map in
         let last : Entry = record { id = e.orders.last_id + 1; target = 0; command = above; state = Pending } in
         let carries = added_carries laws.sound e.orders 0 above in
-        centre_changes e e.centre (added e.orders 0 above) (carried e.orders (added e.orders 0 above) 0 e.centre.progress carries h.above)
-        (carries.sound h.orders)
-        (All-push FitsEntry e.orders.entries last h.widths (above_fits laws e.centre_indices station command above is_map fits is)) h
+        record {
+          below = h.below;
+          above = carried e.orders (added e.orders 0 above) 0 e.centre.progress carries h.above;
+          controls = h.controls;
+          orders = carries.sound h.orders;
+          widths = All-push FitsEntry e.orders.entries last h.widths (above_fits laws e.centre_indices station command above is_map fits is);
+        }
     by AllHangUp = record {
       below = λ n. all_hung_up e.controls e.links n n;
       above = h.above;

@@ -1,6 +1,6 @@
 -- What an event touches of a system besides its lines: at most one outstation below, and at most one master with the book of its
 -- controls, each by a call of it.
-use Rattle.std.proofs.Common.{◌≡◌, ℕ, zero, suc, ◌==◌, if◌then◌else◌, List, [], ◌∷◌, map, Option, Some, None, IfSome, option_map, Ok, Err, sym, subst}
+use Rattle.std.proofs.Common.{◌≡◌, ℕ, zero, suc, ◌==◌, if◌then◌else◌, List, [], ◌∷◌, ◌++◌, map, Option, Some, None, IfSome, option_map, Ok, Err, sym, subst}
 use Rattle.std.specs.Prelude.{slice_get, slice_set}
 use Rattle.std.proofs.lemmas.Option.{slice_get-map}
 use Rattle.dnp_concentrator.specs.Below.{link_in}
@@ -29,13 +29,14 @@ use Rattle.dnp_world.specs.Systems.{SubstationState, System, station_of}
 
 -- ---- a system without its lines
 
--- the outstations below, the masters with the books of their controls, and the index maps
+-- the outstations below, the masters with the books of their controls, what was issued, and the index maps
 pub record Ends : Type 0 where
   pub outstations : List State
   pub links : List Relaying
   pub controls : Ledger
   pub centre : Relaying
   pub orders : Ledger
+  pub issued : List (ℕ × Command)
   pub indices : List Spans
   pub centre_indices : List Spans
 
@@ -46,6 +47,7 @@ ends_of s = record {
   controls = s.concentrator.controls;
   centre = s.centre.link;
   orders = s.centre.orders;
+  issued = s.history.issued;
   indices = s.indices;
   centre_indices = s.centre.indices;
 }
@@ -146,8 +148,15 @@ after_used e (CentreRelays now) = record e {
   orders = relaying.ledger_after e.orders (step_above e);
 }
 after_used e (Performs spans commands) = record e { controls = all_added spans e.controls commands }
-after_used e (Issues station command above is fits) = record e { orders = added e.orders 0 above }
+after_used e (Issues station command above is fits) = record e {
+  orders = added e.orders 0 above;
+  issued = e.issued ++ (station, command) ∷ [];
+}
 after_used e AllHangUp = record e { links = map relaying.hung_up e.links }
+
+abbrev pub issued_in : {e : Ends} → Used e → List (ℕ × Command)
+issued_in (Issues station command above is fits) = (station, command) ∷ []
+issued_in used = []
 
 -- ---- what an event touches
 

@@ -1,8 +1,10 @@
 -- Definition: a steady system, one of which what is said of every moment holds, and what happens at its substations while a list of
 -- events is done (own rule: IEEE Std 1815-2012 speaks of one link at a time).
-use Rattle.std.specs.Prelude.{ℕ, ◌==◌, ◌&&◌, if◌then◌else◌, List, [], ◌∷◌, slice_get, option_map, Option, Some, None}
+use Rattle.std.specs.Prelude.{◌≡◌, ℕ, ◌==◌, ◌&&◌, if◌then◌else◌, List, [], ◌∷◌, ◌++◌, slice_get, option_map, is_some, Option, Some, None}
 use Rattle.std.specs.List.{flat_map}
+use Rattle.dnp_concentrator.specs.Mapped.{command_above}
 use Rattle.dnp_eventbuf.specs.Stock.{arriving}
+use Rattle.dnp_objects.specs.declared.command.Command.{Command}
 use Rattle.dnp_objects.specs.declared.row.Row.{Row}
 use Rattle.dnp_pointdb.specs.Database.{Database}
 use Rattle.dnp_pointdb.specs.Runs.{Move, Change, Restart, rows_of}
@@ -51,6 +53,19 @@ rows_made_at s events i = made_from (points_at s i) (flat_map (λ e. moves_at s 
 pub record Goes (made : ℕ → List Row) (old new : System) : Type 0 where
   pub steady : IsSteady new
   pub fate : IsFate made (report_of old) (report_of new)
+
+-- ---- what is issued
+
+-- the command that an event issues, where the plan has its output
+abbrev pub issued_by : System → Event → List (ℕ × Command)
+issued_by s (event.Issue station command) = if is_some (command_above s.centre.indices station command) then (station, command) ∷ [] else []
+issued_by s event = []
+
+-- The list of what was issued is what it was, and the commands of these events.
+abbrev pub Issues : List Event → System → System → Type 0
+Issues events old new = new.history.issued ≡ old.history.issued ++ flat_map (issued_by old) events
+
+-- ---- a list of events
 
 -- What happened at each substation is what had happened, and the rows that these events make.
 abbrev pub Lasts : List Event → System → System → Type 0

@@ -14,7 +14,7 @@ ghost use Rattle.dnp_world.specs.Kept.{report_of};
 ghost use Rattle.dnp_world.specs.NewSystems.{AreEmpty, CanBegin};
 ghost use Rattle.dnp_world.specs.Reports.{Holds};
 ghost use Rattle.dnp_world.specs.Rounds.{IsRound, StopsInRound};
-ghost use Rattle.dnp_world.specs.Steady.{Goes, IsSteady, Lasts, rows_made_at};
+ghost use Rattle.dnp_world.specs.Steady.{Goes, IsSteady, Issues, Lasts, rows_made_at};
 ghost use Rattle.dnp_world.specs.SystemRuns.{Happens, RunsTo, StopsAfter};
 ghost use Rattle.dnp_world.specs.Systems.{System};
 
@@ -40,6 +40,13 @@ pub fn rows_are_made_by_events_alone()
 {
     content_leaves_the_connection_alone();
 }
+
+/// What lists of events issue are the commands of their events, and nothing else; also of a list that stops.
+pub fn commands_are_issued_by_events_alone()
+    ensures ran { (old new : System) (events : List Event) → RunsTo old events new → Issues events old new }
+    ensures stopped { (old new : System) (events : List Event) (done : ℕ) → StopsAfter old events done new
+        → Issues (take done events) old new }
+{}
 
 /// Whatever happens to a steady system leaves it steady, and what happened at its substations is what had happened and the rows
 /// that a reading makes.

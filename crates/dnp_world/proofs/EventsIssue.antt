@@ -1,0 +1,88 @@
+-- What lists of events issue.
+use Rattle.std.proofs.Common.{◌≡◌, ℕ, List, [], ◌∷◌, ◌++◌, append-nil, append_assoc, take, Option, is_some, if◌then◌else◌, refl, sym, ap, ◌∙◌}
+use Rattle.std.specs.List.{All, flat_map}
+use Rattle.std.proofs.lemmas.List.Elements.{All-head, All-tail}
+use Rattle.dnp_concentrator.specs.Mapped.{command_above}
+use Rattle.dnp_concentrator.specs.declared.span.Spans.{Spans}
+use Rattle.dnp_objects.specs.declared.command.Command.{Command}
+use Rattle.dnp_world.specs.Steady.{Issues, issued_by}
+use Rattle.dnp_world.specs.SystemRuns.{CountsFor, Happens, RunsTo, StopsAfter}
+use Rattle.dnp_world.specs.Systems.{System}
+use Rattle.dnp_world.specs.declared.event.Event.{Event}
+use Rattle.dnp_world.specs.declared.event.Event.TheVariants as event
+use Rattle.dnp_world.proofs.EventTouches.{Does, does}
+use Rattle.dnp_world.proofs.Touches.{AllHangUp, CentreRelays, CentreUsed, Ends, Issues as IssuesOne, LinkRelays, LinkUsed, Nothing, Performs, Used, after_used, ends_of, issued_in}
+
+-- ---- one event
+
+used_issues : (e : Ends) (used : Used e) → (after_used e used).issued ≡ e.issued ++ issued_in used
+used_issues e Nothing = sym (append-nil e.issued)
+used_issues e (LinkUsed station call) = sym (append-nil e.issued)
+used_issues e (CentreUsed call) = sym (append-nil e.issued)
+used_issues e (LinkRelays station now) = sym (append-nil e.issued)
+used_issues e (CentreRelays now) = sym (append-nil e.issued)
+used_issues e (Performs spans commands) = sym (append-nil e.issued)
+used_issues e (IssuesOne station command above is fits) = refl
+used_issues e AllHangUp = sym (append-nil e.issued)
+
+same_map : (e : Ends) (used : Used e) → (after_used e used).centre_indices ≡ e.centre_indices
+same_map e Nothing = refl
+same_map e (LinkUsed station call) = refl
+same_map e (CentreUsed call) = refl
+same_map e (LinkRelays station now) = refl
+same_map e (CentreRelays now) = refl
+same_map e (Performs spans commands) = refl
+same_map e (IssuesOne station command above is fits) = refl
+same_map e AllHangUp = refl
+
+event_issues : (old new : System) (e : Event) → Happens old e new → new.history.issued ≡ old.history.issued ++ issued_by old e
+event_issues old new e h =
+    let d : Does _ (issued_by old e) (ends_of old) (ends_of new) = does old new e h in
+    ap (λ (x : Ends). x.issued) d.touched.after
+    ∙ used_issues (ends_of old) d.touched.used
+    ∙ ap (λ (commands : List (ℕ × Command)). old.history.issued ++ commands) d.issued
+
+-- ---- lists of events
+
+by_map : (old next : System) → next.centre.indices ≡ old.centre.indices → (e : Event) → issued_by next e ≡ issued_by old e
+by_map old next same (event.Issue station command) =
+    ap (λ (indices : List Spans). if is_some (command_above indices station command) then (station, command) ∷ [] else []) same
+by_map old next same e = refl
+
+all_by_map : (old next : System) → next.centre.indices ≡ old.centre.indices → (events : List Event)
+    → flat_map (issued_by next) events ≡ flat_map (issued_by old) events
+all_by_map old next same [] = refl
+all_by_map old next same (e ∷ events) =
+    ap (λ (commands : List (ℕ × Command)). commands ++ flat_map (issued_by next) events) (by_map old next same e)
+    ∙ ap (λ (commands : List (ℕ × Command)). issued_by old e ++ commands) (all_by_map old next same events)
+
+pub ran_issues : (events : List Event) (old new : System) → RunsTo old events new → Issues events old new
+ran_issues [] old new same = ap (λ (s : System). s.history.issued) same ∙ sym (append-nil old.history.issued)
+ran_issues (e ∷ events) old new (next, h, ran) =
+    let d : Does _ _ (ends_of old) (ends_of next) = does old next e h in
+    let same : next.centre.indices ≡ old.centre.indices =
+    ap (λ (x : Ends). x.centre_indices) d.touched.after ∙ same_map (ends_of old) d.touched.used in
+    ran_issues events next new ran
+    ∙ ap (λ (commands : List (ℕ × Command)). commands ++ flat_map (issued_by next) events) (event_issues old next e h)
+    ∙ append_assoc old.history.issued (issued_by old e) (flat_map (issued_by next) events)
+    ∙ ap (λ (commands : List (ℕ × Command)). old.history.issued ++ (issued_by old e ++ commands)) (all_by_map old next same events)
+
+-- an event at which a list stops issues nothing
+stop_issues : (e : Event) (old new : System) → CountsFor old e new → new.history.issued ≡ old.history.issued
+stop_issues (event.Deliver on way) old new h = event_issues old new (event.Lose on way) h ∙ append-nil old.history.issued
+stop_issues (event.Open on) old new same = ap (λ (s : System). s.history.issued) same
+stop_issues (event.HangUp on end) old new same = ap (λ (s : System). s.history.issued) same
+stop_issues (event.Repeat on way) old new same = ap (λ (s : System). s.history.issued) same
+stop_issues (event.Lose on way) old new same = ap (λ (s : System). s.history.issued) same
+stop_issues (event.Damage on way octets) old new same = ap (λ (s : System). s.history.issued) same
+stop_issues (event.Change station kind index reading) old new same = ap (λ (s : System). s.history.issued) same
+stop_issues (event.Ask on task) old new same = ap (λ (s : System). s.history.issued) same
+stop_issues (event.Issue station command) old new same = ap (λ (s : System). s.history.issued) same
+stop_issues (event.Relay on) old new same = ap (λ (s : System). s.history.issued) same
+stop_issues (event.Pass ms) old new same = ap (λ (s : System). s.history.issued) same
+stop_issues (event.Tick on end) old new same = ap (λ (s : System). s.history.issued) same
+stop_issues (event.Restart place) old new same = ap (λ (s : System). s.history.issued) same
+
+pub stopped_issues : (events : List Event) (done : ℕ) (old new : System) → StopsAfter old events done new → Issues (take done events) old new
+stopped_issues events done old new stop =
+    stop_issues stop.event stop.before new stop.counts ∙ ran_issues (take done events) old stop.before stop.ran
