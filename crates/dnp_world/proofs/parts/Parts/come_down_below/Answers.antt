@@ -1,29 +1,34 @@
 -- One substation is written, and what it released and performed is listed.
-use Rattle.std.proofs.Common.{◌∙◌, refl, ap, map, slice_set}
+use Rattle.std.proofs.Common.{◌∙◌, refl, ap, map, slice_set, ◌≡◌, true, sym, subst}
+use Rattle.dnp_world.specs.Shown.{Shown}
 use Rattle.dnp_world.specs.SystemParts.{system_of, substation_of}
-use Rattle.dnp_world.specs.Systems.{History}
+use Rattle.dnp_world.specs.Systems.{History, has_station}
 use Rattle.dnp_world.proofs.OneLinkRuns.{any_err}
 use Rattle.dnp_world.proofs.SystemPlaces.{changes_at, is_there, unchanged_at}
 use Rattle.dnp_world.proofs.parts.Parts.come_down_below.Goals as goal
 
 pub returns-in_err-come_down-clause-stopped : goal.returns-in_err-come_down-clause-stopped
 returns-in_err-come_down-clause-stopped g c = λ well.
-    let old = system_of g.Q.Lanes.contents g.J.JournalStore.archive g.A.Book.contents g.B.Book.contents c.args.self.now in
-    let xs = c.args.self.now.substations.items in
-    any_err c.from_residual.result _
+    let planned = subst (λ (s : Shown _ _ _ _). has_station s.system c.args.station ≡ true) (sym c.self.view_is) c.requires in
+    let old = system_of g.Q.Lanes.contents g.J.JournalStore.archive g.A.Book.contents g.B.Book.contents c.self.inside in
+    let xs = c.self.inside.substations.items in
+    rw (← c.self.view_is)
+    (any_err c.from_residual.result _
     (ap (λ (h : History). record old { substations = map substation_of (slice_set xs c.from.result c.come_down.new.self); history = h })
     c.in_err-come_down.ensures.unlisted
-    ∙ unchanged_at old xs c.args.station c.from.result c.index_mut-substation.result.now c.come_down.new.self refl c.from.ensures c.requires
-    c.index_mut-substation.ensures.value c.in_err-come_down.ensures.stopped)
+    ∙ unchanged_at old xs c.args.station c.from.result c.index_mut-substation.result.now c.come_down.new.self refl c.from.ensures planned
+    c.index_mut-substation.ensures.value c.in_err-come_down.ensures.stopped))
 
 pub returns-clause-done : goal.returns-clause-done
 returns-clause-done g c = λ well.
-    let old = system_of g.Q.Lanes.contents g.J.JournalStore.archive g.A.Book.contents g.B.Book.contents c.args.self.now in
-    let xs = c.args.self.now.substations.items in
+    let planned = subst (λ (s : Shown _ _ _ _). has_station s.system c.args.station ≡ true) (sym c.self.view_is) c.requires in
+    let old = system_of g.Q.Lanes.contents g.J.JournalStore.archive g.A.Book.contents g.B.Book.contents c.self.inside in
+    let xs = c.self.inside.substations.items in
     let done = c.in_ok-come_down.ensures.done in
-    record {
+    rw (← c.self.view_is)
+    (record {
       released = done.0;
       came = changes_at c.args.station c.from.result _ _ old _ xs c.index_mut-substation.result.now c.come_down.new.self refl c.from.ensures
-          (rw c.from.ensures (is_there old xs c.args.station refl c.requires)) c.index_mut-substation.ensures.value done.1
+          (rw c.from.ensures (is_there old xs c.args.station refl planned)) c.index_mut-substation.ensures.value done.1
           (ap (λ (h : History). record old { substations = map substation_of (slice_set xs c.from.result c.come_down.new.self); history = h }) done.2);
-    }
+    })
