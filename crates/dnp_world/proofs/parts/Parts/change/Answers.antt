@@ -1,11 +1,9 @@
 -- One substation is written, and what a full lane dropped is listed.
-use Rattle.std.proofs.Common.{◌≡◌, ◌∙◌, ℕ, List, refl, ap, map, slice_set, subst, true, sym}
+use Rattle.std.proofs.Common.{◌≡◌, ◌∙◌, ℕ, List, refl, ap, map, slice_set, subst}
 use Rattle.std.specs.Prelude.{slice_get, Some}
 use Rattle.dnp_objects.specs.declared.row.Row.{Row}
 use Rattle.dnp_pointdb.specs.Database.{answer_of}
-use Rattle.dnp_world.specs.Shown.{Shown}
 use Rattle.dnp_world.specs.SystemParts.{system_of, substation_of}
-use Rattle.dnp_world.specs.Systems.{has_station}
 use Rattle.dnp_world.proofs.OneLinkRuns.{any_err}
 use Rattle.dnp_world.proofs.SystemPlaces.{is_there, there, unchanged_at}
 use Rattle.dnp_world.proofs.SystemReadings.{reads_at}
@@ -13,7 +11,7 @@ use Rattle.dnp_world.proofs.parts.Parts.change.Goals as goal
 
 pub returns-in_err-change-clause-stopped : goal.returns-in_err-change-clause-stopped
 returns-in_err-change-clause-stopped g c = λ well.
-    let planned = subst (λ (s : Shown _ _ _ _). has_station s.system c.args.station ≡ true) (sym c.self.view_is) c.requires in
+    let planned = rw (← c.self.view_is) at c.requires in
     let old = system_of g.Q.Lanes.contents g.J.JournalStore.archive g.A.Book.contents g.B.Book.contents c.self.inside in
     let xs = c.self.inside.substations.items in
     rw (← c.self.view_is)
@@ -27,7 +25,7 @@ returns-in_err-change-clause-stopped g c = λ well.
 
 pub returns-clause-done : goal.returns-clause-done
 returns-clause-done g c = λ well.
-    let planned = subst (λ (s : Shown _ _ _ _). has_station s.system c.args.station ≡ true) (sym c.self.view_is) c.requires in
+    let planned = rw (← c.self.view_is) at c.requires in
     let old = system_of g.Q.Lanes.contents g.J.JournalStore.archive g.A.Book.contents g.B.Book.contents c.self.inside in
     let xs = c.self.inside.substations.items in
     let was = c.index_mut-substation.result.now in

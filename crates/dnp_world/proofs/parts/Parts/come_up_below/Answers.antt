@@ -1,10 +1,9 @@
 -- What comes to the master's end of a substation's lines comes to the concentrator.
-use Rattle.std.proofs.Common.{◌∙◌, List, refl, ap, map, slice_set, ◌≡◌, true, sym, subst}
+use Rattle.std.proofs.Common.{◌∙◌, List, refl, ap, map, slice_set}
 use Rattle.dnp_objects.specs.declared.row.Row.{Row}
 use Rattle.dnp_world.specs.Channels.{ChannelState, left_by}
-use Rattle.dnp_world.specs.Shown.{Shown}
 use Rattle.dnp_world.specs.SystemParts.{system_of, concentrator_of, substation_of}
-use Rattle.dnp_world.specs.Systems.{ConcentratorState, has_station}
+use Rattle.dnp_world.specs.Systems.{ConcentratorState}
 use Rattle.dnp_world.proofs.OneLinkRuns.{any_err}
 use Rattle.dnp_world.proofs.SystemArrivals.{comes_below}
 use Rattle.dnp_world.proofs.SystemPlaces.{unchanged_at}
@@ -12,7 +11,7 @@ use Rattle.dnp_world.proofs.parts.Parts.come_up_below.Goals as goal
 
 pub returns-clause-done : goal.returns-clause-done
 returns-clause-done g c = λ well.
-    let planned = subst (λ (s : Shown _ _ _ _). has_station s.system c.args.station ≡ true) (sym c.self.view_is) c.requires in
+    let planned = rw (← c.self.view_is) at c.requires in
     let stock = g.Q.Lanes.contents in
     let ledger = g.A.Book.contents in
     let old = system_of stock g.J.JournalStore.archive ledger g.B.Book.contents c.self.inside in
@@ -23,7 +22,7 @@ returns-clause-done g c = λ well.
 
 pub returns-in_err-come_up-clause-stopped : goal.returns-in_err-come_up-clause-stopped
 returns-in_err-come_up-clause-stopped g c = λ well.
-    let planned = subst (λ (s : Shown _ _ _ _). has_station s.system c.args.station ≡ true) (sym c.self.view_is) c.requires in
+    let planned = rw (← c.self.view_is) at c.requires in
     let stock = g.Q.Lanes.contents in
     let ledger = g.A.Book.contents in
     let old = system_of stock g.J.JournalStore.archive ledger g.B.Book.contents c.self.inside in

@@ -1,16 +1,14 @@
 -- One substation is written, and what was in its lanes is listed.
-use Rattle.std.proofs.Common.{◌∙◌, ℕ, List, refl, ap, map, slice_set, ◌≡◌, true, sym, subst}
+use Rattle.std.proofs.Common.{◌∙◌, ℕ, List, refl, ap, map, slice_set}
 use Rattle.dnp_objects.specs.declared.row.Row.{Row}
-use Rattle.dnp_world.specs.Shown.{Shown}
 use Rattle.dnp_world.specs.SystemParts.{system_of, substation_of, history_of}
-use Rattle.dnp_world.specs.Systems.{has_station}
 use Rattle.dnp_world.proofs.OneLinkRuns.{any_err}
 use Rattle.dnp_world.proofs.SystemPlaces.{changes_at, is_there, unchanged_at}
 use Rattle.dnp_world.proofs.parts.Parts.restart_substation.Goals as goal
 
 pub returns-in_err-restart-clause-stopped : goal.returns-in_err-restart-clause-stopped
 returns-in_err-restart-clause-stopped g c = λ well.
-    let planned = subst (λ (s : Shown _ _ _ _). has_station s.system c.args.station ≡ true) (sym c.self.view_is) c.requires in
+    let planned = rw (← c.self.view_is) at c.requires in
     let old = system_of g.Q.Lanes.contents g.J.JournalStore.archive g.A.Book.contents g.B.Book.contents c.self.inside in
     rw (← c.self.view_is)
     (any_err c.from_residual.result _
@@ -23,7 +21,7 @@ returns-in_err-restart-clause-stopped g c = λ well.
 
 pub returns-clause-done : goal.returns-clause-done
 returns-clause-done g c = λ well.
-    let planned = subst (λ (s : Shown _ _ _ _). has_station s.system c.args.station ≡ true) (sym c.self.view_is) c.requires in
+    let planned = rw (← c.self.view_is) at c.requires in
     let old = system_of g.Q.Lanes.contents g.J.JournalStore.archive g.A.Book.contents g.B.Book.contents c.self.inside in
     let xs = c.self.inside.substations.items in
     rw (← c.self.view_is)
