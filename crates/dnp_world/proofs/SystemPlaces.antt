@@ -110,10 +110,6 @@ sends_at station i fragments first middle xs was lines list same_middle same low
     (record was { channel = lines }) list same low at (changed, refl)
     (ap (λ (k : ConcentratorState). record first { substations = map substation_of (slice_set xs i (record was { channel = lines })); concentrator = k }) same_middle)
 
--- nothing went down
-pub none_down : (old new : ChannelState) → new ≡ old → GoDown [] old new
-none_down old new same = subst (λ (c : ChannelState). GoDown [] old c) (sym same) (record { sent = (refl, refl); after = refl })
-
 -- what went down from lines that were the same went down from these
 pub down_from : (fragments : List (List ℕ)) (old mid new : ChannelState) → mid ≡ old → GoDown fragments mid new → GoDown fragments old new
 down_from fragments old mid new same down = subst (λ (c : ChannelState). GoDown fragments c new) same down

@@ -3,9 +3,7 @@ use Rattle.std.proofs.Common.{◌≡◌, ℕ, suc, ◌+◌, ◌<◌, ◌≤◌, 
 use Rattle.std.proofs.lemmas.List.{take_all}
 use Rattle.dnp_world.specs.declared.event.Event.{Event}
 use Rattle.dnp_world.specs.SystemRuns.{CountsFor, Happens, RunsTo, StopsAfter, may_stop}
-use Rattle.dnp_world.specs.SystemParts.{AreWell, controls_of, journal_of, orders_of, queue_of}
 use Rattle.dnp_world.specs.Systems.{System}
-use Rattle.dnp_world.specs.declared.parts.Parts.{Parts}
 use Rattle.dnp_world.proofs.OneLinkRuns.{take_more, get_some}
 
 pub runs_more : (old mid new : System) (events : List Event) (event : Event) → RunsTo old events mid → Happens mid event new → RunsTo old (events ++ event ∷ []) new
@@ -36,20 +34,6 @@ stops_after old mid new events k event low is ran may counts = record {
 }
 
 -- ---- what stays of a system that an event doesn't touch
-
--- stores that are what they were are as well as they were
-pub well_before : {Q J A B : Type 0} (queue : Q → Type 0) (journal : J → Type 0) (controls : A → Type 0) (controls_stopped : A → Bool)
-    (orders : B → Type 0) (orders_stopped : B → Bool) (old new : Parts Q J A B) → queue_of new ≡ queue_of old → controls_of new ≡ controls_of old
-    → journal_of new ≡ journal_of old → orders_of new ≡ orders_of old
-    → AreWell queue journal controls controls_stopped orders orders_stopped new → AreWell queue journal controls controls_stopped orders orders_stopped old
-well_before queue journal controls controls_stopped orders orders_stopped old new queue_is controls_is journal_is orders_is well = record {
-  queue_is = subst queue queue_is well.queue_is;
-  journal_is = subst journal journal_is well.journal_is;
-  controls_is = subst controls controls_is well.controls_is;
-  controls_run = ap controls_stopped (sym controls_is) ∙ well.controls_run;
-  orders_is = subst orders orders_is well.orders_is;
-  orders_run = ap orders_stopped (sym orders_is) ∙ well.orders_run;
-}
 
 -- what stops an event other than a delivery
 pub left_out : (old new : System) (event its : Event) → event ≡ its → ((s : System) → CountsFor s its s) → new ≡ old

@@ -1,9 +1,12 @@
--- Requests that go down, as what a step of relaying answers tells them.
-use Rattle.std.proofs.Common.{◌≡◌, ℕ, ◌<◌, ◌&&◌, if◌then◌else◌, Bool, true, false, List, [], ◌∷◌, length, map, get_or, slice_set, ◌⊎◌, inl, inr, Option, Some, None, refl, sym, ap, ◌∙◌, subst, arith}
+-- Steps of relaying, as what is answered tells them.
+use Rattle.std.proofs.Common.{◌≡◌, ℕ, ◌&&◌, if◌then◌else◌, Bool, true, false, List, map, get_or, slice_set, ◌⊎◌, inl, inr, Option, Some, None, Result, Ok, Err, refl, ap, ◌∙◌, subst}
+use Rattle.std.proofs.lemmas.Bool.{both_ways}
 use Rattle.std.specs.Option.{IsSomeAnd}
-use Rattle.arrayvec.specs.ArrayVec.{ArrayVec}
-use Rattle.dnp_concentrator.specs.Relayed.{IsPast, Tells, asks_book, asks_progress, asks_stage}
+use Rattle.std.specs.Result.{IfErr, IfOk, IsErr, IsOk, OnErr, OnOk}
+use Rattle.dnp_concentrator.specs.Relayed.{IfSent, IsPast, IsSpentBy, Tells, asks_book, asks_progress, asks_stage}
 use Rattle.dnp_concentrator.specs.Relaying.{Step, Waits, Selects, Operates, Finishes}
+use Rattle.dnp_concentrator.specs.declared.cause.Cause.{Cause}
+use Rattle.dnp_concentrator.specs.declared.relayed.Relayed.{Relayed}
 use Rattle.dnp_concentrator.specs.declared.relayed.Relayed.TheVariants as relayed
 use Rattle.dnp_controls.specs.Book.{Ledger, Has, is_pending}
 use Rattle.dnp_controls.specs.declared.book.BookFault.{BookFault}
@@ -26,69 +29,26 @@ use Rattle.dnp_concentrator.specs.declared.centre.Centre.{Centre}
 use Rattle.dnp_concentrator.specs.declared.concentrator.Concentrator.{Concentrator}
 use Rattle.dnp_concentrator.specs.declared.span.Spans.{Spans}
 use Rattle.dnp_world.specs.Channels.{ChannelState, GoDown, state_of}
-use Rattle.dnp_world.specs.SystemEvents.{IfOperates, IsMissing, IsRefused, RelaysOn, Steps, relaying_at, requests_of, step_on, told, with_relaying}
+use Rattle.dnp_world.specs.SystemEvents.{IfOperates, IsMissing, IsRefused, Refuses, RelaysOn, SendsDown, Steps, entries_on, relaying_at, requests_of, step_on, told, with_relaying}
 use Rattle.dnp_world.specs.SystemParts.{centre_of, concentrator_of, substation_of}
-use Rattle.dnp_world.specs.Systems.{ConcentratorState, System, has_station}
+use Rattle.dnp_world.specs.Systems.{CentreState, ConcentratorState, System, has_station}
 use Rattle.dnp_world.specs.declared.channel.Channel.{Channel}
-use Rattle.dnp_world.specs.declared.event.Link.TheVariants.{Below}
+use Rattle.dnp_world.specs.declared.event.Link.{Link}
+use Rattle.dnp_world.specs.declared.event.Link.TheVariants.{Above, Below}
 use Rattle.dnp_world.specs.declared.substation.Substation.{Substation}
-use Rattle.dnp_world.proofs.SystemPlaces.{down_from, is_there, none_down, sends_at, unchanged_at}
+use Rattle.dnp_world.proofs.SystemPlaces.{down_from, is_there, sends_at, unchanged_at}
 
--- a SELECT was answered
-pub selecting : (step : Step) (seq id : ℕ) (request : ArrayVec ℕ) → Tells seq step (relayed.Selecting id request)
-    → (requests_of step seq ≡ request.items ∷ []) × (0 < length request.items)
-selecting Waits seq id request told = absurd told
-selecting (Selects own command) seq id request told =
-    (ap (λ (octets : List ℕ). octets ∷ []) (sym told.1), subst (λ (octets : List ℕ). 0 < length octets) (sym told.1) (omega arith))
-selecting (Operates own command) seq id request told = absurd told
-selecting (Finishes own status) seq id request told = absurd told
-
--- an OPERATE was answered
-pub sent : (step : Step) (seq id : ℕ) (request : ArrayVec ℕ) → Tells seq step (relayed.Sent id request)
-    → (requests_of step seq ≡ request.items ∷ []) × (0 < length request.items)
-sent Waits seq id request told = absurd told
-sent (Selects own command) seq id request told = absurd told
-sent (Operates own command) seq id request told =
-    (ap (λ (octets : List ℕ). octets ∷ []) (sym told.1), subst (λ (octets : List ℕ). 0 < length octets) (sym told.1) (omega arith))
-sent (Finishes own status) seq id request told = absurd told
-
--- nothing was sent
-pub waited : (step : Step) (seq : ℕ) → Tells seq step relayed.Nothing → requests_of step seq ≡ []
-waited Waits seq told = refl
-waited (Selects own command) seq told = absurd told
-waited (Operates own command) seq told = absurd told
-waited (Finishes own status) seq told = absurd told
-
-pub finished : (step : Step) (seq id status : ℕ) → Tells seq step (relayed.Finished id status) → requests_of step seq ≡ []
-finished Waits seq id status told = absurd told
-finished (Selects own command) seq id status told = absurd told
-finished (Operates own command) seq id status told = absurd told
-finished (Finishes own own_status) seq id status told = refl
-
--- what holds of the control of an OPERATE that was answered holds of the step's, and no other answer is of one
-pub of_sent : (step : Step) (seq id : ℕ) (request : ArrayVec ℕ) (P : ℕ → Type 0) → Tells seq step (relayed.Sent id request) → P id → IfOperates step P
-of_sent Waits seq id request P told h = absurd told
-of_sent (Selects own command) seq id request P told h = absurd told
-of_sent (Operates own command) seq id request P told h = subst P told.0 h
-of_sent (Finishes own status) seq id request P told h = absurd told
-
-pub of_selecting : (step : Step) (seq id : ℕ) (request : ArrayVec ℕ) (P : ℕ → Type 0) → Tells seq step (relayed.Selecting id request) → IfOperates step P
-of_selecting Waits seq id request P told = absurd told
-of_selecting (Selects own command) seq id request P told = tt
-of_selecting (Operates own command) seq id request P told = absurd told
-of_selecting (Finishes own status) seq id request P told = absurd told
-
-pub of_waited : (step : Step) (seq : ℕ) (P : ℕ → Type 0) → Tells seq step relayed.Nothing → IfOperates step P
-of_waited Waits seq P told = tt
-of_waited (Selects own command) seq P told = absurd told
-of_waited (Operates own command) seq P told = absurd told
-of_waited (Finishes own status) seq P told = absurd told
-
-pub of_finished : (step : Step) (seq id status : ℕ) (P : ℕ → Type 0) → Tells seq step (relayed.Finished id status) → IfOperates step P
-of_finished Waits seq id status P told = absurd told
-of_finished (Selects own command) seq id status P told = absurd told
-of_finished (Operates own command) seq id status P told = absurd told
-of_finished (Finishes own own_status) seq id status P told = tt
+-- a step that sends an OPERATE was told by an OPERATE of its control
+operates : (step : Step) (seq : ℕ) (answer : Relayed) (before after : Ledger) → Tells seq step answer → IfSent answer (IsSpentBy before after)
+    → IfOperates step (λ id. Has before.entries id is_pending)
+operates Waits seq answer before after told spent = tt
+operates (Selects own command) seq answer before after told spent = tt
+operates (Finishes own status) seq answer before after told spent = tt
+operates (Operates own command) seq relayed.Nothing before after told spent = absurd told
+operates (Operates own command) seq (relayed.Selecting id request) before after told spent = absurd told
+operates (Operates own command) seq (relayed.Finished id status) before after told spent = absurd told
+operates (Operates own command) seq (relayed.Sent id request) before after told spent =
+    subst (λ (n : ℕ). Has before.entries n is_pending) told.0 spent.was_pending
 
 -- an entry that is past the step refuses it
 past_refuses : (entries : List Entry) (step : Step) → IsPast entries step → IsRefused entries step
@@ -125,6 +85,52 @@ refused_step r entries target fault asked which missing past =
       | inr is ↦ past_refuses entries (step_of r entries target) (past is)
     ]
 
+-- the book refused, and it was no reason to stop
+pub refused_by : (answer : Result Relayed BookFault) (result : Result (Unit {0}) Cause) (r : Relaying) (entries : List Entry) (target : ℕ) (X : Type 0)
+    → OnOk result (IfErr answer (λ fault. (fault ≡ NoControl) ⊎ (fault ≡ NotPending))) → (asks_book r ≡ false → X × IsOk answer)
+    → (answer ≡ Err NoControl → IsSomeAnd r.progress (λ p. IsMissing entries p.id)) → (answer ≡ Err NotPending → IsPast entries (step_of r entries target))
+    → OnOk result (OnErr answer (IsRefused entries (step_of r entries target)))
+refused_by answer (Err cause) r entries target X passed unasked missing past = tt
+refused_by (Ok told) (Ok done) r entries target X passed unasked missing past = tt
+refused_by (Err fault) (Ok done) r entries target X passed unasked missing past =
+    refused_step r entries target fault (λ none. absurd (both_ways false refl (unasked none).1)) passed (λ is. missing (ap (λ (f : BookFault). Err f) is))
+    (λ is. past (ap (λ (f : BookFault). Err f) is))
+
+-- ---- what was answered
+
+-- the control of an OPERATE was pending
+pub pending_by : (answer : Result Relayed BookFault) (step : Step) (seq : ℕ) (before after : Ledger) → IfOk answer (λ told. Tells seq step told)
+    → IfOk answer (λ told. IfSent told (IsSpentBy before after)) → OnOk answer (IfOperates step (λ id. Has before.entries id is_pending))
+pending_by (Ok told) step seq before after tells spent = operates step seq told before after tells spent
+pending_by (Err fault) step seq before after tells spent = tt
+
+-- the step's request went down
+pub down_by : (answer : Result Relayed BookFault) (step : Step) (seq : ℕ) (old mid new : ChannelState) → mid ≡ old → IfOk answer (λ told. Tells seq step told)
+    → IfOk answer (λ told. (s : Step) (n : ℕ) → Tells n s told → GoDown (requests_of s n) mid new) → OnOk answer (GoDown (requests_of step seq) old new)
+down_by (Ok told) step seq old mid new same tells sent = down_from (requests_of step seq) old mid new same (sent step seq tells)
+down_by (Err fault) step seq old mid new same tells sent = tt
+
+-- what a step of relaying sends
+abbrev pub Sends : Link → System → System → Type 0
+Sends on old new =
+    SendsDown on (requests_of (step_on old on) (relaying_at old on).master.seq) (relaying_after (relaying_at old on) old.now (step_on old on))
+    (told old on (step_on old on)) new
+
+-- a step of relaying, by what was answered
+pub relays_by : (on : Link) (old new : System) (answer : Result Relayed BookFault) (result : Result (Unit {0}) Cause)
+    → OnOk answer (IfOperates (step_on old on) (λ id. Has (entries_on old on) id is_pending)) → OnOk answer (Sends on old new)
+    → OnErr answer (new ≡ old) → OnOk result (OnErr answer (IsRefused (entries_on old on) (step_on old on))) → OnOk result (RelaysOn on old new)
+relays_by on old new answer (Err cause) pending sends unmoved refused = tt
+relays_by on old new (Ok told) (Ok done) pending sends unmoved refused = Steps pending sends
+relays_by on old new (Err fault) (Ok done) pending sends unmoved refused = Refuses refused unmoved
+
+-- what stopped it changed nothing
+pub stops_by : (answer : Result Relayed BookFault) (result : Result (Unit {0}) Cause) (X : Type 0) → OnErr result (IsErr answer) → OnErr answer X
+    → OnErr result X
+stops_by answer (Ok done) X failed unmoved = tt
+stops_by (Ok told) (Err cause) X failed unmoved = absurd (both_ways false refl failed)
+stops_by (Err fault) (Err cause) X failed unmoved = unmoved
+
 -- ---- the stations
 
 -- the centre's link and its book become others
@@ -150,50 +156,67 @@ concentrator_told {Q} stock ledger old new links controls links_is controls_is c
     ∙ ap (λ (m : List Spans). record (concentrator_of stock ledger old) { links = links; controls = controls; indices = m; points = plan_above new }) indices
     ∙ ap (λ (p : points.Plan). record (concentrator_of stock ledger old) { links = links; controls = controls; points = p }) plan
 
--- the request of the step went down, through a view of its octets
-pub down_of : (requests : List (List ℕ)) (octets view : List ℕ) (old mid new : ChannelState) → requests ≡ octets ∷ [] → 0 < length octets → view ≡ octets → mid ≡ old
-    → (0 < length view → GoDown (view ∷ []) mid new) → GoDown requests old new
-down_of requests octets view old mid new is some same lines sent =
-    subst (λ (fragments : List (List ℕ)). GoDown fragments old new) (ap (λ (xs : List ℕ). xs ∷ []) same ∙ sym is)
-    (down_from (view ∷ []) old mid new lines (sent (subst (λ (xs : List ℕ). 0 < length xs) (sym same) some)))
-
--- nothing went down
-pub none_down_of : (requests : List (List ℕ)) (old new : ChannelState) → requests ≡ [] → new ≡ old → GoDown requests old new
-none_down_of requests old new none same = subst (λ (fragments : List (List ℕ)). GoDown fragments old new) (sym none) (none_down old new same)
-
 -- the system with this concentrator and these substations
-abbrev pub whole : {Q A : Type 0} → (Q → Stock) → (A → Ledger) → System → Concentrator Q A → List Substation → System
-whole stock ledger rest k xs = record rest { concentrator = concentrator_of stock ledger k; substations = map substation_of xs }
+abbrev pub below : {Q A : Type 0} → (Q → Stock) → (A → Ledger) → System → Concentrator Q A → List Substation → System
+below stock ledger rest k xs = record rest { concentrator = concentrator_of stock ledger k; substations = map substation_of xs }
 
 -- what a step of relaying to a substation makes of the system, by what went down
-pub relays_below : {Q A : Type 0} (stock : Q → Stock) (ledger : A → Ledger) (rest : System) (k d : Concentrator Q A) (station i : ℕ) (xs : List Substation)
-    (was : Substation) (lines : Channel) → i ≡ station → has_station (whole stock ledger rest k xs) station ≡ true → was ≡ get_or xs i was
-    → SetsLink k station (relaying_after (link_at k station) rest.now (step_of (link_at k station) (ledger (book_of k)).entries station)) d
-    → ledger (book_of d) ≡ ledger_after (ledger (book_of k)) (step_of (link_at k station) (ledger (book_of k)).entries station)
-    → core_of d ≡ core_of k → queue_of d ≡ queue_of k → indices_of d ≡ indices_of k
-    → plan_above d ≡ plan_above k
-    → IfOperates (step_of (link_at k station) (ledger (book_of k)).entries station) (λ id. Has (ledger (book_of k)).entries id is_pending)
-    → GoDown (requests_of (step_of (link_at k station) (ledger (book_of k)).entries station) (link_at k station).master.seq) (state_of was.channel) (state_of lines)
-    → RelaysOn (Below station) (whole stock ledger rest k xs) (whole stock ledger rest d (slice_set xs i (record was { channel = lines })))
-relays_below stock ledger rest k d station i xs was lines same has at link book core queue indices plan pending down =
-    let old : System = whole stock ledger rest k xs in
+pub sends_below : {Q A : Type 0} (stock : Q → Stock) (ledger : A → Ledger) (rest : System) (k d : Concentrator Q A) (station i : ℕ) (xs : List Substation)
+    (was : Substation) (lines : Channel) (answer : Result Relayed BookFault) → i ≡ station → has_station (below stock ledger rest k xs) station ≡ true
+    → was ≡ get_or xs i was
+    → OnOk answer (SetsLink k station (relaying_after (link_at k station) rest.now (step_of (link_at k station) (ledger (book_of k)).entries station)) d)
+    → OnOk answer (ledger (book_of d) ≡ ledger_after (ledger (book_of k)) (step_of (link_at k station) (ledger (book_of k)).entries station))
+    → core_of d ≡ core_of k → queue_of d ≡ queue_of k → indices_of d ≡ indices_of k → plan_above d ≡ plan_above k
+    → OnOk answer (GoDown (requests_of (step_of (link_at k station) (ledger (book_of k)).entries station) (link_at k station).master.seq)
+    (state_of was.channel) (state_of lines))
+    → OnOk answer (Sends (Below station) (below stock ledger rest k xs) (below stock ledger rest d (slice_set xs i (record was { channel = lines }))))
+sends_below stock ledger rest k d station i xs was lines (Err fault) same has at link book core queue indices plan down = tt
+sends_below stock ledger rest k d station i xs was lines (Ok answer) same has at link book core queue indices plan down =
+    let old : System = below stock ledger rest k xs in
     let step : Step = step_on old (Below station) in
     let first : System = with_relaying (told old (Below station) step) (Below station) (relaying_after (relaying_at old (Below station)) old.now step) in
-    Steps pending
-    (sends_at station i (requests_of step (relaying_at old (Below station)).master.seq) first (concentrator_of stock ledger d) xs was lines refl
+    sends_at station i (requests_of step (relaying_at old (Below station)).master.seq) first (concentrator_of stock ledger d) xs was lines refl
     (concentrator_told stock ledger k d first.concentrator.links first.concentrator.controls link book core queue indices plan) same
-    (rw same (is_there old xs station refl has)) at down)
+    (rw same (is_there old xs station refl has)) at down
 
 -- nothing was relayed, and nothing went down
 pub unmoved_below : {Q A : Type 0} (stock : Q → Stock) (ledger : A → Ledger) (rest : System) (k d : Concentrator Q A) (station i : ℕ) (xs : List Substation)
-    (was : Substation) (lines : Channel) → i ≡ station → has_station (whole stock ledger rest k xs) station ≡ true → was ≡ get_or xs i was
-    → links_of d ≡ links_of k → ledger (book_of d) ≡ ledger (book_of k) → core_of d ≡ core_of k → queue_of d ≡ queue_of k → indices_of d ≡ indices_of k
-    → plan_above d ≡ plan_above k
-    → state_of lines ≡ state_of was.channel
-    → whole stock ledger rest d (slice_set xs i (record was { channel = lines })) ≡ whole stock ledger rest k xs
-unmoved_below stock ledger rest k d station i xs was lines same has at links book core queue indices plan lines_same =
+    (was : Substation) (lines : Channel) (answer : Result Relayed BookFault) → i ≡ station → has_station (below stock ledger rest k xs) station ≡ true
+    → was ≡ get_or xs i was → OnErr answer (links_of d ≡ links_of k) → OnErr answer (ledger (book_of d) ≡ ledger (book_of k))
+    → core_of d ≡ core_of k → queue_of d ≡ queue_of k → indices_of d ≡ indices_of k → plan_above d ≡ plan_above k
+    → OnErr answer (state_of lines ≡ state_of was.channel)
+    → OnErr answer (below stock ledger rest d (slice_set xs i (record was { channel = lines })) ≡ below stock ledger rest k xs)
+unmoved_below stock ledger rest k d station i xs was lines (Ok answer) same has at links book core queue indices plan lines_same = tt
+unmoved_below stock ledger rest k d station i xs was lines (Err fault) same has at links book core queue indices plan lines_same =
     let is : Substation = record was { channel = lines } in
     ap (λ (m : ConcentratorState). record rest { concentrator = m; substations = map substation_of (slice_set xs i is) })
     (concentrator_told stock ledger k d (links_of k) (ledger (book_of k)) links book core queue indices plan)
-    ∙ unchanged_at (whole stock ledger rest k xs) xs station i was is refl same has at
+    ∙ unchanged_at (below stock ledger rest k xs) xs station i was is refl same has at
     (ap (λ (c : ChannelState). record (substation_of was) { channel = c }) lines_same)
+
+-- what a step of relaying to the concentrator makes of the system
+pub sends_above : {J B : Type 0} (archive : J → Archive) (ledger : B → Ledger) (rest : System) (k d : Centre J B) (lines : ChannelState)
+    (answer : Result Relayed BookFault)
+    → OnOk answer (centre.link_of d ≡ relaying_after (centre.link_of k) rest.now (step_of (centre.link_of k) (ledger (centre.book_of k)).entries 0))
+    → OnOk answer (ledger (centre.book_of d) ≡ ledger_after (ledger (centre.book_of k)) (step_of (centre.link_of k) (ledger (centre.book_of k)).entries 0))
+    → centre.journal_of d ≡ centre.journal_of k → centre.indices_of d ≡ centre.indices_of k
+    → OnOk answer (GoDown (requests_of (step_of (centre.link_of k) (ledger (centre.book_of k)).entries 0) (centre.link_of k).master.seq) rest.above lines)
+    → OnOk answer (Sends Above (record rest { centre = centre_of archive ledger k }) (record rest { centre = centre_of archive ledger d; above = lines }))
+sends_above archive ledger rest k d lines (Err fault) link book journal indices down = tt
+sends_above archive ledger rest k d lines (Ok answer) link book journal indices down =
+    let step : Step = step_of (centre.link_of k) (ledger (centre.book_of k)).entries 0 in (
+      down,
+      ap (λ (m : CentreState). record rest { centre = m; above = lines })
+          (centre_with archive ledger k d (relaying_after (centre.link_of k) rest.now step) (ledger_after (ledger (centre.book_of k)) step) link book journal indices),
+    )
+
+pub unmoved_above : {J B : Type 0} (archive : J → Archive) (ledger : B → Ledger) (rest : System) (k d : Centre J B) (lines : ChannelState)
+    (answer : Result Relayed BookFault) → OnErr answer (centre.link_of d ≡ centre.link_of k)
+    → OnErr answer (ledger (centre.book_of d) ≡ ledger (centre.book_of k)) → centre.journal_of d ≡ centre.journal_of k
+    → centre.indices_of d ≡ centre.indices_of k → OnErr answer (lines ≡ rest.above)
+    → OnErr answer (record rest { centre = centre_of archive ledger d; above = lines } ≡ record rest { centre = centre_of archive ledger k })
+unmoved_above archive ledger rest k d lines (Ok answer) link book journal indices same = tt
+unmoved_above archive ledger rest k d lines (Err fault) link book journal indices same =
+    ap (λ (c : ChannelState). record rest { centre = centre_of archive ledger d; above = c }) same
+    ∙ ap (λ (m : CentreState). record rest { centre = m })
+    (centre_with archive ledger k d (centre.link_of k) (ledger (centre.book_of k)) link book journal indices)

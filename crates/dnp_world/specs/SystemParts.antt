@@ -11,9 +11,9 @@ use Rattle.dnp_outstation.specs.Parts as outstation
 use Rattle.dnp_world.specs.Channels.{state_of}
 use Rattle.dnp_world.specs.Systems.{SubstationState, ConcentratorState, CentreState, History, System}
 use Rattle.dnp_world.specs.declared.history.History as kept
-use Rattle.dnp_world.specs.declared.parts.Parts.{Parts}
+use Rattle.dnp_world.specs.declared.parts.Parts.TheInside.{Inside}
 use Rattle.dnp_world.specs.declared.substation.Substation.{Substation}
-use Rattle.dnp_world.specs.Shown.{Shown, Stores, StoresAreWell}
+use Rattle.dnp_world.specs.Shown.{Shown, Stores}
 
 abbrev pub substation_of : Substation → SubstationState
 substation_of s = record {
@@ -51,7 +51,7 @@ history_of h = record {
   operated = h.operated.items;
 }
 
-abbrev pub system_of : {Q J A B : Type 0} → (Q → Stock) → (J → Archive) → (A → Ledger) → (B → Ledger) → Parts Q J A B → System
+abbrev pub system_of : {Q J A B : Type 0} → (Q → Stock) → (J → Archive) → (A → Ledger) → (B → Ledger) → Inside Q J A B → System
 system_of stock archive controls orders p = record {
   indices = p.map;
   substations = map substation_of p.substations.items;
@@ -64,27 +64,15 @@ system_of stock archive controls orders p = record {
 
 -- ---- the stores
 
-abbrev pub queue_of : {Q J A B : Type 0} → Parts Q J A B → Q
-queue_of p = concentrator.queue_of p.concentrator
-
-abbrev pub controls_of : {Q J A B : Type 0} → Parts Q J A B → A
-controls_of p = concentrator.book_of p.concentrator
-
-abbrev pub journal_of : {Q J A B : Type 0} → Parts Q J A B → J
-journal_of p = centre.journal_of p.centre
-
-abbrev pub orders_of : {Q J A B : Type 0} → Parts Q J A B → B
-orders_of p = centre.book_of p.centre
-
-abbrev pub stores_of : {Q J A B : Type 0} → Parts Q J A B → Stores Q J A B
-stores_of p = record { queue = queue_of p; journal = journal_of p; controls = controls_of p; orders = orders_of p }
-
-abbrev pub AreWell : {Q J A B : Type 0} → (Q → Type 0) → (J → Type 0) → (A → Type 0) → (A → Bool) → (B → Type 0) → (B → Bool)
-    → Parts Q J A B → Type 0
-AreWell queue journal controls controls_stopped orders orders_stopped p =
-    StoresAreWell queue journal controls controls_stopped orders orders_stopped (stores_of p)
+abbrev pub stores_of : {Q J A B : Type 0} → Inside Q J A B → Stores Q J A B
+stores_of p = record {
+  queue = concentrator.queue_of p.concentrator;
+  journal = centre.journal_of p.centre;
+  controls = concentrator.book_of p.concentrator;
+  orders = centre.book_of p.centre;
+}
 
 -- ---- what contracts see
 
-abbrev pub shown_by : {Q J A B : Type 0} → (Q → Stock) → (J → Archive) → (A → Ledger) → (B → Ledger) → Parts Q J A B → Shown Q J A B
+abbrev pub shown_by : {Q J A B : Type 0} → (Q → Stock) → (J → Archive) → (A → Ledger) → (B → Ledger) → Inside Q J A B → Shown Q J A B
 shown_by stock archive controls orders p = record { system = system_of stock archive controls orders p; stores = stores_of p }

@@ -3,7 +3,7 @@
 ghost use Rattle.std.specs.Prelude.{option_copied, ◌≡◌, ◌+◌, ◌-◌, ◌^◌, true, min};
 ghost use Rattle.dnp_world.specs.Channels.{DamagesAt};
 ghost use Rattle.dnp_world.specs.SystemEvents.{HangsUpOn, LinesChange, LosesOn, MasterTicks, concentrator_restarted};
-ghost use Rattle.dnp_world.specs.SystemParts.{system_of, queue_of, controls_of, journal_of, orders_of};
+ghost use Rattle.dnp_world.specs.Shown.{StoresAreWell};
 ghost use Rattle.dnp_world.specs.Systems.{front_on, has_link, standing_on};
 ghost use Rattle.dnp_world.specs.declared.event.Link.TheVariants as link;
 ghost use Rattle.dnp_world.specs.declared.link_event.End.TheVariants as end;
@@ -17,6 +17,7 @@ use dnp_concentrator::{Centre, Concentrator, IndexMap};
 use dnp_controls::Book;
 use dnp_eventbuf::{JournalStore, Lanes};
 use dnp_outstation::Actions;
+use std::marker::Model;
 
 mod arrivals;
 mod calls;
@@ -27,8 +28,10 @@ mod rounds;
 mod tasks;
 
 /// Substations, a concentrator and a centre, with lines between them, and what became of every row and command.
+///
+/// A clause sees what [`World`](crate::World) shows of it: the system, by what its stores say of themselves, and the stores.
 #[derive(Drop)]
-pub(crate) struct Parts<Q, J, A, B> {
+pub(crate) struct Parts<Q: Lanes, J: JournalStore, A: Book, B: Book> {
     /// Where the substations' indices stand above.
     pub map: IndexMap,
     pub substations: Vec<Substation>,
@@ -43,10 +46,30 @@ pub(crate) struct Parts<Q, J, A, B> {
     pub history: History,
 }
 
+impl<Q: Lanes, J: JournalStore, A: Book, B: Book> Model for Parts<Q, J, A, B> {
+    ghost use Rattle.dnp_world.specs.Shown.{Shown};
+
+    ghost Value = { Shown Q J A B };
+
+    ghost use Rattle.dnp_world.specs.SystemParts.{shown_by};
+
+    ghost view = { λ p. shown_by Q.contents J.archive A.contents B.contents p };
+}
+
+/// What stands over the four stores of a system.
+pub(crate) trait Stored {
+    /// They are honest, and no book has answered Device.
+    ghost well: { Self → Type 0 };
+}
+
+impl<Q: Lanes, J: JournalStore, A: Book, B: Book> Stored for Parts<Q, J, A, B> {
+    ghost well = { λ p. StoresAreWell Q.honest J.honest A.honest A.is_stopped B.honest B.is_stopped p.stores };
+}
+
 impl<Q: Lanes, J: JournalStore, A: Book, B: Book> Parts<Q, J, A, B> {
     /// Whether the plan has this link.
     pub fn has(&self, on: Link) -> bool
-        ensures { result ≡ has_link (system_of Q.contents J.archive A.contents B.contents self.now) on }
+        ensures { result ≡ has_link self.now.system on }
     {
         match on {
             Link::Below(station) => {
@@ -59,7 +82,7 @@ impl<Q: Lanes, J: JournalStore, A: Book, B: Book> Parts<Q, J, A, B> {
 
     /// How many units stand on the line of this way of the link, 0 for a link outside the plan.
     pub fn standing(&self, on: Link, way: Way) -> usize
-        ensures { result ≡ standing_on (system_of Q.contents J.archive A.contents B.contents self.now) on way }
+        ensures { result ≡ standing_on self.now.system on way }
     {
         if !self.has(on) {
             return 0;
@@ -72,7 +95,7 @@ impl<Q: Lanes, J: JournalStore, A: Book, B: Book> Parts<Q, J, A, B> {
 
     /// The octets of the front unit of this way of the link, none for a link outside the plan.
     pub fn front(&self, on: Link, way: Way) -> Option<&[u8]>
-        ensures { option_copied result ≡ front_on (system_of Q.contents J.archive A.contents B.contents self.now) on way }
+        ensures { option_copied result ≡ front_on self.now.system on way }
     {
         if !self.has(on) {
             return None;
@@ -85,12 +108,9 @@ impl<Q: Lanes, J: JournalStore, A: Book, B: Book> Parts<Q, J, A, B> {
 
     /// This end hangs up: the line towards it is cleared, and its port is reset.
     pub fn hang_up(&mut self, on: Link, end: End)
-        requires { has_link (system_of Q.contents J.archive A.contents B.contents self.old) on ≡ true }
-        ensures queue { queue_of self.new ≡ queue_of self.old }
-        ensures controls { controls_of self.new ≡ controls_of self.old }
-        ensures journal { journal_of self.new ≡ journal_of self.old }
-        ensures orders { orders_of self.new ≡ orders_of self.old }
-        ensures done { HangsUpOn on end (system_of Q.contents J.archive A.contents B.contents self.old) (system_of Q.contents J.archive A.contents B.contents self.new) }
+        requires { has_link self.old.system on ≡ true }
+        ensures stores { self.new.stores ≡ self.old.stores }
+        ensures done { HangsUpOn on end self.old.system self.new.system }
     {
         match (on, end) {
             (Link::Below(station), End::Master) => {
@@ -115,12 +135,9 @@ impl<Q: Lanes, J: JournalStore, A: Book, B: Book> Parts<Q, J, A, B> {
 
     /// The front unit of this way of the link is lost.
     pub fn lose(&mut self, on: Link, way: Way)
-        requires { has_link (system_of Q.contents J.archive A.contents B.contents self.old) on ≡ true }
-        ensures queue { queue_of self.new ≡ queue_of self.old }
-        ensures controls { controls_of self.new ≡ controls_of self.old }
-        ensures journal { journal_of self.new ≡ journal_of self.old }
-        ensures orders { orders_of self.new ≡ orders_of self.old }
-        ensures done { LosesOn on way (system_of Q.contents J.archive A.contents B.contents self.old) (system_of Q.contents J.archive A.contents B.contents self.new) }
+        requires { has_link self.old.system on ≡ true }
+        ensures stores { self.new.stores ≡ self.old.stores }
+        ensures done { LosesOn on way self.old.system self.new.system }
     {
         match on {
             Link::Below(station) => self.substations[usize::from(station)].channel.lose(way),
@@ -130,12 +147,9 @@ impl<Q: Lanes, J: JournalStore, A: Book, B: Book> Parts<Q, J, A, B> {
 
     /// The octets of the front unit of this way of the link become these.
     pub fn damage(&mut self, on: Link, way: Way, octets: &Damaged)
-        requires { has_link (system_of Q.contents J.archive A.contents B.contents self.old) on ≡ true }
-        ensures queue { queue_of self.new ≡ queue_of self.old }
-        ensures controls { controls_of self.new ≡ controls_of self.old }
-        ensures journal { journal_of self.new ≡ journal_of self.old }
-        ensures orders { orders_of self.new ≡ orders_of self.old }
-        ensures done { LinesChange on (DamagesAt way octets.now) (system_of Q.contents J.archive A.contents B.contents self.old) (system_of Q.contents J.archive A.contents B.contents self.new) }
+        requires { has_link self.old.system on ≡ true }
+        ensures stores { self.new.stores ≡ self.old.stores }
+        ensures done { LinesChange on (DamagesAt way octets.now) self.old.system self.new.system }
     {
         match on {
             Link::Below(station) => {
@@ -149,12 +163,9 @@ impl<Q: Lanes, J: JournalStore, A: Book, B: Book> Parts<Q, J, A, B> {
 
     /// So many milliseconds pass.
     pub fn pass(&mut self, ms: u64)
-        ensures queue { queue_of self.new ≡ queue_of self.old }
-        ensures controls { controls_of self.new ≡ controls_of self.old }
-        ensures journal { journal_of self.new ≡ journal_of self.old }
-        ensures orders { orders_of self.new ≡ orders_of self.old }
-        ensures done { system_of Q.contents J.archive A.contents B.contents self.new ≡ record (system_of Q.contents J.archive A.contents B.contents self.old) {
-          now = min ((system_of Q.contents J.archive A.contents B.contents self.old).now + ms) (2 ^ 64 - 1);
+        ensures stores { self.new.stores ≡ self.old.stores }
+        ensures done { self.new.system ≡ record self.old.system {
+          now = min (self.old.system.now + ms) (2 ^ 64 - 1);
         } }
     {
         self.moment = self.moment.saturating_add(ms);
@@ -162,12 +173,9 @@ impl<Q: Lanes, J: JournalStore, A: Book, B: Book> Parts<Q, J, A, B> {
 
     /// The master of the link looks at its timer.
     pub fn tick_master(&mut self, on: Link)
-        requires { has_link (system_of Q.contents J.archive A.contents B.contents self.old) on ≡ true }
-        ensures queue { queue_of self.new ≡ queue_of self.old }
-        ensures controls { controls_of self.new ≡ controls_of self.old }
-        ensures journal { journal_of self.new ≡ journal_of self.old }
-        ensures orders { orders_of self.new ≡ orders_of self.old }
-        ensures done { MasterTicks on (system_of Q.contents J.archive A.contents B.contents self.old) (system_of Q.contents J.archive A.contents B.contents self.new) }
+        requires { has_link self.old.system on ≡ true }
+        ensures stores { self.new.stores ≡ self.old.stores }
+        ensures done { MasterTicks on self.old.system self.new.system }
     {
         match on {
             Link::Below(station) => {
@@ -181,11 +189,8 @@ impl<Q: Lanes, J: JournalStore, A: Book, B: Book> Parts<Q, J, A, B> {
 
     /// The centre's device starts again: the centre hangs up.
     pub fn restart_centre(&mut self)
-        ensures queue { queue_of self.new ≡ queue_of self.old }
-        ensures controls { controls_of self.new ≡ controls_of self.old }
-        ensures journal { journal_of self.new ≡ journal_of self.old }
-        ensures orders { orders_of self.new ≡ orders_of self.old }
-        ensures done { HangsUpOn link.Above end.Master (system_of Q.contents J.archive A.contents B.contents self.old) (system_of Q.contents J.archive A.contents B.contents self.new) }
+        ensures stores { self.new.stores ≡ self.old.stores }
+        ensures done { HangsUpOn link.Above end.Master self.old.system self.new.system }
     {
         self.centre.restart();
         self.above.hang_up(End::Master);

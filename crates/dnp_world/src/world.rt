@@ -55,13 +55,12 @@ pub struct World<Q: Lanes, J: JournalStore, A: Book, B: Book> {
 
 impl<Q: Lanes, J: JournalStore, A: Book, B: Book> Model for World<Q, J, A, B> {
     ghost use Rattle.dnp_world.specs.Shown.{IsSteadyWhileWell, Shown};
-    ghost use Rattle.dnp_world.specs.SystemParts.{shown_by};
 
     ghost Value = { Shown Q J A B };
 
-    ghost view = { λ w. shown_by Q.contents J.archive A.contents B.contents w.parts };
+    ghost view = { λ w. w.parts };
 
-    ghost invariant = { λ w. IsSteadyWhileWell Q.honest J.honest A.honest A.is_stopped B.honest B.is_stopped (shown_by Q.contents J.archive A.contents B.contents w.parts) };
+    ghost invariant = { λ w. IsSteadyWhileWell Q.honest J.honest A.honest A.is_stopped B.honest B.is_stopped w.parts };
 }
 
 impl<Q: Lanes + Drop, J: JournalStore + Drop, A: Book + Drop, B: Book + Drop> Drop

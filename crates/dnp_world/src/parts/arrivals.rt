@@ -3,11 +3,10 @@
 ghost use Rattle.std.specs.Prelude.{◌≡◌, true, OnErr, OnOk};
 ghost use Rattle.dnp_world.specs.Channels.{left_by};
 ghost use Rattle.dnp_world.specs.SystemEvents.{ComesDownAbove, ComesDownBelow, ComesOn, ComesUp};
-ghost use Rattle.dnp_world.specs.SystemParts.{AreWell, system_of};
 ghost use Rattle.dnp_world.specs.Systems.{has_link, has_station};
 ghost use Rattle.dnp_world.specs.declared.event.Link.TheVariants as link;
 
-use super::Parts;
+use super::{Parts, Stored};
 use crate::event::Link;
 use crate::link_event::Way;
 use dnp_concentrator::Cause;
@@ -21,10 +20,10 @@ const CENTRE_LINK: u8 = 0;
 impl<Q: Lanes, J: JournalStore, A: Book, B: Book> Parts<Q, J, A, B> {
     /// The front unit comes to a substation.
     fn come_down_below(&mut self, alloc: Global, station: u8, repeats: bool) -> Result<(), Cause>
-        requires { has_station (system_of Q.contents J.archive A.contents B.contents self.old) station ≡ true }
-        ensures held { AreWell Q.honest J.honest A.honest A.is_stopped B.honest B.is_stopped self.new → AreWell Q.honest J.honest A.honest A.is_stopped B.honest B.is_stopped self.old }
-        ensures done { AreWell Q.honest J.honest A.honest A.is_stopped B.honest B.is_stopped self.new → OnOk result (ComesDownBelow (left_by repeats) station (system_of Q.contents J.archive A.contents B.contents self.old) (system_of Q.contents J.archive A.contents B.contents self.new)) }
-        ensures stopped { AreWell Q.honest J.honest A.honest A.is_stopped B.honest B.is_stopped self.new → OnErr result ((system_of Q.contents J.archive A.contents B.contents self.new) ≡ (system_of Q.contents J.archive A.contents B.contents self.old)) }
+        requires { has_station self.old.system station ≡ true }
+        ensures held { ⟦<Self as Stored>⟧.well self.new → ⟦<Self as Stored>⟧.well self.old }
+        ensures done { ⟦<Self as Stored>⟧.well self.new → OnOk result (ComesDownBelow (left_by repeats) station self.old.system self.new.system) }
+        ensures stopped { ⟦<Self as Stored>⟧.well self.new → OnErr result (self.new.system ≡ self.old.system) }
     {
         let substation = &mut self.substations[usize::from(station)];
         substation.come_down(
@@ -40,9 +39,9 @@ impl<Q: Lanes, J: JournalStore, A: Book, B: Book> Parts<Q, J, A, B> {
 
     /// The front unit comes to the concentrator from above.
     fn come_down_above(&mut self, alloc: Global, repeats: bool) -> Result<(), Cause>
-        ensures held { AreWell Q.honest J.honest A.honest A.is_stopped B.honest B.is_stopped self.new → AreWell Q.honest J.honest A.honest A.is_stopped B.honest B.is_stopped self.old }
-        ensures done { AreWell Q.honest J.honest A.honest A.is_stopped B.honest B.is_stopped self.new → OnOk result (ComesDownAbove (left_by repeats) (system_of Q.contents J.archive A.contents B.contents self.old) (system_of Q.contents J.archive A.contents B.contents self.new)) }
-        ensures stopped { AreWell Q.honest J.honest A.honest A.is_stopped B.honest B.is_stopped self.new → OnErr result ((system_of Q.contents J.archive A.contents B.contents self.new) ≡ (system_of Q.contents J.archive A.contents B.contents self.old)) }
+        ensures held { ⟦<Self as Stored>⟧.well self.new → ⟦<Self as Stored>⟧.well self.old }
+        ensures done { ⟦<Self as Stored>⟧.well self.new → OnOk result (ComesDownAbove (left_by repeats) self.old.system self.new.system) }
+        ensures stopped { ⟦<Self as Stored>⟧.well self.new → OnErr result (self.new.system ≡ self.old.system) }
     {
         self.above.come_down(
             &mut self.actions,
@@ -56,10 +55,10 @@ impl<Q: Lanes, J: JournalStore, A: Book, B: Book> Parts<Q, J, A, B> {
 
     /// The front unit comes to the concentrator's master of a substation.
     fn come_up_below(&mut self, alloc: Global, station: u8, repeats: bool) -> Result<(), Cause>
-        requires { has_station (system_of Q.contents J.archive A.contents B.contents self.old) station ≡ true }
-        ensures held { AreWell Q.honest J.honest A.honest A.is_stopped B.honest B.is_stopped self.new → AreWell Q.honest J.honest A.honest A.is_stopped B.honest B.is_stopped self.old }
-        ensures done { AreWell Q.honest J.honest A.honest A.is_stopped B.honest B.is_stopped self.new → OnOk result (ComesUp (left_by repeats) (link.Below station) (system_of Q.contents J.archive A.contents B.contents self.old) (system_of Q.contents J.archive A.contents B.contents self.new)) }
-        ensures stopped { AreWell Q.honest J.honest A.honest A.is_stopped B.honest B.is_stopped self.new → OnErr result ((system_of Q.contents J.archive A.contents B.contents self.new) ≡ (system_of Q.contents J.archive A.contents B.contents self.old)) }
+        requires { has_station self.old.system station ≡ true }
+        ensures held { ⟦<Self as Stored>⟧.well self.new → ⟦<Self as Stored>⟧.well self.old }
+        ensures done { ⟦<Self as Stored>⟧.well self.new → OnOk result (ComesUp (left_by repeats) (link.Below station) self.old.system self.new.system) }
+        ensures stopped { ⟦<Self as Stored>⟧.well self.new → OnErr result (self.new.system ≡ self.old.system) }
     {
         let channel = &mut self.substations[usize::from(station)].channel;
         channel.come_up(
@@ -75,9 +74,9 @@ impl<Q: Lanes, J: JournalStore, A: Book, B: Book> Parts<Q, J, A, B> {
 
     /// The front unit comes to the centre.
     fn come_up_above(&mut self, alloc: Global, repeats: bool) -> Result<(), Cause>
-        ensures held { AreWell Q.honest J.honest A.honest A.is_stopped B.honest B.is_stopped self.new → AreWell Q.honest J.honest A.honest A.is_stopped B.honest B.is_stopped self.old }
-        ensures done { AreWell Q.honest J.honest A.honest A.is_stopped B.honest B.is_stopped self.new → OnOk result (ComesUp (left_by repeats) link.Above (system_of Q.contents J.archive A.contents B.contents self.old) (system_of Q.contents J.archive A.contents B.contents self.new)) }
-        ensures stopped { AreWell Q.honest J.honest A.honest A.is_stopped B.honest B.is_stopped self.new → OnErr result ((system_of Q.contents J.archive A.contents B.contents self.new) ≡ (system_of Q.contents J.archive A.contents B.contents self.old)) }
+        ensures held { ⟦<Self as Stored>⟧.well self.new → ⟦<Self as Stored>⟧.well self.old }
+        ensures done { ⟦<Self as Stored>⟧.well self.new → OnOk result (ComesUp (left_by repeats) link.Above self.old.system self.new.system) }
+        ensures stopped { ⟦<Self as Stored>⟧.well self.new → OnErr result (self.new.system ≡ self.old.system) }
     {
         self.above.come_up(
             alloc,
@@ -98,10 +97,10 @@ impl<Q: Lanes, J: JournalStore, A: Book, B: Book> Parts<Q, J, A, B> {
         way: Way,
         repeats: bool,
     ) -> Result<(), Cause>
-        requires { has_link (system_of Q.contents J.archive A.contents B.contents self.old) on ≡ true }
-        ensures held { AreWell Q.honest J.honest A.honest A.is_stopped B.honest B.is_stopped self.new → AreWell Q.honest J.honest A.honest A.is_stopped B.honest B.is_stopped self.old }
-        ensures done { AreWell Q.honest J.honest A.honest A.is_stopped B.honest B.is_stopped self.new → OnOk result (ComesOn (left_by repeats) on way (system_of Q.contents J.archive A.contents B.contents self.old) (system_of Q.contents J.archive A.contents B.contents self.new)) }
-        ensures stopped { AreWell Q.honest J.honest A.honest A.is_stopped B.honest B.is_stopped self.new → OnErr result ((system_of Q.contents J.archive A.contents B.contents self.new) ≡ (system_of Q.contents J.archive A.contents B.contents self.old)) }
+        requires { has_link self.old.system on ≡ true }
+        ensures held { ⟦<Self as Stored>⟧.well self.new → ⟦<Self as Stored>⟧.well self.old }
+        ensures done { ⟦<Self as Stored>⟧.well self.new → OnOk result (ComesOn (left_by repeats) on way self.old.system self.new.system) }
+        ensures stopped { ⟦<Self as Stored>⟧.well self.new → OnErr result (self.new.system ≡ self.old.system) }
     {
         match (on, way) {
             (Link::Below(station), Way::Down) => self.come_down_below(alloc, station, repeats)?,

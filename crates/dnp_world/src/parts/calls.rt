@@ -2,10 +2,9 @@
 
 ghost use Rattle.std.specs.Prelude.{◌≡◌, true, OnErr, OnOk};
 ghost use Rattle.dnp_world.specs.SystemEvents.{OpensOn, OutstationTicks, SubstationRestarts, concentrator_restarted};
-ghost use Rattle.dnp_world.specs.SystemParts.{AreWell, system_of, journal_of, orders_of};
 ghost use Rattle.dnp_world.specs.Systems.{has_link, has_station};
 
-use super::Parts;
+use super::{Parts, Stored};
 use crate::event::Link;
 use crate::link_event::End;
 use crate::substation::hang_up_masters;
@@ -18,10 +17,10 @@ impl<Q: Lanes, J: JournalStore, A: Book, B: Book> Parts<Q, J, A, B> {
     /// Both lines of the link are cleared, both ports are reset, and both ends are opened. The outstation is asked first,
     /// since its lanes may refuse.
     pub(crate) fn open(&mut self, alloc: Global, on: Link) -> Result<(), Cause>
-        requires { has_link (system_of Q.contents J.archive A.contents B.contents self.old) on ≡ true }
-        ensures held { AreWell Q.honest J.honest A.honest A.is_stopped B.honest B.is_stopped self.new → AreWell Q.honest J.honest A.honest A.is_stopped B.honest B.is_stopped self.old }
-        ensures done { AreWell Q.honest J.honest A.honest A.is_stopped B.honest B.is_stopped self.new → OnOk result (OpensOn on (system_of Q.contents J.archive A.contents B.contents self.old) (system_of Q.contents J.archive A.contents B.contents self.new)) }
-        ensures stopped { AreWell Q.honest J.honest A.honest A.is_stopped B.honest B.is_stopped self.new → OnErr result ((system_of Q.contents J.archive A.contents B.contents self.new) ≡ (system_of Q.contents J.archive A.contents B.contents self.old)) }
+        requires { has_link self.old.system on ≡ true }
+        ensures held { ⟦<Self as Stored>⟧.well self.new → ⟦<Self as Stored>⟧.well self.old }
+        ensures done { ⟦<Self as Stored>⟧.well self.new → OnOk result (OpensOn on self.old.system self.new.system) }
+        ensures stopped { ⟦<Self as Stored>⟧.well self.new → OnErr result (self.new.system ≡ self.old.system) }
     {
         match on {
             Link::Below(station) => {
@@ -44,10 +43,10 @@ impl<Q: Lanes, J: JournalStore, A: Book, B: Book> Parts<Q, J, A, B> {
 
     /// The outstation of the link looks at its timers.
     pub(crate) fn tick_outstation(&mut self, alloc: Global, on: Link) -> Result<(), Cause>
-        requires { has_link (system_of Q.contents J.archive A.contents B.contents self.old) on ≡ true }
-        ensures held { AreWell Q.honest J.honest A.honest A.is_stopped B.honest B.is_stopped self.new → AreWell Q.honest J.honest A.honest A.is_stopped B.honest B.is_stopped self.old }
-        ensures done { AreWell Q.honest J.honest A.honest A.is_stopped B.honest B.is_stopped self.new → OnOk result (OutstationTicks on (system_of Q.contents J.archive A.contents B.contents self.old) (system_of Q.contents J.archive A.contents B.contents self.new)) }
-        ensures stopped { AreWell Q.honest J.honest A.honest A.is_stopped B.honest B.is_stopped self.new → OnErr result ((system_of Q.contents J.archive A.contents B.contents self.new) ≡ (system_of Q.contents J.archive A.contents B.contents self.old)) }
+        requires { has_link self.old.system on ≡ true }
+        ensures held { ⟦<Self as Stored>⟧.well self.new → ⟦<Self as Stored>⟧.well self.old }
+        ensures done { ⟦<Self as Stored>⟧.well self.new → OnOk result (OutstationTicks on self.old.system self.new.system) }
+        ensures stopped { ⟦<Self as Stored>⟧.well self.new → OnErr result (self.new.system ≡ self.old.system) }
     {
         match on {
             Link::Below(station) => {
@@ -68,8 +67,8 @@ impl<Q: Lanes, J: JournalStore, A: Book, B: Book> Parts<Q, J, A, B> {
 
     /// The concentrator's device starts again: the concentrator hangs up all its ends.
     pub(crate) fn restart_concentrator(&mut self, alloc: Global)
-        ensures held { AreWell Q.honest J.honest A.honest A.is_stopped B.honest B.is_stopped self.new → AreWell Q.honest J.honest A.honest A.is_stopped B.honest B.is_stopped self.old }
-        ensures done { AreWell Q.honest J.honest A.honest A.is_stopped B.honest B.is_stopped self.new → (system_of Q.contents J.archive A.contents B.contents self.new) ≡ concentrator_restarted (system_of Q.contents J.archive A.contents B.contents self.old) }
+        ensures held { ⟦<Self as Stored>⟧.well self.new → ⟦<Self as Stored>⟧.well self.old }
+        ensures done { ⟦<Self as Stored>⟧.well self.new → self.new.system ≡ concentrator_restarted self.old.system }
     {
         self.concentrator.restart(alloc);
         hang_up_masters(&mut self.substations);
@@ -78,10 +77,10 @@ impl<Q: Lanes, J: JournalStore, A: Book, B: Book> Parts<Q, J, A, B> {
 
     /// A substation's device starts again: the substation hangs up, and its lanes are emptied.
     pub(crate) fn restart_substation(&mut self, alloc: Global, station: u8) -> Result<(), Cause>
-        requires { has_station (system_of Q.contents J.archive A.contents B.contents self.old) station ≡ true }
-        ensures held { AreWell Q.honest J.honest A.honest A.is_stopped B.honest B.is_stopped self.new → AreWell Q.honest J.honest A.honest A.is_stopped B.honest B.is_stopped self.old }
-        ensures done { AreWell Q.honest J.honest A.honest A.is_stopped B.honest B.is_stopped self.new → OnOk result (SubstationRestarts station (system_of Q.contents J.archive A.contents B.contents self.old) (system_of Q.contents J.archive A.contents B.contents self.new)) }
-        ensures stopped { AreWell Q.honest J.honest A.honest A.is_stopped B.honest B.is_stopped self.new → OnErr result ((system_of Q.contents J.archive A.contents B.contents self.new) ≡ (system_of Q.contents J.archive A.contents B.contents self.old)) }
+        requires { has_station self.old.system station ≡ true }
+        ensures held { ⟦<Self as Stored>⟧.well self.new → ⟦<Self as Stored>⟧.well self.old }
+        ensures done { ⟦<Self as Stored>⟧.well self.new → OnOk result (SubstationRestarts station self.old.system self.new.system) }
+        ensures stopped { ⟦<Self as Stored>⟧.well self.new → OnErr result (self.new.system ≡ self.old.system) }
     {
         let substation = &mut self.substations[usize::from(station)];
         substation.restart(alloc, station, &mut self.history.gone)?;

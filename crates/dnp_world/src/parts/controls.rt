@@ -5,10 +5,9 @@ ghost use Rattle.std.specs.Option.{option_and_then, option_map};
 ghost use Rattle.dnp_controls.specs.Book.{next_of};
 ghost use Rattle.dnp_world.specs.ControlSteps.{EndsBy};
 ghost use Rattle.dnp_world.specs.Controls.{ControlEnds, IsAccepted, IsControlFor, IsRefusedFor, IsRefusedOn, IsTold, Passes, PassesBack, StopsBack, StopsFor, StopsOn, StopsRelaying, are_quiet_for, first_with, found_in, is_free_below, is_next_for, next_below, station_in, status_in, status_on};
-ghost use Rattle.dnp_world.specs.SystemParts.{AreWell, system_of};
 ghost use Rattle.dnp_world.specs.Systems.{has_station};
 
-use super::Parts;
+use super::{Parts, Stored};
 use crate::carrier::Carrier;
 use crate::event::{Event, Link};
 use crate::link_event::Way;
@@ -84,9 +83,9 @@ fn status_of(entry: Option<Entry>) -> Option<Status>
 impl<Q: Lanes, J: JournalStore, A: Book, B: Book> Parts<Q, J, A, B> {
     /// The entry of this id in the centre's book.
     fn entry_above(&mut self, alloc: Global, id: u64) -> Result<Option<Entry>, Cause>
-        ensures held { AreWell Q.honest J.honest A.honest A.is_stopped B.honest B.is_stopped self.new → AreWell Q.honest J.honest A.honest A.is_stopped B.honest B.is_stopped self.old }
-        ensures same { AreWell Q.honest J.honest A.honest A.is_stopped B.honest B.is_stopped self.new → system_of Q.contents J.archive A.contents B.contents self.new ≡ system_of Q.contents J.archive A.contents B.contents self.old }
-        ensures value { AreWell Q.honest J.honest A.honest A.is_stopped B.honest B.is_stopped self.new → IfOk result (λ entry. entry ≡ found_in (system_of Q.contents J.archive A.contents B.contents self.old).centre.orders.entries id) }
+        ensures held { ⟦<Self as Stored>⟧.well self.new → ⟦<Self as Stored>⟧.well self.old }
+        ensures same { ⟦<Self as Stored>⟧.well self.new → self.new.system ≡ self.old.system }
+        ensures value { ⟦<Self as Stored>⟧.well self.new → IfOk result (λ entry. entry ≡ found_in self.old.system.centre.orders.entries id) }
     {
         let book = self.centre.book();
         entry_with(alloc, book, id)
@@ -94,9 +93,9 @@ impl<Q: Lanes, J: JournalStore, A: Book, B: Book> Parts<Q, J, A, B> {
 
     /// The entry of this id in the concentrator's book.
     fn entry_below(&mut self, alloc: Global, id: u64) -> Result<Option<Entry>, Cause>
-        ensures held { AreWell Q.honest J.honest A.honest A.is_stopped B.honest B.is_stopped self.new → AreWell Q.honest J.honest A.honest A.is_stopped B.honest B.is_stopped self.old }
-        ensures same { AreWell Q.honest J.honest A.honest A.is_stopped B.honest B.is_stopped self.new → system_of Q.contents J.archive A.contents B.contents self.new ≡ system_of Q.contents J.archive A.contents B.contents self.old }
-        ensures value { AreWell Q.honest J.honest A.honest A.is_stopped B.honest B.is_stopped self.new → IfOk result (λ entry. entry ≡ found_in (system_of Q.contents J.archive A.contents B.contents self.old).concentrator.controls.entries id) }
+        ensures held { ⟦<Self as Stored>⟧.well self.new → ⟦<Self as Stored>⟧.well self.old }
+        ensures same { ⟦<Self as Stored>⟧.well self.new → self.new.system ≡ self.old.system }
+        ensures value { ⟦<Self as Stored>⟧.well self.new → IfOk result (λ entry. entry ≡ found_in self.old.system.concentrator.controls.entries id) }
     {
         let book = self.concentrator.book();
         entry_with(alloc, book, id)
@@ -104,9 +103,9 @@ impl<Q: Lanes, J: JournalStore, A: Book, B: Book> Parts<Q, J, A, B> {
 
     /// The centre's next pending control.
     fn next_above(&mut self, alloc: Global) -> Result<Option<Entry>, Cause>
-        ensures held { AreWell Q.honest J.honest A.honest A.is_stopped B.honest B.is_stopped self.new → AreWell Q.honest J.honest A.honest A.is_stopped B.honest B.is_stopped self.old }
-        ensures same { AreWell Q.honest J.honest A.honest A.is_stopped B.honest B.is_stopped self.new → system_of Q.contents J.archive A.contents B.contents self.new ≡ system_of Q.contents J.archive A.contents B.contents self.old }
-        ensures value { AreWell Q.honest J.honest A.honest A.is_stopped B.honest B.is_stopped self.new → IfOk result (λ entry. entry ≡ next_of (system_of Q.contents J.archive A.contents B.contents self.old).centre.orders.entries 0) }
+        ensures held { ⟦<Self as Stored>⟧.well self.new → ⟦<Self as Stored>⟧.well self.old }
+        ensures same { ⟦<Self as Stored>⟧.well self.new → self.new.system ≡ self.old.system }
+        ensures value { ⟦<Self as Stored>⟧.well self.new → IfOk result (λ entry. entry ≡ next_of self.old.system.centre.orders.entries 0) }
     {
         let book = self.centre.book();
         next_for(alloc, book, STATION_BELOW)
@@ -114,9 +113,9 @@ impl<Q: Lanes, J: JournalStore, A: Book, B: Book> Parts<Q, J, A, B> {
 
     /// The id of the concentrator's next pending control for the substation.
     fn next_below(&mut self, alloc: Global, station: u8) -> Result<Option<u64>, Cause>
-        ensures held { AreWell Q.honest J.honest A.honest A.is_stopped B.honest B.is_stopped self.new → AreWell Q.honest J.honest A.honest A.is_stopped B.honest B.is_stopped self.old }
-        ensures same { AreWell Q.honest J.honest A.honest A.is_stopped B.honest B.is_stopped self.new → system_of Q.contents J.archive A.contents B.contents self.new ≡ system_of Q.contents J.archive A.contents B.contents self.old }
-        ensures value { AreWell Q.honest J.honest A.honest A.is_stopped B.honest B.is_stopped self.new → IfOk result (λ id. id ≡ next_below (system_of Q.contents J.archive A.contents B.contents self.old) station) }
+        ensures held { ⟦<Self as Stored>⟧.well self.new → ⟦<Self as Stored>⟧.well self.old }
+        ensures same { ⟦<Self as Stored>⟧.well self.new → self.new.system ≡ self.old.system }
+        ensures value { ⟦<Self as Stored>⟧.well self.new → IfOk result (λ id. id ≡ next_below self.old.system station) }
     {
         let book = self.concentrator.book();
         Ok(id_of(next_for(alloc, book, station)?))
@@ -124,9 +123,9 @@ impl<Q: Lanes, J: JournalStore, A: Book, B: Book> Parts<Q, J, A, B> {
 
     /// The substation that the control of this id in the centre's book is for.
     fn station_of(&mut self, alloc: Global, id: u64) -> Result<Option<u8>, Cause>
-        ensures held { AreWell Q.honest J.honest A.honest A.is_stopped B.honest B.is_stopped self.new → AreWell Q.honest J.honest A.honest A.is_stopped B.honest B.is_stopped self.old }
-        ensures same { AreWell Q.honest J.honest A.honest A.is_stopped B.honest B.is_stopped self.new → system_of Q.contents J.archive A.contents B.contents self.new ≡ system_of Q.contents J.archive A.contents B.contents self.old }
-        ensures value { AreWell Q.honest J.honest A.honest A.is_stopped B.honest B.is_stopped self.new → IfOk result (λ station. station ≡ station_in (system_of Q.contents J.archive A.contents B.contents self.old) id) }
+        ensures held { ⟦<Self as Stored>⟧.well self.new → ⟦<Self as Stored>⟧.well self.old }
+        ensures same { ⟦<Self as Stored>⟧.well self.new → self.new.system ≡ self.old.system }
+        ensures value { ⟦<Self as Stored>⟧.well self.new → IfOk result (λ station. station ≡ station_in self.old.system id) }
     {
         let Some(entry) = self.entry_above(alloc, id)? else {
             return Ok(None);
@@ -139,7 +138,7 @@ impl<Q: Lanes, J: JournalStore, A: Book, B: Book> Parts<Q, J, A, B> {
 
     /// Whether the link above is quiet, and that to the substation.
     fn are_quiet(&self, station: Option<u8>) -> bool
-        ensures { result ≡ are_quiet_for (system_of Q.contents J.archive A.contents B.contents self.now) station }
+        ensures { result ≡ are_quiet_for self.now.system station }
     {
         match station {
             Some(station) => self.quiet(Link::Above) && self.quiet(Link::Below(station)),
@@ -149,10 +148,10 @@ impl<Q: Lanes, J: JournalStore, A: Book, B: Book> Parts<Q, J, A, B> {
 
     /// Whether the concentrator has no control pending or in progress for the substation, which is one of the plan.
     fn is_free(&mut self, alloc: Global, station: u8) -> Result<bool, Cause>
-        requires { has_station (system_of Q.contents J.archive A.contents B.contents self.old) station ≡ true }
-        ensures held { AreWell Q.honest J.honest A.honest A.is_stopped B.honest B.is_stopped self.new → AreWell Q.honest J.honest A.honest A.is_stopped B.honest B.is_stopped self.old }
-        ensures same { AreWell Q.honest J.honest A.honest A.is_stopped B.honest B.is_stopped self.new → system_of Q.contents J.archive A.contents B.contents self.new ≡ system_of Q.contents J.archive A.contents B.contents self.old }
-        ensures value { AreWell Q.honest J.honest A.honest A.is_stopped B.honest B.is_stopped self.new → IfOk result (λ free. free ≡ is_free_below (system_of Q.contents J.archive A.contents B.contents self.old) (Some station)) }
+        requires { has_station self.old.system station ≡ true }
+        ensures held { ⟦<Self as Stored>⟧.well self.new → ⟦<Self as Stored>⟧.well self.old }
+        ensures same { ⟦<Self as Stored>⟧.well self.new → self.new.system ≡ self.old.system }
+        ensures value { ⟦<Self as Stored>⟧.well self.new → IfOk result (λ free. free ≡ is_free_below self.old.system (Some station)) }
     {
         let idle = self.concentrator.in_progress(station).is_none();
         let next = self.next_below(alloc, station)?;
@@ -162,10 +161,10 @@ impl<Q: Lanes, J: JournalStore, A: Book, B: Book> Parts<Q, J, A, B> {
     /// Whether the control of this id, which is for this substation of the plan, is the centre's next pending one, no other
     /// is in progress there, and the concentrator has none pending or in progress for that substation.
     fn is_next(&mut self, alloc: Global, id: u64, station: Option<u8>) -> Result<bool, Cause>
-        requires { IfSome station (λ s. has_station (system_of Q.contents J.archive A.contents B.contents self.old) s ≡ true) }
-        ensures held { AreWell Q.honest J.honest A.honest A.is_stopped B.honest B.is_stopped self.new → AreWell Q.honest J.honest A.honest A.is_stopped B.honest B.is_stopped self.old }
-        ensures same { AreWell Q.honest J.honest A.honest A.is_stopped B.honest B.is_stopped self.new → system_of Q.contents J.archive A.contents B.contents self.new ≡ system_of Q.contents J.archive A.contents B.contents self.old }
-        ensures value { AreWell Q.honest J.honest A.honest A.is_stopped B.honest B.is_stopped self.new → IfOk result (λ next. next ≡ is_next_for (system_of Q.contents J.archive A.contents B.contents self.old) id station) }
+        requires { IfSome station (λ s. has_station self.old.system s ≡ true) }
+        ensures held { ⟦<Self as Stored>⟧.well self.new → ⟦<Self as Stored>⟧.well self.old }
+        ensures same { ⟦<Self as Stored>⟧.well self.new → self.new.system ≡ self.old.system }
+        ensures value { ⟦<Self as Stored>⟧.well self.new → IfOk result (λ next. next ≡ is_next_for self.old.system id station) }
     {
         let free = match station {
             Some(station) => self.is_free(alloc, station)?,
@@ -183,9 +182,9 @@ impl<Q: Lanes, J: JournalStore, A: Book, B: Book> Parts<Q, J, A, B> {
         on: Link,
         id: Option<u64>,
     ) -> Result<Option<Status>, Cause>
-        ensures held { AreWell Q.honest J.honest A.honest A.is_stopped B.honest B.is_stopped self.new → AreWell Q.honest J.honest A.honest A.is_stopped B.honest B.is_stopped self.old }
-        ensures same { AreWell Q.honest J.honest A.honest A.is_stopped B.honest B.is_stopped self.new → system_of Q.contents J.archive A.contents B.contents self.new ≡ system_of Q.contents J.archive A.contents B.contents self.old }
-        ensures value { AreWell Q.honest J.honest A.honest A.is_stopped B.honest B.is_stopped self.new → IfOk result (λ status. status ≡ status_on (system_of Q.contents J.archive A.contents B.contents self.old) on id) }
+        ensures held { ⟦<Self as Stored>⟧.well self.new → ⟦<Self as Stored>⟧.well self.old }
+        ensures same { ⟦<Self as Stored>⟧.well self.new → self.new.system ≡ self.old.system }
+        ensures value { ⟦<Self as Stored>⟧.well self.new → IfOk result (λ status. status ≡ status_on self.old.system on id) }
     {
         let Some(id) = id else {
             return Ok(None);
@@ -200,9 +199,9 @@ impl<Q: Lanes, J: JournalStore, A: Book, B: Book> Parts<Q, J, A, B> {
     /// A step of relaying over the link. Refused where it finished the control of this id with another status than
     /// SUCCESS.
     fn relay_one(&mut self, alloc: Global, on: Link, id: Option<u64>) -> Result<(), ControlFault>
-        ensures held { AreWell Q.honest J.honest A.honest A.is_stopped B.honest B.is_stopped self.new → AreWell Q.honest J.honest A.honest A.is_stopped B.honest B.is_stopped self.old }
-        ensures done { AreWell Q.honest J.honest A.honest A.is_stopped B.honest B.is_stopped self.new → OnOk result (Passes on id (system_of Q.contents J.archive A.contents B.contents self.old) (system_of Q.contents J.archive A.contents B.contents self.new)) }
-        ensures ended { AreWell Q.honest J.honest A.honest A.is_stopped B.honest B.is_stopped self.new → IfErr result (EndsBy (λ status. IsTold on id status (system_of Q.contents J.archive A.contents B.contents self.old) (system_of Q.contents J.archive A.contents B.contents self.new)) (StopsRelaying on (system_of Q.contents J.archive A.contents B.contents self.old) (system_of Q.contents J.archive A.contents B.contents self.new))) }
+        ensures held { ⟦<Self as Stored>⟧.well self.new → ⟦<Self as Stored>⟧.well self.old }
+        ensures done { ⟦<Self as Stored>⟧.well self.new → OnOk result (Passes on id self.old.system self.new.system) }
+        ensures ended { ⟦<Self as Stored>⟧.well self.new → IfErr result (EndsBy (λ status. IsTold on id status self.old.system self.new.system) (StopsRelaying on self.old.system self.new.system)) }
     {
         self.happen(alloc, &Event::Relay(on))?;
         match self.status_on(alloc, on, id)? {
@@ -219,9 +218,9 @@ impl<Q: Lanes, J: JournalStore, A: Book, B: Book> Parts<Q, J, A, B> {
         id: Option<u64>,
         carrier: &mut C,
     ) -> Result<(), ControlFault>
-        ensures held { AreWell Q.honest J.honest A.honest A.is_stopped B.honest B.is_stopped self.new → AreWell Q.honest J.honest A.honest A.is_stopped B.honest B.is_stopped self.old }
-        ensures done { AreWell Q.honest J.honest A.honest A.is_stopped B.honest B.is_stopped self.new → OnOk result (PassesBack on id (system_of Q.contents J.archive A.contents B.contents self.old) (system_of Q.contents J.archive A.contents B.contents self.new)) }
-        ensures ended { AreWell Q.honest J.honest A.honest A.is_stopped B.honest B.is_stopped self.new → IfErr result (EndsBy (λ status. IsTold on id status (system_of Q.contents J.archive A.contents B.contents self.old) (system_of Q.contents J.archive A.contents B.contents self.new)) (StopsBack on id (system_of Q.contents J.archive A.contents B.contents self.old) (system_of Q.contents J.archive A.contents B.contents self.new))) }
+        ensures held { ⟦<Self as Stored>⟧.well self.new → ⟦<Self as Stored>⟧.well self.old }
+        ensures done { ⟦<Self as Stored>⟧.well self.new → OnOk result (PassesBack on id self.old.system self.new.system) }
+        ensures ended { ⟦<Self as Stored>⟧.well self.new → IfErr result (EndsBy (λ status. IsTold on id status self.old.system self.new.system) (StopsBack on id self.old.system self.new.system)) }
     {
         self.relay_one(alloc, on, id)?;
         self.flush(alloc, on, Way::Down, carrier)?;
@@ -237,9 +236,9 @@ impl<Q: Lanes, J: JournalStore, A: Book, B: Book> Parts<Q, J, A, B> {
         id: Option<u64>,
         carrier: &mut C,
     ) -> Result<(), ControlFault>
-        ensures held { AreWell Q.honest J.honest A.honest A.is_stopped B.honest B.is_stopped self.new → AreWell Q.honest J.honest A.honest A.is_stopped B.honest B.is_stopped self.old }
-        ensures done { AreWell Q.honest J.honest A.honest A.is_stopped B.honest B.is_stopped self.new → OnOk result (IsAccepted on id (system_of Q.contents J.archive A.contents B.contents self.old) (system_of Q.contents J.archive A.contents B.contents self.new)) }
-        ensures ended { AreWell Q.honest J.honest A.honest A.is_stopped B.honest B.is_stopped self.new → IfErr result (EndsBy (λ status. IsRefusedOn on id status (system_of Q.contents J.archive A.contents B.contents self.old) (system_of Q.contents J.archive A.contents B.contents self.new)) (StopsOn on id (system_of Q.contents J.archive A.contents B.contents self.old) (system_of Q.contents J.archive A.contents B.contents self.new))) }
+        ensures held { ⟦<Self as Stored>⟧.well self.new → ⟦<Self as Stored>⟧.well self.old }
+        ensures done { ⟦<Self as Stored>⟧.well self.new → OnOk result (IsAccepted on id self.old.system self.new.system) }
+        ensures ended { ⟦<Self as Stored>⟧.well self.new → IfErr result (EndsBy (λ status. IsRefusedOn on id status self.old.system self.new.system) (StopsOn on id self.old.system self.new.system)) }
     {
         self.exchange(alloc, on, id, carrier)?;
         self.exchange(alloc, on, id, carrier)?;
@@ -255,9 +254,9 @@ impl<Q: Lanes, J: JournalStore, A: Book, B: Book> Parts<Q, J, A, B> {
         station: Option<u8>,
         carrier: &mut C,
     ) -> Result<(), ControlFault>
-        ensures held { AreWell Q.honest J.honest A.honest A.is_stopped B.honest B.is_stopped self.new → AreWell Q.honest J.honest A.honest A.is_stopped B.honest B.is_stopped self.old }
-        ensures done { AreWell Q.honest J.honest A.honest A.is_stopped B.honest B.is_stopped self.new → OnOk result (IsControlFor station id (system_of Q.contents J.archive A.contents B.contents self.old) (system_of Q.contents J.archive A.contents B.contents self.new)) }
-        ensures ended { AreWell Q.honest J.honest A.honest A.is_stopped B.honest B.is_stopped self.new → IfErr result (EndsBy (λ status. IsRefusedFor station id status (system_of Q.contents J.archive A.contents B.contents self.old) (system_of Q.contents J.archive A.contents B.contents self.new)) (StopsFor station id (system_of Q.contents J.archive A.contents B.contents self.old) (system_of Q.contents J.archive A.contents B.contents self.new))) }
+        ensures held { ⟦<Self as Stored>⟧.well self.new → ⟦<Self as Stored>⟧.well self.old }
+        ensures done { ⟦<Self as Stored>⟧.well self.new → OnOk result (IsControlFor station id self.old.system self.new.system) }
+        ensures ended { ⟦<Self as Stored>⟧.well self.new → IfErr result (EndsBy (λ status. IsRefusedFor station id status self.old.system self.new.system) (StopsFor station id self.old.system self.new.system)) }
     {
         self.relay_through(alloc, Link::Above, Some(id), carrier)?;
         let Some(station) = station else {
@@ -277,8 +276,8 @@ impl<Q: Lanes, J: JournalStore, A: Book, B: Book> Parts<Q, J, A, B> {
         id: u64,
         carrier: &mut C,
     ) -> Result<(), ControlFault>
-        ensures held { AreWell Q.honest J.honest A.honest A.is_stopped B.honest B.is_stopped self.new → AreWell Q.honest J.honest A.honest A.is_stopped B.honest B.is_stopped self.old }
-        ensures ends { AreWell Q.honest J.honest A.honest A.is_stopped B.honest B.is_stopped self.new → ControlEnds id (system_of Q.contents J.archive A.contents B.contents self.old) result (system_of Q.contents J.archive A.contents B.contents self.new) }
+        ensures held { ⟦<Self as Stored>⟧.well self.new → ⟦<Self as Stored>⟧.well self.old }
+        ensures ends { ⟦<Self as Stored>⟧.well self.new → ControlEnds id self.old.system result self.new.system }
     {
         let station = self.station_of(alloc, id)?;
         if !self.are_quiet(station) {

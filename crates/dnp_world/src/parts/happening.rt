@@ -3,12 +3,11 @@
 ghost use Rattle.std.specs.Prelude.{◌≡◌, true, IfErr, OnErr, OnOk};
 ghost use Rattle.dnp_world.specs.SystemEvents.{ComesOn};
 ghost use Rattle.dnp_world.specs.SystemRuns.{CountsFor, Happens, RunsTo, StopsAfter, may_stop};
-ghost use Rattle.dnp_world.specs.SystemParts.{AreWell, system_of};
 ghost use Rattle.dnp_world.specs.Systems.{has_link};
 ghost use Rattle.dnp_world.specs.declared.event.Event.TheVariants as event;
 ghost use Rattle.dnp_line.specs.Lines.{delivered_on};
 
-use super::Parts;
+use super::{Parts, Stored};
 use crate::carrier::Carrier;
 use crate::event::{Event, Link, Place};
 use crate::link_event::{End, Way};
@@ -21,10 +20,10 @@ use std::alloc::Global;
 impl<Q: Lanes, J: JournalStore, A: Book, B: Book> Parts<Q, J, A, B> {
     /// The front unit of this way of the link comes to its end. Where that is refused, the unit is lost.
     fn deliver(&mut self, alloc: Global, on: Link, way: Way) -> Result<(), Cause>
-        requires { has_link (system_of Q.contents J.archive A.contents B.contents self.old) on ≡ true }
-        ensures held { AreWell Q.honest J.honest A.honest A.is_stopped B.honest B.is_stopped self.new → AreWell Q.honest J.honest A.honest A.is_stopped B.honest B.is_stopped self.old }
-        ensures done { AreWell Q.honest J.honest A.honest A.is_stopped B.honest B.is_stopped self.new → OnOk result (ComesOn delivered_on on way (system_of Q.contents J.archive A.contents B.contents self.old) (system_of Q.contents J.archive A.contents B.contents self.new)) }
-        ensures stopped { AreWell Q.honest J.honest A.honest A.is_stopped B.honest B.is_stopped self.new → OnErr result (CountsFor (system_of Q.contents J.archive A.contents B.contents self.old) (event.Deliver on way) (system_of Q.contents J.archive A.contents B.contents self.new)) }
+        requires { has_link self.old.system on ≡ true }
+        ensures held { ⟦<Self as Stored>⟧.well self.new → ⟦<Self as Stored>⟧.well self.old }
+        ensures done { ⟦<Self as Stored>⟧.well self.new → OnOk result (ComesOn delivered_on on way self.old.system self.new.system) }
+        ensures stopped { ⟦<Self as Stored>⟧.well self.new → OnErr result (CountsFor self.old.system (event.Deliver on way) self.new.system) }
     {
         let Err(cause) = self.come(alloc, on, way, false) else {
             return Ok(());
@@ -37,9 +36,9 @@ impl<Q: Lanes, J: JournalStore, A: Book, B: Book> Parts<Q, J, A, B> {
 
     /// One event happens.
     pub(crate) fn happen(&mut self, alloc: Global, event: &Event) -> Result<(), Cause>
-        ensures held { AreWell Q.honest J.honest A.honest A.is_stopped B.honest B.is_stopped self.new → AreWell Q.honest J.honest A.honest A.is_stopped B.honest B.is_stopped self.old }
-        ensures done { AreWell Q.honest J.honest A.honest A.is_stopped B.honest B.is_stopped self.new → OnOk result (Happens (system_of Q.contents J.archive A.contents B.contents self.old) event.now (system_of Q.contents J.archive A.contents B.contents self.new)) }
-        ensures stopped { AreWell Q.honest J.honest A.honest A.is_stopped B.honest B.is_stopped self.new → OnErr result (CountsFor (system_of Q.contents J.archive A.contents B.contents self.old) event.now (system_of Q.contents J.archive A.contents B.contents self.new)) }
+        ensures held { ⟦<Self as Stored>⟧.well self.new → ⟦<Self as Stored>⟧.well self.old }
+        ensures done { ⟦<Self as Stored>⟧.well self.new → OnOk result (Happens self.old.system event.now self.new.system) }
+        ensures stopped { ⟦<Self as Stored>⟧.well self.new → OnErr result (CountsFor self.old.system event.now self.new.system) }
         ensures named { OnErr result (may_stop event.now ≡ true) }
     {
         match event {
@@ -91,9 +90,9 @@ impl<Q: Lanes, J: JournalStore, A: Book, B: Book> Parts<Q, J, A, B> {
         event: &Event,
         carrier: &mut C,
     ) -> Result<(), Cause>
-        ensures held { AreWell Q.honest J.honest A.honest A.is_stopped B.honest B.is_stopped self.new → AreWell Q.honest J.honest A.honest A.is_stopped B.honest B.is_stopped self.old }
-        ensures done { AreWell Q.honest J.honest A.honest A.is_stopped B.honest B.is_stopped self.new → OnOk result (Happens (system_of Q.contents J.archive A.contents B.contents self.old) event.now (system_of Q.contents J.archive A.contents B.contents self.new)) }
-        ensures stopped { AreWell Q.honest J.honest A.honest A.is_stopped B.honest B.is_stopped self.new → OnErr result (CountsFor (system_of Q.contents J.archive A.contents B.contents self.old) event.now (system_of Q.contents J.archive A.contents B.contents self.new)) }
+        ensures held { ⟦<Self as Stored>⟧.well self.new → ⟦<Self as Stored>⟧.well self.old }
+        ensures done { ⟦<Self as Stored>⟧.well self.new → OnOk result (Happens self.old.system event.now self.new.system) }
+        ensures stopped { ⟦<Self as Stored>⟧.well self.new → OnErr result (CountsFor self.old.system event.now self.new.system) }
         ensures named { OnErr result (may_stop event.now ≡ true) }
     {
         if let Event::Deliver(on, way) = event
@@ -115,9 +114,9 @@ impl<Q: Lanes, J: JournalStore, A: Book, B: Book> Parts<Q, J, A, B> {
         events: &[Event],
         carrier: &mut C,
     ) -> Result<(), Stopped>
-        ensures held { AreWell Q.honest J.honest A.honest A.is_stopped B.honest B.is_stopped self.new → AreWell Q.honest J.honest A.honest A.is_stopped B.honest B.is_stopped self.old }
-        ensures done { AreWell Q.honest J.honest A.honest A.is_stopped B.honest B.is_stopped self.new → OnOk result (RunsTo (system_of Q.contents J.archive A.contents B.contents self.old) events.now (system_of Q.contents J.archive A.contents B.contents self.new)) }
-        ensures stopped { AreWell Q.honest J.honest A.honest A.is_stopped B.honest B.is_stopped self.new → IfErr result (λ stopped. StopsAfter (system_of Q.contents J.archive A.contents B.contents self.old) events.now stopped.done (system_of Q.contents J.archive A.contents B.contents self.new)) }
+        ensures held { ⟦<Self as Stored>⟧.well self.new → ⟦<Self as Stored>⟧.well self.old }
+        ensures done { ⟦<Self as Stored>⟧.well self.new → OnOk result (RunsTo self.old.system events.now self.new.system) }
+        ensures stopped { ⟦<Self as Stored>⟧.well self.new → IfErr result (λ stopped. StopsAfter self.old.system events.now stopped.done self.new.system) }
     {
         for (done, event) in events.iter().enumerate() {
             if let Err(cause) = self.happen_by(alloc, event, carrier) {

@@ -6,10 +6,10 @@ ghost use Rattle.dnp_eventbuf.specs.declared.numbered.Numbered.{Numbered as Numb
 ghost use Rattle.dnp_world.specs.Kept.{lane_rows_of, rows_below as mapped_below};
 ghost use Rattle.dnp_world.specs.ReportShown.{AreById, Shows, all_in};
 ghost use Rattle.dnp_world.specs.Stations.{listed_from};
-ghost use Rattle.dnp_world.specs.SystemParts.{AreWell, substation_of, system_of};
+ghost use Rattle.dnp_world.specs.SystemParts.{substation_of};
 ghost use Rattle.dnp_world.specs.Systems.{at_station};
 
-use super::Parts;
+use super::{Parts, Stored};
 use crate::reading::{
     all_rows, journal_rows, lost_rows, numbered_below, put_rows_of, rows_below, rows_by_id,
 };
@@ -62,9 +62,9 @@ fn buffered_rows(alloc: Global, substations: &mut [Substation]) -> Result<Vec<(u
 impl<Q: Lanes, J: JournalStore, A: Book, B: Book> Parts<Q, J, A, B> {
     /// The journal's rows.
     fn journal_below(&mut self, alloc: Global) -> Result<Vec<(u8, Row)>, Cause>
-        ensures held { AreWell Q.honest J.honest A.honest A.is_stopped B.honest B.is_stopped self.new → AreWell Q.honest J.honest A.honest A.is_stopped B.honest B.is_stopped self.old }
-        ensures same { AreWell Q.honest J.honest A.honest A.is_stopped B.honest B.is_stopped self.new → system_of Q.contents J.archive A.contents B.contents self.new ≡ system_of Q.contents J.archive A.contents B.contents self.old }
-        ensures rows { AreWell Q.honest J.honest A.honest A.is_stopped B.honest B.is_stopped self.new → IfOk result (λ rows. rows.items ≡ (let s = system_of Q.contents J.archive A.contents B.contents self.old in mapped_below s.indices (all_of row_of s.centre.journal.rows))) }
+        ensures held { ⟦<Self as Stored>⟧.well self.new → ⟦<Self as Stored>⟧.well self.old }
+        ensures same { ⟦<Self as Stored>⟧.well self.new → self.new.system ≡ self.old.system }
+        ensures rows { ⟦<Self as Stored>⟧.well self.new → IfOk result (λ rows. rows.items ≡ (let s = self.old.system in mapped_below s.indices (all_of row_of s.centre.journal.rows))) }
     {
         let rows = journal_rows(alloc, self.centre.journal())?;
         Ok(numbered_below(alloc, &self.map, rows.as_slice())?)
@@ -72,9 +72,9 @@ impl<Q: Lanes, J: JournalStore, A: Book, B: Book> Parts<Q, J, A, B> {
 
     /// The queue's rows, by their ids.
     fn queue_below(&mut self, alloc: Global) -> Result<Vec<(u8, Row)>, Cause>
-        ensures held { AreWell Q.honest J.honest A.honest A.is_stopped B.honest B.is_stopped self.new → AreWell Q.honest J.honest A.honest A.is_stopped B.honest B.is_stopped self.old }
-        ensures same { AreWell Q.honest J.honest A.honest A.is_stopped B.honest B.is_stopped self.new → system_of Q.contents J.archive A.contents B.contents self.new ≡ system_of Q.contents J.archive A.contents B.contents self.old }
-        ensures rows { AreWell Q.honest J.honest A.honest A.is_stopped B.honest B.is_stopped self.new → IfOk result (λ rows. let s = system_of Q.contents J.archive A.contents B.contents self.old in
+        ensures held { ⟦<Self as Stored>⟧.well self.new → ⟦<Self as Stored>⟧.well self.old }
+        ensures same { ⟦<Self as Stored>⟧.well self.new → self.new.system ≡ self.old.system }
+        ensures rows { ⟦<Self as Stored>⟧.well self.new → IfOk result (λ rows. let s = self.old.system in
             (queued : List NumberedValue) × AreById (all_in s.concentrator.queue) queued × (rows.items ≡ mapped_below s.indices (all_of row_of queued))) }
     {
         let rows = rows_by_id(alloc, self.concentrator.queue())?;
@@ -83,9 +83,9 @@ impl<Q: Lanes, J: JournalStore, A: Book, B: Book> Parts<Q, J, A, B> {
 
     /// What became of all rows and commands so far.
     pub(crate) fn report(&mut self, alloc: Global) -> Result<Report, Cause>
-        ensures held { AreWell Q.honest J.honest A.honest A.is_stopped B.honest B.is_stopped self.new → AreWell Q.honest J.honest A.honest A.is_stopped B.honest B.is_stopped self.old }
-        ensures same { AreWell Q.honest J.honest A.honest A.is_stopped B.honest B.is_stopped self.new → system_of Q.contents J.archive A.contents B.contents self.new ≡ system_of Q.contents J.archive A.contents B.contents self.old }
-        ensures shows { AreWell Q.honest J.honest A.honest A.is_stopped B.honest B.is_stopped self.new → IfOk result (Shows (system_of Q.contents J.archive A.contents B.contents self.old)) }
+        ensures held { ⟦<Self as Stored>⟧.well self.new → ⟦<Self as Stored>⟧.well self.old }
+        ensures same { ⟦<Self as Stored>⟧.well self.new → self.new.system ≡ self.old.system }
+        ensures shows { ⟦<Self as Stored>⟧.well self.new → IfOk result (Shows self.old.system) }
         ensures counted { IfOk result (λ report. length report.dropped < 2 ^ 64) }
     {
         let journal = self.journal_below(alloc)?;

@@ -2,9 +2,8 @@
 
 ghost use Rattle.std.specs.Prelude.{◌≡◌, ◌≢◌, ◌↔◌, false, Err, IfErr, OnErr, OnOk};
 ghost use Rattle.dnp_world.specs.Rounds.{Flushes, IsRound, StopsFlushing, StopsInRound, is_quiet_on};
-ghost use Rattle.dnp_world.specs.SystemParts.{AreWell, system_of};
 
-use super::Parts;
+use super::{Parts, Stored};
 use crate::carrier::Carrier;
 use crate::event::{Event, Link};
 use crate::link_event::Way;
@@ -19,7 +18,7 @@ impl<Q: Lanes, J: JournalStore, A: Book, B: Book> Parts<Q, J, A, B> {
     /// Whether the link is one of the plan, and quiet: both ends are open, both lines carry nothing and are whole, the
     /// master awaits no response, and the outstation awaits no confirm and holds no READ.
     pub(crate) fn quiet(&self, on: Link) -> bool
-        ensures { result ≡ is_quiet_on (system_of Q.contents J.archive A.contents B.contents self.now) on }
+        ensures { result ≡ is_quiet_on self.now.system on }
     {
         if !self.has(on) {
             return false;
@@ -43,9 +42,9 @@ impl<Q: Lanes, J: JournalStore, A: Book, B: Book> Parts<Q, J, A, B> {
         way: Way,
         carrier: &mut C,
     ) -> Result<(), Cause>
-        ensures held { AreWell Q.honest J.honest A.honest A.is_stopped B.honest B.is_stopped self.new → AreWell Q.honest J.honest A.honest A.is_stopped B.honest B.is_stopped self.old }
-        ensures done { AreWell Q.honest J.honest A.honest A.is_stopped B.honest B.is_stopped self.new → OnOk result (Flushes on way (system_of Q.contents J.archive A.contents B.contents self.old) (system_of Q.contents J.archive A.contents B.contents self.new)) }
-        ensures stopped { AreWell Q.honest J.honest A.honest A.is_stopped B.honest B.is_stopped self.new → OnErr result (StopsFlushing on way (system_of Q.contents J.archive A.contents B.contents self.old) (system_of Q.contents J.archive A.contents B.contents self.new)) }
+        ensures held { ⟦<Self as Stored>⟧.well self.new → ⟦<Self as Stored>⟧.well self.old }
+        ensures done { ⟦<Self as Stored>⟧.well self.new → OnOk result (Flushes on way self.old.system self.new.system) }
+        ensures stopped { ⟦<Self as Stored>⟧.well self.new → OnErr result (StopsFlushing on way self.old.system self.new.system) }
     {
         for _ in 0..self.standing(on, way) {
             self.happen_by(alloc, &Event::Deliver(on, way), carrier)?;
@@ -61,9 +60,9 @@ impl<Q: Lanes, J: JournalStore, A: Book, B: Book> Parts<Q, J, A, B> {
         on: Link,
         carrier: &mut C,
     ) -> Result<(), Cause>
-        ensures held { AreWell Q.honest J.honest A.honest A.is_stopped B.honest B.is_stopped self.new → AreWell Q.honest J.honest A.honest A.is_stopped B.honest B.is_stopped self.old }
-        ensures done { AreWell Q.honest J.honest A.honest A.is_stopped B.honest B.is_stopped self.new → OnOk result (IsRound on (system_of Q.contents J.archive A.contents B.contents self.old) (system_of Q.contents J.archive A.contents B.contents self.new)) }
-        ensures stopped { AreWell Q.honest J.honest A.honest A.is_stopped B.honest B.is_stopped self.new → OnErr result (StopsInRound on (system_of Q.contents J.archive A.contents B.contents self.old) (system_of Q.contents J.archive A.contents B.contents self.new)) }
+        ensures held { ⟦<Self as Stored>⟧.well self.new → ⟦<Self as Stored>⟧.well self.old }
+        ensures done { ⟦<Self as Stored>⟧.well self.new → OnOk result (IsRound on self.old.system self.new.system) }
+        ensures stopped { ⟦<Self as Stored>⟧.well self.new → OnErr result (StopsInRound on self.old.system self.new.system) }
     {
         let classes = Classes([false, true, true, true]);
         self.happen(alloc, &Event::Ask(on, Task::Poll(classes)))?;
@@ -80,11 +79,11 @@ impl<Q: Lanes, J: JournalStore, A: Book, B: Book> Parts<Q, J, A, B> {
         on: Link,
         carrier: &mut C,
     ) -> Result<(), RoundFault>
-        ensures held { AreWell Q.honest J.honest A.honest A.is_stopped B.honest B.is_stopped self.new → AreWell Q.honest J.honest A.honest A.is_stopped B.honest B.is_stopped self.old }
-        ensures not_quiet { (result ≡ Err RoundFault.NotQuiet) ↔ (is_quiet_on (system_of Q.contents J.archive A.contents B.contents self.old) on ≡ false) }
+        ensures held { ⟦<Self as Stored>⟧.well self.new → ⟦<Self as Stored>⟧.well self.old }
+        ensures not_quiet { (result ≡ Err RoundFault.NotQuiet) ↔ (is_quiet_on self.old.system on ≡ false) }
         ensures unchanged { result ≡ Err RoundFault.NotQuiet → self.new ≡ self.old }
-        ensures done { AreWell Q.honest J.honest A.honest A.is_stopped B.honest B.is_stopped self.new → OnOk result (IsRound on (system_of Q.contents J.archive A.contents B.contents self.old) (system_of Q.contents J.archive A.contents B.contents self.new)) }
-        ensures stopped { AreWell Q.honest J.honest A.honest A.is_stopped B.honest B.is_stopped self.new → IfErr result (λ fault. fault ≢ RoundFault.NotQuiet → StopsInRound on (system_of Q.contents J.archive A.contents B.contents self.old) (system_of Q.contents J.archive A.contents B.contents self.new)) }
+        ensures done { ⟦<Self as Stored>⟧.well self.new → OnOk result (IsRound on self.old.system self.new.system) }
+        ensures stopped { ⟦<Self as Stored>⟧.well self.new → IfErr result (λ fault. fault ≢ RoundFault.NotQuiet → StopsInRound on self.old.system self.new.system) }
     {
         if !self.quiet(on) {
             return Err(RoundFault::NotQuiet);

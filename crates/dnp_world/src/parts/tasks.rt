@@ -1,21 +1,27 @@
 //! The events of a system that ask tasks, and the commands that are issued and relayed.
 
-ghost use Rattle.std.specs.Prelude.{◌≡◌, ◌⊎◌, true, IfNone, OnErr, OnOk};
+ghost use Rattle.std.specs.Prelude.{◌≡◌, ◌⊎◌, ◌≤◌, ℕ, List, true, IfErr, IfNone, IfOk, IsErr, MatchResult, OnErr, OnOk, Result, Ok, Err};
+ghost use Rattle.dnp_appfragment.specs.Fragments.{Asked, IsRequest};
 ghost use Rattle.dnp_concentrator.specs.Mapped.{command_above};
+ghost use Rattle.dnp_concentrator.specs.Relayed.{Tells};
+ghost use Rattle.dnp_concentrator.specs.Relaying.{Step};
+ghost use Rattle.dnp_line.specs.Lines.{room_of};
 ghost use Rattle.dnp_objects.specs.declared.command.Command.TheVariants.{Block, Set16, Set32};
+ghost use Rattle.dnp_world.specs.Channels.{GoDown, state_of};
 ghost use Rattle.dnp_world.specs.CommandWidths.{HasWidths};
 ghost use Rattle.dnp_world.specs.OneLinkEvents.{is_own};
-ghost use Rattle.dnp_world.specs.SystemEvents.{AsksOn, IssuesBy, Reads, RelaysOn};
-ghost use Rattle.dnp_world.specs.SystemParts.{AreWell, system_of};
+ghost use Rattle.dnp_world.specs.SystemEvents.{AsksOn, IssuesBy, Reads, RelaysOn, request_of, requests_of};
 ghost use Rattle.dnp_world.specs.Systems.{has_link, has_station};
 ghost use Rattle.dnp_world.specs.declared.event.Link.TheVariants as link;
 
-use super::Parts;
+use super::{Parts, Stored};
+use crate::channel::Channel;
 use crate::event::Link;
+use crate::sending::FRAGMENT_UNITS;
 use dnp_concentrator::{Cause, IssueFault, Relayed};
 use dnp_controls::{Book, BookFault};
 use dnp_eventbuf::{JournalStore, Lanes};
-use dnp_master::Task;
+use dnp_master::{AskFault, Fragment, Task};
 use dnp_objects::{Command, Kind};
 use dnp_pointdb::Reading;
 use std::alloc::Global;
@@ -64,41 +70,87 @@ fn cause_of(fault: BookFault) -> Option<Cause>
     }
 }
 
+/// What a master asks goes down the channel. What it refused does nothing.
+fn send_asked(channel: &mut Channel, asked: &Result<Fragment, AskFault>)
+    requires { FRAGMENT_UNITS ≤ room_of channel.old.down }
+    ensures { (answer : Result (List ℕ) AskFault) (request : Asked)
+        → MatchResult asked.now (λ octets. answer ≡ Ok octets.items) (λ fault. answer ≡ Err fault)
+        → IfOk asked.now (λ octets. IsRequest octets.items request)
+        → GoDown (request_of answer) (state_of channel.old) (state_of channel.new) }
+{
+    match asked {
+        Ok(request) => channel.send_down(request.as_slice()),
+        Err(_) => {}
+    }
+}
+
+/// What is told of a step of relaying goes down the channel: its request, if it has one.
+fn send_told(channel: &mut Channel, told: &Relayed)
+    requires { FRAGMENT_UNITS ≤ room_of channel.old.down }
+    ensures { (step : Step) (seq : ℕ) → Tells seq step told.now → GoDown (requests_of step seq) (state_of channel.old) (state_of channel.new) }
+{
+    match told {
+        Relayed::Selecting(_, request) => channel.send_down(request.as_slice()),
+        Relayed::Sent(_, request) => channel.send_down(request.as_slice()),
+        Relayed::Nothing => {}
+        Relayed::Finished(_, _) => {}
+    }
+}
+
+/// What a step of relaying asks goes down the channel. What the book refused of one entry does nothing.
+fn send_relayed(channel: &mut Channel, relayed: &Result<Relayed, BookFault>) -> Result<(), Cause>
+    requires { FRAGMENT_UNITS ≤ room_of channel.old.down }
+    ensures sent { IfOk relayed.now (λ told. (step : Step) (seq : ℕ) → Tells seq step told
+        → GoDown (requests_of step seq) (state_of channel.old) (state_of channel.new)) }
+    ensures same { OnErr relayed.now (state_of channel.new ≡ state_of channel.old) }
+    ensures passed { OnOk result (IfErr relayed.now (λ fault. (fault ≡ BookFault.NoControl) ⊎ (fault ≡ BookFault.NotPending))) }
+    ensures stopped { OnErr result (IsErr relayed.now) }
+{
+    match relayed {
+        Ok(told) => {
+            send_told(channel, told);
+            Ok(())
+        }
+        Err(fault) => match cause_of(*fault) {
+            Some(cause) => Err(cause),
+            None => Ok(()),
+        },
+    }
+}
+
 impl<Q: Lanes, J: JournalStore, A: Book, B: Book> Parts<Q, J, A, B> {
     /// The concentrator's master of a substation asks a task of its own. What it refuses does nothing.
     fn ask_below(&mut self, station: u8, task: Task) -> Result<(), Cause>
-        requires { has_station (system_of Q.contents J.archive A.contents B.contents self.old) station ≡ true }
-        ensures held { AreWell Q.honest J.honest A.honest A.is_stopped B.honest B.is_stopped self.new → AreWell Q.honest J.honest A.honest A.is_stopped B.honest B.is_stopped self.old }
-        ensures done { AreWell Q.honest J.honest A.honest A.is_stopped B.honest B.is_stopped self.new → OnOk result (AsksOn true (link.Below station) task (system_of Q.contents J.archive A.contents B.contents self.old) (system_of Q.contents J.archive A.contents B.contents self.new)) }
-        ensures stopped { AreWell Q.honest J.honest A.honest A.is_stopped B.honest B.is_stopped self.new → OnErr result ((system_of Q.contents J.archive A.contents B.contents self.new) ≡ (system_of Q.contents J.archive A.contents B.contents self.old)) }
+        requires { has_station self.old.system station ≡ true }
+        ensures held { ⟦<Self as Stored>⟧.well self.new → ⟦<Self as Stored>⟧.well self.old }
+        ensures done { ⟦<Self as Stored>⟧.well self.new → OnOk result (AsksOn true (link.Below station) task self.old.system self.new.system) }
+        ensures stopped { ⟦<Self as Stored>⟧.well self.new → OnErr result (self.new.system ≡ self.old.system) }
     {
         let channel = &mut self.substations[usize::from(station)].channel;
         channel.reserve_down()?;
-        if let Ok(request) = self.concentrator.ask_below(station, self.moment, task) {
-            channel.send_down(request.as_slice());
-        }
+        let asked = self.concentrator.ask_below(station, self.moment, task);
+        send_asked(channel, &asked);
         Ok(())
     }
 
     /// The centre asks a task of its own. What it refuses does nothing.
     fn ask_above(&mut self, task: Task) -> Result<(), Cause>
-        ensures held { AreWell Q.honest J.honest A.honest A.is_stopped B.honest B.is_stopped self.new → AreWell Q.honest J.honest A.honest A.is_stopped B.honest B.is_stopped self.old }
-        ensures done { AreWell Q.honest J.honest A.honest A.is_stopped B.honest B.is_stopped self.new → OnOk result (AsksOn true link.Above task (system_of Q.contents J.archive A.contents B.contents self.old) (system_of Q.contents J.archive A.contents B.contents self.new)) }
-        ensures stopped { AreWell Q.honest J.honest A.honest A.is_stopped B.honest B.is_stopped self.new → OnErr result ((system_of Q.contents J.archive A.contents B.contents self.new) ≡ (system_of Q.contents J.archive A.contents B.contents self.old)) }
+        ensures held { ⟦<Self as Stored>⟧.well self.new → ⟦<Self as Stored>⟧.well self.old }
+        ensures done { ⟦<Self as Stored>⟧.well self.new → OnOk result (AsksOn true link.Above task self.old.system self.new.system) }
+        ensures stopped { ⟦<Self as Stored>⟧.well self.new → OnErr result (self.new.system ≡ self.old.system) }
     {
         self.above.reserve_down()?;
-        if let Ok(request) = self.centre.ask(self.moment, task) {
-            self.above.send_down(request.as_slice());
-        }
+        let asked = self.centre.ask(self.moment, task);
+        send_asked(&mut self.above, &asked);
         Ok(())
     }
 
     /// The master of the link asks a task. What it refuses does nothing, as a command does.
     pub(crate) fn ask(&mut self, on: Link, task: Task) -> Result<(), Cause>
-        requires { has_link (system_of Q.contents J.archive A.contents B.contents self.old) on ≡ true }
-        ensures held { AreWell Q.honest J.honest A.honest A.is_stopped B.honest B.is_stopped self.new → AreWell Q.honest J.honest A.honest A.is_stopped B.honest B.is_stopped self.old }
-        ensures done { AreWell Q.honest J.honest A.honest A.is_stopped B.honest B.is_stopped self.new → OnOk result (AsksOn (is_own task) on task (system_of Q.contents J.archive A.contents B.contents self.old) (system_of Q.contents J.archive A.contents B.contents self.new)) }
-        ensures stopped { AreWell Q.honest J.honest A.honest A.is_stopped B.honest B.is_stopped self.new → OnErr result ((system_of Q.contents J.archive A.contents B.contents self.new) ≡ (system_of Q.contents J.archive A.contents B.contents self.old)) }
+        requires { has_link self.old.system on ≡ true }
+        ensures held { ⟦<Self as Stored>⟧.well self.new → ⟦<Self as Stored>⟧.well self.old }
+        ensures done { ⟦<Self as Stored>⟧.well self.new → OnOk result (AsksOn (is_own task) on task self.old.system self.new.system) }
+        ensures stopped { ⟦<Self as Stored>⟧.well self.new → OnErr result (self.new.system ≡ self.old.system) }
     {
         if matches!(task, Task::Select(_) | Task::Operate(_)) {
             return Ok(());
@@ -112,62 +164,34 @@ impl<Q: Lanes, J: JournalStore, A: Book, B: Book> Parts<Q, J, A, B> {
 
     /// A step of relaying the concentrator's controls to a substation.
     fn relay_below(&mut self, alloc: Global, station: u8) -> Result<(), Cause>
-        requires { has_station (system_of Q.contents J.archive A.contents B.contents self.old) station ≡ true }
-        ensures held { AreWell Q.honest J.honest A.honest A.is_stopped B.honest B.is_stopped self.new → AreWell Q.honest J.honest A.honest A.is_stopped B.honest B.is_stopped self.old }
-        ensures done { AreWell Q.honest J.honest A.honest A.is_stopped B.honest B.is_stopped self.new → OnOk result (RelaysOn (link.Below station) (system_of Q.contents J.archive A.contents B.contents self.old) (system_of Q.contents J.archive A.contents B.contents self.new)) }
-        ensures stopped { AreWell Q.honest J.honest A.honest A.is_stopped B.honest B.is_stopped self.new → OnErr result ((system_of Q.contents J.archive A.contents B.contents self.new) ≡ (system_of Q.contents J.archive A.contents B.contents self.old)) }
+        requires { has_station self.old.system station ≡ true }
+        ensures held { ⟦<Self as Stored>⟧.well self.new → ⟦<Self as Stored>⟧.well self.old }
+        ensures done { ⟦<Self as Stored>⟧.well self.new → OnOk result (RelaysOn (link.Below station) self.old.system self.new.system) }
+        ensures stopped { ⟦<Self as Stored>⟧.well self.new → OnErr result (self.new.system ≡ self.old.system) }
     {
         let channel = &mut self.substations[usize::from(station)].channel;
         channel.reserve_down()?;
-        match self.concentrator.relay(alloc, station, self.moment) {
-            Ok(Relayed::Selecting(_, request)) => {
-                channel.send_down(request.as_slice());
-                Ok(())
-            }
-            Ok(Relayed::Sent(_, request)) => {
-                channel.send_down(request.as_slice());
-                Ok(())
-            }
-            Ok(Relayed::Nothing) => Ok(()),
-            Ok(Relayed::Finished(_, _)) => Ok(()),
-            Err(fault) => match cause_of(fault) {
-                Some(cause) => Err(cause),
-                None => Ok(()),
-            },
-        }
+        let relayed = self.concentrator.relay(alloc, station, self.moment);
+        send_relayed(channel, &relayed)
     }
 
     /// A step of relaying the centre's controls to the concentrator.
     fn relay_above(&mut self, alloc: Global) -> Result<(), Cause>
-        ensures held { AreWell Q.honest J.honest A.honest A.is_stopped B.honest B.is_stopped self.new → AreWell Q.honest J.honest A.honest A.is_stopped B.honest B.is_stopped self.old }
-        ensures done { AreWell Q.honest J.honest A.honest A.is_stopped B.honest B.is_stopped self.new → OnOk result (RelaysOn link.Above (system_of Q.contents J.archive A.contents B.contents self.old) (system_of Q.contents J.archive A.contents B.contents self.new)) }
-        ensures stopped { AreWell Q.honest J.honest A.honest A.is_stopped B.honest B.is_stopped self.new → OnErr result ((system_of Q.contents J.archive A.contents B.contents self.new) ≡ (system_of Q.contents J.archive A.contents B.contents self.old)) }
+        ensures held { ⟦<Self as Stored>⟧.well self.new → ⟦<Self as Stored>⟧.well self.old }
+        ensures done { ⟦<Self as Stored>⟧.well self.new → OnOk result (RelaysOn link.Above self.old.system self.new.system) }
+        ensures stopped { ⟦<Self as Stored>⟧.well self.new → OnErr result (self.new.system ≡ self.old.system) }
     {
         self.above.reserve_down()?;
-        match self.centre.relay(alloc, self.moment) {
-            Ok(Relayed::Selecting(_, request)) => {
-                self.above.send_down(request.as_slice());
-                Ok(())
-            }
-            Ok(Relayed::Sent(_, request)) => {
-                self.above.send_down(request.as_slice());
-                Ok(())
-            }
-            Ok(Relayed::Nothing) => Ok(()),
-            Ok(Relayed::Finished(_, _)) => Ok(()),
-            Err(fault) => match cause_of(fault) {
-                Some(cause) => Err(cause),
-                None => Ok(()),
-            },
-        }
+        let relayed = self.centre.relay(alloc, self.moment);
+        send_relayed(&mut self.above, &relayed)
     }
 
     /// A step of relaying over the link.
     pub(crate) fn relay(&mut self, alloc: Global, on: Link) -> Result<(), Cause>
-        requires { has_link (system_of Q.contents J.archive A.contents B.contents self.old) on ≡ true }
-        ensures held { AreWell Q.honest J.honest A.honest A.is_stopped B.honest B.is_stopped self.new → AreWell Q.honest J.honest A.honest A.is_stopped B.honest B.is_stopped self.old }
-        ensures done { AreWell Q.honest J.honest A.honest A.is_stopped B.honest B.is_stopped self.new → OnOk result (RelaysOn on (system_of Q.contents J.archive A.contents B.contents self.old) (system_of Q.contents J.archive A.contents B.contents self.new)) }
-        ensures stopped { AreWell Q.honest J.honest A.honest A.is_stopped B.honest B.is_stopped self.new → OnErr result ((system_of Q.contents J.archive A.contents B.contents self.new) ≡ (system_of Q.contents J.archive A.contents B.contents self.old)) }
+        requires { has_link self.old.system on ≡ true }
+        ensures held { ⟦<Self as Stored>⟧.well self.new → ⟦<Self as Stored>⟧.well self.old }
+        ensures done { ⟦<Self as Stored>⟧.well self.new → OnOk result (RelaysOn on self.old.system self.new.system) }
+        ensures stopped { ⟦<Self as Stored>⟧.well self.new → OnErr result (self.new.system ≡ self.old.system) }
     {
         match on {
             Link::Below(station) => self.relay_below(alloc, station)?,
@@ -185,10 +209,10 @@ impl<Q: Lanes, J: JournalStore, A: Book, B: Book> Parts<Q, J, A, B> {
         index: u16,
         reading: Reading,
     ) -> Result<(), Cause>
-        requires { has_station (system_of Q.contents J.archive A.contents B.contents self.old) station ≡ true }
-        ensures held { AreWell Q.honest J.honest A.honest A.is_stopped B.honest B.is_stopped self.new → AreWell Q.honest J.honest A.honest A.is_stopped B.honest B.is_stopped self.old }
-        ensures done { AreWell Q.honest J.honest A.honest A.is_stopped B.honest B.is_stopped self.new → OnOk result (Reads station kind index reading (system_of Q.contents J.archive A.contents B.contents self.old) (system_of Q.contents J.archive A.contents B.contents self.new)) }
-        ensures stopped { AreWell Q.honest J.honest A.honest A.is_stopped B.honest B.is_stopped self.new → OnErr result ((system_of Q.contents J.archive A.contents B.contents self.new) ≡ (system_of Q.contents J.archive A.contents B.contents self.old)) }
+        requires { has_station self.old.system station ≡ true }
+        ensures held { ⟦<Self as Stored>⟧.well self.new → ⟦<Self as Stored>⟧.well self.old }
+        ensures done { ⟦<Self as Stored>⟧.well self.new → OnOk result (Reads station kind index reading self.old.system self.new.system) }
+        ensures stopped { ⟦<Self as Stored>⟧.well self.new → OnErr result (self.new.system ≡ self.old.system) }
     {
         let substation = &mut self.substations[usize::from(station)];
         substation.change(
@@ -211,9 +235,9 @@ impl<Q: Lanes, J: JournalStore, A: Book, B: Book> Parts<Q, J, A, B> {
         station: u8,
         command: &Command,
     ) -> Result<(), Cause>
-        ensures held { AreWell Q.honest J.honest A.honest A.is_stopped B.honest B.is_stopped self.new → AreWell Q.honest J.honest A.honest A.is_stopped B.honest B.is_stopped self.old }
-        ensures done { AreWell Q.honest J.honest A.honest A.is_stopped B.honest B.is_stopped self.new → OnOk result (IssuesBy (command_above (system_of Q.contents J.archive A.contents B.contents self.old).centre.indices station command.now) station command.now (system_of Q.contents J.archive A.contents B.contents self.old) (system_of Q.contents J.archive A.contents B.contents self.new)) }
-        ensures stopped { AreWell Q.honest J.honest A.honest A.is_stopped B.honest B.is_stopped self.new → OnErr result ((system_of Q.contents J.archive A.contents B.contents self.new) ≡ (system_of Q.contents J.archive A.contents B.contents self.old)) }
+        ensures held { ⟦<Self as Stored>⟧.well self.new → ⟦<Self as Stored>⟧.well self.old }
+        ensures done { ⟦<Self as Stored>⟧.well self.new → OnOk result (IssuesBy (command_above self.old.system.centre.indices station command.now) station command.now self.old.system self.new.system) }
+        ensures stopped { ⟦<Self as Stored>⟧.well self.new → OnErr result (self.new.system ≡ self.old.system) }
     {
         has_widths(command);
         self.history.issued.reserve(1)?;

@@ -11,26 +11,30 @@ use Rattle.dnp_world.proofs.parts.Parts.change.Goals as goal
 
 pub returns-in_err-change-clause-stopped : goal.returns-in_err-change-clause-stopped
 returns-in_err-change-clause-stopped g c = λ well.
-    let old = system_of g.Q.Lanes.contents g.J.JournalStore.archive g.A.Book.contents g.B.Book.contents c.args.self.now in
-    let xs = c.args.self.now.substations.items in
-    any_err c.from_residual.result _
+    let planned = rw (← c.self.view_is) at c.requires in
+    let old = system_of g.Q.Lanes.contents g.J.JournalStore.archive g.A.Book.contents g.B.Book.contents c.self.inside in
+    let xs = c.self.inside.substations.items in
+    rw (← c.self.view_is)
+    (any_err c.from_residual.result _
     (ap (λ (rows : List (ℕ × Row)). record old {
       substations = map substation_of (slice_set xs c.from.result c.change.new.self);
       history = record old.history { overwritten = rows };
     }) c.in_err-change.ensures.unlisted
-    ∙ unchanged_at old xs c.args.station c.from.result c.index_mut-substation.result.now c.change.new.self refl c.from.ensures c.requires
-    c.index_mut-substation.ensures.value c.in_err-change.ensures.stopped)
+    ∙ unchanged_at old xs c.args.station c.from.result c.index_mut-substation.result.now c.change.new.self refl c.from.ensures planned
+    c.index_mut-substation.ensures.value c.in_err-change.ensures.stopped))
 
 pub returns-clause-done : goal.returns-clause-done
 returns-clause-done g c = λ well.
-    let old = system_of g.Q.Lanes.contents g.J.JournalStore.archive g.A.Book.contents g.B.Book.contents c.args.self.now in
-    let xs = c.args.self.now.substations.items in
+    let planned = rw (← c.self.view_is) at c.requires in
+    let old = system_of g.Q.Lanes.contents g.J.JournalStore.archive g.A.Book.contents g.B.Book.contents c.self.inside in
+    let xs = c.self.inside.substations.items in
     let was = c.index_mut-substation.result.now in
-    record {
+    rw (← c.self.view_is)
+    (record {
       was = substation_of was;
       there = subst (λ (n : ℕ). slice_get (map substation_of xs) n ≡ Some (substation_of was)) c.from.ensures
-          (there substation_of xs c.from.result was was (rw c.from.ensures (is_there old xs c.args.station refl c.requires)) c.index_mut-substation.ensures.value);
+          (there substation_of xs c.from.result was was (rw c.from.ensures (is_there old xs c.args.station refl planned)) c.index_mut-substation.ensures.value);
       reads = reads_at (answer_of (substation_of was).core.points c.args.kind c.args.index c.args.reading) c.args.station c.from.result c.args.kind c.args.index
-          c.args.reading old xs was c.change.new.self c.change.new.overwritten.items refl c.from.ensures c.requires c.index_mut-substation.ensures.value
+          c.args.reading old xs was c.change.new.self c.change.new.overwritten.items refl c.from.ensures planned c.index_mut-substation.ensures.value
           c.in_ok-change.ensures.refused c.in_ok-change.ensures.numbers c.in_ok-change.ensures.done c.in_ok-change.ensures.listed;
-    }
+    })

@@ -3,7 +3,6 @@ use Rattle.std.proofs.Common.{◌≡◌, true, inl, rules, sym, ◌∙◌, subst
 use Rattle.std.specs.Prelude.{Option, ℕ}
 use Rattle.std.proofs.lemmas.Result.{err_from_is_err_and}
 use Rattle.dnp_world.specs.Controls.{CanGo, ControlEnds, are_quiet_for, is_next_for, station_in}
-use Rattle.dnp_world.specs.SystemParts.{system_of}
 use Rattle.dnp_world.specs.Systems.{System}
 use Rattle.dnp_world.proofs.SystemControls.{control_of}
 use Rattle.dnp_world.proofs.parts.Parts.clean_control.Goals as goal
@@ -20,13 +19,12 @@ returns-in_err-is_next-clause-ends g c = λ well.
 
 pub returns-clause-ends : goal.returns-clause-ends
 returns-clause-ends g c = λ well.
-    let system = system_of g.Q.Lanes.contents g.J.JournalStore.archive g.A.Book.contents g.B.Book.contents in
     let id = c.args.id in
     let station = c.in_ok-station.station in
-    let old = system c.args.self.now in
-    let found = system c.station_of.new.self in
-    let read = system c.is_next.new.self in
-    let new = system c.relay_all.new.self in
+    let old = c.args.self.now.system in
+    let found = c.station_of.new.self.system in
+    let read = c.is_next.new.self.system in
+    let new = c.relay_all.new.self.system in
     let before = c.relay_all.ensures.held well in
     let first = c.is_next.ensures.held before in
     let was : found ≡ old = c.station_of.ensures.same first in

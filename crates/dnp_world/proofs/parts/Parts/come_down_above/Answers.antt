@@ -11,9 +11,10 @@ pub returns-clause-done : goal.returns-clause-done
 returns-clause-done g c = λ well.
     let stock = g.Q.Lanes.contents in
     let ledger = g.A.Book.contents in
-    let old = system_of stock g.J.JournalStore.archive ledger g.B.Book.contents c.args.self.now in
+    let old = system_of stock g.J.JournalStore.archive ledger g.B.Book.contents c.self.inside in
     let came = c.in_ok-come_down.ensures.came (well.queue_is, (well.controls_is, well.controls_run)) in
     let new = c.come_down.new.end in
-    subst (λ (l : ChannelState). ComesDownAbove (left_by c.args.repeats) old (record old { concentrator = concentrator_of stock ledger new; above = l }))
+    rw (← c.self.view_is)
+    (subst (λ (l : ChannelState). ComesDownAbove (left_by c.args.repeats) old (record old { concentrator = concentrator_of stock ledger new; above = l }))
     (sym c.settle.ensures)
-    (comes_above stock ledger c.args.self.now.concentrator new old (actions_of c.come_down.new.actions) _ c.args.repeats (state_of c.come_down.new.self) came)
+    (comes_above stock ledger c.self.inside.concentrator new old (actions_of c.come_down.new.actions) _ c.args.repeats (state_of c.come_down.new.self) came))

@@ -8,22 +8,26 @@ use Rattle.dnp_world.proofs.parts.Parts.come_down_below.Goals as goal
 
 pub returns-in_err-come_down-clause-stopped : goal.returns-in_err-come_down-clause-stopped
 returns-in_err-come_down-clause-stopped g c = λ well.
-    let old = system_of g.Q.Lanes.contents g.J.JournalStore.archive g.A.Book.contents g.B.Book.contents c.args.self.now in
-    let xs = c.args.self.now.substations.items in
-    any_err c.from_residual.result _
+    let planned = rw (← c.self.view_is) at c.requires in
+    let old = system_of g.Q.Lanes.contents g.J.JournalStore.archive g.A.Book.contents g.B.Book.contents c.self.inside in
+    let xs = c.self.inside.substations.items in
+    rw (← c.self.view_is)
+    (any_err c.from_residual.result _
     (ap (λ (h : History). record old { substations = map substation_of (slice_set xs c.from.result c.come_down.new.self); history = h })
     c.in_err-come_down.ensures.unlisted
-    ∙ unchanged_at old xs c.args.station c.from.result c.index_mut-substation.result.now c.come_down.new.self refl c.from.ensures c.requires
-    c.index_mut-substation.ensures.value c.in_err-come_down.ensures.stopped)
+    ∙ unchanged_at old xs c.args.station c.from.result c.index_mut-substation.result.now c.come_down.new.self refl c.from.ensures planned
+    c.index_mut-substation.ensures.value c.in_err-come_down.ensures.stopped))
 
 pub returns-clause-done : goal.returns-clause-done
 returns-clause-done g c = λ well.
-    let old = system_of g.Q.Lanes.contents g.J.JournalStore.archive g.A.Book.contents g.B.Book.contents c.args.self.now in
-    let xs = c.args.self.now.substations.items in
+    let planned = rw (← c.self.view_is) at c.requires in
+    let old = system_of g.Q.Lanes.contents g.J.JournalStore.archive g.A.Book.contents g.B.Book.contents c.self.inside in
+    let xs = c.self.inside.substations.items in
     let done = c.in_ok-come_down.ensures.done in
-    record {
+    rw (← c.self.view_is)
+    (record {
       released = done.0;
       came = changes_at c.args.station c.from.result _ _ old _ xs c.index_mut-substation.result.now c.come_down.new.self refl c.from.ensures
-          (rw c.from.ensures (is_there old xs c.args.station refl c.requires)) c.index_mut-substation.ensures.value done.1
+          (rw c.from.ensures (is_there old xs c.args.station refl planned)) c.index_mut-substation.ensures.value done.1
           (ap (λ (h : History). record old { substations = map substation_of (slice_set xs c.from.result c.come_down.new.self); history = h }) done.2);
-    }
+    })

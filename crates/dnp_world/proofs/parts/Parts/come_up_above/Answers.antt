@@ -8,6 +8,7 @@ pub returns-clause-done : goal.returns-clause-done
 returns-clause-done g c = λ well.
     let archive = g.J.JournalStore.archive in
     let ledger = g.B.Book.contents in
-    let old = system_of g.Q.Lanes.contents archive g.A.Book.contents ledger c.args.self.now in
-    comes_above (left_by c.args.repeats) old (centre_of archive ledger c.come_up.new.end) (state_of c.come_up.new.self) c.come_up.new.dropped.items
-    (c.in_ok-come_up.ensures.came (well.journal_is, well.orders_is, well.orders_run))
+    let old = system_of g.Q.Lanes.contents archive g.A.Book.contents ledger c.self.inside in
+    rw (← c.self.view_is)
+    (comes_above (left_by c.args.repeats) old (centre_of archive ledger c.come_up.new.end) (state_of c.come_up.new.self) c.come_up.new.dropped.items
+    (c.in_ok-come_up.ensures.came (well.journal_is, well.orders_is, well.orders_run)))

@@ -11,22 +11,26 @@ use Rattle.dnp_world.proofs.parts.Parts.come_up_below.Goals as goal
 
 pub returns-clause-done : goal.returns-clause-done
 returns-clause-done g c = λ well.
+    let planned = rw (← c.self.view_is) at c.requires in
     let stock = g.Q.Lanes.contents in
     let ledger = g.A.Book.contents in
-    let old = system_of stock g.J.JournalStore.archive ledger g.B.Book.contents c.args.self.now in
-    comes_below (left_by c.args.repeats) old c.args.station c.from.result c.args.self.now.substations.items c.index_mut.result.now
-    (concentrator_of stock ledger c.come_up.new.end) c.come_up.new.self c.come_up.new.dropped.items refl c.from.ensures c.requires
-    c.index_mut.ensures.value (c.in_ok-come_up.ensures.came (well.queue_is, (well.controls_is, well.controls_run)))
+    let old = system_of stock g.J.JournalStore.archive ledger g.B.Book.contents c.self.inside in
+    rw (← c.self.view_is)
+    (comes_below (left_by c.args.repeats) old c.args.station c.from.result c.self.inside.substations.items c.index_mut.result.now
+    (concentrator_of stock ledger c.come_up.new.end) c.come_up.new.self c.come_up.new.dropped.items refl c.from.ensures planned
+    c.index_mut.ensures.value (c.in_ok-come_up.ensures.came (well.queue_is, (well.controls_is, well.controls_run))))
 
 pub returns-in_err-come_up-clause-stopped : goal.returns-in_err-come_up-clause-stopped
 returns-in_err-come_up-clause-stopped g c = λ well.
+    let planned = rw (← c.self.view_is) at c.requires in
     let stock = g.Q.Lanes.contents in
     let ledger = g.A.Book.contents in
-    let old = system_of stock g.J.JournalStore.archive ledger g.B.Book.contents c.args.self.now in
-    let xs = c.args.self.now.substations.items in
+    let old = system_of stock g.J.JournalStore.archive ledger g.B.Book.contents c.self.inside in
+    let xs = c.self.inside.substations.items in
     let was = c.index_mut.result.now in
     let is = record was { channel = c.come_up.new.self } in
-    any_err c.from_residual.result _
+    rw (← c.self.view_is)
+    (any_err c.from_residual.result _
     (ap (λ (k : ConcentratorState). record old {
       substations = map substation_of (slice_set xs c.from.result is);
       concentrator = k;
@@ -34,5 +38,5 @@ returns-in_err-come_up-clause-stopped g c = λ well.
     }) (c.in_err-come_up.ensures.kept (well.queue_is, (well.controls_is, well.controls_run)))
     ∙ ap (λ (rows : List Row). record old { substations = map substation_of (slice_set xs c.from.result is); history = record old.history { dropped = rows } })
     c.in_err-come_up.ensures.unlisted
-    ∙ unchanged_at old xs c.args.station c.from.result was is refl c.from.ensures c.requires c.index_mut.ensures.value
-    (ap (λ (k : ChannelState). record (substation_of was) { channel = k }) c.in_err-come_up.ensures.lines))
+    ∙ unchanged_at old xs c.args.station c.from.result was is refl c.from.ensures planned c.index_mut.ensures.value
+    (ap (λ (k : ChannelState). record (substation_of was) { channel = k }) c.in_err-come_up.ensures.lines)))

@@ -2,17 +2,15 @@
 use Rattle.std.proofs.Common.{ℕ, inl, inr}
 use Rattle.std.proofs.lemmas.Result.{err_from_is_err_and}
 use Rattle.dnp_world.specs.Controls.{IsTold, StopsBack, StopsRelaying}
-use Rattle.dnp_world.specs.SystemParts.{system_of}
 use Rattle.dnp_world.proofs.SystemControls.{ends_of}
 use Rattle.dnp_world.proofs.parts.Parts.exchange.Goals as goal
 
 pub returns-in_err-relay_one-clause-ended : goal.returns-in_err-relay_one-clause-ended
 returns-in_err-relay_one-clause-ended g c = λ well.
-    let system = system_of g.Q.Lanes.contents g.J.JournalStore.archive g.A.Book.contents g.B.Book.contents in
     let on = c.args.on in
     let id = c.args.id in
-    let old = system c.args.self.now in
-    let new = system c.relay_one.new.self in
+    let old = c.args.self.now.system in
+    let new = c.relay_one.new.self.system in
     let p = err_from_is_err_and c.from_residual.result c.from_residual.ensures.1 in
     rw (p.1, p.2)
     (ends_of (λ (status : ℕ). IsTold on id status old new) (λ (status : ℕ). IsTold on id status old new) (StopsRelaying on old new)
@@ -20,30 +18,27 @@ returns-in_err-relay_one-clause-ended g c = λ well.
 
 pub returns-in_err-flush-clause-ended : goal.returns-in_err-flush-clause-ended
 returns-in_err-flush-clause-ended g c = λ well.
-    let system = system_of g.Q.Lanes.contents g.J.JournalStore.archive g.A.Book.contents g.B.Book.contents in
     let p = err_from_is_err_and c.from_residual-in_err-flush.result c.from_residual-in_err-flush.ensures.1 in
     rw (p.1, p.2)
-    (inr (system c.relay_one.new.self, c.in_ok-relay_one.ensures.done (c.flush.ensures.held well), inl (c.in_err-flush.ensures.stopped well)))
+    (inr (c.relay_one.new.self.system, c.in_ok-relay_one.ensures.done (c.flush.ensures.held well), inl (c.in_err-flush.ensures.stopped well)))
 
 pub returns-in_err-flush-2-clause-ended : goal.returns-in_err-flush-2-clause-ended
 returns-in_err-flush-2-clause-ended g c = λ well.
-    let system = system_of g.Q.Lanes.contents g.J.JournalStore.archive g.A.Book.contents g.B.Book.contents in
     let before = c.flush-2.ensures.held well in
     let p = err_from_is_err_and c.from_residual-in_err-flush-2.result c.from_residual-in_err-flush-2.ensures.1 in
     rw (p.1, p.2)
     (inr (
-      system c.relay_one.new.self,
+      c.relay_one.new.self.system,
       c.in_ok-relay_one.ensures.done (c.flush.ensures.held before),
-      inr (system c.flush.new.self, c.in_ok-flush.ensures.done before, inl (c.in_err-flush-2.ensures.stopped well)),
+      inr (c.flush.new.self.system, c.in_ok-flush.ensures.done before, inl (c.in_err-flush-2.ensures.stopped well)),
     ))
 
 pub returns-clause-done : goal.returns-clause-done
 returns-clause-done g c = λ well.
-    let system = system_of g.Q.Lanes.contents g.J.JournalStore.archive g.A.Book.contents g.B.Book.contents in
     let before = c.flush-2.ensures.held well in
     record {
-      relayed = system c.relay_one.new.self;
-      answered = system c.flush.new.self;
+      relayed = c.relay_one.new.self.system;
+      answered = c.flush.new.self.system;
       step = c.in_ok-relay_one.ensures.done (c.flush.ensures.held before);
       down = c.in_ok-flush.ensures.done before;
       up = c.in_ok-flush-2.ensures.done well;

@@ -2,7 +2,6 @@
 use Rattle.std.proofs.Common.{◌≡◌, ◌<◌, ℕ, subst, arith}
 use Rattle.dnp_world.specs.Rounds.{StopsFlushing, deliveries}
 use Rattle.dnp_world.specs.SystemRuns.{RunsTo}
-use Rattle.dnp_world.specs.SystemParts.{system_of}
 use Rattle.dnp_world.specs.Systems.{standing_on}
 use Rattle.dnp_world.proofs.OneLinkRuns.{any_err}
 use Rattle.dnp_world.proofs.SystemRounds.{one_delivered, stops_delivering}
@@ -10,22 +9,20 @@ use Rattle.dnp_world.proofs.parts.Parts.flush.Goals as goal
 
 pub loop-preserved : goal.loop-preserved
 loop-preserved g c =
-    let system = system_of g.Q.Lanes.contents g.J.JournalStore.archive g.A.Book.contents g.B.Book.contents in
     record {
       held = λ well. c.loop.invariant.held (c.happen_by.ensures.held well);
       ran = λ well.
-          one_delivered (system c.args.self.now) (system c.loop.self) (system c.happen_by.new.self) c.loop.counter c.args.on c.args.way
+          one_delivered c.args.self.now.system c.loop.self.system c.happen_by.new.self.system c.loop.counter c.args.on c.args.way
           (c.loop.invariant.ran (c.happen_by.ensures.held well)) (c.in_ok-happen_by.ensures.done well);
     }
 
 pub returns-in_err-happen_by-clause-stopped : goal.returns-in_err-happen_by-clause-stopped
 returns-in_err-happen_by-clause-stopped g c = λ well.
-    let system = system_of g.Q.Lanes.contents g.J.JournalStore.archive g.A.Book.contents g.B.Book.contents in
     let on = c.args.on in
     let way = c.args.way in
-    let old = system c.args.self.now in
-    let mid = system c.loop.self in
-    let new = system c.happen_by.new.self in
+    let old = c.args.self.now.system in
+    let mid = c.loop.self.system in
+    let new = c.happen_by.new.self.system in
     let more : c.loop.counter < standing_on old on way = omega arith in
     any_err c.from_residual.result (StopsFlushing on way old new) (
       c.loop.counter,
@@ -35,7 +32,6 @@ returns-in_err-happen_by-clause-stopped g c = λ well.
 
 pub returns-clause-done : goal.returns-clause-done
 returns-clause-done g c = λ well.
-    let system = system_of g.Q.Lanes.contents g.J.JournalStore.archive g.A.Book.contents g.B.Book.contents in
-    let old = system c.args.self.now in
+    let old = c.args.self.now.system in
     let all : c.loop.counter ≡ standing_on old c.args.on c.args.way = omega arith in
-    subst (λ (n : ℕ). RunsTo old (deliveries n c.args.on c.args.way) (system c.loop.self)) all (c.loop.invariant.ran well)
+    subst (λ (n : ℕ). RunsTo old (deliveries n c.args.on c.args.way) c.loop.self.system) all (c.loop.invariant.ran well)

@@ -1,58 +1,52 @@
 -- Each step is done after the ones before it, or stops.
 use Rattle.std.proofs.Common.{inl, inr}
 use Rattle.dnp_world.specs.Rounds.{StopsInRound}
-use Rattle.dnp_world.specs.SystemParts.{system_of}
 use Rattle.dnp_world.proofs.OneLinkRuns.{any_err}
 use Rattle.dnp_world.proofs.parts.Parts.poll_round.Goals as goal
 
 pub returns-in_err-happen-clause-stopped : goal.returns-in_err-happen-clause-stopped
 returns-in_err-happen-clause-stopped g c = λ well.
-    let system = system_of g.Q.Lanes.contents g.J.JournalStore.archive g.A.Book.contents g.B.Book.contents in
-    any_err c.from_residual.result (StopsInRound c.args.on (system c.args.self.now) (system c.happen.new.self))
+    any_err c.from_residual.result (StopsInRound c.args.on c.args.self.now.system c.happen.new.self.system)
     (inl (c.in_err-happen.ensures.stopped well))
 
 pub returns-in_err-flush-clause-stopped : goal.returns-in_err-flush-clause-stopped
 returns-in_err-flush-clause-stopped g c = λ well.
-    let system = system_of g.Q.Lanes.contents g.J.JournalStore.archive g.A.Book.contents g.B.Book.contents in
-    any_err c.from_residual-in_err-flush.result (StopsInRound c.args.on (system c.args.self.now) (system c.flush.new.self))
-    (inr (system c.happen.new.self, c.in_ok-happen.ensures.done (c.flush.ensures.held well), inl (c.in_err-flush.ensures.stopped well)))
+    any_err c.from_residual-in_err-flush.result (StopsInRound c.args.on c.args.self.now.system c.flush.new.self.system)
+    (inr (c.happen.new.self.system, c.in_ok-happen.ensures.done (c.flush.ensures.held well), inl (c.in_err-flush.ensures.stopped well)))
 
 pub returns-in_err-flush-2-clause-stopped : goal.returns-in_err-flush-2-clause-stopped
 returns-in_err-flush-2-clause-stopped g c = λ well.
-    let system = system_of g.Q.Lanes.contents g.J.JournalStore.archive g.A.Book.contents g.B.Book.contents in
     let before = c.flush-2.ensures.held well in
-    any_err c.from_residual-in_err-flush-2.result (StopsInRound c.args.on (system c.args.self.now) (system c.flush-2.new.self))
+    any_err c.from_residual-in_err-flush-2.result (StopsInRound c.args.on c.args.self.now.system c.flush-2.new.self.system)
     (inr (
-      system c.happen.new.self,
+      c.happen.new.self.system,
       c.in_ok-happen.ensures.done (c.flush.ensures.held before),
-      inr (system c.flush.new.self, c.in_ok-flush.ensures.done before, inl (c.in_err-flush-2.ensures.stopped well)),
+      inr (c.flush.new.self.system, c.in_ok-flush.ensures.done before, inl (c.in_err-flush-2.ensures.stopped well)),
     ))
 
 pub returns-in_err-flush-3-clause-stopped : goal.returns-in_err-flush-3-clause-stopped
 returns-in_err-flush-3-clause-stopped g c = λ well.
-    let system = system_of g.Q.Lanes.contents g.J.JournalStore.archive g.A.Book.contents g.B.Book.contents in
     let before = c.flush-3.ensures.held well in
     let first = c.flush-2.ensures.held before in
-    any_err c.from_residual-in_err-flush-3.result (StopsInRound c.args.on (system c.args.self.now) (system c.flush-3.new.self))
+    any_err c.from_residual-in_err-flush-3.result (StopsInRound c.args.on c.args.self.now.system c.flush-3.new.self.system)
     (inr (
-      system c.happen.new.self,
+      c.happen.new.self.system,
       c.in_ok-happen.ensures.done (c.flush.ensures.held first),
       inr (
-        system c.flush.new.self,
+        c.flush.new.self.system,
         c.in_ok-flush.ensures.done first,
-        inr (system c.flush-2.new.self, c.in_ok-flush-2.ensures.done before, inl (c.in_err-flush-3.ensures.stopped well)),
+        inr (c.flush-2.new.self.system, c.in_ok-flush-2.ensures.done before, inl (c.in_err-flush-3.ensures.stopped well)),
       ),
     ))
 
 pub returns-clause-done : goal.returns-clause-done
 returns-clause-done g c = λ well.
-    let system = system_of g.Q.Lanes.contents g.J.JournalStore.archive g.A.Book.contents g.B.Book.contents in
     let before = c.flush-3.ensures.held well in
     let first = c.flush-2.ensures.held before in
     record {
-      asked = system c.happen.new.self;
-      answered = system c.flush.new.self;
-      taken = system c.flush-2.new.self;
+      asked = c.happen.new.self.system;
+      answered = c.flush.new.self.system;
+      taken = c.flush-2.new.self.system;
       asks = c.in_ok-happen.ensures.done (c.flush.ensures.held first);
       down = c.in_ok-flush.ensures.done first;
       up = c.in_ok-flush-2.ensures.done before;

@@ -1,30 +1,47 @@
--- A SELECT is the request of its step.
-use Rattle.std.proofs.Common.{ap, subst}
-use Rattle.dnp_concentrator.specs.Relayed.{Tells}
-use Rattle.dnp_concentrator.specs.Relaying.{step_of, relaying_after, ledger_after}
-use Rattle.dnp_concentrator.specs.declared.relayed.Relayed.{Relayed}
+-- What is asked of the link goes down to the concentrator, as the step of the centre's controls says.
+use Rattle.std.proofs.Common.{◌∙◌}
+use Rattle.std.proofs.lemmas.Result.{on_err_weaker}
+use Rattle.dnp_concentrator.specs.Centre.{book_of}
+use Rattle.dnp_concentrator.specs.Relaying.{step_of}
 use Rattle.dnp_world.specs.Channels.{state_of}
-use Rattle.dnp_world.specs.SystemEvents.{requests_of, Steps}
 use Rattle.dnp_world.specs.SystemParts.{system_of}
-use Rattle.dnp_world.specs.Systems.{CentreState}
-use Rattle.dnp_world.proofs.SystemTasks.{selecting, centre_with, down_of, of_selecting}
+use Rattle.dnp_world.specs.declared.event.Link.TheVariants.{Above}
+use Rattle.dnp_world.proofs.SystemTasks.{down_by, pending_by, refused_by, relays_by, sends_above, stops_by, unmoved_above}
 use Rattle.dnp_world.proofs.parts.Parts.relay_above.Goals as goal
 
-pub returns-in-Ok-Selecting-clause-done : goal.returns-in-Ok-Selecting-clause-done
-returns-in-Ok-Selecting-clause-done g c = λ well.
+pub returns-clause-done : goal.returns-clause-done
+returns-clause-done g c = λ well.
     let archive = g.J.JournalStore.archive in
     let ledger = g.B.Book.contents in
-    let old = system_of g.Q.Lanes.contents archive g.A.Book.contents ledger c.args.self.now in
+    let old = system_of g.Q.Lanes.contents archive g.A.Book.contents ledger c.self.inside in
+    let answer = c.relay-relayed.result in
+    let relay = c.relay-relayed.ensures in
     let link = old.centre.link in
-    let step = step_of link old.centre.orders.entries 0 in
-    let request = c.in-Ok-Selecting.request in
-    let told = subst (λ (r : Relayed). Tells link.master.seq step r) c.in-Ok-Selecting.field-0-is (c.in-Ok-Selecting.ensures.told well.orders_is) in
-    let both = selecting step link.master.seq _ request told in
-    let last = state_of c.send_down.new.self in
-    Steps (of_selecting step link.master.seq _ request _ told) (
-      down_of (requests_of step link.master.seq) request.items c.as_slice.result.now old.above (state_of c.reserve_down.new.self) last both.0 both.1
-          c.as_slice.ensures.value c.reserve_down.ensures.same c.send_down.ensures,
-      ap (λ (k : CentreState). record old { centre = k; above = last })
-          (centre_with archive ledger c.args.self.now.centre c.relay.new.self (relaying_after link old.now step) (ledger_after old.centre.orders step)
-          (c.in-Ok-Selecting.ensures.link well.orders_is) (c.in-Ok-Selecting.ensures.ledger well.orders_is) c.relay.ensures.journal c.relay.ensures.indices),
-    )
+    let entries = old.centre.orders.entries in
+    let step = step_of link entries 0 in
+    let down = down_by answer step link.master.seq old.above (state_of c.reserve_down.new.self) (state_of c.send_relayed.new.channel)
+    c.reserve_down.ensures.same (relay.told well.orders_is) c.send_relayed.ensures.sent in
+    rw (← c.self.view_is)
+    (relays_by Above old _ answer c.send_relayed.result
+    (pending_by answer step link.master.seq old.centre.orders (ledger (book_of c.relay-relayed.new.self)) (relay.told well.orders_is)
+    (relay.spent well.orders_is))
+    (sends_above archive ledger old c.self.inside.centre c.relay-relayed.new.self (state_of c.send_relayed.new.channel) answer (relay.link well.orders_is)
+    (relay.ledger well.orders_is) relay.journal relay.indices down)
+    (unmoved_above archive ledger old c.self.inside.centre c.relay-relayed.new.self (state_of c.send_relayed.new.channel) answer relay.unchanged
+    (relay.book.unchanged well.orders_is) relay.journal relay.indices
+    (on_err_weaker answer (λ same. same ∙ c.reserve_down.ensures.same) c.send_relayed.ensures.same))
+    (refused_by answer c.send_relayed.result link entries 0 _ c.send_relayed.ensures.passed relay.unasked (relay.no_control well.orders_is)
+    (relay.past well.orders_is)))
+
+pub returns-clause-stopped : goal.returns-clause-stopped
+returns-clause-stopped g c = λ well.
+    let archive = g.J.JournalStore.archive in
+    let ledger = g.B.Book.contents in
+    let old = system_of g.Q.Lanes.contents archive g.A.Book.contents ledger c.self.inside in
+    let answer = c.relay-relayed.result in
+    let relay = c.relay-relayed.ensures in
+    rw (← c.self.view_is)
+    (stops_by answer c.send_relayed.result _ c.send_relayed.ensures.stopped
+    (unmoved_above archive ledger old c.self.inside.centre c.relay-relayed.new.self (state_of c.send_relayed.new.channel) answer relay.unchanged
+    (relay.book.unchanged well.orders_is) relay.journal relay.indices
+    (on_err_weaker answer (λ same. same ∙ c.reserve_down.ensures.same) c.send_relayed.ensures.same)))

@@ -2,7 +2,6 @@
 use Rattle.std.proofs.Common.{◌≡◌, ℕ, Option, Some, None, inl, inr}
 use Rattle.std.proofs.lemmas.Result.{err_from_is_err_and}
 use Rattle.dnp_world.specs.Controls.{IsRefusedFor, IsRefusedOn, AtCentre, AtConcentrator, StopsFor, StopsOn, next_below}
-use Rattle.dnp_world.specs.SystemParts.{system_of}
 use Rattle.dnp_world.specs.Systems.{System}
 use Rattle.dnp_world.specs.declared.event.Link.TheVariants.{Below, Above}
 use Rattle.dnp_world.proofs.SystemControls.{accepted_from, ends_of, refused_from, stops_from}
@@ -15,11 +14,10 @@ stops_above (Some its) id old new stops = inl stops
 
 pub returns-in_err-relay_through-clause-ended : goal.returns-in_err-relay_through-clause-ended
 returns-in_err-relay_through-clause-ended g c = λ well.
-    let system = system_of g.Q.Lanes.contents g.J.JournalStore.archive g.A.Book.contents g.B.Book.contents in
     let id = c.args.id in
     let station = c.args.station in
-    let old = system c.args.self.now in
-    let new = system c.relay_through.new.self in
+    let old = c.args.self.now.system in
+    let new = c.relay_through.new.self.system in
     let p = err_from_is_err_and c.from_residual.result c.from_residual.ensures.1 in
     rw (p.1, p.2)
     (ends_of (λ (status : ℕ). IsRefusedOn Above (Some id) status old new) (λ (status : ℕ). IsRefusedFor station id status old new)
@@ -28,23 +26,21 @@ returns-in_err-relay_through-clause-ended g c = λ well.
 
 pub returns-in_err-queued-clause-ended : goal.returns-in_err-queued-clause-ended
 returns-in_err-queued-clause-ended g c = λ well.
-    let system = system_of g.Q.Lanes.contents g.J.JournalStore.archive g.A.Book.contents g.B.Book.contents in
-    let above = system c.relay_through.new.self in
+    let above = c.relay_through.new.self.system in
     let first = c.in_ok-relay_through.ensures.done (c.next_below.ensures.held well) in
     let p = err_from_is_err_and c.from_residual-in_err-queued.result c.from_residual-in_err-queued.ensures.1 in
     rw (p.1, p.2) (rw c.in-Some.is (inr (above, first, inl (inl (inl (c.next_below.ensures.same well))))))
 
 pub returns-in_err-relay_through-2-clause-ended : goal.returns-in_err-relay_through-2-clause-ended
 returns-in_err-relay_through-2-clause-ended g c = λ well.
-    let system = system_of g.Q.Lanes.contents g.J.JournalStore.archive g.A.Book.contents g.B.Book.contents in
     let id = c.args.id in
     let station = c.args.station in
     let its = c.in-Some.station in
     let queued = c.in_ok-queued.queued in
-    let old = system c.args.self.now in
-    let above = system c.relay_through.new.self in
-    let read = system c.next_below.new.self in
-    let new = system c.relay_through-2.new.self in
+    let old = c.args.self.now.system in
+    let above = c.relay_through.new.self.system in
+    let read = c.next_below.new.self.system in
+    let new = c.relay_through-2.new.self.system in
     let before = c.relay_through-2.ensures.held well in
     let first = c.in_ok-relay_through.ensures.done (c.next_below.ensures.held before) in
     let same : read ≡ above = c.next_below.ensures.same before in
@@ -60,12 +56,11 @@ returns-in_err-relay_through-2-clause-ended g c = λ well.
 
 pub returns-clause-done : goal.returns-clause-done
 returns-clause-done g c = λ well.
-    let system = system_of g.Q.Lanes.contents g.J.JournalStore.archive g.A.Book.contents g.B.Book.contents in
     let its = c.in-Some.station in
     let queued = c.in_ok-queued.queued in
-    let above = system c.relay_through.new.self in
-    let read = system c.next_below.new.self in
-    let new = system c.relay_through-2.new.self in
+    let above = c.relay_through.new.self.system in
+    let read = c.next_below.new.self.system in
+    let new = c.relay_through-2.new.self.system in
     let before = c.relay_through-2.ensures.held well in
     let same : read ≡ above = c.next_below.ensures.same before in
     let is : queued ≡ next_below above its = c.in_ok-queued.ensures.value before in

@@ -1,121 +1,63 @@
 -- What is asked of the link goes down to the substation, as the step of its controls says.
-use Rattle.std.proofs.Common.{Err, false, refl, ap, subst}
-use Rattle.std.proofs.lemmas.Bool.{both_ways}
-use Rattle.dnp_controls.specs.Book.{Has, is_pending}
-use Rattle.dnp_controls.specs.declared.book.BookFault.{BookFault}
+use Rattle.std.proofs.Common.{refl, ap, ◌∙◌}
+use Rattle.std.proofs.lemmas.Result.{on_err_weaker}
 use Rattle.dnp_concentrator.specs.Concentrator.{book_of}
-use Rattle.dnp_concentrator.specs.Relayed.{IfSent, IsSpentBy, Tells}
 use Rattle.dnp_concentrator.specs.Relaying.{step_of}
-use Rattle.dnp_concentrator.specs.declared.relayed.Relayed.{Relayed}
 use Rattle.dnp_world.specs.Channels.{ChannelState, state_of}
-use Rattle.dnp_world.specs.SystemEvents.{Refuses, requests_of}
 use Rattle.dnp_world.specs.SystemParts.{system_of, substation_of}
 use Rattle.dnp_world.specs.Systems.{link_at}
+use Rattle.dnp_world.specs.declared.event.Link.TheVariants.{Below}
 use Rattle.dnp_world.proofs.OneLinkRuns.{any_err}
 use Rattle.dnp_world.proofs.SystemPlaces.{unchanged_at}
-use Rattle.dnp_world.proofs.SystemTasks.{down_of, finished, none_down_of, of_finished, of_selecting, of_sent, of_waited, refused_step, relays_below, selecting, sent, unmoved_below, waited}
+use Rattle.dnp_world.proofs.SystemTasks.{down_by, pending_by, refused_by, relays_by, sends_below, stops_by, unmoved_below}
 use Rattle.dnp_world.proofs.parts.Parts.relay_below.Goals as goal
 
 pub returns-in_err-reserve_down-clause-stopped : goal.returns-in_err-reserve_down-clause-stopped
 returns-in_err-reserve_down-clause-stopped g c = λ well.
-    let old = system_of g.Q.Lanes.contents g.J.JournalStore.archive g.A.Book.contents g.B.Book.contents c.args.self.now in
-    any_err c.from_residual.result _
-    (unchanged_at old c.args.self.now.substations.items c.args.station c.from.result c.index_mut.result.now
-    (record c.index_mut.result.now { channel = c.reserve_down.new.self }) refl c.from.ensures c.requires c.index_mut.ensures.value
-    (ap (λ (k : ChannelState). record (substation_of c.index_mut.result.now) { channel = k }) c.reserve_down.ensures.same))
+    let old = system_of g.Q.Lanes.contents g.J.JournalStore.archive g.A.Book.contents g.B.Book.contents c.self.inside in
+    let was = c.index_mut.result.now in
+    rw (← c.self.view_is)
+    (any_err c.from_residual.result _
+    (unchanged_at old c.self.inside.substations.items c.args.station c.from.result was (record was { channel = c.reserve_down.new.self }) refl
+    c.from.ensures (rw (← c.self.view_is) at c.requires) c.index_mut.ensures.value
+    (ap (λ (k : ChannelState). record (substation_of was) { channel = k }) c.reserve_down.ensures.same)))
 
-pub returns-in-Ok-Selecting-clause-done : goal.returns-in-Ok-Selecting-clause-done
-returns-in-Ok-Selecting-clause-done g c = λ well.
-    let stock = g.Q.Lanes.contents in
+pub returns-clause-done : goal.returns-clause-done
+returns-clause-done g c = λ well.
     let ledger = g.A.Book.contents in
-    let old = system_of stock g.J.JournalStore.archive ledger g.B.Book.contents c.args.self.now in
+    let old = system_of g.Q.Lanes.contents g.J.JournalStore.archive ledger g.B.Book.contents c.self.inside in
     let was = c.index_mut.result.now in
     let link = link_at old.concentrator c.args.station in
-    let step = step_of link old.concentrator.controls.entries c.args.station in
-    let request = c.in-Ok-Selecting.request in
-    let told = subst (λ (r : Relayed). Tells link.master.seq step r) c.in-Ok-Selecting.field-0-is (c.in-Ok-Selecting.ensures.told well.controls_is) in
-    let both = selecting step link.master.seq _ request told in
-    relays_below stock ledger old c.args.self.now.concentrator c.relay.new.self c.args.station c.from.result
-    c.args.self.now.substations.items was c.send_down.new.self c.from.ensures c.requires c.index_mut.ensures.value (c.in-Ok-Selecting.ensures.link well.controls_is)
-    (c.in-Ok-Selecting.ensures.ledger well.controls_is) c.relay.ensures.core c.relay.ensures.queue c.relay.ensures.indices c.relay.ensures.plan
-    (of_selecting step link.master.seq _ request _ told)
-    (down_of (requests_of step link.master.seq) request.items c.as_slice.result.now (state_of was.channel) (state_of c.reserve_down.new.self)
-    (state_of c.send_down.new.self) both.0 both.1 c.as_slice.ensures.value c.reserve_down.ensures.same c.send_down.ensures)
+    let entries = old.concentrator.controls.entries in
+    let step = step_of link entries c.args.station in
+    let answer = c.relay-relayed.result in
+    let relay = c.relay-relayed.ensures in
+    let down = down_by answer step link.master.seq (state_of was.channel) (state_of c.reserve_down.new.self) (state_of c.send_relayed.new.channel)
+    c.reserve_down.ensures.same (relay.told well.controls_is) c.send_relayed.ensures.sent in
+    rw (← c.self.view_is)
+    (relays_by (Below c.args.station) old _ answer c.send_relayed.result
+    (pending_by answer step link.master.seq old.concentrator.controls (ledger (book_of c.relay-relayed.new.self)) (relay.told well.controls_is)
+    (relay.spent well.controls_is))
+    (sends_below g.Q.Lanes.contents ledger old c.self.inside.concentrator c.relay-relayed.new.self c.args.station c.from.result c.self.inside.substations.items
+    was c.send_relayed.new.channel answer c.from.ensures (rw (← c.self.view_is) at c.requires) c.index_mut.ensures.value (relay.link well.controls_is)
+    (relay.ledger well.controls_is) relay.core relay.queue relay.indices relay.plan down)
+    (unmoved_below g.Q.Lanes.contents ledger old c.self.inside.concentrator c.relay-relayed.new.self c.args.station c.from.result
+    c.self.inside.substations.items was c.send_relayed.new.channel answer c.from.ensures (rw (← c.self.view_is) at c.requires) c.index_mut.ensures.value
+    relay.unchanged (relay.book.unchanged well.controls_is) relay.core relay.queue relay.indices relay.plan
+    (on_err_weaker answer (λ same. same ∙ c.reserve_down.ensures.same) c.send_relayed.ensures.same))
+    (refused_by answer c.send_relayed.result link entries c.args.station _ c.send_relayed.ensures.passed relay.unasked (relay.no_control well.controls_is)
+    (relay.past well.controls_is)))
 
-pub returns-in-Ok-Sent-clause-done : goal.returns-in-Ok-Sent-clause-done
-returns-in-Ok-Sent-clause-done g c = λ well.
-    let stock = g.Q.Lanes.contents in
+pub returns-clause-stopped : goal.returns-clause-stopped
+returns-clause-stopped g c = λ well.
     let ledger = g.A.Book.contents in
-    let old = system_of stock g.J.JournalStore.archive ledger g.B.Book.contents c.args.self.now in
+    let old = system_of g.Q.Lanes.contents g.J.JournalStore.archive ledger g.B.Book.contents c.self.inside in
     let was = c.index_mut.result.now in
-    let link = link_at old.concentrator c.args.station in
-    let step = step_of link old.concentrator.controls.entries c.args.station in
-    let request = c.in-Ok-Sent.request in
-    let told = subst (λ (r : Relayed). Tells link.master.seq step r) c.in-Ok-Sent.field-0-is (c.in-Ok-Sent.ensures.told well.controls_is) in
-    let spends = subst (λ (r : Relayed). IfSent r (IsSpentBy old.concentrator.controls (ledger (book_of c.relay.new.self)))) c.in-Ok-Sent.field-0-is
-    (c.in-Ok-Sent.ensures.spent well.controls_is) in
-    let both = sent step link.master.seq _ request told in
-    relays_below stock ledger old c.args.self.now.concentrator c.relay.new.self c.args.station c.from.result
-    c.args.self.now.substations.items was c.send_down-in-Ok-Sent.new.self c.from.ensures c.requires c.index_mut.ensures.value (c.in-Ok-Sent.ensures.link well.controls_is)
-    (c.in-Ok-Sent.ensures.ledger well.controls_is) c.relay.ensures.core c.relay.ensures.queue c.relay.ensures.indices c.relay.ensures.plan
-    (of_sent step link.master.seq _ request (λ id. Has old.concentrator.controls.entries id is_pending) told spends.was_pending)
-    (down_of (requests_of step link.master.seq) request.items c.as_slice-in-Ok-Sent.result.now (state_of was.channel) (state_of c.reserve_down.new.self)
-    (state_of c.send_down-in-Ok-Sent.new.self) both.0 both.1 c.as_slice-in-Ok-Sent.ensures.value c.reserve_down.ensures.same c.send_down-in-Ok-Sent.ensures)
-
-pub returns-in-Ok-Nothing-clause-done : goal.returns-in-Ok-Nothing-clause-done
-returns-in-Ok-Nothing-clause-done g c = λ well.
-    let stock = g.Q.Lanes.contents in
-    let ledger = g.A.Book.contents in
-    let old = system_of stock g.J.JournalStore.archive ledger g.B.Book.contents c.args.self.now in
-    let was = c.index_mut.result.now in
-    let link = link_at old.concentrator c.args.station in
-    let step = step_of link old.concentrator.controls.entries c.args.station in
-    let told = subst (λ (r : Relayed). Tells link.master.seq step r) c.in-Ok-Nothing.field-0-is (c.in-Ok-Nothing.ensures.told well.controls_is) in
-    let none = waited step link.master.seq told in
-    relays_below stock ledger old c.args.self.now.concentrator c.relay.new.self c.args.station c.from.result
-    c.args.self.now.substations.items was c.reserve_down.new.self c.from.ensures c.requires c.index_mut.ensures.value (c.in-Ok-Nothing.ensures.link well.controls_is)
-    (c.in-Ok-Nothing.ensures.ledger well.controls_is) c.relay.ensures.core c.relay.ensures.queue c.relay.ensures.indices c.relay.ensures.plan
-    (of_waited step link.master.seq _ told)
-    (none_down_of (requests_of step link.master.seq) (state_of was.channel) (state_of c.reserve_down.new.self) none c.reserve_down.ensures.same)
-
-pub returns-in-Ok-Finished-clause-done : goal.returns-in-Ok-Finished-clause-done
-returns-in-Ok-Finished-clause-done g c = λ well.
-    let stock = g.Q.Lanes.contents in
-    let ledger = g.A.Book.contents in
-    let old = system_of stock g.J.JournalStore.archive ledger g.B.Book.contents c.args.self.now in
-    let was = c.index_mut.result.now in
-    let link = link_at old.concentrator c.args.station in
-    let step = step_of link old.concentrator.controls.entries c.args.station in
-    let told = subst (λ (r : Relayed). Tells link.master.seq step r) c.in-Ok-Finished.field-0-is (c.in-Ok-Finished.ensures.told well.controls_is) in
-    let none = finished step link.master.seq _ _ told in
-    relays_below stock ledger old c.args.self.now.concentrator c.relay.new.self c.args.station c.from.result
-    c.args.self.now.substations.items was c.reserve_down.new.self c.from.ensures c.requires c.index_mut.ensures.value (c.in-Ok-Finished.ensures.link well.controls_is)
-    (c.in-Ok-Finished.ensures.ledger well.controls_is) c.relay.ensures.core c.relay.ensures.queue c.relay.ensures.indices c.relay.ensures.plan
-    (of_finished step link.master.seq _ _ _ told)
-    (none_down_of (requests_of step link.master.seq) (state_of was.channel) (state_of c.reserve_down.new.self) none c.reserve_down.ensures.same)
-
-pub returns-in-Some-clause-stopped : goal.returns-in-Some-clause-stopped
-returns-in-Some-clause-stopped g c = λ well.
-    let stock = g.Q.Lanes.contents in
-    let ledger = g.A.Book.contents in
-    let old = system_of stock g.J.JournalStore.archive ledger g.B.Book.contents c.args.self.now in
-    unmoved_below stock ledger old c.args.self.now.concentrator c.relay.new.self c.args.station c.from.result c.args.self.now.substations.items
-    c.index_mut.result.now c.reserve_down.new.self c.from.ensures c.requires c.index_mut.ensures.value c.in-Err.ensures.unchanged
-    (c.in-Err.ensures.book.unchanged well.controls_is) c.relay.ensures.core c.relay.ensures.queue c.relay.ensures.indices c.relay.ensures.plan
-    c.reserve_down.ensures.same
-
-pub returns-in-None-clause-done : goal.returns-in-None-clause-done
-returns-in-None-clause-done g c = λ well.
-    let stock = g.Q.Lanes.contents in
-    let ledger = g.A.Book.contents in
-    let old = system_of stock g.J.JournalStore.archive ledger g.B.Book.contents c.args.self.now in
-    let refused = c.in-Err.ensures in
-    Refuses
-    (refused_step (link_at old.concentrator c.args.station) old.concentrator.controls.entries c.args.station c.in-Err.fault
-    (λ none. absurd (both_ways false refl (refused.unasked none).1)) c.in-None.ensures
-    (λ is. refused.no_control well.controls_is (ap (λ (e : BookFault). Err e) is))
-    (λ is. refused.past well.controls_is (ap (λ (e : BookFault). Err e) is)))
-    (unmoved_below stock ledger old c.args.self.now.concentrator c.relay.new.self c.args.station c.from.result c.args.self.now.substations.items
-    c.index_mut.result.now c.reserve_down.new.self c.from.ensures c.requires c.index_mut.ensures.value c.in-Err.ensures.unchanged
-    (c.in-Err.ensures.book.unchanged well.controls_is) c.relay.ensures.core c.relay.ensures.queue c.relay.ensures.indices c.relay.ensures.plan
-    c.reserve_down.ensures.same)
+    let answer = c.relay-relayed.result in
+    let relay = c.relay-relayed.ensures in
+    rw (← c.self.view_is)
+    (stops_by answer c.send_relayed.result _ c.send_relayed.ensures.stopped
+    (unmoved_below g.Q.Lanes.contents ledger old c.self.inside.concentrator c.relay-relayed.new.self c.args.station c.from.result
+    c.self.inside.substations.items was c.send_relayed.new.channel answer c.from.ensures (rw (← c.self.view_is) at c.requires) c.index_mut.ensures.value
+    relay.unchanged (relay.book.unchanged well.controls_is) relay.core relay.queue relay.indices relay.plan
+    (on_err_weaker answer (λ same. same ∙ c.reserve_down.ensures.same) c.send_relayed.ensures.same)))

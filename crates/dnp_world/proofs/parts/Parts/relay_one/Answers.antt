@@ -2,7 +2,6 @@
 use Rattle.std.proofs.Common.{inl, inr, sym, subst}
 use Rattle.std.proofs.lemmas.Result.{err_from_is_err_and}
 use Rattle.dnp_world.specs.SystemRuns.{Happens}
-use Rattle.dnp_world.specs.SystemParts.{system_of}
 use Rattle.dnp_world.specs.Systems.{System}
 use Rattle.dnp_world.specs.declared.event.Event.TheVariants.{Relay}
 use Rattle.dnp_world.proofs.parts.Parts.relay_one.Goals as goal
@@ -14,8 +13,7 @@ returns-in_err-happen-clause-ended g c = λ well.
 
 pub returns-in_err-status-clause-ended : goal.returns-in_err-status-clause-ended
 returns-in_err-status-clause-ended g c = λ well.
-    let system = system_of g.Q.Lanes.contents g.J.JournalStore.archive g.A.Book.contents g.B.Book.contents in
-    let old = system c.args.self.now in
+    let old = c.args.self.now.system in
     let p = err_from_is_err_and c.from_residual-in_err-status.result c.from_residual-in_err-status.ensures.1 in
     rw (p.1, p.2)
     (inr (subst (λ (s : System). Happens old (Relay c.args.on) s) (sym (c.status_on.ensures.same well))

@@ -2,17 +2,15 @@
 use Rattle.std.proofs.Common.{ℕ, inl, inr}
 use Rattle.std.proofs.lemmas.Result.{err_from_is_err_and}
 use Rattle.dnp_world.specs.Controls.{First, IsRefusedOn, IsTold, Second, StopsBack, StopsOn, StopsRelaying, Third}
-use Rattle.dnp_world.specs.SystemParts.{system_of}
 use Rattle.dnp_world.proofs.SystemControls.{ends_of}
 use Rattle.dnp_world.proofs.parts.Parts.relay_through.Goals as goal
 
 pub returns-in_err-exchange-clause-ended : goal.returns-in_err-exchange-clause-ended
 returns-in_err-exchange-clause-ended g c = λ well.
-    let system = system_of g.Q.Lanes.contents g.J.JournalStore.archive g.A.Book.contents g.B.Book.contents in
     let on = c.args.on in
     let id = c.args.id in
-    let old = system c.args.self.now in
-    let new = system c.exchange.new.self in
+    let old = c.args.self.now.system in
+    let new = c.exchange.new.self.system in
     let p = err_from_is_err_and c.from_residual.result c.from_residual.ensures.1 in
     rw (p.1, p.2)
     (ends_of (λ (status : ℕ). IsTold on id status old new) (λ (status : ℕ). IsRefusedOn on id status old new) (StopsBack on id old new)
@@ -20,12 +18,11 @@ returns-in_err-exchange-clause-ended g c = λ well.
 
 pub returns-in_err-exchange-2-clause-ended : goal.returns-in_err-exchange-2-clause-ended
 returns-in_err-exchange-2-clause-ended g c = λ well.
-    let system = system_of g.Q.Lanes.contents g.J.JournalStore.archive g.A.Book.contents g.B.Book.contents in
     let on = c.args.on in
     let id = c.args.id in
-    let old = system c.args.self.now in
-    let selected = system c.exchange.new.self in
-    let new = system c.exchange-2.new.self in
+    let old = c.args.self.now.system in
+    let selected = c.exchange.new.self.system in
+    let new = c.exchange-2.new.self.system in
     let first = c.in_ok-exchange.ensures.done (c.exchange-2.ensures.held well) in
     let p = err_from_is_err_and c.from_residual-in_err-exchange-2.result c.from_residual-in_err-exchange-2.ensures.1 in
     rw (p.1, p.2)
@@ -35,13 +32,12 @@ returns-in_err-exchange-2-clause-ended g c = λ well.
 
 pub returns-in_err-relay_one-clause-ended : goal.returns-in_err-relay_one-clause-ended
 returns-in_err-relay_one-clause-ended g c = λ well.
-    let system = system_of g.Q.Lanes.contents g.J.JournalStore.archive g.A.Book.contents g.B.Book.contents in
     let on = c.args.on in
     let id = c.args.id in
-    let old = system c.args.self.now in
-    let selected = system c.exchange.new.self in
-    let operated = system c.exchange-2.new.self in
-    let new = system c.relay_one.new.self in
+    let old = c.args.self.now.system in
+    let selected = c.exchange.new.self.system in
+    let operated = c.exchange-2.new.self.system in
+    let new = c.relay_one.new.self.system in
     let before = c.relay_one.ensures.held well in
     let first = c.in_ok-exchange.ensures.done (c.exchange-2.ensures.held before) in
     let second = c.in_ok-exchange-2.ensures.done before in
@@ -53,11 +49,10 @@ returns-in_err-relay_one-clause-ended g c = λ well.
 
 pub returns-clause-done : goal.returns-clause-done
 returns-clause-done g c = λ well.
-    let system = system_of g.Q.Lanes.contents g.J.JournalStore.archive g.A.Book.contents g.B.Book.contents in
     let before = c.relay_one.ensures.held well in
     record {
-      selected = system c.exchange.new.self;
-      operated = system c.exchange-2.new.self;
+      selected = c.exchange.new.self.system;
+      operated = c.exchange-2.new.self.system;
       selects = c.in_ok-exchange.ensures.done (c.exchange-2.ensures.held before);
       operates = c.in_ok-exchange-2.ensures.done before;
       finishes = c.in_ok-relay_one.ensures.done well;

@@ -8,22 +8,26 @@ use Rattle.dnp_world.proofs.parts.Parts.restart_substation.Goals as goal
 
 pub returns-in_err-restart-clause-stopped : goal.returns-in_err-restart-clause-stopped
 returns-in_err-restart-clause-stopped g c = λ well.
-    let old = system_of g.Q.Lanes.contents g.J.JournalStore.archive g.A.Book.contents g.B.Book.contents c.args.self.now in
-    any_err c.from_residual.result _
+    let planned = rw (← c.self.view_is) at c.requires in
+    let old = system_of g.Q.Lanes.contents g.J.JournalStore.archive g.A.Book.contents g.B.Book.contents c.self.inside in
+    rw (← c.self.view_is)
+    (any_err c.from_residual.result _
     (ap (λ (rows : List (ℕ × Row)). record old {
-      substations = map substation_of (slice_set c.args.self.now.substations.items c.from.result c.restart.new.self);
-      history = record (history_of c.args.self.now.history) { gone = rows };
+      substations = map substation_of (slice_set c.self.inside.substations.items c.from.result c.restart.new.self);
+      history = record (history_of c.self.inside.history) { gone = rows };
     }) c.in_err-restart.ensures.unlisted
-    ∙ unchanged_at old c.args.self.now.substations.items c.args.station c.from.result c.index_mut-substation.result.now c.restart.new.self refl
-    c.from.ensures c.requires c.index_mut-substation.ensures.value c.in_err-restart.ensures.stopped)
+    ∙ unchanged_at old c.self.inside.substations.items c.args.station c.from.result c.index_mut-substation.result.now c.restart.new.self refl
+    c.from.ensures planned c.index_mut-substation.ensures.value c.in_err-restart.ensures.stopped))
 
 pub returns-clause-done : goal.returns-clause-done
 returns-clause-done g c = λ well.
-    let old = system_of g.Q.Lanes.contents g.J.JournalStore.archive g.A.Book.contents g.B.Book.contents c.args.self.now in
-    let xs = c.args.self.now.substations.items in
-    changes_at c.args.station c.from.result _ _ old _ xs c.index_mut-substation.result.now c.restart.new.self refl
-    c.from.ensures (rw c.from.ensures (is_there old xs c.args.station refl c.requires)) c.index_mut-substation.ensures.value c.in_ok-restart.ensures.done
+    let planned = rw (← c.self.view_is) at c.requires in
+    let old = system_of g.Q.Lanes.contents g.J.JournalStore.archive g.A.Book.contents g.B.Book.contents c.self.inside in
+    let xs = c.self.inside.substations.items in
+    rw (← c.self.view_is)
+    (changes_at c.args.station c.from.result _ _ old _ xs c.index_mut-substation.result.now c.restart.new.self refl
+    c.from.ensures (rw c.from.ensures (is_there old xs c.args.station refl planned)) c.index_mut-substation.ensures.value c.in_ok-restart.ensures.done
     (ap (λ (rows : List (ℕ × Row)). record old {
       substations = map substation_of (slice_set xs c.from.result c.restart.new.self);
-      history = record (history_of c.args.self.now.history) { gone = rows };
-    }) c.in_ok-restart.ensures.listed)
+      history = record (history_of c.self.inside.history) { gone = rows };
+    }) c.in_ok-restart.ensures.listed))

@@ -1,26 +1,26 @@
 -- Of a substation's link one substation is written.
-use Rattle.std.proofs.Common.{◌≡◌, refl, subst, true}
+use Rattle.std.proofs.Common.{refl}
 use Rattle.dnp_world.specs.SystemEvents.{same_rest}
 use Rattle.dnp_world.specs.SystemParts.{system_of}
-use Rattle.dnp_world.specs.Systems.{has_link, has_station}
-use Rattle.dnp_world.specs.declared.event.Link.{Link}
 use Rattle.dnp_world.proofs.OneLinkRuns.{any_err}
 use Rattle.dnp_world.proofs.SystemPlaces.{changes_at, is_there, unchanged_at}
 use Rattle.dnp_world.proofs.parts.Parts.tick_outstation.Goals as goal
 
 pub returns-in_err-tick-in-Below-clause-stopped : goal.returns-in_err-tick-in-Below-clause-stopped
 returns-in_err-tick-in-Below-clause-stopped g c = λ well.
-    let old = system_of g.Q.Lanes.contents g.J.JournalStore.archive g.A.Book.contents g.B.Book.contents c.args.self.now in
-    any_err c.from_residual.result _
-    (unchanged_at old c.args.self.now.substations.items c.in-Below.station c.from.result c.index_mut-substation.result.now c.tick.new.self refl c.from.ensures
-    (subst (λ (on : Link). has_link old on ≡ true) c.in-Below.is c.requires) c.index_mut-substation.ensures.value c.in_err-tick-in-Below.ensures.stopped)
+    let planned = rw (← c.self.view_is, c.in-Below.is) at c.requires in
+    let old = system_of g.Q.Lanes.contents g.J.JournalStore.archive g.A.Book.contents g.B.Book.contents c.self.inside in
+    rw (← c.self.view_is)
+    (any_err c.from_residual.result _
+    (unchanged_at old c.self.inside.substations.items c.in-Below.station c.from.result c.index_mut-substation.result.now c.tick.new.self refl c.from.ensures
+    planned c.index_mut-substation.ensures.value c.in_err-tick-in-Below.ensures.stopped))
 
 pub returns-in_ok-tick-in-Below-clause-done : goal.returns-in_ok-tick-in-Below-clause-done
 returns-in_ok-tick-in-Below-clause-done g c = λ well.
-    let old = system_of g.Q.Lanes.contents g.J.JournalStore.archive g.A.Book.contents g.B.Book.contents c.args.self.now in
+    let old = system_of g.Q.Lanes.contents g.J.JournalStore.archive g.A.Book.contents g.B.Book.contents c.self.inside in
     let station = c.in-Below.station in
-    let xs = c.args.self.now.substations.items in
-    let has : has_station old station ≡ true = subst (λ (on : Link). has_link old on ≡ true) c.in-Below.is c.requires in
-    rw c.in-Below.is
+    let xs = c.self.inside.substations.items in
+    let has = rw (← c.self.view_is, c.in-Below.is) at c.requires in
+    rw (c.in-Below.is, ← c.self.view_is)
     (changes_at station c.from.result _ same_rest old _ xs c.index_mut-substation.result.now c.tick.new.self refl c.from.ensures
     (rw c.from.ensures (is_there old xs station refl has)) c.index_mut-substation.ensures.value c.in_ok-tick-in-Below.ensures.done refl)

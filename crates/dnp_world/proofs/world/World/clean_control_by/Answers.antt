@@ -10,24 +10,21 @@ use Rattle.dnp_world.specs.Steady.{IsSteady}
 use Rattle.dnp_world.specs.Systems.{System}
 use Rattle.dnp_world.specs.declared.round_fault.ControlFault.{ControlFault}
 use Rattle.dnp_world.specs.declared.round_fault.ControlFault.TheVariants as control
-use Rattle.dnp_world.specs.SystemParts.{system_of}
 use Rattle.dnp_world.proofs.Lasting.{fate_of, steady_of}
 use Rattle.dnp_world.proofs.world.World.clean_control_by.Goals as goal
 
 pub invariant_of-self : goal.invariant_of-self
 invariant_of-self g c = λ well.
-    let system = system_of g.Q.Lanes.contents g.J.JournalStore.archive g.A.Book.contents g.B.Book.contents in
-    let old = system c.self.inside.parts in
-    let new = system c.clean_control.new.self in
+    let old = c.self.inside.parts.system in
+    let new = c.clean_control.new.self.system in
     let ends = c.clean_control.ensures.ends well in
     steady_of (λ i. []) old new (c.self.invariant (c.clean_control.ensures.held well))
     (λ s. c.rounds_and_controls_keep_a_system_steady.ensures.control c.args.id old new c.clean_control.result s ends)
 
 pub returns-clause-fate : goal.returns-clause-fate
 returns-clause-fate g c = λ well.
-    let system = system_of g.Q.Lanes.contents g.J.JournalStore.archive g.A.Book.contents g.B.Book.contents in
-    let old = system c.self.inside.parts in
-    let new = system c.clean_control.new.self in
+    let old = c.self.inside.parts.system in
+    let new = c.clean_control.new.self.system in
     let ends = c.clean_control.ensures.ends well in
     rw (← c.self.view_is)
     (fate_of (λ i. []) old new (c.self.invariant (c.clean_control.ensures.held well))
@@ -41,9 +38,8 @@ moved id old new (Err fault) some law ends = tt
 
 pub returns-clause-operates : goal.returns-clause-operates
 returns-clause-operates g c = λ well.
-    let system = system_of g.Q.Lanes.contents g.J.JournalStore.archive g.A.Book.contents g.B.Book.contents in
-    let old = system c.self.inside.parts in
-    let new = system c.clean_control.new.self in
+    let old = c.self.inside.parts.system in
+    let new = c.clean_control.new.self.system in
     rw (← c.self.view_is)
     (moved c.args.id old new c.clean_control.result (c.self.invariant (c.clean_control.ensures.held well))
     (λ s. c.a_clean_control_operates.ensures.moves c.args.id old new s.standing s.controls) (c.clean_control.ensures.ends well))
@@ -53,9 +49,8 @@ same_once xs ys = hlevel props
 
 pub returns-clause-rests : goal.returns-clause-rests
 returns-clause-rests g c = λ well.
-    let system = system_of g.Q.Lanes.contents g.J.JournalStore.archive g.A.Book.contents g.B.Book.contents in
-    let old = system c.self.inside.parts in
-    let new = system c.clean_control.new.self in
+    let old = c.self.inside.parts.system in
+    let new = c.clean_control.new.self.system in
     rw (← c.self.view_is)
     (λ status is.
     let ends : ControlEnds c.args.id old (Err (control.Refused status)) new =
@@ -65,5 +60,4 @@ returns-clause-rests g c = λ well.
 
 pub returns-clause-holds : goal.returns-clause-holds
 returns-clause-holds g c = λ well.
-    let system = system_of g.Q.Lanes.contents g.J.JournalStore.archive g.A.Book.contents g.B.Book.contents in
-    c.steady_systems_stay_steady.ensures.holds (system c.clean_control.new.self) (invariant_of-self g c well)
+    c.steady_systems_stay_steady.ensures.holds c.clean_control.new.self.system (invariant_of-self g c well)

@@ -5,7 +5,7 @@ use Rattle.std.specs.Prelude.{OnOk, ⊤}
 use Rattle.dnp_world.specs.Movement.{RoundMoves}
 use Rattle.dnp_world.specs.Rounds.{IsRound, is_quiet_on}
 use Rattle.dnp_world.specs.Steady.{IsSteady}
-use Rattle.dnp_world.specs.SystemParts.{system_of}
+use Rattle.dnp_world.specs.Shown.{Shown}
 use Rattle.dnp_world.specs.Systems.{System}
 use Rattle.dnp_world.specs.declared.event.Link.{Link}
 use Rattle.dnp_world.specs.declared.round_fault.RoundFault.{RoundFault}
@@ -15,28 +15,26 @@ use Rattle.dnp_world.proofs.world.World.clean_round_by.Goals as goal
 
 pub invariant_of-self : goal.invariant_of-self
 invariant_of-self g c = λ well.
-    let system = system_of g.Q.Lanes.contents g.J.JournalStore.archive g.A.Book.contents g.B.Book.contents in
     let on = c.args.on in
-    let old = system c.self.inside.parts in
-    let new = system c.clean_round.new.self in
+    let old = c.self.inside.parts.system in
+    let new = c.clean_round.new.self.system in
     let keeps = c.rounds_and_controls_keep_a_system_steady.ensures in
     steady_of (λ i. []) old new (c.self.invariant (c.clean_round.ensures.held well))
     (λ s. calm_round on old new c.clean_round.result (λ round. keeps.round on old new s round) (λ stop. keeps.round_stopped on old new s stop)
     (λ same. keeps.rests old new s same) (c.clean_round.ensures.done well) (c.clean_round.ensures.stopped well)
-    (λ is. ap system (c.clean_round.ensures.unchanged is)))
+    (λ is. ap (λ (shown : Shown _ _ _ _). shown.system) (c.clean_round.ensures.unchanged is)))
 
 pub returns-clause-fate : goal.returns-clause-fate
 returns-clause-fate g c = λ well.
-    let system = system_of g.Q.Lanes.contents g.J.JournalStore.archive g.A.Book.contents g.B.Book.contents in
     let on = c.args.on in
-    let old = system c.self.inside.parts in
-    let new = system c.clean_round.new.self in
+    let old = c.self.inside.parts.system in
+    let new = c.clean_round.new.self.system in
     let keeps = c.rounds_and_controls_keep_a_system_steady.ensures in
     rw (← c.self.view_is)
     (fate_of (λ i. []) old new (c.self.invariant (c.clean_round.ensures.held well))
     (λ s. calm_round on old new c.clean_round.result (λ round. keeps.round on old new s round) (λ stop. keeps.round_stopped on old new s stop)
     (λ same. keeps.rests old new s same) (c.clean_round.ensures.done well) (c.clean_round.ensures.stopped well)
-    (λ is. ap system (c.clean_round.ensures.unchanged is))))
+    (λ is. ap (λ (shown : Shown _ _ _ _). shown.system) (c.clean_round.ensures.unchanged is))))
 
 -- where it is done the link was quiet
 moves_so : (on : Link) (old new : System) (result : Result ⊤ RoundFault) → ((result ≡ Err NotQuiet) ↔ (is_quiet_on old on ≡ false))
@@ -51,18 +49,16 @@ moves_so on old new (Err fault) not_quiet some moves round = tt
 
 pub returns-clause-moves : goal.returns-clause-moves
 returns-clause-moves g c = λ well.
-    let system = system_of g.Q.Lanes.contents g.J.JournalStore.archive g.A.Book.contents g.B.Book.contents in
     let on = c.args.on in
-    let old = system c.self.inside.parts in
-    let new = system c.clean_round.new.self in
+    let old = c.self.inside.parts.system in
+    let new = c.clean_round.new.self.system in
     rw (← c.self.view_is)
     (moves_so on old new c.clean_round.result c.clean_round.ensures.not_quiet (c.self.invariant (c.clean_round.ensures.held well))
     (λ s. c.a_clean_round_moves_rows.ensures on old new s) (c.clean_round.ensures.done well))
 
 pub returns-clause-holds : goal.returns-clause-holds
 returns-clause-holds g c = λ well.
-    let system = system_of g.Q.Lanes.contents g.J.JournalStore.archive g.A.Book.contents g.B.Book.contents in
-    c.steady_systems_stay_steady.ensures.holds (system c.clean_round.new.self) (invariant_of-self g c well)
+    c.steady_systems_stay_steady.ensures.holds c.clean_round.new.self.system (invariant_of-self g c well)
 
 pub returns-clause-stopped : goal.returns-clause-stopped
 returns-clause-stopped g c = rw (← c.self.view_is) c.clean_round.ensures.stopped

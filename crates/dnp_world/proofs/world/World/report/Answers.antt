@@ -3,7 +3,6 @@ use Rattle.std.proofs.Common.{◌<◌, ◌^◌, length, IfOk, Result, Ok, Err}
 use Rattle.dnp_world.specs.ReportShown.{Shows, lists_of}
 use Rattle.dnp_world.specs.Reports.{Holds}
 use Rattle.dnp_world.specs.Steady.{IsSteady}
-use Rattle.dnp_world.specs.SystemParts.{system_of}
 use Rattle.dnp_world.specs.Systems.{System}
 use Rattle.dnp_world.specs.declared.report.Report.{Report}
 use Rattle.dnp_world.proofs.world.World.report.Goals as goal
@@ -16,7 +15,7 @@ of_both s law (Err fault) shows counted = tt
 
 pub returns-clause-holds : goal.returns-clause-holds
 returns-clause-holds g c = λ well.
-    let old : System = system_of g.Q.Lanes.contents g.J.JournalStore.archive g.A.Book.contents g.B.Book.contents c.self.inside.parts in
+    let old : System = c.self.inside.parts.system in
     let steady : ∥ IsSteady old ∥₁ = c.self.invariant (c.report.ensures.held well) in
     of_both old (λ report shows counted. c.what_a_report_shows_is_kept.ensures.holds old report shows counted steady)
     c.report.result (c.report.ensures.shows well) c.report.ensures.counted

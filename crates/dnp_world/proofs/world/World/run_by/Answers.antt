@@ -1,13 +1,11 @@
 -- What is left is steady, done or stopped.
-use Rattle.dnp_world.specs.SystemParts.{system_of}
 use Rattle.dnp_world.proofs.Lasting.{lasts_if_done, lasts_if_stopped, steady_after}
 use Rattle.dnp_world.proofs.world.World.run_by.Goals as goal
 
 pub invariant_of-self : goal.invariant_of-self
 invariant_of-self g c = λ well.
-    let system = system_of g.Q.Lanes.contents g.J.JournalStore.archive g.A.Book.contents g.B.Book.contents in
-    let old = system c.self.inside.parts in
-    let new = system c.run.new.self in
+    let old = c.self.inside.parts.system in
+    let new = c.run.new.self.system in
     let events = c.args.events.now in
     let laws = c.steady_systems_stay_steady.ensures in
     steady_after events old new c.run.result (λ s ran. laws.stays old new events s ran) (λ done s stop. laws.stays_stopped old new events done s stop)
@@ -15,9 +13,8 @@ invariant_of-self g c = λ well.
 
 pub returns-clause-lasts : goal.returns-clause-lasts
 returns-clause-lasts g c = λ well.
-    let system = system_of g.Q.Lanes.contents g.J.JournalStore.archive g.A.Book.contents g.B.Book.contents in
-    let old = system c.self.inside.parts in
-    let new = system c.run.new.self in
+    let old = c.self.inside.parts.system in
+    let new = c.run.new.self.system in
     let events = c.args.events.now in
     rw (← c.self.view_is)
     (lasts_if_done events old new c.run.result (λ some ran. c.steady_systems_stay_steady.ensures.ran old new events some ran)
@@ -25,9 +22,8 @@ returns-clause-lasts g c = λ well.
 
 pub returns-clause-lasts_so_far : goal.returns-clause-lasts_so_far
 returns-clause-lasts_so_far g c = λ well.
-    let system = system_of g.Q.Lanes.contents g.J.JournalStore.archive g.A.Book.contents g.B.Book.contents in
-    let old = system c.self.inside.parts in
-    let new = system c.run.new.self in
+    let old = c.self.inside.parts.system in
+    let new = c.run.new.self.system in
     let events = c.args.events.now in
     rw (← c.self.view_is)
     (lasts_if_stopped events old new c.run.result (λ done some stop. c.steady_systems_stay_steady.ensures.stopped old new events done some stop)
@@ -35,5 +31,4 @@ returns-clause-lasts_so_far g c = λ well.
 
 pub returns-clause-holds : goal.returns-clause-holds
 returns-clause-holds g c = λ well.
-    let system = system_of g.Q.Lanes.contents g.J.JournalStore.archive g.A.Book.contents g.B.Book.contents in
-    c.steady_systems_stay_steady.ensures.holds (system c.run.new.self) (invariant_of-self g c well)
+    c.steady_systems_stay_steady.ensures.holds c.run.new.self.system (invariant_of-self g c well)
