@@ -150,7 +150,7 @@ abbrev heard_lines : (LineState → LineState) → PortState → System → Chan
 heard_lines left port s = record s.above { down = left s.above.down; outstation_port = port }
 
 abbrev IsComing : (LineState → LineState) → LinkEvent → Type 0
-IsComing left e = (s s' : LinkState ⊤) (panel : Panel) → ComesDown panel (left s.down) s s' → HappensOn no_sink panel s e s'
+IsComing left e = (s s' : LinkState ⊤) (panel : Panel) → ComesDown panel (left s.channel.down) s s' → HappensOn no_sink panel s e s'
 
 answered : Grounds → ComingLaws → (left : LineState → LineState) (e : LinkEvent) → IsComing left e → (old new : System) (h : IsStanding old)
     → (station : ℕ) (port : PortState) (given : List (List ℕ)) → HearsIfAny (front_of old.above.down) old.above.outstation_port port [] given
@@ -177,14 +177,10 @@ answered grounds laws left e as_event old new h station port (fragment ∷ other
     ordered_all laws spans book commands (all_relayed spans book old.concentrator.core old.now fragment) in
     let base : LinkState ⊤ = seen_above (record old { above = lines }) (lists_of l) in
     let s' : LinkState ⊤ = seen_above (changed_middle m commands old) (lists_released l released) in
-    let seen_on : ChannelState → List Command → LinkState ⊤ = λ c performed.
-    seen (record step.state { performed = performed }) old.centre.link.master c old.now (lists_released l released) in
-    let goes : ChannelState = record lines { up = new.above.up; outstation_port = new.above.outstation_port } in
-    let steps : Steps step base s' = record {
-      sent = came.sent.sent;
-      after = ap (λ (c : ChannelState). seen_on c (map (ordered spans) (with_commands old commands).entries)) came.sent.after
-          ∙ ap (λ (xs : List Command). seen_on goes xs) (performs ∙ sym (performs_as laws s panel old.now fragment));
-    } in
+    let seen_on : List Command → LinkState ⊤ = λ performed.
+    seen (record step.state { performed = performed }) old.centre.link.master new.above old.now (lists_released l released) in
+    let steps : Steps step base s' =
+    record { goes = came.sent; after = ap (λ (xs : List Command). seen_on xs) (performs ∙ sym (performs_as laws s panel old.now fragment)) } in
     middle_keeps grounds old new h station m released commands e
     (lost_same laws s panel old.now fragment) performs made
     (as_event (seen_above old (lists_of l)) s' panel (record { port = port; given = fragment ∷ others; heard = heard; came = steps }))

@@ -40,7 +40,7 @@ heard_lines left port s = record s.above { up = left s.above.up; master_port = p
 
 -- what makes an event of the link by itself of what comes up
 abbrev IsComing : (LineState → LineState) → LinkEvent → Type 0
-IsComing left e = (s s' : LinkState ⊤) (panel : Panel) → one.ComesUp no_sink (left s.up) s s' → HappensOn no_sink panel s e s'
+IsComing left e = (s s' : LinkState ⊤) (panel : Panel) → one.ComesUp no_sink (left s.channel.up) s s' → HappensOn no_sink panel s e s'
 
 -- nothing is taken
 untaken : Grounds → (left : LineState → LineState) (e : LinkEvent) → IsComing left e → (old new : System) (h : IsStanding old) (station : ℕ)
@@ -74,14 +74,12 @@ received grounds left e as_event old new h station port fragment others heard ma
       lines = new.above;
     } in
     let s' : LinkState ⊤ = seen_above (changed_above a old) (lists_above l t.events []) in
-    let seen_on : ChannelState → List Row → LinkState ⊤ = λ c released.
-    seen (middle_of old.concentrator) t.state c old.now (record (lists_of l) { taken = rows_of l.took ++ t.events; released = released }) in
+    let seen_on : List Row → LinkState ⊤ = λ released.
+    seen (middle_of old.concentrator) t.state new.above old.now (record (lists_of l) { taken = rows_of l.took ++ t.events; released = released }) in
     let takes : Takes no_sink t base s' = record {
-      given = λ some. ([], tt);
-      spared = λ none. refl;
-      sent = down.sent;
-      after = ap (λ (c : ChannelState). seen_on c (rows_of l.released ++ [])) down.after
-          ∙ ap (λ (xs : List Row). seen_on (record lines { down = new.above.down; master_port = new.above.master_port }) xs) (append-nil (rows_of l.released));
+      rows = record { given = λ some. ([], tt); spared = λ none. refl };
+      goes = down;
+      after = ap (λ (xs : List Row). seen_on xs) (append-nil (rows_of l.released));
     } in
     above_keeps grounds old new h station a t.events [] e refl
     (map-append row_of old.centre.journal.rows (numbered old.centre.journal.last_id t.events)
