@@ -1,5 +1,5 @@
 -- Each event of a link of real stations.
-use Rattle.std.proofs.Common.{◌≡◌, ℕ, ◌<◌, ◌^◌, true, false, List, [], ◌++◌, length, map, refl, sym, ap, ◌∙◌, subst, append-nil, arith}
+use Rattle.std.proofs.Common.{◌≡◌, ℕ, ◌<◌, ◌^◌, Bool, true, false, List, [], ◌++◌, length, map, refl, sym, ap, ◌∙◌, subst, append-nil, arith}
 use Rattle.std.specs.List.{All}
 use Rattle.std.specs.List.Sorted.{IsPermutation}
 use Rattle.std.proofs.lemmas.Bool.{both_ways}
@@ -9,7 +9,7 @@ use Rattle.dnp_objects.specs.declared.row.Row.{Row}
 use Rattle.dnp_controls.specs.Panel.{Panel}
 use Rattle.dnp_eventbuf.specs.Buffered.{Buffered, buffered_row}
 use Rattle.dnp_eventbuf.specs.Stock.{arriving}
-use Rattle.dnp_line.specs.Lines.{LineState, delivered_on, repeated_on, lost_on}
+use Rattle.dnp_line.specs.Lines.{LineState, lost_on}
 use Rattle.dnp_line.specs.Ports.{reset_of}
 use Rattle.dnp_outstation.specs.Calls.{tick_of, opened_of, restart_of, emptied_of}
 use Rattle.dnp_outstation.specs.Connection.{closed}
@@ -19,7 +19,7 @@ use Rattle.dnp_world.specs.declared.link_event.End.TheVariants as end
 use Rattle.dnp_world.specs.declared.link_event.Way.TheVariants as way
 use Rattle.dnp_world.specs.declared.link_event.LinkEvent.{LinkEvent}
 use Rattle.dnp_world.specs.declared.link_event.LinkEvent.TheVariants as event
-use Rattle.dnp_world.specs.Channels.{ChannelState, hung_up_at}
+use Rattle.dnp_world.specs.Channels.{ChannelState, hung_up_at, left_by}
 use Rattle.dnp_world.specs.Joined.{Carries, Joined, Follows, point_moves}
 use Rattle.dnp_world.specs.Link.{Link}
 use Rattle.dnp_world.specs.Moves.{LoseDown, Open, lost_down, opened}
@@ -31,36 +31,26 @@ use Rattle.dnp_world.proofs.JoinedLaws.{Laws}
 use Rattle.dnp_world.proofs.JoinedMaster.{came_up, asks_follow, tick_follows, master_goes}
 use Rattle.dnp_world.proofs.JoinedPoints.{opened_leaves, ticked_leaves}
 use Rattle.dnp_world.proofs.JoinedSteps.{Beside, after_step, left_behind, plain_step, shows_still, stays_as, moves_before, came_down}
-use Rattle.dnp_world.proofs.JoinedWays.{carries_still, carries_cleared, carries_mute, carries_opened, carries_lost, carries_damaged, carries_delivered, carries_repeated, heard_port}
+use Rattle.dnp_world.proofs.JoinedWays.{carries_still, carries_cleared, carries_mute, carries_opened, carries_left, carries_lost, carries_damaged, heard_port}
 use Rattle.dnp_world.proofs.OutstationSteps.{moves_after, one_move}
 
 -- ---- the front unit of a line
 
-comes_down : {Sink : Type 0} → Laws → (panel : Panel) → ShowOctets panel → (others : List Row) (s new : LinkState Sink) (l : Link)
-    → Stands l → Joined others s l → ComesDown panel (delivered_on s.channel.down) s new → Follows others [] [] s.outstation.performed l new
-comes_down laws panel shown others s new l stands j h =
-    came_down laws panel shown others s new l (delivered_on s.channel.down) h.port h.given stands j (heard_port _ s.channel.outstation_port h.port [] h.given h.heard)
-    (carries_delivered laws.line s.channel.down s.channel.master_port s.channel.outstation_port h.port s.master.is_open j.going_down h.given h.heard j.down) h.came
-
-comes_down_again : {Sink : Type 0} → Laws → (panel : Panel) → ShowOctets panel → (others : List Row) (s new : LinkState Sink) (l : Link)
-    → Stands l → Joined others s l → ComesDown panel (repeated_on s.channel.down) s new → Follows others [] [] s.outstation.performed l new
-comes_down_again laws panel shown others s new l stands j h =
-    came_down laws panel shown others s new l (repeated_on s.channel.down) h.port h.given stands j (heard_port _ s.channel.outstation_port h.port [] h.given h.heard)
-    (carries_repeated laws.line s.channel.down s.channel.master_port s.channel.outstation_port h.port s.master.is_open j.going_down h.given h.heard j.down) h.came
+comes_down : {Sink : Type 0} → Laws → (panel : Panel) → ShowOctets panel → (others : List Row) (s new : LinkState Sink) (l : Link) (repeats : Bool)
+    → Stands l → Joined others s l → ComesDown panel (left_by repeats s.channel.down) s new → Follows others [] [] s.outstation.performed l new
+comes_down laws panel shown others s new l repeats stands j h =
+    let was : ChannelState = s.channel in
+    came_down laws panel shown others s new l (left_by repeats was.down) h.port h.given stands j (heard_port _ was.outstation_port h.port [] h.given h.heard)
+    (carries_left laws.line repeats was.down was.master_port was.outstation_port h.port s.master.is_open j.going_down h.given h.heard j.down) h.came
 
 comes_up : {Sink : Type 0} → Laws → (takes : Sink → List Row → List Row → List Row → Sink → Type 0) (others : List Row)
-    → (s new : LinkState Sink) (l : Link) → Stands l → Joined others s l
-    → ComesUp takes (delivered_on s.channel.up) s new → Follows others [] [] s.outstation.performed l new
-comes_up laws takes others s new l stands j h =
-    came_up laws takes others s new l (delivered_on s.channel.up) h.port h.given stands j (heard_port _ s.channel.master_port h.port [] h.given h.heard)
-    (carries_delivered laws.line s.channel.up s.channel.outstation_port s.channel.master_port h.port s.outstation.core.is_open (map octets_of l.up) h.given h.heard j.up) h.came
-
-comes_up_again : {Sink : Type 0} → Laws → (takes : Sink → List Row → List Row → List Row → Sink → Type 0) (others : List Row)
-    → (s new : LinkState Sink) (l : Link) → Stands l → Joined others s l
-    → ComesUp takes (repeated_on s.channel.up) s new → Follows others [] [] s.outstation.performed l new
-comes_up_again laws takes others s new l stands j h =
-    came_up laws takes others s new l (repeated_on s.channel.up) h.port h.given stands j (heard_port _ s.channel.master_port h.port [] h.given h.heard)
-    (carries_repeated laws.line s.channel.up s.channel.outstation_port s.channel.master_port h.port s.outstation.core.is_open (map octets_of l.up) h.given h.heard j.up) h.came
+    → (s new : LinkState Sink) (l : Link) (repeats : Bool) → Stands l → Joined others s l
+    → ComesUp takes (left_by repeats s.channel.up) s new → Follows others [] [] s.outstation.performed l new
+comes_up laws takes others s new l repeats stands j h =
+    let was : ChannelState = s.channel in
+    came_up laws takes others s new l (left_by repeats was.up) h.port h.given stands j (heard_port _ was.master_port h.port [] h.given h.heard)
+    (carries_left laws.line repeats was.up was.outstation_port was.master_port h.port s.outstation.core.is_open (map octets_of l.up) h.given h.heard j.up)
+    h.came
 
 -- ---- a line carries less, or the moment is another
 
@@ -122,7 +112,8 @@ goes_away {Sink = Sink} laws others s new l step silent none closes j sim h =
       down = carries_cleared laws.line s.channel.down s.channel.master_port s.channel.outstation_port s.master.is_open j.going_down j.down;
       down_is = drop_all all sim.link.down (omega arith);
       octets = All-nil (All (λ octet. octet < 2 ^ 8));
-      up = subst (λ (fs : List (List ℕ)). Carries s.channel.up (reset_of s.channel.outstation_port) s.channel.master_port step.state.core.is_open fs) (sym up_is) up;
+      up = subst (λ (fs : List (List ℕ)). Carries s.channel.up (reset_of s.channel.outstation_port) s.channel.master_port step.state.core.is_open fs)
+          (sym up_is) up;
       taken = subst (λ (xs : List Buffered). IsPermutation s.taken (map buffered_row xs)) (sym sim.master.took) j.taken;
       released = sim.released ∙ ap (λ (xs : List Row). map buffered_row l.released ++ xs) none ∙ append-nil (map buffered_row l.released) ∙ j.released;
       left = subst (λ (xs : List Row). IsPermutation xs ((s.left ++ step.does.overwritten) ++ others)) (sym sim.left)
@@ -194,13 +185,14 @@ pub event_follows : {Sink : Type 0} → Laws → (takes : Sink → List Row → 
 event_follows laws takes panel shown others s new l event.Open stands j h = opens laws others s new l stands j h
 event_follows laws takes panel shown others s new l (event.HangUp end.Master) stands j h = master_goes laws others s new l j h
 event_follows laws takes panel shown others s new l (event.HangUp end.Outstation) stands j h = hangs_up laws others s new l j h
-event_follows laws takes panel shown others s new l (event.Deliver way.Down) stands j h = comes_down laws panel shown others s new l stands j h
-event_follows laws takes panel shown others s new l (event.Deliver way.Up) stands j h = comes_up laws takes others s new l stands j h
-event_follows laws takes panel shown others s new l (event.Repeat way.Down) stands j h = comes_down_again laws panel shown others s new l stands j h
-event_follows laws takes panel shown others s new l (event.Repeat way.Up) stands j h = comes_up_again laws takes others s new l stands j h
+event_follows laws takes panel shown others s new l (event.Deliver way.Down) stands j h = comes_down laws panel shown others s new l false stands j h
+event_follows laws takes panel shown others s new l (event.Deliver way.Up) stands j h = comes_up laws takes others s new l false stands j h
+event_follows laws takes panel shown others s new l (event.Repeat way.Down) stands j h = comes_down laws panel shown others s new l true stands j h
+event_follows laws takes panel shown others s new l (event.Repeat way.Up) stands j h = comes_up laws takes others s new l true stands j h
 event_follows {Sink = Sink} laws takes panel shown others s new l (event.Lose way.Down) stands j h =
     stays_as others l new _ h
-    (with_lines others s l (lost_on s.channel.down) s.channel.up s.now j (carries_lost laws.line s.channel.down s.channel.master_port s.channel.outstation_port s.master.is_open j.going_down j.down) j.up)
+    (with_lines others s l (lost_on s.channel.down) s.channel.up s.now j
+    (carries_lost laws.line s.channel.down s.channel.master_port s.channel.outstation_port s.master.is_open j.going_down j.down) j.up)
 event_follows laws takes panel shown others s new l (event.Lose way.Up) stands j h =
     stays_as others l new _ h
     (with_lines others s l s.channel.down (lost_on s.channel.up) s.now j j.down
@@ -208,12 +200,13 @@ event_follows laws takes panel shown others s new l (event.Lose way.Up) stands j
 event_follows laws takes panel shown others s new l (event.Damage way.Down octets) stands j h =
     stays_as others l new _ (h.after ∙ ap (λ (c : ChannelState). record s { channel = c }) h.damages.1)
     (with_lines others s l new.channel.down s.channel.up s.now j
-    (carries_damaged laws.line s.channel.down new.channel.down s.channel.master_port s.channel.outstation_port s.master.is_open j.going_down octets.items h.damages.0 j.down) j.up)
+    (carries_damaged laws.line s.channel.down new.channel.down s.channel.master_port s.channel.outstation_port s.master.is_open j.going_down octets.items
+    h.damages.0 j.down) j.up)
 event_follows laws takes panel shown others s new l (event.Damage way.Up octets) stands j h =
     stays_as others l new _ (h.after ∙ ap (λ (c : ChannelState). record s { channel = c }) h.damages.1)
     (with_lines others s l s.channel.down new.channel.up s.now j j.down
-    (carries_damaged laws.line s.channel.up new.channel.up s.channel.outstation_port s.channel.master_port s.outstation.core.is_open (map octets_of l.up) octets.items
-    h.damages.0 j.up))
+    (carries_damaged laws.line s.channel.up new.channel.up s.channel.outstation_port s.channel.master_port s.outstation.core.is_open (map octets_of l.up)
+    octets.items h.damages.0 j.up))
 event_follows laws takes panel shown others s new l (event.Change kind index reading) stands j h =
     subst (λ rows. Follows others (arriving rows) [] s.outstation.performed l new) (sym (append-nil _)) (change_follows laws others s new l kind index reading stands j h)
 event_follows laws takes panel shown others s new l (event.Ask task) stands j h = asks_follow laws others s new l task j h

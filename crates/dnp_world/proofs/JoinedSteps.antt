@@ -87,26 +87,29 @@ pub after_step : {Sink : Type 0} → LineLaws → (others listed came : List Row
     → Beside others listed s was_open l → Simulates s.outstation came step l → Steps step s new
     → Follows others came [] s.outstation.performed l new
 after_step {Sink = Sink} line others listed came s new was_open l step grown quiet closes b sim steps =
+    let was : ChannelState = s.channel in
+    let is : ChannelState = new.channel in
     let after : LinkState Sink = record s {
       outstation = step.state;
-      channel = record s.channel { up = new.channel.up; outstation_port = new.channel.outstation_port };
+      channel = record was { up = is.up; outstation_port = is.outstation_port };
       released = s.released ++ step.does.discarded;
     } in
     let up_is : map octets_of sim.link.up ≡ map octets_of l.up ++ step.does.send =
     ap (map octets_of) sim.up ∙ map-append octets_of l.up sim.sent ∙ ap (λ (fs : List (List ℕ)). map octets_of l.up ++ fs) sim.octets in
-    let up : Carries new.channel.up new.channel.outstation_port s.channel.master_port was_open (map octets_of l.up ++ step.does.send) =
-    carries_sent line step.does.send s.channel.up new.channel.up s.channel.outstation_port new.channel.outstation_port s.channel.master_port was_open (map octets_of l.up) quiet steps.goes.sent b.up in
+    let up : Carries is.up is.outstation_port was.master_port was_open (map octets_of l.up ++ step.does.send) =
+    carries_sent line step.does.send was.up is.up was.outstation_port is.outstation_port was.master_port was_open (map octets_of l.up) quiet
+    steps.goes.sent b.up in
     let joined : Joined others after sim.link = record {
       outstation = sim.shows;
       master = sim.master.master ∙ b.master;
       number = b.number;
       going_down = b.going_down;
-      down = back_all_sent line step.does.send s.channel.up new.channel.up s.channel.down s.channel.outstation_port new.channel.outstation_port s.channel.master_port s.master.is_open b.going_down
+      down = back_all_sent line step.does.send was.up is.up was.down was.outstation_port is.outstation_port was.master_port s.master.is_open b.going_down
           steps.goes.sent b.down;
       down_is = sim.master.down ∙ b.down_is;
       octets = b.octets;
-      up = subst (λ (fs : List (List ℕ)). Carries new.channel.up new.channel.outstation_port s.channel.master_port step.state.core.is_open fs) (sym up_is)
-          (carries_still new.channel.up new.channel.outstation_port s.channel.master_port was_open step.state.core.is_open (map octets_of l.up ++ step.does.send) closes up);
+      up = subst (λ (fs : List (List ℕ)). Carries is.up is.outstation_port was.master_port step.state.core.is_open fs) (sym up_is)
+          (carries_still is.up is.outstation_port was.master_port was_open step.state.core.is_open (map octets_of l.up ++ step.does.send) closes up);
       taken = subst (λ (xs : List Buffered). IsPermutation s.taken (map buffered_row xs)) (sym sim.master.took) b.taken;
       released = sim.released ∙ ap (λ (xs : List Row). xs ++ step.does.discarded) b.released;
       left = subst (λ (xs : List Row). IsPermutation (map buffered_row sim.link.left) (xs ++ others)) (sym grown)
@@ -117,7 +120,8 @@ after_step {Sink = Sink} line others listed came s new was_open l step grown qui
       link = sim.link;
       moves = sim.moves;
       joined = subst (λ (x : LinkState Sink). Joined others x sim.link)
-          (sym (steps.after ∙ ap (λ (c : ChannelState). record s { outstation = step.state; channel = c; released = s.released ++ step.does.discarded }) steps.goes.after))
+          (sym (steps.after
+          ∙ ap (λ (c : ChannelState). record s { outstation = step.state; channel = c; released = s.released ++ step.does.discarded }) steps.goes.after))
           joined;
       stood = sim.stood;
       asked_is = sim.master.asked ∙ sym (append-nil l.asked);
@@ -196,14 +200,17 @@ pub came_down : {Sink : Type 0} → Laws → (panel : Panel) → ShowOctets pane
     → (given : List (List ℕ))
     → Stands l → (j : Joined others s l) → IsSamePort s.channel.outstation_port port
     → Came line s.channel.master_port port s.master.is_open j.going_down given
-    → ComeDown panel given (record s { channel = record s.channel { down = line; outstation_port = port } }) new → Follows others [] [] s.outstation.performed l new
+    → ComeDown panel given (record s { channel = record s.channel { down = line; outstation_port = port } }) new
+    → Follows others [] [] s.outstation.performed l new
 came_down {Sink = Sink} laws panel shown others s new l line port given stands j same came h = by came.gives
   where
     base : LinkState Sink
     base = record s { channel = record s.channel { down = line; outstation_port = port } }
 
     up : Carries s.channel.up port s.channel.master_port s.outstation.core.is_open (map octets_of l.up)
-    up = back_came laws.line s.channel.up s.channel.outstation_port s.channel.master_port port s.outstation.core.is_open (map octets_of l.up) same.same_ends same.number j.up
+    up =
+        back_came laws.line s.channel.up s.channel.outstation_port s.channel.master_port port s.outstation.core.is_open (map octets_of l.up)
+        same.same_ends same.number j.up
 
     by : MayGive j.going_down [] came.left given → Follows others [] [] s.outstation.performed l new
     by (Nothing left_is none) =

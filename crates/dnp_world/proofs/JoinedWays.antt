@@ -10,7 +10,7 @@ use Rattle.dnp_line.specs.Lines.{LineState, front_of, delivered_on, repeated_on,
 use Rattle.dnp_line.specs.Ports.{PortState, moved_on, reset_of}
 use Rattle.dnp_line.specs.Ways.{Way, WayEvent, Send, Deliver, Repeat, Lose, Damage, Clear, SenderReset, WayBack, Happens, opened_on, AFrame, NoFrame, HearsIfAny, all_sent_on}
 use Rattle.dnp_world.specs.Joined.{Carries}
-use Rattle.dnp_world.specs.Channels.{IsSent, AreSent}
+use Rattle.dnp_world.specs.Channels.{IsSent, AreSent, left_by}
 
 -- what `dnp_line` promises
 pub record LineLaws : Type 0 where
@@ -159,41 +159,36 @@ pub record Came (line : LineState) (sender receiver : PortState) (is_open : Bool
   pub gives : MayGive rest [] left given
   pub carries : Carries line sender receiver is_open left
 
-pub carries_delivered : LineLaws → (line : LineState) (sender receiver receiver' : PortState) (is_open : Bool) (rest given : List (List ℕ))
+-- the front unit comes to the port, and stays on the line or not
+pub carries_left : LineLaws → (repeats : Bool) (line : LineState) (sender receiver receiver' : PortState) (is_open : Bool) (rest given : List (List ℕ))
     → HearsIfAny (front_of line) receiver receiver' [] given
-    → Carries line sender receiver is_open rest → Came (delivered_on line) sender receiver' is_open rest given
-carries_delivered laws line sender receiver receiver' is_open rest given heard c =
-    let old : Way = way_of line sender receiver c.mute c.sent c.given in
-    let new : Way = way_of (delivered_on line) sender receiver' c.mute c.sent (c.given ++ given) in
-    let h = laws.kept old new Deliver rest c.flows (record {
-      receiver = receiver';
-      given = c.given ++ given;
-      heard = heard_behind (front_of line) receiver receiver' c.given given heard;
-      after = refl;
-    }) in
-    record {
+    → Carries line sender receiver is_open rest → Came (left_by repeats line) sender receiver' is_open rest given
+carries_left laws repeats line sender receiver receiver' is_open rest given heard c = by repeats
+  where
+    old : Way
+    old = way_of line sender receiver c.mute c.sent c.given
+
+    new : LineState → Way
+    new last = way_of last sender receiver' c.mute c.sent (c.given ++ given)
+
+    behind : HearsIfAny (front_of line) receiver receiver' c.given (c.given ++ given)
+    behind = heard_behind (front_of line) receiver receiver' c.given given heard
+
+    came : (last : LineState) → ((left : List (List ℕ)) × MayGive rest c.given left (c.given ++ given) × Flows (new last) left)
+        → Came last sender receiver' is_open rest given
+    came last h = record {
       left = h.0;
       gives = gives_anew rest c.given h.0 given h.1;
       carries = record { mute = c.mute; sent = c.sent; given = c.given ++ given; flows = h.2; silent = c.silent };
     }
 
-pub carries_repeated : LineLaws → (line : LineState) (sender receiver receiver' : PortState) (is_open : Bool) (rest given : List (List ℕ))
-    → HearsIfAny (front_of line) receiver receiver' [] given
-    → Carries line sender receiver is_open rest → Came (repeated_on line) sender receiver' is_open rest given
-carries_repeated laws line sender receiver receiver' is_open rest given heard c =
-    let old : Way = way_of line sender receiver c.mute c.sent c.given in
-    let new : Way = way_of (repeated_on line) sender receiver' c.mute c.sent (c.given ++ given) in
-    let h = laws.kept old new Repeat rest c.flows (record {
-      receiver = receiver';
-      given = c.given ++ given;
-      heard = heard_behind (front_of line) receiver receiver' c.given given heard;
-      after = refl;
-    }) in
-    record {
-      left = h.0;
-      gives = gives_anew rest c.given h.0 given h.1;
-      carries = record { mute = c.mute; sent = c.sent; given = c.given ++ given; flows = h.2; silent = c.silent };
-    }
+    by : (b : Bool) → Came (left_by b line) sender receiver' is_open rest given
+    by true =
+        came (repeated_on line) (laws.kept old (new (repeated_on line)) Repeat rest c.flows
+        (record { receiver = receiver'; given = c.given ++ given; heard = behind; after = refl }))
+    by false =
+        came (delivered_on line) (laws.kept old (new (delivered_on line)) Deliver rest c.flows
+        (record { receiver = receiver'; given = c.given ++ given; heard = behind; after = refl }))
 
 -- ---- fragments are sent
 

@@ -24,8 +24,8 @@ settled : (repeats : Bool) (fragments : List (List ℕ)) (old new : ChannelState
 settled repeats fragments old new up =
     record { sent = up.sent; after = ap (λ (c : ChannelState). record c { down = left_by repeats c.down }) up.after }
 
-come : {S : Type 0} (follows : List Command → Type 0) (panel : Panel) (repeats : Bool) (old : LinkState S) (state : State) (does : Actions) (answered : Bool) (port : PortState)
-    (lines : ChannelState) (released : List Row) (given : List (List ℕ))
+come : {S : Type 0} (follows : List Command → Type 0) (panel : Panel) (repeats : Bool) (old : LinkState S) (state : State) (does : Actions)
+    (answered : Bool) (port : PortState) (lines : ChannelState) (released : List Row) (given : List (List ℕ))
     → AnswersTo given follows panel old.now old.outstation state does answered (record old.channel { outstation_port = port }) lines
     → (answered ≡ true → released ≡ old.released ++ does.discarded) → (answered ≡ false → released ≡ old.released)
     → ComeDown panel given (record old { channel = record old.channel { down = left_by repeats old.channel.down; outstation_port = port } })
@@ -40,7 +40,8 @@ come {S} follows panel repeats old state does answered port lines released (frag
     (settled repeats does.send (record old.channel { outstation_port = port }) lines up) (some one)
 
 -- what comes to the outstation's end is what comes down the link
-pub comes : {S : Type 0} (follows : List Command → Type 0) (panel : Panel) (repeats : Bool) (old : LinkState S) (state : State) (does : Actions) (answered : Bool) (lines : ChannelState) (released : List Row)
+pub comes : {S : Type 0} (follows : List Command → Type 0) (panel : Panel) (repeats : Bool) (old : LinkState S) (state : State) (does : Actions)
+    (answered : Bool) (lines : ChannelState) (released : List Row)
     → ComesToOutstation follows panel old.now old.outstation state does answered old.channel lines
     → (answered ≡ true → released ≡ old.released ++ does.discarded) → (answered ≡ false → released ≡ old.released)
     → ComesDown panel (left_by repeats old.channel.down) old (with_parts old state (left_at way.Down repeats lines) released)

@@ -29,7 +29,8 @@ returns-in-Ok-clause-done g c = λ honest.
     (λ made. c.a_confirm_releases_what_its_fragment_reported.ensures.changed old.outstation old.now kind index reading made)
     (c.in-Ok.ensures.not_exhausted honest)
     (record {
-      sent = subst (λ (line : LineState). AreSent (actions_of c.in-Ok.actions).send line c.args.self.now.channel.outstation_port c.send_all.new.line.state c.send_all.new.port)
+      sent = subst
+          (λ (line : LineState). AreSent (actions_of c.in-Ok.actions).send line old.channel.outstation_port c.send_all.new.line.state c.send_all.new.port)
           (ap (λ (line : HeldLine). line.state) c.in_ok-reserve.ensures.ok) c.send_all.ensures;
       after = refl;
     })
