@@ -37,7 +37,7 @@ abbrev heard_lines : (LineState → LineState) → PortState → System → Chan
 heard_lines left port s = record s.above { down = left s.above.down; outstation_port = port }
 
 abbrev IsComing : (LineState → LineState) → LinkEvent → Type 0
-IsComing left e = (s s' : LinkState ⊤) (panel : Panel) → ComesDown panel (left s.down) s s' → HappensOn no_sink panel s e s'
+IsComing left e = (s s' : LinkState ⊤) (panel : Panel) → ComesDown panel (left s.channel.down) s s' → HappensOn no_sink panel s e s'
 
 answered : Grounds → ComingLaws → (left : LineState → LineState) (e : LinkEvent) → IsComing left e → (old new : System) (h : IsStanding old)
     → (station : ℕ) (port : PortState) (given : List (List ℕ)) → HearsIfAny (front_of old.above.down) old.above.outstation_port port [] given
@@ -72,14 +72,10 @@ answered grounds laws left e as_event old new h station port (fragment ∷ other
     let base : LinkState ⊤ = seen_above (record old { above = lines }) (lists_of l) in
     let lists : RowLists = record (lists_of l) { released = rows_of l.released ++ released } in
     let s' : LinkState ⊤ = seen_above (changed_above a old) lists in
-    let seen_on : ChannelState → List Command → LinkState ⊤ = λ c performed.
-    seen (record step.state { performed = performed }) old.centre.link.master c old.now lists in
-    let goes : ChannelState = record lines { up = new.above.up; outstation_port = new.above.outstation_port } in
-    let steps : Steps step base s' = record {
-      sent = came.sent.sent;
-      after = ap (λ (c : ChannelState). seen_on c (map (ordered spans) (book_with old commands).entries)) came.sent.after
-          ∙ ap (λ (xs : List Command). seen_on goes xs) (performs ∙ sym (performs_as laws s panel old.now fragment));
-    } in
+    let seen_on : List Command → LinkState ⊤ = λ performed.
+    seen (record step.state { performed = performed }) old.centre.link.master new.above old.now lists in
+    let steps : Steps step base s' =
+    record { goes = came.sent; after = ap (λ (xs : List Command). seen_on xs) (performs ∙ sym (performs_as laws s panel old.now fragment)) } in
     above_keeps grounds old new h station a [] released lists e
     (record {
       lost = lost_same laws s panel old.now fragment;

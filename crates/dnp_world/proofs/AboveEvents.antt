@@ -18,7 +18,6 @@ use Rattle.dnp_world.specs.declared.link_event.End.TheVariants as end
 use Rattle.dnp_world.specs.declared.link_event.LinkEvent.{LinkEvent}
 use Rattle.dnp_world.specs.declared.link_event.LinkEvent.TheVariants as event
 use Rattle.dnp_world.specs.declared.link_event.Way.{Way}
-use Rattle.dnp_world.specs.declared.link_event.Way.TheVariants as way
 use Rattle.dnp_world.specs.Channels.{ChannelState, DamagesAt, GoDown, cleared, hung_up_at, lost_at}
 use Rattle.dnp_world.specs.Joined.{rows_made_by}
 use Rattle.dnp_world.specs.OneLinkEvents.{AsksBy, AsksIfOwn, HappensOn, LinkState, Steps, is_own}
@@ -26,7 +25,7 @@ use Rattle.dnp_world.specs.Systems.{System, middle_of, middle_panel}
 use Rattle.dnp_world.specs.SystemEvents.{AsksOn, HangsUpOn, LinesChange, LosesOn, MasterTicks, MiddleSteps, OpensOn, OutstationTicks, request_of}
 use Rattle.dnp_world.specs.SystemStanding.{RowLists, lists_of, no_sink, seen, seen_above, IsStanding, Keeps}
 use Rattle.dnp_world.proofs.AboveKeeps.{Above, above_keeps, changed_above, none_listed}
-use Rattle.dnp_world.proofs.BelowCalls.{none_goes, one_goes}
+use Rattle.dnp_world.proofs.BelowCalls.{none_goes}
 use Rattle.dnp_world.proofs.BelowEvents.{none_behind}
 use Rattle.dnp_world.proofs.BelowKeeps.{Grounds, none_used}
 use Rattle.dnp_world.proofs.Issuing.{same_keeps}
@@ -53,27 +52,14 @@ quiet_above grounds old new h station outstation r lines e queue none happens af
 -- the lines alone change
 pub loses_above : Grounds → (old new : System) (station : ℕ) (w : Way) → IsStanding old → LosesOn link.Above w old new → Keeps station [] old new
 loses_above grounds old new station w h e =
-    quiet_above grounds old new h station (middle_of old.concentrator) old.centre.link (lost_at w old.above) (event.Lose w) refl refl (by w)
+    quiet_above grounds old new h station (middle_of old.concentrator) old.centre.link (lost_at w old.above) (event.Lose w) refl refl refl
     (e.1 ∙ ap (λ (c : ChannelState). record old { above = c }) e.0)
-  where
-    by : (v : Way) → HappensOn no_sink (middle_panel old.concentrator) (seen_above old (lists_of h.links.above)) (event.Lose v)
-        (seen_above (record old { above = lost_at v old.above }) (lists_of h.links.above))
-    by way.Down = refl
-    by way.Up = refl
 
 pub damages_above : Grounds → (old new : System) (station : ℕ) (w : Way) (octets : List ℕ) → IsStanding old
     → LinesChange link.Above (DamagesAt w octets) old new → Keeps station [] old new
 damages_above grounds old new station w octets h e =
     quiet_above grounds old new h station (middle_of old.concentrator) old.centre.link new.above (event.Damage w (record { items = octets })) refl refl
-    (by w e.0) e.1
-  where
-    seen_on : ChannelState → LinkState ⊤
-    seen_on c = seen_above (record old { above = c }) (lists_of h.links.above)
-
-    by : (v : Way) → DamagesAt v octets old.above new.above
-        → HappensOn no_sink (middle_panel old.concentrator) (seen_on old.above) (event.Damage v (record { items = octets })) (seen_on new.above)
-    by way.Down damaged = record { damaged = new.above.down; damages = damaged.0; is = ap seen_on damaged.1 }
-    by way.Up damaged = record { damaged = new.above.up; damages = damaged.0; is = ap seen_on damaged.1 }
+    (record { damages = e.0; after = refl }) e.1
 
 -- ---- an end hangs up
 
@@ -116,16 +102,14 @@ step_above grounds old new h station step r lines e none same made as_event m =
     let a : Above = with_ends old step.state r new.above in
     let lists : RowLists = lists_of h.links.above in
     let base : LinkState ⊤ = seen (middle_of old.concentrator) r.master lines old.now lists in
-    let stepped : ChannelState → List Command → List Row → LinkState ⊤ = λ c performed released.
-    seen (record step.state { performed = performed }) r.master c old.now (record lists { released = released }) in
-    let goes : ChannelState = record lines { up = new.above.up; outstation_port = new.above.outstation_port } in
-    let there : stepped new.above (middle_of old.concentrator).performed lists.released ≡ stepped goes step.state.performed (lists.released ++ step.does.discarded) =
-    ap (λ (c : ChannelState). stepped c (middle_of old.concentrator).performed lists.released) m.sent.after
-    ∙ ap (λ (p : List Command). stepped goes p lists.released) (sym same)
-    ∙ ap (λ (xs : List Row). stepped goes step.state.performed xs)
+    let stepped : List Command → List Row → LinkState ⊤ = λ performed released.
+    seen (record step.state { performed = performed }) r.master new.above old.now (record lists { released = released }) in
+    let there : stepped (middle_of old.concentrator).performed lists.released ≡ stepped step.state.performed (lists.released ++ step.does.discarded) =
+    ap (λ (p : List Command). stepped p lists.released) (sym same)
+    ∙ ap (λ (xs : List Row). stepped step.state.performed xs)
     (sym (append-nil lists.released) ∙ ap (λ (xs : List Row). lists.released ++ xs) (sym none.discarded)) in
     quiet_above grounds old new h station step.state r new.above e none.lanes made
-    (as_event (seen_above (changed_above a old) lists) (record { sent = m.sent.sent; after = there })) m.after
+    (as_event (seen_above (changed_above a old) lists) (record { goes = m.sent; after = there })) m.after
 
 pub opens_above : Grounds → AboveLaws → (old new : System) (station : ℕ) → IsStanding old → OpensOn link.Above old new → Keeps station [] old new
 opens_above grounds laws old new station h e =
@@ -146,12 +130,7 @@ asked_so : (old : System) (task : Task) (lines : ChannelState) (lists : RowLists
     → (let r : Relaying = old.centre.link in ask_answer r.master task ≡ answer → GoDown (request_of answer) old.above lines
     → AsksBy answer task (seen_above old lists)
     (seen_above (record old { centre = record old.centre { link = relaying.asking r old.now task }; above = lines }) lists))
-asked_so old task lines lists (Ok octets) answer down =
-    let r : Relaying = old.centre.link in
-    record {
-      sent = one_goes octets old.above lines down;
-      after = ap (λ (c : ChannelState). seen (middle_of old.concentrator) (relaying.asking r old.now task).master c old.now lists) down.after;
-    }
+asked_so old task lines lists (Ok octets) answer down = record { goes = down; after = refl }
 asked_so old task lines lists (Err fault) answer down =
     let r : Relaying = old.centre.link in
     ap (λ (c : ChannelState). seen (middle_of old.concentrator) (relaying.asking r old.now task).master c old.now lists) (none_goes old.above lines down)

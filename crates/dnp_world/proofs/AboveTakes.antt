@@ -41,7 +41,7 @@ heard_lines left port s = record s.above { up = left s.above.up; master_port = p
 
 -- what makes an event of the link by itself of what comes up
 abbrev IsComing : (LineState → LineState) → LinkEvent → Type 0
-IsComing left e = (s s' : LinkState ⊤) (panel : Panel) → one.ComesUp no_sink (left s.up) s s' → HappensOn no_sink panel s e s'
+IsComing left e = (s s' : LinkState ⊤) (panel : Panel) → one.ComesUp no_sink (left s.channel.up) s s' → HappensOn no_sink panel s e s'
 
 -- nothing is taken
 untaken : Grounds → (left : LineState → LineState) (e : LinkEvent) → IsComing left e → (old new : System) (h : IsStanding old) (station : ℕ)
@@ -78,10 +78,9 @@ received grounds left e as_event old new h station port fragment others heard ma
     let lists : RowLists = record (lists_of l) { taken = rows_of l.took ++ t.events } in
     let s' : LinkState ⊤ = seen_above (changed_above a old) lists in
     let takes : Takes no_sink t base s' = record {
-      given = λ some. ([], tt);
-      spared = λ none. refl;
-      sent = down.sent;
-      after = ap (λ (c : ChannelState). seen (middle_of old.concentrator) t.state c old.now lists) down.after;
+      rows = record { given = λ some. ([], tt); spared = λ none. refl };
+      goes = down;
+      after = refl;
     } in
     above_keeps grounds old new h station a t.events [] lists e
     (record {

@@ -11,7 +11,7 @@ use Rattle.dnp_line.specs.Ways.{AreSpelled}
 use Rattle.dnp_line.specs.declared.line.TheConstants.{BROKEN_LOSSES}
 use Rattle.dnp_line.proofs.OnLine.{all_sent}
 use Rattle.dnp_world.specs.Arriving.{IsInUnits, AreInUnits, StandOn}
-use Rattle.dnp_world.specs.OneLinkEvents.{IsSent, AreSent}
+use Rattle.dnp_world.specs.Channels.{IsSent, AreSent}
 
 -- ---- units
 

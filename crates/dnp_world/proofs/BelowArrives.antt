@@ -30,9 +30,9 @@ use Rattle.dnp_world.specs.Joined.{rows_made_by}
 use Rattle.dnp_world.specs.Link.{Link}
 use Rattle.dnp_world.specs.OneLinkEvents as one
 use Rattle.dnp_world.specs.OneLinkEvents.{HappensOn, LinkState, Receives, Takes}
-use Rattle.dnp_world.specs.Systems.{SubstationState, System, has_station, panel_of, station_of}
+use Rattle.dnp_world.specs.Systems.{SubstationState, System, has_station, panel_of}
 use Rattle.dnp_world.specs.SystemEvents.{ComesUp, MasterReceives, MasterTakes, taken_below, with_substation}
-use Rattle.dnp_world.specs.SystemStanding.{RowLists, lists_of, no_sink, seen, seen_below, IsStanding, Keeps}
+use Rattle.dnp_world.specs.SystemStanding.{RowLists, lists_of, no_sink, seen_below, IsStanding, Keeps}
 use Rattle.dnp_world.proofs.BelowEvents.{few_outputs, quiet, seen_at, shown_with}
 use Rattle.dnp_world.proofs.BelowKeeps.{Grounds}
 use Rattle.dnp_world.proofs.BelowTakes.{ArrivalLaws, queued_for, taken_with, takes_keep}
@@ -47,7 +47,7 @@ heard_at left port s = record s { channel = record s.channel { up = left s.chann
 
 -- what makes an event of the link by itself of what comes up
 abbrev pub IsComing : (LineState → LineState) → LinkEvent → Type 0
-IsComing left e = (s s' : LinkState ⊤) (panel : Panel) → one.ComesUp no_sink (left s.up) s s' → HappensOn no_sink panel s e s'
+IsComing left e = (s s' : LinkState ⊤) (panel : Panel) → one.ComesUp no_sink (left s.channel.up) s s' → HappensOn no_sink panel s e s'
 
 has_link_to : (s : System) (station : ℕ) → has_station s station ≡ true → station < length s.concentrator.links
 has_link_to s station has =
@@ -125,10 +125,9 @@ received grounds laws left e old new h station c events fragment others given (O
     let base : LinkState ⊤ = seen_at old station mid (lists_of l) in
     let s' : LinkState ⊤ = seen_below old.now (relaying.received r t) is_now lists in
     let takes : Takes no_sink t base s' = record {
-      given = λ some. ([], tt);
-      spared = λ none. refl;
-      sent = down.sent;
-      after = ap (λ (x : ChannelState). seen (station_of c.was) t.state x old.now lists) down.after;
+      rows = record { given = λ some. ([], tt); spared = λ none. refl };
+      goes = down;
+      after = refl;
     } in
     takes_keep grounds laws old new h station c.was is_now t e events (has_link_to old station c.has) c.there refl
     (shown_with c.was is_now (few_outputs old h station c.was c.there) refl)

@@ -1,6 +1,6 @@
 -- Calls of a substation's master, an opening and damage, which keep what stands behind the system.
 use Rattle.std.proofs.Common.{◌≡◌, ℕ, zero, suc, ◌<◌, if◌then◌else◌, Bool, true, false, List, [], ◌∷◌, ◌++◌, length, Some, Result, Ok, Err, refl, sym, ap, ◌∙◌, subst, arith}
-use Rattle.std.specs.Prelude.{nat_lt, slice_get, slice_set, ⊤}
+use Rattle.std.specs.Prelude.{nat_lt, slice_get, slice_set}
 use Rattle.std.proofs.lemmas.Bool.{and_parts, ltb-true}
 use Rattle.std.proofs.lemmas.Option.{same_Some}
 use Rattle.dnp_objects.specs.declared.command.Command.{Command}
@@ -23,15 +23,14 @@ use Rattle.dnp_world.specs.declared.event.Link.TheVariants.{Below}
 use Rattle.dnp_world.specs.declared.link_event.End.TheVariants as end
 use Rattle.dnp_world.specs.declared.link_event.LinkEvent.TheVariants as event
 use Rattle.dnp_world.specs.declared.link_event.Way.{Way}
-use Rattle.dnp_world.specs.declared.link_event.Way.TheVariants as way
 use Rattle.dnp_world.specs.Behind.{rows_of}
 use Rattle.dnp_world.specs.Channels.{ChannelState, DamagesAt, GoDown, cleared}
 use Rattle.dnp_world.specs.Link.{Link}
-use Rattle.dnp_world.specs.OneLinkEvents.{AsksBy, AsksIfOwn, HappensOn, IsSent, LinkState, Steps, is_own, opening}
-use Rattle.dnp_world.specs.Systems.{SubstationState, System, at_station, has_station, panel_of, station_of}
+use Rattle.dnp_world.specs.OneLinkEvents.{AsksBy, AsksIfOwn, Steps, is_own, opening}
+use Rattle.dnp_world.specs.Systems.{SubstationState, System, at_station, has_station, station_of}
 use Rattle.dnp_world.specs.SystemEvents.{AsksOn, HangsUpOn, LinesChange, MasterTicks, OpensOn, master_gone, request_of, with_link, with_lost, with_substation}
-use Rattle.dnp_world.specs.SystemStanding.{RowLists, lists_of, no_sink, points_asked, seen_below, IsStanding, Keeps}
-use Rattle.dnp_world.proofs.BelowEvents.{few_outputs, lists_as, no_performs, none_behind, quiet, quiet_with, seen_at, shown_with, stepped_on, with_both, with_released}
+use Rattle.dnp_world.specs.SystemStanding.{RowLists, lists_of, points_asked, seen_below, IsStanding, Keeps}
+use Rattle.dnp_world.proofs.BelowEvents.{few_outputs, lists_as, no_performs, none_behind, quiet, quiet_with, shown_with, stepped_on, with_both, with_released}
 use Rattle.dnp_world.proofs.BelowKeeps.{Gone, Grounds, KeepsMiddle, Middle, below_keeps}
 use Rattle.dnp_world.proofs.Issuing.{same_keeps}
 use Rattle.dnp_world.proofs.SystemPlans.{asked_still, link_here, link_there}
@@ -80,15 +79,7 @@ pub damages : Grounds → (old new : System) (station : ℕ) (w : Way) (octets :
     → LinesChange (Below station) (DamagesAt w octets) old new → Keeps station [] old new
 damages grounds old new station w octets h e =
     quiet grounds old new h station e.was (record e.was { channel = e.is.channel }) (event.Damage w (record { items = octets })) e.there refl
-    (by w e.changed.0) (e.after ∙ ap (λ (s : SubstationState). with_substation old station s) e.changed.1)
-  where
-    seen_on : ChannelState → LinkState ⊤
-    seen_on c = seen_at old station (record e.was { channel = c }) (lists_of (h.links.below station))
-
-    by : (v : Way) → DamagesAt v octets e.was.channel e.is.channel
-        → HappensOn no_sink (panel_of e.was) (seen_on e.was.channel) (event.Damage v (record { items = octets })) (seen_on e.is.channel)
-    by way.Down damaged = record { damaged = e.is.channel.down; damages = damaged.0; is = ap seen_on damaged.1 }
-    by way.Up damaged = record { damaged = e.is.channel.up; damages = damaged.0; is = ap seen_on damaged.1 }
+    (record { damages = e.changed.0; after = refl }) (e.after ∙ ap (λ (s : SubstationState). with_substation old station s) e.changed.1)
 
 -- ---- an opening
 
@@ -126,13 +117,6 @@ none_goes old new g =
     let lines : LineState → PortState → ChannelState = λ down port. record old { down = down; master_port = port } in
     g.after ∙ ap (λ (d : LineState). lines d new.master_port) g.sent.0 ∙ ap (λ (p : PortState). lines old.down p) g.sent.1
 
--- one fragment goes down
-pub one_goes : (octets : List ℕ) (old new : ChannelState) → GoDown (octets ∷ []) old new → IsSent octets old.down old.master_port new.down new.master_port
-one_goes octets old new g =
-    let (between, port, sent, same) = g.sent in
-    subst (λ (d : LineState). IsSent octets old.down old.master_port d new.master_port) (sym same.0)
-    (subst (λ (p : PortState). IsSent octets old.down old.master_port between p) (sym same.1) sent)
-
 asked_points_stay : (s : master.State) (now : ℕ) (task : Task) (answer : Result (List ℕ) AskFault) → (asked_by s now task answer).plan ≡ s.plan
 asked_points_stay s now task (Ok octets) = refl
 asked_points_stay s now task (Err fault) = refl
@@ -142,12 +126,7 @@ asked_so : (old : System) (station : ℕ) (was is : SubstationState) (task : Tas
     → GoDown (request_of answer) was.channel is.channel
     → AsksBy answer task (seen_below old.now r was lists)
     (seen_below old.now (relaying.asking r old.now task) (record was { channel = is.channel }) lists))
-asked_so old station was is task lists (Ok octets) answer down =
-    let r : Relaying = link_in old.concentrator.links station in
-    record {
-      sent = one_goes octets was.channel is.channel down;
-      after = ap (λ (c : ChannelState). seen_below old.now (relaying.asking r old.now task) (record was { channel = c }) lists) down.after;
-    }
+asked_so old station was is task lists (Ok octets) answer down = record { goes = down; after = refl }
 asked_so old station was is task lists (Err fault) answer down =
     let r : Relaying = link_in old.concentrator.links station in
     ap (λ (c : ChannelState). seen_below old.now (relaying.asking r old.now task) (record was { channel = c }) lists)

@@ -127,16 +127,11 @@ quiet grounds old new h station was is e there same happens after =
 -- a line loses its front unit
 pub loses : Grounds → (old new : System) (station : ℕ) (way : Way) → IsStanding old → LosesOn (Below station) way old new → Keeps station [] old new
 loses grounds old new station w h e =
-    quiet grounds old new h station e.was (record e.was { channel = lost_at w e.was.channel }) (event.Lose w) e.there refl (by w)
+    quiet grounds old new h station e.was (record e.was { channel = lost_at w e.was.channel }) (event.Lose w) e.there refl refl
     (e.after ∙ ap (λ (s : SubstationState). with_substation old station s) (e.changed.1 ∙ ap (λ (c : ChannelState). record e.was {
       channel =
           c;
     }) e.changed.0))
-  where
-    by : (v : Way) → HappensOn no_sink (panel_of e.was) (seen_at old station e.was (lists_of (h.links.below station))) (event.Lose v)
-        (seen_at old station (record e.was { channel = lost_at v e.was.channel }) (lists_of (h.links.below station)))
-    by way.Down = refl
-    by way.Up = refl
 
 -- the outstation hangs up
 pub hangs_up : Grounds → (old new : System) (station : ℕ) → IsStanding old → HangsUpOn (Below station) end.Outstation old new → Keeps station [] old new
@@ -185,9 +180,8 @@ pub stepped_on : (now : ℕ) (r : Relaying) (step : Step) (lines : ChannelState)
     → SubstationSteps step lines base is
     → Steps step (seen (station_of base) r.master lines now lists) (seen_below now r is (with_released lists step.does.discarded))
 stepped_on now r step lines base is lists steps = record {
-  sent = steps.sent.sent;
-  after = ap (λ (s : SubstationState). seen_below now r s (with_released lists step.does.discarded))
-      (steps.after ∙ ap (λ (c : ChannelState). record (in_state base step.state) { channel = c }) steps.sent.after);
+  goes = steps.sent;
+  after = ap (λ (s : SubstationState). seen_below now r s (with_released lists step.does.discarded)) steps.after;
 }
 
 stepped : (old : System) (station : ℕ) (step : Step) (base is : SubstationState) (lists : RowLists) → SubstationSteps step base.channel base is
@@ -245,7 +239,7 @@ outputs_stay [] now released base is (none, stays) = ap (λ (s : SubstationState
 outputs_stay (fragment ∷ others) now released base is (released_is, steps) = ap (λ (s : SubstationState). s.outputs.outputs) steps.after
 
 comes : Grounds → (left : LineState → LineState) (e : LinkEvent)
-    → ((s s' : LinkState ⊤) (panel : Panel) → ComesDown panel (left s.down) s s' → HappensOn no_sink panel s e s')
+    → ((s s' : LinkState ⊤) (panel : Panel) → ComesDown panel (left s.channel.down) s s' → HappensOn no_sink panel s e s')
     → (old new : System) (station : ℕ) → IsStanding old → (c : ComesDownBelow left station old new)
     → Keeps station (rows_made_by c.came.was.core.points (e ∷ [])) old new
 comes grounds left e as_event old new station h c =

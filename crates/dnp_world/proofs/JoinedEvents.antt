@@ -1,5 +1,5 @@
 -- Each event of a link of real stations.
-use Rattle.std.proofs.Common.{◌≡◌, ℕ, ◌<◌, ◌^◌, true, false, List, [], ◌++◌, length, map, refl, sym, ap, ◌∙◌, subst, append-nil, arith}
+use Rattle.std.proofs.Common.{◌≡◌, ℕ, ◌<◌, ◌^◌, Bool, true, false, List, [], ◌++◌, length, map, refl, sym, ap, ◌∙◌, subst, append-nil, arith}
 use Rattle.std.specs.List.{All}
 use Rattle.std.specs.List.Sorted.{IsPermutation}
 use Rattle.std.proofs.lemmas.Bool.{both_ways}
@@ -9,7 +9,7 @@ use Rattle.dnp_objects.specs.declared.row.Row.{Row}
 use Rattle.dnp_controls.specs.Panel.{Panel}
 use Rattle.dnp_eventbuf.specs.Buffered.{Buffered, buffered_row}
 use Rattle.dnp_eventbuf.specs.Stock.{arriving}
-use Rattle.dnp_line.specs.Lines.{LineState, cleared_on, delivered_on, repeated_on, lost_on}
+use Rattle.dnp_line.specs.Lines.{LineState, lost_on}
 use Rattle.dnp_line.specs.Ports.{reset_of}
 use Rattle.dnp_outstation.specs.Calls.{tick_of, opened_of, restart_of, emptied_of}
 use Rattle.dnp_outstation.specs.Connection.{closed}
@@ -19,6 +19,7 @@ use Rattle.dnp_world.specs.declared.link_event.End.TheVariants as end
 use Rattle.dnp_world.specs.declared.link_event.Way.TheVariants as way
 use Rattle.dnp_world.specs.declared.link_event.LinkEvent.{LinkEvent}
 use Rattle.dnp_world.specs.declared.link_event.LinkEvent.TheVariants as event
+use Rattle.dnp_world.specs.Channels.{ChannelState, hung_up_at, left_by}
 use Rattle.dnp_world.specs.Joined.{Carries, Joined, Follows, point_moves}
 use Rattle.dnp_world.specs.Link.{Link}
 use Rattle.dnp_world.specs.Moves.{LoseDown, Open, lost_down, opened}
@@ -36,44 +37,47 @@ use Rattle.dnp_world.proofs.OutstationSteps.{moves_after, one_move}
 -- ---- the front unit of a line
 
 comes_down : {Sink : Type 0} → Laws → (left : LineState → LineState) → CarriesOver left → (panel : Panel) → ShowOctets panel → (others : List Row)
-    (s new : LinkState Sink) (l : Link) → Stands l → Joined others s l → ComesDown panel (left s.down) s new
+    (s new : LinkState Sink) (l : Link) → Stands l → Joined others s l → ComesDown panel (left s.channel.down) s new
     → Follows others [] [] s.outstation.performed l new
 comes_down laws left over panel shown others s new l stands j h =
-    came_down laws panel shown others s new l (left s.down) h.port h.given stands j (heard_port _ s.outstation_port h.port [] h.given h.heard)
-    (over s.down s.master_port s.outstation_port h.port s.master.is_open j.going_down h.given h.heard j.down) h.came
+    let was : ChannelState = s.channel in
+    came_down laws panel shown others s new l (left was.down) h.port h.given stands j (heard_port _ was.outstation_port h.port [] h.given h.heard)
+    (over was.down was.master_port was.outstation_port h.port s.master.is_open j.going_down h.given h.heard j.down) h.came
 
 comes_up : {Sink : Type 0} → Laws → (left : LineState → LineState) → CarriesOver left → (takes : Sink → List Row → List Row → List Row → Sink → Type 0)
-    (others : List Row) (s new : LinkState Sink) (l : Link) → Stands l → Joined others s l → ComesUp takes (left s.up) s new
+    (others : List Row) (s new : LinkState Sink) (l : Link) → Stands l → Joined others s l → ComesUp takes (left s.channel.up) s new
     → Follows others [] [] s.outstation.performed l new
 comes_up laws left over takes others s new l stands j h =
-    came_up laws takes others s new l (left s.up) h.port h.given stands j (heard_port _ s.master_port h.port [] h.given h.heard)
-    (over s.up s.outstation_port s.master_port h.port s.outstation.core.is_open (map octets_of l.up) h.given h.heard j.up) h.came
+    let was : ChannelState = s.channel in
+    came_up laws takes others s new l (left was.up) h.port h.given stands j (heard_port _ was.master_port h.port [] h.given h.heard)
+    (over was.up was.outstation_port was.master_port h.port s.outstation.core.is_open (map octets_of l.up) h.given h.heard j.up) h.came
 
 -- ---- the outstation goes
 
 goes_away : {Sink : Type 0} → Laws → (others : List Row) (s new : LinkState Sink) (l : Link) (step : Step) → step.does.send ≡ []
     → step.does.discarded ≡ []
     → step.state.core.is_open ≡ false → Joined others s l → Simulates s.outstation [] step l
-    → new ≡ record s { outstation = step.state; down = cleared_on s.down; outstation_port = reset_of s.outstation_port; left = s.left ++ step.does.overwritten }
+    → new ≡ record s { outstation = step.state; channel = hung_up_at end.Outstation s.channel; left = s.left ++ step.does.overwritten }
     → Follows others [] [] s.outstation.performed l new
 goes_away {Sink = Sink} laws others s new l step silent none closes j sim h =
     let all : ℕ = length sim.link.down in
     let link : Link = lost_down all sim.link in
-    let after : LinkState Sink = record s { outstation = step.state; down = cleared_on s.down; outstation_port = reset_of s.outstation_port; left = s.left ++ step.does.overwritten } in
+    let after : LinkState Sink = record s { outstation = step.state; channel = hung_up_at end.Outstation s.channel; left = s.left ++ step.does.overwritten } in
     let up_is : map octets_of sim.link.up ≡ map octets_of l.up =
     ap (map octets_of) sim.up ∙ map-append octets_of l.up sim.sent ∙ ap (λ (fs : List (List ℕ)). map octets_of l.up ++ fs) (sim.octets ∙ silent) ∙ append-nil (map octets_of l.up) in
-    let up : Carries s.up (reset_of s.outstation_port) s.master_port step.state.core.is_open (map octets_of l.up) =
-    carries_still s.up (reset_of s.outstation_port) s.master_port false step.state.core.is_open (map octets_of l.up) (λ e. closes)
-    (carries_mute laws.line s.up s.outstation_port s.master_port s.outstation.core.is_open (map octets_of l.up) j.up) in
+    let up : Carries s.channel.up (reset_of s.channel.outstation_port) s.channel.master_port step.state.core.is_open (map octets_of l.up) =
+    carries_still s.channel.up (reset_of s.channel.outstation_port) s.channel.master_port false step.state.core.is_open (map octets_of l.up) (λ e. closes)
+    (carries_mute laws.line s.channel.up s.channel.outstation_port s.channel.master_port s.outstation.core.is_open (map octets_of l.up) j.up) in
     let joined : Joined others after link = record {
       outstation = shows_still step.state sim.link link refl refl refl sim.shows;
       master = sim.master.master ∙ j.master;
       number = j.number;
       going_down = [];
-      down = carries_cleared laws.line s.down s.master_port s.outstation_port s.master.is_open j.going_down j.down;
+      down = carries_cleared laws.line s.channel.down s.channel.master_port s.channel.outstation_port s.master.is_open j.going_down j.down;
       down_is = drop_all all sim.link.down (omega arith);
       octets = All-nil (All (λ octet. octet < 2 ^ 8));
-      up = subst (λ (fs : List (List ℕ)). Carries s.up (reset_of s.outstation_port) s.master_port step.state.core.is_open fs) (sym up_is) up;
+      up = subst (λ (fs : List (List ℕ)). Carries s.channel.up (reset_of s.channel.outstation_port) s.channel.master_port step.state.core.is_open fs)
+          (sym up_is) up;
       taken = subst (λ (xs : List Buffered). IsPermutation s.taken (map buffered_row xs)) (sym sim.master.took) j.taken;
       released = sim.released ∙ ap (λ (xs : List Row). map buffered_row l.released ++ xs) none ∙ append-nil (map buffered_row l.released) ∙ j.released;
       left = subst (λ (xs : List Row). IsPermutation xs ((s.left ++ step.does.overwritten) ++ others)) (sym sim.left)
@@ -94,7 +98,7 @@ hangs_up : {Sink : Type 0} → Laws → (others : List Row) (s new : LinkState S
     → Follows others [] [] s.outstation.performed l new
 hangs_up {Sink = Sink} laws others s new l j h =
     let step : Step = still (record s.outstation { core = closed s.outstation.core }) in
-    let after : List Row → LinkState Sink = λ left. record s { outstation = step.state; down = cleared_on s.down; outstation_port = reset_of s.outstation_port; left = left } in
+    let after : List Row → LinkState Sink = λ left. record s { outstation = step.state; channel = hung_up_at end.Outstation s.channel; left = left } in
     goes_away laws others s new l step refl refl refl j (laws.outstation.closes s.outstation l j.outstation) (h ∙ ap after (sym (append-nil s.left)))
 
 restarts : {Sink : Type 0} → Laws → (others : List Row) (s new : LinkState Sink) (l : Link) → Joined others s l
@@ -105,11 +109,11 @@ restarts laws others s new l j h =
 
 -- it restarts, and keeps its lanes
 pub restarts_kept : {Sink : Type 0} → Laws → (others : List Row) (s new : LinkState Sink) (l : Link) → Joined others s l
-    → new ≡ record s { outstation = restart_of s.outstation true; down = cleared_on s.down; outstation_port = reset_of s.outstation_port }
+    → new ≡ record s { outstation = restart_of s.outstation true; channel = hung_up_at end.Outstation s.channel }
     → Follows others [] [] s.outstation.performed l new
 restarts_kept {Sink = Sink} laws others s new l j h =
     let step : Step = record { state = restart_of s.outstation true; does = record nothing { overwritten = emptied_of s.outstation true } } in
-    let after : List Row → LinkState Sink = λ left. record s { outstation = step.state; down = cleared_on s.down; outstation_port = reset_of s.outstation_port; left = left } in
+    let after : List Row → LinkState Sink = λ left. record s { outstation = step.state; channel = hung_up_at end.Outstation s.channel; left = left } in
     goes_away laws others s new l step refl refl refl j (laws.outstation.restarts s.outstation true l j.outstation) (h ∙ ap after (sym (append-nil s.left)))
 
 -- ---- both ends are opened
@@ -122,10 +126,10 @@ opens {Sink = Sink} laws others s new l stands j h =
       master = refl;
       number = omega arith;
       going_down = [];
-      down = carries_opened laws.line s.down s.master_port s.outstation_port s.master.is_open j.going_down j.down;
+      down = carries_opened laws.line s.channel.down s.channel.master_port s.channel.outstation_port s.master.is_open j.going_down j.down;
       down_is = refl;
       octets = All-nil (All (λ octet. octet < 2 ^ 8));
-      up = carries_opened laws.line s.up s.outstation_port s.master_port s.outstation.core.is_open (map octets_of l.up) j.up;
+      up = carries_opened laws.line s.channel.up s.channel.outstation_port s.channel.master_port s.outstation.core.is_open (map octets_of l.up) j.up;
       taken = j.taken;
       released = j.released;
       left = j.left;
@@ -154,26 +158,28 @@ event_follows laws takes panel shown others s new l (event.Repeat way.Down) stan
 event_follows laws takes panel shown others s new l (event.Repeat way.Up) stands j h =
     comes_up laws repeated_on (carries_repeated laws.line) takes others s new l stands j h
 event_follows {Sink = Sink} laws takes panel shown others s new l (event.Lose way.Down) stands j h =
-    stays_as others l new (record s { down = lost_on s.down }) h
-    (with_lines others s l (lost_on s.down) s.up s.outstation_port s.master_port s.now j
-    (carries_lost laws.line s.down s.master_port s.outstation_port s.master.is_open j.going_down j.down) j.up)
+    stays_as others l new _ h
+    (with_lines others s l (lost_on s.channel.down) s.channel.up s.channel.outstation_port s.channel.master_port s.now j
+    (carries_lost laws.line s.channel.down s.channel.master_port s.channel.outstation_port s.master.is_open j.going_down j.down) j.up)
 event_follows laws takes panel shown others s new l (event.Lose way.Up) stands j h =
-    stays_as others l new (record s { up = lost_on s.up }) h
-    (with_lines others s l s.down (lost_on s.up) s.outstation_port s.master_port s.now j j.down
-    (carries_lost laws.line s.up s.outstation_port s.master_port s.outstation.core.is_open (map octets_of l.up) j.up))
+    stays_as others l new _ h
+    (with_lines others s l s.channel.down (lost_on s.channel.up) s.channel.outstation_port s.channel.master_port s.now j j.down
+    (carries_lost laws.line s.channel.up s.channel.outstation_port s.channel.master_port s.outstation.core.is_open (map octets_of l.up) j.up))
 event_follows laws takes panel shown others s new l (event.Damage way.Down octets) stands j h =
-    stays_as others l new (record s { down = h.damaged }) h.is
-    (with_lines others s l h.damaged s.up s.outstation_port s.master_port s.now j
-    (carries_damaged laws.line s.down h.damaged s.master_port s.outstation_port s.master.is_open j.going_down octets.items h.damages j.down) j.up)
+    stays_as others l new _ (h.after ∙ ap (λ (c : ChannelState). record s { channel = c }) h.damages.1)
+    (with_lines others s l new.channel.down s.channel.up s.channel.outstation_port s.channel.master_port s.now j
+    (carries_damaged laws.line s.channel.down new.channel.down s.channel.master_port s.channel.outstation_port s.master.is_open j.going_down octets.items
+    h.damages.0 j.down) j.up)
 event_follows laws takes panel shown others s new l (event.Damage way.Up octets) stands j h =
-    stays_as others l new (record s { up = h.damaged }) h.is
-    (with_lines others s l s.down h.damaged s.outstation_port s.master_port s.now j j.down
-    (carries_damaged laws.line s.up h.damaged s.outstation_port s.master_port s.outstation.core.is_open (map octets_of l.up) octets.items h.damages j.up))
+    stays_as others l new _ (h.after ∙ ap (λ (c : ChannelState). record s { channel = c }) h.damages.1)
+    (with_lines others s l s.channel.down new.channel.up s.channel.outstation_port s.channel.master_port s.now j j.down
+    (carries_damaged laws.line s.channel.up new.channel.up s.channel.outstation_port s.channel.master_port s.outstation.core.is_open (map octets_of l.up)
+    octets.items h.damages.0 j.up))
 event_follows laws takes panel shown others s new l (event.Change kind index reading) stands j h =
     subst (λ rows. Follows others (arriving rows) [] s.outstation.performed l new) (sym (append-nil _)) (change_follows laws others s new l kind index reading stands j h)
 event_follows laws takes panel shown others s new l (event.Ask task) stands j h = asks_follow laws others s new l task j h
 event_follows laws takes panel shown others s new l (event.Pass ms) stands j h =
-    stays_as others l new _ h (with_lines others s l s.down s.up s.outstation_port s.master_port _ j j.down j.up)
+    stays_as others l new _ h (with_lines others s l s.channel.down s.channel.up s.channel.outstation_port s.channel.master_port _ j j.down j.up)
 event_follows laws takes panel shown others s new l (event.Tick end.Master) stands j h = tick_follows laws others s new l j h
 event_follows laws takes panel shown others s new l (event.Tick end.Outstation) stands j h =
     plain_step laws.line others s new l (tick_of s.outstation s.now) (ticked_leaves s.outstation s.now).none (laws.outstation.silent_ticked s.outstation s.now) j

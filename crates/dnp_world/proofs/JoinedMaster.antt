@@ -19,12 +19,13 @@ use Rattle.dnp_master.specs.Calls.{Taking, ask_answer, asked, receive_of, unheed
 use Rattle.dnp_master.specs.Requests.{request_for}
 use Rattle.dnp_master.specs.State as master
 use Rattle.dnp_master.specs.Steps.{Asks as MasterAsks, PassesOver, TakesReport, TakesResponse, control_in}
+use Rattle.dnp_world.specs.Channels.{ChannelState}
 use Rattle.dnp_world.specs.Joined.{Carries, Joined, Follows}
 use Rattle.dnp_world.specs.Link.{Down, Asks, Link}
 use Rattle.dnp_world.specs.MasterSeen.{MasterTakes, master_hung_up, with_master_of}
 use Rattle.dnp_world.specs.Moves.{Move, Moves, LoseUp, lost_up, asking}
 use Rattle.dnp_world.specs.Octets.{commands_in}
-use Rattle.dnp_world.specs.OneLinkEvents.{LinkState, ComeUp, Receives, Takes, AreSent, IsAsked, AsksBy, AsksIfOwn, is_own, master_gone}
+use Rattle.dnp_world.specs.OneLinkEvents.{LinkState, ComeUp, Receives, Takes, IsAsked, AsksBy, AsksIfOwn, is_own, master_gone}
 use Rattle.dnp_world.specs.OutstationSeen.{down_of, octets_of}
 use Rattle.dnp_world.specs.Standing.{Stands}
 use Rattle.dnp_world.proofs.AskedCommands.{own_asks_none}
@@ -73,28 +74,30 @@ after_taking : {Sink : Type 0} → LineLaws → (takes : Sink → List Row → L
     → KeepsBounds s.master t → (s.master.is_open ≡ false → t ≡ unheeded s.master)
     → Joined others s l → MasterTakes t l → Takes takes t s new → Follows others [] [] s.outstation.performed l new
 after_taking {Sink = Sink} line takes others s new l t bounds quiet j m h =
+    let was : ChannelState = s.channel in
+    let is : ChannelState = new.channel in
     let link : Link = record l { master = m.link.master; down = m.link.down; took = m.link.took; phase = m.link.phase } in
     let after : LinkState Sink = record s {
       master = t.state;
       sink = new.sink;
-      down = new.down;
-      master_port = new.master_port;
+      channel = record was { down = is.down; master_port = is.master_port };
       taken = s.taken ++ t.events;
     } in
     let confirms : List (List ℕ) = option_to_list t.confirm in
-    let down : Carries new.down new.master_port s.outstation_port s.master.is_open (j.going_down ++ confirms) =
-    carries_sent line confirms s.down new.down s.master_port new.master_port s.outstation_port s.master.is_open j.going_down
-    (λ closed. ap (λ (x : Taking). option_to_list x.confirm) (quiet closed)) h.sent j.down in
+    let down : Carries is.down is.master_port was.outstation_port s.master.is_open (j.going_down ++ confirms) =
+    carries_sent line confirms was.down is.down was.master_port is.master_port was.outstation_port s.master.is_open j.going_down
+    (λ closed. ap (λ (x : Taking). option_to_list x.confirm) (quiet closed)) h.goes.sent j.down in
     let joined : Joined others after link = record {
       outstation = shows_still s.outstation l link refl refl refl j.outstation;
       master = m.master;
       number = bounds.number;
       going_down = j.going_down ++ confirms;
-      down = carries_still new.down new.master_port s.outstation_port s.master.is_open t.state.is_open (j.going_down ++ confirms)
+      down = carries_still is.down is.master_port was.outstation_port s.master.is_open t.state.is_open (j.going_down ++ confirms)
           (λ closed. ap (λ (x : Taking). x.state.is_open) (quiet closed) ∙ closed) down;
       down_is = down_is l.down m.link.down j.going_down confirms j.down_is m.down;
       octets = All-append AreOctets j.going_down confirms j.octets bounds.octets;
-      up = back_all_sent line confirms s.down new.down s.up s.master_port new.master_port s.outstation_port s.outstation.core.is_open (map octets_of l.up) h.sent j.up;
+      up = back_all_sent line confirms was.down is.down was.up was.master_port is.master_port was.outstation_port s.outstation.core.is_open (map octets_of l.up)
+          h.goes.sent j.up;
       taken = IsPermutation-trans (s.taken ++ t.events) (map buffered_row l.took ++ t.events) (map buffered_row m.link.took)
           (IsPermutation-append_left t.events s.taken (map buffered_row l.took) j.taken)
           (IsPermutation-sym (map buffered_row m.link.took) (map buffered_row l.took ++ t.events) m.took);
@@ -104,7 +107,9 @@ after_taking {Sink = Sink} line takes others s new l t bounds quiet j m h =
     record {
       link = link;
       moves = subst (λ (x : Link). Moves l x) m.same m.moves;
-      joined = subst (λ (x : LinkState Sink). Joined others x link) (sym h.after) joined;
+      joined = subst (λ (x : LinkState Sink). Joined others x link)
+          (sym (h.after
+          ∙ ap (λ (c : ChannelState). record s { master = t.state; sink = new.sink; channel = c; taken = s.taken ++ t.events }) h.goes.after)) joined;
       stood = sym (append-nil (map buffered_row l.stood));
       asked_is = sym (append-nil l.asked);
       commands = [];
@@ -128,22 +133,24 @@ after_receiving line takes others s new l octets (Err fault) which quiet m j h =
 pub came_up : {Sink : Type 0} → Laws → (takes : Sink → List Row → List Row → List Row → Sink → Type 0) (others : List Row)
     → (s new : LinkState Sink) (l : Link)
     (line : LineState) (port : PortState) (given : List (List ℕ))
-    → Stands l → (j : Joined others s l) → IsSamePort s.master_port port
-    → Came line s.outstation_port port s.outstation.core.is_open (map octets_of l.up) given
-    → ComeUp takes given (record s { up = line; master_port = port }) new → Follows others [] [] s.outstation.performed l new
+    → Stands l → (j : Joined others s l) → IsSamePort s.channel.master_port port
+    → Came line s.channel.outstation_port port s.outstation.core.is_open (map octets_of l.up) given
+    → ComeUp takes given (record s { channel = record s.channel { up = line; master_port = port } }) new → Follows others [] [] s.outstation.performed l new
 came_up {Sink = Sink} laws takes others s new l line port given stands j same came h = by came.gives
   where
     base : LinkState Sink
-    base = record s { up = line; master_port = port }
+    base = record s { channel = record s.channel { up = line; master_port = port } }
 
-    down : Carries s.down port s.outstation_port s.master.is_open j.going_down
-    down = back_came laws.line s.down s.master_port s.outstation_port port s.master.is_open j.going_down same.same_ends same.number j.down
+    down : Carries s.channel.down port s.channel.outstation_port s.master.is_open j.going_down
+    down =
+        back_came laws.line s.channel.down s.channel.master_port s.channel.outstation_port port s.master.is_open j.going_down
+        same.same_ends same.number j.down
 
     by : MayGive (map octets_of l.up) [] came.left given → Follows others [] [] s.outstation.performed l new
     by (Nothing left_is none) =
         stays_as others l new base (subst (λ (fs : List (List ℕ)). ComeUp takes fs base new) none h)
-        (with_lines others s l s.down line s.outstation_port port s.now j down
-        (subst (λ (fs : List (List ℕ)). Carries line s.outstation_port port s.outstation.core.is_open fs) left_is came.carries))
+        (with_lines others s l s.channel.down line s.channel.outstation_port port s.now j down
+        (subst (λ (fs : List (List ℕ)). Carries line s.channel.outstation_port port s.outstation.core.is_open fs) left_is came.carries))
     by (One n fragment at left_is one) =
         let first : Link = lost_up n l in
         let lose : Move l first = LoseUp n refl in
@@ -155,7 +162,8 @@ came_up {Sink = Sink} laws takes others s new l line port given stands j same ca
           down = down;
           down_is = j.down_is;
           octets = j.octets;
-          up = subst (λ (fs : List (List ℕ)). Carries line s.outstation_port port s.outstation.core.is_open fs) (left_is ∙ drop-map octets_of n l.up) came.carries;
+          up = subst (λ (fs : List (List ℕ)). Carries line s.channel.outstation_port port s.outstation.core.is_open fs)
+              (left_is ∙ drop-map octets_of n l.up) came.carries;
           taken = j.taken;
           released = j.released;
           left = j.left;
@@ -174,26 +182,31 @@ pub after_asking : {Sink : Type 0} → Laws → (others : List Row) (s new : Lin
     → AreOctets (request_octets (request_for s.master.seq task)) → Joined others s l
     → ask_answer s.master task ≡ Ok octets → IsAsked task octets s new → Follows others [] (commands_in octets) s.outstation.performed l new
 after_asking {Sink = Sink} laws others s new l task octets low j answer h =
+    let was : ChannelState = s.channel in
+    let is : ChannelState = new.channel in
     let m = laws.master.asks s.master s.now task octets l j.number j.master answer in
     let law : MasterAsks s.master task octets (asked s.master s.now task) =
     of_ok (λ octets. MasterAsks s.master task octets (asked s.master s.now task)) (ask_answer s.master task) octets answer (laws.master.asked s.master s.now task) in
     let link : Link = asking octets l in
-    let sent : AreSent (octets ∷ []) s.down s.master_port new.down new.master_port = (new.down, new.master_port, h.sent, (refl, refl)) in
-    let after : LinkState Sink = record s { master = asked s.master s.now task; down = new.down; master_port = new.master_port } in
-    let down : Carries new.down new.master_port s.outstation_port s.master.is_open (j.going_down ++ octets ∷ []) =
-    carries_sent laws.line (octets ∷ []) s.down new.down s.master_port new.master_port s.outstation_port s.master.is_open j.going_down
-    (λ closed. absurd (both_ways s.master.is_open closed law.was_open)) sent j.down in
+    let after : LinkState Sink = record s {
+      master = asked s.master s.now task;
+      channel = record was { down = is.down; master_port = is.master_port };
+    } in
+    let down : Carries is.down is.master_port was.outstation_port s.master.is_open (j.going_down ++ octets ∷ []) =
+    carries_sent laws.line (octets ∷ []) was.down is.down was.master_port is.master_port was.outstation_port s.master.is_open j.going_down
+    (λ closed. absurd (both_ways s.master.is_open closed law.was_open)) h.goes.sent j.down in
     let joined : Joined others after link = record {
       outstation = shows_still s.outstation l link refl refl refl j.outstation;
       master = m.1;
       number = subst (λ (n : ℕ). n < 16) (sym law.seq) j.number;
       going_down = j.going_down ++ octets ∷ [];
-      down = carries_still new.down new.master_port s.outstation_port s.master.is_open (asked s.master s.now task).is_open (j.going_down ++ octets ∷ [])
+      down = carries_still is.down is.master_port was.outstation_port s.master.is_open (asked s.master s.now task).is_open (j.going_down ++ octets ∷ [])
           (λ closed. absurd (both_ways s.master.is_open closed law.was_open)) down;
       down_is = down_is l.down (l.down ++ Asks octets ∷ []) j.going_down (octets ∷ []) j.down_is (ap (λ (d : Down). l.down ++ d ∷ []) (sym m.2));
       octets = All-append AreOctets j.going_down (octets ∷ []) j.octets
           (All-cons AreOctets octets [] (subst AreOctets (sym law.octets_are) low) (All-nil AreOctets));
-      up = back_all_sent laws.line (octets ∷ []) s.down new.down s.up s.master_port new.master_port s.outstation_port s.outstation.core.is_open (map octets_of l.up) sent j.up;
+      up = back_all_sent laws.line (octets ∷ []) was.down is.down was.up was.master_port is.master_port was.outstation_port s.outstation.core.is_open
+          (map octets_of l.up) h.goes.sent j.up;
       taken = j.taken;
       released = j.released;
       left = j.left;
@@ -201,7 +214,8 @@ after_asking {Sink = Sink} laws others s new l task octets low j answer h =
     record {
       link = link;
       moves = one_move l link m.0;
-      joined = subst (λ (x : LinkState Sink). Joined others x link) (sym h.after) joined;
+      joined = subst (λ (x : LinkState Sink). Joined others x link)
+          (sym (h.after ∙ ap (λ (c : ChannelState). record s { master = asked s.master s.now task; channel = c }) h.goes.after)) joined;
       stood = sym (append-nil (map buffered_row l.stood));
       asked_is = refl;
       commands = [];
@@ -242,7 +256,8 @@ tick_follows {Sink = Sink} laws others s new l j h =
       master = refl;
       number = by_number (master.is_timed_out s.master s.now);
       going_down = j.going_down;
-      down = carries_still s.down s.master_port s.outstation_port s.master.is_open m.is_open j.going_down (by_open (master.is_timed_out s.master s.now)) j.down;
+      down = carries_still s.channel.down s.channel.master_port s.channel.outstation_port s.master.is_open m.is_open j.going_down
+          (by_open (master.is_timed_out s.master s.now)) j.down;
       down_is = j.down_is;
       octets = j.octets;
       up = j.up;
@@ -278,10 +293,10 @@ master_goes {Sink = Sink} laws others s new l j h =
       master = refl;
       number = omega arith;
       going_down = j.going_down;
-      down = carries_mute laws.line s.down s.master_port s.outstation_port s.master.is_open j.going_down j.down;
+      down = carries_mute laws.line s.channel.down s.channel.master_port s.channel.outstation_port s.master.is_open j.going_down j.down;
       down_is = j.down_is;
       octets = j.octets;
-      up = carries_cleared laws.line s.up s.outstation_port s.master_port s.outstation.core.is_open (map octets_of l.up) j.up;
+      up = carries_cleared laws.line s.channel.up s.channel.outstation_port s.channel.master_port s.outstation.core.is_open (map octets_of l.up) j.up;
       taken = j.taken;
       released = j.released;
       left = j.left;

@@ -17,6 +17,7 @@ use Rattle.dnp_line.specs.Ports.{PortState}
 use Rattle.dnp_outstation.specs.Calls.{connection_after}
 use Rattle.dnp_outstation.specs.State as outstation
 use Rattle.dnp_outstation.specs.State.{Step, still}
+use Rattle.dnp_world.specs.Channels.{ChannelState}
 use Rattle.dnp_world.specs.Joined.{Carries, Joined, Follows}
 use Rattle.dnp_world.specs.Link.{Down, Link}
 use Rattle.dnp_world.specs.MasterSeen.{master_of}
@@ -35,10 +36,10 @@ pub record Beside {Sink : Type 0} (others listed : List Row) (s : LinkState Sink
   pub master : l.master ≡ master_of s.master
   pub number : s.master.seq < 16
   pub going_down : List (List ℕ)
-  pub down : Carries s.down s.master_port s.outstation_port s.master.is_open going_down
+  pub down : Carries s.channel.down s.channel.master_port s.channel.outstation_port s.master.is_open going_down
   pub down_is : l.down ≡ map down_of going_down
   pub octets : All (All (λ octet. octet < 2 ^ 8)) going_down
-  pub up : Carries s.up s.outstation_port s.master_port was_open (map octets_of l.up)
+  pub up : Carries s.channel.up s.channel.outstation_port s.channel.master_port was_open (map octets_of l.up)
   pub taken : IsPermutation s.taken (map buffered_row l.took)
   pub released : map buffered_row l.released ≡ s.released
   pub left : IsPermutation (map buffered_row l.left) (listed ++ others)
@@ -64,7 +65,7 @@ beside_of others left s l j = record {
 pub with_lines : {Sink : Type 0} (others : List Row) (s : LinkState Sink) (l : Link) (down up : LineState) (outstation_port master_port : PortState)
     (now : ℕ) (j : Joined others s l) → Carries down master_port outstation_port s.master.is_open j.going_down
     → Carries up outstation_port master_port s.outstation.core.is_open (map octets_of l.up)
-    → Joined others (record s { down = down; up = up; outstation_port = outstation_port; master_port = master_port; now = now }) l
+    → Joined others (record s { channel = record { down = down; up = up; outstation_port = outstation_port; master_port = master_port }; now = now }) l
 with_lines others s l down up outstation_port master_port now j going_down going_up = record {
   outstation = j.outstation;
   master = j.master;
@@ -126,27 +127,29 @@ pub after_step : {Sink : Type 0} → LineLaws → (others listed came : List Row
     → Beside others listed s was_open l → Simulates s.outstation came step l → Steps step s new
     → Follows others came [] s.outstation.performed l new
 after_step {Sink = Sink} line others listed came s new was_open l step grown quiet closes b sim steps =
+    let was : ChannelState = s.channel in
+    let is : ChannelState = new.channel in
     let after : LinkState Sink = record s {
       outstation = step.state;
-      up = new.up;
-      outstation_port = new.outstation_port;
+      channel = record was { up = is.up; outstation_port = is.outstation_port };
       released = s.released ++ step.does.discarded;
     } in
     let up_is : map octets_of sim.link.up ≡ map octets_of l.up ++ step.does.send =
     ap (map octets_of) sim.up ∙ map-append octets_of l.up sim.sent ∙ ap (λ (fs : List (List ℕ)). map octets_of l.up ++ fs) sim.octets in
-    let up : Carries new.up new.outstation_port s.master_port was_open (map octets_of l.up ++ step.does.send) =
-    carries_sent line step.does.send s.up new.up s.outstation_port new.outstation_port s.master_port was_open (map octets_of l.up) quiet steps.sent b.up in
+    let up : Carries is.up is.outstation_port was.master_port was_open (map octets_of l.up ++ step.does.send) =
+    carries_sent line step.does.send was.up is.up was.outstation_port is.outstation_port was.master_port was_open (map octets_of l.up) quiet
+    steps.goes.sent b.up in
     let joined : Joined others after sim.link = record {
       outstation = sim.shows;
       master = sim.master.master ∙ b.master;
       number = b.number;
       going_down = b.going_down;
-      down = back_all_sent line step.does.send s.up new.up s.down s.outstation_port new.outstation_port s.master_port s.master.is_open b.going_down
-          steps.sent b.down;
+      down = back_all_sent line step.does.send was.up is.up was.down was.outstation_port is.outstation_port was.master_port s.master.is_open b.going_down
+          steps.goes.sent b.down;
       down_is = sim.master.down ∙ b.down_is;
       octets = b.octets;
-      up = subst (λ (fs : List (List ℕ)). Carries new.up new.outstation_port s.master_port step.state.core.is_open fs) (sym up_is)
-          (carries_still new.up new.outstation_port s.master_port was_open step.state.core.is_open (map octets_of l.up ++ step.does.send) closes up);
+      up = subst (λ (fs : List (List ℕ)). Carries is.up is.outstation_port was.master_port step.state.core.is_open fs) (sym up_is)
+          (carries_still is.up is.outstation_port was.master_port was_open step.state.core.is_open (map octets_of l.up ++ step.does.send) closes up);
       taken = subst (λ (xs : List Buffered). IsPermutation s.taken (map buffered_row xs)) (sym sim.master.took) b.taken;
       released = sim.released ∙ ap (λ (xs : List Row). xs ++ step.does.discarded) b.released;
       left = subst (λ (xs : List Row). IsPermutation (map buffered_row sim.link.left) (xs ++ others)) (sym grown)
@@ -156,7 +159,10 @@ after_step {Sink = Sink} line others listed came s new was_open l step grown qui
     record {
       link = sim.link;
       moves = sim.moves;
-      joined = subst (λ (x : LinkState Sink). Joined others x sim.link) (sym steps.after) joined;
+      joined = subst (λ (x : LinkState Sink). Joined others x sim.link)
+          (sym (steps.after
+          ∙ ap (λ (c : ChannelState). record s { outstation = step.state; channel = c; released = s.released ++ step.does.discarded }) steps.goes.after))
+          joined;
       stood = sim.stood;
       asked_is = sim.master.asked ∙ sym (append-nil l.asked);
       commands = sim.commands;
@@ -232,22 +238,25 @@ come_down laws panel shown others s new l fragment rest stands j small down_is s
 
 pub came_down : {Sink : Type 0} → Laws → (panel : Panel) → ShowOctets panel → (others : List Row) (s new : LinkState Sink) (l : Link) (line : LineState) (port : PortState)
     → (given : List (List ℕ))
-    → Stands l → (j : Joined others s l) → IsSamePort s.outstation_port port
-    → Came line s.master_port port s.master.is_open j.going_down given
-    → ComeDown panel given (record s { down = line; outstation_port = port }) new → Follows others [] [] s.outstation.performed l new
+    → Stands l → (j : Joined others s l) → IsSamePort s.channel.outstation_port port
+    → Came line s.channel.master_port port s.master.is_open j.going_down given
+    → ComeDown panel given (record s { channel = record s.channel { down = line; outstation_port = port } }) new
+    → Follows others [] [] s.outstation.performed l new
 came_down {Sink = Sink} laws panel shown others s new l line port given stands j same came h = by came.gives
   where
     base : LinkState Sink
-    base = record s { down = line; outstation_port = port }
+    base = record s { channel = record s.channel { down = line; outstation_port = port } }
 
-    up : Carries s.up port s.master_port s.outstation.core.is_open (map octets_of l.up)
-    up = back_came laws.line s.up s.outstation_port s.master_port port s.outstation.core.is_open (map octets_of l.up) same.same_ends same.number j.up
+    up : Carries s.channel.up port s.channel.master_port s.outstation.core.is_open (map octets_of l.up)
+    up =
+        back_came laws.line s.channel.up s.channel.outstation_port s.channel.master_port port s.outstation.core.is_open (map octets_of l.up)
+        same.same_ends same.number j.up
 
     by : MayGive j.going_down [] came.left given → Follows others [] [] s.outstation.performed l new
     by (Nothing left_is none) =
         stays_as others l new base (subst (λ (fs : List (List ℕ)). ComeDown panel fs base new) none h)
-        (with_lines others s l line s.up port s.master_port s.now j
-        (subst (λ (fs : List (List ℕ)). Carries line s.master_port port s.master.is_open fs) left_is came.carries) up)
+        (with_lines others s l line s.channel.up port s.channel.master_port s.now j
+        (subst (λ (fs : List (List ℕ)). Carries line s.channel.master_port port s.master.is_open fs) left_is came.carries) up)
     by (One n fragment at left_is one) =
         let first : Link = lost_down n l in
         let there : drop n j.going_down ≡ fragment ∷ drop (suc n) j.going_down = left_at n j.going_down fragment at in

@@ -10,7 +10,7 @@ use Rattle.dnp_line.specs.Lines.{LineState, front_of, delivered_on, repeated_on,
 use Rattle.dnp_line.specs.Ports.{PortState, moved_on, reset_of}
 use Rattle.dnp_line.specs.Ways.{Way, WayEvent, Send, Deliver, Repeat, Lose, Damage, Clear, SenderReset, WayBack, Happens, Brings, opened_on, AFrame, NoFrame, HearsIfAny, all_sent_on}
 use Rattle.dnp_world.specs.Joined.{Carries}
-use Rattle.dnp_world.specs.OneLinkEvents.{IsSent, AreSent}
+use Rattle.dnp_world.specs.Channels.{IsSent, AreSent}
 
 -- what `dnp_line` promises
 pub record LineLaws : Type 0 where

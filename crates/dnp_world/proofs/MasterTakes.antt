@@ -63,6 +63,12 @@ pub named_by : (answer : Result MasterActions MasterFault) (r : Result Taking Ma
 named_by (Ok a) r P h = tt
 named_by (Err fault) r P h = elim h [ inl is ↦ inl is | inr k ↦ inr k.0 ]
 
+-- what the master refuses for itself is asked of no store
+pub unasked_by : (answer : Result MasterActions MasterFault) (r : Result Taking MasterFault) (keeps : Type 0) → IfErr r (λ fault. answer ≡ Err fault)
+    → OnErr answer keeps → IfErr r (λ _. keeps)
+unasked_by answer (Ok t) keeps refused kept = tt
+unasked_by answer (Err fault) keeps refused kept = subst (λ (x : Result MasterActions MasterFault). OnErr x keeps) refused kept
+
 -- stores that stay are what they were
 pub well_before : {A : Type 0} (honest : A → Type 0) (is_stopped : A → Bool) (old new : BookOutputs A) → new ≡ old → IsWell honest is_stopped new
     → IsWell honest is_stopped old
@@ -178,14 +184,14 @@ kept_above archive ledger old new (Err fault) link journal book indices = centre
 -- ---- what is taken, and the lines
 
 -- the rows that are dropped are no more than the octets' events
-pub few_dropped : {Station : Type 0} (honest : Station → Type 0) (takes : Taking → Type 0) (drops : Taking → List Row) (keeps : Type 0) (s : master.State)
+pub few_dropped : {Station : Type 0} (honest : Station → Type 0) (takes : Taking → Type 0) (drops : Taking → List Row) (keeps stays : Type 0) (s : master.State)
     (octets : List ℕ) (r : Result Taking MasterFault) (old new : Station) (answer : Result MasterActions MasterFault) (a : MasterActions)
     → IfOk r (λ t. PassesOver s t ⊎ (TakesResponse s octets t ⊎ TakesReport s octets t))
-    → TakesIn honest takes drops keeps r old new answer → answer ≡ Ok a → honest new → length a.dropped ≤ length (rows_in octets)
-few_dropped honest takes drops keeps s octets (Err fault) old new answer a law call is well =
+    → TakesIn honest takes drops keeps stays r old new answer → answer ≡ Ok a → honest new → length a.dropped ≤ length (rows_in octets)
+few_dropped honest takes drops keeps stays s octets (Err fault) old new answer a law call is well =
     let refused : Result MasterActions MasterFault = Err fault in
     let never : refused ≡ Ok a = sym call.refused ∙ is in absurd (cc)
-few_dropped honest takes drops keeps s octets (Ok t) old new answer a law call is well =
+few_dropped honest takes drops keeps stays s octets (Ok t) old new answer a law call is well =
     let of : a ≡ actions_of t (drops t) = (subst (λ (x : Result MasterActions MasterFault). IfOk x (λ a. (a ≡ actions_of t (drops t)) × takes t)) is (call.taken well)).0 in
     omega (
       arith,
@@ -196,15 +202,15 @@ few_dropped honest takes drops keeps s octets (Ok t) old new answer a law call i
     )
 
 -- what was taken
-pub taken_up : {Station : Type 0} (honest : Station → Type 0) (takes : Taking → Type 0) (drops : Taking → List Row) (keeps : Type 0)
+pub taken_up : {Station : Type 0} (honest : Station → Type 0) (takes : Taking → Type 0) (drops : Taking → List Row) (keeps stays : Type 0)
     (r : Result Taking MasterFault) (old new : Station) (answer : Result MasterActions MasterFault) (a : MasterActions) (lines mid last : ChannelState)
     (before after : List Row)
-    → TakesIn honest takes drops keeps r old new answer → answer ≡ Ok a → honest new → mid ≡ lines → GoDown (option_to_list a.send) mid last
-    → after ≡ before ++ a.dropped → TakesBy r (λ t. takes t × (after ≡ before ++ drops t)) (keeps × (after ≡ before)) lines last
-taken_up honest takes drops keeps (Err fault) old new answer a lines mid last before after call is well same down listed =
+    → TakesIn honest takes drops keeps stays r old new answer → answer ≡ Ok a → honest new → mid ≡ lines → GoDown (option_to_list a.send) mid last
+    → after ≡ before ++ a.dropped → TakesBy r (λ t. takes t × (after ≡ before ++ drops t)) (stays × (after ≡ before)) lines last
+taken_up honest takes drops keeps stays (Err fault) old new answer a lines mid last before after call is well same down listed =
     let refused : Result MasterActions MasterFault = Err fault in
     let never : refused ≡ Ok a = sym call.refused ∙ is in absurd (cc)
-taken_up honest takes drops keeps (Ok t) old new answer a lines mid last before after call is well same down listed =
+taken_up honest takes drops keeps stays (Ok t) old new answer a lines mid last before after call is well same down listed =
     let both = subst (λ (x : Result MasterActions MasterFault). IfOk x (λ a. (a ≡ actions_of t (drops t)) × takes t)) is (call.taken well) in (
       subst (λ (o : Option (List ℕ)). GoDown (option_to_list o) lines last) (ap (λ (x : MasterActions). x.send) both.0)
           (subst (λ (c : ChannelState). GoDown (option_to_list a.send) c last) same down),
@@ -212,17 +218,17 @@ taken_up honest takes drops keeps (Ok t) old new answer a lines mid last before 
     )
 
 -- what the master refused for itself
-pub refused_up : {Station : Type 0} (honest : Station → Type 0) (takes : Taking → Type 0) (drops : Taking → List Row) (keeps : Type 0)
+pub refused_up : {Station : Type 0} (honest : Station → Type 0) (takes : Taking → Type 0) (drops : Taking → List Row) (keeps stays : Type 0)
     (r : Result Taking MasterFault) (old new : Station) (answer : Result MasterActions MasterFault) (fault : MasterFault) (lines last : ChannelState)
     (before after : List Row)
-    → TakesIn honest takes drops keeps r old new answer → answer ≡ Err fault → (IsSinkFault fault → ⊥) → honest new → last ≡ lines → after ≡ before
-    → TakesBy r (λ t. takes t × (after ≡ before ++ drops t)) (keeps × (after ≡ before)) lines last
-refused_up honest takes drops keeps r old new answer fault lines last before after call is none well same listed =
+    → TakesIn honest takes drops keeps stays r old new answer → answer ≡ Err fault → (IsSinkFault fault → ⊥) → honest new → last ≡ lines → after ≡ before
+    → TakesBy r (λ t. takes t × (after ≡ before ++ drops t)) (stays × (after ≡ before)) lines last
+refused_up honest takes drops keeps stays r old new answer fault lines last before after call is none well same listed =
     let named = subst (λ (x : Result MasterActions MasterFault). IfErr x (λ e. (r ≡ Err e) ⊎ IsSinkFault e)) is call.named in
     let own : r ≡ Err fault = elim named [ inl e ↦ e | inr k ↦ absurd (none k) ] in
-    let kept : keeps = subst (λ (x : Result MasterActions MasterFault). OnErr x keeps) is (call.kept well) in
-    subst (λ (x : Result Taking MasterFault). TakesBy x (λ t. takes t × (after ≡ before ++ drops t)) (keeps × (after ≡ before)) lines last) (sym own)
-    (same, (kept, listed))
+    let stayed : stays = subst (λ (x : Result Taking MasterFault). IfErr x (λ _. stays)) own (call.unasked well) in
+    subst (λ (x : Result Taking MasterFault). TakesBy x (λ t. takes t × (after ≡ before ++ drops t)) (stays × (after ≡ before)) lines last) (sym own)
+    (same, (stayed, listed))
 
 -- the line up has then given its front unit
 pub settled : (r : Result Taking MasterFault) (takes : Taking → Type 0) (same : Type 0) (repeats : Bool) (old new : ChannelState)

@@ -33,7 +33,8 @@ use Rattle.dnp_pointdb.specs.Plan as points
 use Rattle.dnp_pointdb.specs.Sound as database
 use Rattle.dnp_pointdb.specs.declared.times.Times.{Times}
 use Rattle.dnp_world.specs.Behind.{IsBehind, IsUntouched, Links}
-use Rattle.dnp_world.specs.FreshSystems.{fresh_channel, fresh_substation, fresh_substations, fresh_system}
+use Rattle.dnp_world.specs.Channels.{fresh_channel}
+use Rattle.dnp_world.specs.FreshSystems.{fresh_substation, fresh_substations, fresh_system}
 use Rattle.dnp_world.specs.Joined.{Joined}
 use Rattle.dnp_world.specs.Kept.{Kept, kept_in, lane_rows_of, nothing_kept, report_of, shown_of}
 use Rattle.dnp_world.specs.Lanes.{HasLanes, fresh_link}

@@ -1,19 +1,21 @@
--- What comes over the lines of a link by itself.
-use Rattle.std.proofs.Common.{◌≡◌, ℕ, Bool, true, false, List, [], ◌∷◌, ◌++◌, length, take, ◌⊎◌, inl, inr, Option, Some, Result, Ok, Err, IfOk, IfErr, sym, ap, ◌∙◌, subst, arith}
-use Rattle.std.specs.Prelude.{if◌then◌else◌, option_to_list, OnErr}
+-- What comes over the lines of a link.
+use Rattle.std.proofs.Common.{◌≡◌, ℕ, Bool, true, false, List, [], ◌∷◌, ◌++◌, length, take, ◌⊎◌, inl, inr, Option, Some, Result, Ok, Err, OnOk, sym, ap, ◌∙◌, subst, arith}
+use Rattle.std.specs.Prelude.{if◌then◌else◌, OnErr}
 use Rattle.std.proofs.lemmas.List.{take_all}
 use Rattle.dnp_objects.specs.declared.row.Row.{Row}
 use Rattle.dnp_line.specs.Lines.{LineState, front_of}
 use Rattle.dnp_line.specs.Ports.{PortState, IsShown}
 use Rattle.dnp_line.specs.Ways.{Hears, HearsIfAny}
-use Rattle.dnp_master.specs.declared.actions.MasterActions.{MasterActions}
 use Rattle.dnp_master.specs.declared.fault.MasterFault.{MasterFault}
-use Rattle.dnp_master.specs.Calls.{Taking, receive_of, actions_of, has_rows}
-use Rattle.dnp_master.specs.Sinks.{IsSinkFault}
+use Rattle.dnp_master.specs.Calls.{Taking, receive_of}
 use Rattle.dnp_master.specs.State as master
 use Rattle.dnp_master.specs.Steps.{PassesOver, TakesResponse, TakesReport}
+use Rattle.dnp_world.specs.Channels.{ChannelState}
+use Rattle.dnp_world.specs.MasterEnds.{ComesToMaster, TakesBy, TakesGiven}
 use Rattle.dnp_world.specs.Octets.{rows_in}
-use Rattle.dnp_world.specs.OneLinkEvents.{LinkState, AreSent, Receives}
+use Rattle.dnp_world.specs.OneLinkEvents.{LinkState, ComesUp, ComeUp, IsStopped, Receives}
+use Rattle.dnp_world.specs.OneLinkParts.{KeepsBeside, ReceiverTakes}
+use Rattle.dnp_world.specs.declared.one_link.receiver.Receiver.{Receiver}
 use Rattle.dnp_world.proofs.MasterMoves.{events_are_rows}
 
 -- ---- the port
@@ -35,9 +37,9 @@ heard_part line unit old new whole fragment front hears shown is =
 
 -- ---- the master
 
-abbrev pub Law : Type 0
-Law = (s : master.State) (now : ℕ) (octets : List ℕ) → IfOk (receive_of s now octets) (λ t.
-    PassesOver s t ⊎ (TakesResponse s octets t ⊎ TakesReport s octets t))
+-- what an append makes of a sink
+abbrev pub Sink : Type 0 → Type 1
+Sink S = S → List Row → List Row → List Row → S → Type 0
 
 -- the first of the octets' events, as many as were taken, are those that were taken
 all_first : (rows events : List Row) → events ≡ rows → take (length events) rows ≡ events
@@ -58,44 +60,68 @@ events_first s octets t h =
       ]
     ]
 
--- what was answered Ok
-pub taken_done : {S : Type 0} (takes : S → List Row → List Row → List Row → S → Type 0) (dropped_is : List Row → Type 0) (old : LinkState S) (octets : List ℕ)
-    (r : Result Taking MasterFault) (answer : Result MasterActions MasterFault) (a : MasterActions) (state : master.State) (sink : S) (down : LineState)
-    (port : PortState) (taken : List Row)
-    → IfErr r (λ fault. answer ≡ Err fault) → answer ≡ Ok a
-    → IfOk r (λ t. PassesOver old.master t ⊎ (TakesResponse old.master octets t ⊎ TakesReport old.master octets t))
-    → IfOk r (λ t. a ≡ actions_of t a.dropped) → IfOk r (λ t. state ≡ t.state)
-    → IfOk r (λ t. has_rows t ≡ true → takes old.sink t.events t.statics a.dropped sink)
-    → IfOk r (λ t. has_rows t ≡ false → (sink ≡ old.sink) × dropped_is a.dropped)
-    → AreSent (option_to_list a.send) old.down old.master_port down port → taken ≡ old.taken ++ take a.taken (rows_in octets)
-    → Receives takes r old (record old { master = state; sink = sink; down = down; master_port = port; taken = taken })
-taken_done takes dropped_is old octets (Err e) answer a state sink down port taken refused is law actions after gives spares sent lists =
-    let fault : Result MasterActions MasterFault = Err e in
-    let never : fault ≡ Ok a = sym refused ∙ is in absurd (cc)
-taken_done {S} takes dropped_is old octets (Ok t) answer a state sink down port taken refused is law actions after gives spares sent lists =
-    let count : a.taken ≡ length t.events = ap (λ (x : MasterActions). x.taken) actions in
-    let events : taken ≡ old.taken ++ t.events =
-    lists ∙ ap (λ (n : ℕ). old.taken ++ take n (rows_in octets)) count ∙ ap (λ (rows : List Row). old.taken ++ rows) (events_first old.master octets t law) in
-    record {
-      given = λ some. (a.dropped, gives some);
-      spared = λ none. (spares none).0;
-      sent = subst (λ (o : Option (List ℕ)). AreSent (option_to_list o) old.down old.master_port down port) (ap (λ (x : MasterActions). x.send) actions) sent;
-      after =
-          ap (λ (s : master.State). record old { master = s; sink = sink; down = down; master_port = port; taken = taken }) after
-          ∙ ap (λ (rows : List Row). record old { master = t.state; sink = sink; down = down; master_port = port; taken = rows }) events;
-    }
+-- ---- what comes up a link by itself
 
--- what the master refused for itself
-pub refused_done : {S : Type 0} (takes : S → List Row → List Row → List Row → S → Type 0) (old : LinkState S) (r : Result Taking MasterFault) (e : MasterFault)
-    (state : master.State) (sink : S) (down : LineState) (taken : List Row) → r ≡ Err e → state ≡ old.master → OnErr r (sink ≡ old.sink)
-    → down ≡ old.down → taken ≡ old.taken → Receives takes r old (record old { master = state; sink = sink; down = down; taken = taken })
-refused_done {S} takes old r e state sink down taken is same unasked same_line same_rows =
-    let same_sink : sink ≡ old.sink = subst (λ (x : Result Taking MasterFault). OnErr x (sink ≡ old.sink)) is unasked in
-    subst (λ (x : Result Taking MasterFault). Receives takes x old (record old { master = state; sink = sink; down = down; taken = taken })) (sym is)
-    (ap (λ (s : master.State). record old { master = s; sink = sink; down = down; taken = taken }) same
-    ∙ ap (λ (x : S). record old { sink = x; down = down; taken = taken }) same_sink
-    ∙ ap (λ (l : LineState). record old { down = l; taken = taken }) same_line ∙ ap (λ (rows : List Row). record old { taken = rows }) same_rows)
+-- the link with this master and sink, over these lines
+abbrev pub with_receiver : {S : Type 0} → LinkState S → Receiver S → ChannelState → LinkState S
+with_receiver s r lines = record s { master = r.master; sink = r.sink; channel = lines; taken = r.taken.items }
 
--- the fault is one of the master's own
-pub own_fault : (r : Result Taking MasterFault) (e : MasterFault) (P : Type 0) → (r ≡ Err e) ⊎ (IsSinkFault e × P) → (IsSinkFault e → ⊥) → r ≡ Err e
-own_fault r e P h none = elim h [ inl is ↦ is | inr k ↦ absurd (none k.0) ]
+-- nothing was taken
+stays : {S : Type 0} (s : LinkState S) (old new : Receiver S) (before after : ChannelState) → KeepsBeside (λ a b. b ≡ a) old new → after ≡ before
+    → with_receiver s new after ≡ with_receiver s old before
+stays {S} s old new before after k same =
+    ap (with_receiver s new) same ∙ ap (λ (m : master.State). record s { master = m; sink = new.sink; channel = before; taken = new.taken.items }) k.master
+    ∙ ap (λ (x : S). record s { master = old.master; sink = x; channel = before; taken = new.taken.items }) k.sink
+    ∙ ap (λ (rows : List Row). record s { master = old.master; sink = old.sink; channel = before; taken = rows }) k.listed
+
+come_up : {S : Type 0} (takes : Sink S) (s : LinkState S) (old new : Receiver S) (before after : ChannelState) (drops : Taking → Type 0) (none : Type 0)
+    (r : Result Taking MasterFault)
+    → TakesBy r (λ t. ReceiverTakes takes t old new × drops t) (KeepsBeside (λ a b. b ≡ a) old new × none) before after
+    → Receives takes r (with_receiver s old before) (with_receiver s new after)
+come_up takes s old new before after drops none (Ok t) (down, took) = record {
+  rows = took.0.rows;
+  goes = down;
+  after = ap (λ (m : master.State). record s { master = m; sink = new.sink; channel = after; taken = new.taken.items }) took.0.master
+      ∙ ap (λ (rows : List Row). record s { master = t.state; sink = new.sink; channel = after; taken = rows }) took.0.listed;
+}
+come_up takes s old new before after drops none (Err fault) (same, kept) = stays s old new before after kept.0 same
+
+given_up : {S : Type 0} (takes : Sink S) (s : LinkState S) (old new : Receiver S) (before after : ChannelState) (drops : Taking → Type 0) (none : Type 0)
+    (given : List (List ℕ))
+    → TakesGiven given old.master s.now (λ t. ReceiverTakes takes t old new × drops t) (KeepsBeside (λ a b. b ≡ a) old new × none) before after
+    → ComeUp takes given (with_receiver s old before) (with_receiver s new after)
+given_up takes s old new before after drops none [] (same, kept) = stays s old new before after kept.0 same
+given_up takes s old new before after drops none (fragment ∷ others) h =
+    come_up takes s old new before after drops none (receive_of old.master s.now fragment) h
+
+-- what comes to the master's end is what comes up the link
+pub comes_up : {S : Type 0} (takes : Sink S) (s : LinkState S) (old new : Receiver S) (before after : ChannelState) (drops : Taking → Type 0) (none : Type 0)
+    (left : LineState → LineState)
+    → ComesToMaster left old.master s.now (λ t. ReceiverTakes takes t old new × drops t) (KeepsBeside (λ a b. b ≡ a) old new × none) before after
+    → ComesUp takes (left before.up) (with_receiver s old before) (with_receiver s new after)
+comes_up takes s old new before after drops none left c = record {
+  port = c.port;
+  given = c.given;
+  heard = c.heard;
+  came = given_up takes s old new (record before { up = left before.up; master_port = c.port }) after drops none c.given c.came;
+}
+
+-- what its sink refused
+pub stops_up : {S : Type 0} (keeps : S → S → Type 0) (s : LinkState S) (old new : Receiver S) (before after : ChannelState) → KeepsBeside keeps old new
+    → after ≡ before → IsStopped keeps (with_receiver s old before) (with_receiver s new after)
+stops_up keeps s old new before after k same = record {
+  kept = k.sink;
+  after = ap (with_receiver s new) same
+      ∙ ap (λ (m : master.State). record s { master = m; sink = new.sink; channel = before; taken = new.taken.items }) k.master
+      ∙ ap (λ (rows : List Row). record s { master = old.master; sink = new.sink; channel = before; taken = rows }) k.listed;
+}
+
+-- ---- answers
+
+pub on_ok : {A E : Type 0} (r : Result A E) (P Q : Type 0) → (P → Q) → OnOk r P → OnOk r Q
+on_ok (Ok x) P Q f h = f h
+on_ok (Err e) P Q f h = tt
+
+pub on_err : {A E : Type 0} (r : Result A E) (P Q R : Type 0) → (P → Q → R) → OnErr r P → OnErr r Q → OnErr r R
+on_err (Ok x) P Q R f h k = tt
+on_err (Err e) P Q R f h k = f h k

@@ -9,57 +9,47 @@ use Rattle.dnp_eventbuf.specs.Stock.{rows_in}
 use Rattle.dnp_line.specs.Ports.{PortState}
 use Rattle.dnp_outstation.specs.Calls.{connection_after}
 use Rattle.dnp_outstation.specs.State.{State, Step, Actions}
-use Rattle.dnp_world.specs.Channels.{ChannelState, AnswersTo, ComesToOutstation, GoUp}
-use Rattle.dnp_world.specs.OneLinkEvents.{LinkState, ComeDown, ComesDown, Steps}
-use Rattle.dnp_world.proofs.OneLinkSteps.{Laws, few_released, steps, steps_on}
+use Rattle.dnp_world.specs.Channels.{ChannelState, AnswersTo, ComesToOutstation, GoUp, left_at, left_by}
+use Rattle.dnp_world.specs.OneLinkEvents.{LinkState, ComeDown, ComesDown}
+use Rattle.dnp_world.specs.declared.link_event.Way.TheVariants as way
+use Rattle.dnp_world.proofs.OneLinkSteps.{Laws, few_released, steps}
 
--- the lines and ports of a link
-abbrev pub channel_of : {S : Type 0} → LinkState S → ChannelState
-channel_of s = record { down = s.down; up = s.up; outstation_port = s.outstation_port; master_port = s.master_port }
-
--- the link with another outstation, other lines and ports, and another list of what was released
+-- the link with another outstation, other lines, and another list of what was released
 abbrev pub with_parts : {S : Type 0} → LinkState S → State → ChannelState → List Row → LinkState S
-with_parts s state c released = record s {
-  outstation = state;
-  down = c.down;
-  up = c.up;
-  outstation_port = c.outstation_port;
-  master_port = c.master_port;
-  released = released;
-}
+with_parts s state lines released = record s { outstation = state; channel = lines; released = released }
 
--- a step of the outstation that releases nothing
-pub stepped : {S : Type 0} (old : LinkState S) (step : Step) (state : State) (does : Actions) (new : ChannelState)
-    → step ≡ record { state = state; does = does } → GoUp does.send (channel_of old) new → step.does.discarded ≡ []
-    → Steps step old (with_parts old state new old.released)
-stepped {S} old step state does new e up none =
-    subst (λ (x : LinkState S). Steps step old x) (sym (ap (λ (c : ChannelState). with_parts old state c old.released) up.after))
-    (steps_on old step state does new.up new.outstation_port e up.sent none)
+-- the line down has then given its front unit
+settled : (repeats : Bool) (fragments : List (List ℕ)) (old new : ChannelState) → GoUp fragments old new
+    → GoUp fragments (record old { down = left_by repeats old.down }) (record new { down = left_by repeats new.down })
+settled repeats fragments old new up =
+    record { sent = up.sent; after = ap (λ (c : ChannelState). record c { down = left_by repeats c.down }) up.after }
 
-come : {S : Type 0} (follows : List Command → Type 0) (panel : Panel) (old : LinkState S) (state : State) (does : Actions) (answered : Bool) (port : PortState) (new : ChannelState)
-    (released : List Row) (given : List (List ℕ))
-    → AnswersTo given follows panel old.now old.outstation state does answered (record (channel_of old) { outstation_port = port }) new
+come : {S : Type 0} (follows : List Command → Type 0) (panel : Panel) (repeats : Bool) (old : LinkState S) (state : State) (does : Actions)
+    (answered : Bool) (port : PortState) (lines : ChannelState) (released : List Row) (given : List (List ℕ))
+    → AnswersTo given follows panel old.now old.outstation state does answered (record old.channel { outstation_port = port }) lines
     → (answered ≡ true → released ≡ old.released ++ does.discarded) → (answered ≡ false → released ≡ old.released)
-    → ComeDown panel given (record old { outstation_port = port }) (with_parts old state new released)
-come follows panel old state does answered port new released [] (none, same, is, _) some all =
-    ap (λ (s : State). with_parts old s new released) same ∙ ap (λ (c : ChannelState). with_parts old old.outstation c released) is
-    ∙ ap (λ (rows : List Row). with_parts old old.outstation (record (channel_of old) { outstation_port = port }) rows) (all none)
-come {S} follows panel old state does answered port new released (fragment ∷ others) (one, is, up, _) some all =
-    let base : LinkState S = record old { outstation_port = port } in
-    let step : Step = connection_after old.outstation panel old.now fragment in
-    subst (λ (x : LinkState S). Steps step base x) (sym (ap (λ (c : ChannelState). with_parts old state c released) up.after))
-    (steps base step state does new.up new.outstation_port released is up.sent (some one))
+    → ComeDown panel given (record old { channel = record old.channel { down = left_by repeats old.channel.down; outstation_port = port } })
+    (with_parts old state (left_at way.Down repeats lines) released)
+come follows panel repeats old state does answered port lines released [] (none, same, is, _) some all =
+    ap (λ (s : State). with_parts old s (left_at way.Down repeats lines) released) same
+    ∙ ap (λ (c : ChannelState). with_parts old old.outstation (left_at way.Down repeats c) released) is
+    ∙ ap (λ (rows : List Row). with_parts old old.outstation (left_at way.Down repeats (record old.channel { outstation_port = port })) rows) (all none)
+come {S} follows panel repeats old state does answered port lines released (fragment ∷ others) (one, is, up, _) some all =
+    steps (record old { channel = record old.channel { down = left_by repeats old.channel.down; outstation_port = port } })
+    (connection_after old.outstation panel old.now fragment) state does (left_at way.Down repeats lines) released is
+    (settled repeats does.send (record old.channel { outstation_port = port }) lines up) (some one)
 
 -- what comes to the outstation's end is what comes down the link
-pub comes : {S : Type 0} (follows : List Command → Type 0) (panel : Panel) (old : LinkState S) (state : State) (does : Actions) (answered : Bool) (new : ChannelState) (released : List Row)
-    → ComesToOutstation follows panel old.now old.outstation state does answered (channel_of old) new
+pub comes : {S : Type 0} (follows : List Command → Type 0) (panel : Panel) (repeats : Bool) (old : LinkState S) (state : State) (does : Actions)
+    (answered : Bool) (lines : ChannelState) (released : List Row)
+    → ComesToOutstation follows panel old.now old.outstation state does answered old.channel lines
     → (answered ≡ true → released ≡ old.released ++ does.discarded) → (answered ≡ false → released ≡ old.released)
-    → ComesDown panel old.down old (with_parts old state new released)
-comes follows panel old state does answered new released c some all = record {
+    → ComesDown panel (left_by repeats old.channel.down) old (with_parts old state (left_at way.Down repeats lines) released)
+comes follows panel repeats old state does answered lines released c some all = record {
   port = c.port;
   given = c.given;
   heard = c.heard;
-  came = come follows panel old state does answered c.port new released c.given c.came some all;
+  came = come follows panel repeats old state does answered c.port lines released c.given c.came some all;
 }
 
 few_given : Laws → (follows : List Command → Type 0) (panel : Panel) (now : ℕ) (before after : State) (does : Actions) (answered : Bool) (old new : ChannelState) (given : List (List ℕ))

@@ -75,8 +75,3 @@ no_rows octets fault e = ap answered_events e
 
 pub extended : (ok : Bool) (old other new : List Row) → new ≡ (cond ok (old ++ other) old) → ok ≡ true → new ≡ old ++ other
 extended ok old other new is done = is ∙ ap (λ (b : Bool). cond b (old ++ other) old) done
-
-pub take_few : {A : Type 0} (n : ℕ) (xs : List A) → length (take n xs) ≤ length xs
-take_few zero xs = omega arith
-take_few (suc n) [] = omega arith
-take_few (suc n) (x ∷ xs) = omega (arith, take_few n xs)

@@ -11,7 +11,7 @@ use Rattle.dnp_line.specs.Lines.{LineState, HeldLine, is_broken, line_of, sent_o
 use Rattle.dnp_line.specs.Ports.{PortState}
 use Rattle.dnp_line.specs.Ways.{Way, AreSpelled, all_sent_on, Sends}
 use Rattle.dnp_outstation.specs.Station.{sent_of}
-use Rattle.dnp_world.specs.OneLinkEvents.{IsSent, AreSent}
+use Rattle.dnp_world.specs.Channels.{IsSent, AreSent}
 
 -- ---- one fragment
 

@@ -14,8 +14,6 @@ use Rattle.dnp_pointdb.specs.declared.fault.ChangeFault.{ChangeFault}
 use Rattle.dnp_controls.specs.Panel.{Panel}
 use Rattle.dnp_eventbuf.specs.declared.numbered.Numbered.{Numbered}
 use Rattle.dnp_eventbuf.specs.Stock.{Stock, exhausts, with_rows, LaneState, lane_at, is_full, row_of, dropped_from, dropped_by, up_to, lanes_up_to, lane_rows, rows_in}
-use Rattle.dnp_line.specs.Lines.{LineState}
-use Rattle.dnp_line.specs.Ports.{PortState}
 use Rattle.dnp_outstation.specs.declared.case.Case.{Case}
 use Rattle.dnp_outstation.specs.declared.case.Case.TheVariants.{PassedOver, Confirms, ConfirmsUnsolicited, Stray, Again, Waits, Asks}
 use Rattle.dnp_outstation.specs.declared.fault.Fault.{Fault}
@@ -28,28 +26,26 @@ use Rattle.dnp_outstation.specs.Content.{Content, content_from}
 use Rattle.dnp_outstation.specs.Offer.{pushed}
 use Rattle.dnp_outstation.specs.Calls.{connection_after, change_of}
 use Rattle.dnp_outstation.specs.Links.{CaseSays, Releases, ReleasesNone}
-use Rattle.dnp_world.specs.OneLinkEvents.{LinkState, AreSent, Steps, Changes}
+use Rattle.dnp_world.specs.Channels.{ChannelState, GoUp}
+use Rattle.dnp_world.specs.OneLinkEvents.{LinkState, Steps, Changes}
 
 -- ---- a step
 
-pub steps : {S : Type 0} (old : LinkState S) (step : Step) (state : State) (does : Actions) (up : LineState) (port : PortState) (released : List Row)
-    → step ≡ record { state = state; does = does } → AreSent does.send old.up old.outstation_port up port → released ≡ old.released ++ does.discarded
-    → Steps step old (record old { outstation = state; up = up; outstation_port = port; released = released })
-steps {S} old step state does up port released e sent lists =
-    let new : LinkState S = record old { outstation = state; up = up; outstation_port = port; released = released } in
+pub steps : {S : Type 0} (old : LinkState S) (step : Step) (state : State) (does : Actions) (lines : ChannelState) (released : List Row)
+    → step ≡ record { state = state; does = does } → GoUp does.send old.channel lines → released ≡ old.released ++ does.discarded
+    → Steps step old (record old { outstation = state; channel = lines; released = released })
+steps {S} old step state does lines released e goes lists =
+    let new : LinkState S = record old { outstation = state; channel = lines; released = released } in
     subst (λ (x : Step). Steps x old new) (sym e)
-    (record {
-      sent = sent;
-      after = ap (λ (rows : List Row). record old { outstation = state; up = up; outstation_port = port; released = rows }) lists;
-    })
+    (record { goes = goes; after = ap (λ (rows : List Row). record old { outstation = state; channel = lines; released = rows }) lists })
 
 -- a step that releases nothing
-pub steps_on : {S : Type 0} (old : LinkState S) (step : Step) (state : State) (does : Actions) (up : LineState) (port : PortState)
-    → step ≡ record { state = state; does = does } → AreSent does.send old.up old.outstation_port up port → step.does.discarded ≡ []
-    → Steps step old (record old { outstation = state; up = up; outstation_port = port })
-steps_on old step state does up port e sent none =
+pub steps_on : {S : Type 0} (old : LinkState S) (step : Step) (state : State) (does : Actions) (lines : ChannelState)
+    → step ≡ record { state = state; does = does } → GoUp does.send old.channel lines → step.does.discarded ≡ []
+    → Steps step old (record old { outstation = state; channel = lines })
+steps_on old step state does lines e goes none =
     let still : does.discarded ≡ [] = ap (λ (x : Step). x.does.discarded) (sym e) ∙ none in
-    steps old step state does up port old.released e sent
+    steps old step state does lines old.released e goes
     (sym (ap (λ (rows : List Row). old.released ++ rows) still ∙ append-nil old.released))
 
 -- ---- how many rows leave
@@ -158,17 +154,17 @@ few_dropped s now kind index reading made =
 
 -- a reading whose row was made, and what the lanes dropped for it
 pub changes : {S X : Type 0} (P : Type 0) (old : LinkState S) (kind : Kind) (index : ℕ) (reading : Reading) (r : Result (Option LaneRow) ChangeFault)
-    (answer : Result X Fault) (x : X) (does : Actions) (state : State) (up : LineState) (port : PortState) (left : List Row)
+    (answer : Result X Fault) (x : X) (does : Actions) (state : State) (lines : ChannelState) (left : List Row)
     → IfErr r (λ e. (answer ≡ Err (change_fault_of e)) × P) → answer ≡ Ok x
     → IfOk r (λ made. change_of old.outstation old.now kind index reading made ≡ record { state = state; does = does })
     → ((made : Option LaneRow) → (change_of old.outstation old.now kind index reading made).does.discarded ≡ [])
     → IfOk r (λ made. IfSome made (λ row. exhausts old.outstation.lanes (row ∷ []) ≡ false))
-    → AreSent does.send old.up old.outstation_port up port → (length does.overwritten ≤ 1 → left ≡ old.left ++ does.overwritten)
-    → Changes r kind index reading old (record old { outstation = state; up = up; outstation_port = port; left = left })
-changes {X = X} P old kind index reading (Err e) answer x does state up port left refused is changed none numbers sent lists =
+    → GoUp does.send old.channel lines → (length does.overwritten ≤ 1 → left ≡ old.left ++ does.overwritten)
+    → Changes r kind index reading old (record old { outstation = state; channel = lines; left = left })
+changes {X = X} P old kind index reading (Err e) answer x does state lines left refused is changed none numbers goes lists =
     let fault : Result X Fault = Err (change_fault_of e) in
     let never : fault ≡ Ok x = sym refused.0 ∙ is in absurd (cc)
-changes {S} P old kind index reading (Ok made) answer x does state up port left refused is changed none numbers sent lists =
+changes {S} P old kind index reading (Ok made) answer x does state lines left refused is changed none numbers goes lists =
     let step : Step = change_of old.outstation old.now kind index reading made in
     let dropped : does.overwritten ≡ step.does.overwritten = ap (λ (x : Step). x.does.overwritten) (sym changed) in
     let few : length does.overwritten ≤ 1 =
@@ -176,6 +172,6 @@ changes {S} P old kind index reading (Ok made) answer x does state up port left 
     let left_is : left ≡ old.left ++ step.does.overwritten = lists few ∙ ap (λ (rows : List Row). old.left ++ rows) dropped in
     let before : LinkState S = record old { left = old.left ++ step.does.overwritten } in (
       numbers,
-      subst (λ (rows : List Row). Steps step before (record old { outstation = state; up = up; outstation_port = port; left = rows })) (sym left_is)
-          (steps_on before step state does up port changed sent (none made)),
+      subst (λ (rows : List Row). Steps step before (record old { outstation = state; channel = lines; left = rows })) (sym left_is)
+          (steps_on before step state does lines changed goes (none made)),
     )

@@ -28,7 +28,7 @@ use Rattle.dnp_world.specs.Octets.{commands_in}
 use Rattle.dnp_world.specs.OneLinkEvents.{IsAsked, LinkState}
 use Rattle.dnp_world.specs.SystemEvents.{IfOperates, requests_of}
 use Rattle.dnp_world.specs.SystemStanding.{RowLists, points_asked, seen}
-use Rattle.dnp_world.proofs.BelowCalls.{none_goes, one_goes}
+use Rattle.dnp_world.proofs.BelowCalls.{none_goes}
 use Rattle.dnp_world.proofs.BelowKeeps.{none_used, some_of}
 use Rattle.dnp_world.proofs.Books.{IsOfCommand, in_state_same, in_state_used, picked_used, spent_used}
 use Rattle.dnp_world.proofs.Counting.{count_by-append}
@@ -116,10 +116,7 @@ request_goes : RequestLaws → (o : State) (lists : RowLists) (now : ℕ) (m : m
     → Follows [] [] (commands_in octets) o.performed l (at_lines o lists now (asked m now t) is))
 request_goes laws o lists now m was is l t low answer j down =
     let octets : List ℕ = request_octets (request_for m.seq t) in
-    laws.goes (at_lines o lists now m was) (at_lines o lists now (asked m now t) is) t octets l low j answer (record {
-      sent = one_goes octets was is down;
-      after = ap (at_lines o lists now (asked m now t)) down.after;
-    })
+    laws.goes (at_lines o lists now m was) (at_lines o lists now (asked m now t) is) t octets l low j answer (record { goes = down; after = refl })
 
 -- the link moves by what the step asks for
 pub step_goes : RequestLaws → (o : State) (lists : RowLists) (now : ℕ) (r : Relaying) (entries : List Entry) (target : ℕ)

@@ -9,8 +9,6 @@ use Rattle.dnp_concentrator.specs.Relaying.{Relaying}
 use Rattle.dnp_concentrator.specs.declared.span.Spans.{Spans}
 use Rattle.dnp_eventbuf.specs.Buffered.{buffered_row}
 use Rattle.dnp_eventbuf.specs.Stock.{rows_in}
-use Rattle.dnp_line.specs.Lines.{cleared_on}
-use Rattle.dnp_line.specs.Ports.{reset_of}
 use Rattle.dnp_objects.specs.Counts.{IsCoveredBy}
 use Rattle.dnp_objects.specs.declared.command.Command.{Command}
 use Rattle.dnp_objects.specs.declared.row.Row.{Row}
@@ -19,6 +17,7 @@ use Rattle.dnp_pointdb.specs.Plan as points
 use Rattle.dnp_world.specs.declared.link_event.End.TheVariants as end
 use Rattle.dnp_world.specs.declared.link_event.LinkEvent.TheVariants as event
 use Rattle.dnp_world.specs.Behind.{Links, IsBehind, made_at, rows_of}
+use Rattle.dnp_world.specs.Channels.{hung_up_at}
 use Rattle.dnp_world.specs.Joined.{Follows, Joined}
 use Rattle.dnp_world.specs.Kept.{Kept, commands_below, kept_in, lane_rows_of, orders_in, report_of, rows_below, shown_of, used_commands, used_orders}
 use Rattle.dnp_world.specs.Link.{Link}
@@ -37,7 +36,7 @@ use Rattle.dnp_world.proofs.SystemPlans.{still_of_plan}
 -- what the crates below promise of a restart
 pub record RestartLaws : Type 0 where
   pub restarts : (s new : LinkState ⊤) (l : Link) → Joined [] s l
-      → new ≡ record s { outstation = restart_of s.outstation true; down = cleared_on s.down; outstation_port = reset_of s.outstation_port }
+      → new ≡ record s { outstation = restart_of s.outstation true; channel = hung_up_at end.Outstation s.channel }
       → Follows [] [] [] s.outstation.performed l new
 
 -- ---- links on which nothing came, was taken, released or performed

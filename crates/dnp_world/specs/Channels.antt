@@ -1,19 +1,20 @@
--- Definition: the two lines between the stations of a link, with the ports at their ends, and what comes to the outstation there
--- (IEEE Std 1815-2012: application layer, transport function and data link layer together).
-use Rattle.std.specs.Prelude.{◌≡◌, ◌≢◌, ℕ, ◌≤◌, Bool, true, false, ◌&&◌, ◌==◌, not, List, [], ◌∷◌, length, All, Result, OnOk, OnErr}
+-- Definition: the two lines between the stations of a link, with the ports at their ends, what is sent over them, and what comes to
+-- the outstation there (IEEE Std 1815-2012: application layer, transport function and data link layer together).
+use Rattle.std.specs.Prelude.{◌≡◌, ◌≢◌, ℕ, ◌<◌, ◌≤◌, Bool, true, false, ◌&&◌, ◌==◌, not, List, [], ◌∷◌, length, All, Result, OnOk, OnErr}
 use Rattle.dnp_controls.specs.Panel.{Panel}
-use Rattle.dnp_line.specs.Lines.{LineState, cleared_on, delivered_on, front_of, is_broken, lost_on, repeated_on, Damages}
-use Rattle.dnp_line.specs.Ports.{PortState, reset_of}
-use Rattle.dnp_line.specs.Ways.{HearsIfAny}
+use Rattle.dnp_line.specs.Lines.{LineState, cleared_on, delivered_on, front_of, is_broken, lost_on, quiet_line, repeated_on, Damages}
+use Rattle.dnp_line.specs.Ports.{PortState, moved_on, new_port, reset_of}
+use Rattle.dnp_line.specs.Ways.{AreSpelled, HearsIfAny, all_sent_on}
 use Rattle.dnp_objects.specs.declared.command.Command.{Command}
 use Rattle.dnp_outstation.specs.Calls.{connection_after, performed_in}
 use Rattle.dnp_outstation.specs.State.{State, Step, Actions}
+use Rattle.dnp_transport.specs.Cuts.{cut_count, cuts}
+use Rattle.dnp_transport.specs.declared.limits.TheConstants.{MAX_FRAGMENT}
 use Rattle.dnp_world.specs.declared.channel.Channel.{Channel}
 use Rattle.dnp_world.specs.declared.link_event.End.{End}
 use Rattle.dnp_world.specs.declared.link_event.End.TheVariants.{Master, Outstation}
 use Rattle.dnp_world.specs.declared.link_event.Way.{Way}
 use Rattle.dnp_world.specs.declared.link_event.Way.TheVariants as way
-use Rattle.dnp_world.specs.OneLinkEvents.{AreSent}
 
 -- the lines to the outstation and to the master, and the ports at their ends
 pub record ChannelState : Type 0 where
@@ -25,6 +26,15 @@ pub record ChannelState : Type 0 where
 -- what it is, whatever it has room for
 abbrev pub state_of : Channel → ChannelState
 state_of c = record { down = c.down.state; up = c.up.state; outstation_port = c.outstation_port; master_port = c.master_port }
+
+-- lines that nothing was sent on, between stations of these link addresses
+abbrev pub fresh_channel : ℕ → ℕ → ChannelState
+fresh_channel outstation master = record {
+  down = quiet_line;
+  up = quiet_line;
+  outstation_port = new_port outstation master false;
+  master_port = new_port master outstation true;
+}
 
 -- both lines are cleared, and both ports reset
 abbrev pub cleared : ChannelState → ChannelState
@@ -70,6 +80,34 @@ is_quiet_line line = (length line.units == 0) && not (is_broken line)
 abbrev pub are_quiet : ChannelState → Bool
 are_quiet c = is_quiet_line c.down && is_quiet_line c.up
 
+-- ---- sending
+
+-- a fragment goes on a line: the units of its segments, and the port's number moves on
+pub record IsSent (fragment : List ℕ) (line : LineState) (port : PortState) (line' : LineState) (port' : PortState) : Type 0 where
+  pub some : 0 < length fragment
+  pub fits : length fragment ≤ MAX_FRAGMENT
+  pub units : List (List ℕ)
+  pub spelled : AreSpelled port (cuts fragment port.number) units
+  pub line_is : line' ≡ all_sent_on units line
+  pub port_is : port' ≡ moved_on (cut_count (length fragment)) port
+
+-- one after the other
+abbrev pub AreSent : List (List ℕ) → LineState → PortState → LineState → PortState → Type 0
+AreSent [] line port line' port' = (line' ≡ line) × (port' ≡ port)
+AreSent (fragment ∷ fragments) line port line' port' =
+    (between : LineState) × (port_between : PortState) × IsSent fragment line port between port_between
+    × AreSent fragments between port_between line' port'
+
+-- these fragments go up
+pub record GoUp (fragments : List (List ℕ)) (old new : ChannelState) : Type 0 where
+  pub sent : AreSent fragments old.up old.outstation_port new.up new.outstation_port
+  pub after : new ≡ record old { up = new.up; outstation_port = new.outstation_port }
+
+-- these fragments go down
+pub record GoDown (fragments : List (List ℕ)) (old new : ChannelState) : Type 0 where
+  pub sent : AreSent fragments old.down old.master_port new.down new.master_port
+  pub after : new ≡ record old { down = new.down; master_port = new.master_port }
+
 -- ---- the outstation's end
 
 -- Outputs after these commands, which they performed one after the other: none, and nothing has changed.
@@ -89,16 +127,6 @@ pub record TakesStep {Station Answer Fault : Type 0} (honest : Station → Type 
   pub whole : OnOk answer (All (λ fragment. 4 ≤ length fragment) does.send)
   pub unchanged : honest new → OnErr answer (state new ≡ state old)
   pub kept : honest new → OnErr answer (keeps old new)
-
--- these fragments go up
-pub record GoUp (fragments : List (List ℕ)) (old new : ChannelState) : Type 0 where
-  pub sent : AreSent fragments old.up old.outstation_port new.up new.outstation_port
-  pub after : new ≡ record old { up = new.up; outstation_port = new.outstation_port }
-
--- these fragments go down
-pub record GoDown (fragments : List (List ℕ)) (old new : ChannelState) : Type 0 where
-  pub sent : AreSent fragments old.down old.master_port new.down new.master_port
-  pub after : new ≡ record old { down = new.down; master_port = new.master_port }
 
 -- what the port gives, one fragment or none, is answered, and its commands are performed
 abbrev pub AnswersTo : List (List ℕ) → (List Command → Type 0) → Panel → ℕ → State → State → Actions → Bool → ChannelState → ChannelState → Type 0

@@ -1,6 +1,6 @@
 -- Definition: a system of a plan in which nothing has happened yet, over the stores that it is given (own rule: IEEE Std
 -- 1815-2012 speaks of one link at a time).
-use Rattle.std.specs.Prelude.{ℕ, suc, true, false, List, [], ◌∷◌}
+use Rattle.std.specs.Prelude.{ℕ, suc, List, [], ◌∷◌}
 use Rattle.dnp_concentrator.specs.Addresses.{outstation_address}
 use Rattle.dnp_concentrator.specs.Below.{new_links}
 use Rattle.dnp_concentrator.specs.Plan.{map_of}
@@ -12,22 +12,11 @@ use Rattle.dnp_concentrator.specs.declared.plan.SubPlan.{SubPlan}
 use Rattle.dnp_controls.specs.Book.{Ledger}
 use Rattle.dnp_eventbuf.specs.Archive.{Archive}
 use Rattle.dnp_eventbuf.specs.Stock.{Stock, empty_stock}
-use Rattle.dnp_line.specs.Lines.{quiet_line}
-use Rattle.dnp_line.specs.Ports.{new_port}
 use Rattle.dnp_outstation.specs.Station.{new_core}
 use Rattle.dnp_pointdb.specs.Database.{new_database}
 use Rattle.dnp_pointdb.specs.declared.times.Times.{Times}
-use Rattle.dnp_world.specs.Channels.{ChannelState}
+use Rattle.dnp_world.specs.Channels.{fresh_channel}
 use Rattle.dnp_world.specs.Systems.{SubstationState, History, System}
-
--- lines that nothing was sent on, between stations of these link addresses
-abbrev pub fresh_channel : ℕ → ℕ → ChannelState
-fresh_channel outstation master = record {
-  down = quiet_line;
-  up = quiet_line;
-  outstation_port = new_port outstation master false;
-  master_port = new_port master outstation true;
-}
 
 -- ---- substations
 

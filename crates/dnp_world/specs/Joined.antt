@@ -10,8 +10,8 @@ use Rattle.dnp_objects.specs.declared.row.Row.{Row}
 use Rattle.dnp_eventbuf.specs.Buffered.{buffered_row}
 use Rattle.dnp_eventbuf.specs.Stock.{Stock, arriving, rows_in, with_rows}
 use Rattle.dnp_line.specs.Flows.{Flows}
-use Rattle.dnp_line.specs.Lines.{LineState, quiet_line}
-use Rattle.dnp_line.specs.Ports.{PortState, new_port}
+use Rattle.dnp_line.specs.Lines.{LineState}
+use Rattle.dnp_line.specs.Ports.{PortState}
 use Rattle.dnp_master.specs.State.{new_state}
 use Rattle.dnp_outstation.specs.Station.{new_core}
 use Rattle.dnp_pointdb.specs.Database.{Database, new_database}
@@ -21,6 +21,7 @@ use Rattle.dnp_pointdb.specs.declared.times.Times.{Times}
 use Rattle.dnp_world.specs.declared.link_event.End.TheVariants as end
 use Rattle.dnp_world.specs.declared.link_event.LinkEvent.{LinkEvent}
 use Rattle.dnp_world.specs.declared.link_event.LinkEvent.TheVariants as event
+use Rattle.dnp_world.specs.Channels.{fresh_channel}
 use Rattle.dnp_world.specs.Link.{Link}
 use Rattle.dnp_world.specs.MasterSeen.{master_of}
 use Rattle.dnp_world.specs.Moves.{Moves}
@@ -47,11 +48,11 @@ pub record Joined {Sink : Type 0} (others : List Row) (s : LinkState Sink) (l : 
   pub number : s.master.seq < 16
   -- down
   pub going_down : List (List ℕ)
-  pub down : Carries s.down s.master_port s.outstation_port s.master.is_open going_down
+  pub down : Carries s.channel.down s.channel.master_port s.channel.outstation_port s.master.is_open going_down
   pub down_is : l.down ≡ map down_of going_down
   pub octets : All (All (λ octet. octet < 2 ^ 8)) going_down
   -- up
-  pub up : Carries s.up s.outstation_port s.master_port s.outstation.core.is_open (map octets_of l.up)
+  pub up : Carries s.channel.up s.channel.outstation_port s.channel.master_port s.outstation.core.is_open (map octets_of l.up)
   -- over all connections
   pub taken : IsPermutation s.taken (map buffered_row l.took)
   pub released : map buffered_row l.released ≡ s.released
@@ -83,10 +84,7 @@ new_link_of plan times lanes performed master_address outstation_address sink = 
   outstation = record { core = new_core (new_database plan) times; lanes = lanes; performed = performed };
   master = new_state plan times;
   sink = sink;
-  down = quiet_line;
-  up = quiet_line;
-  outstation_port = new_port outstation_address master_address false;
-  master_port = new_port master_address outstation_address true;
+  channel = fresh_channel outstation_address master_address;
   now = 0;
   taken = [];
   released = [];

@@ -7,9 +7,9 @@ pub mod Lanes
 pub mod Round
 pub mod OutstationSeen
 pub mod MasterSeen
+pub mod Channels
 pub mod OneLinkEvents
 pub mod OneLinkParts
-pub mod Channels
 pub mod MasterEnds
 pub mod Joined
 pub mod Stationed

@@ -14,15 +14,16 @@ use Rattle.dnp_world.specs.Channels.{ChannelState, GoDown}
 
 -- A call of the station at the master's end with octets of which its master makes this, by the station before and after it
 -- and its answer: it takes them, and its stores drop these rows for them. A refusal changes nothing.
-pub record TakesIn {Station : Type 0} (honest : Station → Type 0) (takes : Taking → Type 0) (drops : Taking → List Row) (keeps : Type 0)
+pub record TakesIn {Station : Type 0} (honest : Station → Type 0) (takes : Taking → Type 0) (drops : Taking → List Row) (keeps stays : Type 0)
     (made : Result Taking MasterFault) (old new : Station) (answer : Result MasterActions MasterFault) : Type 0 where
   pub held : honest new → honest old
   pub taken : honest new → IfOk answer (λ a. IfOk made (λ t. (a ≡ actions_of t (drops t)) × takes t))
   -- no more rows are dropped than come
   pub few : IfOk made (λ t. length (drops t) ≤ length t.events)
   pub kept : honest new → OnErr answer keeps
-  -- what the master refuses for itself is refused, and else what the stores refuse
+  -- what the master refuses for itself is refused, and no store is asked; and else what the stores refuse
   pub refused : IfErr made (λ fault. answer ≡ Err fault)
+  pub unasked : honest new → IfErr made (λ _. stays)
   pub named : IfErr answer (λ fault. (made ≡ Err fault) ⊎ IsSinkFault fault)
 
 -- the confirm of what is taken goes down; what the master refuses for itself is lost

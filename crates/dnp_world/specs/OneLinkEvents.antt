@@ -1,6 +1,6 @@
 -- Definition: one link by itself, and what each event makes of it: the stations by their functions, the lines and ports by those of
 -- `dnp_line`, and nothing else (IEEE Std 1815-2012: application layer, transport function and data link layer together).
-use Rattle.std.specs.Prelude.{◌≡◌, ℕ, ◌+◌, ◌^◌, ◌-◌, ◌<◌, ◌≤◌, Bool, true, false, List, [], ◌∷◌, ◌++◌, length, min, take, slice_get, Option, Some, IfSome, option_to_list, Result, Ok, Err}
+use Rattle.std.specs.Prelude.{◌≡◌, ℕ, ◌+◌, ◌^◌, ◌-◌, Bool, true, false, List, [], ◌∷◌, ◌++◌, min, take, slice_get, Option, Some, IfSome, option_to_list, Result, Ok, Err}
 use Rattle.dnp_objects.specs.declared.row.Row.{Row}
 use Rattle.dnp_objects.specs.declared.row.Kind.{Kind}
 use Rattle.dnp_objects.specs.declared.lane.LaneRow.{LaneRow}
@@ -10,11 +10,9 @@ use Rattle.dnp_pointdb.specs.Database.{answer_of}
 use Rattle.dnp_controls.specs.Latches.{no_panel}
 use Rattle.dnp_controls.specs.Panel.{Panel}
 use Rattle.dnp_eventbuf.specs.Stock.{exhausts}
-use Rattle.dnp_transport.specs.Cuts.{cut_count, cuts}
-use Rattle.dnp_transport.specs.declared.limits.TheConstants.{MAX_FRAGMENT}
-use Rattle.dnp_line.specs.Lines.{LineState, front_of, delivered_on, repeated_on, lost_on, cleared_on, Damages}
-use Rattle.dnp_line.specs.Ports.{PortState, moved_on, reset_of}
-use Rattle.dnp_line.specs.Ways.{AreSpelled, all_sent_on, HearsIfAny}
+use Rattle.dnp_line.specs.Lines.{LineState, front_of, delivered_on, repeated_on}
+use Rattle.dnp_line.specs.Ports.{PortState}
+use Rattle.dnp_line.specs.Ways.{HearsIfAny}
 use Rattle.dnp_outstation.specs.State as outstation
 use Rattle.dnp_outstation.specs.State.{Step}
 use Rattle.dnp_outstation.specs.Calls.{connection_after, tick_of, change_of, opened_of, restart_of, emptied_of}
@@ -25,55 +23,35 @@ use Rattle.dnp_master.specs.declared.task.Task.{Task}
 use Rattle.dnp_master.specs.declared.task.Task.TheVariants as task
 use Rattle.dnp_master.specs.State as master
 use Rattle.dnp_master.specs.Calls.{Taking, ask_answer, asked, receive_of, has_rows}
+use Rattle.dnp_world.specs.Channels.{ChannelState, DamagesAt, GoDown, GoUp, cleared, hung_up_at, lost_at}
 use Rattle.dnp_world.specs.declared.link_event.End.TheVariants as end
+use Rattle.dnp_world.specs.declared.link_event.Way.{Way}
 use Rattle.dnp_world.specs.declared.link_event.Way.TheVariants as way
 use Rattle.dnp_world.specs.declared.link_event.LinkEvent.{LinkEvent}
 use Rattle.dnp_world.specs.declared.link_event.LinkEvent.TheVariants as event
 
 -- ---- one link
 
--- the two stations and the master's sink, the lines to the outstation and to the master, the ports at their ends, the
--- moment, and the events that the sink took, that confirms released and that left the lanes unconfirmed
+-- the two stations and the master's sink, the lines between them, the moment, and the events that the sink took, that
+-- confirms released and that left the lanes unconfirmed
 pub record LinkState (Sink : Type 0) : Type 0 where
   pub outstation : outstation.State
   pub master : master.State
   pub sink : Sink
-  pub down : LineState
-  pub up : LineState
-  pub outstation_port : PortState
-  pub master_port : PortState
+  pub channel : ChannelState
   pub now : ℕ
   pub taken : List Row
   pub released : List Row
   pub left : List Row
 
--- ---- sending
-
--- a fragment goes on a line: the units of its segments, and the port's number moves on
-pub record IsSent (fragment : List ℕ) (line : LineState) (port : PortState) (line' : LineState) (port' : PortState) : Type 0 where
-  pub some : 0 < length fragment
-  pub fits : length fragment ≤ MAX_FRAGMENT
-  pub units : List (List ℕ)
-  pub spelled : AreSpelled port (cuts fragment port.number) units
-  pub line_is : line' ≡ all_sent_on units line
-  pub port_is : port' ≡ moved_on (cut_count (length fragment)) port
-
--- one after the other
-abbrev pub AreSent : List (List ℕ) → LineState → PortState → LineState → PortState → Type 0
-AreSent [] line port line' port' = (line' ≡ line) × (port' ≡ port)
-AreSent (fragment ∷ fragments) line port line' port' =
-    (between : LineState) × (port_between : PortState) × IsSent fragment line port between port_between
-    × AreSent fragments between port_between line' port'
-
 -- ---- the outstation's calls
 
 -- the outstation takes this step: what it sends goes up, and the rows that it released are listed
 pub record Steps {Sink : Type 0} (step : Step) (old new : LinkState Sink) : Type 0 where
-  pub sent : AreSent step.does.send old.up old.outstation_port new.up new.outstation_port
+  pub goes : GoUp step.does.send old.channel new.channel
   pub after : new ≡ record old {
     outstation = step.state;
-    up = new.up;
-    outstation_port = new.outstation_port;
+    channel = new.channel;
     released = old.released ++ step.does.discarded;
   }
 
@@ -84,17 +62,20 @@ ComeDown panel (fragment ∷ others) old new = Steps (connection_after old.outst
 
 -- ---- the master's calls
 
--- the sink takes the rows, if there are any, and only then the fragment is confirmed
+-- the sink takes the rows, if there are any
+pub record TakesRows {Sink : Type 0} (takes : Sink → List Row → List Row → List Row → Sink → Type 0) (t : Taking) (old new : Sink) : Type 0 where
+  pub given : has_rows t ≡ true → (dropped : List Row) × takes old t.events t.statics dropped new
+  pub spared : has_rows t ≡ false → new ≡ old
+
+-- and only then the fragment is confirmed
 pub record Takes {Sink : Type 0} (takes : Sink → List Row → List Row → List Row → Sink → Type 0) (t : Taking)
     (old new : LinkState Sink) : Type 0 where
-  pub given : has_rows t ≡ true → (dropped : List Row) × takes old.sink t.events t.statics dropped new.sink
-  pub spared : has_rows t ≡ false → new.sink ≡ old.sink
-  pub sent : AreSent (option_to_list t.confirm) old.down old.master_port new.down new.master_port
+  pub rows : TakesRows takes t old.sink new.sink
+  pub goes : GoDown (option_to_list t.confirm) old.channel new.channel
   pub after : new ≡ record old {
     master = t.state;
     sink = new.sink;
-    down = new.down;
-    master_port = new.master_port;
+    channel = new.channel;
     taken = old.taken ++ t.events;
   }
 
@@ -115,49 +96,39 @@ ComeUp takes (fragment ∷ others) old new = Receives takes (receive_of old.mast
 pub record ComesDown {Sink : Type 0} (panel : Panel) (line : LineState) (old new : LinkState Sink) : Type 0 where
   pub port : PortState
   pub given : List (List ℕ)
-  pub heard : HearsIfAny (front_of old.down) old.outstation_port port [] given
-  pub came : ComeDown panel given (record old { down = line; outstation_port = port }) new
+  pub heard : HearsIfAny (front_of old.channel.down) old.channel.outstation_port port [] given
+  pub came : ComeDown panel given (record old { channel = record old.channel { down = line; outstation_port = port } }) new
 
 pub record ComesUp {Sink : Type 0} (takes : Sink → List Row → List Row → List Row → Sink → Type 0) (line : LineState)
     (old new : LinkState Sink) : Type 0 where
   pub port : PortState
   pub given : List (List ℕ)
-  pub heard : HearsIfAny (front_of old.up) old.master_port port [] given
-  pub came : ComeUp takes given (record old { up = line; master_port = port }) new
+  pub heard : HearsIfAny (front_of old.channel.up) old.channel.master_port port [] given
+  pub came : ComeUp takes given (record old { channel = record old.channel { up = line; master_port = port } }) new
 
 -- its octets become others
-pub record IsDamaged {Sink : Type 0} (octets : List ℕ) (line : LineState) (after : LineState → LinkState Sink)
-    (new : LinkState Sink) : Type 0 where
-  pub damaged : LineState
-  pub damages : Damages octets line damaged
-  pub is : new ≡ after damaged
+pub record IsDamaged {Sink : Type 0} (way : Way) (octets : List ℕ) (old new : LinkState Sink) : Type 0 where
+  pub damages : DamagesAt way octets old.channel new.channel
+  pub after : new ≡ record old { channel = new.channel }
 
 -- ---- opening, hanging up and restarts
 
 abbrev pub opening : {Sink : Type 0} → LinkState Sink → LinkState Sink
-opening s = record s {
-  master = master.opened s.master;
-  down = cleared_on s.down;
-  up = cleared_on s.up;
-  outstation_port = reset_of s.outstation_port;
-  master_port = reset_of s.master_port;
-}
+opening s = record s { master = master.opened s.master; channel = cleared s.channel }
 
 abbrev pub master_gone : {Sink : Type 0} → LinkState Sink → LinkState Sink
-master_gone s = record s { master = master.closed s.master; up = cleared_on s.up; master_port = reset_of s.master_port }
+master_gone s = record s { master = master.closed s.master; channel = hung_up_at end.Master s.channel }
 
 abbrev pub outstation_gone : {Sink : Type 0} → LinkState Sink → LinkState Sink
 outstation_gone s = record s {
   outstation = record s.outstation { core = connection.closed s.outstation.core };
-  down = cleared_on s.down;
-  outstation_port = reset_of s.outstation_port;
+  channel = hung_up_at end.Outstation s.channel;
 }
 
 abbrev pub outstation_restarted : {Sink : Type 0} → LinkState Sink → LinkState Sink
 outstation_restarted s = record s {
   outstation = restart_of s.outstation false;
-  down = cleared_on s.down;
-  outstation_port = reset_of s.outstation_port;
+  channel = hung_up_at end.Outstation s.channel;
   left = s.left ++ emptied_of s.outstation false;
 }
 
@@ -180,8 +151,8 @@ is_own _ = true
 
 -- the request goes down
 pub record IsAsked {Sink : Type 0} (task : Task) (octets : List ℕ) (old new : LinkState Sink) : Type 0 where
-  pub sent : IsSent octets old.down old.master_port new.down new.master_port
-  pub after : new ≡ record old { master = asked old.master old.now task; down = new.down; master_port = new.master_port }
+  pub goes : GoDown (octets ∷ []) old.channel new.channel
+  pub after : new ≡ record old { master = asked old.master old.now task; channel = new.channel }
 
 -- a task that the master refuses does nothing
 abbrev pub AsksBy : {Sink : Type 0} → Result (List ℕ) AskFault → Task → LinkState Sink → LinkState Sink → Type 0
@@ -201,14 +172,12 @@ abbrev pub HappensOn : {Sink : Type 0} → (Sink → List Row → List Row → L
 HappensOn takes panel old event.Open new = Steps (opened_of old.outstation old.now) (opening old) new
 HappensOn takes panel old (event.HangUp end.Master) new = new ≡ master_gone old
 HappensOn takes panel old (event.HangUp end.Outstation) new = new ≡ outstation_gone old
-HappensOn takes panel old (event.Deliver way.Down) new = ComesDown panel (delivered_on old.down) old new
-HappensOn takes panel old (event.Deliver way.Up) new = ComesUp takes (delivered_on old.up) old new
-HappensOn takes panel old (event.Repeat way.Down) new = ComesDown panel (repeated_on old.down) old new
-HappensOn takes panel old (event.Repeat way.Up) new = ComesUp takes (repeated_on old.up) old new
-HappensOn takes panel old (event.Lose way.Down) new = new ≡ record old { down = lost_on old.down }
-HappensOn takes panel old (event.Lose way.Up) new = new ≡ record old { up = lost_on old.up }
-HappensOn takes panel old (event.Damage way.Down octets) new = IsDamaged octets.items old.down (λ line. record old { down = line }) new
-HappensOn takes panel old (event.Damage way.Up octets) new = IsDamaged octets.items old.up (λ line. record old { up = line }) new
+HappensOn takes panel old (event.Deliver way.Down) new = ComesDown panel (delivered_on old.channel.down) old new
+HappensOn takes panel old (event.Deliver way.Up) new = ComesUp takes (delivered_on old.channel.up) old new
+HappensOn takes panel old (event.Repeat way.Down) new = ComesDown panel (repeated_on old.channel.down) old new
+HappensOn takes panel old (event.Repeat way.Up) new = ComesUp takes (repeated_on old.channel.up) old new
+HappensOn takes panel old (event.Lose way) new = new ≡ record old { channel = lost_at way old.channel }
+HappensOn takes panel old (event.Damage way octets) new = IsDamaged way octets.items old new
 HappensOn takes panel old (event.Change kind index reading) new =
     Changes (answer_of old.outstation.core.points kind index reading) kind index reading old new
 HappensOn takes panel old (event.Ask task) new = AsksIfOwn (is_own task) task old new

@@ -2,12 +2,12 @@
 
 ghost use Rattle.std.specs.Prelude.{option_copied, ◌≡◌, ◌<◌, ◌≤◌, ℕ, true, false, if◌then◌else◌, IfOk, OnErr, OnOk, List, [], ◌∷◌, ◌++◌, length, option_to_list};
 ghost use Rattle.dnp_line.specs.Lines.{front_of, quiet_line, room_of};
-ghost use Rattle.dnp_line.specs.Ports.{IsShown, new_port, reset_of};
+ghost use Rattle.dnp_line.specs.Ports.{IsShown, reset_of};
 ghost use Rattle.dnp_line.specs.Ways.{HearsIfAny};
 ghost use Rattle.dnp_master.specs.Calls.{receive_of};
 ghost use Rattle.dnp_outstation.specs.Calls.{connection_after, opened_of, performed_in, tick_of};
 ghost use Rattle.dnp_outstation.specs.Station.{actions_of};
-ghost use Rattle.dnp_world.specs.Channels.{state_of, are_quiet, cleared, hung_up_at, left_at, left_by, line_of, lost_at, DamagesAt, GoDown, GoUp, ComesToOutstation};
+ghost use Rattle.dnp_world.specs.Channels.{state_of, are_quiet, cleared, fresh_channel, hung_up_at, left_at, left_by, line_of, lost_at, DamagesAt, GoDown, GoUp, ComesToOutstation};
 ghost use Rattle.dnp_world.specs.MasterEnds.{ComesToMaster, TakesBy};
 
 use crate::ends::{MasterEnd, OutstationEnd};
@@ -16,7 +16,6 @@ use crate::link_event::{End, Way};
 use crate::listing::count_events;
 use crate::sending::{FRAGMENT_UNITS, hear, send, send_all, send_confirm, shows};
 use crate::stopped::cause_of;
-use arrayvec::ArrayVec;
 use dnp_concentrator::Cause;
 use dnp_line::{Line, Port};
 use dnp_linkframe::MAX_UNIT;
@@ -40,12 +39,7 @@ pub(crate) struct Channel {
 impl Channel {
     /// Quiet lines between stations of these link addresses.
     pub fn new(alloc: Global, outstation: u16, master: u16) -> Channel
-        ensures { state_of result ≡ record {
-          down = quiet_line;
-          up = quiet_line;
-          outstation_port = new_port outstation master false;
-          master_port = new_port master outstation true;
-        } }
+        ensures { state_of result ≡ fresh_channel outstation master }
     {
         Channel {
             down: Line::new(alloc),
@@ -133,9 +127,17 @@ impl Channel {
     pub fn damage(&mut self, way: Way, octets: &Damaged)
         ensures { DamagesAt way octets.now (state_of self.old) (state_of self.new) }
     {
+        self.damage_to(way, octets.as_slice());
+    }
+
+    /// The octets of the front unit of this way become these, at most `MAX_UNIT`.
+    pub fn damage_to(&mut self, way: Way, octets: &[u8])
+        requires { length octets.now ≤ MAX_UNIT }
+        ensures { DamagesAt way octets.now (state_of self.old) (state_of self.new) }
+    {
         match way {
-            Way::Down => self.down.damage(octets.as_slice()),
-            Way::Up => self.up.damage(octets.as_slice()),
+            Way::Down => self.down.damage(octets),
+            Way::Up => self.up.damage(octets),
         }
     }
 
@@ -321,7 +323,7 @@ impl Channel {
         ensures took { E.honest end.new → OnOk result ((fragment : List ℕ) × IsShown self.old.master_port fragment
             × TakesBy (receive_of (E.master end.old link) now fragment)
             (λ t. E.takes end.old link t end.new × (dropped.new.items ≡ dropped.old.items ++ E.drops end.old link t))
-            (E.keeps end.old end.new × (dropped.new.items ≡ dropped.old.items)) (state_of self.old) (state_of self.new)) }
+            (E.stays end.old end.new × (dropped.new.items ≡ dropped.old.items)) (state_of self.old) (state_of self.new)) }
         ensures kept { E.honest end.new → OnErr result (E.keeps end.old end.new) }
         ensures lines { OnErr result (state_of self.new ≡ state_of self.old) }
         ensures unlisted { OnErr result (dropped.new.items ≡ dropped.old.items) }
@@ -358,7 +360,7 @@ impl Channel {
         ensures held { E.honest end.new → E.honest end.old }
         ensures came { E.honest end.new → OnOk result (ComesToMaster (left_by repeats) (E.master end.old link) now
             (λ t. E.takes end.old link t end.new × (dropped.new.items ≡ dropped.old.items ++ E.drops end.old link t))
-            (E.keeps end.old end.new × (dropped.new.items ≡ dropped.old.items)) (state_of self.old) (state_of self.new)) }
+            (E.stays end.old end.new × (dropped.new.items ≡ dropped.old.items)) (state_of self.old) (state_of self.new)) }
         ensures kept { E.honest end.new → OnErr result (E.keeps end.old end.new) }
         ensures lines { OnErr result (state_of self.new ≡ state_of self.old) }
         ensures unlisted { OnErr result (dropped.new.items ≡ dropped.old.items) }

@@ -176,10 +176,13 @@ pub trait MasterEnd {
     /// The rows that its stores drop for what it takes on the link.
     ghost drops: { Self → ℕ → Taking → List Row };
 
-    /// It is what it was.
+    /// Its stores hold what they did, and else it is what it was.
     ghost keeps: { Self → Self → Type 0 };
 
-    /// A fragment came on the link.
+    /// It is what it was.
+    ghost stays: { Self → Self → Type 0 };
+
+    /// A fragment came on the link. What the master refuses for itself is asked of no store.
     fn take_in(
         &mut self,
         alloc: Global,
@@ -188,10 +191,13 @@ pub trait MasterEnd {
         octets: &[u8],
     ) -> Result<MasterActions, MasterFault>
         requires { has self.old link }
-        ensures { TakesIn honest (λ t. takes self.old link t self.new) (drops self.old link) (keeps self.old self.new) (receive_of (master self.old link) now octets.now) self.old self.new result };
+        ensures { TakesIn honest (λ t. takes self.old link t self.new) (drops self.old link) (keeps self.old self.new) (stays self.old self.new) (receive_of (master self.old link) now octets.now) self.old self.new result };
 
     /// It keeps what it is.
     ghost keeps_itself: { (s : Self) → keeps s s };
+
+    /// It stays what it is.
+    ghost stays_itself: { (s : Self) → stays s s };
 }
 
 impl<Q: Lanes, B: Book> MasterEnd for Concentrator<Q, B> {
@@ -207,7 +213,11 @@ impl<Q: Lanes, B: Book> MasterEnd for Concentrator<Q, B> {
 
     ghost keeps = { λ old new. concentrator_of Q.contents B.contents new ≡ concentrator_of Q.contents B.contents old };
 
+    ghost stays = { λ old new. concentrator_of Q.contents B.contents new ≡ concentrator_of Q.contents B.contents old };
+
     ghost keeps_itself = { λ c. refl };
+
+    ghost stays_itself = { λ c. refl };
 
     fn take_in(
         &mut self,
@@ -233,7 +243,11 @@ impl<J: JournalStore, B: Book> MasterEnd for Centre<J, B> {
 
     ghost keeps = { λ old new. centre_of J.archive B.contents new ≡ centre_of J.archive B.contents old };
 
+    ghost stays = { λ old new. centre_of J.archive B.contents new ≡ centre_of J.archive B.contents old };
+
     ghost keeps_itself = { λ c. refl };
+
+    ghost stays_itself = { λ c. refl };
 
     fn take_in(
         &mut self,

@@ -14,14 +14,14 @@ ghost use Rattle.dnp_controls.specs.Panel.{Panel};
 ghost use Rattle.dnp_eventbuf.specs.Carried.{IsCarried};
 ghost use Rattle.dnp_eventbuf.specs.Sound.{IsSound};
 ghost use Rattle.dnp_eventbuf.specs.Stock.{Stock, arriving, dropped_by, exhausts};
-ghost use Rattle.dnp_line.specs.Lines.{cleared_on};
-ghost use Rattle.dnp_line.specs.Ports.{reset_of};
 ghost use Rattle.dnp_outstation.specs.Calls.{restart_of};
 ghost use Rattle.dnp_outstation.specs.Said.{HaveIndexes};
 ghost use Rattle.dnp_pointdb.specs.Database.{new_database};
 ghost use Rattle.dnp_pointdb.specs.Plan.{Plan};
 ghost use Rattle.dnp_pointdb.specs.Sound as points;
 ghost use Rattle.dnp_pointdb.specs.declared.times.Times.{Times};
+ghost use Rattle.dnp_world.specs.Channels.{hung_up_at};
+ghost use Rattle.dnp_world.specs.declared.link_event.End.TheVariants as end;
 ghost use Rattle.dnp_world.specs.declared.link_event.LinkEvent.{LinkEvent};
 ghost use Rattle.dnp_world.specs.Joined.{Joined, Follows, IsJoined, KeepsLaw, StoodGrows, new_link_of};
 ghost use Rattle.dnp_world.specs.Joined.{with_others_rows, rows_made_by, stood_in};
@@ -91,7 +91,7 @@ pub fn events_without_a_sink_are_moves()
         → Joined [] s l → HappensOn no_sink panel s event new
         → Follows [] (rows_made_by s.outstation.core.points (event ∷ [])) [] s.outstation.performed l new }
     ensures restarted { (s new : LinkState ⊤) (l : Link) → Joined [] s l
-        → new ≡ record s { outstation = restart_of s.outstation true; down = cleared_on s.down; outstation_port = reset_of s.outstation_port }
+        → new ≡ record s { outstation = restart_of s.outstation true; channel = hung_up_at end.Outstation s.channel }
         → Follows [] [] [] s.outstation.performed l new }
 {
     outstation::an_opening_is_moves();

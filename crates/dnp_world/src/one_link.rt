@@ -24,10 +24,11 @@ use dnp_master::Master;
 use dnp_objects::Row;
 use dnp_outstation::{Actions, Outstation};
 use dnp_pointdb::{PointDb, PointPlan, Times};
+use receiver::Receiver;
 use std::alloc::{AllocError, Global};
 
-mod arrivals;
 mod calls;
+mod receiver;
 
 /// An outstation without outputs and its master, with a line each way between their ports: at the link addresses that a
 /// system's first outstation and its centre have.
@@ -35,15 +36,12 @@ mod calls;
 /// What its events do holds where lanes and sink are honest as a call ends.
 pub struct OneLink<L, S> {
     outstation: Outstation<L, NoOutputs>,
-    master: Master,
-    sink: S,
+    receiver: Receiver<S>,
     channel: Channel,
     /// What the outstation did last.
     actions: Actions,
     /// The moment, in milliseconds.
     moment: u64,
-    /// The events that the sink took.
-    taken: Vec<Row>,
     /// The events that confirms released.
     released: Vec<Row>,
     /// The events that left the lanes unconfirmed: a full lane dropped them, or a restart emptied it.
@@ -55,12 +53,10 @@ impl<L: Drop, S: Drop> Drop for OneLink<L, S> {
     fn drop(self) {
         let OneLink {
             outstation: _,
-            master: _,
-            sink: _,
+            receiver: _,
             channel: _,
             actions: _,
             moment: _,
-            taken: _,
             released: _,
             left: _,
         } = self;
@@ -86,12 +82,14 @@ impl<L: Lanes + Drop, S: Sink + Drop> OneLink<L, S> {
         let points = PointDb::new(alloc, plan.try_clone(alloc)?)?;
         Ok(OneLink {
             outstation: Outstation::new(points, lanes, NoOutputs, times),
-            master: Master::new(plan, times),
-            sink,
+            receiver: Receiver {
+                master: Master::new(plan, times),
+                sink,
+                taken: Vec::new(alloc),
+            },
             channel: Channel::new(alloc, FIRST_OUTSTATION, CENTRE),
             actions: Actions::none(alloc),
             moment: 0,
-            taken: Vec::new(alloc),
             released: Vec::new(alloc),
             left: Vec::new(alloc),
         })
@@ -103,7 +101,7 @@ impl<L: Lanes, S: Sink> OneLink<L, S> {
     pub fn taken(&self) -> &[Row]
         ensures { result.now ≡ (link_of L.contents self.now).taken }
     {
-        self.taken.as_slice()
+        self.receiver.taken.as_slice()
     }
 
     /// The events that confirms released, in order.
@@ -133,7 +131,7 @@ impl<L: Lanes, S: Sink> OneLink<L, S> {
         ensures* writes_back { sem 𝓛 (Lends (the_row L.row S.row) S.row self.entry result (with_sink self.old)) }
         ensures value { result.now ≡ sink_of self.old }
     {
-        &mut self.sink
+        self.receiver.sink()
     }
 
     /// One event happens.
@@ -153,8 +151,8 @@ impl<L: Lanes, S: Sink> OneLink<L, S> {
             LinkEvent::Deliver(Way::Up) => self.deliver_up(alloc)?,
             LinkEvent::Repeat(Way::Down) => self.repeat_down(alloc)?,
             LinkEvent::Repeat(Way::Up) => self.repeat_up(alloc)?,
-            LinkEvent::Lose(way) => self.lose(*way),
-            LinkEvent::Damage(way, octets) => self.damage(*way, octets),
+            LinkEvent::Lose(way) => self.channel.lose(*way),
+            LinkEvent::Damage(way, octets) => self.channel.damage_to(*way, octets.as_slice()),
             LinkEvent::Change {
                 kind,
                 index,

@@ -5,7 +5,7 @@ ghost use Rattle.dnp_line.specs.Lines.{room_of};
 ghost use Rattle.dnp_line.specs.Ports.{IsShown};
 ghost use Rattle.dnp_line.specs.Ways.{Hears};
 ghost use Rattle.dnp_outstation.specs.Station.{sent_of};
-ghost use Rattle.dnp_world.specs.OneLinkEvents.{IsSent, AreSent};
+ghost use Rattle.dnp_world.specs.Channels.{IsSent, AreSent};
 
 use dnp_line::{Line, Port, way};
 use dnp_linkframe::read_frame;

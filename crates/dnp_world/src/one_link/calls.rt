@@ -1,26 +1,124 @@
-//! The events of a link that are calls of a station, and what clears its lines.
+//! The events of a link by itself: what comes over its lines, and the calls of its stations.
 
 ghost use Rattle.std.specs.Prelude.{◌≡◌, OnErr, OnOk};
 ghost use Rattle.dnp_controls.specs.Latches.{no_panel};
-ghost use Rattle.dnp_world.specs.OneLinkEvents.{HappensOn};
+ghost use Rattle.dnp_world.specs.Channels.{left_by};
+ghost use Rattle.dnp_world.specs.OneLinkEvents.{ComesDown, ComesUp, HappensOn, IsStopped, StopsAt};
 ghost use Rattle.dnp_world.specs.OneLinkParts.{link_of, lanes_of, sink_of};
 ghost use Rattle.dnp_world.specs.declared.link_event.End.TheVariants as end;
 ghost use Rattle.dnp_world.specs.declared.link_event.LinkEvent.TheVariants as event;
+ghost use Rattle.dnp_world.specs.declared.link_event.Way.TheVariants as way;
 
 use super::OneLink;
-use crate::link_event::End;
+use crate::link_event::{End, Way};
 use crate::listing::rows_waiting;
-use crate::sending::{FRAGMENT_UNITS, send, send_all};
+use crate::sending::{FRAGMENT_UNITS, send_all};
 use dnp_concentrator::Cause;
 use dnp_eventbuf::{Lanes, Sink};
 use dnp_master::Task;
 use dnp_objects::Kind;
 use dnp_outstation::Fault;
-use dnp_outstation::link_laws::a_confirm_releases_what_its_fragment_reported;
+use dnp_outstation::link_laws::{
+    a_confirm_releases_what_its_fragment_reported, each_case_says_what_came,
+};
 use dnp_pointdb::Reading;
 use std::alloc::Global;
 
 impl<L: Lanes, S: Sink> OneLink<L, S> {
+    /// The front unit comes to the outstation, and stays on the line where it is repeated. At a refusal the line and the
+    /// port stay.
+    fn come_down(&mut self, alloc: Global, repeats: bool) -> Result<(), Cause>
+        ensures held { L.honest (lanes_of self.new) → L.honest (lanes_of self.old) }
+        ensures sink { sink_of self.new ≡ sink_of self.old }
+        ensures done { L.honest (lanes_of self.new) → OnOk result (ComesDown no_panel (left_by repeats (link_of L.contents self.old).channel.down) (link_of L.contents self.old) (link_of L.contents self.new)) }
+        ensures stopped { L.honest (lanes_of self.new) → OnErr result (link_of L.contents self.new ≡ link_of L.contents self.old) }
+    {
+        each_case_says_what_came();
+        a_confirm_releases_what_its_fragment_reported();
+        let waiting = rows_waiting(self.outstation.lanes());
+        self.released.reserve(waiting)?;
+        let answered = self.channel.come_down(
+            &mut self.actions,
+            alloc,
+            self.moment,
+            &mut self.outstation,
+        )?;
+        self.channel.settle(Way::Down, repeats);
+        if answered {
+            let _ = self
+                .released
+                .extend_from_slice(self.actions.discarded.as_slice());
+        }
+        Ok(())
+    }
+
+    /// The front unit comes to the master, and stays on the line where it is repeated. At a refusal the line and the port
+    /// stay. What the sink drops is listed nowhere.
+    fn come_up(&mut self, alloc: Global, repeats: bool) -> Result<(), Cause>
+        ensures lanes { lanes_of self.new ≡ lanes_of self.old }
+        ensures sink_held { S.honest (sink_of self.new) → S.honest (sink_of self.old) }
+        ensures done { S.honest (sink_of self.new) → OnOk result (ComesUp S.takes (left_by repeats (link_of L.contents self.old).channel.up) (link_of L.contents self.old) (link_of L.contents self.new)) }
+        ensures stopped { S.honest (sink_of self.new) → OnErr result (IsStopped S.keeps (link_of L.contents self.old) (link_of L.contents self.new)) }
+    {
+        let mut dropped = Vec::new(alloc);
+        self.channel.come_up(
+            alloc,
+            0,
+            self.moment,
+            repeats,
+            &mut self.receiver,
+            &mut dropped,
+        )
+    }
+
+    /// The front unit comes to the outstation. Where that refuses, the unit is lost.
+    pub(crate) fn deliver_down(&mut self, alloc: Global) -> Result<(), Cause>
+        ensures held { L.honest (lanes_of self.new) → L.honest (lanes_of self.old) }
+        ensures sink { sink_of self.new ≡ sink_of self.old }
+        ensures done { L.honest (lanes_of self.new) → OnOk result (HappensOn S.takes no_panel (link_of L.contents self.old) (event.Deliver way.Down) (link_of L.contents self.new)) }
+        ensures stopped { L.honest (lanes_of self.new) → OnErr result (StopsAt S.takes S.keeps (link_of L.contents self.old) (event.Deliver way.Down) (link_of L.contents self.new)) }
+    {
+        if let Err(cause) = self.come_down(alloc, false) {
+            self.channel.lose(Way::Down);
+            return Err(cause);
+        }
+        Ok(())
+    }
+
+    /// The front unit comes to the master. Where its sink refuses, the unit is lost.
+    pub(crate) fn deliver_up(&mut self, alloc: Global) -> Result<(), Cause>
+        ensures lanes { lanes_of self.new ≡ lanes_of self.old }
+        ensures sink_held { S.honest (sink_of self.new) → S.honest (sink_of self.old) }
+        ensures done { S.honest (sink_of self.new) → OnOk result (HappensOn S.takes no_panel (link_of L.contents self.old) (event.Deliver way.Up) (link_of L.contents self.new)) }
+        ensures stopped { S.honest (sink_of self.new) → OnErr result (StopsAt S.takes S.keeps (link_of L.contents self.old) (event.Deliver way.Up) (link_of L.contents self.new)) }
+    {
+        if let Err(cause) = self.come_up(alloc, false) {
+            self.channel.lose(Way::Up);
+            return Err(cause);
+        }
+        Ok(())
+    }
+
+    /// The front unit comes to the outstation, and stays on the line. Where that refuses, nothing happens.
+    pub(crate) fn repeat_down(&mut self, alloc: Global) -> Result<(), Cause>
+        ensures held { L.honest (lanes_of self.new) → L.honest (lanes_of self.old) }
+        ensures sink { sink_of self.new ≡ sink_of self.old }
+        ensures done { L.honest (lanes_of self.new) → OnOk result (HappensOn S.takes no_panel (link_of L.contents self.old) (event.Repeat way.Down) (link_of L.contents self.new)) }
+        ensures stopped { L.honest (lanes_of self.new) → OnErr result (StopsAt S.takes S.keeps (link_of L.contents self.old) (event.Repeat way.Down) (link_of L.contents self.new)) }
+    {
+        self.come_down(alloc, true)
+    }
+
+    /// The front unit comes to the master, and stays on the line. Where its sink refuses, nothing happens.
+    pub(crate) fn repeat_up(&mut self, alloc: Global) -> Result<(), Cause>
+        ensures lanes { lanes_of self.new ≡ lanes_of self.old }
+        ensures sink_held { S.honest (sink_of self.new) → S.honest (sink_of self.old) }
+        ensures done { S.honest (sink_of self.new) → OnOk result (HappensOn S.takes no_panel (link_of L.contents self.old) (event.Repeat way.Up) (link_of L.contents self.new)) }
+        ensures stopped { S.honest (sink_of self.new) → OnErr result (StopsAt S.takes S.keeps (link_of L.contents self.old) (event.Repeat way.Up) (link_of L.contents self.new)) }
+    {
+        self.come_up(alloc, true)
+    }
+
     /// Both lines are cleared, both ports are reset, and both ends are opened. The outstation is asked first, since its
     /// lanes may refuse.
     pub(crate) fn open(&mut self, alloc: Global) -> Result<(), Cause>
@@ -30,7 +128,7 @@ impl<L: Lanes, S: Sink> OneLink<L, S> {
         ensures stopped { L.honest (lanes_of self.new) → OnErr result (link_of L.contents self.new ≡ link_of L.contents self.old) }
     {
         self.channel.open(&mut self.actions, alloc, self.moment, &mut self.outstation)?;
-        self.master.opened();
+        self.receiver.master.opened();
         Ok(())
     }
 
@@ -41,7 +139,7 @@ impl<L: Lanes, S: Sink> OneLink<L, S> {
         ensures done { HappensOn S.takes no_panel (link_of L.contents self.old) (event.HangUp end) (link_of L.contents self.new) }
     {
         match end {
-            End::Master => self.master.hung_up(),
+            End::Master => self.receiver.master.hung_up(),
             End::Outstation => self.outstation.hung_up(),
         }
         self.channel.hang_up(end);
@@ -91,13 +189,9 @@ impl<L: Lanes, S: Sink> OneLink<L, S> {
         if matches!(task, Task::Select(_) | Task::Operate(_)) {
             return Ok(());
         }
-        self.channel.down.reserve(FRAGMENT_UNITS)?;
-        if let Ok(request) = self.master.ask(self.moment, task) {
-            send(
-                &mut self.channel.down,
-                &mut self.channel.master_port,
-                request.as_slice(),
-            );
+        self.channel.reserve_down()?;
+        if let Ok(request) = self.receiver.master.ask(self.moment, task) {
+            self.channel.send_down(request.as_slice());
         }
         Ok(())
     }
@@ -117,7 +211,7 @@ impl<L: Lanes, S: Sink> OneLink<L, S> {
         ensures sink { sink_of self.new ≡ sink_of self.old }
         ensures done { HappensOn S.takes no_panel (link_of L.contents self.old) (event.Tick end.Master) (link_of L.contents self.new) }
     {
-        self.master.tick(self.moment);
+        self.receiver.master.tick(self.moment);
     }
 
     /// The outstation looks at its timers.

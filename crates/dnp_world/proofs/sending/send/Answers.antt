@@ -1,6 +1,6 @@
 -- What the call of the line did is what `IsSent` says.
 use Rattle.std.proofs.Common.{refl}
-use Rattle.dnp_world.specs.OneLinkEvents.{IsSent}
+use Rattle.dnp_world.specs.Channels.{IsSent}
 use Rattle.dnp_world.proofs.OneLinkSending.{is_sent, sent_room, way_from}
 use Rattle.dnp_world.proofs.sending.send.Goals as goal
 

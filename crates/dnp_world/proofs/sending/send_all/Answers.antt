@@ -2,7 +2,7 @@
 use Rattle.std.proofs.Common.{◌≡◌, ℕ, ◌+◌, ◌≤◌, List, length, sym, subst, arith}
 use Rattle.dnp_line.specs.Lines.{HeldLine}
 use Rattle.dnp_line.specs.Ports.{PortState}
-use Rattle.dnp_world.specs.OneLinkEvents.{IsSent}
+use Rattle.dnp_world.specs.Channels.{IsSent}
 use Rattle.dnp_world.proofs.OneLinkSending.{IsSending, first_whole, some_sent, none_sent}
 use Rattle.dnp_world.proofs.sending.send_all.Goals as goal
 use Rattle.dnp_world.proofs.sending.send_all.Goals.{in-Some, in_default}

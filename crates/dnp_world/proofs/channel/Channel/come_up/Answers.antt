@@ -21,6 +21,6 @@ returns-clause-came g c =
       | else-hear_up w ↦
           rw (w.end-is, w.dropped-is)
           (λ well. came_part master c.args.now _ _ c.args.repeats c.hear_up.result c.hear_up.ensures.shown.0 old heard (state_of c.settle.new.self)
-          c.hear_up.ensures.heard c.hear_up.ensures.rest w.if-hear_up.false c.hear_up.ensures.shown.1 (g.met.E.MasterEnd.keeps_itself _, refl {A = List Row})
+          c.hear_up.ensures.heard c.hear_up.ensures.rest w.if-hear_up.false c.hear_up.ensures.shown.1 (g.met.E.MasterEnd.stays_itself _, refl {A = List Row})
           (rw w.self-is at c.settle.ensures))
     ]

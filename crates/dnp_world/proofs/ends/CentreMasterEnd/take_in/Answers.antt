@@ -2,7 +2,7 @@
 use Rattle.std.proofs.Common.{arith}
 use Rattle.dnp_concentrator.specs.Centre.{link_of}
 use Rattle.dnp_master.specs.Calls.{receive_of}
-use Rattle.dnp_world.proofs.MasterTakes.{any_ok, book_before, kept_above, named_by, taken_above}
+use Rattle.dnp_world.proofs.MasterTakes.{any_ok, book_before, kept_above, named_by, taken_above, unasked_by}
 use Rattle.dnp_world.proofs.ends.CentreMasterEnd.take_in.Goals as goal
 
 pub returns : goal.returns
@@ -22,5 +22,7 @@ returns g c =
       few = any_ok made _ (λ t. omega arith);
       kept = λ well. kept_above archive ledger old new answer call.unchanged (call.journal.unchanged well.0) call.book call.indices;
       refused = call.refused;
+      unasked = λ well. unasked_by answer made _ call.refused
+          (kept_above archive ledger old new answer call.unchanged (call.journal.unchanged well.0) call.book call.indices);
       named = named_by answer made _ call.named;
     }

@@ -1,7 +1,7 @@
 -- What the concentrator's call promises, as the master's end of a link promises it.
 use Rattle.dnp_concentrator.specs.Concentrator.{taking_at}
 use Rattle.dnp_world.specs.SystemParts.{concentrator_of}
-use Rattle.dnp_world.proofs.MasterTakes.{any_ok, few_below, kept_below, named_by, taken_below, well_before}
+use Rattle.dnp_world.proofs.MasterTakes.{any_ok, few_below, kept_below, named_by, taken_below, unasked_by, well_before}
 use Rattle.dnp_world.proofs.ends.ConcentratorMasterEnd.take_in.Goals as goal
 
 pub returns : goal.returns
@@ -20,5 +20,7 @@ returns g c =
       few = any_ok made _ (few_below (concentrator_of stock ledger old) c.args.link);
       kept = λ well. kept_below stock ledger old new answer call.links_unchanged call.unchanged (call.queue.unchanged well.0) call.outputs call.plan;
       refused = call.refused;
+      unasked = λ well. unasked_by answer made _ call.refused
+          (kept_below stock ledger old new answer call.links_unchanged call.unchanged (call.queue.unchanged well.0) call.outputs call.plan);
       named = named_by answer made _ call.named;
     }

@@ -1,5 +1,5 @@
 -- A reading releases nothing, and one row at most is dropped for it.
-use Rattle.std.proofs.Common.{◌≡◌, ◌≤◌, ◌++◌, ◌∙◌, List, length, ap, subst, sym, arith}
+use Rattle.std.proofs.Common.{◌≡◌, ◌≤◌, ◌++◌, ◌∙◌, List, length, ap, refl, subst, sym, arith}
 use Rattle.std.specs.Prelude.{is_ok}
 use Rattle.dnp_objects.specs.declared.row.Row.{Row}
 use Rattle.dnp_controls.specs.Latches.{no_panel}
@@ -7,7 +7,7 @@ use Rattle.dnp_line.specs.Lines.{HeldLine, LineState}
 use Rattle.dnp_outstation.specs.Parts.{whole_of}
 use Rattle.dnp_outstation.specs.Station.{actions_of}
 use Rattle.dnp_pointdb.specs.Database.{answer_of}
-use Rattle.dnp_world.specs.OneLinkEvents.{AreSent}
+use Rattle.dnp_world.specs.Channels.{AreSent, state_of}
 use Rattle.dnp_world.specs.OneLinkParts.{link_of}
 use Rattle.dnp_world.proofs.OneLinkLists.{extended}
 use Rattle.dnp_world.proofs.OneLinkSteps.{changes}
@@ -23,12 +23,17 @@ returns-in-Ok-clause-done g c = λ honest.
     let overwritten : List Row = c.as_slice.result.now in
     let same : overwritten ≡ c.in-Ok.actions.overwritten = c.as_slice.ensures in
     changes _ old kind index reading (answer_of old.outstation.core.points kind index reading) c.change.result c.in-Ok.actions (actions_of c.in-Ok.actions)
-    (whole_of contents (λ _. no_panel) c.change.new.self) c.send_all.new.line.state c.send_all.new.port c.extend_from_slice.new.self.items
+    (whole_of contents (λ _. no_panel) c.change.new.self)
+    (record (state_of c.args.self.now.channel) { up = c.send_all.new.line.state; outstation_port = c.send_all.new.port }) c.extend_from_slice.new.self.items
     c.change.ensures.refused c.in-Ok.is (c.in-Ok.ensures.changed honest)
     (λ made. c.a_confirm_releases_what_its_fragment_reported.ensures.changed old.outstation old.now kind index reading made)
     (c.in-Ok.ensures.not_exhausted honest)
-    (subst (λ (line : LineState). AreSent (actions_of c.in-Ok.actions).send line c.args.self.now.channel.outstation_port c.send_all.new.line.state c.send_all.new.port)
-    (ap (λ (line : HeldLine). line.state) c.in_ok-reserve.ensures.ok) c.send_all.ensures)
+    (record {
+      sent = subst
+          (λ (line : LineState). AreSent (actions_of c.in-Ok.actions).send line old.channel.outstation_port c.send_all.new.line.state c.send_all.new.port)
+          (ap (λ (line : HeldLine). line.state) c.in_ok-reserve.ensures.ok) c.send_all.ensures;
+      after = refl;
+    })
     (λ few.
     let room : length overwritten ≤ 1 = subst (λ (rows : List Row). length rows ≤ 1) (sym same) few in
     extended (is_ok c.extend_from_slice.result) c.reserve-2.new.self.items overwritten c.extend_from_slice.new.self.items c.extend_from_slice.ensures.items

@@ -8,9 +8,10 @@ use Rattle.dnp_eventbuf.specs.Stock.{rows_in}
 use Rattle.dnp_outstation.specs.Parts.{whole_of, with_lanes}
 use Rattle.dnp_outstation.specs.State.{State, Actions}
 use Rattle.dnp_outstation.specs.Station.{actions_of}
-use Rattle.dnp_world.specs.Channels.{ChannelState, state_of, ComesToOutstation}
+use Rattle.dnp_world.specs.Channels.{ChannelState, state_of, ComesToOutstation, left_by}
+use Rattle.dnp_world.specs.OneLinkEvents.{ComesDown}
 use Rattle.dnp_world.specs.OneLinkParts.{link_of}
-use Rattle.dnp_world.proofs.OneLinkComing.{comes, few_came, unfollowed}
+use Rattle.dnp_world.proofs.OneLinkComing.{comes, few_came, unfollowed, with_parts}
 use Rattle.dnp_world.proofs.OneLinkLists.{extended}
 use Rattle.dnp_world.proofs.OneLinkSteps.{Laws}
 use Rattle.dnp_world.proofs.one_link.OneLink.come_down.Goals as goal
@@ -46,6 +47,7 @@ returns-then-answered-clause-done g c = λ honest.
     extended (is_ok c.extend_from_slice.result) c.reserve.new.self.items discarded released c.extend_from_slice.ensures.items
     (c.extend_from_slice.ensures.succeeds (omega (arith, few, waits, c.in_ok-reserve.ensures.ok)))
     ∙ ap (λ (rows : List Row). rows ++ discarded) c.in_ok-reserve.ensures.items ∙ ap (λ (rows : List Row). old.released ++ rows) c.as_slice.ensures in
-    comes (λ _. ⊤) no_panel old state does answered last released
+    subst (λ (lines : ChannelState). ComesDown no_panel (left_by c.args.repeats first.down) old (with_parts old state lines released)) (sym c.settle.ensures)
+    (comes (λ _. ⊤) no_panel c.args.repeats old state does answered last released
     (subst (λ (s : State). ComesToOutstation (λ _. ⊤) no_panel old.now s state does answered first last) same came)
-    (λ _. lists) (λ none. absurd (false≢true (sym none ∙ c.if-answered.true)))
+    (λ _. lists) (λ none. absurd (false≢true (sym none ∙ c.if-answered.true))))

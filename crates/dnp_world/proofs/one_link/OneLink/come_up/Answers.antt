@@ -1,28 +1,20 @@
--- The front unit is heard, and what it completes is taken in.
-use Rattle.std.proofs.Common.{refl, [], ◌∷◌}
+-- What comes to the receiver comes up the link.
+use Rattle.dnp_world.specs.Channels.{left_by, state_of}
 use Rattle.dnp_world.specs.OneLinkParts.{link_of}
-use Rattle.dnp_world.proofs.OneLinkArrivals.{heard_whole, heard_part}
+use Rattle.dnp_world.proofs.OneLinkArrivals.{comes_up, on_err, on_ok, stops_up}
 use Rattle.dnp_world.proofs.one_link.OneLink.come_up.Goals as goal
 
-pub returns-in_default-take-clause-done : goal.returns-in_default-take-clause-done
-returns-in_default-take-clause-done g c = λ honest.
-    let old = link_of g.L.Lanes.contents c.args.self.now in
-    let done = c.in_default-take.ensures.done honest in
-    record {
-      port = c.hear-whole.new.port;
-      given = done.0 ∷ [];
-      heard = heard_whole old.up c.in-Some.unit.now old.master_port c.hear-whole.new.port c.hear-whole.result done.0 c.in-Some.ensures
-          c.hear-whole.ensures done.1 c.if-whole.true;
-      came = done.2;
-    }
+pub returns-clause-done : goal.returns-clause-done
+returns-clause-done g c = λ honest.
+    let self = c.args.self.now in
+    on_ok c.come_up.result _ _
+    (comes_up g.S.Sink.takes (link_of g.L.Lanes.contents self) self.receiver c.come_up.new.end (state_of self.channel) (state_of c.come_up.new.self) _ _
+    (left_by c.args.repeats))
+    (c.come_up.ensures.came honest)
 
-pub returns-else-whole-clause-done : goal.returns-else-whole-clause-done
-returns-else-whole-clause-done g c = λ honest.
-    let old = link_of g.L.Lanes.contents c.args.self.now in
-    record {
-      port = c.hear-whole.new.port;
-      given = [];
-      heard = heard_part old.up c.in-Some.unit.now old.master_port c.hear-whole.new.port c.hear-whole.result c.shows.ensures.0 c.in-Some.ensures
-          c.hear-whole.ensures c.shows.ensures.1 c.if-whole.false;
-      came = refl;
-    }
+pub returns-clause-stopped : goal.returns-clause-stopped
+returns-clause-stopped g c = λ honest.
+    let self = c.args.self.now in
+    on_err c.come_up.result _ _ _
+    (stops_up g.S.Sink.keeps (link_of g.L.Lanes.contents self) self.receiver c.come_up.new.end (state_of self.channel) (state_of c.come_up.new.self))
+    (c.come_up.ensures.kept honest) c.come_up.ensures.lines

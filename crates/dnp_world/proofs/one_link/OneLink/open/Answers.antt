@@ -8,7 +8,7 @@ use Rattle.dnp_outstation.specs.Station.{actions_of}
 use Rattle.dnp_world.specs.Channels.{state_of}
 use Rattle.dnp_world.specs.OneLinkEvents.{opening}
 use Rattle.dnp_world.specs.OneLinkParts.{link_of}
-use Rattle.dnp_world.proofs.OneLinkComing.{stepped}
+use Rattle.dnp_world.proofs.OneLinkSteps.{steps_on}
 use Rattle.dnp_world.proofs.one_link.OneLink.open.Goals as goal
 
 pub returns-clause-done : goal.returns-clause-done
@@ -18,5 +18,5 @@ returns-clause-done g c = rw (c.opened.ensures) (λ honest.
     let step : Step = opened_of old.outstation old.now in
     let none : step.does.discarded ≡ [] = search rules in
     let opened = c.in_ok-open.ensures.opened (honest, tt) in
-    stepped (opening old) step (whole_of contents (λ _. no_panel) c.open.new.end) (actions_of c.open.new.actions) (state_of c.open.new.self)
+    steps_on (opening old) step (whole_of contents (λ _. no_panel) c.open.new.end) (actions_of c.open.new.actions) (state_of c.open.new.self)
     opened.0 opened.1 none)

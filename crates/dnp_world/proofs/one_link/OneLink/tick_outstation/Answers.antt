@@ -5,7 +5,7 @@ use Rattle.dnp_outstation.specs.Parts.{whole_of}
 use Rattle.dnp_outstation.specs.Station.{actions_of}
 use Rattle.dnp_world.specs.Channels.{state_of}
 use Rattle.dnp_world.specs.OneLinkParts.{link_of}
-use Rattle.dnp_world.proofs.OneLinkComing.{stepped}
+use Rattle.dnp_world.proofs.OneLinkSteps.{steps_on}
 use Rattle.dnp_world.proofs.one_link.OneLink.tick_outstation.Goals as goal
 
 pub returns-clause-done : goal.returns-clause-done
@@ -13,6 +13,6 @@ returns-clause-done g c = λ honest.
     let contents = g.L.Lanes.contents in
     let old = link_of contents c.args.self.now in
     let ticked = c.in_ok-tick.ensures.ticked (honest, tt) in
-    stepped old (tick_of old.outstation old.now) (whole_of contents (λ _. no_panel) c.tick.new.end) (actions_of c.tick.new.actions)
+    steps_on old (tick_of old.outstation old.now) (whole_of contents (λ _. no_panel) c.tick.new.end) (actions_of c.tick.new.actions)
     (state_of c.tick.new.self) ticked.0 ticked.1
     (c.a_confirm_releases_what_its_fragment_reported.ensures.ticked old.outstation old.now).discarded
