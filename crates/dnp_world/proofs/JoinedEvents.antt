@@ -9,7 +9,7 @@ use Rattle.dnp_objects.specs.declared.row.Row.{Row}
 use Rattle.dnp_controls.specs.Panel.{Panel}
 use Rattle.dnp_eventbuf.specs.Buffered.{Buffered, buffered_row}
 use Rattle.dnp_eventbuf.specs.Stock.{arriving}
-use Rattle.dnp_line.specs.Lines.{LineState, lost_on}
+use Rattle.dnp_line.specs.Lines.{LineState, lost_on, delivered_on, repeated_on}
 use Rattle.dnp_line.specs.Ports.{reset_of}
 use Rattle.dnp_outstation.specs.Calls.{tick_of, opened_of, restart_of, emptied_of}
 use Rattle.dnp_outstation.specs.Connection.{closed}
