@@ -137,7 +137,7 @@ lasts_on laws old mid new first second ran one two i =
 
 -- ---- events that make no row
 
-all_taken : {A : Type 0} (P : A → Type 0) (n : ℕ) (xs : List A) → All P xs → All P (take n xs)
+pub all_taken : {A : Type 0} (P : A → Type 0) (n : ℕ) (xs : List A) → All P xs → All P (take n xs)
 all_taken P zero xs all k d low = absurd (omega (arith, low))
 all_taken P (suc n) [] all k d low = absurd (omega (arith, low))
 all_taken P (suc n) (x ∷ xs) all zero d low = all zero d (omega arith)
@@ -211,17 +211,25 @@ ran_control (Some station) id old new (above, first, second) =
     ran_both IsOfControl old above new (ran_accepted Above (Some id) old above first)
     (ran_accepted (Below station) (next_below above station) above new second)
 
+-- what a control leaves, by what is so where nothing happened, where its events happened, and where they stopped
+pub control_leaves : (Leaves : System → System → Type 0) → ((old new : System) → new ≡ old → Leaves old new)
+    → ((old new : System) → Ran IsOfControl old new → Leaves old new) → ((old new : System) → StopsIn IsOfControl old new → Leaves old new)
+    → (id : ℕ) (old new : System) (result : Result ⊤ ControlFault) → ControlEnds id old result new → Leaves old new
+control_leaves Leaves rest ran stop id old new (Ok done) (can, control) = ran old new (ran_control (station_in old id) id old new control)
+control_leaves Leaves rest ran stop id old new (Err fault.NotQuiet) (loud, same) = rest old new same
+control_leaves Leaves rest ran stop id old new (Err fault.NotNext) (quiet, waits, same) = rest old new same
+control_leaves Leaves rest ran stop id old new (Err (fault.Refused status)) (can, refused) =
+    ran old new (ran_refused_for (station_in old id) id status old new refused)
+control_leaves Leaves rest ran stop id old new (Err (fault.Fault cause)) (inl same) = rest old new same
+control_leaves Leaves rest ran stop id old new (Err (fault.Fault cause)) (inr (can, stops)) =
+    stop old new (stops_for (station_in old id) id old new stops)
+
 pub calm_control : LastingLaws → (id : ℕ) (old new : System) (result : Result ⊤ ControlFault) → IsSteady old → ControlEnds id old result new
     → Goes (λ i. []) old new
-calm_control laws id old new (Ok done) s (can, control) =
-    calm_run laws IsOfControl control_makes_none old new s (ran_control (station_in old id) id old new control)
-calm_control laws id old new (Err fault.NotQuiet) s (loud, same) = rests old new s same
-calm_control laws id old new (Err fault.NotNext) s (quiet, waits, same) = rests old new s same
-calm_control laws id old new (Err (fault.Refused status)) s (can, refused) =
-    calm_run laws IsOfControl control_makes_none old new s (ran_refused_for (station_in old id) id status old new refused)
-calm_control laws id old new (Err (fault.Fault cause)) s (inl same) = rests old new s same
-calm_control laws id old new (Err (fault.Fault cause)) s (inr (can, stop)) =
-    calm_stop laws IsOfControl control_makes_none old new s (stops_for (station_in old id) id old new stop)
+calm_control laws id old new result s ends =
+    control_leaves (λ was is. IsSteady was → Goes (λ i. []) was is) (λ was is same steady. rests was is steady same)
+    (λ was is ran steady. calm_run laws IsOfControl control_makes_none was is steady ran)
+    (λ was is stop steady. calm_stop laws IsOfControl control_makes_none was is steady stop) id old new result ends s
 
 -- ---- calls
 
@@ -245,10 +253,10 @@ pub lasts_if_stopped : (events : List Event) (old new : System) (r : Result ⊤ 
 lasts_if_stopped events old new (Ok done) stopped some stop = stop
 lasts_if_stopped events old new (Err stopped_by) stopped some stop = stopped stopped_by.done some stop
 
--- what a clean round leaves
-pub calm_round : (on : Link) (old new : System) (r : Result ⊤ RoundFault) → (IsRound on old new → Goes (λ i. []) old new)
-    → (StopsInRound on old new → Goes (λ i. []) old new) → (new ≡ old → Goes (λ i. []) old new) → OnOk r (IsRound on old new)
-    → IfErr r (λ fault. fault ≢ round.NotQuiet → StopsInRound on old new) → (r ≡ Err round.NotQuiet → new ≡ old) → Goes (λ i. []) old new
-calm_round on old new (Ok done) whole stop same all some none = whole all
-calm_round on old new (Err round.NotQuiet) whole stop same all some none = same (none refl)
-calm_round on old new (Err (round.Fault cause)) whole stop same all some none = stop (some (λ e. cc))
+-- what a clean round leaves, by what is so where it was done, where it stopped, and where nothing happened
+pub round_leaves : (Left : Type 0) (on : Link) (old new : System) (r : Result ⊤ RoundFault) → (IsRound on old new → Left)
+    → (StopsInRound on old new → Left) → (new ≡ old → Left) → OnOk r (IsRound on old new)
+    → IfErr r (λ fault. fault ≢ round.NotQuiet → StopsInRound on old new) → (r ≡ Err round.NotQuiet → new ≡ old) → Left
+round_leaves Left on old new (Ok done) whole stop same all some none = whole all
+round_leaves Left on old new (Err round.NotQuiet) whole stop same all some none = same (none refl)
+round_leaves Left on old new (Err (round.Fault cause)) whole stop same all some none = stop (some (λ e. cc))

@@ -48,6 +48,14 @@ pub fn commands_are_issued_by_events_alone()
         → Issues (take done events) old new }
 {}
 
+/// Clean rounds and clean controls issue nothing, whatever they end with.
+pub fn rounds_and_controls_issue_nothing()
+    ensures round { (on : Link) (old new : System) → IsRound on old new → new.history.issued ≡ old.history.issued }
+    ensures round_stopped { (on : Link) (old new : System) → StopsInRound on old new → new.history.issued ≡ old.history.issued }
+    ensures control { (id : ℕ) (old new : System) (result : Result ⊤ ControlFault) → ControlEnds id old result new
+        → new.history.issued ≡ old.history.issued }
+{}
+
 /// Whatever happens to a steady system leaves it steady, and what happened at its substations is what had happened and the rows
 /// that a reading makes.
 pub fn every_event_keeps_a_system_steady()

@@ -14,7 +14,7 @@ ghost use Rattle.dnp_world.specs.ControlMoves.{ControlMoves};
 ghost use Rattle.dnp_world.specs.Controls.{ControlEnds};
 ghost use Rattle.dnp_world.specs.Rounds.{IsRound, StopsInRound, is_quiet_on};
 ghost use Rattle.dnp_world.specs.Shown.{StoresAreWell};
-ghost use Rattle.dnp_world.specs.Steady.{Lasts};
+ghost use Rattle.dnp_world.specs.Steady.{Issues, Lasts};
 ghost use Rattle.dnp_world.specs.SystemRuns.{RunsTo, StopsAfter};
 ghost use Rattle.dnp_world.specs.Systems.{front_on, standing_on};
 
@@ -148,6 +148,8 @@ impl<Q: Lanes, J: JournalStore, A: Book, B: Book> World<Q, J, A, B> {
         ensures stopped { StoresAreWell Q.honest J.honest A.honest A.is_stopped B.honest B.is_stopped self.new.stores → IfErr result (λ stopped. StopsAfter self.old.system events.now stopped.done self.new.system) }
         ensures lasts { StoresAreWell Q.honest J.honest A.honest A.is_stopped B.honest B.is_stopped self.new.stores → OnOk result (Lasts events.now self.old.system self.new.system) }
         ensures lasts_so_far { StoresAreWell Q.honest J.honest A.honest A.is_stopped B.honest B.is_stopped self.new.stores → IfErr result (λ stopped. Lasts (take stopped.done events.now) self.old.system self.new.system) }
+        ensures issued { StoresAreWell Q.honest J.honest A.honest A.is_stopped B.honest B.is_stopped self.new.stores → OnOk result (Issues events.now self.old.system self.new.system) }
+        ensures issued_so_far { StoresAreWell Q.honest J.honest A.honest A.is_stopped B.honest B.is_stopped self.new.stores → IfErr result (λ stopped. Issues (take stopped.done events.now) self.old.system self.new.system) }
         ensures holds { StoresAreWell Q.honest J.honest A.honest A.is_stopped B.honest B.is_stopped self.new.stores → Holds (report_of self.new.system) }
         ensures opens { StoresAreWell Q.honest J.honest A.honest A.is_stopped B.honest B.is_stopped self.new.stores → OnOk result (OpensQuiet events.now self.new.system) }
     {
@@ -171,6 +173,7 @@ impl<Q: Lanes, J: JournalStore, A: Book, B: Book> World<Q, J, A, B> {
         ensures stopped { StoresAreWell Q.honest J.honest A.honest A.is_stopped B.honest B.is_stopped self.new.stores → IfErr result (λ fault. fault ≢ RoundFault.NotQuiet → StopsInRound on self.old.system self.new.system) }
         ensures moves { StoresAreWell Q.honest J.honest A.honest A.is_stopped B.honest B.is_stopped self.new.stores → OnOk result ∥ RoundMoves on self.old.system self.new.system ∥₁ }
         ensures fate { StoresAreWell Q.honest J.honest A.honest A.is_stopped B.honest B.is_stopped self.new.stores → IsFate (λ i. []) (report_of self.old.system) (report_of self.new.system) }
+        ensures none_issued { StoresAreWell Q.honest J.honest A.honest A.is_stopped B.honest B.is_stopped self.new.stores → self.new.system.history.issued ≡ self.old.system.history.issued }
         ensures holds { StoresAreWell Q.honest J.honest A.honest A.is_stopped B.honest B.is_stopped self.new.stores → Holds (report_of self.new.system) }
     {
         self.clean_round_by(alloc, on, &mut InMemory)
@@ -191,9 +194,34 @@ impl<Q: Lanes, J: JournalStore, A: Book, B: Book> World<Q, J, A, B> {
         ensures operates { StoresAreWell Q.honest J.honest A.honest A.is_stopped B.honest B.is_stopped self.new.stores → OnOk result ∥ ControlMoves id self.old.system self.new.system ∥₁ }
         ensures rests { StoresAreWell Q.honest J.honest A.honest A.is_stopped B.honest B.is_stopped self.new.stores → (status : ℕ) → result ≡ Err (ControlFault.Refused status) → self.new.system.history.operated ≡ self.old.system.history.operated }
         ensures fate { StoresAreWell Q.honest J.honest A.honest A.is_stopped B.honest B.is_stopped self.new.stores → IsFate (λ i. []) (report_of self.old.system) (report_of self.new.system) }
+        ensures none_issued { StoresAreWell Q.honest J.honest A.honest A.is_stopped B.honest B.is_stopped self.new.stores → self.new.system.history.issued ≡ self.old.system.history.issued }
         ensures holds { StoresAreWell Q.honest J.honest A.honest A.is_stopped B.honest B.is_stopped self.new.stores → Holds (report_of self.new.system) }
     {
         self.clean_control_by(alloc, id, &mut InMemory)
+    }
+
+    /// The stores, as they stand: the concentrator's queue, the centre's journal, and the books of concentrator and centre. So whoever
+    /// lent them can ask them whether they are well, as what the other calls promise demands.
+    pub fn into_stores(self) -> (Q, J, A, B)
+        ensures queue { result.0 ≡ self.stores.queue }
+        ensures journal { result.1 ≡ self.stores.journal }
+        ensures controls { result.2 ≡ self.stores.controls }
+        ensures orders { result.3 ≡ self.stores.orders }
+    {
+        let World { parts } = self;
+        let Parts {
+            map: _,
+            substations: _,
+            concentrator,
+            centre,
+            above: _,
+            moment: _,
+            actions: _,
+            history: _,
+        } = parts;
+        let (queue, controls) = concentrator.into_stores();
+        let (journal, orders) = centre.into_stores();
+        (queue, journal, controls, orders)
     }
 
     /// What became of all rows and commands so far. It changes nothing, and what holds at every moment holds of it.

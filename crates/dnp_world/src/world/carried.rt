@@ -9,13 +9,16 @@ ghost use Rattle.dnp_world.specs.Opening.{OpensQuiet};
 ghost use Rattle.dnp_world.specs.Reports.{Holds, IsFate};
 ghost use Rattle.dnp_world.specs.Rounds.{IsRound, StopsInRound, is_quiet_on};
 ghost use Rattle.dnp_world.specs.Shown.{StoresAreWell};
-ghost use Rattle.dnp_world.specs.Steady.{Lasts};
+ghost use Rattle.dnp_world.specs.Steady.{Issues, Lasts};
 ghost use Rattle.dnp_world.specs.SystemRuns.{RunsTo, StopsAfter};
 
 use crate::carrier::Carrier;
 use crate::control_laws::a_clean_control_operates;
 use crate::event::{Event, Link};
-use crate::headline_laws::{rounds_and_controls_keep_a_system_steady, steady_systems_stay_steady};
+use crate::headline_laws::{
+    commands_are_issued_by_events_alone, rounds_and_controls_issue_nothing,
+    rounds_and_controls_keep_a_system_steady, steady_systems_stay_steady,
+};
 use crate::movement_laws::a_clean_round_moves_rows;
 use crate::opening_laws::an_opened_link_is_quiet;
 use crate::round_fault::{ControlFault, RoundFault};
@@ -39,10 +42,13 @@ impl<Q: Lanes, J: JournalStore, A: Book, B: Book> World<Q, J, A, B> {
         ensures stopped { StoresAreWell Q.honest J.honest A.honest A.is_stopped B.honest B.is_stopped self.new.stores → IfErr result (λ stopped. StopsAfter self.old.system events.now stopped.done self.new.system) }
         ensures lasts { StoresAreWell Q.honest J.honest A.honest A.is_stopped B.honest B.is_stopped self.new.stores → OnOk result (Lasts events.now self.old.system self.new.system) }
         ensures lasts_so_far { StoresAreWell Q.honest J.honest A.honest A.is_stopped B.honest B.is_stopped self.new.stores → IfErr result (λ stopped. Lasts (take stopped.done events.now) self.old.system self.new.system) }
+        ensures issued { StoresAreWell Q.honest J.honest A.honest A.is_stopped B.honest B.is_stopped self.new.stores → OnOk result (Issues events.now self.old.system self.new.system) }
+        ensures issued_so_far { StoresAreWell Q.honest J.honest A.honest A.is_stopped B.honest B.is_stopped self.new.stores → IfErr result (λ stopped. Issues (take stopped.done events.now) self.old.system self.new.system) }
         ensures holds { StoresAreWell Q.honest J.honest A.honest A.is_stopped B.honest B.is_stopped self.new.stores → Holds (report_of self.new.system) }
         ensures opens { StoresAreWell Q.honest J.honest A.honest A.is_stopped B.honest B.is_stopped self.new.stores → OnOk result (OpensQuiet events.now self.new.system) }
     {
         steady_systems_stay_steady();
+        commands_are_issued_by_events_alone();
         an_opened_link_is_quiet();
         self.parts.run(alloc, events, carrier)
     }
@@ -62,10 +68,12 @@ impl<Q: Lanes, J: JournalStore, A: Book, B: Book> World<Q, J, A, B> {
         ensures stopped { StoresAreWell Q.honest J.honest A.honest A.is_stopped B.honest B.is_stopped self.new.stores → IfErr result (λ fault. fault ≢ RoundFault.NotQuiet → StopsInRound on self.old.system self.new.system) }
         ensures moves { StoresAreWell Q.honest J.honest A.honest A.is_stopped B.honest B.is_stopped self.new.stores → OnOk result ∥ RoundMoves on self.old.system self.new.system ∥₁ }
         ensures fate { StoresAreWell Q.honest J.honest A.honest A.is_stopped B.honest B.is_stopped self.new.stores → IsFate (λ i. []) (report_of self.old.system) (report_of self.new.system) }
+        ensures none_issued { StoresAreWell Q.honest J.honest A.honest A.is_stopped B.honest B.is_stopped self.new.stores → self.new.system.history.issued ≡ self.old.system.history.issued }
         ensures holds { StoresAreWell Q.honest J.honest A.honest A.is_stopped B.honest B.is_stopped self.new.stores → Holds (report_of self.new.system) }
     {
         steady_systems_stay_steady();
         rounds_and_controls_keep_a_system_steady();
+        rounds_and_controls_issue_nothing();
         a_clean_round_moves_rows();
         self.parts.clean_round(alloc, on, carrier)
     }
@@ -83,10 +91,12 @@ impl<Q: Lanes, J: JournalStore, A: Book, B: Book> World<Q, J, A, B> {
         ensures operates { StoresAreWell Q.honest J.honest A.honest A.is_stopped B.honest B.is_stopped self.new.stores → OnOk result ∥ ControlMoves id self.old.system self.new.system ∥₁ }
         ensures rests { StoresAreWell Q.honest J.honest A.honest A.is_stopped B.honest B.is_stopped self.new.stores → (status : ℕ) → result ≡ Err (ControlFault.Refused status) → self.new.system.history.operated ≡ self.old.system.history.operated }
         ensures fate { StoresAreWell Q.honest J.honest A.honest A.is_stopped B.honest B.is_stopped self.new.stores → IsFate (λ i. []) (report_of self.old.system) (report_of self.new.system) }
+        ensures none_issued { StoresAreWell Q.honest J.honest A.honest A.is_stopped B.honest B.is_stopped self.new.stores → self.new.system.history.issued ≡ self.old.system.history.issued }
         ensures holds { StoresAreWell Q.honest J.honest A.honest A.is_stopped B.honest B.is_stopped self.new.stores → Holds (report_of self.new.system) }
     {
         steady_systems_stay_steady();
         rounds_and_controls_keep_a_system_steady();
+        rounds_and_controls_issue_nothing();
         a_clean_control_operates();
         self.parts.clean_control(alloc, id, carrier)
     }

@@ -61,3 +61,10 @@ returns-clause-rests g c = λ well.
 pub returns-clause-holds : goal.returns-clause-holds
 returns-clause-holds g c = λ well.
     c.steady_systems_stay_steady.ensures.holds c.clean_control.new.self.system (invariant_of-self g c well)
+
+pub returns-clause-none_issued : goal.returns-clause-none_issued
+returns-clause-none_issued g c = λ well.
+    let old = c.self.inside.parts.system in
+    let new = c.clean_control.new.self.system in
+    rw (← c.self.view_is)
+    (c.rounds_and_controls_issue_nothing.ensures.control c.args.id old new c.clean_control.result (c.clean_control.ensures.ends well))

@@ -10,7 +10,7 @@ use Rattle.dnp_world.specs.Systems.{System}
 use Rattle.dnp_world.specs.declared.event.Link.{Link}
 use Rattle.dnp_world.specs.declared.round_fault.RoundFault.{RoundFault}
 use Rattle.dnp_world.specs.declared.round_fault.RoundFault.TheVariants.{NotQuiet}
-use Rattle.dnp_world.proofs.Lasting.{calm_round, fate_of, steady_of}
+use Rattle.dnp_world.proofs.Lasting.{fate_of, round_leaves, steady_of}
 use Rattle.dnp_world.proofs.world.World.clean_round_by.Goals as goal
 
 pub invariant_of-self : goal.invariant_of-self
@@ -20,7 +20,7 @@ invariant_of-self g c = λ well.
     let new = c.clean_round.new.self.system in
     let keeps = c.rounds_and_controls_keep_a_system_steady.ensures in
     steady_of (λ i. []) old new (c.self.invariant (c.clean_round.ensures.held well))
-    (λ s. calm_round on old new c.clean_round.result (λ round. keeps.round on old new s round) (λ stop. keeps.round_stopped on old new s stop)
+    (λ s. round_leaves _ on old new c.clean_round.result (λ round. keeps.round on old new s round) (λ stop. keeps.round_stopped on old new s stop)
     (λ same. keeps.rests old new s same) (c.clean_round.ensures.done well) (c.clean_round.ensures.stopped well)
     (λ is. ap (λ (shown : Shown _ _ _ _). shown.system) (c.clean_round.ensures.unchanged is)))
 
@@ -32,7 +32,7 @@ returns-clause-fate g c = λ well.
     let keeps = c.rounds_and_controls_keep_a_system_steady.ensures in
     rw (← c.self.view_is)
     (fate_of (λ i. []) old new (c.self.invariant (c.clean_round.ensures.held well))
-    (λ s. calm_round on old new c.clean_round.result (λ round. keeps.round on old new s round) (λ stop. keeps.round_stopped on old new s stop)
+    (λ s. round_leaves _ on old new c.clean_round.result (λ round. keeps.round on old new s round) (λ stop. keeps.round_stopped on old new s stop)
     (λ same. keeps.rests old new s same) (c.clean_round.ensures.done well) (c.clean_round.ensures.stopped well)
     (λ is. ap (λ (shown : Shown _ _ _ _). shown.system) (c.clean_round.ensures.unchanged is))))
 
@@ -62,3 +62,14 @@ returns-clause-holds g c = λ well.
 
 pub returns-clause-stopped : goal.returns-clause-stopped
 returns-clause-stopped g c = rw (← c.self.view_is) c.clean_round.ensures.stopped
+
+pub returns-clause-none_issued : goal.returns-clause-none_issued
+returns-clause-none_issued g c = λ well.
+    let on = c.args.on in
+    let old = c.self.inside.parts.system in
+    let new = c.clean_round.new.self.system in
+    let law = c.rounds_and_controls_issue_nothing.ensures in
+    rw (← c.self.view_is)
+    (round_leaves _ on old new c.clean_round.result (law.round on old new) (law.round_stopped on old new)
+    (λ same. ap (λ (s : System). s.history.issued) same) (c.clean_round.ensures.done well) (c.clean_round.ensures.stopped well)
+    (λ is. ap (λ (shown : Shown _ _ _ _). shown.system) (c.clean_round.ensures.unchanged is)))
