@@ -1,8 +1,9 @@
 -- What holds of a system's lists where links of the law stand behind them.
-use Rattle.std.proofs.Common.{◌≡◌, ℕ, ◌+◌, ◌<◌, ◌≤◌, Bool, true, List, ◌++◌, length, sym, ap, ◌∙◌, subst, arith}
+use Rattle.std.proofs.Common.{◌≡◌, ℕ, ◌+◌, ◌<◌, ◌≤◌, ◌⊎◌, inl, inr, Bool, true, false, not, cond, List, [], ◌∷◌, ◌++◌, length, refl, sym, ap, ◌∙◌, subst, arith}
 use Rattle.std.specs.Prelude.{nat_eq}
 use Rattle.std.specs.List.{All, Contains, count_by}
 use Rattle.std.specs.List.Sorted.{IsPermutation}
+use Rattle.std.proofs.lemmas.Bool.{cases_lt}
 use Rattle.std.proofs.lemmas.List.{map-append, length-map}
 use Rattle.std.proofs.lemmas.List.Sums.{count_by-le-length}
 use Rattle.std.proofs.lemmas.List.Elements.{All-weaker, All-contains_itself, filter_map-append}
@@ -19,7 +20,7 @@ use Rattle.dnp_world.specs.Link.{Link}
 use Rattle.dnp_world.specs.Reports.{Holds, happened, times}
 use Rattle.dnp_world.specs.Standing.{Stands}
 use Rattle.dnp_world.specs.Stations.{of_station, HasSameCounts}
-use Rattle.dnp_world.proofs.Counting.{count_by-append}
+use Rattle.dnp_world.proofs.Counting.{count_by-append, count_by-cons}
 use Rattle.dnp_world.proofs.ByStations.{Covers, count_pair, covered_by_stations, contains_counts, some_there}
 use Rattle.dnp_world.proofs.SystemCounts.{count_by-filter_map, passes, picked, counted_all, same_map, same_permutation, covered_filter_map, of_station-append}
 
@@ -169,6 +170,41 @@ queue_mapped laws indices links k b =
     (λ test. omega (arith, stood_counts laws l b.above_stands test, b.queue.same test))
     (λ test. omega (arith, least test (rows_of l.released), least test (rows_of l.left)))
 
+each_once : (b : Bool) → cond b 1 0 + cond (not b) 1 0 ≡ 1
+each_once true = refl
+each_once false = refl
+
+-- each row passes a test or doesn't
+both_counts : (test : Row → Bool) (rows : List Row) → count_by test rows + count_by (λ row. not (test row)) rows ≡ length rows
+both_counts test [] = refl
+both_counts test (row ∷ rows) =
+    omega (arith, count_by-cons test row rows, count_by-cons (λ x. not (test x)) row rows, each_once (test row), both_counts test rows)
+
+-- what was taken above stood in the queue
+pub journal_mapped : Laws → (indices : List Spans) (links : Links) (k : Kept) → IsBehind indices links k
+    → length (rows_below indices k.journal) ≡ length k.journal
+journal_mapped laws indices links k b =
+    omega (arith, below k.journal, both_counts mapped k.journal, b.journal.same unmapped, none_taken (cases_lt 0 (count_by unmapped (rows_of l.took))))
+  where
+    l : Link
+    l = links.above
+
+    mapped : Row → Bool
+    mapped row = passes (λ _. true) (row_below indices row)
+
+    unmapped : Row → Bool
+    unmapped row = not (mapped row)
+
+    below : (xs : List Row) → length (rows_below indices xs) ≡ count_by mapped xs
+    below xs = sym (counted_all (rows_below indices xs)) ∙ count_by-filter_map (λ _. true) (row_below indices) xs
+
+    none_stood : count_by unmapped (rows_of l.stood) ≡ 0
+    none_stood = omega (arith, stood_mapped indices links k b, below (rows_of l.stood), both_counts mapped (rows_of l.stood))
+
+    none_taken : (0 < count_by unmapped (rows_of l.took)) ⊎ (count_by unmapped (rows_of l.took) ≤ 0) → count_by unmapped (rows_of l.took) ≡ 0
+    none_taken (inl some) = absurd (omega (arith, took_stood laws l b.above_stands unmapped some, none_stood))
+    none_taken (inr none) = omega (arith, none)
+
 -- ---- nothing vanishes
 
 -- the rows that ever stood in the queue are in it, or were dropped, or were released, and then taken above
@@ -215,7 +251,7 @@ nothing_vanishes laws indices links k b =
 
 -- ---- what was dropped was counted
 
-dropped_mapped : Laws → (indices : List Spans) (links : Links) (k : Kept) → IsBehind indices links k
+pub dropped_mapped : Laws → (indices : List Spans) (links : Links) (k : Kept) → IsBehind indices links k
     → length (rows_below indices k.dropped) ≡ length k.dropped
 dropped_mapped laws indices links k b =
     let l : Link = links.above in

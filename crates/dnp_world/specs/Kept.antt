@@ -1,6 +1,6 @@
 -- Definition: the lists of a system that its report shows, as the system keeps them: what stands above has the indices above (own
 -- rule).
-use Rattle.std.specs.Prelude.{ℕ, Bool, not, List, [], map, filter, filter_map}
+use Rattle.std.specs.Prelude.{◌≡◌, ℕ, Bool, not, List, [], length, map, filter, filter_map}
 use Rattle.dnp_objects.specs.declared.row.Row.{Row}
 use Rattle.dnp_objects.specs.declared.command.Command.{Command}
 use Rattle.dnp_controls.specs.declared.book.Entry.{Entry}
@@ -72,6 +72,12 @@ shown_of indices k = record {
   operated = k.operated;
   lost = k.lost;
 }
+
+-- the index map leaves none of the rows above out
+pub record AreMapped (indices : List Spans) (k : Kept) : Type 0 where
+  pub queue : length (rows_below indices k.queue) ≡ length k.queue
+  pub dropped : length (rows_below indices k.dropped) ≡ length k.dropped
+  pub journal : length (rows_below indices k.journal) ≡ length k.journal
 
 -- ---- the books
 

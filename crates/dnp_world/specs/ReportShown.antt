@@ -1,10 +1,10 @@
 -- Definition: what a report of a whole system shows: what became of its rows and commands, each beside the number of its
 -- substation and with the index there (own rule: IEEE Std 1815-2012 knows no such report).
-use Rattle.std.specs.Prelude.{◌≡◌, ◌^◌, ◌-◌, min, List, map, take}
+use Rattle.std.specs.Prelude.{◌≡◌, ◌^◌, ◌-◌, min, List, length, map, take}
 use Rattle.std.specs.List.{flat_map}
 use Rattle.std.specs.List.Sorted.{IsPermutation, IsNonDecreasingBy}
 use Rattle.dnp_eventbuf.specs.declared.numbered.Numbered.{Numbered}
-use Rattle.dnp_eventbuf.specs.Stock.{Stock, lost_in, row_of}
+use Rattle.dnp_eventbuf.specs.Stock.{Stock, lost_in, row_of, rows_in}
 use Rattle.dnp_world.specs.Kept.{lane_rows_of, rows_below}
 use Rattle.dnp_world.specs.Reports as lists
 use Rattle.dnp_world.specs.Stations.{listed_from}
@@ -35,6 +35,12 @@ pub record Shows (s : System) (r : Report) : Type 0 where
   pub issued : r.issued ≡ s.history.issued
   pub operated : r.operated ≡ s.history.operated
   pub lost : r.lost ≡ min (lost_in s.concentrator.queue) (2 ^ 64 - 1)
+
+-- As many rows stand in each list of what is above as in the store that it shows: the index map leaves none out.
+pub record ListsAll (s : System) (r : lists.Report) : Type 0 where
+  pub journal : length r.journal ≡ length s.centre.journal.rows
+  pub queue : length r.queue ≡ length (rows_in s.concentrator.queue)
+  pub dropped : length r.dropped ≡ length s.history.dropped
 
 -- its lists, as the laws of a system speak of them
 abbrev pub lists_of : Report → lists.Report

@@ -12,6 +12,7 @@ ghost use Rattle.dnp_world.specs.Controls.{ControlEnds};
 ghost use Rattle.dnp_world.specs.FreshSystems.{fresh_system};
 ghost use Rattle.dnp_world.specs.Kept.{report_of};
 ghost use Rattle.dnp_world.specs.NewSystems.{AreEmpty, CanBegin};
+ghost use Rattle.dnp_world.specs.ReportShown.{ListsAll};
 ghost use Rattle.dnp_world.specs.Reports.{Holds};
 ghost use Rattle.dnp_world.specs.Rounds.{IsRound, StopsInRound};
 ghost use Rattle.dnp_world.specs.Steady.{Goes, IsSteady, Issues, Lasts, rows_made_at};
@@ -91,6 +92,7 @@ pub fn steady_systems_stay_steady()
     ensures at_first { (plan : Plan) (queue : Stock) (journal : Archive) (controls orders : Ledger) → CanBegin plan
         → AreEmpty queue journal controls orders → IsSteady (fresh_system plan queue journal controls orders) }
     ensures holds { (s : System) → ∥ IsSteady s ∥₁ → Holds (report_of s) }
+    ensures all { (s : System) → ∥ IsSteady s ∥₁ → ListsAll s (report_of s) }
 {
     every_event_keeps_a_system_steady();
     rows_are_made_by_events_alone();

@@ -29,8 +29,8 @@ ghost use Rattle.dnp_world.specs.declared.report.Report.{Report as Shown};
 ghost use Rattle.dnp_world.specs.Behind.{IsBehind, IsUntouched, Links, Turn, made_at, with_links};
 ghost use Rattle.dnp_world.specs.Channels.{DamagesAt};
 ghost use Rattle.dnp_world.specs.Joined.{rows_made_by};
-ghost use Rattle.dnp_world.specs.Kept.{Kept, commands_below, nothing_kept, order_of, orders_in, report_of, rows_below, shown_of, used_orders};
-ghost use Rattle.dnp_world.specs.ReportShown.{Shows, lists_of};
+ghost use Rattle.dnp_world.specs.Kept.{AreMapped, Kept, commands_below, nothing_kept, order_of, orders_in, report_of, rows_below, shown_of, used_orders};
+ghost use Rattle.dnp_world.specs.ReportShown.{ListsAll, Shows, lists_of};
 ghost use Rattle.dnp_world.specs.OneLinkEvents.{is_own};
 ghost use Rattle.dnp_world.specs.Reports.{Holds, IsFate, Report as ReportValue};
 ghost use Rattle.dnp_world.specs.Steady.{IsSteady};
@@ -54,6 +54,7 @@ use dnp_pointdb::laws::points_stay_sound;
 /// happened by one after the other, and in which order the queue is shown is no matter.
 pub fn lists_are_of_links()
     ensures holds { (indices : List Spans) (links : Links) (k : Kept) → IsBehind indices links k → Holds (shown_of indices k) }
+    ensures mapped { (indices : List Spans) (links : Links) (k : Kept) → IsBehind indices links k → AreMapped indices k }
     ensures at_first { (indices : List Spans) (links : Links) → ((i : ℕ) → IsUntouched (links.below i))
         → IsUntouched links.above → IsBehind indices links nothing_kept }
     ensures kept { (indices : List Spans) (station : ℕ) (links : Links) (old new : Kept) → IsBehind indices links old
@@ -72,9 +73,10 @@ pub fn lists_are_of_links()
     covered_is_by_counts::<(u64, Command)>();
 }
 
-/// While links of the law stand behind a system, its report shows what holds at every moment.
+/// While links of the law stand behind a system, its report shows what holds at every moment, and of all rows.
 pub fn what_stands_is_shown()
-    ensures { (s : System) → ∥ IsStanding s ∥₁ → Holds (report_of s) }
+    ensures holds { (s : System) → ∥ IsStanding s ∥₁ → Holds (report_of s) }
+    ensures all { (s : System) → ∥ IsStanding s ∥₁ → ListsAll s (report_of s) }
 {
     lists_are_of_links();
 }
@@ -87,6 +89,7 @@ pub fn what_a_report_shows_is_kept()
     ensures others { (s : System) (r : Shown) → Shows s r → length s.substations ≤ NUMBERS → lost_in s.concentrator.queue < 2 ^ 64
         → lists_of r ≡ record (report_of s) { queue = r.queue } }
     ensures holds { (s : System) (r : Shown) → Shows s r → length r.dropped < 2 ^ 64 → ∥ IsSteady s ∥₁ → Holds (lists_of r) }
+    ensures all { (s : System) (r : Shown) → Shows s r → ∥ IsSteady s ∥₁ → ListsAll s (lists_of r) }
 {
     lists_are_of_links();
     what_stands_is_shown();

@@ -8,7 +8,7 @@ ghost use Rattle.dnp_world.specs.Kept.{report_of};
 ghost use Rattle.dnp_world.specs.Movement.{RoundMoves};
 ghost use Rattle.dnp_world.specs.NewSystems.{AreEmpty};
 ghost use Rattle.dnp_world.specs.Opening.{OpensQuiet};
-ghost use Rattle.dnp_world.specs.ReportShown.{Shows, lists_of};
+ghost use Rattle.dnp_world.specs.ReportShown.{ListsAll, Shows, lists_of};
 ghost use Rattle.dnp_world.specs.Reports.{Holds, IsFate};
 ghost use Rattle.dnp_world.specs.ControlMoves.{ControlMoves};
 ghost use Rattle.dnp_world.specs.Controls.{ControlEnds};
@@ -119,7 +119,8 @@ impl<Q: Lanes + Drop, J: JournalStore + Drop, A: Book + Drop, B: Book + Drop> Wo
 impl<Q: Lanes, J: JournalStore, A: Book, B: Book> World<Q, J, A, B> {
     /// What holds of any system, whatever was done with it, where its stores are well. It does nothing.
     pub fn headline(&self)
-        ensures { StoresAreWell Q.honest J.honest A.honest A.is_stopped B.honest B.is_stopped self.now.stores → Holds (report_of self.now.system) }
+        ensures holds { StoresAreWell Q.honest J.honest A.honest A.is_stopped B.honest B.is_stopped self.now.stores → Holds (report_of self.now.system) }
+        ensures all { StoresAreWell Q.honest J.honest A.honest A.is_stopped B.honest B.is_stopped self.now.stores → ListsAll self.now.system (report_of self.now.system) }
     {
         steady_systems_stay_steady();
         let _ = &self.parts;
@@ -230,6 +231,7 @@ impl<Q: Lanes, J: JournalStore, A: Book, B: Book> World<Q, J, A, B> {
         ensures same { StoresAreWell Q.honest J.honest A.honest A.is_stopped B.honest B.is_stopped self.new.stores → self.new.system ≡ self.old.system }
         ensures shows { StoresAreWell Q.honest J.honest A.honest A.is_stopped B.honest B.is_stopped self.new.stores → IfOk result (Shows self.old.system) }
         ensures holds { StoresAreWell Q.honest J.honest A.honest A.is_stopped B.honest B.is_stopped self.new.stores → IfOk result (λ report. Holds (lists_of report)) }
+        ensures all { StoresAreWell Q.honest J.honest A.honest A.is_stopped B.honest B.is_stopped self.new.stores → IfOk result (λ report. ListsAll self.old.system (lists_of report)) }
     {
         what_a_report_shows_is_kept();
         self.parts.report(alloc)

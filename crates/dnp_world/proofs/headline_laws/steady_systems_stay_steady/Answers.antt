@@ -35,4 +35,7 @@ returns-clause-at_first c = λ plan queue journal controls orders begins empty. 
 }
 
 pub returns-clause-holds : goal.returns-clause-holds
-returns-clause-holds c = λ s some. c.what_stands_is_shown.ensures s (∥∥₁_map some (λ steady. steady.standing))
+returns-clause-holds c = λ s some. c.what_stands_is_shown.ensures.holds s (∥∥₁_map some (λ steady. steady.standing))
+
+pub returns-clause-all : goal.returns-clause-all
+returns-clause-all c = λ s some. c.what_stands_is_shown.ensures.all s (∥∥₁_map some (λ steady. steady.standing))

@@ -2,7 +2,7 @@
 use Rattle.std.specs.Prelude.{nat_eq}
 use Rattle.dnp_objects.specs.Counts.{IsEqualityTest}
 use Rattle.dnp_objects.specs.Equality.{row_eq, command_eq, pair_eq}
-use Rattle.dnp_world.proofs.Headline.{Laws, headline}
+use Rattle.dnp_world.proofs.Headline.{Laws, dropped_mapped, headline, journal_mapped, queue_mapped}
 use Rattle.dnp_world.proofs.SystemBeginning.{fresh_behind}
 use Rattle.dnp_world.proofs.Turning.{turned, fated, fates_joined, held_in_any_order}
 use Rattle.std.proofs.Common.{refl}
@@ -26,6 +26,13 @@ laws_of c =
 
 pub returns-clause-holds : goal.returns-clause-holds
 returns-clause-holds c = headline (laws_of c)
+
+pub returns-clause-mapped : goal.returns-clause-mapped
+returns-clause-mapped c = λ indices links k b. record {
+  queue = queue_mapped (laws_of c) indices links k b;
+  dropped = dropped_mapped (laws_of c) indices links k b;
+  journal = journal_mapped (laws_of c) indices links k b;
+}
 
 pub returns-clause-at_first : goal.returns-clause-at_first
 returns-clause-at_first c = fresh_behind c.link_law.ensures.start

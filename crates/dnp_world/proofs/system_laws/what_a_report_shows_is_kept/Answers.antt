@@ -1,5 +1,5 @@
 -- A sorted list that is filtered is a filtered list in another order; the rest is the same, as the numbers reach far enough.
-use Rattle.std.proofs.Common.{◌≡◌, ◌∙◌, ◌<◌, ◌≤◌, ◌^◌, ◌-◌, ◌⊎◌, inl, inr, ℕ, List, length, get_or, map, min, Option, Some, None, sym, ap, subst, arith}
+use Rattle.std.proofs.Common.{◌≡◌, true, ◌∙◌, ◌<◌, ◌≤◌, ◌^◌, ◌-◌, ◌⊎◌, inl, inr, ℕ, List, length, get_or, map, min, Option, Some, None, sym, ap, subst, arith}
 use Rattle.std.specs.Prelude.{IfSome, slice_get}
 use Rattle.std.specs.List.Sorted.{IsPermutation}
 use Rattle.std.specs.Option.{IsSomeAnd}
@@ -14,7 +14,7 @@ use Rattle.dnp_eventbuf.specs.Stock.{lost_in, row_of}
 use Rattle.dnp_objects.specs.declared.row.Row.{Row}
 use Rattle.dnp_world.specs.Kept.{lane_rows_of, report_of, rows_below}
 use Rattle.dnp_world.specs.Planned.{HasClassesBelow, IsAsPlanned}
-use Rattle.dnp_world.specs.ReportShown.{Shows, all_in, lists_of}
+use Rattle.dnp_world.specs.ReportShown.{ListsAll, Shows, all_in, lists_of}
 use Rattle.dnp_world.specs.Reports as lists
 use Rattle.dnp_world.specs.Reports.{Holds}
 use Rattle.dnp_world.specs.Stations.{listed_from}
@@ -23,6 +23,7 @@ use Rattle.dnp_world.specs.declared.parts.report.TheConstants.{NUMBERS}
 use Rattle.dnp_world.specs.declared.report.Report.{Report}
 use Rattle.dnp_world.proofs.ReportLists.{filtered_permutation}
 use Rattle.dnp_world.proofs.ReportReading.{all_rows_in}
+use Rattle.dnp_world.proofs.SystemCounts.{counted_all, same_permutation}
 use Rattle.dnp_world.proofs.system_laws.what_a_report_shows_is_kept.Goals as goal
 
 in_another_order : (s : System) (r : Report) → Shows s r → IsPermutation r.queue (report_of s).queue
@@ -88,7 +89,18 @@ few_lost s r shows holds counted =
 
 pub returns-clause-holds : goal.returns-clause-holds
 returns-clause-holds c = λ s r shows counted some.
-    let holds : Holds (report_of s) = c.what_stands_is_shown.ensures s (∥∥₁_map some (λ steady. steady.standing)) in
+    let holds : Holds (report_of s) = c.what_stands_is_shown.ensures.holds s (∥∥₁_map some (λ steady. steady.standing)) in
     let few : length s.substations ≤ NUMBERS = ∥∥₁_elim some (few_once s) (λ steady. few_substations s steady.planned) in
     subst (λ (l : lists.Report). Holds l) (sym (same_others s r shows few (few_lost s r shows holds counted)))
     (c.lists_are_of_links.ensures.reordered (report_of s) r.queue (in_another_order s r shows) holds)
+
+all_shown : (s : System) (r : Report) → Shows s r → ListsAll s (report_of s) → ListsAll s (lists_of r)
+all_shown s r shows all = record {
+  journal = ap (λ (rows : List (ℕ × Row)). length rows) shows.journal ∙ all.journal;
+  queue = sym (counted_all r.queue) ∙ (same_permutation r.queue (report_of s).queue (in_another_order s r shows)).same (λ _. true)
+      ∙ counted_all (report_of s).queue ∙ all.queue;
+  dropped = ap (λ (rows : List (ℕ × Row)). length rows) shows.dropped ∙ all.dropped;
+}
+
+pub returns-clause-all : goal.returns-clause-all
+returns-clause-all c = λ s r shows some. all_shown s r shows (c.what_stands_is_shown.ensures.all s (∥∥₁_map some (λ steady. steady.standing)))
