@@ -24,12 +24,16 @@ use Rattle.dnp_world.proofs.Counting.{count_by-append, count_by-cons}
 use Rattle.dnp_world.proofs.ByStations.{Covers, count_pair, covered_by_stations, contains_counts, some_there}
 use Rattle.dnp_world.proofs.SystemCounts.{count_by-filter_map, passes, picked, counted_all, same_map, same_permutation, covered_filter_map, of_station-append}
 
--- what the law of a link and the crate of rows and commands promise
-pub record Laws : Type 0 where
+-- what the law of a link promises
+pub record LinkLaws : Type 0 where
   pub covered : (l : Link) → Stands l → IsCoveredBy (rows_of l.released) (rows_of l.took)
   pub stood : (l : Link) → Stands l → All (Contains (rows_of (l.lanes ++ (l.released ++ l.left)))) (rows_of l.took)
   pub whole : (l : Link) → Stands l → IsPermutation l.stood (l.lanes ++ (l.released ++ l.left))
   pub performed : (l : Link) → Stands l → IsCoveredBy l.performed l.asked
+
+-- and the crate of rows and commands
+pub record Laws : Type 0 where
+  pub links : LinkLaws
   pub rows : Covers row_eq
   pub commands : Covers command_eq
   pub itself : (x : ℕ × Row) → pair_eq nat_eq row_eq x x ≡ true
@@ -37,7 +41,7 @@ pub record Laws : Type 0 where
 -- ---- one link
 
 -- the rows that ever stood in its lanes, by where they are now
-pub stood_counts : Laws → (l : Link) → Stands l → (test : Row → Bool)
+pub stood_counts : LinkLaws → (l : Link) → Stands l → (test : Row → Bool)
     → count_by test (rows_of l.stood) ≡ count_by test (rows_of l.lanes) + (count_by test (rows_of l.released) + count_by test (rows_of l.left))
 stood_counts laws l stands test =
     let now : ℕ = count_by test (rows_of (l.lanes ++ (l.released ++ l.left))) in
@@ -55,7 +59,7 @@ stood_counts laws l stands test =
     )
 
 -- where some row that the sink took passes a test, some row that stood in the lanes does
-took_stood : Laws → (l : Link) → Stands l → (test : Row → Bool) → 0 < count_by test (rows_of l.took) → 0 < count_by test (rows_of l.stood)
+took_stood : LinkLaws → (l : Link) → Stands l → (test : Row → Bool) → 0 < count_by test (rows_of l.took) → 0 < count_by test (rows_of l.stood)
 took_stood laws l stands test some =
     let now : List Row = rows_of (l.lanes ++ (l.released ++ l.left)) in
     let there : 0 < count_by test now = some_there test (rows_of l.took) now (laws.stood l stands) some in
@@ -67,7 +71,7 @@ took_stood laws l stands test some =
 -- ---- what happened
 
 -- what happened at a substation is what ever stood in its lanes
-pub happened_stood : Laws → (indices : List Spans) (links : Links) (k : Kept) → IsBehind indices links k → (i : ℕ)
+pub happened_stood : LinkLaws → (indices : List Spans) (links : Links) (k : Kept) → IsBehind indices links k → (i : ℕ)
     → HasSameCounts (rows_of (links.below i).stood) (of_station i (happened (shown_of indices k)))
 happened_stood laws indices links k b i =
     let l : Link = links.below i in
@@ -91,7 +95,7 @@ happened_stood laws indices links k b i =
 -- ---- nothing is invented
 
 -- a row that stood in the queue was taken below, so it stood in its substation's lanes
-stood_happened : Laws → (indices : List Spans) (links : Links) (k : Kept) → IsBehind indices links k → (x : ℕ × Row)
+stood_happened : LinkLaws → (indices : List Spans) (links : Links) (k : Kept) → IsBehind indices links k → (x : ℕ × Row)
     → 0 < count_by (λ row. passes (pair_eq nat_eq row_eq x) (row_below indices row)) (rows_of links.above.stood)
     → 0 < times x (happened (shown_of indices k))
 stood_happened laws indices links k b x stood =
@@ -104,7 +108,7 @@ stood_happened laws indices links k b x stood =
     omega (arith, below, (happened_stood laws indices links k b x.0).same (row_eq x.1), count_pair row_eq x all)
 
 -- a row of the journal was taken above, so it stood in the queue
-journal_happened : Laws → (indices : List Spans) (links : Links) (k : Kept) → IsBehind indices links k → (x : ℕ × Row)
+journal_happened : LinkLaws → (indices : List Spans) (links : Links) (k : Kept) → IsBehind indices links k → (x : ℕ × Row)
     → 0 < times x (rows_below indices k.journal) → 0 < times x (happened (shown_of indices k))
 journal_happened laws indices links k b x some =
     let test : Row → Bool = λ row. passes (pair_eq nat_eq row_eq x) (row_below indices row) in
@@ -117,13 +121,13 @@ nothing_invented : Laws → (indices : List Spans) (links : Links) (k : Kept) �
 nothing_invented laws indices links k b =
     let journal : List (ℕ × Row) = rows_below indices k.journal in
     All-weaker (Contains journal) (λ x. 1 ≤ times x (happened (shown_of indices k)))
-    (λ x there. journal_happened laws indices links k b x (contains_counts (pair_eq nat_eq row_eq x) journal x there (laws.itself x)))
+    (λ x there. journal_happened laws.links indices links k b x (contains_counts (pair_eq nat_eq row_eq x) journal x there (laws.itself x)))
     journal (All-contains_itself journal)
 
 -- ---- what stands in the queue
 
 -- a row of the queue stood there
-pub queue_happened : Laws → (indices : List Spans) (links : Links) (k : Kept) → IsBehind indices links k → (x : ℕ × Row)
+pub queue_happened : LinkLaws → (indices : List Spans) (links : Links) (k : Kept) → IsBehind indices links k → (x : ℕ × Row)
     → 0 < times x (rows_below indices k.queue) → 0 < times x (happened (shown_of indices k))
 queue_happened laws indices links k b x some =
     let test : Row → Bool = λ row. passes (pair_eq nat_eq row_eq x) (row_below indices row) in
@@ -162,7 +166,7 @@ stood_mapped : (indices : List Spans) (links : Links) (k : Kept) → IsBehind in
     → length (rows_below indices (rows_of links.above.stood)) ≡ length (rows_of links.above.stood)
 stood_mapped indices links k b = omega (arith, b.mapped, length-map links.above.stood buffered_row)
 
-pub queue_mapped : Laws → (indices : List Spans) (links : Links) (k : Kept) → IsBehind indices links k → length (rows_below indices k.queue) ≡ length k.queue
+pub queue_mapped : LinkLaws → (indices : List Spans) (links : Links) (k : Kept) → IsBehind indices links k → length (rows_below indices k.queue) ≡ length k.queue
 queue_mapped laws indices links k b =
     let l : Link = links.above in
     part_mapped indices (rows_of l.stood) k.queue (λ test. count_by test (rows_of l.released) + count_by test (rows_of l.left))
@@ -181,7 +185,7 @@ both_counts test (row ∷ rows) =
     omega (arith, count_by-cons test row rows, count_by-cons (λ x. not (test x)) row rows, each_once (test row), both_counts test rows)
 
 -- what was taken above stood in the queue
-pub journal_mapped : Laws → (indices : List Spans) (links : Links) (k : Kept) → IsBehind indices links k
+pub journal_mapped : LinkLaws → (indices : List Spans) (links : Links) (k : Kept) → IsBehind indices links k
     → length (rows_below indices k.journal) ≡ length k.journal
 journal_mapped laws indices links k b =
     omega (arith, below k.journal, both_counts mapped k.journal, b.journal.same unmapped, none_taken (cases_lt 0 (count_by unmapped (rows_of l.took))))
@@ -208,7 +212,7 @@ journal_mapped laws indices links k b =
 -- ---- nothing vanishes
 
 -- the rows that ever stood in the queue are in it, or were dropped, or were released, and then taken above
-stood_covered : Laws → (l : Link) (queue dropped journal : List Row) → Stands l → HasSameCounts (rows_of l.lanes) queue
+stood_covered : LinkLaws → (l : Link) (queue dropped journal : List Row) → Stands l → HasSameCounts (rows_of l.lanes) queue
     → HasSameCounts (rows_of l.left) dropped → HasSameCounts (rows_of l.took) journal → IsCoveredBy (rows_of l.stood) (queue ++ (dropped ++ journal))
 stood_covered laws l queue dropped journal stands held left took = record {
   at_most = λ test.
@@ -240,18 +244,18 @@ nothing_vanishes laws indices links k b =
       at_most = λ test. omega (
         arith,
         (b.confirmed i).same test,
-        (laws.covered (links.below i) (b.below_stands i)).at_most test,
+        (laws.links.covered (links.below i) (b.below_stands i)).at_most test,
         (b.joined i).same test,
       );
     }) in
     let second : IsCoveredBy came (rows_below indices there) = covered_filter_map (row_below indices) (rows_of links.above.stood) there
-    (stood_covered laws links.above k.queue k.dropped k.journal b.above_stands b.queue b.dropped b.journal) in
+    (stood_covered laws.links links.above k.queue k.dropped k.journal b.above_stands b.queue b.dropped b.journal) in
     subst (IsCoveredBy k.confirmed) (rows_below-parts indices k.queue k.dropped k.journal)
     (record { at_most = λ test. omega (arith, first.at_most test, second.at_most test) })
 
 -- ---- what was dropped was counted
 
-pub dropped_mapped : Laws → (indices : List Spans) (links : Links) (k : Kept) → IsBehind indices links k
+pub dropped_mapped : LinkLaws → (indices : List Spans) (links : Links) (k : Kept) → IsBehind indices links k
     → length (rows_below indices k.dropped) ≡ length k.dropped
 dropped_mapped laws indices links k b =
     let l : Link = links.above in
@@ -274,13 +278,13 @@ no_command_twice laws indices links k b =
       at_most = λ test. omega (
         arith,
         (b.operated i).same test,
-        (laws.performed (links.below i) (b.below_stands i)).at_most test,
+        (laws.links.performed (links.below i) (b.below_stands i)).at_most test,
         (b.asked_below i).at_most test,
       );
     }) in
     let above : IsCoveredBy (commands_below indices links.above.performed) (commands_below indices (used_commands k.orders)) =
     covered_filter_map (command_below indices) links.above.performed (used_commands k.orders)
-    (record { at_most = λ test. omega (arith, (laws.performed links.above b.above_stands).at_most test, b.asked_above.at_most test) }) in
+    (record { at_most = λ test. omega (arith, (laws.links.performed links.above b.above_stands).at_most test, b.asked_above.at_most test) }) in
     record {
       at_most = λ test.
           omega (
@@ -300,6 +304,6 @@ pub headline : Laws → (indices : List Spans) (links : Links) (k : Kept) → Is
 headline laws indices links k b = record {
   nothing_invented = nothing_invented laws indices links k b;
   nothing_vanishes = nothing_vanishes laws indices links k b;
-  lost_is_counted = dropped_mapped laws indices links k b ∙ sym b.lost;
+  lost_is_counted = dropped_mapped laws.links indices links k b ∙ sym b.lost;
   no_command_twice = no_command_twice laws indices links k b;
 }

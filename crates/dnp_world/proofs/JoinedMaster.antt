@@ -29,7 +29,7 @@ use Rattle.dnp_world.specs.OneLinkEvents.{LinkState, ComeUp, Receives, Takes, Is
 use Rattle.dnp_world.specs.OutstationSeen.{down_of, octets_of}
 use Rattle.dnp_world.specs.Standing.{Stands}
 use Rattle.dnp_world.proofs.AskedCommands.{own_asks_none}
-use Rattle.dnp_world.proofs.JoinedLaws.{Laws}
+use Rattle.dnp_world.proofs.JoinedLaws.{Laws, MasterLaws}
 use Rattle.dnp_world.proofs.JoinedOctets.{AreOctets, confirms_octets, asked_octets}
 use Rattle.dnp_world.proofs.JoinedSteps.{shows_still, stays_as, moves_before, with_lines}
 use Rattle.dnp_world.proofs.JoinedWays.{LineLaws, Came, IsSamePort, carries_still, carries_sent, carries_cleared, carries_mute, back_all_sent, back_came}
@@ -178,22 +178,22 @@ came_up {Sink = Sink} laws takes others s new l line port given stands j same ca
 of_ok : (P : List ℕ → Type 0) (r : Result (List ℕ) AskFault) (octets : List ℕ) → r ≡ Ok octets → IfOk r P → P octets
 of_ok P r octets e h = subst (λ (r : Result (List ℕ) AskFault). IfOk r P) e h
 
-pub after_asking : {Sink : Type 0} → Laws → (others : List Row) (s new : LinkState Sink) (l : Link) (task : Task) (octets : List ℕ)
+pub after_asking : {Sink : Type 0} → LineLaws → MasterLaws → (others : List Row) (s new : LinkState Sink) (l : Link) (task : Task) (octets : List ℕ)
     → AreOctets (request_octets (request_for s.master.seq task)) → Joined others s l
     → ask_answer s.master task ≡ Ok octets → IsAsked task octets s new → Follows others [] (commands_in octets) s.outstation.performed l new
-after_asking {Sink = Sink} laws others s new l task octets low j answer h =
+after_asking {Sink = Sink} line laws others s new l task octets low j answer h =
     let was : ChannelState = s.channel in
     let is : ChannelState = new.channel in
-    let m = laws.master.asks s.master s.now task octets l j.number j.master answer in
+    let m = laws.asks s.master s.now task octets l j.number j.master answer in
     let law : MasterAsks s.master task octets (asked s.master s.now task) =
-    of_ok (λ octets. MasterAsks s.master task octets (asked s.master s.now task)) (ask_answer s.master task) octets answer (laws.master.asked s.master s.now task) in
+    of_ok (λ octets. MasterAsks s.master task octets (asked s.master s.now task)) (ask_answer s.master task) octets answer (laws.asked s.master s.now task) in
     let link : Link = asking octets l in
     let after : LinkState Sink = record s {
       master = asked s.master s.now task;
       channel = record was { down = is.down; master_port = is.master_port };
     } in
     let down : Carries is.down is.master_port was.outstation_port s.master.is_open (j.going_down ++ octets ∷ []) =
-    carries_sent laws.line (octets ∷ []) was.down is.down was.master_port is.master_port was.outstation_port s.master.is_open j.going_down
+    carries_sent line (octets ∷ []) was.down is.down was.master_port is.master_port was.outstation_port s.master.is_open j.going_down
     (λ closed. absurd (both_ways s.master.is_open closed law.was_open)) h.goes.sent j.down in
     let joined : Joined others after link = record {
       outstation = shows_still s.outstation l link refl refl refl j.outstation;
@@ -205,7 +205,7 @@ after_asking {Sink = Sink} laws others s new l task octets low j answer h =
       down_is = down_is l.down (l.down ++ Asks octets ∷ []) j.going_down (octets ∷ []) j.down_is (ap (λ (d : Down). l.down ++ d ∷ []) (sym m.2));
       octets = All-append AreOctets j.going_down (octets ∷ []) j.octets
           (All-cons AreOctets octets [] (subst AreOctets (sym law.octets_are) low) (All-nil AreOctets));
-      up = back_all_sent laws.line (octets ∷ []) was.down is.down was.up was.master_port is.master_port was.outstation_port s.outstation.core.is_open
+      up = back_all_sent line (octets ∷ []) was.down is.down was.up was.master_port is.master_port was.outstation_port s.outstation.core.is_open
           (map octets_of l.up) h.goes.sent j.up;
       taken = j.taken;
       released = j.released;
@@ -231,7 +231,7 @@ asks_by laws others s new l task (Ok octets) answer own j h =
     of_ok (λ octets. MasterAsks s.master task octets (asked s.master s.now task)) (ask_answer s.master task) octets answer (laws.master.asked s.master s.now task) in
     subst (λ (asks : List Command). Follows others [] asks s.outstation.performed l new)
     (ap commands_in law.octets_are ∙ own_asks_none s.master.seq task own)
-    (after_asking laws others s new l task octets (asked_octets s.master.seq task j.number own) j answer h)
+    (after_asking laws.line laws.master others s new l task octets (asked_octets s.master.seq task j.number own) j answer h)
 asks_by laws others s new l task (Err fault) answer own j h = stays_as others l new s h j
 
 asks_if : {Sink : Type 0} → Laws → (others : List Row) (s new : LinkState Sink) (l : Link) (task : Task) (own : Bool) → is_own task ≡ own

@@ -34,7 +34,7 @@ use Rattle.dnp_world.specs.Stations.{listed_from}
 use Rattle.dnp_world.specs.SystemStanding.{IsStanding}
 use Rattle.dnp_world.specs.Systems.{SubstationState, System, link_at}
 use Rattle.dnp_world.proofs.HappenedRows.{all_at, all_counted}
-use Rattle.dnp_world.proofs.Headline.{Laws, queue_happened, queue_mapped}
+use Rattle.dnp_world.proofs.Headline.{LinkLaws, queue_happened, queue_mapped}
 use Rattle.dnp_world.proofs.ListedAt.{listed_at, things_at}
 use Rattle.dnp_world.proofs.SystemCounts.{given, given_first}
 use Rattle.dnp_world.proofs.TakenPlans.{IsMasterOf, master_there}
@@ -148,7 +148,7 @@ each_mapped {A} {B} f P Q so (x ∷ xs) same all =
     by (Some y) e long all rest =
         All-cons Q x xs (so x y e (All-head P y (filter_map f xs) all)) (rest (omega (arith, long)) (All-tail P y (filter_map f xs) all))
 
-pub all_above : Laws → MapLaws → IsEqualityTest (pair_eq nat_eq row_eq) → (s : System) → IsStanding s → IsAsPlanned s
+pub all_above : LinkLaws → MapLaws → IsEqualityTest (pair_eq nat_eq row_eq) → (s : System) → IsStanding s → IsAsPlanned s
     → All (λ row. is_reported s.centre.link.master.plan row ≡ true) (rows_in s.concentrator.queue)
 all_above laws maps decided s standing h =
     let spans : List Spans = map_of h.plan in

@@ -19,12 +19,10 @@ use Rattle.dnp_concentrator.specs.Relaying as relaying
 use Rattle.dnp_concentrator.specs.Relaying.{Relaying, Step, ledger_after, relaying_after}
 use Rattle.dnp_concentrator.specs.declared.index_kind.IndexKind.{IndexKind}
 use Rattle.dnp_concentrator.specs.declared.plan.Plan.{Plan}
-use Rattle.dnp_concentrator.specs.declared.plan.SubPlan.{SubPlan}
 use Rattle.dnp_concentrator.specs.declared.span.Spans.{Spans}
 use Rattle.dnp_eventbuf.specs.Archive.{Archive}
 use Rattle.dnp_eventbuf.specs.Stock.{Stock}
 use Rattle.dnp_pointdb.specs.declared.limits.TheConstants.{INDICES}
-use Rattle.dnp_pointdb.specs.declared.times.Times.{Times}
 use Rattle.dnp_world.specs.CommandWidths.{HasWidths}
 use Rattle.dnp_world.specs.ControlsInStep.{GoesWith, InStep}
 use Rattle.dnp_world.specs.FreshSystems.{fresh_system}
@@ -63,11 +61,12 @@ above_fits laws spans station command above is_map widths is = by (index_above s
 
 -- ---- what is touched
 
--- no control is in progress after a hang-up
-all_hung_up : (book : Ledger) (links : List Relaying) (target i : ℕ) → IfSome (link_in (map relaying.hung_up links) i).progress (GoesWith book target)
-all_hung_up book [] target i = tt
-all_hung_up book (x ∷ links) target zero = tt
-all_hung_up book (x ∷ links) target (suc i) = all_hung_up book links target i
+-- links that have no control in progress
+none_in_progress : {A : Type 0} (f : A → Relaying) → ((x : A) → (f x).progress ≡ None) → (book : Ledger) (xs : List A) (target i : ℕ)
+    → IfSome (link_in (map f xs) i).progress (GoesWith book target)
+none_in_progress f none book [] target i = tt
+none_in_progress f none book (x ∷ xs) target zero = rw (none x) tt
+none_in_progress f none book (x ∷ xs) target (suc i) = none_in_progress f none book xs target i
 
 used_in_step : StepLaws → (old : System) → IsStanding old → InStep old → (used : Used (ends_of old)) → AreInStep (after_used (ends_of old) used)
 used_in_step laws old s i used = by used
@@ -115,7 +114,7 @@ used_in_step laws old s i used = by used
           widths = All-push FitsEntry e.orders.entries last h.widths (above_fits laws e.centre_indices station command above is_map fits is);
         }
     by AllHangUp = record {
-      below = λ n. all_hung_up e.controls e.links n n;
+      below = λ n. none_in_progress relaying.hung_up (λ r. refl) e.controls e.links n n;
       above = h.above;
       controls = h.controls;
       orders = h.orders;
@@ -131,13 +130,6 @@ stays_in_step laws old new s h touched =
 
 -- ---- before the first event
 
--- new links have no control in progress
-none_at_first : (book : Ledger) (times : Times) (plans : List SubPlan) (target i : ℕ)
-    → IfSome (link_in (map (new_link times) plans) i).progress (GoesWith book target)
-none_at_first book times [] target i = tt
-none_at_first book times (x ∷ plans) target zero = tt
-none_at_first book times (x ∷ plans) target (suc i) = none_at_first book times plans target i
-
 empty_sound : (book : Ledger) → book.entries ≡ [] → IsSound book
 empty_sound book none = record {
   rising = subst (AllPairs (λ (x y : Entry). x.id < y.id)) (sym none) (λ i j d low inside. absurd (omega (arith, inside)));
@@ -148,7 +140,7 @@ empty_sound book none = record {
 pub fresh_in_step : (plan : Plan) (queue : Stock) (journal : Archive) (controls orders : Ledger) → controls.entries ≡ [] → orders.entries ≡ []
     → InStep (fresh_system plan queue journal controls orders)
 fresh_in_step plan queue journal controls orders none nothing = record {
-  below = λ i. none_at_first controls plan.times plan.substations i i;
+  below = λ i. none_in_progress (new_link plan.times) (λ x. refl) controls plan.substations i i;
   above = tt;
   controls = empty_sound controls none;
   orders = empty_sound orders nothing;

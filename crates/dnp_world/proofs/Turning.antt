@@ -20,7 +20,7 @@ use Rattle.dnp_world.specs.Standing.{Stands}
 use Rattle.dnp_world.specs.Stations.{of_station, HasSameCounts}
 use Rattle.dnp_world.specs.Systems.{at_station}
 use Rattle.dnp_world.proofs.Counting.{count_by-append}
-use Rattle.dnp_world.proofs.Headline.{Laws, happened_stood}
+use Rattle.dnp_world.proofs.Headline.{LinkLaws, happened_stood}
 use Rattle.dnp_world.proofs.SystemCounts.{same_permutation, same_refl, same_sym, same_trans, same_more, same_length, same_filter_map, covered_of_station, of_station-append, more_here, none_there}
 
 -- what holds of the link that moved, and of each other, holds of all
@@ -166,7 +166,7 @@ turned goes_on indices station links old new b t = record {
 -- ---- what happened
 
 -- after an event what happened is what had happened and the rows that it made
-pub fated : Laws → (goes_on : (l l' : Link) → Moves l l' → Stands l → Stands l') → (indices : List Spans) (station : ℕ) (links : Links) (old new : Kept)
+pub fated : LinkLaws → (goes_on : (l l' : Link) → Moves l l' → Stands l → Stands l') → (indices : List Spans) (station : ℕ) (links : Links) (old new : Kept)
     → IsBehind indices links old → (t : Turn indices station links old new)
     → IsFate (made_at station t.here.made) (shown_of indices old) (shown_of indices new)
 fated laws goes_on indices station links old new b t i =

@@ -1,39 +1,23 @@
 -- The laws that the body calls are what the lemmas ask for.
 use Rattle.std.specs.Prelude.{[]}
-use Rattle.dnp_world.proofs.JoinedLaws.{Laws}
+use Rattle.dnp_world.proofs.JoinedLaws.{MasterLaws}
 use Rattle.dnp_world.proofs.JoinedMaster.{after_asking}
+use Rattle.dnp_world.proofs.JoinedWays.{LineLaws}
 use Rattle.dnp_world.proofs.relay_laws.a_request_goes_by_a_move.Goals as goal
 
-laws_of : goal.After-lanes_stay_sound → Laws
-laws_of c = record {
-  line = record { reopened = c.line_law.ensures.reopened; kept = c.line_law.ensures.kept };
-  points = record {
-    keeps = c.content_leaves_the_connection_alone.ensures.keeps;
-    keeps_held = c.content_leaves_the_connection_alone.ensures.keeps_held;
-  };
-  outstation = record {
-    opens = c.an_opening_is_moves.ensures;
-    comes = c.what_comes_is_moves.ensures;
-    ticks = c.time_is_moves.ensures;
-    changes = c.a_change_is_moves.ensures.changed;
-    closes = c.a_closing_is_moves.ensures.closed;
-    restarts = c.a_closing_is_moves.ensures.restarted;
-    silent_received = c.a_closed_outstation_is_silent.ensures.received;
-    silent_ticked = c.a_closed_outstation_is_silent.ensures.ticked;
-    ends = c.an_unsolicited_response_starts_where_none_is_awaited.ensures.ends;
-    sound = c.lanes_stay_sound.ensures.appended;
-    carried = c.a_change_makes_what_its_lane_takes.ensures;
-  };
-  master = record {
-    came = c.a_master_takes_by_moves.ensures.came;
-    asks = c.a_master_asks_by_a_move.ensures;
-    asked = c.an_idle_master_asks.ensures;
-    hung_up = c.a_master_opens_and_closes_by_moves.ensures.hung_up;
-    ticked = c.a_master_opens_and_closes_by_moves.ensures.ticked;
-    takes = c.what_comes_is_taken_or_passed_over.ensures;
-    silent_receives = c.a_closed_master_is_silent.ensures.receives;
-  };
+line_of : goal.After-lanes_stay_sound → LineLaws
+line_of c = record { reopened = c.line_law.ensures.reopened; kept = c.line_law.ensures.kept }
+
+master_of : goal.After-lanes_stay_sound → MasterLaws
+master_of c = record {
+  came = c.a_master_takes_by_moves.ensures.came;
+  asks = c.a_master_asks_by_a_move.ensures;
+  asked = c.an_idle_master_asks.ensures;
+  hung_up = c.a_master_opens_and_closes_by_moves.ensures.hung_up;
+  ticked = c.a_master_opens_and_closes_by_moves.ensures.ticked;
+  takes = c.what_comes_is_taken_or_passed_over.ensures;
+  silent_receives = c.a_closed_master_is_silent.ensures.receives;
 }
 
 pub returns : goal.returns
-returns c = λ s new task octets l low j answer h. after_asking (laws_of c) [] s new l task octets low j answer h
+returns c = λ s new task octets l low j answer h. after_asking (line_of c) (master_of c) [] s new l task octets low j answer h

@@ -15,10 +15,12 @@ laws_of c =
     let commands : IsEqualityTest (pair_eq nat_eq command_eq) =
     c.equality_is_decided-2.ensures.pairs nat_eq command_eq c.equality_is_decided-2.ensures.numbers c.equality_is_decided-2.ensures.commands in
     record {
-      covered = c.link_law.ensures.covered;
-      stood = c.link_law.ensures.stood;
-      whole = c.link_law.ensures.whole;
-      performed = c.link_law.ensures.performed;
+      links = record {
+        covered = c.link_law.ensures.covered;
+        stood = c.link_law.ensures.stood;
+        whole = c.link_law.ensures.whole;
+        performed = c.link_law.ensures.performed;
+      };
       rows = λ xs ys. (c.covered_is_by_counts.ensures (pair_eq nat_eq row_eq) rows xs ys).1;
       commands = λ xs ys. (c.covered_is_by_counts-2.ensures (pair_eq nat_eq command_eq) commands xs ys).1;
       itself = λ x. (rows.decides x x).1 refl;
@@ -29,9 +31,9 @@ returns-clause-holds c = headline (laws_of c)
 
 pub returns-clause-mapped : goal.returns-clause-mapped
 returns-clause-mapped c = λ indices links k b. record {
-  queue = queue_mapped (laws_of c) indices links k b;
-  dropped = dropped_mapped (laws_of c) indices links k b;
-  journal = journal_mapped (laws_of c) indices links k b;
+  queue = queue_mapped (laws_of c).links indices links k b;
+  dropped = dropped_mapped (laws_of c).links indices links k b;
+  journal = journal_mapped (laws_of c).links indices links k b;
 }
 
 pub returns-clause-at_first : goal.returns-clause-at_first
@@ -41,7 +43,7 @@ pub returns-clause-kept : goal.returns-clause-kept
 returns-clause-kept c = turned c.link_law.ensures.goes_on
 
 pub returns-clause-fate : goal.returns-clause-fate
-returns-clause-fate c = fated (laws_of c) c.link_law.ensures.goes_on
+returns-clause-fate c = fated (laws_of c).links c.link_law.ensures.goes_on
 
 pub returns-clause-joined : goal.returns-clause-joined
 returns-clause-joined c = fates_joined
