@@ -2,39 +2,40 @@
 //!
 //! Each link is a conversation of TCP over IPv4 between addresses of its own, which the master opens before its first
 //! unit. What arrives is a packet, and what is lost is none: a capture at the end of each line.
+ghost use Rattle.std.specs.Prelude.{◌≡◌, ◌≤◌, ◌<◌, ◌++◌, length, take, drop, Some, true, IfOk, OnOk, IsErr};
+ghost use Rattle.dnp_trace.specs.Logs.{link_number};
+ghost use Rattle.dnp_trace.specs.Captures as spec;
+ghost use Rattle.dnp_trace.specs.Captures.{octet as octet_in, le32, added, sum_from, ip_with as ip_of, tcp_with as tcp_of, around, packet_head, packet_record, sent_more, new_talk, new_talks, begun, carried, after_arrival, talk_packets, talk_after, step_packets, step_after, is_arrival as is_arrival_of, capture_of};
 
 use crate::log::{Course, Log, Step, Unit, What};
 use crate::sheet::Sheet;
 use std::alloc::{AllocError, Global};
 
 /// The port at which outstations listen, which is DNP3's.
-const PORT: u16 = 20_000;
+pub(crate) const PORT: u16 = 20_000;
 
 /// The least port from which masters connect; each link has the next one.
-const FIRST_PORT: u16 = 49_152;
+pub(crate) const FIRST_PORT: u16 = 49_152;
 
-/// The octets of a header of IPv4, and those of one of TCP.
-const HEADER: usize = 20;
-
-/// The octets of both.
-const HEADERS: usize = 40;
+/// The most octets of a unit that a packet carries: with both headers, 20 octets each, it has 65,535 at most.
+pub(crate) const LONGEST: usize = 65_495;
 
 /// The bits of TCP that a packet may set.
-const SYN: u8 = 0x02;
+pub(crate) const SYN: u8 = 0x02;
 /// An acknowledgment is in it.
-const ACK: u8 = 0x10;
+pub(crate) const ACK: u8 = 0x10;
 /// It is for the reader at once.
-const PSH_ACK: u8 = 0x18;
+pub(crate) const PSH_ACK: u8 = 0x18;
 
 /// The head of a capture: its mark, version 2.4, the times in UTC, packets of at most 65,535 octets, each beginning with
 /// the header of IP (LINKTYPE_RAW).
-static HEAD: [u8; 24] = [
+pub(crate) const HEAD: [u8; 24] = [
     0xD4, 0xC3, 0xB2, 0xA1, 2, 0, 4, 0, 0, 0, 0, 0, 0, 0, 0, 0, 0xFF, 0xFF, 0, 0, 101, 0, 0, 0,
 ];
 
 /// An end of a conversation.
 #[derive(Clone, Copy)]
-struct End {
+pub(crate) struct End {
     /// The last octet of its address, which is 192.0.2 and this one.
     host: u8,
     /// Its port.
@@ -43,9 +44,21 @@ struct End {
     next: u32,
 }
 
+impl End {
+    /// It has sent so many octets more.
+    fn sent(self, count: u32) -> End
+        ensures { result ≡ sent_more count self }
+    {
+        End {
+            next: self.next.wrapping_add(count),
+            ..self
+        }
+    }
+}
+
 /// The conversation of a link.
 #[derive(Clone, Copy)]
-struct Talk {
+pub(crate) struct Talk {
     /// Whether it has begun.
     begun: bool,
     /// The master's end.
@@ -55,17 +68,10 @@ struct Talk {
 }
 
 impl Talk {
-    /// The one of the link above, or of that to the substation of this number. The last octets of the addresses are the
-    /// link addresses.
-    fn new(substation: Option<u8>) -> Talk {
-        let (master, outstation, port) = match substation {
-            None => (1, 9, FIRST_PORT),
-            Some(number) => (
-                2,
-                number.saturating_add(10),
-                FIRST_PORT + 1 + u16::from(number),
-            ),
-        };
+    /// One between these hosts, the master's at this port.
+    fn between(master: u8, outstation: u8, port: u16) -> Talk
+        ensures { result ≡ spec.talk_between master outstation port }
+    {
         Talk {
             begun: false,
             master: End {
@@ -80,143 +86,437 @@ impl Talk {
             },
         }
     }
-}
 
-/// The sum of the words of octets, the first octet of each the higher one.
-fn sum_of(octets: &[u8]) -> u32 {
-    let mut sum: u32 = 0;
-    for pair in octets.chunks(2) {
-        let word = match pair {
-            [high, low] => u16::from_be_bytes([*high, *low]),
-            [high] => u16::from_be_bytes([*high, 0]),
-            _ => 0,
-        };
-        sum = sum.wrapping_add(u32::from(word));
+    /// The one of the link above, or of that to the substation of this number. The last octets of the addresses are the
+    /// link addresses.
+    fn new(substation: Option<u8>) -> Talk
+        ensures { result ≡ new_talk substation }
+    {
+        match substation {
+            None => Talk::between(1, 9, FIRST_PORT),
+            Some(number) => {
+                let port = FIRST_PORT + 1 + u16::from(number);
+                Talk::between(2, number.saturating_add(10), port)
+            }
+        }
     }
-    sum
+
+    /// It once it has begun.
+    #[tactic(auto, unfolding(crate::specs::Captures::begun))]
+    fn begun(self) -> Talk
+        ensures { result ≡ begun self }
+    {
+        if self.begun {
+            return self;
+        }
+        Talk {
+            begun: true,
+            master: End {
+                next: 1,
+                ..self.master
+            },
+            outstation: End {
+                next: 1,
+                ..self.outstation
+            },
+        }
+    }
 }
 
-/// The checksum of octets whose words have this sum.
-fn checksum(sum: u32) -> [u8; 2] {
-    let once = sum / 0x1_0000 + sum % 0x1_0000;
-    let twice = once / 0x1_0000 + once % 0x1_0000;
-    let word = u16::try_from(twice % 0x1_0000).unwrap_or(0);
-    (0xFFFF - word).to_be_bytes()
+/// The octet of a number that counts so many.
+fn octet(number: u32, weight: u32) -> u8
+    requires { 0 < weight }
+    ensures { result ≡ octet_in number weight }
+{
+    (number / weight % 256) as u8
+}
+
+/// The number in four octets, the low one first.
+#[tactic(auto, unfolding(crate::specs::Captures::le32))]
+fn low_first(number: u32) -> [u8; 4]
+    ensures { result ≡ le32 number }
+{
+    [
+        octet(number, 1),
+        octet(number, 0x100),
+        octet(number, 0x1_0000),
+        octet(number, 0x100_0000),
+    ]
+}
+
+/// The sum of two words in ones' complement.
+#[tactic(auto, unfolding(crate::specs::Captures::added))]
+fn add(one: u16, other: u16) -> u16
+    ensures { result ≡ added one other }
+{
+    let sum = u32::from(one) + u32::from(other);
+    if sum < 0x1_0000 {
+        sum as u16
+    } else {
+        (sum - 0xFFFF) as u16
+    }
+}
+
+/// The octets after the first two.
+fn after_two(octets: &[u8]) -> &[u8]
+    requires { 2 ≤ length octets.now }
+    ensures { result.now ≡ drop 2 octets.now }
+{
+    &octets[2..]
+}
+
+/// The sum of a number and the words of octets, the first octet of each the higher one.
+#[tactic(auto, using(crate::proofs::Sums::sum_of_two, crate::proofs::Sums::sum_of_one, crate::proofs::Sums::sum_of_none))]
+fn sum_of(start: u16, octets: &[u8]) -> u16
+    ensures { result ≡ sum_from start octets.now }
+{
+    let mut sum = start;
+    let mut rest = octets;
+    'words: while rest.len() > 1 {
+        sum = add(sum, u16::from(rest[0]) * 256 + u16::from(rest[1]));
+        rest = after_two(rest);
+    }
+    if rest.is_empty() {
+        return sum;
+    }
+    add(sum, u16::from(rest[0]) * 256)
+}
+
+/// The header of IPv4 of a packet of so many octets, with this checksum.
+#[tactic(auto, unfolding(crate::specs::Captures::ip_with))]
+fn ip_with(from: End, to: End, size: u32, sum: u16) -> [u8; 20]
+    ensures { result ≡ ip_of from to size sum }
+{
+    let sum = u32::from(sum);
+    [
+        0x45,
+        0,
+        octet(size, 0x100),
+        octet(size, 1),
+        0,
+        0,
+        0x40,
+        0,
+        64,
+        6,
+        octet(sum, 0x100),
+        octet(sum, 1),
+        192,
+        0,
+        2,
+        from.host,
+        192,
+        0,
+        2,
+        to.host,
+    ]
 }
 
 /// The header of IPv4 of a packet of so many octets.
-fn ip_header(from: End, to: End, length: u16) -> [u8; HEADER] {
-    let [long, short] = length.to_be_bytes();
-    let mut header = [
-        0x45, 0, long, short, 0, 0, 0x40, 0, 64, 6, 0, 0, 192, 0, 2, from.host, 192, 0, 2, to.host,
-    ];
-    let [high, low] = checksum(sum_of(&header));
-    header[10] = high;
-    header[11] = low;
-    header
+#[tactic(auto, unfolding(crate::specs::Captures::ip_header))]
+fn ip_header(from: End, to: End, size: u32) -> [u8; 20]
+    ensures { result ≡ spec.ip_header from to size }
+{
+    let sum = sum_of(0, &ip_with(from, to, size, 0));
+    ip_with(from, to, size, 0xFFFF - sum)
 }
 
-/// The header of TCP of a packet of so many octets, which acknowledges all that came where it has the bit.
-fn tcp_header(from: End, to: End, bits: u8, length: u16, unit: &[u8]) -> [u8; HEADER] {
-    let [from_high, from_low] = from.port.to_be_bytes();
-    let [to_high, to_low] = to.port.to_be_bytes();
-    let [s3, s2, s1, s0] = from.next.to_be_bytes();
-    let [a3, a2, a1, a0] = (if bits == SYN { 0 } else { to.next }).to_be_bytes();
-    let mut header = [
-        from_high, from_low, to_high, to_low, s3, s2, s1, s0, a3, a2, a1, a0, 0x50, bits, 0xFF,
-        0xFF, 0, 0, 0, 0,
-    ];
-    let [long, short] = length.saturating_sub(20).to_be_bytes();
-    let around = [192, 0, 2, from.host, 192, 0, 2, to.host, 0, 6, long, short];
-    let sum = sum_of(&around)
-        .wrapping_add(sum_of(&header))
-        .wrapping_add(sum_of(unit));
-    let [high, low] = checksum(sum);
-    header[16] = high;
-    header[17] = low;
-    header
+/// The number of the octet that an end awaits, where a packet of these bits says it.
+fn awaited(to: End, bits: u8) -> u32
+    ensures { result ≡ spec.awaited to bits }
+{
+    if bits == SYN { 0 } else { to.next }
+}
+
+/// The header of TCP with these bits and this checksum.
+#[tactic(auto, unfolding(crate::specs::Captures::tcp_with))]
+fn tcp_with(from: End, to: End, bits: u8, sum: u16) -> [u8; 20]
+    ensures { result ≡ tcp_of from to bits sum }
+{
+    let awaited = awaited(to, bits);
+    let sum = u32::from(sum);
+    [
+        octet(u32::from(from.port), 0x100),
+        octet(u32::from(from.port), 1),
+        octet(u32::from(to.port), 0x100),
+        octet(u32::from(to.port), 1),
+        octet(from.next, 0x100_0000),
+        octet(from.next, 0x1_0000),
+        octet(from.next, 0x100),
+        octet(from.next, 1),
+        octet(awaited, 0x100_0000),
+        octet(awaited, 0x1_0000),
+        octet(awaited, 0x100),
+        octet(awaited, 1),
+        0x50,
+        bits,
+        0xFF,
+        0xFF,
+        octet(sum, 0x100),
+        octet(sum, 1),
+        0,
+        0,
+    ]
+}
+
+/// What TCP's checksum counts beside its packet of so many octets: the addresses, the protocol and the size.
+#[tactic(auto, unfolding(crate::specs::Captures::around))]
+fn around_it(from: End, to: End, size: u32) -> [u8; 12]
+    ensures { result ≡ around from to size }
+{
+    [
+        192,
+        0,
+        2,
+        from.host,
+        192,
+        0,
+        2,
+        to.host,
+        0,
+        6,
+        octet(size, 0x100),
+        octet(size, 1),
+    ]
+}
+
+/// The header of TCP of a packet that carries these octets.
+#[tactic(auto, unfolding(crate::specs::Captures::tcp_header))]
+fn tcp_header(from: End, to: End, bits: u8, payload: &[u8]) -> [u8; 20]
+    requires { length payload.now ≤ LONGEST }
+    ensures { result ≡ spec.tcp_header from to bits payload.now }
+{
+    let size = payload.len() as u32 + 20;
+    let start = sum_of(0, &around_it(from, to, size));
+    let sum = sum_of(sum_of(start, &tcp_with(from, to, bits, 0)), payload);
+    tcp_with(from, to, bits, 0xFFFF - sum)
+}
+
+/// Writes the head of a packet of so many octets.
+#[tactic(auto, unfolding(crate::specs::Captures::packet_head))]
+fn put_head(sheet: &mut Sheet, moment: u64, size: u32) -> Result<(), AllocError>
+    ensures { OnOk result (sheet.new ≡ sheet.old ++ packet_head moment size) }
+{
+    let seconds = (moment / 1_000).min(0xFFFF_FFFF) as u32;
+    sheet.put(&low_first(seconds))?;
+    sheet.put(&low_first((moment % 1_000 * 1_000) as u32))?;
+    sheet.put(&low_first(size))?;
+    sheet.put(&low_first(size))
 }
 
 /// Writes a packet from one end to the other.
-fn packet(sheet: &mut Sheet, moment: u64, from: End, to: End, bits: u8, unit: &[u8]) {
-    let length = u16::try_from(unit.len().saturating_add(HEADERS)).unwrap_or(u16::MAX);
-    let seconds = u32::try_from(moment / 1_000).unwrap_or(u32::MAX);
-    let micros = u32::try_from(moment % 1_000 * 1_000).unwrap_or(0);
-    sheet.put(&seconds.to_le_bytes());
-    sheet.put(&micros.to_le_bytes());
-    sheet.put(&u32::from(length).to_le_bytes());
-    sheet.put(&u32::from(length).to_le_bytes());
-    sheet.put(&ip_header(from, to, length));
-    sheet.put(&tcp_header(from, to, bits, length, unit));
-    sheet.put(unit);
+#[tactic(auto, unfolding(crate::specs::Captures::packet_record))]
+fn put_packet(
+    sheet: &mut Sheet,
+    moment: u64,
+    from: End,
+    to: End,
+    bits: u8,
+    payload: &[u8],
+) -> Result<(), AllocError>
+    requires { length payload.now ≤ LONGEST }
+    ensures { OnOk result (sheet.new ≡ sheet.old ++ packet_record moment from to bits payload.now) }
+{
+    let size = payload.len() as u32 + 40;
+    put_head(sheet, moment, size)?;
+    sheet.put(&ip_header(from, to, size))?;
+    sheet.put(&tcp_header(from, to, bits, payload))?;
+    sheet.put(payload)
 }
 
 /// The master opens the conversation, if it has not begun.
-fn begin(sheet: &mut Sheet, moment: u64, talk: &mut Talk) {
+#[tactic(auto, unfolding(crate::specs::Captures::opening, crate::specs::Captures::begun))]
+fn put_opening(sheet: &mut Sheet, moment: u64, talk: Talk) -> Result<(), AllocError>
+    ensures { OnOk result (sheet.new ≡ sheet.old ++ spec.opening moment talk) }
+{
     if talk.begun {
-        return;
+        return Ok(());
     }
-    talk.begun = true;
-    packet(sheet, moment, talk.master, talk.outstation, SYN, &[]);
-    talk.master.next = 1;
-    packet(sheet, moment, talk.outstation, talk.master, SYN + ACK, &[]);
-    talk.outstation.next = 1;
-    packet(sheet, moment, talk.master, talk.outstation, ACK, &[]);
+    let begun = talk.begun();
+    put_packet(sheet, moment, talk.master, talk.outstation, SYN, &[])?;
+    put_packet(sheet, moment, talk.outstation, begun.master, SYN + ACK, &[])?;
+    put_packet(sheet, moment, begun.master, begun.outstation, ACK, &[])
 }
 
-/// A unit arrives.
-fn arrive(sheet: &mut Sheet, moment: u64, talk: &mut Talk, unit: &Unit) {
-    begin(sheet, moment, talk);
-    let octets = unit.octets.as_slice();
-    let count = u32::try_from(octets.len()).unwrap_or(0);
-    if unit.course.up {
-        packet(sheet, moment, talk.outstation, talk.master, PSH_ACK, octets);
-        talk.outstation.next = talk.outstation.next.wrapping_add(count);
+/// So many of these octets at most, from the first on.
+fn first(octets: &[u8], most: usize) -> &[u8]
+    ensures same { result.now ≡ take most octets.now }
+    ensures short { length result.now ≤ most }
+{
+    if octets.len() > most {
+        &octets[..most]
     } else {
-        packet(sheet, moment, talk.master, talk.outstation, PSH_ACK, octets);
-        talk.master.next = talk.master.next.wrapping_add(count);
+        octets
     }
 }
 
-/// The conversations of all links: of the substations, and then that of the link above.
-fn talks_of(alloc: Global, log: &Log) -> Result<Vec<Talk>, AllocError> {
-    let mut talks = Vec::new(alloc);
-    for number in 0..log.substations() {
-        talks.push(Talk::new(u8::try_from(number).ok()))?;
-    }
-    talks.push(Talk::new(None))?;
-    Ok(talks)
+/// What a packet carries of a unit: as much as there is room for.
+#[tactic(auto, unfolding(crate::specs::Captures::carried))]
+fn carried_of(octets: &[u8]) -> &[u8]
+    ensures same { result.now ≡ carried octets.now }
+    ensures short { length result.now ≤ LONGEST }
+{
+    first(octets, LONGEST)
 }
 
-/// The place of a line's conversation in that list.
-fn place_of(log: &Log, course: Course) -> usize {
+/// Writes a packet of these octets, up or down, in a conversation that has begun.
+#[tactic(auto, unfolding(crate::specs::Captures::arrival))]
+fn put_arrival(
+    sheet: &mut Sheet,
+    moment: u64,
+    talk: Talk,
+    up: bool,
+    payload: &[u8],
+) -> Result<(), AllocError>
+    requires { length payload.now ≤ LONGEST }
+    ensures { OnOk result (sheet.new ≡ sheet.old ++ spec.arrival moment talk up payload.now) }
+{
+    if up {
+        put_packet(
+            sheet,
+            moment,
+            talk.outstation,
+            talk.master,
+            PSH_ACK,
+            payload,
+        )
+    } else {
+        put_packet(
+            sheet,
+            moment,
+            talk.master,
+            talk.outstation,
+            PSH_ACK,
+            payload,
+        )
+    }
+}
+
+/// The conversation after that packet.
+#[tactic(auto, unfolding(crate::specs::Captures::after_arrival))]
+fn after(talk: Talk, up: bool, payload: &[u8]) -> Talk
+    requires { length payload.now ≤ LONGEST }
+    ensures { result ≡ after_arrival talk up payload.now }
+{
+    let count = payload.len() as u32;
+    if up {
+        Talk {
+            outstation: talk.outstation.sent(count),
+            ..talk
+        }
+    } else {
+        Talk {
+            master: talk.master.sent(count),
+            ..talk
+        }
+    }
+}
+
+/// The place of a line's conversation among those of all links.
+fn place_of(course: Course) -> usize
+    ensures { result ≡ link_number course.substation }
+{
     match course.substation {
-        Some(number) => usize::from(number),
-        None => log.substations(),
+        Some(number) => usize::from(number) + 1,
+        None => 0,
     }
+}
+
+/// A unit arrives in this conversation, which is this one then.
+fn arrive_in(
+    sheet: &mut Sheet,
+    moment: u64,
+    talk: Talk,
+    up: bool,
+    octets: &[u8],
+) -> Result<Talk, AllocError>
+    ensures packets { OnOk result (sheet.new ≡ sheet.old ++ (spec.opening moment talk ++ spec.arrival moment (begun talk) up (carried octets.now))) }
+    ensures talk { IfOk result (λ after. after ≡ after_arrival (begun talk) up (carried octets.now)) }
+{
+    let carries = carried_of(octets);
+    put_opening(sheet, moment, talk)?;
+    put_arrival(sheet, moment, talk.begun(), up, carries)?;
+    Ok(after(talk.begun(), up, carries))
+}
+
+/// A unit arrives. On a link that the system lacks it is no packet.
+fn arrive(
+    sheet: &mut Sheet,
+    moment: u64,
+    talks: &mut Vec<Talk>,
+    unit: &Unit,
+) -> Result<(), AllocError>
+    ensures packets { OnOk result (sheet.new ≡ sheet.old ++ spec.unit_packets moment (Some unit.now) talks.old.items) }
+    ensures talks { OnOk result (talks.new.items ≡ spec.unit_after (Some unit.now) talks.old.items) }
+{
+    let course = unit.course();
+    let place = place_of(course);
+    match talks.get(place).copied() {
+        Some(talk) => {
+            talks[place] = arrive_in(sheet, moment, talk, course.up, unit.octets())?;
+            Ok(())
+        }
+        None => Ok(()),
+    }
+}
+
+/// Whether a unit that did this came to its end.
+fn is_arrival(what: What) -> bool
+    ensures { result ≡ is_arrival_of what }
+{
+    matches!(what, What::Arrives | What::Repeated)
+}
+
+/// Writes the packets of a step.
+fn put_step(
+    sheet: &mut Sheet,
+    talks: &mut Vec<Talk>,
+    units: &[Unit],
+    step: Step,
+) -> Result<(), AllocError>
+    ensures packets { OnOk result (sheet.new ≡ sheet.old ++ step_packets units.now talks.old.items step) }
+    ensures talks { OnOk result (talks.new.items ≡ step_after units.now talks.old.items step) }
+{
+    let Step::Unit { moment, what, unit } = step else {
+        return Ok(());
+    };
+    if !is_arrival(what) {
+        return Ok(());
+    }
+    match units.get(unit) {
+        Some(unit) => arrive(sheet, moment, talks, unit),
+        None => Ok(()),
+    }
+}
+
+/// The conversations of all links: that of the link above, and then those to the substations.
+fn talks_of(alloc: Global, substations: u8) -> Result<Vec<Talk>, AllocError>
+    ensures { IfOk result (λ talks. talks.items ≡ new_talks substations) }
+{
+    let mut talks = Vec::new(alloc);
+    talks.push(Talk::new(None))?;
+    for number in 0..substations {
+        talks.push(Talk::new(Some(number)))?;
+    }
+    Ok(talks)
 }
 
 /// A capture of what arrived, of the classic form of pcap, with the moments of the script since 1970-01-01 as times.
 ///
 /// An error says that memory ran out, now or when it was noted.
-pub fn capture_octets(alloc: Global, log: &Log) -> Result<Vec<u8>, AllocError> {
-    if log.cut {
+pub fn capture_octets(alloc: Global, log: &Log) -> Result<Vec<u8>, AllocError>
+    ensures octets { IfOk result (λ octets. octets.items ≡ capture_of log.now) }
+    ensures cut { log.now.cut ≡ true → IsErr result }
+{
+    if log.is_cut() {
         return Err(AllocError);
     }
-    let mut talks = talks_of(alloc, log)?;
+    let mut talks = talks_of(alloc, log.substations())?;
     let mut sheet = Sheet::new(alloc);
-    sheet.put(&HEAD);
-    for step in log.steps.iter() {
-        if let Step::Unit {
-            moment,
-            what: What::Arrives | What::Repeated,
-            unit,
-        } = *step
-            && let Some(unit) = log.units.get(unit)
-            && let Some(talk) = talks.get_mut(place_of(log, unit.course))
-        {
-            arrive(&mut sheet, moment, talk, unit);
-        }
+    sheet.put(&HEAD)?;
+    let units = log.units();
+    for step in log.steps() {
+        put_step(&mut sheet, &mut talks, units, *step)?;
     }
-    sheet.finish()
+    Ok(sheet.into_octets())
 }

@@ -1,5 +1,8 @@
 //! A sequence chart of what units did, as SVG.
 
+ghost use Rattle.std.specs.Prelude.{◌≡◌, ◌++◌, ◌∷◌, [], List, ℕ, true, length, codes, IfOk, OnOk, IsErr};
+ghost use Rattle.dnp_trace.specs.Charts.{attribute_text, size_text, view_text, octet_escaped, text_escaped, chart_head, chart_width, chart_height};
+
 use crate::log::{Course, Log, Step, Unit, What};
 use crate::phrase::say_unit;
 use crate::sheet::Sheet;
@@ -7,22 +10,25 @@ use crate::trace::word_of;
 use std::alloc::{AllocError, Global};
 
 /// How many rows a chart has at most.
-const MAX_ROWS: usize = 1_500;
+pub(crate) const MAX_ROWS: usize = 1_500;
 
 /// The height of a row.
-const ROW: u32 = 22;
+pub(crate) const ROW: u32 = 22;
 
 /// Where the rows begin.
-const TOP: u32 = 64;
+pub(crate) const TOP: u32 = 64;
 
 /// Where the first station stands.
-const LEFT: u32 = 340;
+pub(crate) const LEFT: u32 = 340;
 
 /// How far stations are from one another.
-const APART: u32 = 400;
+pub(crate) const APART: u32 = 400;
 
 /// What is free on the right.
-const RIGHT: u32 = 70;
+pub(crate) const RIGHT: u32 = 70;
+
+/// What is free at the end.
+pub(crate) const BOTTOM: u32 = 24;
 
 /// How many characters of a phrase are shown between two stations.
 const PHRASE: usize = 58;
@@ -30,8 +36,17 @@ const PHRASE: usize = 58;
 /// How many characters of a line of the script are shown.
 const LINE: usize = 38;
 
+/// How a chart begins.
+pub(crate) const OPENING: &str = "<svg xmlns=\"http://www.w3.org/2000/svg\"";
+
+/// What stands before the size that is seen.
+pub(crate) const VIEW: &str = " viewBox=\"0 0 ";
+
+/// What is drawn below all.
+pub(crate) const BACKGROUND: &str = "<rect width=\"100%\" height=\"100%\" fill=\"#fff\"/>\n";
+
 /// How what is drawn looks.
-const STYLE: &str = "\
+pub(crate) const STYLE: &str = "\
 <style>
 text { font: 11px monospace; fill: #222; }
 .on { paint-order: stroke; stroke: #fff; stroke-width: 4px; }
@@ -49,36 +64,49 @@ text { font: 11px monospace; fill: #222; }
 ";
 
 /// Writes an attribute that is a number.
-fn attribute(sheet: &mut Sheet, name: &str, value: u32) {
-    sheet.word(" ");
-    sheet.word(name);
-    sheet.word("=\"");
-    sheet.number(value);
-    sheet.word("\"");
+#[tactic(auto, unfolding(crate::specs::Charts::attribute_text))]
+fn attribute(sheet: &mut Sheet, name: &str, value: u32) -> Result<(), AllocError>
+    ensures { OnOk result (sheet.new ≡ sheet.old ++ attribute_text name.now value) }
+{
+    sheet.word(" ")?;
+    sheet.word(name)?;
+    sheet.word("=\"")?;
+    sheet.number(value)?;
+    sheet.word("\"")
 }
 
-/// Writes text that XML may read as something else, in its escapes.
-fn escaped(sheet: &mut Sheet, text: &[u8]) {
-    for octet in text {
-        match *octet {
-            b'<' => sheet.word("&lt;"),
-            b'>' => sheet.word("&gt;"),
-            b'&' => sheet.word("&amp;"),
-            b'"' => sheet.word("&quot;"),
-            b'\t' | b'\n' | b' '..=b'~' => sheet.put(&[*octet]),
-            _ => sheet.word("?"),
-        }
+/// Writes an octet of a text, in its escape where XML may read it as something else. What is no character of ASCII is '?'.
+fn escaped_octet(sheet: &mut Sheet, octet: u8) -> Result<(), AllocError>
+    ensures { OnOk result (sheet.new ≡ sheet.old ++ octet_escaped octet) }
+{
+    match octet {
+        b'<' => sheet.word("&lt;"),
+        b'>' => sheet.word("&gt;"),
+        b'&' => sheet.word("&amp;"),
+        b'"' => sheet.word("&quot;"),
+        b'\t' | b'\n' | b' '..=b'~' => sheet.put(&[octet]),
+        _ => sheet.word("?"),
     }
 }
 
+/// Writes text that XML may read as something else, in its escapes.
+fn escaped(sheet: &mut Sheet, text: &[u8]) -> Result<(), AllocError>
+    ensures { OnOk result (sheet.new ≡ sheet.old ++ text_escaped text.now) }
+{
+    for octet in text {
+        escaped_octet(sheet, *octet)?;
+    }
+    Ok(())
+}
+
 /// Writes at most so many characters of a text, and all of it where the pointer rests.
-fn shown(sheet: &mut Sheet, text: &[u8], most: usize) {
+fn shown(sheet: &mut Sheet, text: &[u8], most: usize) -> Result<(), AllocError> {
     match text.get(..most) {
         Some(part) if part.len() < text.len() => {
-            escaped(sheet, part);
-            sheet.word("..<title>");
-            escaped(sheet, text);
-            sheet.word("</title>");
+            escaped(sheet, part)?;
+            sheet.word("..<title>")?;
+            escaped(sheet, text)?;
+            sheet.word("</title>")
         }
         _ => escaped(sheet, text),
     }
@@ -118,94 +146,117 @@ fn break_x(course: Course) -> u32 {
 }
 
 /// Begins a text.
-fn begin_text(sheet: &mut Sheet, class: &str, x: u32, y: u32, anchor: &str) {
-    sheet.word("<text class=\"");
-    sheet.word(class);
-    sheet.word("\"");
-    attribute(sheet, "x", x);
-    attribute(sheet, "y", y);
-    sheet.word(" text-anchor=\"");
-    sheet.word(anchor);
-    sheet.word("\">");
+fn begin_text(
+    sheet: &mut Sheet,
+    class: &str,
+    x: u32,
+    y: u32,
+    anchor: &str,
+) -> Result<(), AllocError> {
+    sheet.word("<text class=\"")?;
+    sheet.word(class)?;
+    sheet.word("\"")?;
+    attribute(sheet, "x", x)?;
+    attribute(sheet, "y", y)?;
+    sheet.word(" text-anchor=\"")?;
+    sheet.word(anchor)?;
+    sheet.word("\">")
 }
 
 /// Draws a straight line.
-fn straight(sheet: &mut Sheet, class: &str, from: (u32, u32), to: (u32, u32), more: &str) {
-    sheet.word("<line class=\"");
-    sheet.word(class);
-    sheet.word("\"");
-    attribute(sheet, "x1", from.0);
-    attribute(sheet, "y1", from.1);
-    attribute(sheet, "x2", to.0);
-    attribute(sheet, "y2", to.1);
-    sheet.word(more);
-    sheet.word("/>\n");
+fn straight(
+    sheet: &mut Sheet,
+    class: &str,
+    from: (u32, u32),
+    to: (u32, u32),
+    more: &str,
+) -> Result<(), AllocError> {
+    sheet.word("<line class=\"")?;
+    sheet.word(class)?;
+    sheet.word("\"")?;
+    attribute(sheet, "x1", from.0)?;
+    attribute(sheet, "y1", from.1)?;
+    attribute(sheet, "x2", to.0)?;
+    attribute(sheet, "y2", to.1)?;
+    sheet.word(more)?;
+    sheet.word("/>\n")
 }
 
-/// Draws a station: its name, and the line below it.
-fn station(sheet: &mut Sheet, column: u32, height: u32) {
-    let x = column_x(column);
-    sheet.word("<rect class=\"box\"");
-    attribute(sheet, "x", x.saturating_sub(60));
-    attribute(sheet, "y", 10);
-    attribute(sheet, "width", 120);
-    attribute(sheet, "height", 24);
-    sheet.word("/>\n");
-    begin_text(sheet, "head", x, 26, "middle");
+/// Writes the name of a station.
+fn station_name(sheet: &mut Sheet, column: u32) -> Result<(), AllocError> {
     match column {
         0 => sheet.word("centre"),
         1 => sheet.word("concentrator"),
         _ => {
-            sheet.word("substation ");
-            sheet.number(column.saturating_sub(2));
+            sheet.word("substation ")?;
+            sheet.number(column.saturating_sub(2))
         }
     }
-    sheet.word("</text>\n");
-    straight(sheet, "life", (x, 34), (x, height.saturating_sub(20)), "");
+}
+
+/// Draws a station: its name, and the line below it.
+fn station(sheet: &mut Sheet, column: u32, height: u32) -> Result<(), AllocError> {
+    let x = column_x(column);
+    sheet.word("<rect class=\"box\"")?;
+    attribute(sheet, "x", x.saturating_sub(60))?;
+    attribute(sheet, "y", 10)?;
+    attribute(sheet, "width", 120)?;
+    attribute(sheet, "height", 24)?;
+    sheet.word("/>\n")?;
+    begin_text(sheet, "head", x, 26, "middle")?;
+    station_name(sheet, column)?;
+    sheet.word("</text>\n")?;
+    straight(sheet, "life", (x, 34), (x, height.saturating_sub(20)), "")
 }
 
 /// Draws a cross, where a unit was lost.
-fn cross(sheet: &mut Sheet, x: u32, y: u32) {
+fn cross(sheet: &mut Sheet, x: u32, y: u32) -> Result<(), AllocError> {
     let (left, right) = (x.saturating_sub(5), x.saturating_add(5));
     let (above, below) = (y.saturating_sub(5), y.saturating_add(5));
-    straight(sheet, "bad", (left, above), (right, below), "");
-    straight(sheet, "bad", (left, below), (right, above), "");
+    straight(sheet, "bad", (left, above), (right, below), "")?;
+    straight(sheet, "bad", (left, below), (right, above), "")
 }
 
 /// Draws a jagged line, where a unit was damaged.
-fn jag(sheet: &mut Sheet, x: u32, y: u32) {
+fn jag(sheet: &mut Sheet, x: u32, y: u32) -> Result<(), AllocError> {
     let (left, right) = (x.saturating_sub(5), x.saturating_add(5));
     let (above, below) = (y.saturating_sub(8), y.saturating_add(8));
-    straight(sheet, "bad", (right, above), (left, y), "");
-    straight(sheet, "bad", (left, y), (right, y), "");
-    straight(sheet, "bad", (right, y), (left, below), "");
+    straight(sheet, "bad", (right, above), (left, y), "")?;
+    straight(sheet, "bad", (left, y), (right, y), "")?;
+    straight(sheet, "bad", (right, y), (left, below), "")
 }
 
 /// Draws a unit's way from where it was sent to where it came to this.
-fn arrow(sheet: &mut Sheet, course: Course, sent: u32, row: u32, what: What) {
+fn arrow(
+    sheet: &mut Sheet,
+    course: Course,
+    sent: u32,
+    row: u32,
+    what: What,
+) -> Result<(), AllocError> {
     let (begin, end) = ends_of(course);
     let middle = break_x(course);
     let (from, y) = ((begin, row_y(sent)), row_y(row));
     match what {
-        What::Sent => {}
+        What::Sent => Ok(()),
         What::Arrives => straight(sheet, "unit", from, (end, y), " marker-end=\"url(#tip)\""),
         What::Repeated => straight(sheet, "again", from, (end, y), " marker-end=\"url(#tip)\""),
         What::Lost => {
-            straight(sheet, "bad", from, (middle, y), "");
-            cross(sheet, middle, y);
+            straight(sheet, "bad", from, (middle, y), "")?;
+            cross(sheet, middle, y)
         }
         What::Damaged => {
-            straight(sheet, "bad", from, (middle, y), "");
-            jag(sheet, middle, y);
+            straight(sheet, "bad", from, (middle, y), "")?;
+            jag(sheet, middle, y)
         }
         What::Dropped | What::Stands => straight(sheet, "still", from, (middle, y), ""),
     }
 }
 
 /// Says beside a unit's end how it ended, where it didn't just arrive.
-fn end_word(sheet: &mut Sheet, course: Course, row: u32, what: What) {
+fn end_word(sheet: &mut Sheet, course: Course, row: u32, what: What) -> Result<(), AllocError> {
     if what == What::Sent || what == What::Arrives {
-        return;
+        return Ok(());
     }
     let (_, end) = ends_of(course);
     let (x, anchor) = match what {
@@ -213,24 +264,25 @@ fn end_word(sheet: &mut Sheet, course: Course, row: u32, what: What) {
         What::Repeated => (end.saturating_sub(14), "end"),
         _ => (break_x(course).saturating_add(12), "start"),
     };
-    begin_text(sheet, "on end", x, row_y(row).saturating_add(4), anchor);
-    sheet.word(word_of(what));
-    sheet.word("</text>\n");
+    begin_text(sheet, "on end", x, row_y(row).saturating_add(4), anchor)?;
+    sheet.word(word_of(what))?;
+    sheet.word("</text>\n")
 }
 
 /// Says what a unit says, beside where it was sent.
-fn unit_phrase(sheet: &mut Sheet, alloc: Global, row: u32, unit: &Unit) {
+fn unit_phrase(sheet: &mut Sheet, alloc: Global, row: u32, unit: &Unit) -> Result<(), AllocError> {
     let mut phrase = Sheet::new(alloc);
-    say_unit(&mut phrase, unit.octets.as_slice());
-    let (begin, end) = ends_of(unit.course);
+    say_unit(&mut phrase, unit.octets())?;
+    let (begin, end) = ends_of(unit.course());
     let y = row_y(row).saturating_sub(4);
-    if begin < end {
-        begin_text(sheet, "on", begin.saturating_add(6), y, "start");
+    let (x, anchor) = if begin < end {
+        (begin.saturating_add(6), "start")
     } else {
-        begin_text(sheet, "on", begin.saturating_sub(6), y, "end");
-    }
-    shown(sheet, phrase.octets(), PHRASE);
-    sheet.word("</text>\n");
+        (begin.saturating_sub(6), "end")
+    };
+    begin_text(sheet, "on", x, y, anchor)?;
+    shown(sheet, phrase.octets(), PHRASE)?;
+    sheet.word("</text>\n")
 }
 
 /// Draws the ways of all units.
@@ -242,8 +294,8 @@ fn arrows(sheet: &mut Sheet, alloc: Global, log: &Log, steps: &[Step]) -> Result
         if let Step::Unit { what, unit, .. } = *step {
             if what == What::Sent {
                 sent.push(row)?;
-            } else if let (Some(from), Some(unit)) = (sent.get(unit), log.units.get(unit)) {
-                arrow(sheet, unit.course, *from, row, what);
+            } else if let (Some(from), Some(unit)) = (sent.get(unit), log.units().get(unit)) {
+                arrow(sheet, unit.course(), *from, row, what)?;
             }
         }
         row = row.saturating_add(1);
@@ -251,24 +303,44 @@ fn arrows(sheet: &mut Sheet, alloc: Global, log: &Log, steps: &[Step]) -> Result
     Ok(())
 }
 
+/// Writes a line of the script.
+fn line_text(sheet: &mut Sheet, row: u32, text: &[u8]) -> Result<(), AllocError> {
+    begin_text(sheet, "line", 84, row_y(row).saturating_sub(4), "start")?;
+    shown(sheet, text, LINE)?;
+    sheet.word("</text>\n")
+}
+
+/// Writes what a unit says where it is sent, and how it ended.
+fn unit_text(
+    sheet: &mut Sheet,
+    alloc: Global,
+    row: u32,
+    what: What,
+    unit: &Unit,
+) -> Result<(), AllocError> {
+    if what == What::Sent {
+        unit_phrase(sheet, alloc, row, unit)?;
+    }
+    end_word(sheet, unit.course(), row, what)
+}
+
 /// Writes the text of a row.
-fn row_text(sheet: &mut Sheet, alloc: Global, log: &Log, row: u32, step: Step) {
+fn row_text(
+    sheet: &mut Sheet,
+    alloc: Global,
+    log: &Log,
+    row: u32,
+    step: Step,
+) -> Result<(), AllocError> {
     match step {
-        Step::Line { line, .. } => {
-            if let Some(text) = log.lines.get(line) {
-                begin_text(sheet, "line", 84, row_y(row).saturating_sub(4), "start");
-                shown(sheet, text.as_slice(), LINE);
-                sheet.word("</text>\n");
-            }
-        }
-        Step::Unit { what, unit, .. } => {
-            if let Some(unit) = log.units.get(unit) {
-                if what == What::Sent {
-                    unit_phrase(sheet, alloc, row, unit);
-                }
-                end_word(sheet, unit.course, row, what);
-            }
-        }
+        Step::Line { line, .. } => match log.lines().get(line) {
+            Some(text) => line_text(sheet, row, text.as_slice()),
+            None => Ok(()),
+        },
+        Step::Unit { what, unit, .. } => match log.units().get(unit) {
+            Some(unit) => unit_text(sheet, alloc, row, what, unit),
+            None => Ok(()),
+        },
     }
 }
 
@@ -280,46 +352,100 @@ fn moment_of(step: Step) -> u64 {
 }
 
 /// Writes the texts of all rows, and the moment where it is another one.
-fn texts(sheet: &mut Sheet, alloc: Global, log: &Log, steps: &[Step]) {
+fn texts(sheet: &mut Sheet, alloc: Global, log: &Log, steps: &[Step]) -> Result<(), AllocError> {
     let mut row: u32 = 0;
     let mut last = None;
     for step in steps {
         let moment = moment_of(*step);
         if last != Some(moment) {
-            begin_text(sheet, "line", 6, row_y(row).saturating_sub(4), "start");
-            sheet.number(moment);
-            sheet.word(" ms</text>\n");
+            begin_text(sheet, "line", 6, row_y(row).saturating_sub(4), "start")?;
+            sheet.number(moment)?;
+            sheet.word(" ms</text>\n")?;
             last = Some(moment);
         }
-        row_text(sheet, alloc, log, row, *step);
+        row_text(sheet, alloc, log, row, *step)?;
         row = row.saturating_add(1);
     }
+    Ok(())
+}
+
+/// Writes the size of a chart.
+#[tactic(auto, unfolding(crate::specs::Charts::size_text))]
+fn put_size(sheet: &mut Sheet, width: u32, height: u32) -> Result<(), AllocError>
+    ensures { OnOk result (sheet.new ≡ sheet.old ++ size_text width height) }
+{
+    attribute(sheet, "width", width)?;
+    attribute(sheet, "height", height)?;
+    Ok(())
+}
+
+/// Writes which part of a chart of this size is seen: all of it.
+#[tactic(auto, unfolding(crate::specs::Charts::view_text))]
+fn put_view(sheet: &mut Sheet, view: &str, width: u32, height: u32) -> Result<(), AllocError>
+    ensures { OnOk result (sheet.new ≡ sheet.old ++ view_text view.now width height) }
+{
+    sheet.word(view)?;
+    sheet.number(width)?;
+    sheet.word(" ")?;
+    sheet.number(height)?;
+    sheet.word("\">\n")?;
+    Ok(())
 }
 
 /// Begins a chart of this size.
-fn begin(sheet: &mut Sheet, width: u32, height: u32) {
-    sheet.word("<svg xmlns=\"http://www.w3.org/2000/svg\"");
-    attribute(sheet, "width", width);
-    attribute(sheet, "height", height);
-    sheet.word(" viewBox=\"0 0 ");
-    sheet.number(width);
-    sheet.word(" ");
-    sheet.number(height);
-    sheet.word("\">\n");
-    sheet.word(STYLE);
-    sheet.word("<rect width=\"100%\" height=\"100%\" fill=\"#fff\"/>\n");
+fn begin(sheet: &mut Sheet, width: u32, height: u32) -> Result<(), AllocError>
+    ensures { OnOk result (sheet.new ≡ sheet.old ++ chart_head width height) }
+{
+    sheet.word(OPENING)?;
+    put_size(sheet, width, height)?;
+    put_view(sheet, VIEW, width, height)?;
+    sheet.word(STYLE)?;
+    sheet.word(BACKGROUND)?;
+    Ok(())
 }
 
 /// Says that not all is shown, where it isn't.
-fn cut_note(sheet: &mut Sheet, shown: usize, all: usize, height: u32) {
+fn cut_note(sheet: &mut Sheet, shown: usize, all: usize, height: u32) -> Result<(), AllocError> {
     if shown < all {
-        begin_text(sheet, "end", 84, height.saturating_sub(6), "start");
-        sheet.word("cut here: ");
-        sheet.number(shown);
-        sheet.word(" of ");
-        sheet.number(all);
-        sheet.word(" rows are shown</text>\n");
+        begin_text(sheet, "end", 84, height.saturating_sub(6), "start")?;
+        sheet.word("cut here: ")?;
+        sheet.number(shown)?;
+        sheet.word(" of ")?;
+        sheet.number(all)?;
+        sheet.word(" rows are shown</text>\n")?;
     }
+    Ok(())
+}
+
+/// Draws all: the stations of a system of so many substations, the ways of units and the texts of these rows.
+fn drawn(alloc: Global, log: &Log, steps: &[Step], height: u32) -> Result<Sheet, AllocError> {
+    let mut sheet = Sheet::new(alloc);
+    for column in 0..u32::from(log.substations()) + 2 {
+        station(&mut sheet, column, height)?;
+    }
+    arrows(&mut sheet, alloc, log, steps)?;
+    texts(&mut sheet, alloc, log, steps)?;
+    cut_note(&mut sheet, steps.len(), log.steps().len(), height)?;
+    Ok(sheet)
+}
+
+/// The width of a chart of so many substations.
+fn width_of(substations: u8) -> u32
+    ensures { result ≡ chart_width substations }
+{
+    LEFT + APART * (u32::from(substations) + 1) + RIGHT
+}
+
+/// The rows that are shown of these.
+fn rows_of(steps: &[Step]) -> &[Step] {
+    steps.get(..MAX_ROWS).unwrap_or(steps)
+}
+
+/// The height of a chart of these steps.
+fn height_of(steps: usize) -> u32
+    ensures { result ≡ chart_height steps }
+{
+    TOP + ROW * steps.min(MAX_ROWS) as u32 + BOTTOM
 }
 
 /// The sequence chart of what units did: a column for each station, time going down, a row for each line of the script
@@ -327,26 +453,19 @@ fn cut_note(sheet: &mut Sheet, shown: usize, all: usize, height: u32) {
 /// note says so.
 ///
 /// An error says that memory ran out, now or when it was noted.
-pub fn chart_text(alloc: Global, log: &Log) -> Result<Vec<u8>, AllocError> {
-    if log.cut {
+pub fn chart_text(alloc: Global, log: &Log) -> Result<Vec<u8>, AllocError>
+    // (which elements are drawn between the head and the end, no clause says)
+    ensures chart { IfOk result (λ text. (drawn : List ℕ) × (text.items ≡ chart_head (chart_width log.now.substations) (chart_height (length log.now.steps)) ++ drawn ++ codes "</svg>" ++ 10 ∷ [])) }
+    ensures cut { log.now.cut ≡ true → IsErr result }
+{
+    if log.is_cut() {
         return Err(AllocError);
     }
-    let all = log.steps.as_slice();
-    let steps = all.get(..MAX_ROWS).unwrap_or(all);
-    let rows = u32::try_from(steps.len()).unwrap_or(0);
-    let columns = u32::try_from(log.substations())
-        .unwrap_or(0)
-        .saturating_add(2);
-    let width = column_x(columns.saturating_sub(1)).saturating_add(RIGHT);
-    let height = row_y(rows).saturating_add(24);
+    let height = height_of(log.steps().len());
+    let drawn = drawn(alloc, log, rows_of(log.steps()), height)?;
     let mut sheet = Sheet::new(alloc);
-    begin(&mut sheet, width, height);
-    for column in 0..columns {
-        station(&mut sheet, column, height);
-    }
-    arrows(&mut sheet, alloc, log, steps)?;
-    texts(&mut sheet, alloc, log, steps);
-    cut_note(&mut sheet, steps.len(), all.len(), height);
-    sheet.word("</svg>\n");
-    sheet.finish()
+    begin(&mut sheet, width_of(log.substations()), height)?;
+    sheet.put(drawn.octets())?;
+    sheet.word("</svg>\n")?;
+    Ok(sheet.into_octets())
 }

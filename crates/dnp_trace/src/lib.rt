@@ -1,11 +1,13 @@
 //! What goes over the lines of a system, unit by unit, to be looked at: noted in a [`Log`] as it happens, and written as
 //! lines of text ([`trace_text`]), as a sequence chart ([`chart_text`]) and as a capture ([`capture_octets`]). And a report
-//! as JSON ([`report_json`]). It is proved to be safe; what it writes is tested.
+//! as JSON ([`report_json`]). What is noted and what is written of it are stated functions; of a chart the head and the end
+//! are, and what is drawn between them is tested.
 #![tactic(auto)]
 
 mod capture;
 mod chart;
 mod json;
+pub mod laws;
 mod log;
 mod phrase;
 mod sheet;

@@ -1,7 +1,11 @@
 //! What units did on the lines of a system, in the order in which it happened.
+ghost use Rattle.std.specs.Prelude.{◌≡◌, ◌<◌, [], ◌∷◌, ◌++◌, false, length, OnOk, position, count_by, slice_get};
+ghost use Rattle.std.specs.Option.{option_map};
+ghost use Rattle.dnp_trace.specs.Logs as spec;
+ghost use Rattle.dnp_trace.specs.Logs.{nothing_yet, line_number, is_on, octets_seen, seen_at, left as left_of, later, begun, sent as sent_on, with_step, came_to, times, counted, shown, stood, settled, turned, carried_on, count_on, front_place, front_unit};
 
-use std::alloc::Global;
-use std::collections::VecDeque;
+use std::alloc::{AllocError, Global};
+use std::marker::Model;
 
 /// A line of a system: a way of one of its links.
 #[derive(Clone, Copy, Debug, PartialEq, Eq)]
@@ -10,6 +14,20 @@ pub struct Course {
     pub substation: Option<u8>,
     /// Whether it goes up, to the master.
     pub up: bool,
+}
+
+impl Course {
+    /// The number of the line.
+    fn number(self) -> usize
+        ensures { result ≡ line_number self }
+    {
+        let link = match self.substation {
+            None => 0,
+            Some(substation) => usize::from(substation) + 1,
+        };
+        let way = if self.up { 1 } else { 0 };
+        2 * link + way
+    }
 }
 
 /// What a unit did.
@@ -35,9 +53,76 @@ pub enum What {
 #[derive(Drop)]
 pub(crate) struct Unit {
     /// The line.
-    pub course: Course,
+    course: Course,
     /// Its octets; none where it never was at the front of the line, where they can be seen.
-    pub octets: Vec<u8>,
+    octets: Vec<u8>,
+}
+
+impl Model for Unit {
+    ghost use Rattle.dnp_trace.specs.Logs.{Sent};
+
+    ghost Value = { Sent };
+
+    ghost view = { λ unit. record { course = unit.course; octets = unit.octets.items } };
+}
+
+impl Unit {
+    /// The line that it was on.
+    pub(crate) fn course(&self) -> Course
+        ensures { result ≡ self.now.course }
+    {
+        self.course
+    }
+
+    /// Its octets; none where it never was at the front of the line, where they can be seen.
+    pub(crate) fn octets(&self) -> &[u8]
+        ensures { result.now ≡ self.now.octets }
+    {
+        self.octets.as_slice()
+    }
+
+    /// Its octets are seen.
+    fn see(&mut self, octets: &[u8]) -> Result<(), AllocError>
+        ensures { OnOk result (self.new ≡ octets_seen octets.now self.old) }
+    {
+        if self.octets.is_empty() {
+            self.octets.extend_from_slice(octets)?;
+        }
+        Ok(())
+    }
+}
+
+/// A line of a script.
+#[derive(Drop)]
+pub(crate) struct Words {
+    /// Its text.
+    text: Vec<u8>,
+}
+
+impl Model for Words {
+    ghost use Rattle.std.specs.Prelude.{ℕ, List};
+
+    ghost Value = { List ℕ };
+
+    ghost view = { λ words. words.text.items };
+}
+
+impl Words {
+    /// Its text.
+    pub(crate) fn as_slice(&self) -> &[u8]
+        ensures { result.now ≡ self.now }
+    {
+        self.text.as_slice()
+    }
+}
+
+/// A unit that stands on a line.
+#[derive(Clone, Copy)]
+pub(crate) struct Standing {
+    /// The number of the line.
+    line: usize,
+    /// The number of the unit.
+    unit: usize,
 }
 
 /// What happened.
@@ -61,6 +146,43 @@ pub(crate) enum Step {
     },
 }
 
+/// How many units stand on the line of this number.
+fn count_of(standing: &[Standing], line: usize) -> usize
+    ensures { result ≡ count_by (is_on line) standing.now }
+{
+    standing.iter().filter(|unit| unit.line == line).count()
+}
+
+/// The place of the first unit that stands on the line of this number.
+fn place_of(standing: &[Standing], line: usize) -> Option<usize>
+    ensures { result ≡ position (is_on line) standing.now }
+{
+    standing.iter().position(|unit| unit.line == line)
+}
+
+/// The octets of the unit of this number are seen. Where there is none, nothing is.
+fn see(units: &mut Vec<Unit>, number: usize, octets: &[u8]) -> Result<(), AllocError>
+    ensures { OnOk result (units.new.items ≡ seen_at number octets.now (slice_get units.old.items number) units.old.items) }
+{
+    if number < units.len() {
+        units[number].see(octets)?;
+    }
+    Ok(())
+}
+
+/// Takes what stands at this place off its line, unless it is repeated.
+fn take_off(standing: &mut Vec<Standing>, place: usize, what: What)
+    requires { place < length standing.old.items }
+    ensures { standing.new.items ≡ left_of what place standing.old.items }
+{
+    match what {
+        What::Repeated => {}
+        _ => {
+            standing.remove(place);
+        }
+    }
+}
+
 /// What units did on the lines of a system. Who watches the system notes it event by event: what stands on each line, and
 /// what becomes of the front unit.
 #[derive(Drop)]
@@ -69,201 +191,312 @@ pub struct Log {
     alloc: Global,
     /// The moment, in milliseconds.
     moment: u64,
-    /// The numbers of the units that stand on each line: of each substation down and up, and then above.
-    standing: Vec<VecDeque<usize>>,
-    /// The line whose units are being carried, if one's are.
-    carrying: Option<Course>,
+    /// How many substations the system has.
+    substations: u8,
+    /// The units that stand on lines, in the order in which they were sent.
+    standing: Vec<Standing>,
+    /// The number of the line whose units are being carried, if one's are.
+    carrying: Option<usize>,
     /// The units that were sent.
-    pub(crate) units: Vec<Unit>,
+    units: Vec<Unit>,
     /// The script's lines that began.
-    pub(crate) lines: Vec<Vec<u8>>,
+    lines: Vec<Words>,
     /// What happened.
-    pub(crate) steps: Vec<Step>,
+    steps: Vec<Step>,
     /// Whether memory ran out, so that something is missing.
-    pub(crate) cut: bool,
+    cut: bool,
+}
+
+impl Model for Log {
+    ghost use Rattle.dnp_trace.specs.Logs.{Noted};
+
+    ghost Value = { Noted };
+
+    ghost view = { λ log. record {
+      moment = log.moment;
+      substations = log.substations;
+      standing = log.standing.items;
+      carrying = log.carrying;
+      units = log.units.items;
+      lines = log.lines.items;
+      steps = log.steps.items;
+      cut = log.cut;
+    } };
 }
 
 impl Log {
     /// Nothing has happened in a system of so many substations.
-    pub fn new(alloc: Global, substations: u8) -> Log {
-        let mut log = Log {
+    pub fn new(alloc: Global, substations: u8) -> Log
+        ensures { result ≡ nothing_yet substations }
+    {
+        Log {
             alloc,
             moment: 0,
+            substations,
             standing: Vec::new(alloc),
             carrying: None,
             units: Vec::new(alloc),
             lines: Vec::new(alloc),
             steps: Vec::new(alloc),
             cut: false,
-        };
-        for _ in 0..=substations {
-            log.add_link();
-        }
-        log
-    }
-
-    /// One link more, with nothing on its lines.
-    fn add_link(&mut self) {
-        let down = self.standing.push(VecDeque::new(self.alloc));
-        let up = self.standing.push(VecDeque::new(self.alloc));
-        if down.is_err() || up.is_err() {
-            self.cut = true;
         }
     }
 
     /// How many substations the system has.
-    pub(crate) fn substations(&self) -> usize {
-        (self.standing.len() / 2).saturating_sub(1)
+    pub(crate) fn substations(&self) -> u8
+        ensures { result ≡ self.now.substations }
+    {
+        self.substations
     }
 
-    /// Where the units of a line stand.
-    fn place(&self, course: Course) -> usize {
-        let down = match course.substation {
-            Some(number) => usize::from(number) * 2,
-            None => self.standing.len().saturating_sub(2),
-        };
-        down.saturating_add(usize::from(course.up))
+    /// The units that were sent.
+    pub(crate) fn units(&self) -> &[Unit]
+        ensures { result.now ≡ self.now.units }
+    {
+        self.units.as_slice()
+    }
+
+    /// The script's lines that began.
+    pub(crate) fn lines(&self) -> &[Words]
+        ensures { result.now ≡ self.now.lines }
+    {
+        self.lines.as_slice()
+    }
+
+    /// What happened.
+    pub(crate) fn steps(&self) -> &[Step]
+        ensures { result.now ≡ self.now.steps }
+    {
+        self.steps.as_slice()
+    }
+
+    /// Whether memory ran out, so that something is missing.
+    pub(crate) fn is_cut(&self) -> bool
+        ensures { result ≡ self.now.cut }
+    {
+        self.cut
     }
 
     /// Notes what happened.
-    fn note(&mut self, step: Step) {
+    fn note(&mut self, step: Step)
+        ensures { self.new.cut ≡ false → self.new ≡ with_step step self.old }
+    {
         if self.steps.push(step).is_err() {
             self.cut = true;
         }
     }
 
-    /// Notes what a unit did.
-    fn did(&mut self, what: What, unit: usize) {
-        let moment = self.moment;
-        self.note(Step::Unit { moment, what, unit });
-    }
-
-    /// So many milliseconds pass.
-    pub fn pass(&mut self, ms: u64) {
+    /// So many milliseconds pass, up to the moment u64::MAX.
+    pub fn pass(&mut self, ms: u64)
+        ensures { self.new ≡ later ms self.old }
+    {
         self.moment = self.moment.saturating_add(ms);
     }
 
-    /// A line of the script begins.
-    pub fn begin_line(&mut self, text: &str) {
+    /// A line of the script begins. Nothing else that was noted changes.
+    pub fn begin_line(&mut self, text: &str)
+        ensures { self.new.cut ≡ false → self.new ≡ begun text.now self.old }
+    {
         let line = self.lines.len();
         let moment = self.moment;
-        match Vec::from_slice(self.alloc, text.as_bytes()) {
-            Ok(text) => self.keep_line(text),
-            Err(_) => self.cut = true,
-        }
+        self.keep_line(text);
         self.note(Step::Line { moment, line });
     }
 
     /// Keeps a line of the script.
-    fn keep_line(&mut self, text: Vec<u8>) {
-        if self.lines.push(text).is_err() {
-            self.cut = true;
-        }
-    }
-
-    /// How many units stand on a line, by what was noted.
-    pub fn standing(&self, course: Course) -> usize {
-        match self.standing.get(self.place(course)) {
-            Some(units) => units.len(),
-            None => 0,
-        }
-    }
-
-    /// A unit is sent. Where its octets aren't known yet, there are none.
-    fn sent(&mut self, course: Course, octets: &[u8]) {
-        let number = self.units.len();
-        match Vec::from_slice(self.alloc, octets) {
-            Ok(octets) => self.keep_unit(Unit { course, octets }),
-            Err(_) => self.cut = true,
-        }
-        self.put_on(course, number);
-        self.did(What::Sent, number);
-    }
-
-    /// Keeps a unit.
-    fn keep_unit(&mut self, unit: Unit) {
-        if self.units.push(unit).is_err() {
-            self.cut = true;
-        }
-    }
-
-    /// The unit of this number stands on the line, after those that stand there.
-    fn put_on(&mut self, course: Course, number: usize) {
-        let place = self.place(course);
-        let kept = match self.standing.get_mut(place) {
-            Some(units) => units.push_back(number).is_ok(),
-            None => true,
+    fn keep_line(&mut self, text: &str)
+        ensures { self.new.cut ≡ false → self.new ≡ record self.old { lines = self.old.lines ++ text.now ∷ [] } }
+    {
+        let kept = match Vec::from_slice(self.alloc, text.as_bytes()) {
+            Ok(text) => self.lines.push(Words { text }).is_ok(),
+            Err(_) => false,
         };
         if !kept {
             self.cut = true;
         }
     }
 
-    /// The number of a line's front unit.
-    fn front(&self, course: Course) -> Option<usize> {
-        self.standing.get(self.place(course))?.front().copied()
+    /// How many units stand on a line, by what was noted.
+    pub fn standing(&self, course: Course) -> usize
+        ensures { result ≡ count_on (line_number course) self.now }
+    {
+        self.count_on(course.number())
     }
 
-    /// Takes the front unit of a line off it, and gives its number.
-    fn take_front(&mut self, course: Course) -> Option<usize> {
-        let place = self.place(course);
-        self.standing.get_mut(place)?.pop_front()
+    /// How many units stand on the line of this number.
+    fn count_on(&self, line: usize) -> usize
+        ensures { result ≡ count_on line self.now }
+    {
+        count_of(self.standing.as_slice(), line)
+    }
+
+    /// A unit is sent. Where its octets aren't known yet, there are none.
+    fn sent(&mut self, course: Course, octets: &[u8])
+        ensures { self.new.cut ≡ false → self.new ≡ sent_on course octets.now self.old }
+    {
+        let unit = self.units.len();
+        let moment = self.moment;
+        self.keep_unit(course, octets);
+        self.put_on(course.number(), unit);
+        let what = What::Sent;
+        self.note(Step::Unit { moment, what, unit });
+    }
+
+    /// Keeps a unit.
+    fn keep_unit(&mut self, course: Course, octets: &[u8])
+        ensures { self.new.cut ≡ false → self.new ≡ record self.old { units = self.old.units ++ record { course = course; octets = octets.now } ∷ [] } }
+    {
+        let kept = match Vec::from_slice(self.alloc, octets) {
+            Ok(octets) => self.units.push(Unit { course, octets }).is_ok(),
+            Err(_) => false,
+        };
+        if !kept {
+            self.cut = true;
+        }
+    }
+
+    /// The unit stands on the line of this number, after those that stand there.
+    fn put_on(&mut self, line: usize, unit: usize)
+        ensures { self.new.cut ≡ false → self.new ≡ record self.old { standing = self.old.standing ++ record { line = line; unit = unit } ∷ [] } }
+    {
+        if self.standing.push(Standing { line, unit }).is_err() {
+            self.cut = true;
+        }
+    }
+
+    /// The place of a line's front unit among all that stand.
+    fn front_place(&self, line: usize) -> Option<usize>
+        ensures { result ≡ front_place line self.now }
+    {
+        place_of(self.standing.as_slice(), line)
+    }
+
+    /// The number of a line's front unit.
+    fn front(&self, line: usize) -> Option<usize>
+        ensures { result ≡ front_unit line self.now }
+    {
+        let place = self.front_place(line)?;
+        match self.standing.get(place) {
+            Some(front) => Some(front.unit),
+            None => None,
+        }
+    }
+
+    /// The front unit of the line of this number comes to this.
+    fn comes_to(&mut self, line: usize, what: What)
+        ensures { self.new.cut ≡ false → self.new ≡ came_to line what self.old }
+    {
+        let Some(place) = self.front_place(line) else {
+            return;
+        };
+        let Some(front) = self.standing.get(place).copied() else {
+            return;
+        };
+        take_off(&mut self.standing, place, what);
+        let moment = self.moment;
+        let unit = front.unit;
+        self.note(Step::Unit { moment, what, unit });
     }
 
     /// The front unit of a line comes to this. It leaves the line, unless it is repeated. Where nothing stands there,
     /// nothing is noted.
-    pub fn front_comes_to(&mut self, course: Course, what: What) {
-        let unit = match what {
-            What::Repeated => self.front(course),
-            _ => self.take_front(course),
-        };
-        if let Some(unit) = unit {
-            self.did(what, unit);
+    pub fn front_comes_to(&mut self, course: Course, what: What)
+        ensures { self.new.cut ≡ false → self.new ≡ came_to (line_number course) what self.old }
+    {
+        self.comes_to(course.number(), what);
+    }
+
+    /// So many units are sent on a line, whose octets aren't known yet.
+    fn send_unseen(&mut self, course: Course, count: usize)
+        ensures { self.new.cut ≡ false → self.new ≡ times count (sent_on course []) self.old }
+    {
+        for _ in 0..count {
+            self.sent(course, &[]);
         }
+    }
+
+    /// So many units at the front of a line come to this, one after the other.
+    fn come_to(&mut self, line: usize, count: usize, what: What)
+        ensures { self.new.cut ≡ false → self.new ≡ times count (came_to line what) self.old }
+    {
+        for _ in 0..count {
+            self.comes_to(line, what);
+        }
+    }
+
+    /// So many units stand on a line now. What stands there beyond those that were noted is sent; what doesn't stand there
+    /// any more was dropped.
+    fn count(&mut self, course: Course, count: usize)
+        ensures { self.new.cut ≡ false → self.new ≡ counted course (count_on (line_number course) self.old) count self.old }
+    {
+        let line = course.number();
+        let known = self.count_on(line);
+        self.send_unseen(course, count.saturating_sub(known));
+        self.come_to(line, known.saturating_sub(count), What::Dropped);
+    }
+
+    /// The octets of the unit of this number are seen, if there are any.
+    fn show(&mut self, number: Option<usize>, octets: Option<&[u8]>)
+        ensures { self.new.cut ≡ false → self.new ≡ shown number (option_map (λ octets. octets.now) octets.entry) self.old }
+    {
+        let Some(number) = number else {
+            return;
+        };
+        let Some(octets) = octets else {
+            return;
+        };
+        self.see(number, octets);
     }
 
     /// So many units stand on a line now, and these are the octets of the one in front. What stands there beyond those that
     /// were noted is sent; what doesn't stand there any more was dropped.
-    pub fn stands(&mut self, course: Course, count: usize, front: Option<&[u8]>) {
-        let known = self.standing(course);
-        for _ in known..count {
-            self.sent(course, &[]);
-        }
-        for _ in count..known {
-            self.front_comes_to(course, What::Dropped);
-        }
-        if let (Some(number), Some(octets)) = (self.front(course), front) {
-            self.see(number, octets);
-        }
+    pub fn stands(&mut self, course: Course, count: usize, front: Option<&[u8]>)
+        ensures { self.new.cut ≡ false → self.new ≡ stood course count (option_map (λ octets. octets.now) front.entry) self.old }
+    {
+        self.count(course, count);
+        let number = self.front(course.number());
+        self.show(number, front);
     }
 
     /// The octets of a unit are seen.
-    fn see(&mut self, number: usize, octets: &[u8]) {
-        let seen = match self.units.get_mut(number) {
-            Some(unit) if unit.octets.is_empty() => unit.octets.extend_from_slice(octets).is_ok(),
-            _ => true,
-        };
-        if !seen {
+    fn see(&mut self, number: usize, octets: &[u8])
+        ensures { self.new.cut ≡ false → self.new ≡ spec.seen number octets.now self.old }
+    {
+        if see(&mut self.units, number, octets).is_err() {
             self.cut = true;
+        }
+    }
+
+    /// The units of this line are carried from here on.
+    fn turn_to(&mut self, line: usize)
+        ensures { self.new.cut ≡ false → self.new ≡ turned line self.old }
+    {
+        let goes_on = match self.carrying {
+            Some(other) => other == line,
+            None => false,
+        };
+        if !goes_on {
+            self.settle();
+            self.carrying = Some(line);
         }
     }
 
     /// A unit of a round or a control comes to its end. Those that come after one another on one line were all sent before
     /// the first of them came.
-    pub fn carried(&mut self, course: Course, octets: &[u8]) {
-        if self.carrying != Some(course) {
-            self.settle();
-            self.carrying = Some(course);
-        }
+    pub fn carried(&mut self, course: Course, octets: &[u8])
+        ensures { self.new.cut ≡ false → self.new ≡ carried_on course octets.now self.old }
+    {
+        self.turn_to(course.number());
         self.sent(course, octets);
     }
 
     /// What was carried has come to its end.
-    pub fn settle(&mut self) {
-        if let Some(course) = self.carrying {
-            for _ in 0..self.standing(course) {
-                self.front_comes_to(course, What::Arrives);
-            }
+    pub fn settle(&mut self)
+        ensures { self.new.cut ≡ false → self.new ≡ settled self.old }
+    {
+        if let Some(line) = self.carrying {
+            let count = self.count_on(line);
+            self.come_to(line, count, What::Arrives);
         }
         self.carrying = None;
     }

@@ -16,7 +16,7 @@ use Rattle.dnp_streams.specs.streams.Centres.{CentreSeen}
 use Rattle.dnp_streams.specs.streams.Concentrators.{BelowSeen, with_link}
 use Rattle.dnp_streams.specs.streams.Dialogues.{Asking}
 
--- a step of relaying is refused by the book alone, where the step asks it, and never for want of numbers
+-- a step of relaying is refused by the book alone, where the step asks it, and never because it is out of numbers
 abbrev pub IsRefusedByBook : Relaying → BookFault → Type 0
 IsRefusedByBook link fault = (asks_book link ≡ true) × (fault ≢ Exhausted)
 

@@ -26,7 +26,7 @@ fault_told Memory = Cause cause.Memory
 fault_told Device = Cause cause.Device
 
 -- Why a fragment is refused, by what the master finds of it: as a message that it can't take, where it takes it not; else for its rows,
--- and for want of numbers only where the store has none for them.
+-- and for being out of numbers only where the store has none for them.
 pub record RefusesRows (found : Result Taking MasterFault) (exhausts : Taking → Bool) (told : StationFault) : Type 0 where
   pub message : (told ≡ Message) ↔ IsErr found
   pub rows : IfOk found (λ t. IsTrue (has_rows t))

@@ -1,0 +1,8 @@
+-- Lemmas.
+pub mod Accounting
+pub mod Joining
+pub mod Naming
+pub mod Noting
+pub mod Parts
+pub mod Splits
+pub mod Sums
