@@ -16,3 +16,4 @@ mod ScriptRunning
 mod Scripts
 mod Simulating
 mod Splitting
+mod Written

@@ -1,8 +1,7 @@
 -- Scripts that run line by line.
-use Rattle.std.proofs.Common.{◌≡◌, ℕ, ◌+◌, ◌<◌, List, [], ◌∷◌, ◌++◌, length, map, take, drop, get_or, slice_get, Option, Some, Result, Ok, Err, refl, sym, ap, ◌∙◌, subst, append_assoc, append-nil, add-one, drop-cons}
-use Rattle.std.proofs.lemmas.List.{get_or-map, length-map, take_more}
+use Rattle.std.proofs.Common.{◌≡◌, ℕ, ◌+◌, ◌<◌, List, [], ◌∷◌, ◌++◌, length, take, get_or, slice_get, Option, Some, Result, Ok, Err, refl, sym, ap, ◌∙◌, subst, append_assoc, append-nil}
+use Rattle.std.proofs.lemmas.List.{take_more}
 use Rattle.std.proofs.lemmas.Option.{slice_get-get_or}
-use Rattle.std.specs.List.{concat}
 use Rattle.std.specs.Prelude.{⊤, OnOk, OnErr}
 use Rattle.std.specs.Io.KnownBytes.{Appends}
 use Rattle.std.proofs.KnownBytes.{Appends-trans}
@@ -105,32 +104,3 @@ said_stopped law old script done line before new held held' held'' text low is d
       appended = Appends-trans held held' held'' text said.0 wrote said.3;
     }
 said_stopped law old script done line before new held held' held'' text low is did wrote stopped (stop.Fault cause) said = absurd said
-
--- ---- texts, one after the other
-
-front : {A : Type 0} (f : A → List ℕ) (parts : List A) (i : ℕ) (d : A) → i < length parts
-    → drop i (map f parts) ≡ f (get_or parts i d) ∷ drop (i + 1) (map f parts)
-front f parts i d low =
-    let within : i < length (map f parts) = subst (λ (n : ℕ). i < n) (sym (length-map parts f)) low in
-    let here = drop-cons (map f parts) i [] within in
-    let first : get_or (map f parts) i [] ≡ f (get_or parts i d) = get_or-map f parts i d [] low in
-    let at : drop i (map f parts) ≡ f (get_or parts i d) ∷ drop (i + 1) (map f parts) = rw (add-one, ← first) here in at
-
--- one more is written
-pub next_written : {A : Type 0} (f : A → List ℕ) (parts : List A) (i : ℕ) (d : A) (written : List ℕ) → i < length parts
-    → written ++ concat (drop i (map f parts)) ≡ concat (map f parts)
-    → (written ++ f (get_or parts i d)) ++ concat (drop (i + 1) (map f parts)) ≡ concat (map f parts)
-next_written f parts i d written low split =
-    append_assoc written (f (get_or parts i d)) (concat (drop (i + 1) (map f parts)))
-    ∙ ap (λ (texts : List (List ℕ)). written ++ concat texts) (sym (front f parts i d low)) ∙ split
-
--- a part of the next one is written
-pub part_written : {A : Type 0} (f : A → List ℕ) (parts : List A) (i : ℕ) (d : A) (written part rest : List ℕ) → i < length parts
-    → written ++ concat (drop i (map f parts)) ≡ concat (map f parts) → f (get_or parts i d) ≡ part ++ rest
-    → concat (map f parts) ≡ (written ++ part) ++ (rest ++ concat (drop (i + 1) (map f parts)))
-part_written f parts i d written part rest low split cut =
-    let more = concat (drop (i + 1) (map f parts)) in
-    sym (next_written f parts i d written low split)
-    ∙ ap (λ (l : List ℕ). (written ++ l) ++ more) cut
-    ∙ ap (λ (l : List ℕ). l ++ more) (sym (append_assoc written part rest))
-    ∙ append_assoc (written ++ part) rest more

@@ -44,14 +44,16 @@ count_line name number = name ++ 32 ∷ number ++ 10 ∷ []
 abbrev pub item_line : ℕ → List (List ℕ) → List ℕ
 item_line substation words = spaced (decimal substation ∷ words) ++ 10 ∷ []
 
--- a list: its name and length, and below it a line for each event or command
+-- a list: its name and length, and below it a line for each thing in it, by the thing's words
+abbrev pub list_text : {A : Type 0} → (A → List (List ℕ)) → List ℕ → List (ℕ × A) → List ℕ
+list_text words name things =
+    count_line name (decimal (length things)) ++ concat (map (λ thing. item_line thing.0 (words thing.1)) things)
+
 abbrev pub events_text : List ℕ → List (ℕ × Row) → List ℕ
-events_text name events =
-    count_line name (decimal (length events)) ++ concat (map (λ event. item_line event.0 (row_words event.1)) events)
+events_text = list_text row_words
 
 abbrev pub commands_text : List ℕ → List (ℕ × Command) → List ℕ
-commands_text name commands =
-    count_line name (decimal (length commands)) ++ concat (map (λ command. item_line command.0 (command_words command.1)) commands)
+commands_text = list_text command_words
 
 -- the whole report
 abbrev pub report_text : Report → List ℕ
