@@ -90,6 +90,7 @@ pub record PutBack (rows : List SqlRow) (a b : Stock) : Type 0 where
   pub queue_is : IsPermutation (map queued_row queued) rows
   pub rise : IsAscending (λ x y. x.id < y.id) queued
   pub up_to_last : AllByRecursion (λ x. x.id ≤ a.last_id) queued
+  pub low : AllByRecursion (λ x. x.lane < LANES) queued
   pub lanes : (k : ℕ) → k < LANES → lane_at b k ≡ record (lane_at a k) { rows = in_lane k queued }
   pub overflow : b.overflow ≡ a.overflow
   pub last_is : b.last_id ≡ a.last_id
