@@ -67,6 +67,10 @@ ShowsCount table rows n =
     ((length rows ≡ 0) × (n ≡ 0))
     ⊎ ((id : ℕ) × (length rows ≡ 1) × ShowsCountOf table (slice_index_or rows 0 []) id n)
 
+-- no row notes a greater number for the table of this name
+abbrev pub IsMost : List ℕ → List SqlRow → ℕ → Type 0
+IsMost table rows most = (k : ℕ) → k < length rows → (id n : ℕ) → ShowsCountOf table (slice_index_or rows k []) id n → n ≤ most
+
 -- ---- `queue`
 
 pub record ShowsQueued (row : SqlRow) (id : ℕ) (x : LaneRow) : Type 0 where

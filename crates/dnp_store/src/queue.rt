@@ -14,7 +14,7 @@ use crate::fault::{fault, is_lost, memory};
 use crate::queue_release::{lowers, write_release};
 use crate::queue_writing::write_append;
 use dnp_eventbuf::laws::{a_release_is_lane_by_lane, lanes_stay_sound};
-use dnp_eventbuf::{Lane, LaneRow, Lanes, Numbered, PlainLanes, StoreFault, Upto};
+use dnp_eventbuf::{Lane, LaneRow, Lanes, Numbered, PlainLanes, Rows, StoreFault, Upto};
 use dnp_objects::{LANES, MAX_ID, Row};
 use sqlite::{Alter, Connection};
 use std::alloc::Global;
@@ -121,6 +121,34 @@ impl<S: Alter> Lanes for Queue<S> {
         }
         self.lanes.put_all(rows, &mut dropped);
         Ok(dropped)
+    }
+
+    /// What a crash leaves at any exit holds the lanes before or after, and after Ok those after.
+    fn append_into(
+        &mut self,
+        alloc: Global,
+        rows: &[LaneRow],
+        dropped: &mut Rows,
+    ) -> Result<(), StoreFault>
+        requires { All IsCarried rows.now }
+        ensures call { IsLanesCall (IsHonest S.Store) (λ q. q.stopped) (λ q. q.stock) (λ _. []) self.old self.new result }
+        ensures appended { OnOk result (self.new.stock ≡ with_rows self.old.stock rows.now) }
+        ensures dropped { OnOk result (dropped.new ≡ dropped_by self.old.stock rows.now) }
+        ensures spared { OnErr result (dropped.new ≡ dropped.old) }
+        ensures kept { OnErr result (self.new.stock ≡ self.old.stock) }
+        ensures owned { self.new.owned ≡ self.old.owned }
+        ensures limit { self.new.conn.step_limit ≡ self.old.conn.step_limit }
+        ensures not_exhausted { OnOk result (exhausts self.old.stock rows.now ≡ false) }
+        ensures exhausted { IfErr result (λ e. e ≡ StoreFault.Exhausted → IsTrue (exhausts self.old.stock rows.now)) }
+        ensures exhausted_first { IfErr result (λ e. e ≡ StoreFault.Memory → exhausts self.old.stock rows.now ≡ false) }
+        ensures exhausted_always { self.old.stopped ≡ false → IsTrue (exhausts self.old.stock rows.now) → (result ≡ Err StoreFault.Exhausted) × (self.new ≡ self.old) }
+        ensures memory { result ≡ Err StoreFault.Memory → true ≡ false → dropped_by self.old.stock rows.now ≢ [] }
+        ensures either { HasCleanDisk (state S.Store self.new.conn) → self.old.stopped ≡ false → IsTrue self.old.owned → LeavesEither (state S.Store self.new.conn) self.old.stock (with_rows self.old.stock rows.now) }
+        ensures after { HasCleanDisk (state S.Store self.new.conn) → IsTrue self.old.owned → OnOk result (Leaves (state S.Store self.new.conn) self.new.stock) }
+        ensures untouched { IsTrue self.old.stopped → self.new.conn ≡ self.old.conn }
+    {
+        *dropped = Rows::of(self.append(alloc, rows)?);
+        Ok(())
     }
 
     fn offer(
