@@ -1,5 +1,5 @@
 -- Definition: what an error of the database says to a store.
-use Rattle.std.specs.Prelude.{◌≡◌, ◌⊎◌, Bool, true, false, not, ◌&&◌, [], codes, IsTrue}
+use Rattle.std.specs.Prelude.{Bool, true, false, []}
 use Rattle.sqlite.specs.Order.{Row}
 use Rattle.sqlite.specs.State.{State, IsNotRun}
 use Rattle.sqlite.specs.declared.error.Error.{Error}

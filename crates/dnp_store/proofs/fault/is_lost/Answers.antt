@@ -1,4 +1,4 @@
-use Rattle.std.proofs.Common.{◌≡◌, ◌⊎◌, ◌||◌, inl, inr, Bool, true, false, not, IsTrue, refl, sym, subst}
+use Rattle.std.proofs.Common.{◌≡◌, ◌⊎◌, ◌||◌, inl, inr, Bool, true, false, not, refl}
 use Rattle.dnp_store.specs.Faults.{is_memory}
 use Rattle.dnp_store.proofs.fault.is_lost.Goals as goal
 
