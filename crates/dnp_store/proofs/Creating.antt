@@ -1,11 +1,9 @@
 -- What CREATE TABLE makes of a database: the tables that every store begins with, and the lanes of a queue.
-use Rattle.std.proofs.Common.{◌≡◌, ℕ, List, [], ◌∷◌, codes, true, false, None, Ok, Err, Result, refl, sym, ap, subst, subst₂, ◌∙◌, ◌++◌}
+use Rattle.std.proofs.Common.{◌≡◌, ℕ, List, [], ◌∷◌, true, false, None, Ok, refl, sym, ap, subst, subst₂, ◌∙◌}
 use Rattle.sqlite_tied.specs.Compute.{everything}
 use Rattle.sqlite_resolve.specs.Compile.{table_defined_by}
-use Rattle.sqlite_resolve.specs.declared.error.CompileError.{CompileError}
 use Rattle.sqlite.specs.Command.TheVariants.{CreateTable}
 use Rattle.sqlite.specs.Schema.{Schema}
-use Rattle.sqlite.specs.Table.{Table}
 use Rattle.sqlite.specs.Term.{Term}
 use Rattle.sqlite.specs.Effect.{Database}
 use Rattle.sqlite.specs.Does.{Tally, Does, MakesTable, MakesSequence, lacks_sequence, sequence_text}
@@ -14,25 +12,14 @@ use Rattle.sqlite.specs.State.{State, Executes, mode_of}
 use Rattle.sqlite.specs.Listing.{understood}
 use Rattle.sqlite.specs.Given.{IsPlain}
 use Rattle.sqlite.proofs.Callers.{command_of, statement_of, runs_as}
-use Rattle.dnp_store.specs.Tables.{form_with, schema_of, no_table, no_schema}
+use Rattle.dnp_store.specs.Tables.{form_with, schema_of, no_schema}
 use Rattle.dnp_store.specs.QueueTables.{queue_with, queue_schema}
 use Rattle.dnp_store.specs.declared.store_kind.StoreKind.{StoreKind}
 use Rattle.dnp_store.specs.declared.store_kind.StoreKind.TheVariants.{Queue, Journal, Book}
-use Rattle.dnp_store.specs.Stores.{form_schema, rows_text, rows_with, HasForm, HasTables, HasNumber}
+use Rattle.dnp_store.specs.Schemas.{form_text, lanes_text, rows_text, table_of_text, checks_of_form, checks_of_rows, checks_of_lanes}
+use Rattle.dnp_store.specs.Stores.{form_schema, rows_with, HasForm, HasTables, HasNumber}
 use Rattle.dnp_store.specs.Making.{HasLanes}
 use Rattle.dnp_store.proofs.Statements.{went, same_value, picked, otherwise}
-
-abbrev pub form_text : List ℕ
-form_text = codes "CREATE TABLE form (number INTEGER NOT NULL CHECK (number BETWEEN 1 AND 1000))"
-
-abbrev pub lanes_text : List ℕ
-lanes_text =
-    codes "CREATE TABLE lanes (lane INTEGER PRIMARY KEY CHECK (lane BETWEEN 0 AND 8), cap INTEGER NOT NULL CHECK (cap BETWEEN 1 AND 4096), "
-    ++ codes "lost INTEGER NOT NULL CHECK (lost BETWEEN 0 AND 4611686018427387904), raised INTEGER NOT NULL CHECK (raised BETWEEN 0 AND 1))"
-
-abbrev pub table_of_text : Result Table CompileError → Table
-table_of_text (Ok t) = t
-table_of_text (Err e) = no_table
 
 -- ---- what the texts define
 
@@ -90,6 +77,7 @@ makes old new sql schema count has is plain h =
     (inner.0, inner.1, subst (λ d. MakesSequence inner.0 (Ok d)) (sym end) inner.2)
 
 pub created_form : (old new : State) (count : ℕ) → old.now.schema ≡ no_schema → Executes form_text [] old new (Ok count) → HasForm new.now
+unfolding checks_of_form
 created_form old new count has h =
     let run = makes old new form_text no_schema count has form_is form_plain h in
     let made = run.1 in
@@ -97,7 +85,7 @@ created_form old new count has h =
     let table : made.table ≡ form_with f = sym (ap table_of_text made.defined) ∙ form_made in
     let mid : run.0.schema ≡ form_schema f = made.is ∙ ap (created no_schema) table in
     let same : new.now ≡ run.0 = same_value (otherwise _ (lacks_sequence run.0.schema) (ap lacks_sequence mid) run.2) in
-    record { form = f; schema = ap (λ (d : Database). d.schema) same ∙ mid; empty = ap (λ (d : Database). d.trees 0) same ∙ made.empty }
+    record { form = f; form_by = refl; schema = ap (λ (d : Database). d.schema) same ∙ mid; empty = ap (λ (d : Database). d.trees 0) same ∙ made.empty }
 
 -- the rows' table comes first, then that of the counts
 abbrev two_schema : StoreKind → List Term → List Term → Schema
@@ -125,6 +113,7 @@ lacks Journal f r = refl
 lacks Book f r = refl
 
 pub created_rows : (kind : StoreKind) (old new : State) (count : ℕ) → HasForm old.now → Executes (rows_text kind) [] old new (Ok count) → HasTables kind new.now
+unfolding checks_of_rows
 created_rows kind old new count has h =
     let f = has.form in
     let r = checks_of kind in
@@ -136,7 +125,7 @@ created_rows kind old new count has h =
     ∙ ap (created (two_schema kind f r)) (sym (ap table_of_text seq.defined)) ∙ sequence_joined kind f r in
     let kept = subst (λ (s : Schema). KeepsRows s.tables run.0.trees new.now.trees) mid seq.others in
     let third : new.now.trees 2 ≡ [] = subst (λ (s : Schema). new.now.trees (next_tree s) ≡ []) mid seq.empty in
-    record { form = f; rows = r; schema = end; empty = (kept.0 ∙ made.others.0 ∙ has.empty, kept.1.0 ∙ made.empty, third) }
+    record { form = f; rows = r; form_by = has.form_by; rows_by = refl; schema = end; empty = (kept.0 ∙ made.others.0 ∙ has.empty, kept.1.0 ∙ made.empty, third) }
 
 -- ---- the lanes
 
@@ -152,6 +141,7 @@ unfolding everything
 lacks_no_more f q l = refl
 
 pub created_lanes : (old new : State) (count : ℕ) → HasNumber Queue old.now → Executes lanes_text [] old new (Ok count) → HasLanes new.now []
+unfolding checks_of_lanes
 created_lanes old new count has h =
     let f = has.form in
     let q = has.rows in
@@ -165,6 +155,9 @@ created_lanes old new count has h =
       form = f;
       queue = q;
       lanes = l_checks;
+      form_by = has.form_by;
+      queue_by = has.rows_by;
+      lanes_by = refl;
       schema = ap (λ (d : Database). d.schema) same ∙ mid;
       holds = record {
         number = ap (λ (d : Database). d.trees 0) same ∙ kept.0 ∙ has.holds.number;

@@ -26,6 +26,7 @@ use Rattle.dnp_store.specs.declared.store_kind.StoreKind.TheVariants.{Queue}
 use Rattle.dnp_store.proofs.Inserting.{quiet}
 use Rattle.dnp_objects.specs.declared.limits.TheConstants.{LANES}
 use Rattle.dnp_eventbuf.specs.Stock.{empty_stock, empty_lane, no_lane}
+use Rattle.dnp_store.specs.Schemas.{checks_of_form, checks_of_rows, made_queue}
 use Rattle.dnp_store.specs.Making.{HasLanes, fresh}
 use Rattle.dnp_store.proofs.Numbering.{PutsIn}
 
@@ -99,6 +100,9 @@ lane_made old new number capacity count fs at has h =
       form = f;
       queue = q;
       lanes = l;
+      form_by = has.form_by;
+      queue_by = has.queue_by;
+      lanes_by = has.lanes_by;
       schema = ap (λ (d : Database). d.schema) is;
       holds = record {
         number = ap (λ (d : Database). d.trees 0) is ∙ put.others 0 (λ e. absurd (omega arith)) ∙ has.holds.number;
@@ -109,6 +113,12 @@ lane_made old new number capacity count fs at has h =
       };
       filled = ap (λ (d : Database). d.trees 3) is ∙ put.table ∙ ap (put_row row) has.filled ∙ put_end 0 number fs (fresh capacity) (omega arith);
     }
+
+-- the schema is that of the statements that made it
+pub made_of : (db : Database) (fs : List Figures) → HasLanes db fs → db.schema ≡ made_queue
+made_of db fs has =
+    has.schema ∙ ap (λ f. queue_schema f has.queue has.lanes) has.form_by ∙ ap (λ q. queue_schema checks_of_form q has.lanes) has.queue_by
+    ∙ ap (λ l. queue_schema checks_of_form (checks_of_rows Queue) l) has.lanes_by
 
 -- ---- the lanes are empty
 
@@ -141,6 +151,7 @@ made_empty db capacities nine has = record {
       counted = inl (has.holds.empty.1, refl);
       rise = tt;
       up_to_last = tt;
+      low = tt;
       nine = length_fresh capacities ∙ nine;
       lanes = λ k low. get_or_map empty_lane capacities k no_lane (omega (arith, nine))
           ∙ sym (ap (λ (fig : Figures). record { capacity = fig.capacity; rows = []; lost = fig.lost })

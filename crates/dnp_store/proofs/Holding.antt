@@ -116,6 +116,10 @@ at_lane s number k new P nine low here else = elim (cases_eq k number) [
   | inr other ↦ subst P (sym (get_or-set_other s.lanes number k new no_lane other)) (else other)
 ]
 
+low_push : (xs : List Queued) (y : Queued) → AllByRecursion (λ x. x.lane < LANES) xs → y.lane < LANES → AllByRecursion (λ x. x.lane < LANES) (xs ++ y ∷ [])
+low_push [] y all low = (low, tt)
+low_push (x ∷ xs) y all low = (all.0, low_push xs y all.1 low)
+
 pub put : (db now : Trees) (s : Stock) (fs : List Figures) (x : LaneRow) → HoldsIn db s fs → length s.lanes ≡ LANES → lane_number x.lane < LANES
     → IsCarried x
     → PutsAt (codes "queue") db (queued_cells (queued_for (s.last_id + 1) x)) s.last_id now → HoldsIn now (added s x) fs
@@ -134,6 +138,7 @@ put db now s fs x h nine low carried puts =
       rise = id_rows.rise-push id_of queued_cells h.queued new s.last_id h.rise h.up_to_last (omega arith);
       up_to_last = id_rows.up_to-push id_of queued_cells h.queued new (s.last_id + 1)
           (id_rows.up_to-more id_of queued_cells h.queued s.last_id (s.last_id + 1) (omega arith) h.up_to_last) (omega arith);
+      low = low_push h.queued new h.low low;
       nine = h.nine;
       lanes = λ k k_low. at_lane s number k (added_in (lane_at s number) (record { id = s.last_id + 1; row = x.row }))
           (λ lane. lane ≡ lane_of (h.queued ++ new ∷ []) fs k) nine low
@@ -158,6 +163,7 @@ took db now s fs number upto h nine low takes =
       counted = subst (λ rows. IsCounted (codes "queue") rows s.last_id) (sym (takes.others 2 (λ e. absurd (omega arith)))) h.counted;
       rise = id_rows.rise-filter id_of queued_cells (stays number upto) h.queued h.rise;
       up_to_last = id_rows.up_to-filter id_of queued_cells (stays number upto) h.queued s.last_id h.up_to_last;
+      low = id_rows.all_over-filter id_of queued_cells (λ x. x.lane < LANES) (stays number upto) h.queued h.low;
       nine = h.nine;
       lanes = λ k k_low. at_lane s number k (above upto (lane_at s number)) (λ lane. lane ≡ lane_of left fs k) nine low
           (λ same. subst (λ (n : ℕ). above upto (lane_at s number) ≡ lane_of left fs n) (sym same)
@@ -182,6 +188,7 @@ noted_in db now s fs number lost raised h nine low notes =
       counted = subst (λ rows. IsCounted (codes "queue") rows s.last_id) (sym (notes.others 2 (λ e. absurd (omega arith)))) h.counted;
       rise = h.rise;
       up_to_last = h.up_to_last;
+      low = h.low;
       nine = length-set fs number new ∙ h.nine;
       lanes = λ k k_low. at_lane s number k new_lane (λ lane. lane ≡ lane_of h.queued all k) nine low
           (λ same. subst (λ (n : ℕ). new_lane ≡ lane_of h.queued all n) (sym same)
@@ -203,6 +210,7 @@ same_stock name events counts numbers s t fs h same last = record {
   counted = subst (λ (n : ℕ). IsCounted name counts n) (sym last) h.counted;
   rise = h.rise;
   up_to_last = subst (λ (n : ℕ). AllByRecursion (λ x. x.id ≤ n) h.queued) (sym last) h.up_to_last;
+  low = h.low;
   nine = h.nine;
   lanes = λ k low. same k low ∙ h.lanes k low;
 }

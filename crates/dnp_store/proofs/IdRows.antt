@@ -91,7 +91,7 @@ module _ {X : Type 0} (id_of : X → ℕ) (cells : X → Row) where
   rise-push [] y n rise all low = (tt, tt)
   rise-push (x ∷ xs) y n rise all low = let first = all.0 in (all_under xs x y rise.0 (omega arith), rise-push xs y n rise.1 all.1 low)
 
-  all_over-filter : (P : X → Type 0) (p : X → Bool) (xs : List X) → AllByRecursion P xs → AllByRecursion P (filter p xs)
+  pub all_over-filter : (P : X → Type 0) (p : X → Bool) (xs : List X) → AllByRecursion P xs → AllByRecursion P (filter p xs)
   all_over-filter P p [] all = tt
   all_over-filter P p (x ∷ xs) all = go (p x) (all_over-filter P p xs all.1)
     where

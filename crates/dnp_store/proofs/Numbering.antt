@@ -1,5 +1,5 @@
 -- What the number of the form makes of the tables that every store begins with.
-use Rattle.std.proofs.Common.{◌≡◌, ◌≢◌, ℕ, pos, List, [], ◌∷◌, codes, inl, Option, None, Ok, refl, sym, ap, subst, ◌∙◌, arith}
+use Rattle.std.proofs.Common.{◌≡◌, ◌≢◌, ℕ, pos, List, [], ◌∷◌, codes, inl, Option, None, Ok, refl, sym, ap, ap₂, subst, ◌∙◌, arith}
 use Rattle.sqlite_tied.specs.Compute.{everything}
 use Rattle.sqlite_schema.specs.declared.schema.Keys.TheVariants.{Enforced}
 use Rattle.sqlite.specs.declared.types.Value.TheVariants.{Null, Int}
@@ -26,6 +26,7 @@ use Rattle.dnp_store.specs.JournalTables.{HoldsArchive, IsJournal, empty_archive
 use Rattle.dnp_store.specs.BookTables.{HoldsBook, IsBook}
 use Rattle.dnp_store.specs.declared.store_kind.StoreKind.{StoreKind}
 use Rattle.dnp_store.specs.declared.store_kind.StoreKind.TheVariants.{Journal, Book}
+use Rattle.dnp_store.specs.Schemas.{checks_of_form, checks_of_rows}
 use Rattle.dnp_store.specs.Stores.{rows_with, number_row, HasTables, IsFresh, HasNumber}
 use Rattle.dnp_store.proofs.Statements.{went, written, same_value}
 use Rattle.dnp_store.proofs.Counting.{cast_int, cast_null}
@@ -94,6 +95,8 @@ numbers kind old new count has h =
     record {
       form = f;
       rows = r;
+      form_by = has.form_by;
+      rows_by = has.rows_by;
       schema = ap (λ (d : Database). d.schema) is;
       holds = record {
         number = ap (λ (d : Database). d.trees 0) is ∙ put.table ∙ ap (put_row number_row) has.empty.0;
@@ -103,6 +106,10 @@ numbers kind old new count has h =
         );
       };
     }
+
+-- the schema is that of the statements that made it
+pub made_of : (kind : StoreKind) (db : Database) → HasNumber kind db → db.schema ≡ schema kind checks_of_form (checks_of_rows kind)
+made_of kind db has = has.schema ∙ ap₂ (schema kind) has.form_by has.rows_by
 
 -- ---- a store that was just made has no rows
 

@@ -51,6 +51,7 @@ record Restored (last : ℕ) (rs : List Row) (a b : Stock) : Type 0 where
   pub rise : IsAscending (λ x y. x.id < y.id) queued
   pub above : AllByRecursion (λ x. last < x.id) queued
   pub up_to : AllByRecursion (λ x. x.id ≤ a.last_id) queued
+  pub low : AllByRecursion (λ x. x.lane < LANES) queued
   pub lanes : (k : ℕ) → k < LANES → lane_at b k ≡ behind (lane_at a k) (in_lane k queued)
   pub overflow : b.overflow ≡ a.overflow
   pub last_is : b.last_id ≡ a.last_id
@@ -94,6 +95,7 @@ restored last [] a b typed nine h = record {
   rise = tt;
   above = tt;
   up_to = tt;
+  low = tt;
   lanes = λ k _. ap (λ (s : Stock). lane_at s k) h
       ∙ ap (λ rows. record { capacity = (lane_at a k).capacity; rows = rows; lost = (lane_at a k).lost }) (sym (append-nil (lane_at a k).rows));
   overflow = ap (λ (s : Stock). s.overflow) h;
@@ -116,6 +118,7 @@ restored last (r ∷ rs) a b typed nine h =
       rise = (rest.above, rest.rise);
       above = (less, all_weaker (λ (z : Queued). id < z.id) (λ (z : Queued). last < z.id) (λ z over. omega arith) rest.queued rest.above);
       up_to = (at_most a id x h.5, rest.up_to);
+      low = (shows.low, rest.low);
       lanes = λ k k_low. rest.lanes k k_low ∙ one_more a id x y rest.queued nine shows.low refl (event_of_row id x row.0 h.3 row.2) k k_low;
       overflow = rest.overflow;
       last_is = rest.last_is;
@@ -136,6 +139,7 @@ reads_queued old new rows shown f q l sound has =
             queue_is = subst (λ xs. IsPermutation xs (old.now.trees 1)) did.rows_are (IsPermutation-sym (old.now.trees 1) got.0 got.1);
             rise = did.rise;
             up_to_last = did.up_to;
+            low = did.low;
             lanes = λ k k_low. did.lanes k k_low
                 ∙ ap (λ (xs : List Numbered). record { capacity = (lane_at a k).capacity; rows = xs ++ in_lane k did.queued; lost = (lane_at a k).lost }) (none k k_low);
             overflow = did.overflow;
@@ -172,6 +176,7 @@ opened db f q l figures a b n has form nine lanes counted begun put =
           counted = subst (λ (m : ℕ). IsCounted (codes "queue") (db.trees 2) m) (sym last) counted;
           rise = put.rise;
           up_to_last = subst (λ (m : ℕ). AllByRecursion (λ x. x.id ≤ m) put.queued) (sym put.last_is) put.up_to_last;
+          low = put.low;
           nine = nine.nine;
           lanes = λ k low. put.lanes k low ∙ ap (λ (lane : LaneState). record lane { rows = in_lane k put.queued }) (begun.lanes k low);
         };

@@ -1,5 +1,5 @@
 -- What a statement on the rows of a table makes of a database.
-use Rattle.std.proofs.Common.{◌≡◌, ◌⊎◌, inl, inr, Bool, true, false, IsTrue, None, Ok, Err, Result, sym, ap, subst}
+use Rattle.std.proofs.Common.{◌≡◌, ◌⊎◌, inl, inr, refl, arith, Bool, true, false, IsTrue, None, Ok, Err, Result, sym, ap, subst}
 use Rattle.std.specs.Prelude.{MatchBool}
 use Rattle.sqlite.specs.declared.run.Mode.{Mode}
 use Rattle.sqlite.specs.Command.{Command}
@@ -48,6 +48,10 @@ pub finished : (X Y : Type 0) (mid new : State) (P : Database → Type 0) (r : R
 finished X Y mid new P (Ok _) holds h = (h.1.is_open, subst P (sym h.1.committed_is) holds)
 finished X Y mid new P (Err _) holds h = tt
 
+pub second : (X Y : Type 0) (r : Result (Unit {0}) Error) → OnOk r (X × Y) → OnOk r Y
+second X Y (Ok _) h = h.1
+second X Y (Err _) h = tt
+
 pub survives_as : (old new : State) (P Q : Trees → Type 0) → ((db : Trees) → P db → Q db) → Survives old new P → Survives old new Q
 survives_as old new P Q more h = record {
   clean = h.clean;
@@ -57,6 +61,21 @@ survives_as old new P Q more h = record {
   closes = h.closes;
   crash = λ clean db may. elim (h.crash clean db may) [ inl before ↦ inl before | inr made ↦ inr (more db made) ];
 }
+
+-- a call that changes nothing leaves no more
+pub survives_still : (s : State) (P : Trees → Type 0) → Survives s s P
+survives_still s P = record {
+  clean = omega arith;
+  shield = λ h. h;
+  counts = omega arith;
+  limit = refl;
+  closes = λ _ is_open. inl is_open;
+  crash = λ _ db may. inl may;
+}
+
+-- nor does one that commits nothing, after another
+pub survives_on : (old mid new : State) (P : Trees → Type 0) → Survives old mid P → Survives mid new (λ _. ⊥) → Survives old new P
+survives_on old mid new P = survives_then old mid new P (λ _. ⊥) P (λ _ db made. made) (λ _ db none. absurd none)
 
 -- what a transaction leaves that did one thing and then committed
 pub survives_commit : {S : Type 0} (g : Ghosts S) (old begun : Held S) (mid new : State) (P : Trees → Type 0) → begun ≡ record old { in_transaction = true }

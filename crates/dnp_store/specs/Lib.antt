@@ -6,6 +6,8 @@ pub mod JournalTables
 pub mod JournalKept
 pub mod BookTables
 pub mod BookKept
+pub mod Schemas
+pub mod Faults
 -- Words of private steps.
 pub mod Inside
 pub mod Steps

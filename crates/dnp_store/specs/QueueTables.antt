@@ -98,8 +98,8 @@ lane_of rows figures number = record {
   lost = (slice_index_or figures number no_figures).lost;
 }
 
--- the rows of a queue's table, by their ids, and of its lanes', by their numbers, are those of the nine lanes, and the
--- last id used stands among the counts under the table's name; in a table rows stand in no order
+-- the rows of a queue's table, by their ids, and of its lanes', by their numbers, are those of the nine lanes, none of
+-- another, and the last id used stands among the counts under the table's name; in a table rows stand in no order
 pub record HoldsLanes (name : List ℕ) (events counts numbers : List SqlRow) (s : Stock) (figures : List Figures) : Type 0 where
   pub queued : List Queued
   pub queue_is : IsPermutation (map queued_row queued) events
@@ -107,6 +107,7 @@ pub record HoldsLanes (name : List ℕ) (events counts numbers : List SqlRow) (s
   pub counted : IsCounted name counts s.last_id
   pub rise : IsAscending (λ x y. x.id < y.id) queued
   pub up_to_last : AllByRecursion (λ x. x.id ≤ s.last_id) queued
+  pub low : AllByRecursion (λ x. x.lane < LANES) queued
   pub nine : length figures ≡ LANES
   pub lanes : (number : ℕ) → number < LANES → lane_at s number ≡ lane_of queued figures number
 

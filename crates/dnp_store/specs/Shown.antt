@@ -67,6 +67,10 @@ ShowsCount table rows n =
     ((length rows ≡ 0) × (n ≡ 0))
     ⊎ ((id : ℕ) × (length rows ≡ 1) × ShowsCountOf table (slice_index_or rows 0 []) id n)
 
+-- no row notes a greater number for the table of this name
+abbrev pub IsMost : List ℕ → List SqlRow → ℕ → Type 0
+IsMost table rows most = (k : ℕ) → k < length rows → (id n : ℕ) → ShowsCountOf table (slice_index_or rows k []) id n → n ≤ most
+
 -- ---- `queue`
 
 pub record ShowsQueued (row : SqlRow) (id : ℕ) (x : LaneRow) : Type 0 where
@@ -90,6 +94,7 @@ pub record PutBack (rows : List SqlRow) (a b : Stock) : Type 0 where
   pub queue_is : IsPermutation (map queued_row queued) rows
   pub rise : IsAscending (λ x y. x.id < y.id) queued
   pub up_to_last : AllByRecursion (λ x. x.id ≤ a.last_id) queued
+  pub low : AllByRecursion (λ x. x.lane < LANES) queued
   pub lanes : (k : ℕ) → k < LANES → lane_at b k ≡ record (lane_at a k) { rows = in_lane k queued }
   pub overflow : b.overflow ≡ a.overflow
   pub last_is : b.last_id ≡ a.last_id

@@ -1,6 +1,6 @@
 -- Words of private steps: what the databases of the three stores have alike. (Each has the table `form`, that of its rows
 -- under ids that are counted, and that of the counts; a queue has one more.)
-use Rattle.std.specs.Prelude.{◌≡◌, ◌++◌, ℕ, pos, true, List, [], ◌∷◌, codes}
+use Rattle.std.specs.Prelude.{◌≡◌, ℕ, pos, true, List, [], ◌∷◌, codes}
 use Rattle.sqlite.specs.declared.types.Value.TheVariants.{Int}
 use Rattle.sqlite.specs.Table.{Table}
 use Rattle.sqlite.specs.Term.{Term}
@@ -16,6 +16,7 @@ use Rattle.dnp_store.specs.Tables.{table_of, form_with, schema_of}
 use Rattle.dnp_store.specs.QueueTables.{queue_columns, lanes_with}
 use Rattle.dnp_store.specs.JournalTables.{journal_columns}
 use Rattle.dnp_store.specs.BookTables.{book_columns}
+use Rattle.dnp_store.specs.Schemas.{checks_of_form, checks_of_rows}
 
 -- ---- their schemas
 
@@ -40,27 +41,6 @@ more_with Book checks = []
 abbrev pub schema_for : StoreKind → List Term → List Term → List Term → Schema
 schema_for kind form rows more = schema_of form (rows_with kind rows) (more_with kind more)
 
--- what makes the table of the rows
-abbrev pub rows_text : StoreKind → List ℕ
-rows_text Queue =
-    codes "CREATE TABLE queue (id INTEGER PRIMARY KEY AUTOINCREMENT CHECK (id BETWEEN 1 AND 4611686018427387904), "
-    ++ codes "lane INTEGER NOT NULL CHECK (lane BETWEEN 0 AND 8), point INTEGER NOT NULL CHECK (point BETWEEN 0 AND 65535), "
-    ++ codes "flags INTEGER NOT NULL CHECK (flags BETWEEN 0 AND 255), value INTEGER NOT NULL, "
-    ++ codes "time INTEGER CHECK (time BETWEEN 0 AND 281474976710655))"
-rows_text Journal =
-    codes "CREATE TABLE journal (id INTEGER PRIMARY KEY AUTOINCREMENT CHECK (id BETWEEN 1 AND 4611686018427387904), "
-    ++ codes "kind INTEGER NOT NULL CHECK (kind BETWEEN 0 AND 2), point INTEGER NOT NULL CHECK (point BETWEEN 0 AND 65535), "
-    ++ codes "flags INTEGER NOT NULL CHECK (flags BETWEEN 0 AND 255), value INTEGER NOT NULL, "
-    ++ codes "time INTEGER CHECK (time BETWEEN 0 AND 281474976710655))"
-rows_text Book =
-    codes "CREATE TABLE control (id INTEGER PRIMARY KEY AUTOINCREMENT CHECK (id BETWEEN 1 AND 4611686018427387904), "
-    ++ codes "target INTEGER NOT NULL CHECK (target BETWEEN 0 AND 15), kind INTEGER NOT NULL CHECK (kind BETWEEN 0 AND 2), "
-    ++ codes "point INTEGER NOT NULL CHECK (point BETWEEN 0 AND 65535), code INTEGER NOT NULL CHECK (code BETWEEN 0 AND 255), "
-    ++ codes "count INTEGER NOT NULL CHECK (count BETWEEN 0 AND 255), on_ms INTEGER NOT NULL CHECK (on_ms BETWEEN 0 AND 4294967295), "
-    ++ codes "off_ms INTEGER NOT NULL CHECK (off_ms BETWEEN 0 AND 4294967295), "
-    ++ codes "value INTEGER NOT NULL CHECK (value BETWEEN -2147483648 AND 2147483647), "
-    ++ codes "state INTEGER NOT NULL CHECK (state BETWEEN 0 AND 2), status INTEGER NOT NULL CHECK (status BETWEEN 0 AND 127))"
-
 -- ---- what queries show of them
 
 -- a store's database shows this of its trees, and stays as it was
@@ -76,6 +56,7 @@ form_schema form = record { tables = form_with form ∷ []; indexes = []; views 
 -- `form` alone is there, and has no row
 pub record HasForm (db : Database) : Type 0 where
   pub form : List Term
+  pub form_by : form ≡ checks_of_form
   pub schema : db.schema ≡ form_schema form
   pub empty : db.trees 0 ≡ []
 
@@ -83,6 +64,8 @@ pub record HasForm (db : Database) : Type 0 where
 pub record HasTables (kind : StoreKind) (db : Database) : Type 0 where
   pub form : List Term
   pub rows : List Term
+  pub form_by : form ≡ checks_of_form
+  pub rows_by : rows ≡ checks_of_rows kind
   pub schema : db.schema ≡ schema_of form (rows_with kind rows) []
   pub empty : (db.trees 0 ≡ []) × (db.trees 1 ≡ []) × (db.trees 2 ≡ [])
 
@@ -97,5 +80,7 @@ pub record IsFresh (db : Trees) : Type 0 where
 pub record HasNumber (kind : StoreKind) (db : Database) : Type 0 where
   pub form : List Term
   pub rows : List Term
+  pub form_by : form ≡ checks_of_form
+  pub rows_by : rows ≡ checks_of_rows kind
   pub schema : db.schema ≡ schema_of form (rows_with kind rows) []
   pub holds : IsFresh db.trees

@@ -1,9 +1,9 @@
 //! A book of controls in a SQL database.
 
-ghost use Rattle.std.specs.Prelude.{◌≡◌, ◌≢◌, ◌≤◌, ◌<◌, ◌+◌, true, false, not, IsTrue, IfOk, IfErr, OnOk};
+ghost use Rattle.std.specs.Prelude.{◌≡◌, ◌≢◌, ◌⊎◌, ◌↔◌, ◌≤◌, ◌<◌, ◌+◌, true, false, not, IsTrue, IfOk, IfErr, OnOk, OnErr};
 ghost use Rattle.sqlite.specs.Held.{state};
 ghost use Rattle.sqlite.specs.State.{HasCleanDisk};
-ghost use Rattle.dnp_controls.specs.Book.{Has, added, entry_of, finished, is_finished, is_pending, spent};
+ghost use Rattle.dnp_controls.specs.Book.{Has, added, entry_of, finished, is_finished, is_pending, next_of, rows_of, spent};
 ghost use Rattle.dnp_controls.specs.Calls.{IsBookCall};
 ghost use Rattle.dnp_store.specs.BookKept.{IsHonest, Leaves, LeavesEither};
 
@@ -61,7 +61,8 @@ impl<S: Alter + Drop> Drop for ControlBook<S> {
 impl<S: Alter> ControlBook<S> {
     /// The connection to the database, as it stands.
     pub fn into_connection(self) -> Connection<S>
-        ensures { result ≡ self.conn }
+        ensures same { result ≡ self.conn }
+        ensures idle { result.in_transaction ≡ false }
     {
         let ControlBook {
             conn,
@@ -99,11 +100,15 @@ impl<S: Alter> Book for ControlBook<S> {
     fn add(&mut self, alloc: Global, target: u8, command: &Command) -> Result<u64, BookFault>
         requires { target < TARGETS }
         ensures call { IsBookCall (IsHonest S.Store) (λ b. b.stopped) (λ b. b.ledger) self.old self.new result }
-        ensures added { IsHonest S.Store self.new → OnOk result (self.new.ledger ≡ added self.old.ledger target command.now) }
-        ensures id { IsHonest S.Store self.new → IfOk result (λ id. id ≡ self.old.ledger.last_id + 1) }
-        ensures not_exhausted { IsHonest S.Store self.new → OnOk result (self.old.ledger.last_id < MAX_ID) }
-        ensures exhausted { IsHonest S.Store self.new → IfErr result (λ e. e ≡ BookFault.Exhausted → MAX_ID ≤ self.old.ledger.last_id) }
-        ensures exhausted_first { IsHonest S.Store self.new → IfErr result (λ e. e ≡ BookFault.Memory → self.old.ledger.last_id < MAX_ID) }
+        ensures added { OnOk result (self.new.ledger ≡ added self.old.ledger target command.now) }
+        ensures id { IfOk result (λ id. id ≡ self.old.ledger.last_id + 1) }
+        ensures kept { OnErr result (self.new.ledger ≡ self.old.ledger) }
+        ensures owned { self.new.owned ≡ self.old.owned }
+        ensures limit { self.new.conn.step_limit ≡ self.old.conn.step_limit }
+        ensures not_exhausted { OnOk result (self.old.ledger.last_id < MAX_ID) }
+        ensures exhausted { IfErr result (λ e. e ≡ BookFault.Exhausted → MAX_ID ≤ self.old.ledger.last_id) }
+        ensures exhausted_first { IfErr result (λ e. e ≡ BookFault.Memory → self.old.ledger.last_id < MAX_ID) }
+        ensures exhausted_always { self.old.stopped ≡ false → MAX_ID ≤ self.old.ledger.last_id → (result ≡ Err BookFault.Exhausted) × (self.new ≡ self.old) }
         ensures named { IfErr result (λ e. (e ≢ BookFault.NoControl) × (e ≢ BookFault.NotPending)) }
         ensures either { HasCleanDisk (state S.Store self.new.conn) → self.old.stopped ≡ false → IsTrue self.old.owned → LeavesEither (state S.Store self.new.conn) self.old.ledger (added self.old.ledger target command.now) }
         ensures after { HasCleanDisk (state S.Store self.new.conn) → IsTrue self.old.owned → OnOk result (Leaves (state S.Store self.new.conn) self.new.ledger) }
@@ -137,7 +142,13 @@ impl<S: Alter> Book for ControlBook<S> {
         Ok(id)
     }
 
-    fn next(&mut self, _alloc: Global, target: u8) -> Result<Option<Entry>, BookFault> {
+    fn next(&mut self, _alloc: Global, target: u8) -> Result<Option<Entry>, BookFault>
+        ensures call { IsBookCall (IsHonest S.Store) (λ b. b.stopped) (λ b. b.ledger) self.old self.new result }
+        ensures value { IfOk result (λ entry. entry ≡ next_of self.old.ledger.entries target) }
+        ensures same { self.new ≡ self.old }
+        ensures named { IfErr result (λ e. e ≡ BookFault.Device) }
+        ensures device { IsTrue self.old.stopped ↔ (result ≡ Err BookFault.Device) }
+    {
         if self.stopped {
             return Err(BookFault::Device);
         }
@@ -147,10 +158,15 @@ impl<S: Alter> Book for ControlBook<S> {
     /// What a crash leaves at any exit holds the entries before or after, and after Ok those after.
     fn spend(&mut self, _alloc: Global, id: u64) -> Result<(), BookFault>
         ensures call { IsBookCall (IsHonest S.Store) (λ b. b.stopped) (λ b. b.ledger) self.old self.new result }
-        ensures was_pending { IsHonest S.Store self.new → OnOk result (Has self.old.ledger.entries id is_pending) }
-        ensures spent { IsHonest S.Store self.new → OnOk result (self.new.ledger ≡ spent self.old.ledger id) }
-        ensures no_control { IsHonest S.Store self.new → IfErr result (λ e. e ≡ BookFault.NoControl → entry_of self.old.ledger.entries id ≡ None) }
-        ensures not_pending { IsHonest S.Store self.new → IfErr result (λ e. e ≡ BookFault.NotPending → Has self.old.ledger.entries id (λ control. not (is_pending control))) }
+        ensures was_pending { OnOk result (Has self.old.ledger.entries id is_pending) }
+        ensures spent { OnOk result (self.new.ledger ≡ spent self.old.ledger id) }
+        ensures kept { OnErr result (self.new.ledger ≡ self.old.ledger) }
+        ensures owned { self.new.owned ≡ self.old.owned }
+        ensures limit { self.new.conn.step_limit ≡ self.old.conn.step_limit }
+        ensures no_control { IfErr result (λ e. e ≡ BookFault.NoControl → entry_of self.old.ledger.entries id ≡ None) }
+        ensures no_control_always { self.old.stopped ≡ false → entry_of self.old.ledger.entries id ≡ None → (result ≡ Err BookFault.NoControl) × (self.new ≡ self.old) }
+        ensures not_pending { IfErr result (λ e. e ≡ BookFault.NotPending → Has self.old.ledger.entries id (λ control. not (is_pending control))) }
+        ensures not_pending_always { self.old.stopped ≡ false → Has self.old.ledger.entries id (λ control. not (is_pending control)) → (result ≡ Err BookFault.NotPending) × (self.new ≡ self.old) }
         ensures named { IfErr result (λ e. e ≢ BookFault.Exhausted) }
         ensures memory { result ≡ Err BookFault.Memory → IsTrue true }
         ensures either { HasCleanDisk (state S.Store self.new.conn) → self.old.stopped ≡ false → IsTrue self.old.owned → LeavesEither (state S.Store self.new.conn) self.old.ledger (spent self.old.ledger id) }
@@ -179,10 +195,15 @@ impl<S: Alter> Book for ControlBook<S> {
     /// What a crash leaves at any exit holds the entries before or after, and after Ok those after.
     fn finish(&mut self, _alloc: Global, id: u64, status: Status) -> Result<(), BookFault>
         ensures call { IsBookCall (IsHonest S.Store) (λ b. b.stopped) (λ b. b.ledger) self.old self.new result }
-        ensures was_open { IsHonest S.Store self.new → OnOk result (Has self.old.ledger.entries id (λ control. not (is_finished control))) }
-        ensures finished { IsHonest S.Store self.new → OnOk result (self.new.ledger ≡ finished self.old.ledger id status) }
-        ensures no_control { IsHonest S.Store self.new → IfErr result (λ e. e ≡ BookFault.NoControl → entry_of self.old.ledger.entries id ≡ None) }
-        ensures was_finished { IsHonest S.Store self.new → IfErr result (λ e. e ≡ BookFault.NotPending → Has self.old.ledger.entries id is_finished) }
+        ensures was_open { OnOk result (Has self.old.ledger.entries id (λ control. not (is_finished control))) }
+        ensures finished { OnOk result (self.new.ledger ≡ finished self.old.ledger id status) }
+        ensures kept { OnErr result (self.new.ledger ≡ self.old.ledger) }
+        ensures owned { self.new.owned ≡ self.old.owned }
+        ensures limit { self.new.conn.step_limit ≡ self.old.conn.step_limit }
+        ensures no_control { IfErr result (λ e. e ≡ BookFault.NoControl → entry_of self.old.ledger.entries id ≡ None) }
+        ensures no_control_always { self.old.stopped ≡ false → entry_of self.old.ledger.entries id ≡ None → (result ≡ Err BookFault.NoControl) × (self.new ≡ self.old) }
+        ensures was_finished { IfErr result (λ e. e ≡ BookFault.NotPending → Has self.old.ledger.entries id is_finished) }
+        ensures was_finished_always { self.old.stopped ≡ false → Has self.old.ledger.entries id is_finished → (result ≡ Err BookFault.NotPending) × (self.new ≡ self.old) }
         ensures named { IfErr result (λ e. e ≢ BookFault.Exhausted) }
         ensures memory { result ≡ Err BookFault.Memory → IsTrue true }
         ensures either { HasCleanDisk (state S.Store self.new.conn) → self.old.stopped ≡ false → IsTrue self.old.owned → LeavesEither (state S.Store self.new.conn) self.old.ledger (finished self.old.ledger id status) }
@@ -208,7 +229,13 @@ impl<S: Alter> Book for ControlBook<S> {
         Ok(())
     }
 
-    fn rows(&mut self, alloc: Global, from: u64, most: usize) -> Result<Vec<Entry>, BookFault> {
+    fn rows(&mut self, alloc: Global, from: u64, most: usize) -> Result<Vec<Entry>, BookFault>
+        ensures call { IsBookCall (IsHonest S.Store) (λ b. b.stopped) (λ b. b.ledger) self.old self.new result }
+        ensures rows { IfOk result (λ rows. rows.items ≡ rows_of self.old.ledger.entries from most) }
+        ensures same { self.new ≡ self.old }
+        ensures named { IfErr result (λ e. (e ≡ BookFault.Memory) ⊎ (e ≡ BookFault.Device)) }
+        ensures device { IsTrue self.old.stopped ↔ (result ≡ Err BookFault.Device) }
+    {
         if self.stopped {
             return Err(BookFault::Device);
         }

@@ -14,7 +14,8 @@ use sqlite_schema::schema::{Column, Kind, Table};
 /// Whether the first five of eleven columns are those of `control`.
 fn are_first(columns: &[Column]) -> bool
     requires { length columns.now ≡ 11 }
-    ensures { IsTrue result → take 5 columns.now ≡ column_of (codes "id") Integer false ∷ column_of (codes "target") Integer true ∷ column_of (codes "kind") Integer true ∷ column_of (codes "point") Integer true ∷ column_of (codes "code") Integer true ∷ [] }
+    ensures form { IsTrue result → take 5 columns.now ≡ column_of (codes "id") Integer false ∷ column_of (codes "target") Integer true ∷ column_of (codes "kind") Integer true ∷ column_of (codes "point") Integer true ∷ column_of (codes "code") Integer true ∷ [] }
+    ensures found { take 5 columns.now ≡ column_of (codes "id") Integer false ∷ column_of (codes "target") Integer true ∷ column_of (codes "kind") Integer true ∷ column_of (codes "point") Integer true ∷ column_of (codes "code") Integer true ∷ [] → IsTrue result }
 {
     is_column(&columns[0], "id", Kind::Integer, false)
         && is_column(&columns[1], "target", Kind::Integer, true)
@@ -26,7 +27,8 @@ fn are_first(columns: &[Column]) -> bool
 /// Whether the first three of six columns are a block's numbers.
 fn are_block(columns: &[Column]) -> bool
     requires { length columns.now ≡ 6 }
-    ensures { IsTrue result → take 3 columns.now ≡ column_of (codes "count") Integer true ∷ column_of (codes "on_ms") Integer true ∷ column_of (codes "off_ms") Integer true ∷ [] }
+    ensures form { IsTrue result → take 3 columns.now ≡ column_of (codes "count") Integer true ∷ column_of (codes "on_ms") Integer true ∷ column_of (codes "off_ms") Integer true ∷ [] }
+    ensures found { take 3 columns.now ≡ column_of (codes "count") Integer true ∷ column_of (codes "on_ms") Integer true ∷ column_of (codes "off_ms") Integer true ∷ [] → IsTrue result }
 {
     is_column(&columns[0], "count", Kind::Integer, true)
         && is_column(&columns[1], "on_ms", Kind::Integer, true)
@@ -36,7 +38,8 @@ fn are_block(columns: &[Column]) -> bool
 /// Whether the last three of six columns are the value, the state and the status.
 fn are_ends(columns: &[Column]) -> bool
     requires { length columns.now ≡ 6 }
-    ensures { IsTrue result → drop 3 columns.now ≡ column_of (codes "value") Integer true ∷ column_of (codes "state") Integer true ∷ column_of (codes "status") Integer true ∷ [] }
+    ensures form { IsTrue result → drop 3 columns.now ≡ column_of (codes "value") Integer true ∷ column_of (codes "state") Integer true ∷ column_of (codes "status") Integer true ∷ [] }
+    ensures found { drop 3 columns.now ≡ column_of (codes "value") Integer true ∷ column_of (codes "state") Integer true ∷ column_of (codes "status") Integer true ∷ [] → IsTrue result }
 {
     is_column(&columns[3], "value", Kind::Integer, true)
         && is_column(&columns[4], "state", Kind::Integer, true)
@@ -46,7 +49,8 @@ fn are_ends(columns: &[Column]) -> bool
 /// Whether the last six of eleven columns are those of `control`.
 fn are_last(columns: &[Column]) -> bool
     requires { length columns.now ≡ 11 }
-    ensures { IsTrue result → drop 5 columns.now ≡ column_of (codes "count") Integer true ∷ column_of (codes "on_ms") Integer true ∷ column_of (codes "off_ms") Integer true ∷ column_of (codes "value") Integer true ∷ column_of (codes "state") Integer true ∷ column_of (codes "status") Integer true ∷ [] }
+    ensures form { IsTrue result → drop 5 columns.now ≡ column_of (codes "count") Integer true ∷ column_of (codes "on_ms") Integer true ∷ column_of (codes "off_ms") Integer true ∷ column_of (codes "value") Integer true ∷ column_of (codes "state") Integer true ∷ column_of (codes "status") Integer true ∷ [] }
+    ensures found { drop 5 columns.now ≡ column_of (codes "count") Integer true ∷ column_of (codes "on_ms") Integer true ∷ column_of (codes "off_ms") Integer true ∷ column_of (codes "value") Integer true ∷ column_of (codes "state") Integer true ∷ column_of (codes "status") Integer true ∷ [] → IsTrue result }
 {
     let rest = columns.split_at(5).1;
     are_block(rest) && are_ends(rest)
@@ -54,7 +58,8 @@ fn are_last(columns: &[Column]) -> bool
 
 /// Whether the table is `control`.
 fn is_control(table: &Table) -> bool
-    ensures { IsTrue result → table.now ≡ book_with table.now.checks }
+    ensures form { IsTrue result → table.now ≡ book_with table.now.checks }
+    ensures found { table.now ≡ book_with table.now.checks → IsTrue result }
 {
     let columns = table.columns.as_slice();
     columns.len() == 11
@@ -65,7 +70,8 @@ fn is_control(table: &Table) -> bool
 
 /// Whether the tables are those of a book.
 fn are_tables(tables: &[Table]) -> bool
-    ensures { IsTrue result → tables.now ≡ form_with (checks_at tables.now 0) ∷ book_with (checks_at tables.now 1) ∷ sequence ∷ [] }
+    ensures form { IsTrue result → tables.now ≡ form_with (checks_at tables.now 0) ∷ book_with (checks_at tables.now 1) ∷ sequence ∷ [] }
+    ensures found { tables.now ≡ form_with (checks_at tables.now 0) ∷ book_with (checks_at tables.now 1) ∷ sequence ∷ [] → IsTrue result }
 {
     tables.len() == 3 && is_form(&tables[0]) && is_control(&tables[1]) && is_sequence(&tables[2])
 }
@@ -75,6 +81,8 @@ pub(crate) fn is_of_book<S: Alter>(conn: &Connection<S>) -> bool
     ensures live { IsLive (state S.Store conn.now) }
     ensures schema { IsTrue result → (state S.Store conn.now).now.schema ≡ book_schema (checks_at (state S.Store conn.now).now.schema.tables 0)
         (checks_at (state S.Store conn.now).now.schema.tables 1) }
+    ensures found { (state S.Store conn.now).now.schema ≡ book_schema (checks_at (state S.Store conn.now).now.schema.tables 0)
+        (checks_at (state S.Store conn.now).now.schema.tables 1) → IsTrue result }
 {
     let schema = conn.schema();
     are_tables(schema.tables.as_slice()) && schema.indexes.is_empty() && schema.views.is_empty()

@@ -6,6 +6,7 @@ ghost use Rattle.sqlite.specs.State.{HasCleanDisk, Survives};
 ghost use Rattle.dnp_controls.specs.Book.{empty_ledger};
 ghost use Rattle.dnp_store.specs.BookKept.{Leaves, Stands};
 ghost use Rattle.dnp_store.specs.BookTables.{HoldsBook, IsBook};
+ghost use Rattle.dnp_store.specs.Schemas.{made_book};
 ghost use Rattle.dnp_store.specs.Tables.{no_schema};
 
 use crate::book::ControlBook;
@@ -33,7 +34,10 @@ impl<S: Alter> ControlBook<S> {
         ensures owned { IfOk result (λ b. IsTrue b.owned ↔ ((state S.Store conn).now.schema ≡ no_schema)) }
         ensures stands { IfOk result (λ b. HasCleanDisk (state S.Store b.conn) → IsTrue b.owned → Stands (state S.Store b.conn) b.ledger) }
         ensures same { IfErr result (λ e. HasCleanDisk (state S.Store e.1) → IsTrue (state S.Store e.1).is_open → (state S.Store e.1).committed ≡ (state S.Store conn).committed) }
+        ensures schema { IfOk result (λ b. HasCleanDisk (state S.Store b.conn) → IsTrue b.owned → (state S.Store b.conn).committed.schema ≡ made_book) }
         ensures made { IfOk result (λ b. Survives (state S.Store conn) (state S.Store b.conn) (λ db. (state S.Store conn).now.schema ≡ no_schema → HoldsBook db empty_ledger)) }
+        ensures left { IfErr result (λ e. Survives (state S.Store conn) (state S.Store e.1) (λ db. (state S.Store conn).now.schema ≡ no_schema → HoldsBook db empty_ledger)) }
+        ensures handed_back { IfErr result (λ e. (e.1.in_transaction ≡ conn.in_transaction) × (e.1.step_limit ≡ conn.step_limit)) }
     {
         if !conn.is_autocommit() {
             return Err((OpenFault::WrongForm, conn));
@@ -71,6 +75,8 @@ impl<S: Alter> ControlBook<S> {
         ensures stands { IfOk result (λ b. HasCleanDisk (state S.Store b.conn) → IsTrue b.owned → Stands (state S.Store b.conn) b.ledger) }
         ensures same { IfErr result (λ e. HasCleanDisk (state S.Store e.1) → IsTrue (state S.Store e.1).is_open → (state S.Store e.1).committed ≡ (state S.Store conn).committed) }
         ensures unwritten { IfOk result (λ b. Survives (state S.Store conn) (state S.Store b.conn) (λ _. ⊥)) }
+        ensures left { IfErr result (λ e. Survives (state S.Store conn) (state S.Store e.1) (λ _. ⊥)) }
+        ensures handed_back { IfErr result (λ e. (e.1.in_transaction ≡ conn.in_transaction) × (e.1.step_limit ≡ conn.step_limit)) }
     {
         if !conn.is_autocommit() {
             return Err((OpenFault::WrongForm, conn));

@@ -1,13 +1,14 @@
 //! What rows that queries show of a queue's tables say.
 
-ghost use Rattle.std.specs.Prelude.{◌≡◌, ◌<◌, ◌≤◌, ℕ, false, IsTrue, IfOk, IfSome, [], ◌∷◌, List, codes, length, pos, All, slice_index_or, if◌then◌else◌};
+ghost use Rattle.std.specs.Prelude.{◌≡◌, ◌<◌, ◌≤◌, ◌^◌, ℕ, Bool, nat_le, false, IsTrue, IfOk, IfSome, [], ◌∷◌, List, codes, length, pos, All, slice_index_or, if◌then◌else◌};
 ghost use Rattle.sqlite.specs.declared.types.Value.TheVariants.{Int, Text};
 ghost use Rattle.sqlite.specs.Order.{column};
 ghost use Rattle.dnp_objects.specs.declared.limits.TheConstants as limits;
 ghost use Rattle.dnp_eventbuf.specs.Carried.{IsCarried};
 ghost use Rattle.dnp_eventbuf.specs.Stock.{lane_at};
 ghost use Rattle.dnp_store.specs.QueueTables.{is_raised, no_figures};
-ghost use Rattle.dnp_store.specs.Shown.{AreInRange, AreNine, IsBegun, Restores, ShowNine, ShowsCount, ShowsCountOf, ShowsFigures, ShowsForm1, ShowsQueued};
+ghost use Rattle.dnp_store.specs.Shown.{AreInRange, AreNine, IsBegun, Restores, ShowNine, IsMost, ShowsCount, ShowsCountOf, ShowsFigures, ShowsForm1, ShowsQueued};
+ghost use Rattle.dnp_store.specs.declared.figures.Figures.{Figures as FiguresValue};
 
 use crate::fault::Unread;
 use crate::figures::Figures;
@@ -19,16 +20,21 @@ use std::alloc::{AllocError, Global};
 
 /// The number in this column, if it is one from 0 on.
 pub(crate) fn whole(row: &Shown, at: usize) -> Option<u64>
-    ensures { IfSome result (λ n. column row.now at ≡ Int (pos n)) }
+    ensures value { IfSome result (λ n. column row.now at ≡ Int (pos n)) }
+    ensures found { (n : ℕ) → column row.now at ≡ Int (pos n) → result ≡ Some n }
 {
-    row.get::<u64>(at).ok()
+    match row.get_ref(at).ok()? {
+        ValueRef::Int(n) => u64::try_from(n).ok(),
+        _ => None,
+    }
 }
 
 /// The number in this column, if it is in range.
 pub(crate) fn small(row: &Shown, at: usize) -> Option<u32>
-    ensures { IfSome result (λ n. column row.now at ≡ Int (pos n)) }
+    ensures value { IfSome result (λ n. column row.now at ≡ Int (pos n)) }
+    ensures found { (n : ℕ) → n < 2 ^ 32 → column row.now at ≡ Int (pos n) → result ≡ Some n }
 {
-    row.get::<u32>(at).ok()
+    u32::try_from(whole(row, at)?).ok()
 }
 
 /// The rowid of the only row, if its number is 1.
@@ -48,7 +54,8 @@ pub(crate) fn form1(rows: &[Shown]) -> Option<i64>
 
 /// The mark in this column, 0 or 1.
 fn mark(row: &Shown, at: usize) -> Option<bool>
-    ensures { IfSome result (λ b. column row.now at ≡ Int (if b then pos 1 else pos 0)) }
+    ensures value { IfSome result (λ b. column row.now at ≡ Int (if b then pos 1 else pos 0)) }
+    ensures found { (b : Bool) → column row.now at ≡ Int (if b then pos 1 else pos 0) → result ≡ Some b }
 {
     match whole(row, at)? {
         0 => Some(false),
@@ -59,7 +66,8 @@ fn mark(row: &Shown, at: usize) -> Option<bool>
 
 /// The figures of the lane of this number, if the row has them, in their ranges.
 fn figures_in(row: &Shown, number: usize) -> Option<Figures>
-    ensures { IfSome result (λ f. ShowsFigures row.now number f × AreInRange f) }
+    ensures value { IfSome result (λ f. ShowsFigures row.now number f × AreInRange f) }
+    ensures found { (f : FiguresValue) → ShowsFigures row.now number f → AreInRange f → result ≡ Some f }
 {
     let lane = whole(row, 0)?;
     let capacity = small(row, 1)?;
@@ -94,7 +102,8 @@ pub(crate) fn all_figures(alloc: Global, rows: &[Shown]) -> Result<Vec<Figures>,
 
 /// The rowid of a row that counts for this table, and the number that it notes.
 fn count_in(row: &Shown, table: &str) -> Option<(u64, u64)>
-    ensures { IfSome result (λ x. ShowsCountOf table.now row.now x.0 x.1) }
+    ensures value { IfSome result (λ x. ShowsCountOf table.now row.now x.0 x.1) }
+    ensures found { (id n : ℕ) → ShowsCountOf table.now row.now id n → result ≡ Some (id, n) }
 {
     match row.get_ref(1).ok()? {
         ValueRef::Text(name) if name == table.as_bytes() => {
@@ -121,7 +130,9 @@ fn counted(rows: &[Shown], table: &str) -> Option<u64>
 }
 
 /// The greatest number that is noted for this table, or 0.
-fn greatest(rows: &[Shown], table: &str) -> u64 {
+fn greatest(rows: &[Shown], table: &str) -> u64
+    ensures { IsMost table.now rows.now result }
+{
     let mut greatest = 0;
     for row in rows {
         if let Some((_id, n)) = count_in(row, table) {
@@ -131,17 +142,25 @@ fn greatest(rows: &[Shown], table: &str) -> u64 {
     greatest
 }
 
+/// Whether an id is at most `MAX_ID`.
+fn is_id(id: u64) -> bool
+    ensures { result ≡ nat_le id limits.MAX_ID }
+{
+    id <= MAX_ID
+}
+
 /// The last id used in this table, at most `MAX_ID`, and whether that alone is noted.
 pub(crate) fn last_used(counts: &[Shown], rows: &[Shown], table: &str) -> Option<(u64, bool)>
-    ensures { IfSome result (λ last. (last.0 ≤ limits.MAX_ID) × (IsTrue last.1 → ShowsCount table.now counts.now last.0)) }
+    ensures counted { IfSome result (λ last. (last.0 ≤ limits.MAX_ID) × (IsTrue last.1 → ShowsCount table.now counts.now last.0)) }
+    ensures most { IfSome result (λ last. IsMost table.now counts.now last.0) }
 {
     let top = match rows.last() {
         Some(row) => whole(row, 0)?,
         None => 0,
     };
     let noted = counted(counts, table);
-    let last = noted.unwrap_or(greatest(counts, table)).max(top);
-    if last <= MAX_ID {
+    let last = greatest(counts, table).max(top);
+    if is_id(last) {
         Some((last, noted == Some(last)))
     } else {
         None

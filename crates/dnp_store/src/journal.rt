@@ -1,11 +1,11 @@
 //! A journal in a SQL database.
 
-ghost use Rattle.std.specs.Prelude.{◌≡◌, ◌≢◌, false, true, IsTrue, [], All, IfOk, IfErr, OnOk};
+ghost use Rattle.std.specs.Prelude.{◌≡◌, ◌≢◌, ◌+◌, false, true, IsTrue, [], All, IfOk, IfErr, OnOk, OnErr, length};
 ghost use Rattle.sqlite.specs.Held.{state};
 ghost use Rattle.sqlite.specs.State.{HasCleanDisk};
 ghost use Rattle.dnp_objects.specs.Events.{IsEvent};
-ghost use Rattle.dnp_eventbuf.specs.Archive.{passes_limit, with_events};
-ghost use Rattle.dnp_eventbuf.specs.SinkCalls.{IsSinkCall};
+ghost use Rattle.dnp_eventbuf.specs.Archive.{IsSoundArchive, passes_limit, rows_over, with_events};
+ghost use Rattle.dnp_eventbuf.specs.SinkCalls.{IsJournalCall, IsSinkCall};
 ghost use Rattle.dnp_store.specs.JournalKept.{IsHonest, Leaves, LeavesEither, held_archive};
 
 use crate::fault::{fault, is_lost};
@@ -61,7 +61,8 @@ impl<S: Alter + Drop> Drop for Journal<S> {
 impl<S: Alter> Journal<S> {
     /// The connection to the database, as it stands.
     pub fn into_connection(self) -> Connection<S>
-        ensures { result ≡ self.conn }
+        ensures same { result ≡ self.conn }
+        ensures idle { result.in_transaction ≡ false }
     {
         let Journal {
             conn,
@@ -101,9 +102,14 @@ impl<S: Alter> Sink for Journal<S> {
         requires { All IsEvent events.now }
         ensures call { IsSinkCall (IsHonest S.Store) (λ j. j.stopped) (λ old new. held_archive S.Store new ≡ held_archive S.Store old) self.old self.new result }
         ensures taken { IsHonest S.Store self.new → IfOk result (λ dropped. (held_archive S.Store self.new ≡ with_events (held_archive S.Store self.old) events.now) × (dropped.items ≡ [])) }
-        ensures not_exhausted { IsHonest S.Store self.new → OnOk result (passes_limit (held_archive S.Store self.old) events.now ≡ false) }
-        ensures exhausted { IsHonest S.Store self.new → IfErr result (λ e. e ≡ StoreFault.Exhausted → IsTrue (passes_limit (held_archive S.Store self.old) events.now)) }
-        ensures exhausted_first { IsHonest S.Store self.new → IfErr result (λ e. e ≡ StoreFault.Memory → passes_limit (held_archive S.Store self.old) events.now ≡ false) }
+        ensures counted { OnOk result ((self.new.last_id ≡ self.old.last_id + length events.now) × (self.new.count ≡ self.old.count + length events.now)) }
+        ensures kept { OnErr result ((self.new.last_id ≡ self.old.last_id) × (self.new.count ≡ self.old.count)) }
+        ensures owned { self.new.owned ≡ self.old.owned }
+        ensures limit { self.new.conn.step_limit ≡ self.old.conn.step_limit }
+        ensures not_exhausted { OnOk result (passes_limit (held_archive S.Store self.old) events.now ≡ false) }
+        ensures exhausted { IfErr result (λ e. e ≡ StoreFault.Exhausted → IsTrue (passes_limit (held_archive S.Store self.old) events.now)) }
+        ensures exhausted_first { IfErr result (λ e. e ≡ StoreFault.Memory → passes_limit (held_archive S.Store self.old) events.now ≡ false) }
+        ensures exhausted_always { self.old.stopped ≡ false → IsTrue (passes_limit (held_archive S.Store self.old) events.now) → (result ≡ Err StoreFault.Exhausted) × (self.new ≡ self.old) }
         ensures memory { result ≡ Err StoreFault.Memory → true ≡ false → events.now ≢ [] }
         ensures either { HasCleanDisk (state S.Store self.new.conn) → self.old.stopped ≡ false → IsTrue self.old.owned → LeavesEither (state S.Store self.new.conn) (held_archive S.Store self.old) (with_events (held_archive S.Store self.old) events.now) }
         ensures after { HasCleanDisk (state S.Store self.new.conn) → IsTrue self.old.owned → OnOk result (Leaves (state S.Store self.new.conn) (held_archive S.Store self.new)) }
@@ -138,7 +144,17 @@ impl<S: Alter> JournalStore for Journal<S> {
 
     ghost exhausts_ids = { λ s events. refl };
 
-    fn rows(&mut self, alloc: Global, from: u64, most: usize) -> Result<Vec<Numbered>, StoreFault> {
+    fn rows(&mut self, alloc: Global, from: u64, most: usize) -> Result<Vec<Numbered>, StoreFault>
+        ensures call { IsJournalCall (IsHonest S.Store) (λ j. j.stopped) (held_archive S.Store) self.old self.new result }
+        ensures rows { IsHonest S.Store self.new → IfOk result (λ rows. rows.items ≡ rows_over (held_archive S.Store self.old) from most) }
+        ensures same { IsHonest S.Store self.new → OnOk result (held_archive S.Store self.new ≡ held_archive S.Store self.old) }
+        ensures kept { (self.new.last_id ≡ self.old.last_id) × (self.new.count ≡ self.old.count) }
+        ensures owned { self.new.owned ≡ self.old.owned }
+        ensures limit { self.new.conn.step_limit ≡ self.old.conn.step_limit }
+        ensures memory { result ≡ Err StoreFault.Memory → true ≡ false → rows_over (held_archive S.Store self.old) from most ≢ [] }
+        ensures named { IfErr result (λ e. e ≢ StoreFault.Exhausted) }
+        ensures untouched { IsTrue self.old.stopped → self.new ≡ self.old }
+    {
         if self.stopped {
             return Err(StoreFault::Device);
         }
@@ -155,7 +171,12 @@ impl<S: Alter> JournalStore for Journal<S> {
         Ok(rows)
     }
 
-    fn count(&mut self) -> u64 {
+    fn count(&mut self) -> u64
+        ensures same { self.new ≡ self.old }
+        ensures sound { IsHonest S.Store self.new → IsSoundArchive (held_archive S.Store self.new) }
+        ensures value { IsHonest S.Store self.new → result ≡ length (held_archive S.Store self.new).rows }
+        ensures held { result ≡ self.new.count }
+    {
         self.count
     }
 }

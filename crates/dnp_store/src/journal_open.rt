@@ -5,6 +5,7 @@ ghost use Rattle.sqlite.specs.Held.{state};
 ghost use Rattle.sqlite.specs.State.{HasCleanDisk, Survives};
 ghost use Rattle.dnp_store.specs.JournalKept.{Leaves, Stands, held_archive};
 ghost use Rattle.dnp_store.specs.JournalTables.{HoldsArchive, IsJournal, empty_archive};
+ghost use Rattle.dnp_store.specs.Schemas.{made_journal};
 ghost use Rattle.dnp_store.specs.Tables.{no_schema};
 
 use crate::fault::{is_lost, is_taken, serves};
@@ -30,7 +31,10 @@ impl<S: Alter> Journal<S> {
         ensures empty { IfOk result (λ j. HasCleanDisk (state S.Store j.conn) → IsTrue j.owned → held_archive S.Store j ≡ empty_archive) }
         ensures stands { IfOk result (λ j. HasCleanDisk (state S.Store j.conn) → IsTrue j.owned → Stands (state S.Store j.conn) (held_archive S.Store j)) }
         ensures same { IfErr result (λ e. HasCleanDisk (state S.Store e.1) → IsTrue (state S.Store e.1).is_open → (state S.Store e.1).committed ≡ (state S.Store conn).committed) }
+        ensures schema { IfOk result (λ j. HasCleanDisk (state S.Store j.conn) → IsTrue j.owned → (state S.Store j.conn).committed.schema ≡ made_journal) }
         ensures made { IfOk result (λ j. Survives (state S.Store conn) (state S.Store j.conn) (λ db. (state S.Store conn).now.schema ≡ no_schema → HoldsArchive db empty_archive)) }
+        ensures left { IfErr result (λ e. Survives (state S.Store conn) (state S.Store e.1) (λ db. (state S.Store conn).now.schema ≡ no_schema → HoldsArchive db empty_archive)) }
+        ensures handed_back { IfErr result (λ e. (e.1.in_transaction ≡ conn.in_transaction) × (e.1.step_limit ≡ conn.step_limit)) }
     {
         if !conn.is_autocommit() {
             return Err((OpenFault::WrongForm, conn));
@@ -67,6 +71,8 @@ impl<S: Alter> Journal<S> {
         ensures stands { IfOk result (λ j. HasCleanDisk (state S.Store j.conn) → IsTrue j.owned → Stands (state S.Store j.conn) (held_archive S.Store j)) }
         ensures same { IfErr result (λ e. HasCleanDisk (state S.Store e.1) → IsTrue (state S.Store e.1).is_open → (state S.Store e.1).committed ≡ (state S.Store conn).committed) }
         ensures unwritten { IfOk result (λ j. Survives (state S.Store conn) (state S.Store j.conn) (λ _. ⊥)) }
+        ensures left { IfErr result (λ e. Survives (state S.Store conn) (state S.Store e.1) (λ _. ⊥)) }
+        ensures handed_back { IfErr result (λ e. (e.1.in_transaction ≡ conn.in_transaction) × (e.1.step_limit ≡ conn.step_limit)) }
     {
         if !conn.is_autocommit() {
             return Err((OpenFault::WrongForm, conn));

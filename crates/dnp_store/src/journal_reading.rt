@@ -1,14 +1,15 @@
 //! The events of a journal with ids over a number.
 
-ghost use Rattle.std.specs.Prelude.{◌≡◌, ◌≤◌, false, IsTrue, OnOk, IfOk};
+ghost use Rattle.std.specs.Prelude.{◌≡◌, ◌≤◌, ◌⊎◌, false, IsTrue, OnOk, IfOk};
 ghost use Rattle.sqlite.specs.Held.{state};
-ghost use Rattle.sqlite.specs.State.{HasCleanDisk};
+ghost use Rattle.sqlite.specs.State.{HasCleanDisk, Survives};
 ghost use Rattle.dnp_objects.specs.declared.limits.TheConstants as limits;
 ghost use Rattle.dnp_eventbuf.specs.Archive.{Archive, rows_over};
+ghost use Rattle.dnp_store.specs.Faults.{RefusesNothing, is_out_of_memory};
 ghost use Rattle.dnp_store.specs.JournalKept.{Stands};
 ghost use Rattle.dnp_store.specs.JournalShown.{ShowOver};
 
-use crate::fault::{Unread, is_lost, serves};
+use crate::fault::{Unread, is_lost, loses, serves};
 use crate::journal_decoding::events_in;
 use dnp_eventbuf::Numbered;
 use sqlite::{Alter, Connection, Error, Row, params};
@@ -20,6 +21,7 @@ fn query_over<S: Alter>(conn: &mut Connection<S>, from: u64, most: u64) -> Resul
     requires from { from ≤ limits.MAX_ID }
     requires most { most ≤ limits.MAX_ID }
     ensures idle { conn.new.in_transaction ≡ false }
+    ensures limit { conn.new.step_limit ≡ conn.old.step_limit }
     ensures held { HasCleanDisk (state S.Store conn.new) → HasCleanDisk (state S.Store conn.old) }
     ensures read { HasCleanDisk (state S.Store conn.new) → IfOk result (λ rows. (a : Archive) → Stands (state S.Store conn.old) a → ShowOver rows.items a from most) }
     ensures open { HasCleanDisk (state S.Store conn.new) → OnOk result ((a : Archive) → Stands (state S.Store conn.old) a → IsTrue (state S.Store conn.new).is_open) }
@@ -46,6 +48,7 @@ pub(crate) fn read_over<S: Alter>(
     requires from { from ≤ limits.MAX_ID }
     requires most { most ≤ limits.MAX_ID }
     ensures idle { conn.new.in_transaction ≡ false }
+    ensures limit { conn.new.step_limit ≡ conn.old.step_limit }
     ensures held { HasCleanDisk (state S.Store conn.new) → HasCleanDisk (state S.Store conn.old) }
     ensures read { HasCleanDisk (state S.Store conn.new) → OnOk result ((a : Archive) → Stands (state S.Store conn.old) a → events.new.items ≡ rows_over a from most) }
     ensures open { HasCleanDisk (state S.Store conn.new) → OnOk result ((a : Archive) → Stands (state S.Store conn.old) a → IsTrue (state S.Store conn.new).is_open) }
@@ -56,19 +59,25 @@ pub(crate) fn read_over<S: Alter>(
     Ok(())
 }
 
-/// Whether a journal is to answer Device for what it could not read, and not Memory: memory ran out, and
-/// the connection still serves.
+/// Whether a journal is to answer Device for what it could not read, and not Memory, which it answers where
+/// memory ran out and the connection still serves.
 pub(crate) fn is_lost_unread<S: Alter>(conn: &mut Connection<S>, unread: &Unread) -> bool
     requires { conn.old.in_transaction ≡ false }
     ensures idle { conn.new.in_transaction ≡ false }
     ensures held { HasCleanDisk (state S.Store conn.new) → HasCleanDisk (state S.Store conn.old) }
     ensures serves { HasCleanDisk (state S.Store conn.new) → result ≡ false → IsTrue (state S.Store conn.new).is_open }
+    ensures memory { result ≡ false → IsTrue (is_out_of_memory unread.now) }
+    ensures lost { HasCleanDisk (state S.Store conn.new) → IsTrue result → (is_out_of_memory unread.now ≡ false) ⊎ RefusesNothing (state S.Store conn.old) (state S.Store conn.new) }
+    ensures survives { Survives (state S.Store conn.old) (state S.Store conn.new) (λ _. ⊥) }
     ensures same { HasCleanDisk (state S.Store conn.new) → IsTrue (state S.Store conn.new).is_open
         → IsTrue (state S.Store conn.old).is_open × ((state S.Store conn.new).committed ≡ (state S.Store conn.old).committed) }
 {
     match unread {
         Unread::Form => true,
-        Unread::Memory => !serves(conn),
+        Unread::Memory => {
+            let serves = serves(conn);
+            loses(true, serves)
+        }
         Unread::Failed(error) => is_lost(conn, error),
     }
 }

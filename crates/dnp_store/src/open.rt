@@ -1,11 +1,13 @@
 //! Stores on databases: how they begin.
 
-ghost use Rattle.std.specs.Prelude.{◌≡◌, ◌≢◌, ◌↔◌, ◌≤◌, true, false, not, All, IsTrue, IfOk, IfErr, IsErrAnd};
+ghost use Rattle.std.specs.Prelude.{◌≡◌, ◌≢◌, ◌⊎◌, ◌↔◌, ◌≤◌, true, false, not, if◌then◌else◌, All, IsTrue, IfOk, IfErr, IsErrAnd};
 ghost use Rattle.sqlite.specs.Held.{state};
 ghost use Rattle.sqlite.specs.State.{HasCleanDisk, Survives};
 ghost use Rattle.dnp_eventbuf.specs.Stock.{empty_stock};
+ghost use Rattle.dnp_store.specs.Faults.{RefusesNothing, is_out_of_memory, is_wrong};
 ghost use Rattle.dnp_store.specs.Kept.{Leaves, Stands};
 ghost use Rattle.dnp_store.specs.QueueTables.{HoldsStock, IsQueue};
+ghost use Rattle.dnp_store.specs.Schemas.{made_queue};
 ghost use Rattle.dnp_store.specs.Tables.{no_schema};
 
 use crate::fault::{Unread, is_lost, is_taken, is_unread, serves};
@@ -43,7 +45,7 @@ pub(crate) fn is_bare<S: Alter>(conn: &Connection<S>) -> bool
 /// Why a store does not begin or open, by whether what stands there is wrong and whether the connection is
 /// lost.
 pub(crate) fn open_fault(is_wrong: bool, lost: bool) -> OpenFault
-    ensures { result ≡ OpenFault.WrongForm → IsTrue is_wrong }
+    ensures { result ≡ (if is_wrong then OpenFault.WrongForm else (if lost then OpenFault.Device else OpenFault.Memory)) }
 {
     if is_wrong {
         OpenFault::WrongForm
@@ -57,7 +59,12 @@ pub(crate) fn open_fault(is_wrong: bool, lost: bool) -> OpenFault
 /// Why a store does not open, where its tables could not be read.
 pub(crate) fn unread_fault<S: Alter>(conn: &mut Connection<S>, unread: &Unread) -> OpenFault
     requires { conn.old.in_transaction ≡ false }
-    ensures clean { HasCleanDisk (state S.Store conn.new) → HasCleanDisk (state S.Store conn.old) }
+    ensures idle { conn.new.in_transaction ≡ false }
+    ensures wrong { IsTrue (is_wrong unread.now) → result ≡ OpenFault.WrongForm }
+    ensures only_wrong { result ≡ OpenFault.WrongForm → IsTrue (is_wrong unread.now) }
+    ensures memory { result ≡ OpenFault.Memory → IsTrue (is_out_of_memory unread.now) }
+    ensures lost { HasCleanDisk (state S.Store conn.new) → result ≡ OpenFault.Device → (is_out_of_memory unread.now ≡ false) ⊎ RefusesNothing (state S.Store conn.old) (state S.Store conn.new) }
+    ensures survives { Survives (state S.Store conn.old) (state S.Store conn.new) (λ _. ⊥) }
     ensures same { HasCleanDisk (state S.Store conn.new) → IsTrue (state S.Store conn.new).is_open
         → IsTrue (state S.Store conn.old).is_open × ((state S.Store conn.new).committed ≡ (state S.Store conn.old).committed) }
 {
@@ -89,7 +96,10 @@ impl<S: Alter> Queue<S> {
         ensures owned { IfOk result (λ q. IsTrue q.owned ↔ ((state S.Store conn).now.schema ≡ no_schema)) }
         ensures stands { IfOk result (λ q. HasCleanDisk (state S.Store q.conn) → IsTrue q.owned → Stands (state S.Store q.conn) q.stock) }
         ensures same { IfErr result (λ e. HasCleanDisk (state S.Store e.1) → IsTrue (state S.Store e.1).is_open → (state S.Store e.1).committed ≡ (state S.Store conn).committed) }
+        ensures schema { IfOk result (λ q. HasCleanDisk (state S.Store q.conn) → IsTrue q.owned → (state S.Store q.conn).committed.schema ≡ made_queue) }
         ensures made { IfOk result (λ q. Survives (state S.Store conn) (state S.Store q.conn) (λ db. (state S.Store conn).now.schema ≡ no_schema → HoldsStock db (empty_stock capacities))) }
+        ensures left { IfErr result (λ e. Survives (state S.Store conn) (state S.Store e.1) (λ db. (state S.Store conn).now.schema ≡ no_schema → HoldsStock db (empty_stock capacities))) }
+        ensures handed_back { IfErr result (λ e. (e.1.in_transaction ≡ conn.in_transaction) × (e.1.step_limit ≡ conn.step_limit)) }
     {
         if !conn.is_autocommit() {
             return Err((OpenFault::WrongForm, conn));
@@ -126,6 +136,8 @@ impl<S: Alter> Queue<S> {
         ensures stands { IfOk result (λ q. HasCleanDisk (state S.Store q.conn) → IsTrue q.owned → Stands (state S.Store q.conn) q.stock) }
         ensures same { IfErr result (λ e. HasCleanDisk (state S.Store e.1) → IsTrue (state S.Store e.1).is_open → (state S.Store e.1).committed ≡ (state S.Store conn).committed) }
         ensures unwritten { IfOk result (λ q. Survives (state S.Store conn) (state S.Store q.conn) (λ _. ⊥)) }
+        ensures left { IfErr result (λ e. Survives (state S.Store conn) (state S.Store e.1) (λ _. ⊥)) }
+        ensures handed_back { IfErr result (λ e. (e.1.in_transaction ≡ conn.in_transaction) × (e.1.step_limit ≡ conn.step_limit)) }
     {
         if !conn.is_autocommit() {
             return Err((OpenFault::WrongForm, conn));

@@ -1,18 +1,20 @@
 //! Event lanes in a SQL database.
 
-ghost use Rattle.std.specs.Prelude.{◌≡◌, ◌≢◌, false, true, IsTrue, [], All, IfOk, IfErr, OnOk, ⊤};
+ghost use Rattle.std.specs.Prelude.{◌≡◌, ◌≢◌, false, true, IsTrue, [], All, IfOk, IfErr, OnOk, OnErr, ⊤};
 ghost use Rattle.sqlite.specs.Held.{state};
 ghost use Rattle.sqlite.specs.State.{HasCleanDisk};
+ghost use Rattle.dnp_objects.specs.Events.{IsEvent};
+ghost use Rattle.dnp_objects.specs.Lanes.{lane_number};
 ghost use Rattle.dnp_eventbuf.specs.Calls.{IsLanesCall};
 ghost use Rattle.dnp_eventbuf.specs.Carried.{IsCarried};
-ghost use Rattle.dnp_eventbuf.specs.Stock.{with_rows, dropped_by, exhausts, without, all_up_to, without_all, rows_in};
+ghost use Rattle.dnp_eventbuf.specs.Stock.{with_rows, dropped_by, exhausts, offered, without, all_up_to, without_all, rows_in};
 ghost use Rattle.dnp_store.specs.Kept.{IsHonest, Leaves, LeavesEither};
 
 use crate::fault::{fault, is_lost, memory};
 use crate::queue_release::{lowers, write_release};
 use crate::queue_writing::write_append;
 use dnp_eventbuf::laws::{a_release_is_lane_by_lane, lanes_stay_sound};
-use dnp_eventbuf::{Lane, LaneRow, Lanes, Numbered, PlainLanes, StoreFault, Upto};
+use dnp_eventbuf::{Lane, LaneRow, Lanes, Numbered, PlainLanes, Rows, StoreFault, Upto};
 use dnp_objects::{LANES, MAX_ID, Row};
 use sqlite::{Alter, Connection};
 use std::alloc::Global;
@@ -59,7 +61,8 @@ impl<S: Alter + Drop> Drop for Queue<S> {
 impl<S: Alter> Queue<S> {
     /// The connection to the database, as it stands.
     pub fn into_connection(self) -> Connection<S>
-        ensures { result ≡ self.conn }
+        ensures same { result ≡ self.conn }
+        ensures idle { result.in_transaction ≡ false }
     {
         let Queue {
             conn,
@@ -90,11 +93,15 @@ impl<S: Alter> Lanes for Queue<S> {
     fn append(&mut self, alloc: Global, rows: &[LaneRow]) -> Result<Vec<Row>, StoreFault>
         requires { All IsCarried rows.now }
         ensures call { IsLanesCall (IsHonest S.Store) (λ q. q.stopped) (λ q. q.stock) (λ _. []) self.old self.new result }
-        ensures appended { IsHonest S.Store self.new → OnOk result (self.new.stock ≡ with_rows self.old.stock rows.now) }
-        ensures dropped { IsHonest S.Store self.new → IfOk result (λ dropped. dropped.items ≡ dropped_by self.old.stock rows.now) }
-        ensures not_exhausted { IsHonest S.Store self.new → OnOk result (exhausts self.old.stock rows.now ≡ false) }
-        ensures exhausted { IsHonest S.Store self.new → IfErr result (λ e. e ≡ StoreFault.Exhausted → IsTrue (exhausts self.old.stock rows.now)) }
-        ensures exhausted_first { IsHonest S.Store self.new → IfErr result (λ e. e ≡ StoreFault.Memory → exhausts self.old.stock rows.now ≡ false) }
+        ensures appended { OnOk result (self.new.stock ≡ with_rows self.old.stock rows.now) }
+        ensures dropped { IfOk result (λ dropped. dropped.items ≡ dropped_by self.old.stock rows.now) }
+        ensures kept { OnErr result (self.new.stock ≡ self.old.stock) }
+        ensures owned { self.new.owned ≡ self.old.owned }
+        ensures limit { self.new.conn.step_limit ≡ self.old.conn.step_limit }
+        ensures not_exhausted { OnOk result (exhausts self.old.stock rows.now ≡ false) }
+        ensures exhausted { IfErr result (λ e. e ≡ StoreFault.Exhausted → IsTrue (exhausts self.old.stock rows.now)) }
+        ensures exhausted_first { IfErr result (λ e. e ≡ StoreFault.Memory → exhausts self.old.stock rows.now ≡ false) }
+        ensures exhausted_always { self.old.stopped ≡ false → IsTrue (exhausts self.old.stock rows.now) → (result ≡ Err StoreFault.Exhausted) × (self.new ≡ self.old) }
         ensures memory { result ≡ Err StoreFault.Memory → true ≡ false → dropped_by self.old.stock rows.now ≢ [] }
         ensures either { HasCleanDisk (state S.Store self.new.conn) → self.old.stopped ≡ false → IsTrue self.old.owned → LeavesEither (state S.Store self.new.conn) self.old.stock (with_rows self.old.stock rows.now) }
         ensures after { HasCleanDisk (state S.Store self.new.conn) → IsTrue self.old.owned → OnOk result (Leaves (state S.Store self.new.conn) self.new.stock) }
@@ -116,13 +123,49 @@ impl<S: Alter> Lanes for Queue<S> {
         Ok(dropped)
     }
 
+    /// What a crash leaves at any exit holds the lanes before or after, and after Ok those after.
+    fn append_into(
+        &mut self,
+        alloc: Global,
+        rows: &[LaneRow],
+        dropped: &mut Rows,
+    ) -> Result<(), StoreFault>
+        requires { All IsCarried rows.now }
+        ensures call { IsLanesCall (IsHonest S.Store) (λ q. q.stopped) (λ q. q.stock) (λ _. []) self.old self.new result }
+        ensures appended { OnOk result (self.new.stock ≡ with_rows self.old.stock rows.now) }
+        ensures dropped { OnOk result (dropped.new ≡ dropped_by self.old.stock rows.now) }
+        ensures spared { OnErr result (dropped.new ≡ dropped.old) }
+        ensures kept { OnErr result (self.new.stock ≡ self.old.stock) }
+        ensures owned { self.new.owned ≡ self.old.owned }
+        ensures limit { self.new.conn.step_limit ≡ self.old.conn.step_limit }
+        ensures not_exhausted { OnOk result (exhausts self.old.stock rows.now ≡ false) }
+        ensures exhausted { IfErr result (λ e. e ≡ StoreFault.Exhausted → IsTrue (exhausts self.old.stock rows.now)) }
+        ensures exhausted_first { IfErr result (λ e. e ≡ StoreFault.Memory → exhausts self.old.stock rows.now ≡ false) }
+        ensures exhausted_always { self.old.stopped ≡ false → IsTrue (exhausts self.old.stock rows.now) → (result ≡ Err StoreFault.Exhausted) × (self.new ≡ self.old) }
+        ensures memory { result ≡ Err StoreFault.Memory → true ≡ false → dropped_by self.old.stock rows.now ≢ [] }
+        ensures either { HasCleanDisk (state S.Store self.new.conn) → self.old.stopped ≡ false → IsTrue self.old.owned → LeavesEither (state S.Store self.new.conn) self.old.stock (with_rows self.old.stock rows.now) }
+        ensures after { HasCleanDisk (state S.Store self.new.conn) → IsTrue self.old.owned → OnOk result (Leaves (state S.Store self.new.conn) self.new.stock) }
+        ensures untouched { IsTrue self.old.stopped → self.new.conn ≡ self.old.conn }
+    {
+        *dropped = Rows::of(self.append(alloc, rows)?);
+        Ok(())
+    }
+
     fn offer(
         &mut self,
         alloc: Global,
         lane: Lane,
         after: u64,
         most: usize,
-    ) -> Result<Vec<Numbered>, StoreFault> {
+    ) -> Result<Vec<Numbered>, StoreFault>
+        ensures call { IsLanesCall (IsHonest S.Store) (λ q. q.stopped) (λ q. q.stock) (λ _. []) self.old self.new result }
+        ensures rows { IfOk result (λ rows. rows.items ≡ offered self.old.stock (lane_number lane) after most) }
+        ensures same { self.new ≡ self.old }
+        ensures carried { IfOk result (λ rows. All (λ x. IsEvent x.row) rows.items) }
+        ensures memory { result ≡ Err StoreFault.Memory → offered self.old.stock (lane_number lane) after most ≢ [] }
+        ensures device { result ≡ Err StoreFault.Device → IsTrue self.old.stopped }
+        ensures named { IfErr result (λ e. e ≢ StoreFault.Exhausted) }
+    {
         if self.stopped {
             return Err(StoreFault::Device);
         }
@@ -132,8 +175,11 @@ impl<S: Alter> Lanes for Queue<S> {
     /// What a crash leaves at any exit holds the lanes before or after, and after Ok those after.
     fn release(&mut self, alloc: Global, upto: &Upto) -> Result<Vec<Row>, StoreFault>
         ensures call { IsLanesCall (IsHonest S.Store) (λ q. q.stopped) (λ q. q.stock) (λ _. []) self.old self.new result }
-        ensures released { IsHonest S.Store self.new → OnOk result (self.new.stock ≡ without self.old.stock upto.now) }
-        ensures taken { IsHonest S.Store self.new → IfOk result (λ rows. rows.items ≡ all_up_to self.old.stock upto.now) }
+        ensures released { OnOk result (self.new.stock ≡ without self.old.stock upto.now) }
+        ensures taken { IfOk result (λ rows. rows.items ≡ all_up_to self.old.stock upto.now) }
+        ensures kept { OnErr result (self.new.stock ≡ self.old.stock) }
+        ensures owned { self.new.owned ≡ self.old.owned }
+        ensures limit { self.new.conn.step_limit ≡ self.old.conn.step_limit }
         ensures memory { result ≡ Err StoreFault.Memory → true ≡ false → all_up_to self.old.stock upto.now ≢ [] }
         ensures named { IfErr result (λ e. e ≢ StoreFault.Exhausted) }
         ensures either { HasCleanDisk (state S.Store self.new.conn) → self.old.stopped ≡ false → IsTrue self.old.owned → LeavesEither (state S.Store self.new.conn) self.old.stock (without self.old.stock upto.now) }
@@ -157,8 +203,11 @@ impl<S: Alter> Lanes for Queue<S> {
     /// What a crash leaves at any exit holds the lanes before or after, and after Ok those after.
     fn empty(&mut self, alloc: Global) -> Result<Vec<Row>, StoreFault>
         ensures call { IsLanesCall (IsHonest S.Store) (λ q. q.stopped) (λ q. q.stock) (λ _. []) self.old self.new result }
-        ensures emptied { IsHonest S.Store self.new → OnOk result (self.new.stock ≡ without_all self.old.stock) }
-        ensures taken { IsHonest S.Store self.new → IfOk result (λ rows. rows.items ≡ rows_in self.old.stock) }
+        ensures emptied { OnOk result (self.new.stock ≡ without_all self.old.stock) }
+        ensures taken { IfOk result (λ rows. rows.items ≡ rows_in self.old.stock) }
+        ensures kept { OnErr result (self.new.stock ≡ self.old.stock) }
+        ensures owned { self.new.owned ≡ self.old.owned }
+        ensures limit { self.new.conn.step_limit ≡ self.old.conn.step_limit }
         ensures memory { result ≡ Err StoreFault.Memory → true ≡ false → rows_in self.old.stock ≢ [] }
         ensures named { IfErr result (λ e. e ≢ StoreFault.Exhausted) }
         ensures either { HasCleanDisk (state S.Store self.new.conn) → self.old.stopped ≡ false → IsTrue self.old.owned → LeavesEither (state S.Store self.new.conn) self.old.stock (without_all self.old.stock) }

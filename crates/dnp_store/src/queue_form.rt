@@ -14,7 +14,8 @@ use sqlite_value::value::Value;
 
 /// Whether the column has this name, type and NOT NULL, and nothing else.
 pub(crate) fn is_column(column: &Column, name: &str, kind: Kind, not_null: bool) -> bool
-    ensures { IsTrue result → column.now ≡ column_of name.now kind not_null }
+    ensures form { IsTrue result → column.now ≡ column_of name.now kind not_null }
+    ensures found { column.now ≡ column_of name.now kind not_null → IsTrue result }
 {
     column.name.as_slice() == name.as_bytes()
         && column.kind == kind
@@ -28,6 +29,7 @@ pub(crate) fn is_column(column: &Column, name: &str, kind: Kind, not_null: bool)
 fn is_keyed(table: &Table, keyed: bool) -> bool
     ensures key { IsTrue result → table.now.key ≡ (if keyed then Some 0 else None) }
     ensures primary { IsTrue result → table.now.primary ≡ (if keyed then 0 ∷ [] else []) }
+    ensures found { table.now.key ≡ (if keyed then Some 0 else None) → table.now.primary ≡ (if keyed then 0 ∷ [] else []) → IsTrue result }
 {
     if keyed {
         table.key == Some(0) && table.primary.as_slice() == &[0usize][..]
@@ -38,7 +40,8 @@ fn is_keyed(table: &Table, keyed: bool) -> bool
 
 /// Whether no column takes the present time.
 fn is_unstamped(stamps: &Stamps) -> bool
-    ensures { IsTrue result → stamps.now ≡ record { places = []; terms = []; formats = [] } }
+    ensures form { IsTrue result → stamps.now ≡ record { places = []; terms = []; formats = [] } }
+    ensures found { stamps.now ≡ record { places = []; terms = []; formats = [] } → IsTrue result }
 {
     stamps.places.is_empty() && stamps.terms.roots.is_empty() && stamps.formats.is_empty()
 }
@@ -46,7 +49,8 @@ fn is_unstamped(stamps: &Stamps) -> bool
 /// Whether nothing but a name, columns, CHECKs and perhaps an INTEGER PRIMARY KEY in the first column makes
 /// the table.
 pub(crate) fn is_plain(table: &Table, name: &str, tree: u32, keyed: bool, counted: bool) -> bool
-    ensures { IsTrue result → table.now ≡ table_of name.now tree table.now.columns keyed counted table.now.checks }
+    ensures form { IsTrue result → table.now ≡ table_of name.now tree table.now.columns keyed counted table.now.checks }
+    ensures found { table.now ≡ table_of name.now tree table.now.columns keyed counted table.now.checks → IsTrue result }
 {
     table.name.as_slice() == name.as_bytes()
         && table.tree == tree
@@ -61,7 +65,8 @@ pub(crate) fn is_plain(table: &Table, name: &str, tree: u32, keyed: bool, counte
 
 /// Whether the table is `form`.
 pub(crate) fn is_form(table: &Table) -> bool
-    ensures { IsTrue result → table.now ≡ form_with table.now.checks }
+    ensures form { IsTrue result → table.now ≡ form_with table.now.checks }
+    ensures found { table.now ≡ form_with table.now.checks → IsTrue result }
 {
     let columns = table.columns.as_slice();
     columns.len() == 1
@@ -72,7 +77,8 @@ pub(crate) fn is_form(table: &Table) -> bool
 /// Whether the first three of six columns are those of `queue`.
 fn are_first(columns: &[Column]) -> bool
     requires { length columns.now ≡ 6 }
-    ensures { IsTrue result → take 3 columns.now ≡ column_of (codes "id") Integer false ∷ column_of (codes "lane") Integer true ∷ column_of (codes "point") Integer true ∷ [] }
+    ensures form { IsTrue result → take 3 columns.now ≡ column_of (codes "id") Integer false ∷ column_of (codes "lane") Integer true ∷ column_of (codes "point") Integer true ∷ [] }
+    ensures found { take 3 columns.now ≡ column_of (codes "id") Integer false ∷ column_of (codes "lane") Integer true ∷ column_of (codes "point") Integer true ∷ [] → IsTrue result }
 {
     is_column(&columns[0], "id", Kind::Integer, false)
         && is_column(&columns[1], "lane", Kind::Integer, true)
@@ -82,7 +88,8 @@ fn are_first(columns: &[Column]) -> bool
 /// Whether the last three of six columns are those of `queue`.
 pub(crate) fn are_last(columns: &[Column]) -> bool
     requires { length columns.now ≡ 6 }
-    ensures { IsTrue result → drop 3 columns.now ≡ column_of (codes "flags") Integer true ∷ column_of (codes "value") Integer true ∷ column_of (codes "time") Integer false ∷ [] }
+    ensures form { IsTrue result → drop 3 columns.now ≡ column_of (codes "flags") Integer true ∷ column_of (codes "value") Integer true ∷ column_of (codes "time") Integer false ∷ [] }
+    ensures found { drop 3 columns.now ≡ column_of (codes "flags") Integer true ∷ column_of (codes "value") Integer true ∷ column_of (codes "time") Integer false ∷ [] → IsTrue result }
 {
     is_column(&columns[3], "flags", Kind::Integer, true)
         && is_column(&columns[4], "value", Kind::Integer, true)
@@ -91,7 +98,8 @@ pub(crate) fn are_last(columns: &[Column]) -> bool
 
 /// Whether the table is `queue`.
 fn is_queue(table: &Table) -> bool
-    ensures { IsTrue result → table.now ≡ queue_with table.now.checks }
+    ensures form { IsTrue result → table.now ≡ queue_with table.now.checks }
+    ensures found { table.now ≡ queue_with table.now.checks → IsTrue result }
 {
     let columns = table.columns.as_slice();
     columns.len() == 6
@@ -102,7 +110,8 @@ fn is_queue(table: &Table) -> bool
 
 /// Whether the table is that in which AUTOINCREMENT counts.
 pub(crate) fn is_sequence(table: &Table) -> bool
-    ensures { IsTrue result → table.now ≡ sequence }
+    ensures form { IsTrue result → table.now ≡ sequence }
+    ensures found { table.now ≡ sequence → IsTrue result }
 {
     let columns = table.columns.as_slice();
     columns.len() == 2
@@ -115,7 +124,8 @@ pub(crate) fn is_sequence(table: &Table) -> bool
 /// Whether the first two of four columns are those of `lanes`.
 fn are_first_of_lanes(columns: &[Column]) -> bool
     requires { length columns.now ≡ 4 }
-    ensures { IsTrue result → take 2 columns.now ≡ column_of (codes "lane") Integer false ∷ column_of (codes "cap") Integer true ∷ [] }
+    ensures form { IsTrue result → take 2 columns.now ≡ column_of (codes "lane") Integer false ∷ column_of (codes "cap") Integer true ∷ [] }
+    ensures found { take 2 columns.now ≡ column_of (codes "lane") Integer false ∷ column_of (codes "cap") Integer true ∷ [] → IsTrue result }
 {
     is_column(&columns[0], "lane", Kind::Integer, false)
         && is_column(&columns[1], "cap", Kind::Integer, true)
@@ -124,7 +134,8 @@ fn are_first_of_lanes(columns: &[Column]) -> bool
 /// Whether the last two of four columns are those of `lanes`.
 fn are_last_of_lanes(columns: &[Column]) -> bool
     requires { length columns.now ≡ 4 }
-    ensures { IsTrue result → drop 2 columns.now ≡ column_of (codes "lost") Integer true ∷ column_of (codes "raised") Integer true ∷ [] }
+    ensures form { IsTrue result → drop 2 columns.now ≡ column_of (codes "lost") Integer true ∷ column_of (codes "raised") Integer true ∷ [] }
+    ensures found { drop 2 columns.now ≡ column_of (codes "lost") Integer true ∷ column_of (codes "raised") Integer true ∷ [] → IsTrue result }
 {
     is_column(&columns[2], "lost", Kind::Integer, true)
         && is_column(&columns[3], "raised", Kind::Integer, true)
@@ -132,7 +143,8 @@ fn are_last_of_lanes(columns: &[Column]) -> bool
 
 /// Whether the table is `lanes`.
 fn is_lanes(table: &Table) -> bool
-    ensures { IsTrue result → table.now ≡ lanes_with table.now.checks }
+    ensures form { IsTrue result → table.now ≡ lanes_with table.now.checks }
+    ensures found { table.now ≡ lanes_with table.now.checks → IsTrue result }
 {
     let columns = table.columns.as_slice();
     columns.len() == 4
@@ -143,7 +155,8 @@ fn is_lanes(table: &Table) -> bool
 
 /// Whether the tables are those of a queue.
 fn are_tables(tables: &[Table]) -> bool
-    ensures { IsTrue result → tables.now ≡ form_with (checks_at tables.now 0) ∷ queue_with (checks_at tables.now 1) ∷ sequence ∷ lanes_with (checks_at tables.now 3) ∷ [] }
+    ensures form { IsTrue result → tables.now ≡ form_with (checks_at tables.now 0) ∷ queue_with (checks_at tables.now 1) ∷ sequence ∷ lanes_with (checks_at tables.now 3) ∷ [] }
+    ensures found { tables.now ≡ form_with (checks_at tables.now 0) ∷ queue_with (checks_at tables.now 1) ∷ sequence ∷ lanes_with (checks_at tables.now 3) ∷ [] → IsTrue result }
 {
     tables.len() == 4
         && is_form(&tables[0])
@@ -157,6 +170,8 @@ pub(crate) fn is_of_queue<S: Alter>(conn: &Connection<S>) -> bool
     ensures live { IsLive (state S.Store conn.now) }
     ensures schema { IsTrue result → (state S.Store conn.now).now.schema ≡ queue_schema (checks_at (state S.Store conn.now).now.schema.tables 0)
         (checks_at (state S.Store conn.now).now.schema.tables 1) (checks_at (state S.Store conn.now).now.schema.tables 3) }
+    ensures found { (state S.Store conn.now).now.schema ≡ queue_schema (checks_at (state S.Store conn.now).now.schema.tables 0)
+        (checks_at (state S.Store conn.now).now.schema.tables 1) (checks_at (state S.Store conn.now).now.schema.tables 3) → IsTrue result }
 {
     let schema = conn.schema();
     are_tables(schema.tables.as_slice()) && schema.indexes.is_empty() && schema.views.is_empty()

@@ -8,6 +8,7 @@ ghost use Rattle.dnp_store.specs.Inside.{IsInside, IsStep};
 ghost use Rattle.dnp_store.specs.Kept.{Stands};
 ghost use Rattle.dnp_store.specs.Making.{HasLanes, fresh};
 ghost use Rattle.dnp_store.specs.QueueTables.{Figures, HoldsStock};
+ghost use Rattle.dnp_store.specs.Schemas.{made_queue};
 ghost use Rattle.dnp_store.specs.Stores.{HasNumber};
 ghost use Rattle.dnp_store.specs.Tables.{no_schema};
 
@@ -73,6 +74,7 @@ pub(crate) fn write_tables<S: Alter>(
     requires idle { conn.old.in_transaction ≡ false }
     ensures idle { conn.new.in_transaction ≡ false }
     ensures ok { HasCleanDisk (state S.Store conn.new) → (state S.Store conn.old).now.schema ≡ no_schema → OnOk result (Stands (state S.Store conn.new) (empty_stock capacities.now)) }
+    ensures schema { HasCleanDisk (state S.Store conn.new) → (state S.Store conn.old).now.schema ≡ no_schema → OnOk result ((state S.Store conn.new).committed.schema ≡ made_queue) }
     ensures err { HasCleanDisk (state S.Store conn.new) → IsTrue (state S.Store conn.new).is_open → OnErr result (IsTrue (state S.Store conn.old).is_open × ((state S.Store conn.new).committed ≡ (state S.Store conn.old).committed)) }
     ensures survives { Survives (state S.Store conn.old) (state S.Store conn.new) (λ db. (state S.Store conn.old).now.schema ≡ no_schema → HoldsStock db (empty_stock capacities.now)) }
 {

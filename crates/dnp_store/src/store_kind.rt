@@ -1,7 +1,7 @@
 //! Which store a database is for.
 
 ghost use Rattle.std.specs.Prelude.{◌≡◌};
-ghost use Rattle.dnp_store.specs.Stores.{rows_text};
+ghost use Rattle.dnp_store.specs.Schemas.{rows_text};
 
 /// Which store a database is for.
 #[derive(Clone, Copy)]

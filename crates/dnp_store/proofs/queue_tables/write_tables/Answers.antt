@@ -6,10 +6,11 @@ use Rattle.sqlite.specs.Tree.{Trees}
 use Rattle.dnp_objects.specs.declared.limits.TheConstants.{LANES}
 use Rattle.dnp_eventbuf.specs.Stock.{empty_stock}
 use Rattle.dnp_store.specs.Tables.{no_schema}
-use Rattle.dnp_store.proofs.Filling.{made_empty}
+use Rattle.dnp_store.proofs.Filling.{made_empty, made_of}
 use Rattle.dnp_store.specs.Kept.{Stands}
+use Rattle.dnp_store.specs.Schemas.{made_queue}
 use Rattle.dnp_store.specs.QueueTables.{IsQueue, HoldsStock}
-use Rattle.dnp_store.proofs.Statements.{finished, survives_commit}
+use Rattle.dnp_store.proofs.Statements.{finished, second, survives_commit}
 use Rattle.dnp_store.proofs.Standing.{stands_if}
 use Rattle.dnp_store.proofs.queue_tables.write_tables.Goals as goal
 
@@ -44,3 +45,15 @@ returns-clause-survives g c =
     (survives_commit g.S.Store old c.transaction-tx.result.conn.now mid end P c.transaction-tx.ensures.begun
     c.make_all.ensures.step.survives c.commit.ensures.survives
     (λ clean stood. (let early : HasCleanDisk mid = omega (arith, clean, c.commit.ensures.survives.clean) in (done g c early stood).holds)))
+
+pub returns-clause-schema : goal.returns-clause-schema
+returns-clause-schema g c clean none =
+    let mid = state g.S.Store c.make_all.new.tx.conn.now in
+    let end = state g.S.Store c.commit.new.self.0 in
+    let same : c.commit.new.self.0 ≡ c.conn-2-1.given.0 = search rules in
+    let late : HasCleanDisk end = subst (λ h. HasCleanDisk (state g.S.Store h)) (sym same) clean in
+    let early : HasCleanDisk mid = omega (arith, late, c.commit.ensures.survives.clean) in
+    let made : mid.now.schema ≡ made_queue = made_of mid.now _ (c.in_ok-make_all.ensures.made early
+    (ap (λ h. (state g.S.Store h).now.schema) c.transaction-tx.ensures.begun ∙ none)) in
+    subst (λ h. OnOk c.commit.result ((state g.S.Store h).committed.schema ≡ made_queue)) same
+    (second _ _ c.commit.result (finished _ _ mid end (λ d. d.schema ≡ made_queue) c.commit.result made (c.commit.ensures.ok late)))

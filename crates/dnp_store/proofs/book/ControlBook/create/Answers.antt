@@ -5,7 +5,7 @@ use Rattle.dnp_controls.specs.Book.{empty_ledger}
 use Rattle.dnp_store.specs.BookKept.{Stands}
 use Rattle.dnp_store.specs.Tables.{no_schema}
 use Rattle.dnp_store.proofs.Numbering.{no_entries, fresh_book}
-use Rattle.dnp_store.proofs.Statements.{survives_as}
+use Rattle.dnp_store.proofs.Statements.{survives_as, survives_on}
 use Rattle.dnp_store.proofs.book.ControlBook.create.Goals as goal
 
 stood : (g : _) (c : goal.After-new g) → HasCleanDisk (state g.S.Store c.write_tables.new.conn) → IsTrue c.is_bare-owned.result
@@ -29,3 +29,10 @@ pub returns-clause-made : goal.returns-clause-made
 returns-clause-made g c =
     survives_as (state g.S.Store c.args.conn) (state g.S.Store c.write_tables.new.conn) _ _ (λ db made none. fresh_book db (made none))
     c.write_tables.ensures.survives
+
+pub returns-in-Err-clause-left : goal.returns-in-Err-clause-left
+returns-in-Err-clause-left g c =
+    let old = state g.S.Store c.args.conn in
+    let mid = state g.S.Store c.write_tables.new.conn in
+    survives_on old mid (state g.S.Store c.is_lost-lost.new.conn) _
+    (survives_as old mid _ _ (λ db made none. fresh_book db (made none)) c.write_tables.ensures.survives) c.is_lost-lost.ensures.survives

@@ -6,7 +6,7 @@ use Rattle.dnp_store.specs.JournalKept.{Stands}
 use Rattle.dnp_store.specs.JournalTables.{empty_archive}
 use Rattle.dnp_store.specs.Tables.{no_schema}
 use Rattle.dnp_store.proofs.Numbering.{no_events, fresh_journal}
-use Rattle.dnp_store.proofs.Statements.{survives_as}
+use Rattle.dnp_store.proofs.Statements.{survives_as, survives_on}
 use Rattle.dnp_store.proofs.JournalStanding.{told_is, told_stands}
 use Rattle.dnp_store.proofs.journal.Journal.create.Goals as goal
 
@@ -36,3 +36,10 @@ pub returns-clause-made : goal.returns-clause-made
 returns-clause-made g c =
     survives_as (state g.S.Store c.args.conn) (state g.S.Store c.write_tables.new.conn) _ _ (λ db made none. fresh_journal db (made none))
     c.write_tables.ensures.survives
+
+pub returns-in-Err-clause-left : goal.returns-in-Err-clause-left
+returns-in-Err-clause-left g c =
+    let old = state g.S.Store c.args.conn in
+    let mid = state g.S.Store c.write_tables.new.conn in
+    survives_on old mid (state g.S.Store c.is_lost-lost.new.conn) _
+    (survives_as old mid _ _ (λ db made none. fresh_journal db (made none)) c.write_tables.ensures.survives) c.is_lost-lost.ensures.survives
