@@ -1,8 +1,9 @@
 //! The lines as members of JSON objects.
 
 use crate::line::Line;
-use crate::names::{fault_name, function_name, link_function};
-use crate::shown::{HEADER_CHECK_PLACE, LENGTH_PLACE, block_place};
+use crate::names::{
+    HEADER_CHECK_PLACE, Refusal, fault_name, function_name, link_function, setting_of,
+};
 use dnp_appfragment::{Control, Range};
 use dnp_linkframe::FrameFault;
 use dnp_objects::{Command, Kind, Row, Status};
@@ -53,26 +54,18 @@ impl Display for Objects {
 
 /// Why a frame is refused.
 #[derive(Clone, Copy)]
-struct Refusal(FrameFault);
+struct Why(FrameFault);
 
-impl Display for Refusal {
+impl Display for Why {
     fn fmt<W: Write>(&self, f: &mut Formatter<W>) -> fmt::Result {
-        match self.0 {
-            FrameFault::Short => f.write_str("\"refused\":\"Short\""),
-            FrameFault::Start => f.write_str("\"refused\":\"Start\",\"octet\":0"),
-            FrameFault::HeaderCheck => write!(
-                f,
-                "\"refused\":\"HeaderCheck\",\"octet\":{HEADER_CHECK_PLACE}"
-            ),
-            FrameFault::Length => { write!(f, "\"refused\":\"Length\",\"octet\":{LENGTH_PLACE}") }
-            FrameFault::Size => f.write_str("\"refused\":\"Size\""),
-            FrameFault::BlockCheck(block) => {
-                let place = block_place(block);
-                write!(
-                    f,
-                    "\"refused\":\"BlockCheck\",\"block\":{block},\"octet\":{place}"
-                )
-            }
+        let Refusal { name, block, place } = Refusal::of(self.0);
+        write!(f, "\"refused\":\"{name}\"")?;
+        if let Some(block) = block {
+            write!(f, ",\"block\":{block}")?;
+        }
+        match place {
+            Some(place) => write!(f, ",\"octet\":{place}"),
+            None => Ok(()),
         }
     }
 }
@@ -118,25 +111,43 @@ struct Told(Command, Status);
 impl Display for Told {
     fn fmt<W: Write>(&self, f: &mut Formatter<W>) -> fmt::Result {
         let status = self.1.code();
-        match self.0 {
-            Command::Block {
-                index,
-                code,
-                count,
-                on_ms,
-                off_ms,
-            } => write!(
+        if let Some((word, index, value)) = setting_of(self.0) {
+            return write!(
                 f,
-                "\"layer\":\"command\",\"command\":\"block\",\"index\":{index},\"code\":{code},\"count\":{count},\"on_ms\":{on_ms},\"off_ms\":{off_ms},\"status\":{status}"
-            ),
-            Command::Set16 { index, value } => write!(
+                "\"layer\":\"command\",\"command\":\"{word}\",\"index\":{index},\"value\":{value},\"status\":{status}"
+            );
+        }
+        let Command::Block {
+            index,
+            code,
+            count,
+            on_ms,
+            off_ms,
+        } = self.0
+        else {
+            return Ok(());
+        };
+        write!(
+            f,
+            "\"layer\":\"command\",\"command\":\"block\",\"index\":{index},\"code\":{code},\"count\":{count},\"on_ms\":{on_ms},\"off_ms\":{off_ms},\"status\":{status}"
+        )
+    }
+}
+
+/// So many octets that are no frame, which begin as a header does or don't.
+#[derive(Clone, Copy)]
+struct Skipped(usize, bool);
+
+impl Display for Skipped {
+    fn fmt<W: Write>(&self, f: &mut Formatter<W>) -> fmt::Result {
+        let octets = self.0;
+        if self.1 {
+            write!(
                 f,
-                "\"layer\":\"command\",\"command\":\"set16\",\"index\":{index},\"value\":{value},\"status\":{status}"
-            ),
-            Command::Set32 { index, value } => write!(
-                f,
-                "\"layer\":\"command\",\"command\":\"set32\",\"index\":{index},\"value\":{value},\"status\":{status}"
-            ),
+                "\"refused\":\"HeaderCheck\",\"octet\":{HEADER_CHECK_PLACE},\"octets\":{octets}"
+            )
+        } else {
+            write!(f, "\"refused\":\"Noise\",\"octets\":{octets}")
         }
     }
 }
@@ -149,17 +160,10 @@ impl Display for Linked {
     fn fmt<W: Write>(&self, f: &mut Formatter<W>) -> fmt::Result {
         f.write_str("\"layer\":\"frame\",")?;
         match self.0 {
-            Line::Noise {
-                octets,
-                start: false,
-            } => write!(f, "\"refused\":\"Noise\",\"octets\":{octets}"),
-            Line::Noise {
-                octets,
-                start: true,
-            } => write!(
-                f,
-                "\"refused\":\"HeaderCheck\",\"octet\":{HEADER_CHECK_PLACE},\"octets\":{octets}"
-            ),
+            Line::Noise { octets, start } => {
+                let skipped = Skipped(octets, start);
+                write!(f, "{skipped}")
+            }
             Line::Frame {
                 control,
                 dest,
@@ -179,10 +183,10 @@ impl Display for Linked {
                 fault,
                 ..
             } => {
-                let refusal = Refusal(fault);
+                let why = Why(fault);
                 write!(
                     f,
-                    "\"source\":{source},\"dest\":{dest},\"control\":\"{control:02X}\",{refusal}"
+                    "\"source\":{source},\"dest\":{dest},\"control\":\"{control:02X}\",{why}"
                 )
             }
             Line::Cut(octets) => write!(f, "\"refused\":\"Cut\",\"octet\":{octets}"),

@@ -1,25 +1,15 @@
 //! The lines as texts, in the words of the standard.
 
 use crate::line::Line;
-use crate::names::{fault_name, function_name, link_function};
+use crate::names::{
+    HEADER_CHECK_PLACE, Refusal, fault_name, function_name, link_function, setting_of,
+};
 use crate::time::Moment;
 use dnp_appfragment::{Control, Range};
 use dnp_linkframe::FrameFault;
 use dnp_objects::{Command, Row, Status};
 use std::fmt;
 use std::fmt::{Display, Formatter, Write};
-
-/// The octets of the header of a frame with its check word: its first block begins after them.
-const CHECKED_HEADER: usize = 10;
-
-/// The octets of a whole block of user data with its check word.
-const CHECKED_BLOCK: usize = 18;
-
-/// The place of LENGTH in a frame.
-pub(crate) const LENGTH_PLACE: usize = 2;
-
-/// The place of the header's check word in a frame.
-pub(crate) const HEADER_CHECK_PLACE: usize = 8;
 
 /// The word, if it is said.
 fn said(set: bool, word: &'static str) -> &'static str {
@@ -57,25 +47,18 @@ impl Display for Objects {
 
 /// Why a frame is refused, and at which octet of it.
 #[derive(Clone, Copy)]
-struct Refusal(FrameFault);
+struct Why(FrameFault);
 
-/// Where the block of user data begins in a frame.
-pub(crate) fn block_place(block: usize) -> usize {
-    CHECKED_HEADER.saturating_add(block.saturating_mul(CHECKED_BLOCK))
-}
-
-impl Display for Refusal {
+impl Display for Why {
     fn fmt<W: Write>(&self, f: &mut Formatter<W>) -> fmt::Result {
-        match self.0 {
-            FrameFault::Short => f.write_str("Short"),
-            FrameFault::Start => f.write_str("Start at octet 0"),
-            FrameFault::HeaderCheck => write!(f, "HeaderCheck at octet {HEADER_CHECK_PLACE}"),
-            FrameFault::Length => write!(f, "Length at octet {LENGTH_PLACE}"),
-            FrameFault::Size => f.write_str("Size"),
-            FrameFault::BlockCheck(block) => {
-                let place = block_place(block);
-                write!(f, "BlockCheck {block} at octet {place}")
-            }
+        let Refusal { name, block, place } = Refusal::of(self.0);
+        f.write_str(name)?;
+        if let Some(block) = block {
+            write!(f, " {block}")?;
+        }
+        match place {
+            Some(place) => write!(f, " at octet {place}"),
+            None => Ok(()),
         }
     }
 }
@@ -110,20 +93,23 @@ struct Told(Command, Status);
 impl Display for Told {
     fn fmt<W: Write>(&self, f: &mut Formatter<W>) -> fmt::Result {
         let status = self.1.code();
-        match self.0 {
-            Command::Block {
-                index,
-                code,
-                count,
-                on_ms,
-                off_ms,
-            } => write!(
-                f,
-                "{index} code {code:02X} count {count} on {on_ms} off {off_ms} status {status}"
-            ),
-            Command::Set16 { index, value } => write!(f, "{index} set {value} status {status}"),
-            Command::Set32 { index, value } => write!(f, "{index} set {value} status {status}"),
+        if let Some((_, index, value)) = setting_of(self.0) {
+            return write!(f, "{index} set {value} status {status}");
         }
+        let Command::Block {
+            index,
+            code,
+            count,
+            on_ms,
+            off_ms,
+        } = self.0
+        else {
+            return Ok(());
+        };
+        write!(
+            f,
+            "{index} code {code:02X} count {count} on {on_ms} off {off_ms} status {status}"
+        )
     }
 }
 
@@ -167,8 +153,8 @@ impl Display for Linked {
                 fault,
                 ..
             } => {
-                let refusal = Refusal(fault);
-                write!(f, "{source}>{dest} frame refused: {refusal}")
+                let why = Why(fault);
+                write!(f, "{source}>{dest} frame refused: {why}")
             }
             Line::Cut(octets) => write!(f, "frame refused: Cut at octet {octets}"),
             _ => Ok(()),
@@ -199,10 +185,13 @@ impl Display for Carried {
     }
 }
 
-impl Display for Line {
-    /// The line in the words of the standard, without the place where it was read.
+/// A line of a fragment's own, or of a layer below.
+#[derive(Clone, Copy)]
+struct Own(Line);
+
+impl Display for Own {
     fn fmt<W: Write>(&self, f: &mut Formatter<W>) -> fmt::Result {
-        match *self {
+        match self.0 {
             Line::Request { control, function } => {
                 let bits = Bits(control);
                 let function = function_name(function);
@@ -218,6 +207,18 @@ impl Display for Line {
                 let fault = fault_name(fault);
                 write!(f, "fragment refused: {fault} at octet {place}")
             }
+            line => {
+                let carried = Carried(line);
+                write!(f, "{carried}")
+            }
+        }
+    }
+}
+
+impl Display for Line {
+    /// The line in the words of the standard, without the place where it was read.
+    fn fmt<W: Write>(&self, f: &mut Formatter<W>) -> fmt::Result {
+        match *self {
             Line::Header {
                 group,
                 variation,
@@ -242,8 +243,8 @@ impl Display for Line {
                 write!(f, "{told}")
             }
             line => {
-                let carried = Carried(line);
-                write!(f, "{carried}")
+                let own = Own(line);
+                write!(f, "{own}")
             }
         }
     }
