@@ -4,12 +4,12 @@ use Rattle.std.proofs.lemmas.Bool.Decides.{nat_tests}
 use Rattle.std.proofs.lemmas.Grind.{common_steps}
 use Rattle.std.proofs.lemmas.List.Sums.{sum_by_push, sum_by-remove}
 use Rattle.std.proofs.lemmas.Option.{slice_get_within, get_or_from_slice_get}
-use Rattle.dnp_trace.specs.declared.log.Course.{Course}
-use Rattle.dnp_trace.specs.declared.log.What.{What}
-use Rattle.dnp_trace.specs.declared.log.What.TheVariants as what
-use Rattle.dnp_trace.specs.declared.log.Step.{Step}
-use Rattle.dnp_trace.specs.declared.log.Step.TheVariants as step
-use Rattle.dnp_trace.specs.declared.log.Standing.{Standing}
+use Rattle.dnp_trace.specs.declared.noted.Course.{Course}
+use Rattle.dnp_trace.specs.declared.noted.What.{What}
+use Rattle.dnp_trace.specs.declared.noted.What.TheVariants as what
+use Rattle.dnp_trace.specs.declared.noted.Step.{Step}
+use Rattle.dnp_trace.specs.declared.noted.Step.TheVariants as step
+use Rattle.dnp_trace.specs.declared.noted.Standing.{Standing}
 use Rattle.dnp_trace.specs.Logs.{Noted, Sent, nothing_yet, later, begun, sent, came_at, came, came_to, front_place, front_unit, times, line_number, left, counted, count_on, shown, seen_at, stood, settled, settled_on, turned, is_carrying, carried_on}
 use Rattle.dnp_trace.specs.Accounts.{Accounts, sends, ends, stands, is_end, is_sending}
 

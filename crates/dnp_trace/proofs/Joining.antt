@@ -1,7 +1,7 @@
 -- One line more is written, and then whatever the lines to come are.
 use Rattle.std.proofs.Common.{◌≡◌, ℕ, suc, ◌+◌, ◌<◌, ◌≤◌, Bool, List, [], ◌∷◌, ◌++◌, length, drop, get_or, refl, sym, ◌∙◌, ap, subst, append_assoc, append-nil, drop-cons, length-drop, arith}
 use Rattle.std.proofs.lemmas.List.{drop_all}
-use Rattle.dnp_trace.specs.declared.log.Step.{Step}
+use Rattle.dnp_trace.specs.declared.noted.Step.{Step}
 use Rattle.dnp_trace.specs.Logs.{Sent}
 use Rattle.dnp_trace.specs.Traces.{IsStepText, AreTraceLines, Ends, GoesOn}
 use Rattle.dnp_trace.specs.ReportJsons as json

@@ -1,8 +1,8 @@
 -- What happens to a log keeps whether it is cut.
 use Rattle.std.proofs.Common.{◌≡◌, ℕ, zero, suc, Bool, List, [], ◌∷◌, Option, Some, None, refl, ◌∙◌}
-use Rattle.dnp_trace.specs.declared.log.Course.{Course}
-use Rattle.dnp_trace.specs.declared.log.What.{What}
-use Rattle.dnp_trace.specs.declared.log.Standing.{Standing}
+use Rattle.dnp_trace.specs.declared.noted.Course.{Course}
+use Rattle.dnp_trace.specs.declared.noted.What.{What}
+use Rattle.dnp_trace.specs.declared.noted.Standing.{Standing}
 use Rattle.dnp_trace.specs.Logs.{Noted, came_at, came, came_to, front_place, shown, times}
 use Rattle.std.proofs.Common.{slice_get}
 

@@ -1,10 +1,10 @@
 -- Definition: what holds of all that is noted: each unit was sent once, and it stands on its line or has come to one end.
 use Rattle.std.specs.Prelude.{◌≡◌, ℕ, ◌+◌, ◌<◌, ◌≤◌, Bool, true, false, ◌==◌, ◌&&◌, length, count_by}
-use Rattle.dnp_trace.specs.declared.log.What.{What}
-use Rattle.dnp_trace.specs.declared.log.What.TheVariants as what
-use Rattle.dnp_trace.specs.declared.log.Step.{Step}
-use Rattle.dnp_trace.specs.declared.log.Step.TheVariants as step
-use Rattle.dnp_trace.specs.declared.log.Standing.{Standing}
+use Rattle.dnp_trace.specs.declared.noted.What.{What}
+use Rattle.dnp_trace.specs.declared.noted.What.TheVariants as what
+use Rattle.dnp_trace.specs.declared.noted.Step.{Step}
+use Rattle.dnp_trace.specs.declared.noted.Step.TheVariants as step
+use Rattle.dnp_trace.specs.declared.noted.Standing.{Standing}
 use Rattle.dnp_trace.specs.Logs.{Noted}
 
 abbrev pub is_sending : What → Bool

@@ -4,24 +4,17 @@ use Rattle.std.specs.Prelude.{ℕ, zero, suc, ◌+◌, ◌-◌, ◌*◌, ◌/◌
 use Rattle.dnp_trace.specs.declared.capture.TheConstants.{ACK, FIRST_PORT, HEAD, LONGEST, PORT, PSH_ACK, SYN}
 use Rattle.dnp_trace.specs.declared.capture.End.{End}
 use Rattle.dnp_trace.specs.declared.capture.Talk.{Talk}
-use Rattle.dnp_trace.specs.declared.log.What.{What}
-use Rattle.dnp_trace.specs.declared.log.What.TheVariants as what
-use Rattle.dnp_trace.specs.declared.log.Step.{Step}
-use Rattle.dnp_trace.specs.declared.log.Step.TheVariants as step
+use Rattle.dnp_trace.specs.declared.noted.What.{What}
+use Rattle.dnp_trace.specs.declared.noted.What.TheVariants as what
+use Rattle.dnp_trace.specs.declared.noted.Step.{Step}
+use Rattle.dnp_trace.specs.declared.noted.Step.TheVariants as step
 use Rattle.dnp_trace.specs.Logs.{Sent, Noted, link_number}
 
 -- ---- numbers in octets
 
--- the octet of a number that counts so many
+-- the octet of a number that counts so many: the network has the high one first
 abbrev pub octet : ℕ → ℕ → ℕ
 octet n weight = n / weight % 256
-
--- the high octet first, as the network has them
-abbrev pub be16 : ℕ → List ℕ
-be16 n = octet n 256 ∷ octet n 1 ∷ []
-
-abbrev pub be32 : ℕ → List ℕ
-be32 n = octet n 16777216 ∷ octet n 65536 ∷ octet n 256 ∷ octet n 1 ∷ []
 
 -- the low octet first, as pcap's mark says
 unfoldable pub le32 : ℕ → List ℕ

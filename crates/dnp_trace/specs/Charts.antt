@@ -2,7 +2,8 @@
 use Rattle.std.specs.Prelude.{ℕ, ◌+◌, ◌*◌, ◌&&◌, ◌||◌, nat_le, ◌==◌, if◌then◌else◌, List, [], ◌∷◌, ◌++◌, min, codes}
 use Rattle.std.specs.Fmt.{decimal}
 use Rattle.std.specs.List.{flat_map}
-use Rattle.dnp_trace.specs.declared.chart.TheConstants.{APART, BACKGROUND, BOTTOM, LEFT, MAX_ROWS, OPENING, RIGHT, ROW, STYLE, TOP, VIEW}
+use Rattle.dnp_trace.specs.declared.chart.TheConstants.{APART, BOTTOM, LEFT, MAX_ROWS, RIGHT, ROW, TOP}
+use Rattle.dnp_trace.specs.declared.svg.TheConstants.{BACKGROUND, OPENING, STYLE, VIEW}
 
 -- an octet of a text as XML has it: 60 is '<', 62 is '>', 38 is '&', 34 is '"'; what is no character of ASCII is '?'
 abbrev pub octet_escaped : ℕ → List ℕ

@@ -2,12 +2,12 @@
 -- but for the octets of a unit, which are seen when it comes to the front of its line.
 use Rattle.std.specs.Prelude.{ℕ, zero, suc, ◌+◌, ◌-◌, ◌*◌, ◌^◌, ◌==◌, Bool, true, false, if◌then◌else◌, List, [], ◌∷◌, ◌++◌, length, min, position, remove, count_by, slice_get, slice_set, Option, Some, None}
 use Rattle.std.specs.Option.{option_map, option_map_or}
-use Rattle.dnp_trace.specs.declared.log.Course.{Course}
-use Rattle.dnp_trace.specs.declared.log.What.{What}
-use Rattle.dnp_trace.specs.declared.log.What.TheVariants as what
-use Rattle.dnp_trace.specs.declared.log.Step.{Step}
-use Rattle.dnp_trace.specs.declared.log.Step.TheVariants as step
-use Rattle.dnp_trace.specs.declared.log.Standing.{Standing}
+use Rattle.dnp_trace.specs.declared.noted.Course.{Course}
+use Rattle.dnp_trace.specs.declared.noted.What.{What}
+use Rattle.dnp_trace.specs.declared.noted.What.TheVariants as what
+use Rattle.dnp_trace.specs.declared.noted.Step.{Step}
+use Rattle.dnp_trace.specs.declared.noted.Step.TheVariants as step
+use Rattle.dnp_trace.specs.declared.noted.Standing.{Standing}
 
 -- ---- what is noted
 

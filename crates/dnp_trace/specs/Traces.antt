@@ -2,11 +2,11 @@
 -- what it says.
 use Rattle.std.specs.Prelude.{◌≡◌, ℕ, Bool, if◌then◌else◌, List, [], ◌∷◌, ◌++◌, codes, slice_get, Option, Some, None}
 use Rattle.std.specs.Fmt.{decimal}
-use Rattle.dnp_trace.specs.declared.log.Course.{Course}
-use Rattle.dnp_trace.specs.declared.log.What.{What}
-use Rattle.dnp_trace.specs.declared.log.What.TheVariants as what
-use Rattle.dnp_trace.specs.declared.log.Step.{Step}
-use Rattle.dnp_trace.specs.declared.log.Step.TheVariants as step
+use Rattle.dnp_trace.specs.declared.noted.Course.{Course}
+use Rattle.dnp_trace.specs.declared.noted.What.{What}
+use Rattle.dnp_trace.specs.declared.noted.What.TheVariants as what
+use Rattle.dnp_trace.specs.declared.noted.Step.{Step}
+use Rattle.dnp_trace.specs.declared.noted.Step.TheVariants as step
 use Rattle.dnp_trace.specs.Logs.{Sent}
 use Rattle.dnp_trace.specs.Phrases.{IsPhrase}
 

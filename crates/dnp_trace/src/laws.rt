@@ -1,7 +1,7 @@
 //! What holds of all that is noted.
 ghost use Rattle.std.specs.Prelude.{◌≡◌, ℕ, List, Option, false};
-ghost use Rattle.dnp_trace.specs.declared.log.Course.{Course as CourseValue};
-ghost use Rattle.dnp_trace.specs.declared.log.What.{What as WhatValue};
+ghost use Rattle.dnp_trace.specs.declared.noted.Course.{Course as CourseValue};
+ghost use Rattle.dnp_trace.specs.declared.noted.What.{What as WhatValue};
 ghost use Rattle.dnp_trace.specs.Logs.{Noted, nothing_yet, later, begun, came_to, stood, carried_on, settled};
 ghost use Rattle.dnp_trace.specs.Accounts.{Accounts, is_sending};
 

@@ -9,12 +9,16 @@ mod chart;
 mod json;
 pub mod laws;
 mod log;
+mod noted;
+mod packet;
 mod phrase;
 mod sheet;
+mod svg;
 mod trace;
 
 pub use capture::capture_octets;
 pub use chart::chart_text;
 pub use json::report_json;
-pub use log::{Course, Log, What};
+pub use log::Log;
+pub use noted::{Course, What};
 pub use trace::trace_text;

@@ -3,7 +3,8 @@ ghost use Rattle.std.specs.Prelude.{◌≡◌, ◌++◌, List, ℕ, true, IfOk, 
 ghost use Rattle.dnp_trace.specs.Phrases.{IsPhrase};
 ghost use Rattle.dnp_trace.specs.Traces.{fate_word, link_word, course_phrase, step_begin, step_line, IsStepText, AreTraceLines};
 
-use crate::log::{Course, Log, Step, Unit, What};
+use crate::log::Log;
+use crate::noted::{Course, Step, Unit, What};
 use crate::phrase::say_unit;
 use crate::sheet::Sheet;
 use std::alloc::{AllocError, Global};

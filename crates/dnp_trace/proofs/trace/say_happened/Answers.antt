@@ -2,7 +2,7 @@
 use Rattle.std.proofs.Common.{◌≡◌, ℕ, List, [], ◌++◌, Some, None, slice_get, subst, sym, append-nil, arith}
 use Rattle.std.proofs.lemmas.Grind.{common_steps}
 use Rattle.std.proofs.lemmas.Option.{gets}
-use Rattle.dnp_trace.specs.declared.log.Step.{Step}
+use Rattle.dnp_trace.specs.declared.noted.Step.{Step}
 use Rattle.dnp_trace.specs.Traces.{Passes, Says, Misses, IsStepText, step_line}
 use Rattle.dnp_trace.proofs.trace.say_happened.Goals as goal
 

@@ -1,7 +1,7 @@
 -- One line more at each step.
 use Rattle.std.proofs.Common.{◌≡◌, ℕ, List, refl, sym, ◌∙◌, subst, arith, get_or}
-use Rattle.dnp_trace.specs.declared.log.Step.{Step}
-use Rattle.dnp_trace.specs.declared.log.Step.TheVariants as step
+use Rattle.dnp_trace.specs.declared.noted.Step.{Step}
+use Rattle.dnp_trace.specs.declared.noted.Step.TheVariants as step
 use Rattle.dnp_trace.specs.Logs.{Sent}
 use Rattle.dnp_trace.specs.Traces.{AreTraceLines}
 use Rattle.dnp_trace.proofs.Joining.{trace_more, trace_all}

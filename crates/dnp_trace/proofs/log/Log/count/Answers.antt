@@ -1,6 +1,6 @@
 -- What is sent and what is dropped keep whether the log is cut.
 use Rattle.std.proofs.Common.{◌≡◌, false, ℕ, ◌-◌, List, [], sym, ◌∙◌, ap, refl, rules}
-use Rattle.dnp_trace.specs.declared.log.What.TheVariants as what
+use Rattle.dnp_trace.specs.declared.noted.What.TheVariants as what
 use Rattle.dnp_trace.specs.Logs.{Noted, line_number, came_to, times}
 use Rattle.dnp_trace.proofs.Noting.{times_cut, came_to_cut}
 use Rattle.dnp_trace.proofs.log.Log.count.Goals as goal

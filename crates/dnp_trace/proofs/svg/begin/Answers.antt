@@ -1,7 +1,7 @@
-use Rattle.dnp_trace.specs.declared.chart.TheConstants.{BACKGROUND, OPENING, STYLE, VIEW}
+use Rattle.dnp_trace.specs.declared.svg.TheConstants.{BACKGROUND, OPENING, STYLE, VIEW}
 use Rattle.dnp_trace.specs.Charts.{chart_head, size_text, view_text}
 use Rattle.dnp_trace.proofs.Parts.{five_parts}
-use Rattle.dnp_trace.proofs.chart.begin.Goals as goal
+use Rattle.dnp_trace.proofs.svg.begin.Goals as goal
 
 pub returns : goal.returns
 unfolding chart_head

@@ -1,6 +1,6 @@
 use Rattle.std.proofs.Common.{◌≡◌, length}
 use Rattle.dnp_trace.specs.Captures.{sum_from}
-use Rattle.dnp_trace.proofs.capture.sum_of.Given as goal
+use Rattle.dnp_trace.proofs.packet.sum_of.Given as goal
 
 -- the sum so far and the octets that are left
 abbrev pub invariant-words : goal.invariant-words

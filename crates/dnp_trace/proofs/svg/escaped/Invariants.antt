@@ -1,6 +1,6 @@
 use Rattle.std.proofs.Common.{◌≡◌, ◌++◌, drop}
 use Rattle.dnp_trace.specs.Charts.{text_escaped}
-use Rattle.dnp_trace.proofs.chart.escaped.Given as goal
+use Rattle.dnp_trace.proofs.svg.escaped.Given as goal
 
 -- what is written and the octets to come
 abbrev pub invariant-loop-octet : goal.invariant-loop-octet
