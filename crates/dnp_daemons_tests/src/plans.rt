@@ -75,58 +75,109 @@ fn a_plan_has_the_fields_of_its_text(rt: HostRuntime) -> Result<(), Fail> {
     Ok(())
 }
 
+/// What is changed in a plan, and what by.
+type Change = (&'static str, &'static str);
+
+/// Two changes of [`SMALL`], and why the plan with them is refused.
+const REFUSED: [(Change, Change, PlanTextFault); 28] = [
+    (("retries = 0", "retries ="), SAME, PlanTextFault::Syntax),
+    (
+        ("retries = 0", "retries = 99999999999999999999"),
+        SAME,
+        PlanTextFault::Syntax,
+    ),
+    (
+        ("retries = 0", "retries = 0\nretries = 0"),
+        SAME,
+        PlanTextFault::Syntax,
+    ),
+    (("retries = 0\n", ""), SAME, PlanTextFault::Field),
+    (("retries = 0", "retries = 0.0"), SAME, PlanTextFault::Field),
+    (
+        ("retries = 0", "retries = 0\nmore = 1"),
+        SAME,
+        PlanTextFault::Field,
+    ),
+    (
+        ("unsolicited = false", "unsolicited = 0"),
+        SAME,
+        PlanTextFault::Field,
+    ),
+    (("queue = [100, ", "queue = ["), SAME, PlanTextFault::Field),
+    (
+        ("deadband = []", "deadband = [0]"),
+        SAME,
+        PlanTextFault::Field,
+    ),
+    (("base = [100, ", "base = ["), SAME, PlanTextFault::Field),
+    (
+        ("binary = [1]", "binary = [\"1\"]"),
+        SAME,
+        PlanTextFault::Field,
+    ),
+    (("outputs = 1\n", ""), SAME, PlanTextFault::Field),
+    (
+        ("outputs = 1", "outputs = 1\nname = \"A\""),
+        SAME,
+        PlanTextFault::Field,
+    ),
+    (
+        ("[[substation]]", "[substation]"),
+        SAME,
+        PlanTextFault::Field,
+    ),
+    (("retries = 0", "retries = 4"), SAME, PlanTextFault::Range),
+    (("retries = 0", "retries = -1"), SAME, PlanTextFault::Range),
+    (
+        ("confirm_ms = 5000", "confirm_ms = 0"),
+        SAME,
+        PlanTextFault::Range,
+    ),
+    (
+        ("select_ms = 5000", "select_ms = 3600001"),
+        SAME,
+        PlanTextFault::Range,
+    ),
+    (
+        ("queue = [100", "queue = [4097"),
+        SAME,
+        PlanTextFault::Range,
+    ),
+    (("lanes = [100", "lanes = [0"), SAME, PlanTextFault::Range),
+    (("outputs = 1", "outputs = 257"), SAME, PlanTextFault::Range),
+    (
+        ("binary = [1]", "binary = [256]"),
+        SAME,
+        PlanTextFault::Range,
+    ),
+    (("base = [100", "base = [65536"), SAME, PlanTextFault::Range),
+    (("binary = [1]", "binary = [4]"), SAME, PlanTextFault::Class),
+    (
+        ("binary = [1]", "binary = [1, 1]"),
+        ("base = [100", "base = [65535"),
+        PlanTextFault::TooWide,
+    ),
+    // Of two faults the one that comes first in their order is given, wherever it stands.
+    (
+        ("retries = 0", "retries = 4"),
+        ("outputs = 1\n", ""),
+        PlanTextFault::Field,
+    ),
+    (
+        ("retries = 0", "retries = 4"),
+        ("binary = [1]", "binary = [4]"),
+        PlanTextFault::Range,
+    ),
+    (
+        ("binary = [1]", "binary = [1, 4]"),
+        ("base = [100", "base = [65535"),
+        PlanTextFault::Class,
+    ),
+];
+
 #[test]
 fn plans_that_are_refused(rt: HostRuntime) -> Result<(), Fail> {
-    use PlanTextFault::{Class, Field, Range, Syntax, TooWide};
-
-    let cases = [
-        (("retries = 0", "retries ="), SAME, Syntax),
-        (
-            ("retries = 0", "retries = 99999999999999999999"),
-            SAME,
-            Syntax,
-        ),
-        (("retries = 0", "retries = 0\nretries = 0"), SAME, Syntax),
-        (("retries = 0\n", ""), SAME, Field),
-        (("retries = 0", "retries = 0.0"), SAME, Field),
-        (("retries = 0", "retries = 0\nmore = 1"), SAME, Field),
-        (("unsolicited = false", "unsolicited = 0"), SAME, Field),
-        (("queue = [100, ", "queue = ["), SAME, Field),
-        (("deadband = []", "deadband = [0]"), SAME, Field),
-        (("base = [100, ", "base = ["), SAME, Field),
-        (("binary = [1]", "binary = [\"1\"]"), SAME, Field),
-        (("outputs = 1\n", ""), SAME, Field),
-        (("outputs = 1", "outputs = 1\nname = \"A\""), SAME, Field),
-        (("[[substation]]", "[substation]"), SAME, Field),
-        (("retries = 0", "retries = 4"), SAME, Range),
-        (("retries = 0", "retries = -1"), SAME, Range),
-        (("confirm_ms = 5000", "confirm_ms = 0"), SAME, Range),
-        (("select_ms = 5000", "select_ms = 3600001"), SAME, Range),
-        (("queue = [100", "queue = [4097"), SAME, Range),
-        (("lanes = [100", "lanes = [0"), SAME, Range),
-        (("outputs = 1", "outputs = 257"), SAME, Range),
-        (("binary = [1]", "binary = [256]"), SAME, Range),
-        (("base = [100", "base = [65536"), SAME, Range),
-        (("binary = [1]", "binary = [4]"), SAME, Class),
-        (
-            ("binary = [1]", "binary = [1, 1]"),
-            ("base = [100", "base = [65535"),
-            TooWide,
-        ),
-        // Of two faults the one that comes first in their order is given, wherever it stands.
-        (("retries = 0", "retries = 4"), ("outputs = 1\n", ""), Field),
-        (
-            ("retries = 0", "retries = 4"),
-            ("binary = [1]", "binary = [4]"),
-            Range,
-        ),
-        (
-            ("binary = [1]", "binary = [1, 4]"),
-            ("base = [100", "base = [65535"),
-            Class,
-        ),
-    ];
-    for (first, second, fault) in cases {
+    for (first, second, fault) in REFUSED {
         let found = fault_of(rt.alloc(), first, second)?;
         assert_eq!(rt; found, Some(fault));
     }
