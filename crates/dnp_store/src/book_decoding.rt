@@ -4,7 +4,7 @@ ghost use Rattle.std.specs.Prelude.{◌≡◌, ◌++◌, ◌∷◌, [], IsTrue, 
 ghost use Rattle.dnp_controls.specs.declared.book.Entry.{Entry};
 ghost use Rattle.dnp_store.specs.BookShown.{EntriesRise, ShowEntries, ShowsCommand, ShowsEntry, ShowsState};
 
-use crate::decoding::{small, whole};
+use crate::decoding::{signed, small, whole};
 use crate::fault::Unread;
 use dnp_controls::{Entry, State, TARGETS};
 use dnp_objects::{Command, Status};
@@ -14,7 +14,7 @@ use sqlite::Row as Shown;
 fn block_in(row: &Shown) -> Option<Command>
     ensures { IfSome result (λ command. ShowsCommand row.now command) }
 {
-    if whole(row, 2)? != 0 || row.get::<i64>(8).ok()? != 0 {
+    if whole(row, 2)? != 0 || signed(row, 8)? != 0 {
         return None;
     }
     let index = u16::try_from(small(row, 3)?).ok()?;
@@ -39,7 +39,7 @@ fn setpoint_in(row: &Shown) -> Option<Command>
         return None;
     }
     let index = u16::try_from(small(row, 3)?).ok()?;
-    let value = row.get::<i64>(8).ok()?;
+    let value = signed(row, 8)?;
     match small(row, 2)? {
         1 => {
             let value = i16::try_from(value).ok()?;

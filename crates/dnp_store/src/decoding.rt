@@ -1,6 +1,6 @@
 //! What rows that queries show of a queue's tables say.
 
-ghost use Rattle.std.specs.Prelude.{◌≡◌, ◌<◌, ◌≤◌, ◌^◌, ℕ, Bool, nat_le, false, IsTrue, IfOk, IfSome, [], ◌∷◌, List, codes, length, pos, All, slice_index_or, if◌then◌else◌};
+ghost use Rattle.std.specs.Prelude.{◌≡◌, ◌<◌, ◌≤◌, ◌^◌, ℕ, ℤ, Bool, nat_le, false, IsTrue, IfOk, IfSome, [], ◌∷◌, List, codes, length, pos, All, slice_index_or, if◌then◌else◌};
 ghost use Rattle.sqlite.specs.declared.types.Value.TheVariants.{Int, Text};
 ghost use Rattle.sqlite.specs.Order.{column};
 ghost use Rattle.dnp_objects.specs.declared.limits.TheConstants as limits;
@@ -29,6 +29,17 @@ pub(crate) fn whole(row: &Shown, at: usize) -> Option<u64>
     }
 }
 
+/// The number in this column, if it is one, of either sign.
+pub(crate) fn signed(row: &Shown, at: usize) -> Option<i64>
+    ensures value { IfSome result (λ n. column row.now at ≡ Int n) }
+    ensures found { (n : ℤ) → column row.now at ≡ Int n → result ≡ Some n }
+{
+    match row.get_ref(at).ok()? {
+        ValueRef::Int(n) => Some(n),
+        _ => None,
+    }
+}
+
 /// The number in this column, if it is in range.
 pub(crate) fn small(row: &Shown, at: usize) -> Option<u32>
     ensures value { IfSome result (λ n. column row.now at ≡ Int (pos n)) }
@@ -39,12 +50,13 @@ pub(crate) fn small(row: &Shown, at: usize) -> Option<u32>
 
 /// The rowid of the only row, if its number is 1.
 pub(crate) fn form1(rows: &[Shown]) -> Option<i64>
-    ensures { IfSome result (λ id. ShowsForm1 rows.now id) }
+    ensures value { IfSome result (λ id. ShowsForm1 rows.now id) }
+    ensures found { (id : ℤ) → ShowsForm1 rows.now id → result ≡ Some id }
 {
     if rows.len() != 1 {
         return None;
     }
-    let id = rows[0].get::<i64>(0).ok()?;
+    let id = signed(&rows[0], 0)?;
     if whole(&rows[0], 1)? == 1 {
         Some(id)
     } else {
@@ -117,7 +129,8 @@ fn count_in(row: &Shown, table: &str) -> Option<(u64, u64)>
 
 /// The last id used, if nothing else is noted.
 fn counted(rows: &[Shown], table: &str) -> Option<u64>
-    ensures { IfSome result (λ n. ShowsCount table.now rows.now n) }
+    ensures value { IfSome result (λ n. ShowsCount table.now rows.now n) }
+    ensures found { (n : ℕ) → ShowsCount table.now rows.now n → result ≡ Some n }
 {
     if rows.is_empty() {
         return Some(0);
@@ -224,7 +237,7 @@ fn queued_in(row: &Shown) -> Option<(u64, LaneRow)>
     let lane = Lane::numbered(small(row, 1)? as usize)?;
     let index = u16::try_from(small(row, 2)?).ok()?;
     let flags = u8::try_from(small(row, 3)?).ok()?;
-    let value = row.get::<i64>(4).ok()?;
+    let value = signed(row, 4)?;
     let time = row.get::<Option<u64>>(5).ok()?;
     let kind = lane.kind;
     let row = Row {

@@ -1,9 +1,9 @@
 //! What rows that queries show of a journal's table say.
 
-ghost use Rattle.std.specs.Prelude.{IsTrue, IfOk, IfSome};
+ghost use Rattle.std.specs.Prelude.{◌<◌, IsTrue, IfOk, IfSome};
 ghost use Rattle.dnp_store.specs.JournalShown.{AreInOrder, ShowEvents, ShowsEvent};
 
-use crate::decoding::{small, whole};
+use crate::decoding::{signed, small, whole};
 use crate::fault::Unread;
 use dnp_eventbuf::Numbered;
 use dnp_objects::{Kind, MAX_TIME, Row};
@@ -12,13 +12,14 @@ use std::alloc::Global;
 
 /// The event that the row shows, if it has one, each value in its column's range.
 fn event_in(row: &Shown) -> Option<Numbered>
-    ensures { IfSome result (λ e. ShowsEvent row.now e) }
+    ensures value { IfSome result (λ e. ShowsEvent row.now e) }
+    ensures timed { IfSome result (λ e. IfSome e.row.time (λ time. time < MAX_TIME)) }
 {
     let id = whole(row, 0)?;
     let kind = Kind::numbered(small(row, 1)? as usize)?;
     let index = u16::try_from(small(row, 2)?).ok()?;
     let flags = u8::try_from(small(row, 3)?).ok()?;
-    let value = row.get::<i64>(4).ok()?;
+    let value = signed(row, 4)?;
     let time = row.get::<Option<u64>>(5).ok()?;
     if time.unwrap_or(0) >= MAX_TIME {
         return None;
