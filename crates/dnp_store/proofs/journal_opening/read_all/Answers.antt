@@ -41,5 +41,5 @@ returns-clause-range g c =
     let rises : AreInOrder 0 last events = search rules in
     let few = few_in_order 0 last events rises (omega arith) in
     let long : length events ≡ c.len.result = search rules in
-    let low : last ≤ MAX_ID = c.in-Some.ensures.0 in
+    let low : last ≤ MAX_ID = c.in-Some.ensures.counted.0 in
     (low, omega arith)
