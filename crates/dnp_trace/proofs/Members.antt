@@ -45,15 +45,15 @@ outcome_put words what round subject came_out refused s a b d f z e1 e2 e3 e4 e5
     let out : List ℕ = member (codes "outcome") (first_word (more_words (more_words words))) true in
     let number : List ℕ = reason (more_words (more_words (more_words words))) in
     let which_put = which ∙ ap (λ (w : List ℕ). a ++ member w subject true) e1
-        ∙ ap (λ (w : List ℕ). a ++ member (first_word words) w true) subject_is in
+    ∙ ap (λ (w : List ℕ). a ++ member (first_word words) w true) subject_is in
     let how_put = how ∙ ap (λ (w : List ℕ). b ++ codes ", " ++ member (codes "outcome") (first_word w) true) out_is
-        ∙ append_assoc b (codes ", ") out in
+    ∙ append_assoc b (codes ", ") out in
     let why_put = why ∙ ap (λ (w : List ℕ). d ++ reason w) refused_is in
     let led : b ≡ s ++ (codes "{" ++ named) = put_on s (codes "{") named a b opened which_put in
     let told : d ≡ s ++ (codes "{" ++ named ++ (codes ", " ++ out)) =
-        put_on s (codes "{" ++ named) (codes ", " ++ out) b d led how_put in
+    put_on s (codes "{" ++ named) (codes ", " ++ out) b d led how_put in
     let joined : codes "{" ++ named ++ (codes ", " ++ out) ≡ codes "{" ++ named ++ codes ", " ++ out =
-        sym (append_assoc (codes "{" ++ named) (codes ", ") out) in
+    sym (append_assoc (codes "{" ++ named) (codes ", ") out) in
     let told_flat : d ≡ s ++ (codes "{" ++ named ++ codes ", " ++ out) = told ∙ ap (λ (t : List ℕ). s ++ t) joined in
     put_on s (codes "{" ++ named ++ codes ", " ++ out ++ number) (codes "}") f z
     (put_on s (codes "{" ++ named ++ codes ", " ++ out) number d f told_flat why_put) closed
