@@ -1,6 +1,7 @@
 -- Lemmas.
 pub mod Accounting
 pub mod Joining
+pub mod Members
 pub mod Naming
 pub mod Noting
 pub mod Parts

@@ -113,11 +113,11 @@ fn put_next<'a>(
 fn put_event(sheet: &mut Sheet, words: &str) -> Result<(), AllocError>
     ensures { OnOk result (sheet.new ≡ sheet.old ++ members event_names words.now) }
 {
-    let words = put_next(sheet, "kind", words, true)?;
-    let words = put_next(sheet, "index", words, false)?;
-    let words = put_next(sheet, "value", words, false)?;
-    let words = put_next(sheet, "flags", words, true)?;
-    put_next(sheet, "time", words, false)?;
+    let from_index = put_next(sheet, "kind", words, true)?;
+    let from_value = put_next(sheet, "index", from_index, false)?;
+    let from_flags = put_next(sheet, "value", from_value, false)?;
+    let from_time = put_next(sheet, "flags", from_flags, true)?;
+    put_next(sheet, "time", from_time, false)?;
     Ok(())
 }
 
@@ -125,12 +125,12 @@ fn put_event(sheet: &mut Sheet, words: &str) -> Result<(), AllocError>
 fn put_block(sheet: &mut Sheet, words: &str) -> Result<(), AllocError>
     ensures { OnOk result (sheet.new ≡ sheet.old ++ members block_names words.now) }
 {
-    let words = put_next(sheet, "command", words, true)?;
-    let words = put_next(sheet, "index", words, false)?;
-    let words = put_next(sheet, "code", words, false)?;
-    let words = put_next(sheet, "count", words, false)?;
-    let words = put_next(sheet, "on_ms", words, false)?;
-    put_next(sheet, "off_ms", words, false)?;
+    let from_index = put_next(sheet, "command", words, true)?;
+    let from_code = put_next(sheet, "index", from_index, false)?;
+    let from_count = put_next(sheet, "code", from_code, false)?;
+    let from_on = put_next(sheet, "count", from_count, false)?;
+    let from_off = put_next(sheet, "on_ms", from_on, false)?;
+    put_next(sheet, "off_ms", from_off, false)?;
     Ok(())
 }
 
@@ -138,9 +138,9 @@ fn put_block(sheet: &mut Sheet, words: &str) -> Result<(), AllocError>
 fn put_setpoint(sheet: &mut Sheet, words: &str) -> Result<(), AllocError>
     ensures { OnOk result (sheet.new ≡ sheet.old ++ members setpoint_names words.now) }
 {
-    let words = put_next(sheet, "command", words, true)?;
-    let words = put_next(sheet, "index", words, false)?;
-    put_next(sheet, "value", words, false)?;
+    let from_index = put_next(sheet, "command", words, true)?;
+    let from_value = put_next(sheet, "index", from_index, false)?;
+    put_next(sheet, "value", from_value, false)?;
     Ok(())
 }
 
@@ -164,7 +164,8 @@ fn put_item(sheet: &mut Sheet, words: &str) -> Result<(), AllocError>
     sheet.word("{")?;
     put_member(sheet, "substation", substation, false)?;
     put_words(sheet, rest)?;
-    sheet.word("}")
+    sheet.word("}")?;
+    Ok(())
 }
 
 /// Writes the number by which something was refused, if it was.
@@ -183,12 +184,13 @@ fn put_outcome(sheet: &mut Sheet, words: &str) -> Result<(), AllocError>
     ensures { OnOk result (sheet.new ≡ sheet.old ++ spec.outcome words.now) }
 {
     let (what, rest) = first_word(words);
-    let (subject, rest) = first_word(rest);
+    let (subject, came_out) = first_word(rest);
     sheet.word("{")?;
     put_member(sheet, what, subject, true)?;
-    let rest = put_next(sheet, "outcome", rest, true)?;
-    put_reason(sheet, rest)?;
-    sheet.word("}")
+    let refused = put_next(sheet, "outcome", came_out, true)?;
+    put_reason(sheet, refused)?;
+    sheet.word("}")?;
+    Ok(())
 }
 
 /// Begins an item of a list, which is its first or isn't.
