@@ -174,7 +174,7 @@ takes_under holds-a-script-once 90000000
 
 # No list of its lines is held: a million changes, a text of 30,000,000 octets, leave two lists of a million rows
 seq 1 1000000 | awk '{ print "change 0 binary 0 " $1 % 2 " 01 " $1 }' >script
-takes_under holds-no-list-of-lines 145000000
+takes_under holds-no-list-of-lines 126000000
 
 # A reader that goes away is no fault that is told of
 seq 1 20000 | awk '{ print "change 0 binary 0 " $1 % 2 " 01 " $1 }' >script
