@@ -42,7 +42,8 @@ OUTPUT
     (LENGTH is under 5), 5 Size (another number of octets than LENGTH says), 6 BlockCheck B (B is
     the number of the first data block with a wrong check word, from 0).
   With 'refused 0 Text' a line on standard error says why, and in which column the input stops
-  being written as above; a line of more than 2,000 characters is told without a column.
+  being written as above; where that is only that it has more than 2,000 characters, it is told
+  without a column.
 
 EXIT STATUS
   0  the frame was read: there is an answer, or there is none to give

@@ -63,7 +63,8 @@ OUTPUT
     transport FIR FIN 0
               a segment, the first and the last of its fragment, with the number 0
     request seq 0 fir fin con READ, response seq 0 fir fin, iin 80 00
-              a fragment, with the bits that are set, its function or its internal indications
+              a fragment, with the bits that are set, its function or its internal indications; 'uns'
+              is the bit of an unsolicited response, whose function --json has
     30.1 5..6, 2.2 x1, 60.2 all
               an object header, group 30 variation 1: the indexes 5 to 6, one object, or all; one with
               objects has no line of its own (with --json it has): each of its objects repeats it
@@ -75,15 +76,21 @@ OUTPUT
     12.1 x1: 5 code 81 count 2 on 100 off 200 status 0, 41.2 x1: 5 set -2 status 0
               a command to output 5, its code in hexadecimal, times in milliseconds
   What is refused has a line with the fault's name and its place, an octet of the frame or the
-  fragment, from 0, as 'frame refused: BlockCheck 1 at octet 28'. In a fragment it is the place where
-  the header with the fault begins; the headers before it have their lines. Functions and objects that
-  the stations here don't speak are unknown to it. Octets at which no frame begins are 'skipped', and
-  those at the end of the input that are too few for a frame are 'Cut': both count as refused. A
-  fragment whose first or last segments are missing has no line, and doesn't. A line that isn't
-  hexadecimal is 'text refused', and none of its octets are taken. docs/decode.md lists all the names.
+  fragment, from 0, as 'frame refused: BlockCheck 1 at octet 28'. Of a frame: Length (under 5) and
+  BlockCheck; of a segment: Size (under 2 octets) and Series (it doesn't continue the one before, or
+  makes the fragment too long); of a fragment: Short (too few octets for one), FunctionUnknown, and
+  of a header HeaderCut, QualifierUnknown, ObjectUnknown, RangeBackward and ObjectsCut, with the place
+  where the header begins; those before it have their lines. Functions and objects that the stations here don't
+  speak are unknown to it, but for functions of the link layer, which are not refused. Octets at which
+  no frame begins are 'skipped', and so is a header with a wrong check word, after which a frame is
+  looked for at each octet; those at the end of the input that are too few for a frame are 'Cut', with
+  their number: all count as refused. A fragment whose first or last segments are missing has no line,
+  and doesn't. A line that isn't hexadecimal is 'text refused', and none of its octets are taken. Of
+  no octets there is no line, and the status is 0. docs/decode.md lists all the names.
   With --json each line is a JSON object: 'at' is that number, 'layer' says what the line is of, and
   'refused' is there where something is refused; docs/decode.md has the members. A file that is no
-  capture is 'refused capture NAME' with or without it.
+  capture is 'refused capture NAME' with or without it, and standard error says why; one that ends
+  within a packet is '1 packet refused: the capture ends in it'.
 
 EXIT STATUS
   0  all was read

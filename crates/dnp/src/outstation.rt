@@ -42,10 +42,11 @@ CONNECTIONS
 OUTPUT
   On standard output a line for each connection when it has ended, 'served N': N is how many
   fragments came whole from its master. Or 'refused plan N', where the plan is refused: 1 it is
-  no TOML, 2 a key is missing, unknown or of another type or length, 3 a number is outside its
-  range, 4 a class is 4 to 255, 5 an index above would be over 65,535, 6 two substations would
-  share an index above; then a line on standard error names the key, what stands there, and what
-  belongs there.
+  no TOML, 2 a key is missing, unknown or of another type, or two lists have not as many items as
+  they must, 3 a number is outside its range, or a list has too few or too many items, 4 a class is
+  4 to 255, 5 an index above would be over 65,535, 6 two substations would share an index above;
+  then a line on standard error names the key, what stands there, and what belongs there. That it
+  listens is not told.
 
 EXIT STATUS
   0  all connections were served

@@ -58,9 +58,11 @@ OUTPUT
     on the line. 1 the link is not quiet: something stands on its lines, its master awaits an
     answer, or it is broken or closed, as by a master that has waited too long ('open L' opens it);
     'control ID ok' or 'control ID refused N' for each line 'control ID': 1 a link is not quiet,
-    2 it is not the next control, 3 a station refused it;
+    2 it is not the next control, or another one is on its way to its substation, 3 a station
+    refused it;
     and at the end the report: each list's name and length, and below it its events, as
-    ' 0 binary 3 1 01 1000' (substation, kind, index, value, flags, time), or its commands, as
+    ' 0 binary 3 1 01 1000' (substation, kind, index, value, flags in hexadecimal, time in
+    milliseconds or '-'), or its commands, as
     ' 0 block 3 129 1 100 200' (substation, form, index, code, count, ms on, ms off) or
     ' 0 set16 3 -2' (substation, form, index, value). The index is the substation's own; on the
     link above the plan's base is added to it.
@@ -76,13 +78,15 @@ OUTPUT
     operated     commands that outputs have performed
   and last 'lost N': N events of the concentrator were dropped so far, by its own count.
   Or one line, and then nothing has run:
-    'refused plan N', where the plan is refused: 1 it is no TOML, 2 a key is missing, unknown or
-    of another type or length, 3 a number is outside its range, 4 a class is 4 to 255, 5 an index
-    above would be over 65,535, 6 two substations would share an index above; then a line on
-    standard error names the key, its substation, counted from 0, its item, counted from 1, what
-    stands there, and what belongs there;
+    'refused plan N', by the first of these faults: 1 it is no TOML, as where a key stands twice or a
+    number has over 64 bits, 2 a key is missing, unknown or of another type, or two lists have not as
+    many items as they must, 3 a number is outside its range, below 0 or over 255 for a class, or a
+    list has too few or too many items, 4 a class is 4 to 255, 5 an index above would be over 65,535,
+    6 two substations would share an index above; then a line on standard error names the key, its
+    substation, counted from 0, its item, counted from 1, what stands there, and what belongs there;
     'refused line N', where line N of the script, counted from 1, is the first that doesn't fit;
-    then a line on standard error says which of its words stops fitting, and what belongs there.
+    then a line on standard error says which of its words stops fitting, and what belongs there; a
+    long word is shown cut ('and more').
   Where a line of the script is out of memory, 'stopped N', N lines having been done.
   On standard error, where lines can do nothing, as one that names no point of the plan: how many
   they are, the number of the first, and why it does nothing. A line that finds nothing to do as
@@ -93,23 +97,26 @@ SOMETHING TO LOOK AT
   before the report is printed, and not where the plan or the script is refused.
     --trace FILE    a line for each thing that a unit does: the moment in milliseconds, the link, the
                     way, what it does and what it says, as '12 link 0 up sent RESPONSE seq 1 fir fin
-                    con, 2.2 x1', or of a segment of a longer fragment 'segment FIR 0'. It is 'sent',
-                    it 'arrives', is 'repeated' (it arrives, and stays on the line), 'lost', 'damaged'
-                    or 'dropped' (its line was cleared), or 'stands' on the line at the end. What
-                    comes after 32 others on a line may be 'unseen'. The way is up to the master, or
-                    down. A station that closes its connection has no line.
-                    With '-' the lines stand on standard output, before the report; the other two
-                    can't go there.
+                    con iin 80 00, 2.2 x1' (iin: the internal indications, where any is set), or of a
+                    segment of a longer fragment 'segment FIR 0'; of a damaged one what it said
+                    before. It is 'sent', it 'arrives', is 'repeated' (it arrives, and stays on the
+                    line), 'lost', 'damaged' or 'dropped' (its line was cleared), or 'stands' on the
+                    line at the end. What comes after 32 others on a line may be 'unseen'. The way is
+                    up to the master, or down. A station that closes its connection has no line.
+                    With '-' the lines stand on standard output, before the report, which then can't
+                    be JSON; the other two can't go there. No two may name one file, nor the plan's.
     --chart FILE    the same as a sequence chart for a browser, time going down: an arrow for each
-                    unit, broken off where it is lost or damaged, dashed where it is repeated, dotted
-                    where it is dropped or stands at the end
+                    unit, broken off where it is lost (a cross) or damaged (a jag), dashed where it
+                    is repeated, dotted where it is dropped or stands at the end; at the left stand
+                    the script's lines. A label that is cut ends in '..'; at most 1500 rows are shown
     --capture FILE  what arrives, and so no unit that is lost, damaged or dropped, for Wireshark: a
                     TCP conversation to port 20000 for each link, from and to 192.0.2.A, where A is
                     the station's link address: the centre's is 1, the concentrator's 9 above and 2
                     below, substation S's 10 + S
     --json          in place of the text an object: 'outcomes' has how rounds and controls came out,
-                    and then come the report's lists by their names. What is refused, or stops, is
-                    printed as without it.
+                    with the N of 'refused N' as 'reason', and then come the report's lists by their
+                    names, what has no time with 'null'. What is refused, or stops, is printed as
+                    without it.
 
 EXIT STATUS
   0  the script was run, and the report was printed
