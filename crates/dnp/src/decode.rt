@@ -80,9 +80,9 @@ OUTPUT
   BlockCheck; of a segment: Size (under 2 octets) and Series (it doesn't continue the one before, or
   makes the fragment too long); of a fragment: Short (too few octets for one), FunctionUnknown, and
   of a header HeaderCut, QualifierUnknown, ObjectUnknown, RangeBackward and ObjectsCut, with the place
-  where the header begins; those before it have their lines. Functions and objects that the stations here don't
-  speak are unknown to it, but for functions of the link layer, which are not refused. Octets at which
-  no frame begins are 'skipped', and so is a header with a wrong check word, after which a frame is
+  where the header begins; those before it have their lines. Functions and objects that the stations
+  here don't speak are unknown to it; an unknown function of the link layer isn't refused.
+  Octets at which no frame begins are 'skipped', and so is a header with a wrong check word, after which a frame is
   looked for at each octet; those at the end of the input that are too few for a frame are 'Cut', with
   their number: all count as refused. A fragment whose first or last segments are missing has no line,
   and doesn't. A line that isn't hexadecimal is 'text refused', and none of its octets are taken. Of
