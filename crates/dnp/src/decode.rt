@@ -78,15 +78,15 @@ OUTPUT
   What is refused has a line with the fault's name and its place, an octet of the frame or the
   fragment, from 0, as 'frame refused: BlockCheck 1 at octet 28'. Of a frame: Length (under 5) and
   BlockCheck; of a segment: Size (under 2 octets) and Series (it doesn't continue the one before, or
-  makes the fragment too long); of a fragment: Short (too few octets for one), FunctionUnknown, and
-  of a header HeaderCut, QualifierUnknown, ObjectUnknown, RangeBackward and ObjectsCut, with the place
+  makes the fragment too long); of a fragment: Short (too few octets for one), FunctionUnknown, and of
+  a header HeaderCut, QualifierUnknown, ObjectUnknown, RangeBackward and ObjectsCut, with the place
   where the header begins; those before it have their lines. Functions and objects that the stations
-  here don't speak are unknown to it; an unknown function of the link layer isn't refused.
-  Octets at which no frame begins are 'skipped', and so is a header with a wrong check word, after which a frame is
-  looked for at each octet; those at the end of the input that are too few for a frame are 'Cut', with
-  their number: all count as refused. A fragment whose first or last segments are missing has no line,
-  and doesn't. A line that isn't hexadecimal is 'text refused', and none of its octets are taken. Of
-  no octets there is no line, and the status is 0. docs/decode.md lists all the names.
+  here don't speak are unknown to it; an unknown function of the link layer isn't refused. Octets at
+  which no frame begins are 'skipped', and so is a header with a wrong check word, after which a frame
+  is looked for at each octet; those at the end of the input that are too few for a frame are 'Cut',
+  with their number: all count as refused. A fragment whose first or last segments are missing has no
+  line, and doesn't. A line that isn't hexadecimal is 'text refused', and none of its octets are
+  taken. Of no octets there is no line, and the status is 0. docs/decode.md lists all the names.
   With --json each line is a JSON object: 'at' is that number, 'layer' says what the line is of, and
   'refused' is there where something is refused; docs/decode.md has the members. A file that is no
   capture is 'refused capture NAME' with or without it, and standard error says why; one that ends
