@@ -1,7 +1,8 @@
 """Reads the functions of a Rattle crate from the compiler's own tokens, and takes bodies and proofs away.
 
 A function is named as a check prints it: by its module, for a method by the file of its type, for a method of a trait
-by the type and the trait in one word (`impl From<Cause> for RoundFault` is RoundFaultFromCause).
+by the type and the trait in one word (`impl From<Cause> for RoundFault` is RoundFaultFromCause), and in an `impl` for
+one argument of its type by the file of the `impl` and both (`impl Queue<MemStore>` is Queue+MemStore).
 """
 import json
 import re
@@ -176,8 +177,10 @@ class Crate:
         head = [it for it in tokens[behind_them:opens] if it.kind == "Code"]
         cut = next((place for place, it in enumerate(head) if it.text == "for"), None)
         if cut is None:
-            own, _ = last_name(head)
-            return lambda name: self.home(own, here) + [own, name]
+            own, arguments = last_name(head)
+            arguments = [it for it in arguments if it not in parameters]
+            home = here if arguments else self.home(own, here)
+            return lambda name: home + ["+".join([own, *arguments]), name]
         trait, arguments = last_name(head[:cut])
         own, _ = last_name(head[cut + 1:])
         if trait == "Model":

@@ -34,3 +34,4 @@ pub mod BookStanding
 pub mod BookPlaces
 pub mod BookTurning
 pub mod BookOpening
+pub mod InMemory

@@ -3,8 +3,9 @@
 ghost use Rattle.std.specs.Prelude.{◌≡◌, ◌↔◌, false, not, IsTrue, IfOk, IfErr, IsErrAnd};
 ghost use Rattle.sqlite.specs.Held.{state};
 ghost use Rattle.sqlite.specs.State.{HasCleanDisk, Survives};
+ghost use Rattle.sqlite.specs.Steps.{over_memory};
 ghost use Rattle.dnp_controls.specs.Book.{empty_ledger};
-ghost use Rattle.dnp_store.specs.BookKept.{Leaves, Stands};
+ghost use Rattle.dnp_store.specs.BookKept.{IsHonest, Leaves, Stands};
 ghost use Rattle.dnp_store.specs.BookTables.{HoldsBook, IsBook};
 ghost use Rattle.dnp_store.specs.Schemas.{made_book};
 ghost use Rattle.dnp_store.specs.Tables.{no_schema};
@@ -15,7 +16,7 @@ use crate::fault::{is_lost, is_taken, serves};
 use crate::open::{OpenFault, is_bare, open_fault, unread_fault};
 use crate::store_kind::StoreKind;
 use crate::stores::write_tables;
-use sqlite::{Alter, Connection};
+use sqlite::{Alter, Connection, MemStore};
 use std::alloc::Global;
 
 impl<S: Alter> ControlBook<S> {
@@ -118,5 +119,31 @@ impl<S: Alter> ControlBook<S> {
         ensures left { HasCleanDisk (state S.Store self.now.conn) → IsTrue result → IsTrue self.now.owned → Leaves (state S.Store self.now.conn) self.now.ledger }
     {
         !self.stopped
+    }
+}
+
+impl ControlBook<MemStore> {
+    /// A book without entries in a new database in memory.
+    ///
+    /// Memory where it ran out; Device where the database failed otherwise.
+    pub fn in_memory(alloc: Global) -> Result<ControlBook<MemStore>, OpenFault>
+        ensures honest { IfOk result (IsHonest over_memory) }
+        ensures empty { IfOk result (λ b. b.ledger ≡ empty_ledger) }
+    {
+        let Ok(conn) = Connection::open_in_memory(alloc) else {
+            return Err(OpenFault::Memory);
+        };
+        match ControlBook::create(alloc, conn) {
+            Ok(book) => Ok(book),
+            Err((fault, _)) => Err(fault),
+        }
+    }
+
+    /// Whether the book is honest still: it has not answered Device, and its database is its own. So what
+    /// was promised under that premise held up to this moment.
+    pub fn is_well(&self) -> bool
+        ensures { IsTrue result → IsHonest over_memory self.now }
+    {
+        self.serves() && self.owns_database()
     }
 }

@@ -3,7 +3,8 @@
 ghost use Rattle.std.specs.Prelude.{◌≡◌, ◌↔◌, false, not, IsTrue, IfOk, IfErr, IsErrAnd};
 ghost use Rattle.sqlite.specs.Held.{state};
 ghost use Rattle.sqlite.specs.State.{HasCleanDisk, Survives};
-ghost use Rattle.dnp_store.specs.JournalKept.{Leaves, Stands, held_archive};
+ghost use Rattle.sqlite.specs.Steps.{over_memory};
+ghost use Rattle.dnp_store.specs.JournalKept.{IsHonest, Leaves, Stands, held_archive};
 ghost use Rattle.dnp_store.specs.JournalTables.{HoldsArchive, IsJournal, empty_archive};
 ghost use Rattle.dnp_store.specs.Schemas.{made_journal};
 ghost use Rattle.dnp_store.specs.Tables.{no_schema};
@@ -14,7 +15,7 @@ use crate::journal_opening::read_journal;
 use crate::open::{OpenFault, is_bare, open_fault, unread_fault};
 use crate::store_kind::StoreKind;
 use crate::stores::write_tables;
-use sqlite::{Alter, Connection};
+use sqlite::{Alter, Connection, MemStore};
 use std::alloc::Global;
 
 impl<S: Alter> Journal<S> {
@@ -113,5 +114,31 @@ impl<S: Alter> Journal<S> {
         ensures { result ≡ self.now.owned }
     {
         self.owned
+    }
+}
+
+impl Journal<MemStore> {
+    /// A journal without rows in a new database in memory.
+    ///
+    /// Memory where it ran out; Device where the database failed otherwise.
+    pub fn in_memory(alloc: Global) -> Result<Journal<MemStore>, OpenFault>
+        ensures honest { IfOk result (IsHonest over_memory) }
+        ensures empty { IfOk result (λ j. held_archive over_memory j ≡ empty_archive) }
+    {
+        let Ok(conn) = Connection::open_in_memory(alloc) else {
+            return Err(OpenFault::Memory);
+        };
+        match Journal::create(conn) {
+            Ok(journal) => Ok(journal),
+            Err((fault, _)) => Err(fault),
+        }
+    }
+
+    /// Whether the journal is honest still: it has not answered Device, and its database is its own. So
+    /// what was promised under that premise held up to this moment.
+    pub fn is_well(&self) -> bool
+        ensures { IsTrue result → IsHonest over_memory self.now }
+    {
+        self.serves() && self.owns_database()
     }
 }

@@ -3,9 +3,10 @@
 ghost use Rattle.std.specs.Prelude.{◌≡◌, ◌≢◌, ◌⊎◌, ◌↔◌, ◌≤◌, true, false, not, if◌then◌else◌, All, IsTrue, IfOk, IfErr, IsErrAnd};
 ghost use Rattle.sqlite.specs.Held.{state};
 ghost use Rattle.sqlite.specs.State.{HasCleanDisk, Survives};
+ghost use Rattle.sqlite.specs.Steps.{over_memory};
 ghost use Rattle.dnp_eventbuf.specs.Stock.{empty_stock};
 ghost use Rattle.dnp_store.specs.Faults.{RefusesNothing, is_out_of_memory, is_wrong};
-ghost use Rattle.dnp_store.specs.Kept.{Leaves, Stands};
+ghost use Rattle.dnp_store.specs.Kept.{IsHonest, Leaves, Stands};
 ghost use Rattle.dnp_store.specs.QueueTables.{HoldsStock, IsQueue};
 ghost use Rattle.dnp_store.specs.Schemas.{made_queue};
 ghost use Rattle.dnp_store.specs.Tables.{no_schema};
@@ -16,7 +17,7 @@ use crate::queue_opening::read_queue;
 use crate::queue_tables::write_tables;
 use dnp_eventbuf::{MAX_CAPACITY, PlainLanes};
 use dnp_objects::LANES;
-use sqlite::{Alter, Connection};
+use sqlite::{Alter, Connection, MemStore};
 use std::alloc::Global;
 use thiserror::Error;
 
@@ -178,5 +179,32 @@ impl<S: Alter> Queue<S> {
         ensures { result ≡ self.now.owned }
     {
         self.owned
+    }
+}
+
+impl Queue<MemStore> {
+    /// Empty lanes in a new database in memory, which take this many rows each, 1 to `MAX_CAPACITY`.
+    ///
+    /// Memory where it ran out; Device where the database failed otherwise.
+    pub fn in_memory(alloc: Global, capacities: [u32; LANES]) -> Result<Queue<MemStore>, OpenFault>
+        requires { All (λ capacity. (1 ≤ capacity) × (capacity ≤ MAX_CAPACITY)) capacities }
+        ensures honest { IfOk result (IsHonest over_memory) }
+        ensures empty { IfOk result (λ q. q.stock ≡ empty_stock capacities) }
+    {
+        let Ok(conn) = Connection::open_in_memory(alloc) else {
+            return Err(OpenFault::Memory);
+        };
+        match Queue::create(alloc, conn, capacities) {
+            Ok(queue) => Ok(queue),
+            Err((fault, _)) => Err(fault),
+        }
+    }
+
+    /// Whether the queue is honest still: it has not answered Device, and its database is its own. So what
+    /// was promised under that premise held up to this moment.
+    pub fn is_well(&self) -> bool
+        ensures { IsTrue result → IsHonest over_memory self.now }
+    {
+        self.serves() && self.owns_database()
     }
 }
