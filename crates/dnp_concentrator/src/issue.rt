@@ -1,6 +1,6 @@
 //! Controls that are issued.
 
-ghost use Rattle.std.specs.Prelude.{◌≡◌, ◌≢◌, ◌+◌, ◌<◌, ◌≤◌, ◌↔◌, None, Err, IsTrue, IfOk, IfErr, IfSome, OnOk};
+ghost use Rattle.std.specs.Prelude.{◌≡◌, ◌≢◌, ◌+◌, ◌<◌, ◌≤◌, ◌↔◌, None, Err, is_some, IsTrue, IfOk, IfErr, IfSome, OnOk};
 ghost use Rattle.dnp_controls.specs.Book.{added};
 ghost use Rattle.dnp_objects.specs.declared.limits.TheConstants.{MAX_ID};
 ghost use Rattle.dnp_concentrator.specs.Centre.{book_of, indices_of, journal_of, link_of};
@@ -51,6 +51,14 @@ fn add<B: Book>(alloc: Global, book: &mut B, command: &Command) -> Result<u64, I
 }
 
 impl<J: JournalStore, B: Book> Centre<J, B> {
+    /// Whether the substation has the output or setpoint of a command, whose index is the substation's own: `issue` then
+    /// finds it.
+    pub fn has_output(&self, station: u8, command: &Command) -> bool
+        ensures { result ≡ is_some (command_above (indices_of self.now) station command.now) }
+    {
+        self.map.command_above(station, command).is_some()
+    }
+
     /// Issues a command to a substation's output or setpoint, whose index is the substation's own: it stands
     /// in the book, pending, under the id that is answered, with the index above.
     ///

@@ -51,7 +51,7 @@ impl Task {
 
     /// Whether the task can be asked: a class is named, to enable and to disable none but 1 to 3, and a
     /// time has 48 bits.
-    pub(crate) fn is_good(&self) -> bool
+    pub fn is_good(&self) -> bool
         ensures { result ≡ is_good self.now }
     {
         match self {
