@@ -1,5 +1,5 @@
 -- Rows that are queued above can be carried by their lanes.
-use Rattle.std.proofs.Common.{◌≡◌, ℕ, zero, suc, List, [], ◌∷◌, ◌++◌, length, drop, ◌≤◌, Option, Some, None, refl, sym, ◌∙◌, ap, subst, arith, append-nil}
+use Rattle.std.proofs.Common.{◌≡◌, ℕ, zero, suc, List, [], ◌∷◌, ◌++◌, length, drop, ◌≤◌, ◌<◌, ◌^◌, Option, Some, None, refl, sym, ◌∙◌, ap, subst, arith, append-nil}
 use Rattle.std.specs.Option.{option_map, option_and_then}
 use Rattle.std.specs.List.{All, cons_option}
 use Rattle.std.proofs.lemmas.List.{drop_all}
@@ -15,8 +15,9 @@ use Rattle.dnp_pointdb.specs.Plan as points
 use Rattle.dnp_pointdb.specs.Events.{lane_of}
 use Rattle.dnp_concentrator.specs.declared.span.Spans.{Spans}
 use Rattle.dnp_concentrator.specs.IndexKinds.{kind_of_points}
-use Rattle.dnp_concentrator.specs.IndexMap.{index_above}
+use Rattle.dnp_concentrator.specs.IndexMap.{IsMap, index_above}
 use Rattle.dnp_concentrator.specs.Mapped.{lane_row, queued_row, queued_rows}
+use Rattle.dnp_concentrator.proofs.Mapping.{in_range}
 
 -- ---- one row
 
@@ -28,45 +29,47 @@ kind_is (suc (suc (suc zero))) kind lane e = grind (arith, e)
 kind_is (suc (suc (suc (suc n)))) kind lane e = absurd (grind (arith, e))
 
 lane_carries : (class : ℕ) (row : Row) (x : LaneRow) (o : Option Lane) → lane_of class row.kind ≡ o
-    → option_map (λ (lane : Lane). let y : LaneRow = record { lane = lane; row = row } in y) o ≡ Some x → IsEvent row → IsCarried x
-lane_carries class row x None is e event = absurd (grind (arith, e))
-lane_carries class row x (Some lane) is e event =
+    → option_map (λ (lane : Lane). let y : LaneRow = record { lane = lane; row = row } in y) o ≡ Some x → IsEvent row → row.index < 2 ^ 16 → IsCarried x
+lane_carries class row x None is e event low = absurd (grind (arith, e))
+lane_carries class row x (Some lane) is e event low =
     let y : LaneRow = record { lane = lane; row = row } in
     let same : y ≡ x = grind (arith, e) in
-    let carried : IsCarried y = record { of_its_kind = kind_is class row.kind lane is; fits = event } in
+    let carried : IsCarried y = record { of_its_kind = kind_is class row.kind lane is; fits = event; index = low } in
     subst IsCarried same carried
 
 class_carries : (row : Row) (x : LaneRow) (o : Option ℕ)
     → option_and_then (λ (class : ℕ). option_map (λ (lane : Lane). let y : LaneRow = record { lane = lane; row = row } in y)
     (lane_of class row.kind)) o ≡ Some x
-    → IsEvent row → IsCarried x
-class_carries row x None e event = absurd (grind (arith, e))
-class_carries row x (Some class) e event = lane_carries class row x (lane_of class row.kind) refl e event
+    → IsEvent row → row.index < 2 ^ 16 → IsCarried x
+class_carries row x None e event low = absurd (grind (arith, e))
+class_carries row x (Some class) e event low = lane_carries class row x (lane_of class row.kind) refl e event low
 
-index_carries : (plan : points.Plan) (row : Row) (x : LaneRow) (o : Option ℕ)
+index_carries : (spans : List Spans) → IsMap spans → (plan : points.Plan) (station : ℕ) (row : Row) (x : LaneRow) (o : Option ℕ)
+    → index_above spans station (kind_of_points row.kind) row.index ≡ o
     → option_and_then (lane_row plan) (option_map (λ (index : ℕ). record row { index = index }) o) ≡ Some x → IsEvent row → IsCarried x
-index_carries plan row x None e event = absurd (grind (arith, e))
-index_carries plan row x (Some index) e event =
+index_carries spans m plan station row x None is e event = absurd (grind (arith, e))
+index_carries spans m plan station row x (Some index) is e event =
     let above : Row = record row { index = index } in
-    class_carries above x (class_at plan row.kind index) e event
+    class_carries above x (class_at plan row.kind index) e event (in_range spans (kind_of_points row.kind) station row.index index m is)
 
-queued_carried : (spans : List Spans) (plan : points.Plan) (station : ℕ) (row : Row) (o : Option LaneRow) → queued_row spans plan station row ≡ o
+queued_carried : (spans : List Spans) → IsMap spans → (plan : points.Plan) (station : ℕ) (row : Row) (o : Option LaneRow)
+    → queued_row spans plan station row ≡ o
     → IsEvent row → (more : List LaneRow) → All IsCarried more → All IsCarried (cons_option o more)
-queued_carried spans plan station row None e event more all = all
-queued_carried spans plan station row (Some x) e event more all =
-    let first : IsCarried x = index_carries plan row x (index_above spans station (kind_of_points row.kind) row.index) e event in
+queued_carried spans m plan station row None e event more all = all
+queued_carried spans m plan station row (Some x) e event more all =
+    let first : IsCarried x = index_carries spans m plan station row x (index_above spans station (kind_of_points row.kind) row.index) refl e event in
     all_more first all
   where
     all_more : IsCarried x → All IsCarried more → All IsCarried (x ∷ more)
     all_more first all zero d lt = first
     all_more first all (suc i) d lt = all i d (omega arith)
 
-pub all_carried : (spans : List Spans) (plan : points.Plan) (station : ℕ) (rows : List Row) → All IsEvent rows
+pub all_carried : (spans : List Spans) → IsMap spans → (plan : points.Plan) (station : ℕ) (rows : List Row) → All IsEvent rows
     → All IsCarried (queued_rows spans plan station rows)
-all_carried spans plan station [] events = λ i d lt. absurd (omega arith)
-all_carried spans plan station (row ∷ rows) events =
-    queued_carried spans plan station row (queued_row spans plan station row) refl (All-head IsEvent row rows events)
-    (queued_rows spans plan station rows) (all_carried spans plan station rows (All-tail IsEvent row rows events))
+all_carried spans m plan station [] events = λ i d lt. absurd (omega arith)
+all_carried spans m plan station (row ∷ rows) events =
+    queued_carried spans m plan station row (queued_row spans plan station row) refl (All-head IsEvent row rows events)
+    (queued_rows spans plan station rows) (all_carried spans m plan station rows (All-tail IsEvent row rows events))
 
 -- ---- all rows
 

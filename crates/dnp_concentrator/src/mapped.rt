@@ -104,6 +104,8 @@ pub fn queued_rows(
     ensures rows { IfOk result (λ rows. rows.items ≡ spec.queued_rows map.now points.now station events.now) }
     ensures carried { All IsEvent events.now → IfOk result (λ rows. All IsCarried rows.items) }
 {
+    // To count the substations is to know that their indices above have 16 bits.
+    prove!(map.substations() <= MAX_SUBSTATIONS);
     let mut rows = Vec::with_capacity(alloc, events.len())?;
     for event in events {
         if let Some(row) = queued_row(map, points, station, event) {

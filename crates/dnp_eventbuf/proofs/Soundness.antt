@@ -98,6 +98,7 @@ pub fits_number : (x : LaneRow) → IsCarried x → (of : Lane) → lane_number 
 fits_number x carried of same = record {
   of_its_kind = carried.of_its_kind ∙ same_kind x.lane.kind of.kind (x.lane.class - 1) (of.class - 1) (sym same);
   fits = carried.fits;
+  index = carried.index;
 }
 
 pub IsSound-with_row : (s : Stock) (x : LaneRow) → IsSound s → IsCarried x → is_past (with_row s x) ≡ false → IsSound (with_row s x)

@@ -13,5 +13,7 @@ use dnp_objects::{LaneRow, is_event};
 pub fn is_carried(x: &LaneRow) -> bool
     ensures { IsTrue result ↔ IsCarried x.now }
 {
+    let index = x.row.index;
+    prove!(index <= u16::MAX);
     x.row.kind == x.lane.kind && is_event(&x.row)
 }

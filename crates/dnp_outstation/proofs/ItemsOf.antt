@@ -1,9 +1,8 @@
 -- What is so of all rows of the lanes and of all present values is so of the items of a READ.
-use Rattle.std.proofs.Common.{◌≡◌, Bool, true, false, if◌then◌else◌, refl, subst, ℕ, zero, suc, ◌+◌, ◌<◌, ◌≤◌, ◌^◌, ◌==◌, ◌&&◌, nat_le, nat_lt, List, [], ◌∷◌, ◌++◌, map, drop, fold, length, slice_index, arith, Option, None, Some}
+use Rattle.std.proofs.Common.{◌≡◌, Bool, true, false, if◌then◌else◌, refl, subst, ℕ, zero, suc, ◌+◌, ◌<◌, ◌≤◌, ◌==◌, ◌&&◌, nat_le, nat_lt, List, [], ◌∷◌, ◌++◌, map, drop, fold, length, slice_index, arith, Option, None, Some}
 use Rattle.std.specs.List.{All, filter}
 use Rattle.std.proofs.lemmas.List.Elements.{All-nil, All-append, All-map, All-filter, All-take, All-drop, All-weaker}
 use Rattle.dnp_objects.specs.Lanes.{lane_number}
-use Rattle.dnp_objects.specs.Events.{IsEvent}
 use Rattle.dnp_objects.specs.declared.lane.Lane.{Lane}
 use Rattle.dnp_objects.specs.declared.limits.TheConstants.{LANES}
 use Rattle.dnp_objects.specs.declared.row.Kind.TheVariants.{Binary, Counter, Analog}
@@ -153,20 +152,18 @@ lane_of (suc (suc (suc (suc (suc (suc (suc (suc zero)))))))) low =
     (record { class = 3; kind = Analog; at_least_1 = omega arith; at_most_3 = omega arith }, refl)
 lane_of (suc (suc (suc (suc (suc (suc (suc (suc (suc n))))))))) low = absurd (omega arith)
 
-lane_events : (s : Stock) (lane : ℕ) → IsSound s → lane < LANES → All (λ x. IsEvent x.row) (lane_at s lane).rows
-lane_events s lane sound low =
-    let of = lane_of lane low in
-    All-weaker (λ (x : Numbered). IsCarried (record { lane = of.0; row = x.row })) (λ (x : Numbered). IsEvent x.row) (λ x h. h.fits) (lane_at s lane).rows
-    ((sound.each lane low).carried of.0 of.1)
-
-events_stand : (s : Stock) (lane : ℕ) → IsSound s → lane < LANES → All (λ x. x.row.index < 2 ^ 16) (lane_at s lane).rows
+events_stand : (s : Stock) (lane : ℕ) → IsSound s → lane < LANES
     → All (λ x. (header : ℕ) → CanStand (event_of header lane x)) (lane_at s lane).rows
-events_stand s lane sound low short = λ k d within header. (lane_events s lane sound low k d within, short k d within)
+events_stand s lane sound low =
+    let of = lane_of lane low in
+    All-weaker (λ (x : Numbered). IsCarried (record { lane = of.0; row = x.row }))
+    (λ (x : Numbered). (header : ℕ) → CanStand (event_of header lane x))
+    (λ x h header. (h.fits, h.index)) (lane_at s lane).rows ((sound.each lane low).carried of.0 of.1)
 
 all_stand : (s : Source) → IsSound s.lanes → AreWritable s → AreAll CanStand s
 all_stand s sound writable = record {
-  events = λ lane low. events_stand s.lanes lane sound low (writable.events lane low);
-  present = λ group k d within header. writable.present group k d within;
+  events = λ lane low. events_stand s.lanes lane sound low;
+  present = λ group k d within header. writable group k d within;
 }
 
 pub left_stand : (s : Source) (stood : ℕ) (place : Place) (headers : List Head) → IsSound s.lanes → AreWritable s
@@ -191,12 +188,11 @@ held_low s stood place headers = read_are IsLow s stood place headers (record {
 })
 
 pub pushed_stand : (s : Stock) (enabled : List Bool) → IsSound s → length enabled ≤ 3
-    → ((lane : ℕ) → lane < LANES → All (λ x. x.row.index < 2 ^ 16) (lane_at s lane).rows)
     → All CanGo (held_laid (lane_items s (enabled_lanes 0 enabled)))
-pushed_stand s enabled sound few short =
+pushed_stand s enabled sound few =
     let items = lane_items s (enabled_lanes 0 enabled) in
     held_are_laid CanGo items
-    (laid_go items (lane_items_are CanStand s (enabled_lanes 0 enabled) (λ lane low k d within. events_stand s lane sound low (short lane low) k d within 0)
+    (laid_go items (lane_items_are CanStand s (enabled_lanes 0 enabled) (λ lane low k d within. events_stand s lane sound low k d within 0)
     (enabled_low 0 enabled (omega arith))))
 
 pub pushed_low : (s : Stock) (enabled : List Bool) → length enabled ≤ 3 → All IsLow (held_of (lane_items s (enabled_lanes 0 enabled)))

@@ -26,7 +26,7 @@ use Rattle.dnp_outstation.specs.Items.{Item, no_ids, first_place, last_in, items
 use Rattle.dnp_outstation.specs.Layout.{Laid, item_of, headers_of, fits_fragment}
 use Rattle.dnp_outstation.specs.Offer.{held_laid, last_ids, Filled, offered_of, pushed}
 use Rattle.dnp_outstation.specs.Laws.{rows_in_lane, AreRowsUpto, IsTidy}
-use Rattle.dnp_outstation.specs.Said.{CanGo, AreWritable, HaveIndexes}
+use Rattle.dnp_outstation.specs.Said.{CanGo, AreWritable}
 use Rattle.dnp_outstation.specs.Links.{Reports}
 use Rattle.dnp_outstation.specs.State.{State}
 use Rattle.dnp_outstation.specs.Content.{Content, plain, content_from, content_of, read_content, source_of, indications}
@@ -107,13 +107,13 @@ read_reports law s o stood place headers answered sound writable tidy nine same 
     (held_low (source_of s o) stood place headers) (held_fits items) (fragment_rows (source_of s o) stood place headers sound tidy nine)
 
 -- an unsolicited response
-pushed_reports : ReportLaws → (s : Stock) (enabled : List Bool) (answered : Answered) → IsSound s → HaveIndexes s → length enabled ≤ 3
+pushed_reports : ReportLaws → (s : Stock) (enabled : List Bool) (answered : Answered) → IsSound s → length enabled ≤ 3
     → answered.headers ≡ (pushed s enabled).headers
     → IsControl answered.control → is_response answered.function ≡ true → Reports s (response_octets answered) answered.control (pushed s enabled).upto
 unfolding offered_of
-pushed_reports law s enabled answered sound indexes few same control function =
+pushed_reports law s enabled answered sound few same control function =
     let items = lane_items s (enabled_lanes 0 enabled) in
-    reports law s answered (held_laid items) sound same control function (pushed_stand s enabled sound few indexes) (pushed_low s enabled few) (held_fits items)
+    reports law s answered (held_laid items) sound same control function (pushed_stand s enabled sound few) (pushed_low s enabled few) (held_fits items)
     (pushed_rows s enabled sound)
 
 -- ---- no rows
@@ -227,10 +227,10 @@ further_reports law s o stood place headers seq sound writable tidy nine small =
 abbrev pub unsolicited_control : ℕ → ControlBits
 unsolicited_control seq = record { fir = true; fin = true; con = true; uns = true; seq = seq }
 
-pub unsolicited_reports : ReportLaws → (s : State) → IsSound s.lanes → HaveIndexes s.lanes → length s.core.enabled ≤ 3 → s.core.session.next < 16
+pub unsolicited_reports : ReportLaws → (s : State) → IsSound s.lanes → length s.core.enabled ≤ 3 → s.core.session.next < 16
     → (let content = content_from (pushed s.lanes s.core.enabled) in
     Reports s.lanes (unsolicited_of s content) (record { fir = true; fin = true; con = true; uns = true; seq = s.core.session.next }) content.upto)
-unsolicited_reports law s sound indexes few small =
+unsolicited_reports law s sound few small =
     let content = content_from (pushed s.lanes s.core.enabled) in
     pushed_reports law s.lanes s.core.enabled
     (record {
@@ -239,7 +239,7 @@ unsolicited_reports law s sound indexes few small =
       iin = indications s content.upto content.bits;
       headers = content.headers;
     })
-    sound indexes few refl small refl
+    sound few refl small refl
 
 pub first_unsolicited_reports : ReportLaws → (s : State) → IsSound s.lanes → s.core.session.next < 16
     → Reports s.lanes (unsolicited_of s (plain 0 [])) (record { fir = true; fin = true; con = true; uns = true; seq = s.core.session.next }) no_ids

@@ -15,7 +15,7 @@ use Rattle.dnp_pointdb.specs.Ranges.{is_carried}
 use Rattle.dnp_pointdb.specs.Sound.{IsSound, IsSoundBlock, IsSoundPoint, static_object}
 use Rattle.dnp_outstation.specs.Items.{Source, Static, statics_from, statics_in, output_row, outputs_from}
 use Rattle.dnp_outstation.specs.Putting.{group_of}
-use Rattle.dnp_outstation.specs.Said.{AreWritable, HaveIndexes}
+use Rattle.dnp_outstation.specs.Said.{AreWritable}
 use Rattle.dnp_outstation.proofs.OfferPresent.{point_fits, output_fits}
 
 abbrev CanBeWritten : Static → Type 0
@@ -53,11 +53,8 @@ outputs_fit status index (suc n) shown few =
     (outputs_fit status (index + 1) n (λ k low. shown k (omega arith)) (omega arith))
 
 pub present_can_be_written : ReadingsFit → (s : Source) → IsSound s.points → s.panel.outputs ≤ 2 ^ 16
-    → ((index : ℕ) → index < s.panel.outputs → s.panel.status index < 2 ^ 8) → HaveIndexes s.lanes → AreWritable s
-present_can_be_written fit s sound few shown have = record {
-  events = have;
-  present = λ group. by (group == 1) (group == 10) (group == 20) (group == 30);
-}
+    → ((index : ℕ) → index < s.panel.outputs → s.panel.status index < 2 ^ 8) → AreWritable s
+present_can_be_written fit s sound few shown = λ group. by (group == 1) (group == 10) (group == 20) (group == 30)
   where
     by : (a b c d : Bool) → All CanBeWritten
         (if a then statics_in 1 Binary 0 (blocks_of s.points Binary)

@@ -1,5 +1,5 @@
 -- What the octets of a response say is what it holds, and what a release of its ids takes.
-use Rattle.std.proofs.Common.{◌≡◌, true, sym, subst, ℕ, ◌<◌, ◌≤◌, ◌^◌, Bool, List, map, length, Ok}
+use Rattle.std.proofs.Common.{◌≡◌, true, sym, subst, ℕ, ◌≤◌, Bool, List, map, length, Ok}
 use Rattle.std.specs.List.{All}
 use Rattle.std.specs.List.Sorted.{IsPermutation}
 use Rattle.std.proofs.lemmas.List.Elements.{recursion_from_All}
@@ -13,7 +13,7 @@ use Rattle.dnp_appfragment.specs.declared.table.Form.TheVariants as form
 use Rattle.dnp_appfragment.specs.Meaning.{response_at}
 use Rattle.dnp_appfragment.specs.Table.{is_response}
 use Rattle.dnp_eventbuf.specs.Sound.{IsSound}
-use Rattle.dnp_eventbuf.specs.Stock.{Stock, lane_at, all_up_to}
+use Rattle.dnp_eventbuf.specs.Stock.{Stock, all_up_to}
 use Rattle.dnp_outstation.specs.declared.offer.place.Place.{Place}
 use Rattle.dnp_outstation.specs.Items.{Item, Source, no_ids, items_left, enabled_lanes, lane_items}
 use Rattle.dnp_outstation.specs.Layout.{Laid, item_of, headers_of, fits_fragment}
@@ -79,12 +79,11 @@ fragment_says said s stood place headers sound writable tidy nine =
     (fragment_rows s stood place headers sound tidy nine)
 
 pub pushed_says : RowsAreSaid → (s : Stock) (enabled : List Bool) → IsSound s → length enabled ≤ 3
-    → ((lane : ℕ) → lane < LANES → All (λ x. x.row.index < 2 ^ 16) (lane_at s lane).rows)
     → IsPermutation (rows_said (pushed s enabled).headers) (all_up_to s (pushed s enabled).upto)
 unfolding offered_of
-pushed_says said s enabled sound few short =
+pushed_says said s enabled sound few =
     let items = lane_items s (enabled_lanes 0 enabled) in
-    said_and_released said s (held_laid items) sound (pushed_stand s enabled sound few short) (pushed_low s enabled few) (held_fits items)
+    said_and_released said s (held_laid items) sound (pushed_stand s enabled sound few) (pushed_low s enabled few) (held_fits items)
     (pushed_rows s enabled sound)
 
 pub fragment_is : ResponsesAreSaid → (answered : Answered) (s : Source) (stood : ℕ) (place : Place) (headers : List Head)
@@ -98,8 +97,8 @@ fragment_is said answered s stood place headers same control function sound writ
 
 pub pushed_is : ResponsesAreSaid → (answered : Answered) (s : Stock) (enabled : List Bool) → answered.headers ≡ (pushed s enabled).headers
     → IsControl answered.control → is_response answered.function ≡ true → IsSound s → length enabled ≤ 3
-    → ((lane : ℕ) → lane < LANES → All (λ x. x.row.index < 2 ^ 16) (lane_at s lane).rows) → response_at (response_octets answered) ≡ Ok answered
+    → response_at (response_octets answered) ≡ Ok answered
 unfolding offered_of
-pushed_is said answered s enabled same control function sound few short =
+pushed_is said answered s enabled same control function sound few =
     let items = lane_items s (enabled_lanes 0 enabled) in
-    said answered (held_laid items) same control function (pushed_stand s enabled sound few short) (held_fits items)
+    said answered (held_laid items) same control function (pushed_stand s enabled sound few) (held_fits items)

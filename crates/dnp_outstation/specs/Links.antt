@@ -57,6 +57,11 @@ pub record KeepsConnection (old new : State) : Type 0 where
   pub times : new.core.times ≡ old.core.times
   pub lanes : new.lanes ≡ old.lanes
 
+-- its points, whatever was read of them, and its times are as they were
+pub record KeepsPoints (old new : Core) : Type 0 where
+  pub points : new.points ≡ old.points
+  pub times : new.times ≡ old.times
+
 -- ---- unsolicited responses
 
 -- a connection begins

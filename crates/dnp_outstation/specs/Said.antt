@@ -3,10 +3,8 @@
 use Rattle.std.specs.Prelude.{◌≡◌, ℕ, ◌<◌, ◌^◌, List, Option, None, Some, All}
 use Rattle.std.specs.List.{filter_map}
 use Rattle.dnp_objects.specs.Events.{IsEvent}
-use Rattle.dnp_objects.specs.declared.limits.TheConstants.{LANES}
 use Rattle.dnp_objects.specs.declared.row.Row.{Row}
 use Rattle.dnp_appfragment.specs.Written.{FitsPoint}
-use Rattle.dnp_eventbuf.specs.Stock.{Stock, lane_at}
 use Rattle.dnp_outstation.specs.Items.{Thing, Item, Source, statics_of}
 use Rattle.dnp_outstation.specs.Items.Thing.{Event, Present}
 use Rattle.dnp_outstation.specs.Layout.{Laid, own_object}
@@ -37,11 +35,6 @@ pub record CanGo (x : Laid) : Type 0 where
   pub stands : CanStand x.item
   pub says : x.object ≡ own_object x.item.thing
 
--- the indexes of the lanes' rows have 16 bits
-abbrev pub HaveIndexes : Stock → Type 0
-HaveIndexes s = (lane : ℕ) → lane < LANES → All (λ x. x.row.index < 2 ^ 16) (lane_at s lane).rows
-
--- the rows that a READ may give can be written
-pub record AreWritable (s : Source) : Type 0 where
-  pub events : HaveIndexes s.lanes
-  pub present : (group : ℕ) → All (λ x. FitsPoint x.group x.row × (x.row.index < 2 ^ 16)) (statics_of s group)
+-- the present values that a READ may give can be written
+abbrev pub AreWritable : Source → Type 0
+AreWritable s = (group : ℕ) → All (λ x. FitsPoint x.group x.row × (x.row.index < 2 ^ 16)) (statics_of s group)

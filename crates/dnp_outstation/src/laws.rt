@@ -22,7 +22,7 @@ ghost use Rattle.dnp_outstation.specs.Items.{Source, Item, no_ids, items_left, e
 ghost use Rattle.dnp_outstation.specs.Layout.{Laid, laid, item_of, object_of, headers_of, response_size, fits_fragment};
 ghost use Rattle.dnp_outstation.specs.Offer.{held_laid, held_of, offered_of, offered, pushed};
 ghost use Rattle.dnp_outstation.specs.Laws.{IsLongest, rows_by_lane, AreRowsUpto, IsTidy, LeavesOnly, AreNext, IsOnward, AreGiven, AreBefore};
-ghost use Rattle.dnp_outstation.specs.Said.{events_in, CanGo, HaveIndexes, AreWritable};
+ghost use Rattle.dnp_outstation.specs.Said.{events_in, CanGo, AreWritable};
 ghost use Rattle.dnp_outstation.specs.State.{State};
 ghost use Rattle.dnp_outstation.specs.Connection.{closed};
 ghost use Rattle.dnp_outstation.specs.Calls.{connection_after, tick_of, change_of, opened_of, restart_of};
@@ -132,9 +132,9 @@ pub fn a_release_takes_what_the_octets_said()
         (all_up_to s.lanes (offered s stood place headers).upto) }
     ensures unsolicited_read { (answered : Answered) (s : Stock) (enabled : List Bool)
         → answered.headers ≡ (pushed s enabled).headers → IsControl answered.control
-        → is_response answered.function ≡ true → IsSound s → length enabled ≤ 3 → HaveIndexes s
+        → is_response answered.function ≡ true → IsSound s → length enabled ≤ 3
         → response_at (response_octets answered) ≡ Ok answered }
-    ensures unsolicited { (s : Stock) (enabled : List Bool) → IsSound s → length enabled ≤ 3 → HaveIndexes s
+    ensures unsolicited { (s : Stock) (enabled : List Bool) → IsSound s → length enabled ≤ 3
         → IsPermutation (rows_said (pushed s enabled).headers) (all_up_to s (pushed s enabled).upto) }
 {
     octets_say_what_is_held();

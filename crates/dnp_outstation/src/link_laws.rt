@@ -15,7 +15,7 @@ ghost use Rattle.dnp_pointdb.specs.Sound as points;
 ghost use Rattle.dnp_controls.specs.Panel.{Panel};
 ghost use Rattle.dnp_controls.specs.Selecting.{Select, deadline};
 ghost use Rattle.dnp_eventbuf.specs.Sound.{IsSound};
-ghost use Rattle.dnp_eventbuf.specs.Stock.{Stock, with_rows, without, without_all};
+ghost use Rattle.dnp_eventbuf.specs.Stock.{Stock};
 ghost use Rattle.dnp_outstation.specs.declared.case.Case.TheVariants as case;
 ghost use Rattle.dnp_outstation.specs.declared.offer.place.Place.{Place};
 ghost use Rattle.dnp_outstation.specs.declared.session.Awaited.{Awaited};
@@ -25,7 +25,7 @@ ghost use Rattle.dnp_outstation.specs.declared.session.Unsolicited.{Unsolicited}
 ghost use Rattle.dnp_outstation.specs.Items.{Source, no_ids, items_left};
 ghost use Rattle.dnp_outstation.specs.Offer.{pushed};
 ghost use Rattle.dnp_outstation.specs.Laws.{IsTidy};
-ghost use Rattle.dnp_outstation.specs.Said.{AreWritable, HaveIndexes};
+ghost use Rattle.dnp_outstation.specs.Said.{AreWritable};
 ghost use Rattle.dnp_outstation.specs.Links.{Reports, KeepsConnection, EndsAs, begun, Performs, IsSelected, IsMade, Releases, ReleasesNone, unsolicited_confirmed, ExecutesNothing, CaseSays, IsInOrder};
 ghost use Rattle.dnp_outstation.specs.State.{Core, State, Step, nothing, sending, still, with_session, holds_read};
 ghost use Rattle.dnp_outstation.specs.Content.{Content, content_of, content_from, plain, read_content, source_of};
@@ -36,7 +36,6 @@ ghost use Rattle.dnp_outstation.specs.Calls.{connection_after, tick_of, change_o
 use crate::laws::octets_say_what_is_held;
 use dnp_appfragment::laws::{octets_say_a_request, what_is_spelled_is_said};
 use dnp_controls::laws::an_operate_is_answered_by_its_select;
-use dnp_eventbuf::laws::ids_are_used_once;
 use dnp_eventbuf::link_laws::{a_release_is_by_ids, each_row_stands_once};
 use dnp_objects::Command;
 use dnp_objects::laws::parts_are_covered;
@@ -57,7 +56,7 @@ pub fn fragments_report_the_rows_up_to_their_ids()
         → IsSound s.lanes → AreWritable (source_of s o) → IsTidy s.lanes place.given → length place.given ≡ LANES → seq < 16
         → (let content = read_content s o stood place headers in
         Reports s.lanes (fragment_of s false seq content) (control_for false seq content) content.upto) }
-    ensures unsolicited { (s : State) → IsSound s.lanes → HaveIndexes s.lanes → length s.core.enabled ≤ 3
+    ensures unsolicited { (s : State) → IsSound s.lanes → length s.core.enabled ≤ 3
         → s.core.session.next < 16
         → (let content = content_from (pushed s.lanes s.core.enabled) in
         Reports s.lanes (unsolicited_of s content)
@@ -73,23 +72,12 @@ pub fn fragments_report_the_rows_up_to_their_ids()
     each_row_stands_once();
 }
 
-/// What a READ may give can be written where the points are sound, outputs show octets at indexes of 16 bits, and
-/// so have the rows of the lanes.
+/// What a READ may give can be written where the points are sound and outputs show octets at indexes of 16 bits.
 pub fn what_is_sound_can_be_written()
     ensures { (s : Source) → points.IsSound s.points → s.panel.outputs ≤ 2 ^ 16
-        → ((index : ℕ) → index < s.panel.outputs → s.panel.status index < 2 ^ 8) → HaveIndexes s.lanes → AreWritable s }
+        → ((index : ℕ) → index < s.panel.outputs → s.panel.status index < 2 ^ 8) → AreWritable s }
 {
     readings_fit_their_static_objects();
-}
-
-/// Rows whose index has 16 bits stay so, whatever is released, emptied or appended like them.
-pub fn indexes_keep_their_bits()
-    ensures released { (s : Stock) (upto : List ℕ) → HaveIndexes s → HaveIndexes (without s upto) }
-    ensures emptied { (s : Stock) → HaveIndexes (without_all s) }
-    ensures appended { (s : Stock) (rows : List LaneRow) → All (λ x. x.row.index < 2 ^ 16) rows → HaveIndexes s
-        → HaveIndexes (with_rows s rows) }
-{
-    ids_are_used_once();
 }
 
 /// A fragment that asks for no confirm reports no rows. Where a READ has no item left, the fragment is the

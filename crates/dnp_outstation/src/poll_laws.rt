@@ -14,7 +14,7 @@ ghost use Rattle.dnp_outstation.specs.Items.{enabled_lanes, lane_items};
 ghost use Rattle.dnp_outstation.specs.Layout.{headers_of};
 ghost use Rattle.dnp_outstation.specs.Offer.{held_laid};
 ghost use Rattle.dnp_outstation.specs.Polled.{Awaits, Offers, Releases, confirm_octets, poll_octets, polled_ids, reported};
-ghost use Rattle.dnp_outstation.specs.Said.{AreWritable, HaveIndexes};
+ghost use Rattle.dnp_outstation.specs.Said.{AreWritable};
 ghost use Rattle.dnp_outstation.specs.State.{Core, State, is_quiet};
 ghost use Rattle.dnp_outstation.specs.declared.case.Case.TheVariants as case;
 ghost use Rattle.dnp_outstation.specs.declared.session.Unsolicited.{Unsolicited};
@@ -46,7 +46,7 @@ pub fn a_quiet_outstation_offers_its_events()
 /// What a fragment holds of the rows of these classes: its octets say them in the order of the lanes, and a release of its ids
 /// takes them in this order. The confirm of an unsolicited response is known by its number.
 pub fn a_fragment_of_classes_is_said_and_released()
-    ensures said { (s : Stock) (enabled : List Bool) → IsSound s → length enabled ≤ 3 → HaveIndexes s
+    ensures said { (s : Stock) (enabled : List Bool) → IsSound s → length enabled ≤ 3
         → rows_said (headers_of (held_laid (lane_items s (enabled_lanes 0 enabled)))) ≡ (reported s enabled).rows }
     ensures released { (s : Stock) (enabled : List Bool) → IsSound s → length enabled ≤ 3
         → all_up_to s (reported s enabled).ids ≡ (reported s enabled).rows }

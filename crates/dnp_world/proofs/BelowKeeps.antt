@@ -90,7 +90,6 @@ points_set s l database sound j = record {
     lanes = j.outstation.lanes;
     well = record {
       lanes = j.outstation.well.lanes;
-      indexes = j.outstation.well.indexes;
       points = sound;
       order = record {
         number = j.outstation.well.order.number;

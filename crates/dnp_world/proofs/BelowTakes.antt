@@ -1,9 +1,8 @@
 -- Rows that a substation's master takes: they happened there, and come into the queue above, which keeps what stands behind the system.
-use Rattle.std.proofs.Common.{◌≡◌, ◌≢◌, ℕ, ◌+◌, ◌<◌, ◌^◌, Bool, false, List, [], ◌∷◌, ◌++◌, length, drop, Some, IfOk, refl, sym, ap, ◌∙◌, subst, append-nil, arith}
+use Rattle.std.proofs.Common.{◌≡◌, ◌≢◌, ℕ, ◌+◌, ◌<◌, Bool, false, List, [], ◌∷◌, ◌++◌, length, drop, Some, IfOk, refl, sym, ap, ◌∙◌, subst, append-nil, arith}
 use Rattle.std.specs.Prelude.{slice_get, slice_set, IfSome, ⊤}
 use Rattle.std.specs.List.{All, count_by}
 use Rattle.std.proofs.lemmas.List.{drop_all, length-map}
-use Rattle.std.proofs.lemmas.List.Elements.{All-weaker}
 use Rattle.dnp_concentrator.specs.Below.{link_in, readings_set}
 use Rattle.dnp_concentrator.specs.IndexMap.{IsMap}
 use Rattle.dnp_concentrator.specs.Mapped.{queued_rows}
@@ -52,7 +51,7 @@ use Rattle.dnp_world.proofs.Counting.{count_by-append}
 use Rattle.dnp_world.proofs.HappenedRows.{all_at, all_counted}
 use Rattle.dnp_world.proofs.JoinedRuns.{append_follows, append_of, listed}
 use Rattle.dnp_world.proofs.ListedAt.{set_here, listed_here, listed_there}
-use Rattle.dnp_world.proofs.QueuedRows.{IsTaken, LowIndexes, StaySound, all_taken, readings_sound}
+use Rattle.dnp_world.proofs.QueuedRows.{LowIndexes, StaySound, all_taken, readings_sound}
 use Rattle.dnp_world.proofs.SystemCounts.{count_by-map, same_is, same_refl}
 use Rattle.dnp_world.proofs.SystemMapping.{RowsBack, queued_undone}
 use Rattle.dnp_world.proofs.SystemPlans.{asked_still, link_here, link_there, still_of_plan}
@@ -65,7 +64,7 @@ pub record ArrivalLaws : Type 0 where
       → HasSameCounts (rows_of (h.links.below station).stood) (of_station station (happened (report_of s)))
   pub rows : IsEqualityTest row_eq
   pub appends : (s : State) (rows : List LaneRow) (l : Link) → All IsCarried rows → exhausts s.lanes rows ≡ false
-      → All (λ x. x.row.index < 2 ^ 16) rows → Shows s l → Simulates s (arriving rows) (append_of s rows) l
+      → Shows s l → Simulates s (arriving rows) (append_of s rows) l
   pub lost : (s : Stock) (rows : List LaneRow) → IsSound s → lost_in (with_rows s rows) ≡ lost_in s + length (dropped_by s rows)
   pub queued : (plan : Plan) (station : ℕ) (substation : SubPlan) (m : master.State) (now : ℕ) (octets : List ℕ)
       → KeepsLimits plan → IsMap (map_of plan) → slice_get plan.substations station ≡ Some substation
@@ -115,17 +114,16 @@ abbrev queued_on : System → RowLists → List LaneRow → LinkState ⊤
 queued_on s lists rows =
     record (with_others_rows rows (seen_above s lists)) { left = lists.left ++ dropped_by s.concentrator.queue rows }
 
-queued_follows : ArrivalLaws → (old : System) (h : IsStanding old) (rows : List LaneRow) → All IsTaken rows
+queued_follows : ArrivalLaws → (old : System) (h : IsStanding old) (rows : List LaneRow) → All IsCarried rows
     → exhausts old.concentrator.queue rows ≡ false
     → Follows [] (arriving rows) [] (middle_of old.concentrator).performed h.links.above (queued_on old (lists_of h.links.above) rows)
-queued_follows laws old h rows taken fits =
+queued_follows laws old h rows carried fits =
     let l : Link = h.links.above in
     let s : LinkState ⊤ = seen_above old (lists_of l) in
     let dropped : List Row = dropped_by old.concentrator.queue rows in
     let f : Follows ([] ++ dropped) (arriving rows) [] (middle_of old.concentrator).performed l (with_others_rows rows s) =
     append_follows [] s l rows h.above
-    (laws.appends s.outstation rows l (All-weaker IsTaken IsCarried (λ x t. t.0) rows taken) fits
-    (All-weaker IsTaken (λ x. x.row.index < 2 ^ 16) (λ x t. t.1) rows taken) h.above.outstation) in
+    (laws.appends s.outstation rows l carried fits h.above.outstation) in
     record {
       link = f.link;
       moves = f.moves;

@@ -4,12 +4,9 @@ use Rattle.std.specs.List.{All}
 use Rattle.std.specs.Prelude.{slice_get, IfSome}
 use Rattle.dnp_objects.specs.declared.lane.LaneRow.{LaneRow}
 use Rattle.dnp_objects.specs.declared.row.Kind.{Kind}
-use Rattle.dnp_objects.specs.Events.{IsEvent}
 use Rattle.dnp_controls.specs.Panel.{Panel}
-use Rattle.dnp_eventbuf.specs.Carried.{IsCarried}
-use Rattle.dnp_eventbuf.specs.Sound.{IsSound}
-use Rattle.dnp_eventbuf.specs.Stock.{Stock, arriving, with_rows, exhausts}
-use Rattle.dnp_pointdb.specs.Database.{Database, answer_of}
+use Rattle.dnp_eventbuf.specs.Stock.{arriving, exhausts}
+use Rattle.dnp_pointdb.specs.Database.{answer_of}
 use Rattle.dnp_pointdb.specs.declared.reading.Reading.{Reading}
 use Rattle.dnp_outstation.specs.Calls.{connection_after, tick_of, change_of, opened_of, restart_of, emptied_of}
 use Rattle.dnp_outstation.specs.Connection.{closed}
@@ -35,7 +32,7 @@ pub record OutstationLaws : Type 0 where
       → Shows s l → Stands l → l.down ≡ down_of octets ∷ rest → Simulates s [] (connection_after s o now octets) l
   pub ticks : (s : State) (now : ℕ) (l : Link) → Shows s l → Stands l → Simulates s [] (tick_of s now) l
   pub changes : (s : State) (now : ℕ) (kind : Kind) (index : ℕ) (reading : Reading) (made : Option LaneRow) (l : Link)
-      → answer_of s.core.points kind index reading ≡ Ok made → index < 2 ^ 16 → IsSound (with_rows s.lanes (option_to_list made))
+      → answer_of s.core.points kind index reading ≡ Ok made → IfSome made (λ row. exhausts s.lanes (row ∷ []) ≡ false)
       → Shows s l → Stands l
       → Simulates s (arriving (option_to_list made)) (change_of s now kind index reading made) l
   pub closes : (s : State) (l : Link) → Shows s l → Simulates s [] (still (record s { core = closed s.core })) l
@@ -45,9 +42,6 @@ pub record OutstationLaws : Type 0 where
       → connection_after s o now octets ≡ still s
   pub silent_ticked : (s : State) (now : ℕ) → s.core.is_open ≡ false → tick_of s now ≡ still s
   pub ends : (now : ℕ) (step : Step) → EndsAs now step
-  pub sound : (s : Stock) (rows : List LaneRow) → IsSound s → All IsCarried rows → exhausts s rows ≡ false → IsSound (with_rows s rows)
-  pub carried : (database : Database) (kind : Kind) (index : ℕ) (reading : Reading)
-      → IfOk (answer_of database kind index reading) (λ made. IfSome made (λ x. (x.row.kind ≡ x.lane.kind) × IsEvent x.row))
 
 -- of a master
 pub record MasterLaws : Type 0 where

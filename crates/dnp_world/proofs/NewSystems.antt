@@ -1,6 +1,6 @@
 -- Links on which nothing has happened stand behind a new system over empty stores, and its report shows nothing.
 use Rattle.std.proofs.Common.{◌≡◌, ℕ, true, false, zero, suc, ◌+◌, ◌<◌, ◌≤◌, ◌^◌, List, [], ◌∷◌, ◌++◌, length, map, Option, Some, None, refl, sym, ap, ◌∙◌, subst, arith}
-use Rattle.std.specs.Prelude.{All, slice_get, slice_index_or, IfSome}
+use Rattle.std.specs.Prelude.{All, slice_get, IfSome}
 use Rattle.std.proofs.lemmas.List.Elements.{All-head, All-nil, All-tail, All-weaker}
 use Rattle.std.proofs.lemmas.List.Sorted.{IsPermutation-refl}
 use Rattle.dnp_concentrator.specs.Addresses.{outstation_address}
@@ -20,13 +20,12 @@ use Rattle.dnp_controls.specs.declared.book.Entry.{Entry}
 use Rattle.dnp_eventbuf.specs.Archive.{Archive}
 use Rattle.dnp_eventbuf.specs.Buffered.{buffered_as, buffered_from}
 use Rattle.dnp_eventbuf.specs.Sound as stock
-use Rattle.dnp_eventbuf.specs.Stock.{LaneState, Stock, empty_lane, empty_stock, lane_rows, lost_in, no_lane, row_of, rows_in}
+use Rattle.dnp_eventbuf.specs.Stock.{LaneState, Stock, empty_lane, empty_stock, lane_rows, lost_in, row_of, rows_in}
 use Rattle.dnp_eventbuf.specs.declared.numbered.Numbered.{Numbered}
 use Rattle.dnp_master.specs.State.{new_state}
 use Rattle.dnp_objects.specs.declared.command.Command.{Command}
 use Rattle.dnp_objects.specs.declared.limits.TheConstants.{LANES}
 use Rattle.dnp_objects.specs.declared.row.Row.{Row}
-use Rattle.dnp_outstation.specs.Said.{HaveIndexes}
 use Rattle.dnp_outstation.specs.Station.{new_core}
 use Rattle.dnp_pointdb.specs.Database.{Database, new_database}
 use Rattle.dnp_pointdb.specs.Plan as points
@@ -57,7 +56,7 @@ pub record NewLaws : Type 0 where
       → stock.IsSound (empty_stock capacities)
   pub fresh : (s : Stock) → stock.IsSound s → IsFresh (fresh_link s) × HasLanes s (fresh_link s)
   pub shown : (base : Database) (times : Times) (lanes : Stock) (performed : List Command) → database.IsSound base → stock.IsSound lanes
-      → HaveIndexes lanes → Shows (record { core = new_core base times; lanes = lanes; performed = performed }) (fresh_link lanes)
+      → Shows (record { core = new_core base times; lanes = lanes; performed = performed }) (fresh_link lanes)
   pub opened : Opened
 
 -- ---- lanes without rows
@@ -66,21 +65,11 @@ first_none : (xs : List Numbered) (rows : List Row) → map row_of xs ++ rows �
 first_none [] rows e = (refl, e)
 first_none (x ∷ xs) rows e = absurd (cc)
 
-none_at : (lanes : List LaneState) (number : ℕ) → lane_rows lanes ≡ [] → (slice_index_or lanes number no_lane).rows ≡ []
-none_at [] zero e = refl
-none_at [] (suc number) e = refl
-none_at (lane ∷ lanes) zero e = (first_none lane.rows (lane_rows lanes) e).0
-none_at (lane ∷ lanes) (suc number) e = none_at lanes number (first_none lane.rows (lane_rows lanes) e).1
-
 none_buffered : (number : ℕ) (lanes : List LaneState) → lane_rows lanes ≡ [] → buffered_from number lanes ≡ []
 none_buffered number [] e = refl
 none_buffered number (lane ∷ lanes) e =
     ap (λ (rows : List Numbered). map (buffered_as number) rows ++ buffered_from (number + 1) lanes) (first_none lane.rows (lane_rows lanes) e).0
     ∙ none_buffered (number + 1) lanes (first_none lane.rows (lane_rows lanes) e).1
-
-no_indexes : (s : Stock) → rows_in s ≡ [] → HaveIndexes s
-no_indexes s e = λ lane low.
-    subst (All (λ (x : Numbered). x.row.index < 2 ^ 16)) (sym (none_at s.lanes lane e)) (All-nil (λ (x : Numbered). x.row.index < 2 ^ 16))
 
 none_in : (capacities : List ℕ) → lane_rows (map empty_lane capacities) ≡ []
 none_in [] = refl
@@ -109,7 +98,7 @@ new_joined_to : NewLaws → (base : Database) (asks : points.Plan) (times : Time
 new_joined_to laws base asks times lanes performed peer own sound new =
     let no_rows : List Row = [] in
     record {
-      outstation = laws.shown base times lanes performed sound new.sound (no_indexes lanes new.none);
+      outstation = laws.shown base times lanes performed sound new.sound;
       master = refl;
       number = omega arith;
       going_down = [];

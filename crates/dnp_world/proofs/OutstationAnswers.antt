@@ -13,7 +13,6 @@ use Rattle.dnp_outstation.specs.Connection.{asks_confirm, control_for, fragment_
 use Rattle.dnp_outstation.specs.Items.{last_in}
 use Rattle.dnp_outstation.specs.Content.{Content, Executed}
 use Rattle.dnp_outstation.specs.Links.{Reports, KeepsConnection}
-use Rattle.dnp_outstation.specs.Said.{HaveIndexes}
 use Rattle.dnp_outstation.specs.State.{State, Step, with_session}
 use Rattle.dnp_world.specs.Lanes.{HasLanes}
 use Rattle.dnp_world.specs.Link as link
@@ -31,7 +30,6 @@ pub record SeesRest (t : State) (l : Link) : Type 0 where
   pub next : t.core.session.next ≡ l.outstation.next
   pub lanes : HasLanes t.lanes l
   pub sound : IsSound t.lanes
-  pub indexes : HaveIndexes t.lanes
   pub points : points.IsSound t.core.points
 
 pub rest_seen : (s : State) (l : Link) → Sees s l → SeesRest s l
@@ -41,7 +39,6 @@ rest_seen s l sees = record {
   next = ap (λ (o : Outstation). o.next) sees.outstation;
   lanes = sees.lanes;
   sound = sees.sound;
-  indexes = sees.indexes;
   points = sees.points;
 }
 
@@ -53,7 +50,6 @@ kept_rest t x l rest keeps = record {
   next = keeps.next ∙ rest.next;
   lanes = record { rows = rest.lanes.rows ∙ ap buffered_in (sym keeps.lanes); last_id = rest.lanes.last_id ∙ ap (λ (y : Stock). y.last_id) (sym keeps.lanes) };
   sound = subst IsSound (sym keeps.lanes) rest.sound;
-  indexes = subst HaveIndexes (sym keeps.lanes) rest.indexes;
   points = subst points.IsSound (sym keeps.points) rest.points;
 }
   where
@@ -110,7 +106,6 @@ goes_responds t now stood seq c was_more l sees last_is number reports nine =
             sees.is_open refl refl sees.report sees.next;
         lanes = record { rows = sees.lanes.rows; last_id = sees.lanes.last_id };
         sound = sees.sound;
-        indexes = sees.indexes;
         points = sees.points;
         ids = record { awaited = awaited_ids (asks_confirm c) w nine; first = nine };
       };
@@ -149,7 +144,6 @@ goes_further t now stood seq c a l rest sees last_is request_is more_left down_i
             sees.next;
         lanes = record { rows = sees.lanes.rows; last_id = sees.lanes.last_id };
         sound = sees.sound;
-        indexes = sees.indexes;
         points = sees.points;
         ids = record { awaited = awaited_ids (asks_confirm c) w nine; first = tt };
       };
@@ -187,7 +181,6 @@ goes_replied t now seq None time l sees last_is none_awaited none number made =
           sees.is_open (sym last_is) (ap (λ (w : Option Awaited). option_map awaited_seen w) none ∙ sym none_awaited) sees.report sees.next;
       lanes = sees.lanes;
       sound = sees.sound;
-      indexes = sees.indexes;
       points = sees.points;
       ids = record { awaited = subst (λ (w : Option Awaited). IfSome w (λ x. length x.upto ≡ LANES)) (sym none) tt; first = tt };
     }

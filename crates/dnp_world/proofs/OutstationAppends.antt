@@ -1,5 +1,5 @@
 -- Rows that anybody appends to the lanes of an outstation, as moves of its link.
-use Rattle.std.proofs.Common.{◌≡◌, ℕ, zero, suc, ◌+◌, ◌<◌, ◌^◌, Bool, true, false, if◌then◌else◌, ◌||◌, nat_lt, List, [], ◌∷◌, ◌++◌, refl, sym, ap, ◌∙◌, subst, arith, append-nil, slice_set, slice_index_or}
+use Rattle.std.proofs.Common.{◌≡◌, ℕ, zero, suc, ◌+◌, ◌<◌, Bool, true, false, if◌then◌else◌, ◌||◌, nat_lt, List, [], ◌∷◌, ◌++◌, refl, sym, ap, ◌∙◌, subst, arith, append-nil, slice_set, slice_index_or}
 use Rattle.std.specs.List.{All, list_any}
 use Rattle.std.proofs.lemmas.Bool.{both_ways, lt-ltb, ltb-true}
 use Rattle.std.proofs.lemmas.List.Elements.{All-nil, All-cons, All-head, All-tail}
@@ -104,13 +104,12 @@ appends laws s (x ∷ rows) l sound carried fits seen =
       outstation = rest.outstation;
     }
 
-pub appends_simulate : AppendLaws → (s : State) (rows : List LaneRow) (l : Link) → All IsCarried rows → exhausts s.lanes rows ≡ false
-    → All (λ x. x.row.index < 2 ^ 16) rows → Shows s l
+pub appends_simulate : AppendLaws → (s : State) (rows : List LaneRow) (l : Link) → All IsCarried rows → exhausts s.lanes rows ≡ false → Shows s l
     → Simulates s (arriving rows) (record {
       state = record s { lanes = with_rows s.lanes rows };
       does = record nothing { overwritten = dropped_by s.lanes rows };
     }) l
-appends_simulate laws s rows l carried fits small shows =
+appends_simulate laws s rows l carried fits shows =
     let all : Appended s.lanes rows l = appends laws s.lanes rows l shows.well.lanes carried fits shows.lanes in
     goes_simulates s (arriving rows) [] (record {
       state = record s { lanes = with_rows s.lanes rows };
@@ -123,7 +122,6 @@ appends_simulate laws s rows l carried fits small shows =
         outstation = shows.outstation ∙ sym all.outstation;
         lanes = all.lanes;
         sound = laws.sound s.lanes rows shows.well.lanes carried fits;
-        indexes = laws.rows.indexes s.lanes rows small shows.well.indexes;
         points = shows.well.points;
         ids = shows.well.ids;
       };

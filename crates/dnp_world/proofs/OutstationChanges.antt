@@ -1,26 +1,31 @@
 -- A change of a point, and a row that anybody appends to the lanes, as moves of an outstation's link.
-use Rattle.std.proofs.Common.{◌≡◌, ℕ, ◌<◌, ◌^◌, List, [], ◌∷◌, ◌++◌, map, refl, sym, ap, ◌∙◌, subst, append-nil, Option, Some, None, IfSome, option_to_list, Result, Ok, Err}
+use Rattle.std.proofs.Common.{◌≡◌, ℕ, ◌+◌, ◌-◌, ◌<◌, ◌≤◌, ◌^◌, Bool, true, false, if◌then◌else◌, nat_lt, nat_le, List, [], ◌∷◌, ◌++◌, length, map, refl, sym, ap, ◌∙◌, subst, append-nil, arith, Option, Some, None, IfSome, option_to_list, Result, Ok, Err, IfOk}
+use Rattle.std.specs.Prelude.{slice_get}
 use Rattle.std.specs.List.{All}
 use Rattle.std.proofs.lemmas.List.{map-append}
-use Rattle.std.proofs.lemmas.List.Elements.{All-nil, All-cons}
+use Rattle.std.proofs.lemmas.Bool.{and_parts, ltb-true}
+use Rattle.std.proofs.lemmas.List.Elements.{All-nil, All-cons, All-head, All-tail}
+use Rattle.std.proofs.lemmas.Option.{none-some}
+use Rattle.dnp_objects.specs.Events.{IsEvent}
 use Rattle.dnp_objects.specs.Lanes.{IsLane}
 use Rattle.dnp_objects.specs.declared.lane.LaneRow.{LaneRow}
 use Rattle.dnp_objects.specs.declared.row.Kind.{Kind}
 use Rattle.dnp_objects.specs.declared.row.Row.{Row}
 use Rattle.dnp_eventbuf.specs.Buffered.{buffered_next, buffered_row}
+use Rattle.dnp_eventbuf.specs.Carried.{IsCarried}
 use Rattle.dnp_eventbuf.specs.Sound.{IsSound}
-use Rattle.dnp_eventbuf.specs.Stock.{Stock, arriving, with_rows, dropped_by}
+use Rattle.dnp_eventbuf.specs.Stock.{Stock, arriving, with_rows, dropped_by, exhausts}
 use Rattle.dnp_pointdb.specs.declared.fault.ChangeFault.{ChangeFault}
 use Rattle.dnp_pointdb.specs.declared.point.Point.{Point}
 use Rattle.dnp_pointdb.specs.declared.reading.Reading.{Reading}
 use Rattle.dnp_pointdb.specs.declared.reading.Report.{Report}
+use Rattle.dnp_pointdb.specs.declared.state.BlockState.{BlockState}
 use Rattle.dnp_pointdb.specs.declared.state.PointState.{PointState}
-use Rattle.dnp_pointdb.specs.Database.{Database, answer_of, blocks_of, changed_of, checked, made_from, state_in}
+use Rattle.dnp_pointdb.specs.Database.{Database, answer_of, blocks_of, changed_of, checked, has_index, made_from, state_in}
 use Rattle.dnp_pointdb.specs.Events.{event_of, row_of}
 use Rattle.dnp_pointdb.specs.Sound as points
 use Rattle.dnp_outstation.specs.Calls.{change_of}
 use Rattle.dnp_outstation.specs.Links.{IsInOrder}
-use Rattle.dnp_outstation.specs.Said.{HaveIndexes}
 use Rattle.dnp_outstation.specs.State.{State, Step, nothing}
 use Rattle.dnp_outstation.specs.Tidy.{LeavesNothing}
 use Rattle.dnp_world.specs.Lanes.{HasLanes, dropped_for, lane_appended}
@@ -36,12 +41,14 @@ pub record RowLaws : Type 0 where
   pub appended : (s : Stock) (x : LaneRow) (l : Link) → IsSound s → HasLanes s l
       → Moves l (lane_appended s x l) × HasLanes (with_rows s (x ∷ [])) (lane_appended s x l)
   pub dropped : (s : Stock) (x : LaneRow) → map buffered_row (dropped_for s x) ≡ dropped_by s (x ∷ [])
-  pub indexes : (s : Stock) (rows : List LaneRow) → All (λ x. x.row.index < 2 ^ 16) rows → HaveIndexes s → HaveIndexes (with_rows s rows)
 
 -- of a change
 pub record ChangeLaws : Type 0 where
   pub ends : EndLaws
   pub rows : RowLaws
+  pub sound : (s : Stock) (rows : List LaneRow) → IsSound s → All IsCarried rows → exhausts s rows ≡ false → IsSound (with_rows s rows)
+  pub carried : (database : Database) (kind : Kind) (index : ℕ) (reading : Reading)
+      → IfOk (answer_of database kind index reading) (λ made. IfSome made (λ x. (x.row.kind ≡ x.lane.kind) × IsEvent x.row))
   pub points : (database : Database) (kind : Kind) (index : ℕ) (reading : Reading) → points.IsSound database
       → points.IsSound (changed_of database kind index reading)
   pub row : (kind : Kind) (index : ℕ) (point : Point) (last : Report) (reading : Reading)
@@ -75,9 +82,9 @@ appended_grows laws s x l sound seen = record {
 }
 
 goes_written : RowLaws → (s : State) (database : Database) (made : Option LaneRow) (l : Link) → Sees s l → points.IsSound database
-    → IsSound (with_rows s.lanes (option_to_list made)) → IfSome made (λ x. x.row.index < 2 ^ 16)
+    → IsSound (with_rows s.lanes (option_to_list made))
     → Goes (arriving (option_to_list made)) [] (written s database (option_to_list made)) l
-goes_written laws s database None l sees sound_points sound small = record {
+goes_written laws s database None l sees sound_points sound = record {
   link = l;
   sent = [];
   grown = grown_none l;
@@ -85,28 +92,52 @@ goes_written laws s database None l sees sound_points sound small = record {
     outstation = sees.outstation;
     lanes = sees.lanes;
     sound = sees.sound;
-    indexes = sees.indexes;
     points = sound_points;
     ids = sees.ids;
   };
   octets = refl;
 }
-goes_written laws s database (Some x) l sees sound_points sound small =
-    let P : LaneRow → Type 0 = λ y. y.row.index < 2 ^ 16 in
-    record {
-      link = lane_appended s.lanes x l;
-      sent = [];
-      grown = appended_grows laws s.lanes x l sees.sound sees.lanes;
-      sees = record {
-        outstation = sees.outstation;
-        lanes = (laws.appended s.lanes x l sees.sound sees.lanes).1;
-        sound = sound;
-        indexes = laws.indexes s.lanes (x ∷ []) (All-cons P x [] small (All-nil P)) sees.indexes;
-        points = sound_points;
-        ids = sees.ids;
-      };
-      octets = refl;
-    }
+goes_written laws s database (Some x) l sees sound_points sound = record {
+  link = lane_appended s.lanes x l;
+  sent = [];
+  grown = appended_grows laws s.lanes x l sees.sound sees.lanes;
+  sees = record {
+    outstation = sees.outstation;
+    lanes = (laws.appended s.lanes x l sees.sound sees.lanes).1;
+    sound = sound;
+    points = sound_points;
+    ids = sees.ids;
+  };
+  octets = refl;
+}
+
+-- ---- an index that the points have is one of 16 bits
+
+low_in : (kind : Kind) (index : ℕ) (state : PointState) (blocks : List BlockState) → All (points.IsSoundBlock kind) blocks
+    → state_in blocks index ≡ Some state → index < 2 ^ 16
+low_in kind index state [] sound e = absurd (none-some state e)
+low_in kind index state (block ∷ blocks) sound e =
+    by (has_index block index) refl (λ there. low_in kind index state blocks (All-tail (points.IsSoundBlock kind) block blocks sound) there) e
+  where
+    by : (b : Bool) → has_index block index ≡ b → (state_in blocks index ≡ Some state → index < 2 ^ 16)
+        → (if b then slice_get block.points (index - block.base) else state_in blocks index) ≡ Some state → index < 2 ^ 16
+    by true has others there =
+        let parts = and_parts (nat_le block.base index) (nat_lt index (block.base + length block.points)) has in
+        let below : index < block.base + length block.points = ltb-true index (block.base + length block.points) parts.1 in
+        let narrow : block.base + length block.points ≤ 65536 = (All-head (points.IsSoundBlock kind) block blocks sound).narrow in
+        omega (arith, below, narrow)
+    by false has others there = others there
+
+low_if : (kind : Kind) (index : ℕ) (reading : Reading) (made : Option LaneRow) (blocks : List BlockState)
+    → All (points.IsSoundBlock kind) blocks
+    → (o : Option PointState) → state_in blocks index ≡ o → made_from kind index reading (checked o kind reading) ≡ Ok made → index < 2 ^ 16
+low_if kind index reading made blocks sound None there e = absurd (cc)
+low_if kind index reading made blocks sound (Some state) there e = low_in kind index state blocks sound there
+
+index_low : (database : Database) (kind : Kind) (index : ℕ) (reading : Reading) (made : Option LaneRow) → points.IsSound database
+    → answer_of database kind index reading ≡ Ok made → index < 2 ^ 16
+index_low database kind index reading made sound e =
+    low_if kind index reading made (blocks_of database kind) (sound kind).each (state_in (blocks_of database kind) index) refl e
 
 -- ---- a change
 
@@ -133,15 +164,32 @@ small_index : (index : ℕ) (made : Option LaneRow) → index < 2 ^ 16 → IfSom
 small_index index None small is = tt
 small_index index (Some x) small is = subst (λ (n : ℕ). n < 2 ^ 16) (sym is) small
 
+-- the lanes stay sound
+sound_after : ChangeLaws → (lanes : Stock) (made : Option LaneRow) → IsSound lanes → IfSome made (λ row. exhausts lanes (row ∷ []) ≡ false)
+    → IfSome made (λ x. (x.row.kind ≡ x.lane.kind) × IsEvent x.row) → IfSome made (λ x. x.row.index < 2 ^ 16)
+    → IsSound (with_rows lanes (option_to_list made))
+sound_after laws lanes None sound room event low = sound
+sound_after laws lanes (Some x) sound room event low =
+    let carried : IsCarried x = record { of_its_kind = event.0; fits = event.1; index = low } in
+    laws.sound lanes (x ∷ []) sound (All-cons IsCarried x [] carried (All-nil IsCarried)) room
+
+of_ok : {F : Type 0} (P : Option LaneRow → Type 0) (r : Result (Option LaneRow) F) (made : Option LaneRow) → r ≡ Ok made → IfOk r P → P made
+of_ok {F = F} P r made e h = subst (λ (r : Result (Option LaneRow) F). IfOk r P) e h
+
 pub change_simulates : ChangeLaws → (s : State) (now : ℕ) (kind : Kind) (index : ℕ) (reading : Reading) (made : Option LaneRow) (l : Link)
-    → answer_of s.core.points kind index reading ≡ Ok made → index < 2 ^ 16 → IsSound (with_rows s.lanes (option_to_list made)) → Shows s l → Stands l
+    → answer_of s.core.points kind index reading ≡ Ok made → IfSome made (λ row. exhausts s.lanes (row ∷ []) ≡ false) → Shows s l → Stands l
     → Simulates s (arriving (option_to_list made)) (change_of s now kind index reading made) l
-change_simulates laws s now kind index reading made l is small sound shows stands =
+change_simulates laws s now kind index reading made l is room shows stands =
+    let Event : LaneRow → Type 0 = λ x. (x.row.kind ≡ x.lane.kind) × IsEvent x.row in
+    let event : IfSome made Event = of_ok (λ m. IfSome m Event) (answer_of s.core.points kind index reading) made is
+    (laws.carried s.core.points kind index reading) in
+    let low : IfSome made (λ x. x.row.index < 2 ^ 16) =
+    small_index index made (index_low s.core.points kind index reading made shows.well.points is) (made_index laws s.core.points kind index reading made is) in
+    let sound : IsSound (with_rows s.lanes (option_to_list made)) = sound_after laws s.lanes made shows.well.lanes room event low in
     let database : Database = changed_of s.core.points kind index reading in
     let order : IsInOrder (change_of s now kind index reading made).state.core = laws.order s now kind index reading made shows.well.order in
     let goes : Goes (arriving (option_to_list made)) [] (written s database (option_to_list made)) l =
-    goes_written laws.rows s database made l (shown_sees s l shows) (laws.points s.core.points kind index reading shows.well.points) sound
-    (small_index index made small (made_index laws s.core.points kind index reading made is)) in
+    goes_written laws.rows s database made l (shown_sees s l shows) (laws.points s.core.points kind index reading shows.well.points) sound in
     goes_simulates s (arriving (option_to_list made)) [] (change_of s now kind index reading made) l
     (laws.performed s now kind index reading made ∙ sym (append-nil s.performed)) order (laws.tidy s now kind index reading made shows.well.tidy)
     (goes_end laws.ends (arriving (option_to_list made)) [] now (written s database (option_to_list made)) l stands order.classes goes)
@@ -155,7 +203,6 @@ points_shown s database l sound shows = record {
   lanes = shows.lanes;
   well = record {
     lanes = shows.well.lanes;
-    indexes = shows.well.indexes;
     points = sound;
     order = record {
       number = shows.well.order.number;

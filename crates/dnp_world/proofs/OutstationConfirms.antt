@@ -116,7 +116,6 @@ confirmed_sees laws s w l sees nine =
           (ap (λ (o : Outstation). o.report) sees.outstation) (ap (λ (o : Outstation). o.next) sees.outstation);
       lanes = record { rows = lanes.rows; last_id = lanes.last_id };
       sound = laws.sound s.lanes w.upto sees.sound nine;
-      indexes = laws.indexes s.lanes w.upto sees.indexes;
       points = sees.points;
       ids = record { awaited = tt; first = marked_ids s.core.session.last sees.ids.first };
     }
@@ -142,7 +141,7 @@ goes_on_goes answers laws t o now seq (Some last) l rest shown sees last_is plac
         of_request (Ok r) there =
             let c : Content = read_content t o last.stood place r.headers in
             let tidy : IsTidy t.lanes place.given × (length place.given ≡ LANES) = places.tidy place is in
-            let writable : AreWritable (source_of t o) = answers.writable (source_of t o) sees.points shown.outputs shown.status sees.indexes in
+            let writable : AreWritable (source_of t o) = answers.writable (source_of t o) sees.points shown.outputs shown.status in
             let a : link.LastRequest = last_seen t.core.session last in
             let seen : l.outstation.last ≡ Some a =
             sym (ap (λ (o : Outstation). o.last) sees.outstation)

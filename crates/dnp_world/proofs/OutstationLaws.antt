@@ -20,7 +20,7 @@ use Rattle.dnp_outstation.specs.declared.session.Unsolicited.{Unsolicited}
 use Rattle.dnp_outstation.specs.Items.{Source}
 use Rattle.dnp_outstation.specs.Offer.{pushed}
 use Rattle.dnp_outstation.specs.Laws.{IsTidy}
-use Rattle.dnp_outstation.specs.Said.{AreWritable, HaveIndexes}
+use Rattle.dnp_outstation.specs.Said.{AreWritable}
 use Rattle.dnp_outstation.specs.Links.{Reports, KeepsConnection, EndsAs, Performs, ExecutesNothing, CaseSays, IsInOrder, unsolicited_confirmed}
 use Rattle.dnp_outstation.specs.State.{Core, State, Step, nothing, sending, still, holds_read}
 use Rattle.dnp_outstation.specs.Content.{Content, content_of, content_from, read_content, source_of}
@@ -34,7 +34,7 @@ use Rattle.dnp_world.specs.Moves.{released}
 
 -- of an unsolicited response, and of the end of a call
 pub record EndLaws : Type 0 where
-  pub unsolicited : (s : State) → IsSound s.lanes → HaveIndexes s.lanes → length s.core.enabled ≤ 3 → s.core.session.next < 16
+  pub unsolicited : (s : State) → IsSound s.lanes → length s.core.enabled ≤ 3 → s.core.session.next < 16
       → (let content : Content = content_from (pushed s.lanes s.core.enabled) in
       Reports s.lanes (unsolicited_of s content) (record { fir = true; fin = true; con = true; uns = true; seq = s.core.session.next }) content.upto)
   pub ends : (now : ℕ) (step : Step) → EndsAs now step
@@ -42,7 +42,7 @@ pub record EndLaws : Type 0 where
 -- of the answer to a request
 pub record AnswerLaws : Type 0 where
   pub writable : (s : Source) → points.IsSound s.points → s.panel.outputs ≤ 2 ^ 16
-      → ((index : ℕ) → index < s.panel.outputs → s.panel.status index < 2 ^ 8) → HaveIndexes s.lanes → AreWritable s
+      → ((index : ℕ) → index < s.panel.outputs → s.panel.status index < 2 ^ 8) → AreWritable s
   pub answer : (s after : State) (o : Panel) (now : ℕ) (octets : List ℕ) (seq : ℕ) (content : Content) → IsSound s.lanes → AreWritable (source_of s o)
       → All (λ octet. octet < 2 ^ 8) octets → seq < 16 → (content_at s o now octets).content ≡ Some content
       → Reports s.lanes (fragment_of after true seq content) (control_for true seq content) content.upto
@@ -56,7 +56,6 @@ pub record ReleaseLaws : Type 0 where
   pub given : (s : Stock) (upto : List ℕ) (l : Link) → length upto ≡ length s.lanes → HasLanes s l
       → map buffered_row (released upto l).released ≡ map buffered_row l.released ++ all_up_to s upto
   pub sound : (s : Stock) (upto : List ℕ) → IsSound s → length upto ≡ LANES → IsSound (without s upto)
-  pub indexes : (s : Stock) (upto : List ℕ) → HaveIndexes s → HaveIndexes (without s upto)
 
 -- of a response that goes on after a confirm
 pub record FurtherLaws : Type 0 where

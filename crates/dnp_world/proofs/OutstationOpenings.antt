@@ -15,7 +15,6 @@ use Rattle.dnp_outstation.specs.Connection.{closed, starts, at_end, unsolicited_
 use Rattle.dnp_outstation.specs.Content.{plain}
 use Rattle.dnp_outstation.specs.Items.{no_ids}
 use Rattle.dnp_outstation.specs.Links.{Reports, IsInOrder, begun}
-use Rattle.dnp_outstation.specs.Said.{HaveIndexes}
 use Rattle.dnp_outstation.specs.State.{State, Step, nothing, still}
 use Rattle.dnp_outstation.specs.Station.{new_core}
 use Rattle.dnp_outstation.specs.Tidy.{LeavesNothing}
@@ -31,14 +30,13 @@ use Rattle.dnp_world.proofs.OutstationTimers.{close_goes}
 
 -- ---- a new one
 
-pub new_shown : (database : Database) (times : Times) (lanes : Stock) (performed : List Command) → points.IsSound database → IsSound lanes → HaveIndexes lanes
+pub new_shown : (database : Database) (times : Times) (lanes : Stock) (performed : List Command) → points.IsSound database → IsSound lanes
     → Shows (record { core = new_core database times; lanes = lanes; performed = performed }) (fresh_link lanes)
-new_shown database times lanes performed sound_points sound indexes = record {
+new_shown database times lanes performed sound_points sound = record {
   outstation = refl;
   lanes = record { rows = refl; last_id = refl };
   well = record {
     lanes = sound;
-    indexes = indexes;
     points = sound_points;
     order = record { number = omega arith; classes = omega arith; held = λ holds. absurd (cc); several = λ more. absurd (cc) };
     tidy = record { awaited = tt; first = tt; unsolicited = tt };
@@ -64,7 +62,6 @@ begun_sees s l sees = record {
   outstation = refl;
   lanes = record { rows = sees.lanes.rows; last_id = sees.lanes.last_id };
   sound = sees.sound;
-  indexes = sees.indexes;
   points = sees.points;
   ids = record { awaited = tt; first = tt };
 }
@@ -101,7 +98,6 @@ module _ (ends : EndLaws) (laws : OpenLaws) (s : State) (now : ℕ) (l : Link) (
 pub record CloseLaws : Type 0 where
   pub lanes_emptied : (s : Stock) (l : Link) → HasLanes s l → Move l (lanes_emptied s l) × HasLanes (without_all s) (lanes_emptied s l)
   pub emptied : (s : Stock) → IsSound s → IsSound (without_all s)
-  pub indexes : (s : Stock) → HaveIndexes (without_all s)
   pub points : (database : Database) → points.IsSound database → points.IsSound (restarted database)
   pub order : (s : State) → IsInOrder s.core → IsInOrder (closed s.core)
   pub tidy : (s : State) → LeavesNothing (record s { core = closed s.core })
@@ -143,7 +139,6 @@ restart_goes laws s true l sees = record {
     outstation = refl;
     lanes = record { rows = sees.lanes.rows; last_id = sees.lanes.last_id };
     sound = sees.sound;
-    indexes = sees.indexes;
     points = laws.points s.core.points sees.points;
     ids = record { awaited = tt; first = tt };
   };
@@ -172,7 +167,6 @@ restart_goes laws s false l sees =
         outstation = refl;
         lanes = drops.1;
         sound = laws.emptied s.lanes sees.sound;
-        indexes = laws.indexes s.lanes;
         points = laws.points s.core.points sees.points;
         ids = record { awaited = tt; first = tt };
       };

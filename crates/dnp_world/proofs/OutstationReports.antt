@@ -50,7 +50,7 @@ held_answered answers laws t o now last l shown sees last_is held = by x.content
         let y : Executed = content_of t o t.core.session.request in
         let seq : ℕ = (control_in t.core.session.request).seq in
         let keeps : KeepsConnection t y.state = laws.keeps t o t.core.session.request in
-        let writable : AreWritable (source_of t o) = answers.writable (source_of t o) sees.points shown.outputs shown.status sees.indexes in
+        let writable : AreWritable (source_of t o) = answers.writable (source_of t o) sees.points shown.outputs shown.status in
         let seen : l.outstation.last ≡ Some (record { request = y.state.core.session.request; reply = NothingSent; more = is_some last.left }) =
         sym (ap (λ (o : Outstation). o.last) sees.outstation)
         ∙ ap (λ (z : Option LastRequest). option_map (last_seen t.core.session) z) last_is
@@ -79,7 +79,6 @@ confirmed_sees laws s w l sees nine =
       outstation = ap (λ (o : Outstation). record o { report = None }) sees.outstation;
       lanes = record { rows = lanes.rows; last_id = lanes.last_id };
       sound = laws.sound s.lanes w.upto sees.sound nine;
-      indexes = laws.indexes s.lanes w.upto sees.indexes;
       points = sees.points;
       ids = record { awaited = sees.ids.awaited; first = sees.ids.first };
     }

@@ -60,7 +60,6 @@ asked_rest s octets those l sees = record {
   next = ap (λ (o : Outstation). o.next) sees.outstation;
   lanes = record { rows = sees.lanes.rows; last_id = sees.lanes.last_id };
   sound = sees.sound;
-  indexes = sees.indexes;
   points = sees.points;
 }
 
@@ -73,7 +72,7 @@ goes_asks laws s o now octets those l rest shown small sees down_is opens other 
     let x : Executed = content_at t o now octets in
     let seq : ℕ = (control_in octets).seq in
     let keeps : KeepsConnection t x.state = laws.keeps t o now octets in
-    let writable : AreWritable (source_of t o) = laws.writable (source_of t o) sees.points shown.outputs shown.status sees.indexes in
+    let writable : AreWritable (source_of t o) = laws.writable (source_of t o) sees.points shown.outputs shown.status in
     let request : octets ≡ x.state.core.session.request = sym keeps.request in
     from_received (on_request s o now octets) l octets rest those down_is (sym (ap (λ (o : Outstation). o.is_open) sees.outstation) ∙ opens)
     (subst (λ (o : Outstation). IsOther octets o.last) sees.outstation (other_request s.core.session octets s.core.session.last other)) few
@@ -100,7 +99,6 @@ goes_waits s octets l rest sees down_is opens other =
           sees.outstation;
       lanes = record { rows = sees.lanes.rows; last_id = sees.lanes.last_id };
       sound = sees.sound;
-      indexes = sees.indexes;
       points = sees.points;
       ids = record { awaited = tt; first = tt };
     })
@@ -131,7 +129,6 @@ again_sees s now seq upto true l nine sees = record {
   outstation = ap (λ (o : Outstation). record o { awaited = Some (record { seq = seq; upto = upto }) }) sees.outstation;
   lanes = record { rows = sees.lanes.rows; last_id = sees.lanes.last_id };
   sound = sees.sound;
-  indexes = sees.indexes;
   points = sees.points;
   ids = record { awaited = nine; first = sees.ids.first };
 }
@@ -139,7 +136,6 @@ again_sees s now seq upto false l nine sees = record {
   outstation = ap (λ (o : Outstation). record o { awaited = option_map awaited_seen s.core.session.awaited }) sees.outstation;
   lanes = record { rows = sees.lanes.rows; last_id = sees.lanes.last_id };
   sound = sees.sound;
-  indexes = sees.indexes;
   points = sees.points;
   ids = sees.ids;
 }

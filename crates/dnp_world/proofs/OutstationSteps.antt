@@ -11,7 +11,6 @@ use Rattle.dnp_outstation.specs.Connection.{unsolicited_of, starts, at_end}
 use Rattle.dnp_outstation.specs.Content.{Content, content_from}
 use Rattle.dnp_outstation.specs.Links.{Reports, StartsOne, IsInOrder}
 use Rattle.dnp_outstation.specs.Offer.{pushed}
-use Rattle.dnp_outstation.specs.Said.{HaveIndexes}
 use Rattle.dnp_outstation.specs.State.{State, Step, still}
 use Rattle.dnp_outstation.specs.Tidy.{LeavesNothing}
 use Rattle.dnp_world.specs.Lanes.{HasLanes}
@@ -99,7 +98,6 @@ pub record Sees (s : State) (l : Link) : Type 0 where
   pub outstation : outstation_seen s.core ≡ l.outstation
   pub lanes : HasLanes s.lanes l
   pub sound : IsSound s.lanes
-  pub indexes : HaveIndexes s.lanes
   pub points : points.IsSound s.core.points
   pub ids : HaveIds s.core.session
 
@@ -108,7 +106,6 @@ shown_sees s l shows = record {
   outstation = shows.outstation;
   lanes = shows.lanes;
   sound = shows.well.lanes;
-  indexes = shows.well.indexes;
   points = shows.well.points;
   ids = shows.well.ids;
 }
@@ -146,7 +143,6 @@ goes_simulates s came commands step l performed order tidy goes = record {
     lanes = goes.sees.lanes;
     well = record {
       lanes = goes.sees.sound;
-      indexes = goes.sees.indexes;
       points = goes.sees.points;
       order = order;
       tidy = tidy;
@@ -222,7 +218,6 @@ goes_starts came commands now step c l none reports goes =
             (ap (λ (n : ℕ). Some (record { octets = octets; seq = n; upto = c.upto })) (sym seq)) (ap after next);
         lanes = record { rows = sees.lanes.rows; last_id = sees.lanes.last_id };
         sound = sees.sound;
-        indexes = sees.indexes;
         points = sees.points;
         ids = record { awaited = sees.ids.awaited; first = sees.ids.first };
       };
@@ -250,4 +245,4 @@ goes_end laws came commands now step l stands classes goes = elim (laws.ends now
         ap (λ (o : Outstation). o.next) goes.sees.outstation ∙ ((moves_stand l goes.link goes.grown.moves stands).unsolicited opens).number in
         let below : s.core.session.next < 16 = number_below (seq_in goes.link.reported.octets) s.core.session.next number in
         goes_starts came commands now step (content_from (pushed s.lanes s.core.enabled)) l one.awaits_no_unsolicited
-        (laws.unsolicited s goes.sees.sound goes.sees.indexes few below) goes
+        (laws.unsolicited s goes.sees.sound few below) goes

@@ -42,7 +42,6 @@ stops_waiting s l sees = record {
     outstation = ap (λ (o : Outstation). record o { awaited = None }) sees.outstation;
     lanes = record { rows = sees.lanes.rows; last_id = sees.lanes.last_id };
     sound = sees.sound;
-    indexes = sees.indexes;
     points = sees.points;
     ids = record { awaited = tt; first = sees.ids.first };
   };
@@ -106,7 +105,6 @@ repeat_goes t w ends repeats octets l sees stands opens is octets_are =
         outstation = ap (λ (x : Option link.AwaitedReport). record (outstation_seen t.core) { report = x }) (sym seen) ∙ sees.outstation;
         lanes = record { rows = sees.lanes.rows; last_id = sees.lanes.last_id };
         sound = sees.sound;
-        indexes = sees.indexes;
         points = sees.points;
         ids = record { awaited = sees.ids.awaited; first = sees.ids.first };
       };
@@ -128,7 +126,6 @@ close_goes s close l sees =
         outstation = refl;
         lanes = record { rows = sees.lanes.rows; last_id = sees.lanes.last_id };
         sound = sees.sound;
-        indexes = sees.indexes;
         points = sees.points;
         ids = record { awaited = tt; first = tt };
       };

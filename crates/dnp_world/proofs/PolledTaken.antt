@@ -23,7 +23,6 @@ use Rattle.dnp_outstation.specs.Items.{enabled_lanes, lane_items}
 use Rattle.dnp_outstation.specs.Layout.{headers_of}
 use Rattle.dnp_outstation.specs.Offer.{held_laid}
 use Rattle.dnp_outstation.specs.Polled.{Offers, confirm_octets, poll_octets, polled_held, polled_rows, reported}
-use Rattle.dnp_outstation.specs.Said.{HaveIndexes}
 use Rattle.dnp_outstation.specs.State as outstation
 use Rattle.dnp_pointdb.specs.Plan.{Plan}
 use Rattle.dnp_world.specs.Polled.{Takes}
@@ -31,7 +30,7 @@ use Rattle.dnp_world.specs.Rounds.{events_polled}
 
 -- what the crate of outstations promises of a fragment of some classes
 abbrev pub SaidLaw : Type 0
-SaidLaw = (s : Stock) (enabled : List Bool) → IsSound s → length enabled ≤ 3 → HaveIndexes s
+SaidLaw = (s : Stock) (enabled : List Bool) → IsSound s → length enabled ≤ 3
     → events_in (headers_of (held_laid (lane_items s (enabled_lanes 0 enabled)))) ≡ (reported s enabled).rows
 
 -- ---- asking
@@ -52,8 +51,8 @@ polled_by m now idle = ap (asked_by m now events_polled) (asks_polled m idle)
 
 -- ---- the rows of the fragment
 
-rows_are : SaidLaw → (s : Stock) → IsSound s → HaveIndexes s → events_in (headers_of (polled_held s)) ≡ polled_rows s
-rows_are law s sound indexes = law s (true ∷ true ∷ true ∷ []) sound (omega arith) indexes
+rows_are : SaidLaw → (s : Stock) → IsSound s → events_in (headers_of (polled_held s)) ≡ polled_rows s
+rows_are law s sound = law s (true ∷ true ∷ true ∷ []) sound (omega arith)
 
 all_pass : {A : Type 0} (p : A → Bool) (xs : List A) → All (λ x. p x ≡ true) xs → list_all p xs ≡ true
 all_pass p [] all = refl
@@ -126,10 +125,10 @@ module _ (m : State) (before now : ℕ) (opens : m.is_open ≡ true) (fragment :
       confirm_by false = refl
 
 pub takes_polled : SaidLaw → (m : State) (before now : ℕ) (s : outstation.State) (step : outstation.Step) → is_idle m ≡ true → IsSound s.lanes
-    → HaveIndexes s.lanes → (offer : Offers m.seq s step) → All (λ row. is_reported m.plan row ≡ true) (polled_rows s.lanes)
+    → (offer : Offers m.seq s step) → All (λ row. is_reported m.plan row ≡ true) (polled_rows s.lanes)
     → Takes m.seq (polled_rows s.lanes) offer.con (receive_of (asked m before events_polled) now offer.fragment)
-takes_polled law m before now s step idle sound indexes offer planned =
+takes_polled law m before now s step idle sound offer planned =
     let opens = (and_parts m.is_open (is_none m.request) idle).0 in
     subst (λ (a : State). Takes m.seq (polled_rows s.lanes) offer.con (receive_of a now offer.fragment)) (sym (polled_by m before idle))
     (takes m before now opens offer.fragment offer.answered _ offer.con (polled_rows s.lanes) offer.read offer.control offer.function
-    (ap events_in offer.headers ∙ rows_are law s.lanes sound indexes) planned)
+    (ap events_in offer.headers ∙ rows_are law s.lanes sound) planned)

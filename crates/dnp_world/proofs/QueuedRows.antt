@@ -1,5 +1,5 @@
 -- Rows that a concentrator queues: their lanes carry them, under indices that have 16 bits, and the points above stay sound.
-use Rattle.std.proofs.Common.{◌≡◌, ℕ, zero, suc, ◌<◌, ◌^◌, List, [], ◌∷◌, Option, Some, None, refl, sym, ap, subst, arith}
+use Rattle.std.proofs.Common.{◌≡◌, ℕ, zero, suc, ◌<◌, ◌^◌, List, [], ◌∷◌, Option, Some, None, refl, sym, subst, arith}
 use Rattle.std.specs.Option.{option_and_then, option_map}
 use Rattle.std.specs.List.{All}
 use Rattle.std.proofs.lemmas.List.Elements.{All-cons, All-head, All-nil, All-tail}
@@ -33,60 +33,51 @@ kind_is (suc (suc zero)) kind lane e = grind (arith, e)
 kind_is (suc (suc (suc zero))) kind lane e = grind (arith, e)
 kind_is (suc (suc (suc (suc n)))) kind lane e = absurd (grind (arith, e))
 
--- it is of this row, and its lane carries it
-abbrev Fits : Row → LaneRow → Type 0
-Fits row x = (row ≡ x.row) × IsCarried x
-
 in_lane : (class : ℕ) (row : Row) (x : LaneRow) (o : Option Lane) → lane_of class row.kind ≡ o
-    → option_map (λ (lane : Lane). let y : LaneRow = record { lane = lane; row = row } in y) o ≡ Some x → IsEvent row → Fits row x
-in_lane class row x None is e event = absurd (grind (arith, e))
-in_lane class row x (Some lane) is e event =
+    → option_map (λ (lane : Lane). let y : LaneRow = record { lane = lane; row = row } in y) o ≡ Some x → IsEvent row → row.index < 2 ^ 16 → IsCarried x
+in_lane class row x None is e event low = absurd (grind (arith, e))
+in_lane class row x (Some lane) is e event low =
     let y : LaneRow = record { lane = lane; row = row } in
     let same : y ≡ x = grind (arith, e) in
-    let carried : IsCarried y = record { of_its_kind = kind_is class row.kind lane is; fits = event } in
-    (ap (λ (z : LaneRow). z.row) same, subst IsCarried same carried)
+    let carried : IsCarried y = record { of_its_kind = kind_is class row.kind lane is; fits = event; index = low } in
+    subst IsCarried same carried
 
 of_class : (row : Row) (x : LaneRow) (o : Option ℕ)
     → option_and_then (λ (class : ℕ). option_map (λ (lane : Lane). let y : LaneRow = record { lane = lane; row = row } in y) (lane_of class row.kind)) o
     ≡ Some x
-    → IsEvent row → Fits row x
-of_class row x None e event = absurd (grind (arith, e))
-of_class row x (Some class) e event = in_lane class row x (lane_of class row.kind) refl e event
+    → IsEvent row → row.index < 2 ^ 16 → IsCarried x
+of_class row x None e event low = absurd (grind (arith, e))
+of_class row x (Some class) e event low = in_lane class row x (lane_of class row.kind) refl e event low
 
 -- what the crate of the index map promises of indices above
 abbrev pub LowIndexes : Type 0
 LowIndexes = (spans : List Spans) (kind : IndexKind) (station index above : ℕ) → IsMap spans → index_above spans station kind index ≡ Some above
     → above < INDICES
 
--- a row that is queued
-abbrev pub IsTaken : LaneRow → Type 0
-IsTaken x = IsCarried x × (x.row.index < 2 ^ 16)
-
 queued_fits : LowIndexes → (spans : List Spans) → IsMap spans → (plan : above.Plan) (station : ℕ) (row : Row) (x : LaneRow) (o : Option ℕ)
     → index_above spans station (kind_of_points row.kind) row.index ≡ o
-    → option_and_then (lane_row plan) (option_map (λ (index : ℕ). record row { index = index }) o) ≡ Some x → IsEvent row → IsTaken x
+    → option_and_then (lane_row plan) (option_map (λ (index : ℕ). record row { index = index }) o) ≡ Some x → IsEvent row → IsCarried x
 queued_fits low spans m plan station row x None is e event = absurd (grind (arith, e))
 queued_fits low spans m plan station row x (Some index) is e event =
     let risen : Row = record row { index = index } in
-    let fits : Fits risen x = of_class risen x (class_at plan row.kind index) e event in
     let few : index < INDICES = low spans (kind_of_points row.kind) station row.index index m is in
-    (fits.1, subst (λ (n : ℕ). n < 2 ^ 16) (ap (λ (r : Row). r.index) fits.0) few)
+    of_class risen x (class_at plan row.kind index) e event few
 
 -- ---- all rows
 
 -- each row that is queued
 pub all_taken : LowIndexes → (spans : List Spans) → IsMap spans → (plan : above.Plan) (station : ℕ) (rows : List Row) → All IsEvent rows
-    → All IsTaken (queued_rows spans plan station rows)
-all_taken low spans m plan station [] events = All-nil IsTaken
+    → All IsCarried (queued_rows spans plan station rows)
+all_taken low spans m plan station [] events = All-nil IsCarried
 all_taken low spans m plan station (row ∷ rows) events =
-    subst (All IsTaken) (sym (given_first (queued_row spans plan station) row rows))
+    subst (All IsCarried) (sym (given_first (queued_row spans plan station) row rows))
     (by (queued_row spans plan station row) refl (all_taken low spans m plan station rows (All-tail IsEvent row rows events)))
   where
-    by : (o : Option LaneRow) → queued_row spans plan station row ≡ o → All IsTaken (queued_rows spans plan station rows)
-        → All IsTaken (given o (queued_rows spans plan station rows))
+    by : (o : Option LaneRow) → queued_row spans plan station row ≡ o → All IsCarried (queued_rows spans plan station rows)
+        → All IsCarried (given o (queued_rows spans plan station rows))
     by None e rest = rest
     by (Some x) e rest =
-        All-cons IsTaken x (queued_rows spans plan station rows)
+        All-cons IsCarried x (queued_rows spans plan station rows)
         (queued_fits low spans m plan station row x (index_above spans station (kind_of_points row.kind) row.index) refl e
         (All-head IsEvent row rows events))
         rest

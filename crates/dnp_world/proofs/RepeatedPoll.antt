@@ -29,7 +29,6 @@ use Rattle.dnp_outstation.specs.Links.{IsInOrder}
 use Rattle.dnp_outstation.specs.Links as links
 use Rattle.dnp_outstation.specs.Offer.{held_laid, offered_of, pushed}
 use Rattle.dnp_outstation.specs.Polled.{Portion, no_rows, poll_octets, reported}
-use Rattle.dnp_outstation.specs.Said.{HaveIndexes}
 use Rattle.dnp_outstation.specs.State.{Core, State, Step, is_free, still}
 use Rattle.dnp_outstation.specs.declared.case.Case.{Case}
 use Rattle.dnp_outstation.specs.declared.case.Case.TheVariants.{Again, Asks, Confirms, ConfirmsUnsolicited, PassedOver, Stray, Waits}
@@ -53,7 +52,7 @@ pub record ReportLaws : Type 0 where
   pub confirmed : (c : Core) (seq : ℕ) (w : Unsolicited) → seq < 16 → c.is_open ≡ true → c.session.unsolicited ≡ Some w → w.seq ≡ seq
       → case_of c (report_confirm seq) ≡ ConfirmsUnsolicited
   pub read : (answered : Answered) (s : Stock) (enabled : List Bool) → answered.headers ≡ (pushed s enabled).headers → IsControl answered.control
-      → is_response answered.function ≡ true → IsSound s → length enabled ≤ 3 → HaveIndexes s → response_at (response_octets answered) ≡ Ok answered
+      → is_response answered.function ≡ true → IsSound s → length enabled ≤ 3 → response_at (response_octets answered) ≡ Ok answered
   pub releases : (s : State) (o : Panel) (now : ℕ) (octets : List ℕ) (w : Unsolicited) → case_of s.core octets ≡ ConfirmsUnsolicited
       → s.core.session.unsolicited ≡ Some w → links.Releases s w.upto (connection_after s o now octets)
   pub only : (s : State) (o : Panel) (now : ℕ) (octets : List ℕ) → function_in octets ≢ function_octet function.Operate
@@ -119,11 +118,11 @@ module _ (laws : ReportLaws) (m : master.State) (now : ℕ) (s : State) (o : Pan
   }
 
   read_is : response_at (unsolicited_of s content) ≡ Ok said
-  read_is = laws.read said s.lanes enabled refl order.number refl fit.sound order.classes fit.indexes
+  read_is = laws.read said s.lanes enabled refl order.number refl fit.sound order.classes
 
   rows_are : events_in said.headers ≡ (reported s.lanes enabled).rows
   rows_are =
-      ap events_in (pushed_headers s.lanes enabled) ∙ laws.said s.lanes enabled fit.sound order.classes fit.indexes
+      ap events_in (pushed_headers s.lanes enabled) ∙ laws.said s.lanes enabled fit.sound order.classes
 
   abbrev taken : Taking
   taken = report_taken (asking m now events_polled) said

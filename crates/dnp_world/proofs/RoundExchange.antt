@@ -15,7 +15,7 @@ use Rattle.dnp_outstation.specs.Content.{source_of}
 use Rattle.dnp_outstation.specs.Controls.{is_control}
 use Rattle.dnp_outstation.specs.Items.{Source}
 use Rattle.dnp_outstation.specs.Polled.{Awaits, Offers, Portion, Releases, confirm_octets, no_rows, poll_octets, polled, polled_ids, polled_rows, reported}
-use Rattle.dnp_outstation.specs.Said.{AreWritable, HaveIndexes}
+use Rattle.dnp_outstation.specs.Said.{AreWritable}
 use Rattle.dnp_outstation.specs.State.{Core, State, Step, is_quiet, still}
 use Rattle.dnp_outstation.specs.declared.case.Case.TheVariants.{Again}
 use Rattle.dnp_pointdb.specs.Sound as points
@@ -40,11 +40,11 @@ pub record StationLaws : Type 0 where
   pub again : AgainLaw
   pub released : ReleaseLaw
   pub asks : (m : master.State) → master.is_idle m ≡ true → ask_answer m events_polled ≡ Ok (poll_octets m.seq)
-  pub takes : (m : master.State) (before now : ℕ) (s : State) (step : Step) → master.is_idle m ≡ true → IsSound s.lanes → HaveIndexes s.lanes
+  pub takes : (m : master.State) (before now : ℕ) (s : State) (step : Step) → master.is_idle m ≡ true → IsSound s.lanes
       → (offer : Offers m.seq s step) → All (λ row. is_reported m.plan row ≡ true) (polled_rows s.lanes)
       → Takes m.seq (polled_rows s.lanes) offer.con (receive_of (asked m before events_polled) now offer.fragment)
   pub writable : (s : Source) → points.IsSound s.points → s.panel.outputs ≤ 2 ^ 16
-      → ((index : ℕ) → index < s.panel.outputs → s.panel.status index < 2 ^ 8) → HaveIndexes s.lanes → AreWritable s
+      → ((index : ℕ) → index < s.panel.outputs → s.panel.status index < 2 ^ 8) → AreWritable s
 
 -- ---- the answer to a poll
 
@@ -96,7 +96,6 @@ pub record AreFit (m : master.State) (s : State) (o : Panel) : Type 0 where
   pub idle : master.is_idle m ≡ true
   pub quiet : is_quiet s.core ≡ true
   pub sound : IsSound s.lanes
-  pub indexes : HaveIndexes s.lanes
   pub writable : AreWritable (source_of s o)
   pub seq : m.seq < 16
 
@@ -126,7 +125,7 @@ polled_exchange laws m now s o fit asked_for other = record {
     offer = laws.offered s o now m.seq fit.sound fit.writable fit.quiet fit.seq other
 
     took : Takes m.seq (polled_rows s.lanes) offer.con (receive_of (asked m now events_polled) now offer.fragment)
-    took = laws.takes m now now s (polled_step s o now m.seq) fit.idle fit.sound fit.indexes offer asked_for
+    took = laws.takes m now now s (polled_step s o now m.seq) fit.idle fit.sound offer asked_for
 
     no_confirm : (b : Bool) → (if b then Some (confirm_octets m.seq) else None) ≡ None → b ≡ false
     no_confirm true e = absurd (none-some (confirm_octets m.seq) (sym e))

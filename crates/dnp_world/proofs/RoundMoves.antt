@@ -94,8 +94,7 @@ fit_below stations station old steady begins =
       idle = begins.idle;
       quiet = begins.quiet;
       sound = well.lanes;
-      indexes = well.indexes;
-      writable = stations.writable (source_of (station_of was) (panel_of was)) well.points joined.shown.outputs joined.shown.status well.indexes;
+      writable = stations.writable (source_of (station_of was) (panel_of was)) well.points joined.shown.outputs joined.shown.status;
       seq = joined.joined.number;
     }
 
@@ -112,8 +111,7 @@ fit_above stations old steady begins =
       idle = begins.idle;
       quiet = begins.quiet;
       sound = well.lanes;
-      indexes = well.indexes;
-      writable = stations.writable (source_of (middle_of old.concentrator) (middle_panel old.concentrator)) well.points shown.outputs shown.status well.indexes;
+      writable = stations.writable (source_of (middle_of old.concentrator) (middle_panel old.concentrator)) well.points shown.outputs shown.status;
       seq = steady.standing.above.number;
     }
 

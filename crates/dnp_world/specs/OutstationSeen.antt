@@ -18,7 +18,6 @@ use Rattle.dnp_outstation.specs.declared.session.Unsolicited.{Unsolicited}
 use Rattle.dnp_outstation.specs.declared.session.Session.{Session}
 use Rattle.dnp_outstation.specs.Connection.{function_in}
 use Rattle.dnp_outstation.specs.Links.{IsInOrder}
-use Rattle.dnp_outstation.specs.Said.{HaveIndexes}
 use Rattle.dnp_outstation.specs.State.{Core, State, Step}
 use Rattle.dnp_outstation.specs.Tidy.{LeavesNothing}
 use Rattle.dnp_world.specs.Link as link
@@ -89,7 +88,6 @@ pub record HaveIds (session : Session) : Type 0 where
 -- its lanes and points are sound, it is in order, and of what it gave nothing is left but what may still be confirmed
 pub record IsWell (s : State) : Type 0 where
   pub lanes : IsSound s.lanes
-  pub indexes : HaveIndexes s.lanes
   pub points : points.IsSound s.core.points
   pub order : IsInOrder s.core
   pub tidy : LeavesNothing s

@@ -5,7 +5,7 @@
 //! The premises are those of the line: it keeps the order, breaks by 32 losses in a row, and carries no damaged unit
 //! that reads as another frame. The link's events have them built in.
 
-ghost use Rattle.std.specs.Prelude.{◌≡◌, ℕ, ◌<◌, ◌^◌, false, true, All, List, [], ◌∷◌, ◌++◌, take, ⊤};
+ghost use Rattle.std.specs.Prelude.{◌≡◌, ℕ, ◌<◌, false, true, All, List, [], ◌∷◌, ◌++◌, take, ⊤};
 ghost use Rattle.std.specs.List.Sorted.{IsPermutation};
 ghost use Rattle.dnp_objects.specs.declared.command.Command.{Command};
 ghost use Rattle.dnp_objects.specs.declared.lane.LaneRow.{LaneRow};
@@ -15,7 +15,6 @@ ghost use Rattle.dnp_eventbuf.specs.Carried.{IsCarried};
 ghost use Rattle.dnp_eventbuf.specs.Sound.{IsSound};
 ghost use Rattle.dnp_eventbuf.specs.Stock.{Stock, arriving, dropped_by, exhausts};
 ghost use Rattle.dnp_outstation.specs.Calls.{restart_of};
-ghost use Rattle.dnp_outstation.specs.Said.{HaveIndexes};
 ghost use Rattle.dnp_pointdb.specs.Database.{new_database};
 ghost use Rattle.dnp_pointdb.specs.Plan.{Plan};
 ghost use Rattle.dnp_pointdb.specs.Sound as points;
@@ -37,7 +36,6 @@ use crate::master_laws::{
 };
 use crate::outstation_laws as outstation;
 use dnp_eventbuf::Sink;
-use dnp_eventbuf::laws::lanes_stay_sound;
 use dnp_line::laws::line_law;
 use dnp_master::laws::{
     a_closed_master_is_silent, an_idle_master_asks, what_comes_is_taken_or_passed_over,
@@ -46,7 +44,6 @@ use dnp_outstation::link_laws::{
     a_closed_outstation_is_silent, an_unsolicited_response_starts_where_none_is_awaited,
     content_leaves_the_connection_alone,
 };
-use dnp_pointdb::laws::a_change_makes_what_its_lane_takes;
 
 /// Each event of a link is some moves of the link of its law, whatever its outputs show, and so is a list of them, also
 /// one that stops, where there are no outputs. The rows
@@ -80,8 +77,6 @@ pub fn events_are_moves<S: Sink>()
     a_closed_master_is_silent();
     an_idle_master_asks();
     what_comes_is_taken_or_passed_over();
-    a_change_makes_what_its_lane_takes();
-    lanes_stay_sound();
 }
 
 /// The same of an event of a link whose master gives its rows to no sink of the link's own, and of a restart of its outstation that
@@ -109,15 +104,13 @@ pub fn events_without_a_sink_are_moves()
     a_closed_master_is_silent();
     an_idle_master_asks();
     what_comes_is_taken_or_passed_over();
-    a_change_makes_what_its_lane_takes();
-    lanes_stay_sound();
 }
 
 /// Rows that others append to the lanes are moves too, and what full lanes drop for them has left unconfirmed. It may
 /// be listed with the rest that left. What others append to the sink changes nothing.
 pub fn appends_by_others_are_moves<T>()
     ensures appended { (others : List Row) (s : LinkState T) (rows : List LaneRow) (l : Link) → All IsCarried rows
-        → exhausts s.outstation.lanes rows ≡ false → All (λ x. x.row.index < 2 ^ 16) rows → Joined others s l
+        → exhausts s.outstation.lanes rows ≡ false → Joined others s l
         → Follows (others ++ dropped_by s.outstation.lanes rows) (arriving rows) [] s.outstation.performed l (with_others_rows rows s) }
     ensures listed { (others dropped : List Row) (s : LinkState T) (l : Link) → Joined (others ++ dropped) s l
         → Joined others (record s { left = s.left ++ dropped }) l }
@@ -131,7 +124,7 @@ pub fn appends_by_others_are_moves<T>()
 pub fn a_new_link_is_joined<T>()
     ensures { (plan : Plan) (times : Times) (lanes : Stock) (performed : List Command)
         (master_address outstation_address : ℕ) (sink : T)
-        → points.IsSound (new_database plan) → IsSound lanes → HaveIndexes lanes
+        → points.IsSound (new_database plan) → IsSound lanes
         → IsJoined [] (new_link_of plan times lanes performed master_address outstation_address sink) }
 {
     outstation::a_new_outstation_is_shown();
@@ -152,7 +145,7 @@ pub fn the_law_of_one_link<S: Sink>()
         → StopsAfter S.takes S.keeps s events done new
         → IsJoined others new × StoodGrows others (rows_made_by s.outstation.core.points (take done events)) s new }
     ensures appended { (others : List Row) (s : LinkState S) (rows : List LaneRow) → All IsCarried rows
-        → exhausts s.outstation.lanes rows ≡ false → All (λ x. x.row.index < 2 ^ 16) rows → IsJoined others s
+        → exhausts s.outstation.lanes rows ≡ false → IsJoined others s
         → (let left = others ++ dropped_by s.outstation.lanes rows in IsJoined left (with_others_rows rows s)
         × IsPermutation (stood_in left (with_others_rows rows s)) (stood_in others s ++ arriving rows)) }
     ensures sink { (others : List Row) (s : LinkState S) (sink : S) → IsJoined others s

@@ -6,7 +6,6 @@ ghost use Rattle.dnp_master.specs.Calls.{ask_answer, asked, receive_of};
 ghost use Rattle.dnp_master.specs.Rows.{is_reported};
 ghost use Rattle.dnp_master.specs.State as master;
 ghost use Rattle.dnp_outstation.specs.Polled.{Offers, poll_octets, polled_rows};
-ghost use Rattle.dnp_outstation.specs.Said.{HaveIndexes};
 ghost use Rattle.dnp_outstation.specs.State.{State, Step};
 ghost use Rattle.dnp_world.specs.Polled.{Takes};
 ghost use Rattle.dnp_world.specs.declared.event.Link.{Link};
@@ -30,7 +29,7 @@ use dnp_outstation::poll_laws::{
 pub fn a_master_takes_what_it_polled()
     ensures asks { (m : master.State) → master.is_idle m ≡ true → ask_answer m events_polled ≡ Ok (poll_octets m.seq) }
     ensures takes { (m : master.State) (before now : ℕ) (s : State) (step : Step) → master.is_idle m ≡ true
-        → IsSound s.lanes → HaveIndexes s.lanes → (offer : Offers m.seq s step)
+        → IsSound s.lanes → (offer : Offers m.seq s step)
         → All (λ row. is_reported m.plan row ≡ true) (polled_rows s.lanes)
         → Takes m.seq (polled_rows s.lanes) offer.con (receive_of (asked m before events_polled) now offer.fragment) }
 {

@@ -3,7 +3,7 @@
 //! Each function does nothing, and its contract is a law. A call sends, discards, overwrites and performs just what
 //! the link's lists grow by, and leaves the master and what may come down alone. Appends by anybody are moves too.
 
-ghost use Rattle.std.specs.Prelude.{◌≡◌, ℕ, ◌<◌, ◌^◌, Bool, false, All, List, [], ◌∷◌, Option, Ok, option_to_list};
+ghost use Rattle.std.specs.Prelude.{◌≡◌, ℕ, ◌<◌, ◌^◌, Bool, false, All, List, [], ◌∷◌, Option, Ok, IfSome, option_to_list};
 ghost use Rattle.dnp_objects.specs.declared.command.Command.{Command};
 ghost use Rattle.dnp_objects.specs.declared.lane.LaneRow.{LaneRow};
 ghost use Rattle.dnp_objects.specs.declared.row.Kind.{Kind};
@@ -17,7 +17,6 @@ ghost use Rattle.dnp_pointdb.specs.declared.reading.Reading.{Reading};
 ghost use Rattle.dnp_pointdb.specs.declared.times.Times.{Times};
 ghost use Rattle.dnp_outstation.specs.Calls.{connection_after, tick_of, change_of, opened_of, restart_of, emptied_of};
 ghost use Rattle.dnp_outstation.specs.Connection.{closed};
-ghost use Rattle.dnp_outstation.specs.Said.{HaveIndexes};
 ghost use Rattle.dnp_outstation.specs.State.{State, nothing, still};
 ghost use Rattle.dnp_outstation.specs.Station.{new_core};
 ghost use Rattle.dnp_world.specs.Lanes.{fresh_link};
@@ -36,15 +35,17 @@ use dnp_outstation::link_laws::{
     a_repeated_request_executes_nothing, an_unsolicited_response_is_repeated_as_it_was,
     an_unsolicited_response_starts_where_none_is_awaited, calls_keep_a_connection_in_order,
     commands_are_performed_as_they_are_asked, content_leaves_the_connection_alone,
-    each_case_says_what_came, fragments_report_the_rows_up_to_their_ids, indexes_keep_their_bits,
+    each_case_says_what_came, fragments_report_the_rows_up_to_their_ids,
     what_is_sound_can_be_written,
 };
-use dnp_pointdb::laws::{a_change_of_note_is_an_event, points_stay_sound};
+use dnp_pointdb::laws::{
+    a_change_makes_what_its_lane_takes, a_change_of_note_is_an_event, points_stay_sound,
+};
 
 /// A new outstation, over sound points and lanes, is shown by a link before its first opening.
 pub fn a_new_outstation_is_shown()
     ensures { (database : Database) (times : Times) (lanes : Stock) (performed : List Command) → points.IsSound database
-        → IsSound lanes → HaveIndexes lanes
+        → IsSound lanes
         → Shows (record { core = new_core database times; lanes = lanes; performed = performed }) (fresh_link lanes) }
 {}
 
@@ -77,7 +78,6 @@ pub fn what_comes_is_moves()
     content_leaves_the_connection_alone();
     each_case_says_what_came();
     fragments_report_the_rows_up_to_their_ids();
-    indexes_keep_their_bits();
     what_is_sound_can_be_written();
 }
 
@@ -98,13 +98,14 @@ pub fn time_is_moves()
 /// are no move.
 pub fn a_change_is_moves()
     ensures changed { (s : State) (now : ℕ) (kind : Kind) (index : ℕ) (reading : Reading) (made : Option LaneRow)
-        (l : Link) → answer_of s.core.points kind index reading ≡ Ok made → index < 2 ^ 16
-        → IsSound (with_rows s.lanes (option_to_list made)) → Shows s l → Stands l
+        (l : Link) → answer_of s.core.points kind index reading ≡ Ok made
+        → IfSome made (λ row. exhausts s.lanes (row ∷ []) ≡ false) → Shows s l → Stands l
         → Simulates s (arriving (option_to_list made)) (change_of s now kind index reading made) l }
     ensures written { (s : State) (database : Database) (l : Link) → points.IsSound database → Shows s l
         → Shows (record s { core = record s.core { points = database } }) l }
 {
     lanes_are_moved();
+    lanes_stay_sound();
     an_append_is_of_one_row();
     a_change_of_note_is_an_event();
     points_stay_sound();
@@ -113,14 +114,13 @@ pub fn a_change_is_moves()
     calls_keep_a_connection_in_order();
     commands_are_performed_as_they_are_asked();
     fragments_report_the_rows_up_to_their_ids();
-    indexes_keep_their_bits();
+    a_change_makes_what_its_lane_takes();
 }
 
 /// Rows that anybody appends to the lanes are two moves each: a row comes, and its lane, if it was full, drops its
 /// oldest.
 pub fn an_append_is_moves()
-    ensures { (s : State) (rows : List LaneRow) (l : Link) → All IsCarried rows → exhausts s.lanes rows ≡ false
-        → All (λ x. x.row.index < 2 ^ 16) rows → Shows s l
+    ensures { (s : State) (rows : List LaneRow) (l : Link) → All IsCarried rows → exhausts s.lanes rows ≡ false → Shows s l
         → Simulates s (arriving rows) (record {
           state = record s { lanes = with_rows s.lanes rows };
           does = record nothing { overwritten = dropped_by s.lanes rows };
@@ -130,7 +130,6 @@ pub fn an_append_is_moves()
     an_append_is_of_one_row();
     lanes_stay_sound();
     calls_leave_nothing_else_given();
-    indexes_keep_their_bits();
 }
 
 /// A hang-up closes the outstation, and so does a restart, at which the rows of lanes that aren't kept leave
@@ -148,5 +147,4 @@ pub fn a_closing_is_moves()
     points_stay_sound();
     calls_leave_nothing_else_given();
     calls_keep_a_connection_in_order();
-    indexes_keep_their_bits();
 }

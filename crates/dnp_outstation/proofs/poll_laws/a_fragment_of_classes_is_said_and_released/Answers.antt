@@ -8,9 +8,9 @@ use Rattle.dnp_outstation.proofs.Reported.{held_fits}
 use Rattle.dnp_outstation.proofs.poll_laws.a_fragment_of_classes_is_said_and_released.Goals as goal
 
 pub returns-clause-said : goal.returns-clause-said
-returns-clause-said c = λ s enabled sound few indexes.
+returns-clause-said c = λ s enabled sound few.
     let items = lane_items s (enabled_lanes 0 enabled) in
-    c.octets_say_what_is_held.ensures.rows (held_laid items) (pushed_stand s enabled sound few indexes) (held_fits items)
+    c.octets_say_what_is_held.ensures.rows (held_laid items) (pushed_stand s enabled sound few) (held_fits items)
 
 pub returns-clause-released : goal.returns-clause-released
 returns-clause-released c = reported_released

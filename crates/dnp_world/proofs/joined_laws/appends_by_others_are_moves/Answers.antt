@@ -3,8 +3,8 @@ use Rattle.dnp_world.proofs.JoinedSteps.{with_lists}
 use Rattle.dnp_world.proofs.joined_laws.appends_by_others_are_moves.Goals as goal
 
 pub returns-clause-appended : goal.returns-clause-appended
-returns-clause-appended g c others s rows l carried room low j =
-    append_follows others s l rows j (c.an_append_is_moves.ensures s.outstation rows l carried room low j.outstation)
+returns-clause-appended g c others s rows l carried room j =
+    append_follows others s l rows j (c.an_append_is_moves.ensures s.outstation rows l carried room j.outstation)
 
 pub returns-clause-listed : goal.returns-clause-listed
 returns-clause-listed g c = listed

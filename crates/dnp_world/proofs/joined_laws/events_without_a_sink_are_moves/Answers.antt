@@ -6,7 +6,7 @@ use Rattle.dnp_world.proofs.JoinedLaws.{Laws}
 use Rattle.dnp_world.proofs.JoinedRuns.{one_follows}
 use Rattle.dnp_world.proofs.joined_laws.events_without_a_sink_are_moves.Goals as goal
 
-laws_of : goal.After-lanes_stay_sound → Laws
+laws_of : goal.After-what_comes_is_taken_or_passed_over → Laws
 laws_of c = record {
   line = record { reopened = c.line_law.ensures.reopened; kept = c.line_law.ensures.kept };
   points = record {
@@ -23,8 +23,6 @@ laws_of c = record {
     silent_received = c.a_closed_outstation_is_silent.ensures.received;
     silent_ticked = c.a_closed_outstation_is_silent.ensures.ticked;
     ends = c.an_unsolicited_response_starts_where_none_is_awaited.ensures.ends;
-    sound = c.lanes_stay_sound.ensures.appended;
-    carried = c.a_change_makes_what_its_lane_takes.ensures;
   };
   master = record {
     came = c.a_master_takes_by_moves.ensures.came;

@@ -26,9 +26,9 @@ returns-clause-stops g c = λ others s new events done h stopped.
     (kept_by others came s.outstation.performed h.link new h.stands f, grown_by (laws_of g c) others others came s new h.link h.stands h.joined f)
 
 pub returns-clause-appended : goal.returns-clause-appended
-returns-clause-appended g c = λ others s rows carried room low h.
+returns-clause-appended g c = λ others s rows carried room h.
     let left : List Row = others ++ dropped_by s.outstation.lanes rows in
-    let f = c.appends_by_others_are_moves.ensures.appended others s rows h.link carried room low h.joined in (
+    let f = c.appends_by_others_are_moves.ensures.appended others s rows h.link carried room h.joined in (
       kept_by left (arriving rows) s.outstation.performed h.link (with_others_rows rows s) h.stands f,
       grown_by (laws_of g c) others left (arriving rows) s (with_others_rows rows s) h.link h.stands h.joined f,
     )

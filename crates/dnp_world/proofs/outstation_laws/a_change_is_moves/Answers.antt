@@ -2,7 +2,7 @@
 use Rattle.dnp_world.proofs.OutstationChanges.{ChangeLaws, change_simulates, points_shown}
 use Rattle.dnp_world.proofs.outstation_laws.a_change_is_moves.Goals as goal
 
-laws_of : goal.After-indexes_keep_their_bits → ChangeLaws
+laws_of : goal.After-a_change_makes_what_its_lane_takes → ChangeLaws
 laws_of c = record {
   ends = record {
     unsolicited = c.fragments_report_the_rows_up_to_their_ids.ensures.unsolicited;
@@ -11,8 +11,9 @@ laws_of c = record {
   rows = record {
     appended = c.lanes_are_moved.ensures.appended;
     dropped = c.an_append_is_of_one_row.ensures.dropped;
-    indexes = c.indexes_keep_their_bits.ensures.appended;
   };
+  sound = c.lanes_stay_sound.ensures.appended;
+  carried = c.a_change_makes_what_its_lane_takes.ensures;
   points = c.points_stay_sound.ensures.changed;
   row = c.a_change_of_note_is_an_event.ensures.row;
   performed = c.commands_are_performed_as_they_are_asked.ensures.changed;

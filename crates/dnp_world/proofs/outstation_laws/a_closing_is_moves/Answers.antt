@@ -2,11 +2,10 @@
 use Rattle.dnp_world.proofs.OutstationOpenings.{CloseLaws, closing_simulates, restart_simulates}
 use Rattle.dnp_world.proofs.outstation_laws.a_closing_is_moves.Goals as goal
 
-laws_of : goal.After-indexes_keep_their_bits → CloseLaws
+laws_of : goal.After-calls_keep_a_connection_in_order → CloseLaws
 laws_of c = record {
   lanes_emptied = c.lanes_are_moved.ensures.emptied;
   emptied = c.lanes_stay_sound.ensures.emptied;
-  indexes = c.indexes_keep_their_bits.ensures.emptied;
   points = c.points_stay_sound.ensures.restarted;
   order = c.calls_keep_a_connection_in_order.ensures.closed;
   tidy = c.calls_leave_nothing_else_given.ensures.closed;

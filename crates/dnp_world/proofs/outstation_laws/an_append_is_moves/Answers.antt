@@ -2,12 +2,11 @@
 use Rattle.dnp_world.proofs.OutstationAppends.{AppendLaws, appends_simulate}
 use Rattle.dnp_world.proofs.outstation_laws.an_append_is_moves.Goals as goal
 
-laws_of : goal.After-indexes_keep_their_bits → AppendLaws
+laws_of : goal.After-calls_leave_nothing_else_given → AppendLaws
 laws_of c = record {
   rows = record {
     appended = c.lanes_are_moved.ensures.appended;
     dropped = c.an_append_is_of_one_row.ensures.dropped;
-    indexes = c.indexes_keep_their_bits.ensures.appended;
   };
   sound = c.lanes_stay_sound.ensures.appended;
   tidy = c.calls_leave_nothing_else_given.ensures.appended;

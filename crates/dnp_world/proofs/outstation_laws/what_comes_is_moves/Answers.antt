@@ -18,7 +18,6 @@ laws_of c = record {
     left = c.lanes_are_moved.ensures.released;
     given = c.lanes_are_moved.ensures.given;
     sound = c.lanes_stay_sound.ensures.released;
-    indexes = c.indexes_keep_their_bits.ensures.released;
   };
   further = record {
     tidy = c.calls_leave_nothing_else_given.ensures.further;

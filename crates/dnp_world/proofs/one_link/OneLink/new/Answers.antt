@@ -12,9 +12,9 @@ pub returns-clause-link : goal.returns-clause-link
 returns-clause-link g c = search rules
 
 pub returns-clause-joined : goal.returns-clause-joined
-returns-clause-joined g c = λ sound indexes.
+returns-clause-joined g c = λ sound.
     let plan : Plan = c.args.plan in
     let points_are : c.in_ok-points.points ≡ new_database plan = c.in_ok-points.ensures.value ∙ ap new_database c.in_ok-try_clone.ensures in
     subst (λ (s : LinkState g.row.S.Denot). IsJoined [] s) (sym (returns-clause-link g c))
     (c.a_new_link_is_joined.ensures plan c.args.times (g.L.Lanes.contents c.args.lanes) [] CENTRE FIRST_OUTSTATION c.args.sink
-    (subst IsSound points_are c.in_ok-points.ensures.sound) sound indexes)
+    (subst IsSound points_are c.in_ok-points.ensures.sound) sound)
