@@ -80,7 +80,8 @@ impl<Q: Lanes + Drop, J: JournalStore + Drop, A: Book + Drop, B: Book + Drop> Dr
 
 impl<Q: Lanes + Drop, J: JournalStore + Drop, A: Book + Drop, B: Book + Drop> World<Q, J, A, B> {
     /// A system of a plan that keeps its limits (`Plan::keeps_limits`), all of it closed, at the moment 0, over stores that hold
-    /// nothing (`AreEmpty`): the concentrator's queue, the centre's journal, and the books of concentrator and centre.
+    /// nothing (`AreEmpty`): the concentrator's queue, the centre's journal, and the books of concentrator and centre. What a journal
+    /// in a file holds can be told of an honest one alone, so no more is asked.
     ///
     /// Refused is, first of all, an index above over 65,535 (`TooWide`), and then an index above of one kind that two
     /// substations would share (`Overlap`). After these it may be out of memory (`Memory`). What is refused drops the stores.
@@ -93,7 +94,7 @@ impl<Q: Lanes + Drop, J: JournalStore + Drop, A: Book + Drop, B: Book + Drop> Wo
         orders: B,
     ) -> Result<Self, MapFault>
         requires limits { KeepsLimits plan.now }
-        requires empty { AreEmpty (Q.contents queue) (J.archive journal) (A.contents controls) (B.contents orders) }
+        requires empty { J.honest journal → AreEmpty (Q.contents queue) (J.archive journal) (A.contents controls) (B.contents orders) }
         ensures fresh { IfOk result (λ w. w.system
             ≡ fresh_system plan.now (Q.contents queue) (J.archive journal) (A.contents controls) (B.contents orders)) }
         ensures stores { IfOk result (λ w. w.stores ≡ record { queue = queue; journal = journal; controls = controls; orders = orders }) }
