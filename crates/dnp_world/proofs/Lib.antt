@@ -113,6 +113,7 @@ mod PolledTaken
 mod Settling
 mod RoundSteps
 mod RoundExchange
+mod AllQueued
 mod RoundBelow
 mod RoundAbove
 mod RepeatedPoll

@@ -26,7 +26,7 @@ use Rattle.dnp_world.specs.Joined.{Follows, Joined}
 use Rattle.dnp_world.specs.Link.{Link}
 use Rattle.dnp_world.specs.Octets.{commands_in}
 use Rattle.dnp_world.specs.OneLinkEvents.{IsAsked, LinkState}
-use Rattle.dnp_world.specs.SystemEvents.{IfOperates, requests_of}
+use Rattle.dnp_world.specs.SystemEvents.{IsGranted, requests_of}
 use Rattle.dnp_world.specs.SystemStanding.{RowLists, points_asked, seen}
 use Rattle.dnp_world.proofs.BelowCalls.{none_goes}
 use Rattle.dnp_world.proofs.BelowKeeps.{none_used, some_of}
@@ -66,7 +66,7 @@ book_same pick same book (Finishes id status) = in_state_same pick same book.ent
 -- what is asked for is used of it from then on
 pub book_used : {A : Type 0} (pick : Entry → A) (of : Command → A) → IsOfCommand pick → (r : Relaying) (book : Ledger) (target : ℕ) (step : Step)
     → step_of r book.entries target ≡ step → ((e : Entry) → e.target ≡ target → pick e ≡ of e.command) → IfSome r.progress (GoesWith book target)
-    → IfOperates step (λ id. Has book.entries id is_pending)
+    → IsGranted book.entries step
     → IsCoveredBy (picked_used pick book.entries ++ map of (asked_in step)) (picked_used pick (ledger_after book step).entries)
 book_used pick of same r book target Waits is picks goes pending = none_used (picked_used pick book.entries)
 book_used pick of same r book target (Selects id command) is picks goes pending = none_used (picked_used pick book.entries)

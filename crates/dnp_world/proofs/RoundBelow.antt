@@ -257,10 +257,11 @@ module _ (laws : StationLaws) (lines : LineLaws) (station : ℕ) (old new : Syst
       same ∙ is
       ∙ ap (λ (x : ConcentratorState). record old.concentrator { core = x.core; queue = queued portion.rows; links = x.links }) (sym same)
 
-  moved : (p : Parts) (c : ConcentratorState) (h : History) (after : master.State) → IsDone p c h
+  moved : (p : Parts) (c : ConcentratorState) (h : History) (after : master.State)
+      → length (rows_queued old.concentrator station portion.rows) ≡ length portion.rows → IsDone p c h
       → c ≡ record old.concentrator { core = c.core; queue = queued portion.rows; links = c.links }
       → h ≡ with_dropped (lost portion.rows) h0 → (link_at c station).master ≡ after → Moved after
-  moved p c h after done queue dropped now =
+  moved p c h after all done queue dropped now =
       let s = parts_there (slice_get new.substations station) p done.is.parts in
       record {
         moves = record {
@@ -270,6 +271,7 @@ module _ (laws : StationLaws) (lines : LineLaws) (station : ℕ) (old new : Syst
           is_there = s.1;
           left = subst (λ (q : Parts). Leave portion p0.lanes q.lanes) (sym s.2) done.left;
           outputs = ap (λ (q : Parts). q.outputs) s.2 ∙ done.outputs;
+          all_queued = all;
           concentrator = only_queue c queue done.is.concentrator;
           history = done.is.history ∙ ap (with_confirmed station portion.rows) dropped;
           others = done.is.others;
@@ -278,18 +280,19 @@ module _ (laws : StationLaws) (lines : LineLaws) (station : ℕ) (old new : Syst
         master_is = ap (λ (x : ConcentratorState). (link_at x station).master) done.is.concentrator ∙ now;
       }
 
-  pub moves : (answer : Answer link.master old.now (state_in p0) (panel_in p0) portion)
+  pub moves : length (rows_queued old.concentrator station portion.rows) ≡ length portion.rows
+      → (answer : Answer link.master old.now (state_in p0) (panel_in p0) portion)
       → Moved (master_after link.master old.now (state_in p0) (panel_in p0) portion answer)
-  moves (Exchanges x) =
+  moves all (Exchanges x) =
       let done = confirms x x.confirm refl (taken x).under_way in
       let low : station < length c1.links = omega (arith, begins.low, length-set old.concentrator.links station asking) in
-      moved done.0 (c2 x) (h2 x) x.taken.state done.1
+      moved done.0 (c2 x) (h2 x) x.taken.state all done.1
       (ap (λ (rows : List Row). record old.concentrator { core = (c2 x).core; queue = queued rows; links = (c2 x).links }) x.events)
       (ap (λ (rows : List Row). with_dropped (lost rows) h0) x.events)
       (ap (λ (r : Relaying). r.master) (set_link c1.links station (relaying.received (link_at c1 station) x.taken) low))
-  moves (Passes rests none) =
+  moves all (Passes rests none) =
       let no : [] ≡ portion.rows = sym (ap (λ (x : Portion). x.rows) none) in
-      moved p1 c1 h0 asking.master (passes rests none)
+      moved p1 c1 h0 asking.master all (passes rests none)
       (ap (λ (rows : List Row). record old.concentrator { core = c1.core; queue = queued rows; links = c1.links }) no)
       (ap (λ (rows : List Row). record h0 { dropped = rows }) (sym (append-nil h0.dropped)) ∙ ap (λ (rows : List Row). with_dropped (lost rows) h0) no)
       (ap (λ (r : Relaying). r.master) (set_link old.concentrator.links station asking begins.low))

@@ -1,5 +1,5 @@
 -- Clean rounds over quiet links of steady systems.
-use Rattle.std.proofs.Common.{◌≡◌, ℕ, ◌<◌, ◌≤◌, suc, Bool, true, false, if◌then◌else◌, List, [], ◌∷◌, ◌++◌, length, Option, Some, IfSome, is_some, sym, ap, ◌∙◌, subst, arith}
+use Rattle.std.proofs.Common.{◌≡◌, ℕ, ◌<◌, ◌≤◌, suc, Bool, true, false, if◌then◌else◌, List, [], ◌∷◌, ◌++◌, length, Option, Some, IfSome, is_some, refl, sym, ap, ◌∙◌, subst, arith}
 use Rattle.std.specs.Prelude.{map, nat_le, slice_get}
 use Rattle.std.specs.List.{All, filter}
 use Rattle.std.proofs.lemmas.Bool.{and_parts}
@@ -27,6 +27,7 @@ use Rattle.dnp_world.specs.SystemEvents.{relaying_at}
 use Rattle.dnp_world.specs.SystemStanding.{IsJoinedBelow, IsStanding}
 use Rattle.dnp_world.specs.Systems.{SubstationState, System, link_at, middle_of, middle_panel, panel_of, station_of}
 use Rattle.dnp_world.specs.declared.event.Link.TheVariants.{Below, Above}
+use Rattle.dnp_world.proofs.AllQueued.{QueuedLaw, all_are_queued}
 use Rattle.dnp_world.proofs.RepeatedPoll.{ReportLaws, WentOn, repeated}
 use Rattle.dnp_world.proofs.RepeatedRequests.{CaseLaw, went_on}
 use Rattle.dnp_world.proofs.RoundAbove as above
@@ -39,6 +40,7 @@ pub record LaneLaws : Type 0 where
   pub below : (s : System) (station : ℕ) (was : SubstationState) → IsAsPlanned s → station < length s.concentrator.links
       → slice_get s.substations station ≡ Some was
       → All (λ row. is_reported (link_at s.concentrator station).master.plan row ≡ true) (rows_in was.lanes)
+  pub queued : QueuedLaw
   pub above : (s : System) → IsStanding s → IsAsPlanned s → All (λ row. is_reported s.centre.link.master.plan row ≡ true) (rows_in s.concentrator.queue)
 
 -- ---- what is polled is of the lanes
@@ -124,9 +126,12 @@ polled_below stations lines lanes station old new steady quiet round other =
     let was : SubstationState = begins.was in
     let m : master.State = (link_at old.concentrator station).master in
     let fit : AreFit m (station_of was) (panel_of was) = fit_below stations station old steady begins in
+    let asked : All (λ row. is_reported m.plan row ≡ true) (polled_rows was.lanes) =
+    all_polled stations.released (λ row. is_reported m.plan row ≡ true) was.lanes fit.sound (lanes.below old station was steady.planned begins.low begins.there)
+    in
     (below.moves stations lines station old new begins (lines.quiet (Below station) old steady.standing quiet) first_rows round
-    (Exchanges (polled_exchange stations m old.now (station_of was) (panel_of was) fit
-    (all_polled stations.released (λ row. is_reported m.plan row ≡ true) was.lanes fit.sound (lanes.below old station was steady.planned begins.low begins.there))
+    (all_are_queued lanes.queued old station steady.standing begins.low (polled_rows was.lanes) asked)
+    (Exchanges (polled_exchange stations m old.now (station_of was) (panel_of was) fit asked
     (ap (λ (o : Option SubstationState). is_repeated_at o (poll_octets m.seq)) (sym begins.there) ∙ other)))).moves
 
 pub polled_above : StationLaws → LineLaws → LaneLaws → (old new : System) → IsSteady old → is_quiet_on old Above ≡ true → IsRound Above old new
@@ -157,7 +162,7 @@ passed_below : StationLaws → LineLaws → (station : ℕ) (old new : System) �
     → Passed (link_at old.concentrator station).master old.now (station_of begins.was) (panel_of begins.was) no_rows → PassedBelow station old new
 passed_below stations lines station old new steady quiet round begins passed =
     let x = below.moves stations lines station old new begins (lines.quiet (Below station) old steady.standing quiet) (passed_rows (Below station)) round
-    passed.answer in
+    refl passed.answer in
     record { moves = x.moves; busy = ap (λ (a : master.State). is_some a.request) x.master_is ∙ passed.busy }
 
 pub repeated_below : StationLaws → LineLaws → LaneLaws → ReportLaws → CaseLaw → (station : ℕ) (old new : System) → IsSteady old

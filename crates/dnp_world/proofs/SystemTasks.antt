@@ -1,14 +1,15 @@
 -- Steps of relaying, as what is answered tells them.
-use Rattle.std.proofs.Common.{◌≡◌, ℕ, ◌&&◌, if◌then◌else◌, Bool, true, false, List, map, get_or, slice_set, ◌⊎◌, inl, inr, Option, Some, None, Result, Ok, Err, refl, ap, ◌∙◌, subst}
+use Rattle.std.proofs.Common.{◌≡◌, ℕ, ◌&&◌, if◌then◌else◌, Bool, true, false, not, List, map, get_or, slice_set, ◌⊎◌, inl, inr, Option, Some, None, Result, Ok, Err, refl, ap, ◌∙◌, subst}
 use Rattle.std.proofs.lemmas.Bool.{both_ways}
 use Rattle.std.specs.Option.{IsSomeAnd}
 use Rattle.std.specs.Result.{IfErr, IfOk, IsErr, IsOk, OnErr, OnOk}
-use Rattle.dnp_concentrator.specs.Relayed.{IfSent, IsPast, IsSpentBy, Tells, asks_book, asks_progress, asks_stage}
+use Rattle.dnp_concentrator.specs.Relayed.{IsPast, Tells, asks_book, asks_progress, asks_stage, moves_of}
 use Rattle.dnp_concentrator.specs.Relaying.{Step, Waits, Selects, Operates, Finishes}
 use Rattle.dnp_concentrator.specs.declared.cause.Cause.{Cause}
 use Rattle.dnp_concentrator.specs.declared.relayed.Relayed.{Relayed}
 use Rattle.dnp_concentrator.specs.declared.relayed.Relayed.TheVariants as relayed
-use Rattle.dnp_controls.specs.Book.{Ledger, Has, is_pending}
+use Rattle.dnp_controls.specs.Book.{Ledger, Has, is_finished, is_pending}
+use Rattle.dnp_controls.specs.Moves.{AreGranted}
 use Rattle.dnp_controls.specs.declared.book.BookFault.{BookFault}
 use Rattle.dnp_controls.specs.declared.book.BookFault.TheVariants.{NoControl, NotPending}
 use Rattle.dnp_controls.specs.declared.book.Entry.{Entry}
@@ -29,7 +30,7 @@ use Rattle.dnp_concentrator.specs.declared.centre.Centre.{Centre}
 use Rattle.dnp_concentrator.specs.declared.concentrator.Concentrator.{Concentrator}
 use Rattle.dnp_concentrator.specs.declared.span.Spans.{Spans}
 use Rattle.dnp_world.specs.Channels.{ChannelState, GoDown, state_of}
-use Rattle.dnp_world.specs.SystemEvents.{IfOperates, IsMissing, IsRefused, Refuses, RelaysOn, SendsDown, Steps, entries_on, relaying_at, requests_of, step_on, told, with_relaying}
+use Rattle.dnp_world.specs.SystemEvents.{IsGranted, IsMissing, IsRefused, Refuses, RelaysOn, SendsDown, Steps, entries_on, relaying_at, requests_of, step_on, told, with_relaying}
 use Rattle.dnp_world.specs.SystemParts.{centre_of, concentrator_of, substation_of}
 use Rattle.dnp_world.specs.Systems.{CentreState, ConcentratorState, System, has_station}
 use Rattle.dnp_world.specs.declared.channel.Channel.{Channel}
@@ -38,17 +39,20 @@ use Rattle.dnp_world.specs.declared.event.Link.TheVariants.{Above, Below}
 use Rattle.dnp_world.specs.declared.substation.Substation.{Substation}
 use Rattle.dnp_world.proofs.SystemPlaces.{down_from, is_there, sends_at, unchanged_at}
 
--- a step that sends an OPERATE was told by an OPERATE of its control
-operates : (step : Step) (seq : ℕ) (answer : Relayed) (before after : Ledger) → Tells seq step answer → IfSent answer (IsSpentBy before after)
-    → IfOperates step (λ id. Has before.entries id is_pending)
-operates Waits seq answer before after told spent = tt
-operates (Selects own command) seq answer before after told spent = tt
-operates (Finishes own status) seq answer before after told spent = tt
-operates (Operates own command) seq relayed.Nothing before after told spent = absurd told
-operates (Operates own command) seq (relayed.Selecting id request) before after told spent = absurd told
-operates (Operates own command) seq (relayed.Finished id status) before after told spent = absurd told
-operates (Operates own command) seq (relayed.Sent id request) before after told spent =
-    subst (λ (n : ℕ). Has before.entries n is_pending) told.0 spent.was_pending
+-- what the book grants of an answer, it grants of the step that the answer tells
+granted : (step : Step) (seq : ℕ) (answer : Relayed) (book : Ledger) → Tells seq step answer → AreGranted book (moves_of answer)
+    → IsGranted book.entries step
+granted Waits seq answer book told moves = tt
+granted (Selects own command) seq answer book told moves = tt
+granted (Operates own command) seq relayed.Nothing book told moves = absurd told
+granted (Operates own command) seq (relayed.Selecting id request) book told moves = absurd told
+granted (Operates own command) seq (relayed.Finished id status) book told moves = absurd told
+granted (Operates own command) seq (relayed.Sent id request) book told moves = subst (λ (n : ℕ). Has book.entries n is_pending) told.0 moves.0
+granted (Finishes own status) seq relayed.Nothing book told moves = absurd told
+granted (Finishes own status) seq (relayed.Selecting id request) book told moves = absurd told
+granted (Finishes own status) seq (relayed.Sent id request) book told moves = absurd told
+granted (Finishes own status) seq (relayed.Finished id known) book told moves =
+    subst (λ (n : ℕ). Has book.entries n (λ state. not (is_finished state))) told.0 moves.0
 
 -- an entry that is past the step refuses it
 past_refuses : (entries : List Entry) (step : Step) → IsPast entries step → IsRefused entries step
@@ -98,11 +102,11 @@ refused_by (Err fault) (Ok done) r entries target X passed unasked missing past 
 
 -- ---- what was answered
 
--- the control of an OPERATE was pending
-pub pending_by : (answer : Result Relayed BookFault) (step : Step) (seq : ℕ) (before after : Ledger) → IfOk answer (λ told. Tells seq step told)
-    → IfOk answer (λ told. IfSent told (IsSpentBy before after)) → OnOk answer (IfOperates step (λ id. Has before.entries id is_pending))
-pending_by (Ok told) step seq before after tells spent = operates step seq told before after tells spent
-pending_by (Err fault) step seq before after tells spent = tt
+-- the book granted the step
+pub granted_by : (answer : Result Relayed BookFault) (step : Step) (seq : ℕ) (book : Ledger) → IfOk answer (λ told. Tells seq step told)
+    → IfOk answer (λ told. AreGranted book (moves_of told)) → OnOk answer (IsGranted book.entries step)
+granted_by (Ok told) step seq book tells moves = granted step seq told book tells moves
+granted_by (Err fault) step seq book tells moves = tt
 
 -- the step's request went down
 pub down_by : (answer : Result Relayed BookFault) (step : Step) (seq : ℕ) (old mid new : ChannelState) → mid ≡ old → IfOk answer (λ told. Tells seq step told)
@@ -118,11 +122,11 @@ Sends on old new =
 
 -- a step of relaying, by what was answered
 pub relays_by : (on : Link) (old new : System) (answer : Result Relayed BookFault) (result : Result (Unit {0}) Cause)
-    → OnOk answer (IfOperates (step_on old on) (λ id. Has (entries_on old on) id is_pending)) → OnOk answer (Sends on old new)
+    → OnOk answer (IsGranted (entries_on old on) (step_on old on)) → OnOk answer (Sends on old new)
     → OnErr answer (new ≡ old) → OnOk result (OnErr answer (IsRefused (entries_on old on) (step_on old on))) → OnOk result (RelaysOn on old new)
-relays_by on old new answer (Err cause) pending sends unmoved refused = tt
-relays_by on old new (Ok told) (Ok done) pending sends unmoved refused = Steps pending sends
-relays_by on old new (Err fault) (Ok done) pending sends unmoved refused = Refuses refused unmoved
+relays_by on old new answer (Err cause) granted sends unmoved refused = tt
+relays_by on old new (Ok told) (Ok done) granted sends unmoved refused = Steps granted sends
+relays_by on old new (Err fault) (Ok done) granted sends unmoved refused = Refuses refused unmoved
 
 -- what stopped it changed nothing
 pub stops_by : (answer : Result Relayed BookFault) (result : Result (Unit {0}) Cause) (X : Type 0) → OnErr result (IsErr answer) → OnErr answer X

@@ -1,6 +1,6 @@
 -- Definition: what a clean round moves: the first rows of a station's lanes, as many as fit into one fragment, go to whoever polls
 -- (own rule for a whole system; IEEE Std 1815-2012, application layer: event classes, READ, responses, confirms).
-use Rattle.std.specs.Prelude.{◌≡◌, ◌≢◌, ℕ, Bool, true, false, if◌then◌else◌, List, [], ◌++◌, is_some, slice_get, Option, Some, None}
+use Rattle.std.specs.Prelude.{◌≡◌, ◌≢◌, ℕ, Bool, true, false, if◌then◌else◌, List, [], ◌++◌, length, is_some, slice_get, Option, Some, None}
 use Rattle.dnp_concentrator.specs.Mapped.{queued_rows}
 use Rattle.dnp_eventbuf.specs.Archive.{with_events}
 use Rattle.dnp_eventbuf.specs.Stock.{Stock, all_up_to, dropped_by, with_rows, without}
@@ -28,9 +28,9 @@ pub data Leave (portion : Portion) (old new : Stock) : Type 0 where
 abbrev pub rows_queued : ConcentratorState → ℕ → List Row → List LaneRow
 rows_queued c station rows = queued_rows c.indices c.points station rows
 
--- The rows left the substation's lanes, confirmed, and came into the queue after all others, in their order; what full lanes of the
--- queue dropped for them is listed. The substation's outputs, the other substations, the concentrator's book and the centre are as
--- they were, so no other row moved, and no command.
+-- The rows left the substation's lanes, confirmed, and came into the queue after all others, in their order, as many as left: the
+-- index map leaves none of them out. What full lanes of the queue dropped for them is listed. The substation's outputs, the other
+-- substations, the concentrator's book and the centre are as they were, so no other row moved, and no command.
 pub record MovesBelow (station : ℕ) (portion_in : State → Portion) (old new : System) : Type 0 where
   pub was : SubstationState
   pub is : SubstationState
@@ -38,6 +38,7 @@ pub record MovesBelow (station : ℕ) (portion_in : State → Portion) (old new 
   pub is_there : slice_get new.substations station ≡ Some is
   pub left : Leave (portion_in (station_of was)) was.lanes is.lanes
   pub outputs : is.outputs ≡ was.outputs
+  pub all_queued : length (rows_queued old.concentrator station (portion_in (station_of was)).rows) ≡ length (portion_in (station_of was)).rows
   pub concentrator : new.concentrator ≡ record old.concentrator {
     core = new.concentrator.core;
     queue = with_rows old.concentrator.queue (rows_queued old.concentrator station (portion_in (station_of was)).rows);

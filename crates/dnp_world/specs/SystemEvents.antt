@@ -324,12 +324,13 @@ abbrev pub entries_on : System → Link → List Entry
 entries_on s (Below station) = s.concentrator.controls.entries
 entries_on s Above = s.centre.orders.entries
 
--- of a step that sends an OPERATE, by its control's id
-abbrev pub IfOperates : relaying.Step → (ℕ → Type 0) → Type 0
-IfOperates relaying.Waits P = ⊤
-IfOperates (relaying.Selects id command) P = ⊤
-IfOperates (relaying.Operates id command) P = P id
-IfOperates (relaying.Finishes id status) P = ⊤
+-- The book grants the step: an OPERATE for a control that is pending, what becomes of a control for one that isn't finished, and what
+-- it isn't asked for.
+abbrev pub IsGranted : List Entry → relaying.Step → Type 0
+IsGranted entries relaying.Waits = ⊤
+IsGranted entries (relaying.Selects id command) = ⊤
+IsGranted entries (relaying.Operates id command) = Has entries id is_pending
+IsGranted entries (relaying.Finishes id status) = Has entries id (λ state. not (is_finished state))
 
 -- the book has not this control
 abbrev pub IsMissing : List Entry → ℕ → Type 0
@@ -343,9 +344,9 @@ IsRefused entries (relaying.Selects id command) = ⊥
 IsRefused entries (relaying.Operates id command) = IsMissing entries id ⊎ Has entries id (λ state. not (is_pending state))
 IsRefused entries (relaying.Finishes id status) = IsMissing entries id ⊎ Has entries id is_finished
 
--- an OPERATE goes out for a control that is pending; a step that the book refuses for its entry does nothing
+-- a step that the book grants is done, and one that it refuses for its entry does nothing
 pub data RelaysOn (on : Link) (old new : System) : Type 0 where
-  Steps : IfOperates (step_on old on) (λ id. Has (entries_on old on) id is_pending) → SendsDown on (requests_of (step_on old on) (relaying_at old on).master.seq)
+  Steps : IsGranted (entries_on old on) (step_on old on) → SendsDown on (requests_of (step_on old on) (relaying_at old on).master.seq)
       (relaying.relaying_after (relaying_at old on) old.now (step_on old on)) (told old on (step_on old on)) new → RelaysOn on old new
   Refuses : IsRefused (entries_on old on) (step_on old on) → new ≡ old → RelaysOn on old new
 

@@ -16,6 +16,7 @@ ghost use Rattle.dnp_world.specs.Systems.{System};
 
 use crate::arriving_laws::what_is_sent_arrives;
 use crate::planned_laws::rows_in_lanes_are_asked_for;
+use dnp_concentrator::laws::no_event_is_passed_over;
 use dnp_outstation::laws::a_release_takes_what_the_octets_said;
 use dnp_outstation::link_laws::{
     a_confirm_releases_what_its_fragment_reported, commands_are_performed_as_they_are_asked,
@@ -37,7 +38,7 @@ pub fn a_master_takes_what_it_polled()
 }
 
 /// What a clean round over a quiet link moves: the first rows of the lanes below, as many as fit into a fragment, leave them and
-/// come to the end above, in their order, and nothing else moves. Where its READ is taken for the last request, as it can be after
+/// come to the end above, all of them, in their order, and nothing else moves. Where its READ is taken for the last request, as it can be after
 /// a response of a multiple of sixteen fragments, nothing moves, but for an unsolicited response that the concentrator starts then,
 /// and the master goes on waiting.
 pub fn a_clean_round_moves_rows()
@@ -48,6 +49,7 @@ pub fn a_clean_round_moves_rows()
     what_is_sound_can_be_written();
     what_is_sent_arrives();
     rows_in_lanes_are_asked_for();
+    no_event_is_passed_over();
     a_fragment_of_classes_is_said_and_released();
     a_release_takes_what_the_octets_said();
     a_confirm_releases_what_its_fragment_reported();

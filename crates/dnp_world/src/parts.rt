@@ -12,6 +12,7 @@ use crate::channel::Channel;
 use crate::event::{Damaged, Link};
 use crate::history::History;
 use crate::link_event::{End, Way};
+use crate::stored::Stored;
 use crate::substation::Substation;
 use dnp_concentrator::{Centre, Concentrator, IndexMap};
 use dnp_controls::Book;
@@ -54,12 +55,6 @@ impl<Q: Lanes, J: JournalStore, A: Book, B: Book> Model for Parts<Q, J, A, B> {
     ghost use Rattle.dnp_world.specs.SystemParts.{shown_by};
 
     ghost view = { λ p. shown_by Q.contents J.archive A.contents B.contents p };
-}
-
-/// What stands over the four stores of a system.
-pub(crate) trait Stored {
-    /// They are honest, and no book has answered Device.
-    ghost well: { Self → Type 0 };
 }
 
 impl<Q: Lanes, J: JournalStore, A: Book, B: Book> Stored for Parts<Q, J, A, B> {

@@ -1,10 +1,12 @@
 //! Laws of relaying over a whole system: a step of it keeps what stands behind the system, and the controls in progress stay in
 //! step with the books that keep them. Each function does nothing, and its contract is a law.
 
-ghost use Rattle.std.specs.Prelude.{◌≡◌, ◌^◌, ◌<◌, ℕ, true, All, List, [], ◌∷◌, Ok, ⊤};
+ghost use Rattle.std.specs.Prelude.{◌≡◌, ◌^◌, ◌<◌, ◌↔◌, ℕ, true, All, List, [], ◌∷◌, Ok, ⊤};
 ghost use Rattle.dnp_appfragment.specs.Fragments.{request_octets};
 ghost use Rattle.dnp_concentrator.specs.declared.plan.Plan.{Plan as PlanValue};
+ghost use Rattle.dnp_concentrator.specs.Relaying.{Step};
 ghost use Rattle.dnp_controls.specs.Book.{Ledger};
+ghost use Rattle.dnp_controls.specs.declared.book.Entry.{Entry as EntryValue};
 ghost use Rattle.dnp_eventbuf.specs.Archive.{Archive};
 ghost use Rattle.dnp_eventbuf.specs.Stock.{Stock};
 ghost use Rattle.dnp_master.specs.Calls.{ask_answer};
@@ -21,7 +23,7 @@ ghost use Rattle.dnp_world.specs.Joined.{Follows, Joined};
 ghost use Rattle.dnp_world.specs.Link.{Link};
 ghost use Rattle.dnp_world.specs.Octets.{commands_in};
 ghost use Rattle.dnp_world.specs.OneLinkEvents.{IsAsked, LinkState};
-ghost use Rattle.dnp_world.specs.SystemEvents.{RelaysOn};
+ghost use Rattle.dnp_world.specs.SystemEvents.{IsGranted, IsRefused, RelaysOn};
 ghost use Rattle.dnp_world.specs.SystemRuns.{Happens};
 ghost use Rattle.dnp_world.specs.SystemStanding.{IsStanding, Keeps};
 ghost use Rattle.dnp_world.specs.Systems.{System, has_station};
@@ -50,6 +52,12 @@ use dnp_outstation::link_laws::{
     content_leaves_the_connection_alone,
 };
 use dnp_pointdb::laws::a_change_makes_what_its_lane_takes;
+
+/// A book grants a step of relaying or refuses it for its entry, one of the two and never both: so of what a step may make of a
+/// system (`RelaysOn`) just one is possible.
+pub fn a_step_is_granted_or_refused()
+    ensures { (entries : List EntryValue) (step : Step) → IsGranted entries step ↔ (IsRefused entries step → ⊥) }
+{}
 
 /// The requests of a command whose fields have their widths are octets. An OPERATE asks for that command, and a SELECT for none.
 pub fn a_command_is_asked_for_as_it_is()

@@ -30,6 +30,7 @@ use crate::report::Report;
 use crate::round_fault::{ControlFault, RoundFault};
 use crate::standing_laws::plans_have_all_lanes;
 use crate::stopped::Stopped;
+use crate::stored::Stored;
 use crate::system_laws::what_a_report_shows_is_kept;
 use dnp_concentrator::addresses::{CENTRE, CONCENTRATOR_ABOVE};
 use dnp_concentrator::{Cause, Centre, Concentrator, IndexMap, MapFault, Plan};
@@ -48,7 +49,9 @@ mod carried;
 /// confirmed row vanishes, what full lanes of the queue dropped is counted, and no command was performed more often than it was
 /// issued (`headline`). So long, too, its calls do what they say.
 ///
-/// A clause sees the system, by what its stores say of themselves, and the stores.
+/// A clause sees the system, by what its stores say of themselves, and the stores. `⟦<Self as Stored>⟧.well self.new` says of
+/// these that they are well as the call ends: the queue, the journal and the two books are honest, and neither book has answered
+/// Device.
 pub struct World<Q: Lanes, J: JournalStore, A: Book, B: Book> {
     parts: Parts<Q, J, A, B>,
 }
@@ -63,6 +66,10 @@ impl<Q: Lanes, J: JournalStore, A: Book, B: Book> Model for World<Q, J, A, B> {
     ghost invariant = { λ w. IsSteadyWhileWell Q.honest J.honest A.honest A.is_stopped B.honest B.is_stopped w.parts };
 }
 
+impl<Q: Lanes, J: JournalStore, A: Book, B: Book> Stored for World<Q, J, A, B> {
+    ghost well = { λ w. StoresAreWell Q.honest J.honest A.honest A.is_stopped B.honest B.is_stopped w.stores };
+}
+
 impl<Q: Lanes + Drop, J: JournalStore + Drop, A: Book + Drop, B: Book + Drop> Drop
     for World<Q, J, A, B> {
     /// One call for whoever lets it go: its parts are looked at here alone.
@@ -73,7 +80,8 @@ impl<Q: Lanes + Drop, J: JournalStore + Drop, A: Book + Drop, B: Book + Drop> Dr
 
 impl<Q: Lanes + Drop, J: JournalStore + Drop, A: Book + Drop, B: Book + Drop> World<Q, J, A, B> {
     /// A system of a plan that keeps its limits (`Plan::keeps_limits`), all of it closed, at the moment 0, over stores that hold
-    /// nothing (`AreEmpty`): the concentrator's queue, the centre's journal, and the books of concentrator and centre.
+    /// nothing (`AreEmpty`): the concentrator's queue, the centre's journal, and the books of concentrator and centre. What a journal
+    /// in a file holds can be told of an honest one alone, so no more is asked.
     ///
     /// Refused is, first of all, an index above over 65,535 (`TooWide`), and then an index above of one kind that two
     /// substations would share (`Overlap`). After these it may be out of memory (`Memory`). What is refused drops the stores.
@@ -86,7 +94,7 @@ impl<Q: Lanes + Drop, J: JournalStore + Drop, A: Book + Drop, B: Book + Drop> Wo
         orders: B,
     ) -> Result<Self, MapFault>
         requires limits { KeepsLimits plan.now }
-        requires empty { AreEmpty (Q.contents queue) (J.archive journal) (A.contents controls) (B.contents orders) }
+        requires empty { J.honest journal → AreEmpty (Q.contents queue) (J.archive journal) (A.contents controls) (B.contents orders) }
         ensures fresh { IfOk result (λ w. w.system
             ≡ fresh_system plan.now (Q.contents queue) (J.archive journal) (A.contents controls) (B.contents orders)) }
         ensures stores { IfOk result (λ w. w.stores ≡ record { queue = queue; journal = journal; controls = controls; orders = orders }) }
@@ -119,8 +127,8 @@ impl<Q: Lanes + Drop, J: JournalStore + Drop, A: Book + Drop, B: Book + Drop> Wo
 impl<Q: Lanes, J: JournalStore, A: Book, B: Book> World<Q, J, A, B> {
     /// What holds of any system, whatever was done with it, where its stores are well. It does nothing.
     pub fn headline(&self)
-        ensures holds { StoresAreWell Q.honest J.honest A.honest A.is_stopped B.honest B.is_stopped self.now.stores → Holds (report_of self.now.system) }
-        ensures all { StoresAreWell Q.honest J.honest A.honest A.is_stopped B.honest B.is_stopped self.now.stores → ListsAll self.now.system (report_of self.now.system) }
+        ensures holds { ⟦<Self as Stored>⟧.well self.now → Holds (report_of self.now.system) }
+        ensures all { ⟦<Self as Stored>⟧.well self.now → ListsAll self.now.system (report_of self.now.system) }
     {
         steady_systems_stay_steady();
         let _ = &self.parts;
@@ -144,15 +152,15 @@ impl<Q: Lanes, J: JournalStore, A: Book, B: Book> World<Q, J, A, B> {
     /// The events happen, one after the other, up to the first at which a store or a request for memory refuses. That one
     /// counts as `Lose` if it is `Deliver`, and else it is left out.
     pub fn run(&mut self, alloc: Global, events: &[Event]) -> Result<(), Stopped>
-        ensures held { StoresAreWell Q.honest J.honest A.honest A.is_stopped B.honest B.is_stopped self.new.stores → StoresAreWell Q.honest J.honest A.honest A.is_stopped B.honest B.is_stopped self.old.stores }
-        ensures done { StoresAreWell Q.honest J.honest A.honest A.is_stopped B.honest B.is_stopped self.new.stores → OnOk result (RunsTo self.old.system events.now self.new.system) }
-        ensures stopped { StoresAreWell Q.honest J.honest A.honest A.is_stopped B.honest B.is_stopped self.new.stores → IfErr result (λ stopped. StopsAfter self.old.system events.now stopped.done self.new.system) }
-        ensures lasts { StoresAreWell Q.honest J.honest A.honest A.is_stopped B.honest B.is_stopped self.new.stores → OnOk result (Lasts events.now self.old.system self.new.system) }
-        ensures lasts_so_far { StoresAreWell Q.honest J.honest A.honest A.is_stopped B.honest B.is_stopped self.new.stores → IfErr result (λ stopped. Lasts (take stopped.done events.now) self.old.system self.new.system) }
-        ensures issued { StoresAreWell Q.honest J.honest A.honest A.is_stopped B.honest B.is_stopped self.new.stores → OnOk result (Issues events.now self.old.system self.new.system) }
-        ensures issued_so_far { StoresAreWell Q.honest J.honest A.honest A.is_stopped B.honest B.is_stopped self.new.stores → IfErr result (λ stopped. Issues (take stopped.done events.now) self.old.system self.new.system) }
-        ensures holds { StoresAreWell Q.honest J.honest A.honest A.is_stopped B.honest B.is_stopped self.new.stores → Holds (report_of self.new.system) }
-        ensures opens { StoresAreWell Q.honest J.honest A.honest A.is_stopped B.honest B.is_stopped self.new.stores → OnOk result (OpensQuiet events.now self.new.system) }
+        ensures held { ⟦<Self as Stored>⟧.well self.new → ⟦<Self as Stored>⟧.well self.old }
+        ensures done { ⟦<Self as Stored>⟧.well self.new → OnOk result (RunsTo self.old.system events.now self.new.system) }
+        ensures stopped { ⟦<Self as Stored>⟧.well self.new → IfErr result (λ stopped. StopsAfter self.old.system events.now stopped.done self.new.system) }
+        ensures lasts { ⟦<Self as Stored>⟧.well self.new → OnOk result (Lasts events.now self.old.system self.new.system) }
+        ensures lasts_so_far { ⟦<Self as Stored>⟧.well self.new → IfErr result (λ stopped. Lasts (take stopped.done events.now) self.old.system self.new.system) }
+        ensures issued { ⟦<Self as Stored>⟧.well self.new → OnOk result (Issues events.now self.old.system self.new.system) }
+        ensures issued_so_far { ⟦<Self as Stored>⟧.well self.new → IfErr result (λ stopped. Issues (take stopped.done events.now) self.old.system self.new.system) }
+        ensures holds { ⟦<Self as Stored>⟧.well self.new → Holds (report_of self.new.system) }
+        ensures opens { ⟦<Self as Stored>⟧.well self.new → OnOk result (OpensQuiet events.now self.new.system) }
     {
         self.run_by(alloc, events, &mut InMemory)
     }
@@ -167,15 +175,15 @@ impl<Q: Lanes, J: JournalStore, A: Book, B: Book> World<Q, J, A, B> {
     /// Refused is a link that isn't quiet (`NotQuiet`): one outside the plan, or one of whose ends is closed, or awaits an
     /// answer, or whose lines carry anything or are broken. Where an event stops (`Fault`), those before it happened.
     pub fn clean_round(&mut self, alloc: Global, on: Link) -> Result<(), RoundFault>
-        ensures held { StoresAreWell Q.honest J.honest A.honest A.is_stopped B.honest B.is_stopped self.new.stores → StoresAreWell Q.honest J.honest A.honest A.is_stopped B.honest B.is_stopped self.old.stores }
+        ensures held { ⟦<Self as Stored>⟧.well self.new → ⟦<Self as Stored>⟧.well self.old }
         ensures not_quiet { (result ≡ Err RoundFault.NotQuiet) ↔ (is_quiet_on self.old.system on ≡ false) }
         ensures unchanged { result ≡ Err RoundFault.NotQuiet → self.new ≡ self.old }
-        ensures done { StoresAreWell Q.honest J.honest A.honest A.is_stopped B.honest B.is_stopped self.new.stores → OnOk result (IsRound on self.old.system self.new.system) }
-        ensures stopped { StoresAreWell Q.honest J.honest A.honest A.is_stopped B.honest B.is_stopped self.new.stores → IfErr result (λ fault. fault ≢ RoundFault.NotQuiet → StopsInRound on self.old.system self.new.system) }
-        ensures moves { StoresAreWell Q.honest J.honest A.honest A.is_stopped B.honest B.is_stopped self.new.stores → OnOk result ∥ RoundMoves on self.old.system self.new.system ∥₁ }
-        ensures fate { StoresAreWell Q.honest J.honest A.honest A.is_stopped B.honest B.is_stopped self.new.stores → IsFate (λ i. []) (report_of self.old.system) (report_of self.new.system) }
-        ensures none_issued { StoresAreWell Q.honest J.honest A.honest A.is_stopped B.honest B.is_stopped self.new.stores → self.new.system.history.issued ≡ self.old.system.history.issued }
-        ensures holds { StoresAreWell Q.honest J.honest A.honest A.is_stopped B.honest B.is_stopped self.new.stores → Holds (report_of self.new.system) }
+        ensures done { ⟦<Self as Stored>⟧.well self.new → OnOk result (IsRound on self.old.system self.new.system) }
+        ensures stopped { ⟦<Self as Stored>⟧.well self.new → IfErr result (λ fault. fault ≢ RoundFault.NotQuiet → StopsInRound on self.old.system self.new.system) }
+        ensures moves { ⟦<Self as Stored>⟧.well self.new → OnOk result ∥ RoundMoves on self.old.system self.new.system ∥₁ }
+        ensures fate { ⟦<Self as Stored>⟧.well self.new → IsFate (λ i. []) (report_of self.old.system) (report_of self.new.system) }
+        ensures none_issued { ⟦<Self as Stored>⟧.well self.new → self.new.system.history.issued ≡ self.old.system.history.issued }
+        ensures holds { ⟦<Self as Stored>⟧.well self.new → Holds (report_of self.new.system) }
     {
         self.clean_round_by(alloc, on, &mut InMemory)
     }
@@ -190,13 +198,13 @@ impl<Q: Lanes, J: JournalStore, A: Book, B: Book> World<Q, J, A, B> {
     /// So the substation has performed it, once, and both books say SUCCESS if it is done; and where a status ends it no substation has
     /// performed anything.
     pub fn clean_control(&mut self, alloc: Global, id: u64) -> Result<(), ControlFault>
-        ensures held { StoresAreWell Q.honest J.honest A.honest A.is_stopped B.honest B.is_stopped self.new.stores → StoresAreWell Q.honest J.honest A.honest A.is_stopped B.honest B.is_stopped self.old.stores }
-        ensures ends { StoresAreWell Q.honest J.honest A.honest A.is_stopped B.honest B.is_stopped self.new.stores → ControlEnds id self.old.system result self.new.system }
-        ensures operates { StoresAreWell Q.honest J.honest A.honest A.is_stopped B.honest B.is_stopped self.new.stores → OnOk result ∥ ControlMoves id self.old.system self.new.system ∥₁ }
-        ensures rests { StoresAreWell Q.honest J.honest A.honest A.is_stopped B.honest B.is_stopped self.new.stores → (status : ℕ) → result ≡ Err (ControlFault.Refused status) → self.new.system.history.operated ≡ self.old.system.history.operated }
-        ensures fate { StoresAreWell Q.honest J.honest A.honest A.is_stopped B.honest B.is_stopped self.new.stores → IsFate (λ i. []) (report_of self.old.system) (report_of self.new.system) }
-        ensures none_issued { StoresAreWell Q.honest J.honest A.honest A.is_stopped B.honest B.is_stopped self.new.stores → self.new.system.history.issued ≡ self.old.system.history.issued }
-        ensures holds { StoresAreWell Q.honest J.honest A.honest A.is_stopped B.honest B.is_stopped self.new.stores → Holds (report_of self.new.system) }
+        ensures held { ⟦<Self as Stored>⟧.well self.new → ⟦<Self as Stored>⟧.well self.old }
+        ensures ends { ⟦<Self as Stored>⟧.well self.new → ControlEnds id self.old.system result self.new.system }
+        ensures operates { ⟦<Self as Stored>⟧.well self.new → OnOk result ∥ ControlMoves id self.old.system self.new.system ∥₁ }
+        ensures rests { ⟦<Self as Stored>⟧.well self.new → (status : ℕ) → result ≡ Err (ControlFault.Refused status) → self.new.system.history.operated ≡ self.old.system.history.operated }
+        ensures fate { ⟦<Self as Stored>⟧.well self.new → IsFate (λ i. []) (report_of self.old.system) (report_of self.new.system) }
+        ensures none_issued { ⟦<Self as Stored>⟧.well self.new → self.new.system.history.issued ≡ self.old.system.history.issued }
+        ensures holds { ⟦<Self as Stored>⟧.well self.new → Holds (report_of self.new.system) }
     {
         self.clean_control_by(alloc, id, &mut InMemory)
     }
@@ -227,11 +235,11 @@ impl<Q: Lanes, J: JournalStore, A: Book, B: Book> World<Q, J, A, B> {
 
     /// What became of all rows and commands so far. It changes nothing, and what holds at every moment holds of it.
     pub fn report(&mut self, alloc: Global) -> Result<Report, Cause>
-        ensures held { StoresAreWell Q.honest J.honest A.honest A.is_stopped B.honest B.is_stopped self.new.stores → StoresAreWell Q.honest J.honest A.honest A.is_stopped B.honest B.is_stopped self.old.stores }
-        ensures same { StoresAreWell Q.honest J.honest A.honest A.is_stopped B.honest B.is_stopped self.new.stores → self.new.system ≡ self.old.system }
-        ensures shows { StoresAreWell Q.honest J.honest A.honest A.is_stopped B.honest B.is_stopped self.new.stores → IfOk result (Shows self.old.system) }
-        ensures holds { StoresAreWell Q.honest J.honest A.honest A.is_stopped B.honest B.is_stopped self.new.stores → IfOk result (λ report. Holds (lists_of report)) }
-        ensures all { StoresAreWell Q.honest J.honest A.honest A.is_stopped B.honest B.is_stopped self.new.stores → IfOk result (λ report. ListsAll self.old.system (lists_of report)) }
+        ensures held { ⟦<Self as Stored>⟧.well self.new → ⟦<Self as Stored>⟧.well self.old }
+        ensures same { ⟦<Self as Stored>⟧.well self.new → self.new.system ≡ self.old.system }
+        ensures shows { ⟦<Self as Stored>⟧.well self.new → IfOk result (Shows self.old.system) }
+        ensures holds { ⟦<Self as Stored>⟧.well self.new → IfOk result (λ report. Holds (lists_of report)) }
+        ensures all { ⟦<Self as Stored>⟧.well self.new → IfOk result (λ report. ListsAll self.old.system (lists_of report)) }
     {
         what_a_report_shows_is_kept();
         self.parts.report(alloc)

@@ -3,7 +3,9 @@
 use crate::run::scripted::Scripted;
 use dnp_controls::Book;
 use dnp_eventbuf::{JournalStore, Lanes};
-use dnp_world::{Carrier, Cause, ControlFault, Event, Link, Report, RoundFault, Way, World};
+use dnp_world::{
+    Carrier, Cause, ControlFault, Event, Link, Report, RoundFault, Stored, Way, World,
+};
 use std::alloc::Global;
 use std::slice;
 
@@ -18,14 +20,13 @@ pub(crate) struct Carried<Q: Lanes, J: JournalStore, A: Book, B: Book, C> {
 
 impl<Q: Lanes, J: JournalStore, A: Book, B: Book, C: Carrier> Scripted for Carried<Q, J, A, B, C> {
     ghost use Rattle.dnp_daemons.specs.ScriptWorlds.{law_of_worlds};
-    ghost use Rattle.dnp_world.specs.Shown.{StoresAreWell};
     ghost use Rattle.dnp_world.specs.Systems.{System};
 
     ghost State = { System };
 
     ghost state = { λ s. s.world.system };
 
-    ghost honest = { λ s. StoresAreWell Q.honest J.honest A.honest A.is_stopped B.honest B.is_stopped s.world.stores };
+    ghost honest = { λ s. ⟦<World<Q, J, A, B> as Stored>⟧.well s.world };
 
     ghost law = { law_of_worlds };
 

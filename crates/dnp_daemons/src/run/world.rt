@@ -3,20 +3,19 @@
 use crate::run::scripted::Scripted;
 use dnp_controls::Book;
 use dnp_eventbuf::{JournalStore, Lanes};
-use dnp_world::{Cause, ControlFault, Event, Link, Report, RoundFault, Way, World};
+use dnp_world::{Cause, ControlFault, Event, Link, Report, RoundFault, Stored, Way, World};
 use std::alloc::Global;
 use std::slice;
 
 impl<Q: Lanes, J: JournalStore, A: Book, B: Book> Scripted for World<Q, J, A, B> {
     ghost use Rattle.dnp_daemons.specs.ScriptWorlds.{law_of_worlds};
-    ghost use Rattle.dnp_world.specs.Shown.{StoresAreWell};
     ghost use Rattle.dnp_world.specs.Systems.{System};
 
     ghost State = { System };
 
     ghost state = { λ world. world.system };
 
-    ghost honest = { λ world. StoresAreWell Q.honest J.honest A.honest A.is_stopped B.honest B.is_stopped world.stores };
+    ghost honest = { λ world. ⟦<World<Q, J, A, B> as Stored>⟧.well world };
 
     ghost law = { law_of_worlds };
 

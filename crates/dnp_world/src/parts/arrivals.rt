@@ -6,9 +6,10 @@ ghost use Rattle.dnp_world.specs.SystemEvents.{ComesDownAbove, ComesDownBelow, C
 ghost use Rattle.dnp_world.specs.Systems.{has_link, has_station};
 ghost use Rattle.dnp_world.specs.declared.event.Link.TheVariants as link;
 
-use super::{Parts, Stored};
+use super::Parts;
 use crate::event::Link;
 use crate::link_event::Way;
+use crate::stored::Stored;
 use dnp_concentrator::Cause;
 use dnp_controls::Book;
 use dnp_eventbuf::{JournalStore, Lanes};

@@ -4,9 +4,10 @@ ghost use Rattle.std.specs.Prelude.{◌≡◌, true, OnErr, OnOk};
 ghost use Rattle.dnp_world.specs.SystemEvents.{OpensOn, OutstationTicks, SubstationRestarts, concentrator_restarted};
 ghost use Rattle.dnp_world.specs.Systems.{has_link, has_station};
 
-use super::{Parts, Stored};
+use super::Parts;
 use crate::event::Link;
 use crate::link_event::End;
+use crate::stored::Stored;
 use crate::substation::hang_up_masters;
 use dnp_concentrator::Cause;
 use dnp_controls::Book;

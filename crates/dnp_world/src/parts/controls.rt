@@ -7,11 +7,12 @@ ghost use Rattle.dnp_world.specs.ControlSteps.{EndsBy};
 ghost use Rattle.dnp_world.specs.Controls.{ControlEnds, IsAccepted, IsControlFor, IsRefusedFor, IsRefusedOn, IsTold, Passes, PassesBack, StopsBack, StopsFor, StopsOn, StopsRelaying, are_quiet_for, first_with, found_in, is_free_below, is_next_for, next_below, station_in, status_in, status_on};
 ghost use Rattle.dnp_world.specs.Systems.{has_station};
 
-use super::{Parts, Stored};
+use super::Parts;
 use crate::carrier::Carrier;
 use crate::event::{Event, Link};
 use crate::link_event::Way;
 use crate::round_fault::ControlFault;
+use crate::stored::Stored;
 use dnp_concentrator::Cause;
 use dnp_controls::{Book, Entry, State};
 use dnp_eventbuf::{JournalStore, Lanes};

@@ -7,11 +7,12 @@ ghost use Rattle.dnp_world.specs.Systems.{has_link};
 ghost use Rattle.dnp_world.specs.declared.event.Event.TheVariants as event;
 ghost use Rattle.dnp_line.specs.Lines.{delivered_on};
 
-use super::{Parts, Stored};
+use super::Parts;
 use crate::carrier::Carrier;
 use crate::event::{Event, Link, Place};
 use crate::link_event::{End, Way};
 use crate::stopped::Stopped;
+use crate::stored::Stored;
 use dnp_concentrator::Cause;
 use dnp_controls::Book;
 use dnp_eventbuf::{JournalStore, Lanes};

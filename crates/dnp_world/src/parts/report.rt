@@ -9,11 +9,12 @@ ghost use Rattle.dnp_world.specs.Stations.{listed_from};
 ghost use Rattle.dnp_world.specs.SystemParts.{substation_of};
 ghost use Rattle.dnp_world.specs.Systems.{at_station};
 
-use super::{Parts, Stored};
+use super::Parts;
 use crate::reading::{
     all_rows, journal_rows, lost_rows, numbered_below, put_rows_of, rows_below, rows_by_id,
 };
 use crate::report::Report;
+use crate::stored::Stored;
 use crate::substation::Substation;
 use dnp_concentrator::{Cause, Listed};
 use dnp_controls::Book;

@@ -3,11 +3,12 @@
 ghost use Rattle.std.specs.Prelude.{◌≡◌, ◌≢◌, ◌↔◌, false, Err, IfErr, OnErr, OnOk};
 ghost use Rattle.dnp_world.specs.Rounds.{Flushes, IsRound, StopsFlushing, StopsInRound, is_quiet_on};
 
-use super::{Parts, Stored};
+use super::Parts;
 use crate::carrier::Carrier;
 use crate::event::{Event, Link};
 use crate::link_event::Way;
 use crate::round_fault::RoundFault;
+use crate::stored::Stored;
 use dnp_concentrator::Cause;
 use dnp_controls::Book;
 use dnp_eventbuf::{JournalStore, Lanes};

@@ -14,10 +14,11 @@ ghost use Rattle.dnp_world.specs.SystemEvents.{AsksOn, IssuesBy, Reads, RelaysOn
 ghost use Rattle.dnp_world.specs.Systems.{has_link, has_station};
 ghost use Rattle.dnp_world.specs.declared.event.Link.TheVariants as link;
 
-use super::{Parts, Stored};
+use super::Parts;
 use crate::channel::Channel;
 use crate::event::Link;
 use crate::sending::FRAGMENT_UNITS;
+use crate::stored::Stored;
 use dnp_concentrator::{Cause, IssueFault, Relayed};
 use dnp_controls::{Book, BookFault};
 use dnp_eventbuf::{JournalStore, Lanes};

@@ -8,7 +8,6 @@ ghost use Rattle.dnp_world.specs.Movement.{RoundMoves};
 ghost use Rattle.dnp_world.specs.Opening.{OpensQuiet};
 ghost use Rattle.dnp_world.specs.Reports.{Holds, IsFate};
 ghost use Rattle.dnp_world.specs.Rounds.{IsRound, StopsInRound, is_quiet_on};
-ghost use Rattle.dnp_world.specs.Shown.{StoresAreWell};
 ghost use Rattle.dnp_world.specs.Steady.{Issues, Lasts};
 ghost use Rattle.dnp_world.specs.SystemRuns.{RunsTo, StopsAfter};
 
@@ -23,6 +22,7 @@ use crate::movement_laws::a_clean_round_moves_rows;
 use crate::opening_laws::an_opened_link_is_quiet;
 use crate::round_fault::{ControlFault, RoundFault};
 use crate::stopped::Stopped;
+use crate::stored::Stored;
 use crate::world::World;
 use dnp_controls::Book;
 use dnp_eventbuf::{JournalStore, Lanes};
@@ -37,15 +37,15 @@ impl<Q: Lanes, J: JournalStore, A: Book, B: Book> World<Q, J, A, B> {
         events: &[Event],
         carrier: &mut C,
     ) -> Result<(), Stopped>
-        ensures held { StoresAreWell Q.honest J.honest A.honest A.is_stopped B.honest B.is_stopped self.new.stores → StoresAreWell Q.honest J.honest A.honest A.is_stopped B.honest B.is_stopped self.old.stores }
-        ensures done { StoresAreWell Q.honest J.honest A.honest A.is_stopped B.honest B.is_stopped self.new.stores → OnOk result (RunsTo self.old.system events.now self.new.system) }
-        ensures stopped { StoresAreWell Q.honest J.honest A.honest A.is_stopped B.honest B.is_stopped self.new.stores → IfErr result (λ stopped. StopsAfter self.old.system events.now stopped.done self.new.system) }
-        ensures lasts { StoresAreWell Q.honest J.honest A.honest A.is_stopped B.honest B.is_stopped self.new.stores → OnOk result (Lasts events.now self.old.system self.new.system) }
-        ensures lasts_so_far { StoresAreWell Q.honest J.honest A.honest A.is_stopped B.honest B.is_stopped self.new.stores → IfErr result (λ stopped. Lasts (take stopped.done events.now) self.old.system self.new.system) }
-        ensures issued { StoresAreWell Q.honest J.honest A.honest A.is_stopped B.honest B.is_stopped self.new.stores → OnOk result (Issues events.now self.old.system self.new.system) }
-        ensures issued_so_far { StoresAreWell Q.honest J.honest A.honest A.is_stopped B.honest B.is_stopped self.new.stores → IfErr result (λ stopped. Issues (take stopped.done events.now) self.old.system self.new.system) }
-        ensures holds { StoresAreWell Q.honest J.honest A.honest A.is_stopped B.honest B.is_stopped self.new.stores → Holds (report_of self.new.system) }
-        ensures opens { StoresAreWell Q.honest J.honest A.honest A.is_stopped B.honest B.is_stopped self.new.stores → OnOk result (OpensQuiet events.now self.new.system) }
+        ensures held { ⟦<Self as Stored>⟧.well self.new → ⟦<Self as Stored>⟧.well self.old }
+        ensures done { ⟦<Self as Stored>⟧.well self.new → OnOk result (RunsTo self.old.system events.now self.new.system) }
+        ensures stopped { ⟦<Self as Stored>⟧.well self.new → IfErr result (λ stopped. StopsAfter self.old.system events.now stopped.done self.new.system) }
+        ensures lasts { ⟦<Self as Stored>⟧.well self.new → OnOk result (Lasts events.now self.old.system self.new.system) }
+        ensures lasts_so_far { ⟦<Self as Stored>⟧.well self.new → IfErr result (λ stopped. Lasts (take stopped.done events.now) self.old.system self.new.system) }
+        ensures issued { ⟦<Self as Stored>⟧.well self.new → OnOk result (Issues events.now self.old.system self.new.system) }
+        ensures issued_so_far { ⟦<Self as Stored>⟧.well self.new → IfErr result (λ stopped. Issues (take stopped.done events.now) self.old.system self.new.system) }
+        ensures holds { ⟦<Self as Stored>⟧.well self.new → Holds (report_of self.new.system) }
+        ensures opens { ⟦<Self as Stored>⟧.well self.new → OnOk result (OpensQuiet events.now self.new.system) }
     {
         steady_systems_stay_steady();
         commands_are_issued_by_events_alone();
@@ -61,15 +61,15 @@ impl<Q: Lanes, J: JournalStore, A: Book, B: Book> World<Q, J, A, B> {
         on: Link,
         carrier: &mut C,
     ) -> Result<(), RoundFault>
-        ensures held { StoresAreWell Q.honest J.honest A.honest A.is_stopped B.honest B.is_stopped self.new.stores → StoresAreWell Q.honest J.honest A.honest A.is_stopped B.honest B.is_stopped self.old.stores }
+        ensures held { ⟦<Self as Stored>⟧.well self.new → ⟦<Self as Stored>⟧.well self.old }
         ensures not_quiet { (result ≡ Err RoundFault.NotQuiet) ↔ (is_quiet_on self.old.system on ≡ false) }
         ensures unchanged { result ≡ Err RoundFault.NotQuiet → self.new ≡ self.old }
-        ensures done { StoresAreWell Q.honest J.honest A.honest A.is_stopped B.honest B.is_stopped self.new.stores → OnOk result (IsRound on self.old.system self.new.system) }
-        ensures stopped { StoresAreWell Q.honest J.honest A.honest A.is_stopped B.honest B.is_stopped self.new.stores → IfErr result (λ fault. fault ≢ RoundFault.NotQuiet → StopsInRound on self.old.system self.new.system) }
-        ensures moves { StoresAreWell Q.honest J.honest A.honest A.is_stopped B.honest B.is_stopped self.new.stores → OnOk result ∥ RoundMoves on self.old.system self.new.system ∥₁ }
-        ensures fate { StoresAreWell Q.honest J.honest A.honest A.is_stopped B.honest B.is_stopped self.new.stores → IsFate (λ i. []) (report_of self.old.system) (report_of self.new.system) }
-        ensures none_issued { StoresAreWell Q.honest J.honest A.honest A.is_stopped B.honest B.is_stopped self.new.stores → self.new.system.history.issued ≡ self.old.system.history.issued }
-        ensures holds { StoresAreWell Q.honest J.honest A.honest A.is_stopped B.honest B.is_stopped self.new.stores → Holds (report_of self.new.system) }
+        ensures done { ⟦<Self as Stored>⟧.well self.new → OnOk result (IsRound on self.old.system self.new.system) }
+        ensures stopped { ⟦<Self as Stored>⟧.well self.new → IfErr result (λ fault. fault ≢ RoundFault.NotQuiet → StopsInRound on self.old.system self.new.system) }
+        ensures moves { ⟦<Self as Stored>⟧.well self.new → OnOk result ∥ RoundMoves on self.old.system self.new.system ∥₁ }
+        ensures fate { ⟦<Self as Stored>⟧.well self.new → IsFate (λ i. []) (report_of self.old.system) (report_of self.new.system) }
+        ensures none_issued { ⟦<Self as Stored>⟧.well self.new → self.new.system.history.issued ≡ self.old.system.history.issued }
+        ensures holds { ⟦<Self as Stored>⟧.well self.new → Holds (report_of self.new.system) }
     {
         steady_systems_stay_steady();
         rounds_and_controls_keep_a_system_steady();
@@ -86,13 +86,13 @@ impl<Q: Lanes, J: JournalStore, A: Book, B: Book> World<Q, J, A, B> {
         id: u64,
         carrier: &mut C,
     ) -> Result<(), ControlFault>
-        ensures held { StoresAreWell Q.honest J.honest A.honest A.is_stopped B.honest B.is_stopped self.new.stores → StoresAreWell Q.honest J.honest A.honest A.is_stopped B.honest B.is_stopped self.old.stores }
-        ensures ends { StoresAreWell Q.honest J.honest A.honest A.is_stopped B.honest B.is_stopped self.new.stores → ControlEnds id self.old.system result self.new.system }
-        ensures operates { StoresAreWell Q.honest J.honest A.honest A.is_stopped B.honest B.is_stopped self.new.stores → OnOk result ∥ ControlMoves id self.old.system self.new.system ∥₁ }
-        ensures rests { StoresAreWell Q.honest J.honest A.honest A.is_stopped B.honest B.is_stopped self.new.stores → (status : ℕ) → result ≡ Err (ControlFault.Refused status) → self.new.system.history.operated ≡ self.old.system.history.operated }
-        ensures fate { StoresAreWell Q.honest J.honest A.honest A.is_stopped B.honest B.is_stopped self.new.stores → IsFate (λ i. []) (report_of self.old.system) (report_of self.new.system) }
-        ensures none_issued { StoresAreWell Q.honest J.honest A.honest A.is_stopped B.honest B.is_stopped self.new.stores → self.new.system.history.issued ≡ self.old.system.history.issued }
-        ensures holds { StoresAreWell Q.honest J.honest A.honest A.is_stopped B.honest B.is_stopped self.new.stores → Holds (report_of self.new.system) }
+        ensures held { ⟦<Self as Stored>⟧.well self.new → ⟦<Self as Stored>⟧.well self.old }
+        ensures ends { ⟦<Self as Stored>⟧.well self.new → ControlEnds id self.old.system result self.new.system }
+        ensures operates { ⟦<Self as Stored>⟧.well self.new → OnOk result ∥ ControlMoves id self.old.system self.new.system ∥₁ }
+        ensures rests { ⟦<Self as Stored>⟧.well self.new → (status : ℕ) → result ≡ Err (ControlFault.Refused status) → self.new.system.history.operated ≡ self.old.system.history.operated }
+        ensures fate { ⟦<Self as Stored>⟧.well self.new → IsFate (λ i. []) (report_of self.old.system) (report_of self.new.system) }
+        ensures none_issued { ⟦<Self as Stored>⟧.well self.new → self.new.system.history.issued ≡ self.old.system.history.issued }
+        ensures holds { ⟦<Self as Stored>⟧.well self.new → Holds (report_of self.new.system) }
     {
         steady_systems_stay_steady();
         rounds_and_controls_keep_a_system_steady();

@@ -32,7 +32,11 @@ lines_of c = record {
 }
 
 lanes_of : goal.After-each_case_says_what_came → LaneLaws
-lanes_of c = record { below = c.rows_in_lanes_are_asked_for.ensures.below; above = c.rows_in_lanes_are_asked_for.ensures.above }
+lanes_of c = record {
+  below = c.rows_in_lanes_are_asked_for.ensures.below;
+  queued = c.no_event_is_passed_over.ensures.all;
+  above = c.rows_in_lanes_are_asked_for.ensures.above;
+}
 
 reports_of : goal.After-each_case_says_what_came → ReportLaws
 reports_of c = record {

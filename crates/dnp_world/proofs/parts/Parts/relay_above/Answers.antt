@@ -6,7 +6,7 @@ use Rattle.dnp_concentrator.specs.Relaying.{step_of}
 use Rattle.dnp_world.specs.Channels.{state_of}
 use Rattle.dnp_world.specs.SystemParts.{system_of}
 use Rattle.dnp_world.specs.declared.event.Link.TheVariants.{Above}
-use Rattle.dnp_world.proofs.SystemTasks.{down_by, pending_by, refused_by, relays_by, sends_above, stops_by, unmoved_above}
+use Rattle.dnp_world.proofs.SystemTasks.{down_by, granted_by, refused_by, relays_by, sends_above, stops_by, unmoved_above}
 use Rattle.dnp_world.proofs.parts.Parts.relay_above.Goals as goal
 
 pub returns-clause-done : goal.returns-clause-done
@@ -23,8 +23,7 @@ returns-clause-done g c = λ well.
     c.reserve_down.ensures.same (relay.told well.orders_is) c.send_relayed.ensures.sent in
     rw (← c.self.view_is)
     (relays_by Above old _ answer c.send_relayed.result
-    (pending_by answer step link.master.seq old.centre.orders (ledger (book_of c.relay-relayed.new.self)) (relay.told well.orders_is)
-    (relay.spent well.orders_is))
+    (granted_by answer step link.master.seq old.centre.orders (relay.told well.orders_is) (relay.granted well.orders_is))
     (sends_above archive ledger old c.self.inside.centre c.relay-relayed.new.self (state_of c.send_relayed.new.channel) answer (relay.link well.orders_is)
     (relay.ledger well.orders_is) relay.journal relay.indices down)
     (unmoved_above archive ledger old c.self.inside.centre c.relay-relayed.new.self (state_of c.send_relayed.new.channel) answer relay.unchanged

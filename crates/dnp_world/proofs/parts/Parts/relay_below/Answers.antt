@@ -9,7 +9,7 @@ use Rattle.dnp_world.specs.Systems.{link_at}
 use Rattle.dnp_world.specs.declared.event.Link.TheVariants.{Below}
 use Rattle.dnp_world.proofs.OneLinkRuns.{any_err}
 use Rattle.dnp_world.proofs.SystemPlaces.{unchanged_at}
-use Rattle.dnp_world.proofs.SystemTasks.{down_by, pending_by, refused_by, relays_by, sends_below, stops_by, unmoved_below}
+use Rattle.dnp_world.proofs.SystemTasks.{down_by, granted_by, refused_by, relays_by, sends_below, stops_by, unmoved_below}
 use Rattle.dnp_world.proofs.parts.Parts.relay_below.Goals as goal
 
 pub returns-in_err-reserve_down-clause-stopped : goal.returns-in_err-reserve_down-clause-stopped
@@ -36,8 +36,7 @@ returns-clause-done g c = λ well.
     c.reserve_down.ensures.same (relay.told well.controls_is) c.send_relayed.ensures.sent in
     rw (← c.self.view_is)
     (relays_by (Below c.args.station) old _ answer c.send_relayed.result
-    (pending_by answer step link.master.seq old.concentrator.controls (ledger (book_of c.relay-relayed.new.self)) (relay.told well.controls_is)
-    (relay.spent well.controls_is))
+    (granted_by answer step link.master.seq old.concentrator.controls (relay.told well.controls_is) (relay.granted well.controls_is))
     (sends_below g.Q.Lanes.contents ledger old c.self.inside.concentrator c.relay-relayed.new.self c.args.station c.from.result c.self.inside.substations.items
     was c.send_relayed.new.channel answer c.from.ensures (rw (← c.self.view_is) at c.requires) c.index_mut.ensures.value (relay.link well.controls_is)
     (relay.ledger well.controls_is) relay.core relay.queue relay.indices relay.plan down)

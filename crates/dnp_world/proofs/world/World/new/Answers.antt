@@ -26,4 +26,5 @@ invariant_of-result g c = λ well.
     }) in
     let fresh : new ≡ fresh_system plan queue journal controls orders = search rules in
     let begins : CanBegin plan = search rules in
-    ∣ subst IsSteady (sym fresh) (c.steady_systems_stay_steady.ensures.at_first plan queue journal controls orders begins c.requires.empty) ∣₁
+    let honest : g.J.Sink.honest c.args.journal = subst g.J.Sink.honest c.in_ok-centre.ensures.journal well.journal_is in
+    ∣ subst IsSteady (sym fresh) (c.steady_systems_stay_steady.ensures.at_first plan queue journal controls orders begins (c.requires.empty honest)) ∣₁
