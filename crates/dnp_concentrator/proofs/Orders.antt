@@ -14,7 +14,7 @@ use Rattle.dnp_concentrator.specs.declared.index_kind.IndexKind.{IndexKind}
 use Rattle.dnp_concentrator.specs.declared.order.Place.{Place}
 use Rattle.dnp_concentrator.specs.declared.span.Spans.{Spans}
 use Rattle.dnp_concentrator.specs.IndexMap.{IsApart, index_below, is_in, no_spans, one_on, span_of}
-use Rattle.dnp_concentrator.specs.Order.{IsOrder, as_block, extent}
+use Rattle.dnp_concentrator.specs.steps.Order.{IsOrder, as_block, extent}
 
 -- ---- places as those of blocks
 

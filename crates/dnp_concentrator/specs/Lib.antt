@@ -13,4 +13,4 @@ pub mod PointsAbove
 pub mod Relayed
 pub mod Relaying
 -- Words of private steps.
-pub mod Order
+pub mod steps

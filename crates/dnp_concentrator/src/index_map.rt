@@ -2,7 +2,7 @@
 
 ghost use Rattle.std.specs.Prelude.{◌≡◌, ◌↔◌, ◌≤◌, ◌<◌, ◌+◌, ℕ, IfOk, IfSome, IsTrue, true, Any, Err, length, map};
 ghost use Rattle.dnp_concentrator.specs.IndexMap.{IsMap, IsWide, IsTooWide, Meet, ShareIndex, Overlaps, span_of, index_above, index_below};
-ghost use Rattle.dnp_concentrator.specs.Order.{AreOrders};
+ghost use Rattle.dnp_concentrator.specs.steps.Order.{AreOrders};
 ghost use Rattle.dnp_concentrator.specs.Plan.{map_of, spans_of, KeepsLimits};
 
 use crate::fault::MapFault;
@@ -35,7 +35,7 @@ impl Model for IndexMap {
     ghost use Rattle.dnp_concentrator.specs.declared.limits.TheConstants.{MAX_SUBSTATIONS};
     ghost use Rattle.dnp_concentrator.specs.declared.span.Spans.{Spans};
     ghost use Rattle.dnp_concentrator.specs.IndexMap.{IsMap};
-    ghost use Rattle.dnp_concentrator.specs.Order.{AreOrders};
+    ghost use Rattle.dnp_concentrator.specs.steps.Order.{AreOrders};
 
     ghost Value = { List Spans };
 

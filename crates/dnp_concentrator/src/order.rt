@@ -5,7 +5,7 @@ ghost use Rattle.std.specs.List.Sorted.{IsNonDecreasingBy};
 ghost use Rattle.dnp_concentrator.specs.declared.index_kind.IndexKind.{IndexKind as KindValue};
 ghost use Rattle.dnp_concentrator.specs.declared.span.Spans.{Spans as SpansValue};
 ghost use Rattle.dnp_concentrator.specs.IndexMap.{IsApart, index_below};
-ghost use Rattle.dnp_concentrator.specs.Order.{IsOrder, order_in};
+ghost use Rattle.dnp_concentrator.specs.steps.Order.{IsOrder, order_in};
 
 use crate::index_kind::IndexKind;
 use crate::limits::{INDEX_KINDS, MAX_SUBSTATIONS};

@@ -13,7 +13,7 @@ use Rattle.dnp_eventbuf.specs.declared.numbered.Numbered.{Numbered}
 use Rattle.dnp_eventbuf.specs.declared.tally.Tally.{Tally}
 use Rattle.dnp_eventbuf.specs.Sound.{IsSound}
 use Rattle.dnp_eventbuf.specs.Stock.{LaneState, Stock, lane_at, no_lane, row_of, is_full, put_in, dropped_from, with_row, with_rows, dropped_by, exhausts, added_in, moved_on}
-use Rattle.dnp_eventbuf.specs.Tallies.{tally_of, tally_at, after_row, with_tally, drops_from}
+use Rattle.dnp_eventbuf.specs.steps.Tallies.{tally_of, tally_at, after_row, with_tally, drops_from}
 use Rattle.dnp_eventbuf.proofs.LaneNumbers.{lane_number-low}
 use Rattle.dnp_eventbuf.proofs.Limits.{LostWithin, LostWithin-with_rows, LostWithin-from_sound, is_past-false, LostWithin-from_test, last_id-from_test, last_id-with_rows}
 

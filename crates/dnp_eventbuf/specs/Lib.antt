@@ -9,4 +9,4 @@ pub mod SinkCalls
 pub mod Sound
 pub mod Stock
 -- Words of private steps.
-pub mod Tallies
+pub mod steps

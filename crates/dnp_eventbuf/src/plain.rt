@@ -9,7 +9,7 @@ ghost use Rattle.dnp_eventbuf.specs.Sound.{IsSound};
 ghost use Rattle.dnp_eventbuf.specs.Stock.{Stock, lane_at, is_full, dropped_from, empty_stock, with_row, with_rows, dropped_by, is_past, exhausts, offered, lanes_above, lanes_up_to, emptied, lane_rows, without, all_up_to, without_all, rows_in, last_of};
 ghost use Rattle.dnp_objects.specs.declared.lane.LaneRow.{LaneRow as RowValue};
 ghost use Rattle.dnp_eventbuf.specs.declared.tally.Tally.{Tally as TallyValue};
-ghost use Rattle.dnp_eventbuf.specs.Tallies.{tally_of, tally_at, drops_from};
+ghost use Rattle.dnp_eventbuf.specs.steps.Tallies.{tally_of, tally_at, drops_from};
 
 use crate::arriving::{count_for, id_for};
 use crate::lanes::Lanes;

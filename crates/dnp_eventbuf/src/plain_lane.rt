@@ -4,7 +4,7 @@ ghost use Rattle.std.specs.Prelude.{not, ◌&&◌, false, ◌≡◌, ◌≢◌, 
 ghost use Rattle.std.specs.List.{AllPairs, list_any};
 ghost use Rattle.std.specs.VecDeque.{deque_len, deque_capacity};
 ghost use Rattle.dnp_eventbuf.specs.Stock.{is_full, put_in, dropped_from, empty_lane, emptied, above, up_to, last_of, row_of};
-ghost use Rattle.dnp_eventbuf.specs.Tallies.{tally_of};
+ghost use Rattle.dnp_eventbuf.specs.steps.Tallies.{tally_of};
 
 use crate::in_order::{cut, first_of, push_rows};
 use crate::numbered::Numbered;

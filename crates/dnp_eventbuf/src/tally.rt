@@ -1,7 +1,7 @@
 //! What an append does to the room and the counts of the lanes, before it changes anything.
 
 ghost use Rattle.std.specs.Prelude.{◌≡◌};
-ghost use Rattle.dnp_eventbuf.specs.Tallies.{drops_from};
+ghost use Rattle.dnp_eventbuf.specs.steps.Tallies.{drops_from};
 
 use dnp_objects::{LANES, LaneRow, MAX_ID};
 

@@ -7,7 +7,7 @@ use Rattle.dnp_outstation.specs.declared.session.LastRequest.{LastRequest}
 use Rattle.dnp_outstation.specs.declared.session.Reply.{Reply}
 use Rattle.dnp_outstation.specs.declared.session.Reply.TheVariants.{Held, Silent, First, Further}
 use Rattle.dnp_outstation.specs.declared.session.Session.{Session}
-use Rattle.dnp_outstation.specs.Answering.{first_in, goes_on_by, went_on}
+use Rattle.dnp_outstation.specs.steps.Answering.{first_in, goes_on_by, went_on}
 use Rattle.dnp_outstation.specs.declared.answer.Answer.{Answer}
 use Rattle.dnp_outstation.specs.declared.answer.Switches.{Switches}
 use Rattle.dnp_outstation.specs.declared.offer.writer.Writer.{Writer}
@@ -15,7 +15,7 @@ use Rattle.dnp_outstation.specs.Calls.{with_that}
 use Rattle.dnp_outstation.specs.Content.{Content, content_from}
 use Rattle.dnp_outstation.specs.Connection.{asks_confirm, awaits, control_in, on_again, first_sent, starts, at_end, has_enabled_rows}
 use Rattle.dnp_outstation.specs.Offer.{Filled, pushed}
-use Rattle.dnp_outstation.specs.Pushing.{is_ready}
+use Rattle.dnp_outstation.specs.steps.Pushing.{is_ready}
 use Rattle.dnp_outstation.specs.State.{Core, State, Step, sending, with_session, is_free, holds_read}
 
 and_rows : (on announced opened free rows : Bool) → true ≡ (on && (announced && (opened && free))) → true ≡ rows

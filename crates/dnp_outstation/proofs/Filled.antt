@@ -7,7 +7,7 @@ use Rattle.dnp_outstation.specs.declared.offer.writer.Writer.{Writer}
 use Rattle.dnp_outstation.specs.Items.{Item}
 use Rattle.dnp_outstation.specs.Layout.{Laid, item_of, lay, laid, fits_fragment}
 use Rattle.dnp_outstation.specs.Offer.{longest, held_laid, Filled, filled_with, offered_of}
-use Rattle.dnp_outstation.specs.Filling.{empty_from, put_laid, fits, ended, fill_laid, fill}
+use Rattle.dnp_outstation.specs.steps.Filling.{empty_from, put_laid, fits, ended, fill_laid, fill}
 use Rattle.dnp_outstation.proofs.Grows.{fits_begins}
 use Rattle.dnp_outstation.proofs.Longest.{longest_is}
 use Rattle.dnp_outstation.proofs.Taken.{Holds, heads_are, empty_holds, put_holds, fits_is}

@@ -7,7 +7,7 @@ use Rattle.dnp_outstation.specs.declared.offer.writer.Writer.{Writer}
 use Rattle.dnp_outstation.specs.declared.session.LastRequest.{LastRequest}
 use Rattle.dnp_outstation.specs.declared.session.Reply.{Reply}
 use Rattle.dnp_outstation.specs.declared.session.Reply.TheVariants.{Held, Silent, First, Further}
-use Rattle.dnp_outstation.specs.Answering.{answers_held_by, switched_by}
+use Rattle.dnp_outstation.specs.steps.Answering.{answers_held_by, switched_by}
 use Rattle.dnp_outstation.specs.Connection.{control_in, replied, answers_held}
 use Rattle.dnp_outstation.specs.Content.{content_of}
 use Rattle.dnp_outstation.specs.State.{State, still, holds_read}

@@ -17,9 +17,9 @@ use Rattle.dnp_eventbuf.specs.Stock.{Stock, LaneState, no_lane, lane_at, is_full
 use Rattle.dnp_outstation.specs.declared.held.NewRow.{NewRow}
 use Rattle.dnp_outstation.specs.declared.offer.writer.Writer.{Writer}
 use Rattle.dnp_outstation.specs.Items.{Item, event_of, class_lanes, enabled_lanes, lane_items}
-use Rattle.dnp_outstation.specs.Filling.{put, fill}
-use Rattle.dnp_outstation.specs.Holding.{AreFirst, new_of, kept_of, more_of}
-use Rattle.dnp_outstation.specs.Putting.{Puts, least_of}
+use Rattle.dnp_outstation.specs.steps.Filling.{put, fill}
+use Rattle.dnp_outstation.specs.steps.Holding.{AreFirst, new_of, kept_of, more_of}
+use Rattle.dnp_outstation.specs.steps.Putting.{Puts, least_of}
 use Rattle.dnp_outstation.proofs.LeftLanes.{last_is}
 use Rattle.dnp_outstation.proofs.OfferRoom.{of_one_kind, take_whole}
 use Rattle.dnp_outstation.proofs.Pushing.{lanes_both}

@@ -15,7 +15,7 @@ use Rattle.dnp_outstation.specs.declared.offer.writer.Run.TheVariants.{OfLane, O
 use Rattle.dnp_outstation.specs.Items.{Thing}
 use Rattle.dnp_outstation.specs.Items.Thing.{Event, Present}
 use Rattle.dnp_outstation.specs.Layout.{Laid, object_of, is_same_object, goes_on, header_of}
-use Rattle.dnp_outstation.specs.Filling.{is_same_run}
+use Rattle.dnp_outstation.specs.steps.Filling.{is_same_run}
 use Rattle.dnp_outstation.proofs.Stretches.{laid_as, IsChain, last_item}
 
 -- the run that an item stands in

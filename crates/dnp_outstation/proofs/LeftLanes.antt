@@ -8,7 +8,7 @@ use Rattle.dnp_eventbuf.specs.Stock.{Stock, LaneState, lane_at, last_of}
 use Rattle.dnp_eventbuf.specs.Sound.{IsSound}
 use Rattle.dnp_objects.specs.declared.limits.TheConstants.{LANES}
 use Rattle.dnp_outstation.specs.Items.{class_lanes, last_in_class}
-use Rattle.dnp_outstation.specs.Filling.{after_release, released_to, has_rows_in}
+use Rattle.dnp_outstation.specs.steps.Filling.{after_release, released_to, has_rows_in}
 use Rattle.dnp_outstation.proofs.Carried.{lane_rises}
 use Rattle.dnp_outstation.proofs.Left.{LaneByLane, StaySound}
 use Rattle.dnp_outstation.proofs.Pushing.{after_sound}

@@ -6,9 +6,9 @@ use Rattle.dnp_outstation.specs.declared.offer.place.Place.{Place}
 use Rattle.dnp_outstation.specs.declared.offer.writer.Writer.{Writer}
 use Rattle.dnp_outstation.specs.Items.{Source, Part, Item, part_of, part_after, part_items, parts_left, items_of, items_left, given_after}
 use Rattle.dnp_outstation.specs.Items.Part.{RowsOf, StaticsOf}
-use Rattle.dnp_outstation.specs.Filling.{fill, ended, empty_from}
+use Rattle.dnp_outstation.specs.steps.Filling.{fill, ended, empty_from}
 use Rattle.dnp_outstation.specs.Offer.{offered}
-use Rattle.dnp_outstation.specs.Putting.{Puts}
+use Rattle.dnp_outstation.specs.steps.Putting.{Puts}
 use Rattle.dnp_outstation.proofs.OfferPresent.{puts_more}
 use Rattle.dnp_outstation.proofs.Filled.{fill_offers}
 

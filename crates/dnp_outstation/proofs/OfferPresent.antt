@@ -19,8 +19,8 @@ use Rattle.dnp_objects.specs.Rows.{Fits}
 use Rattle.dnp_objects.specs.Objects.{content_of, objects}
 use Rattle.dnp_appfragment.specs.Written.{FitsPoint}
 use Rattle.dnp_pointdb.specs.Sound.{static_object}
-use Rattle.dnp_outstation.specs.Filling.{fill, ended}
-use Rattle.dnp_outstation.specs.Putting.{Puts, presents, group_of}
+use Rattle.dnp_outstation.specs.steps.Filling.{fill, ended}
+use Rattle.dnp_outstation.specs.steps.Putting.{Puts, presents, group_of}
 
 -- a row that a kind's static object takes can be put as a present value of its group
 static_fits : (kind : Kind) (row : Row) → Fits (static_object kind).0 (static_object kind).1 row → FitsPoint (group_of kind) row

@@ -23,8 +23,8 @@ use Rattle.dnp_eventbuf.specs.declared.numbered.Numbered.{Numbered}
 use Rattle.dnp_outstation.specs.declared.offer.writer.Writer.{Writer}
 use Rattle.dnp_outstation.specs.declared.offer.writer.Run.TheVariants.{OfLane}
 use Rattle.dnp_outstation.specs.Items.{event_of}
-use Rattle.dnp_outstation.specs.Filling.{put, is_same_run}
-use Rattle.dnp_outstation.specs.Putting.{least_octets, least_of}
+use Rattle.dnp_outstation.specs.steps.Filling.{put, is_same_run}
+use Rattle.dnp_outstation.specs.steps.Putting.{least_octets, least_of}
 use Rattle.dnp_outstation.proofs.OfferLemmas.{heads_broken}
 
 -- a range that one object more joins has as many octets as before

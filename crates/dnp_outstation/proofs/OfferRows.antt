@@ -15,8 +15,8 @@ use Rattle.dnp_objects.specs.declared.lane.Lane.{Lane}
 use Rattle.dnp_objects.specs.declared.limits.TheConstants.{LANES}
 use Rattle.dnp_outstation.specs.declared.offer.writer.Writer.{Writer}
 use Rattle.dnp_outstation.specs.Items.{Item, event_of, at_most, rows_left}
-use Rattle.dnp_outstation.specs.Filling.{after_release, over_of, fill, ended}
-use Rattle.dnp_outstation.specs.Putting.{Puts}
+use Rattle.dnp_outstation.specs.steps.Filling.{after_release, over_of, fill, ended}
+use Rattle.dnp_outstation.specs.steps.Putting.{Puts}
 use Rattle.dnp_outstation.proofs.OfferPresent.{puts_full}
 
 take_none : (n : ℕ) → take n (let none : List Numbered = [] in none) ≡ []

@@ -7,7 +7,7 @@ use Rattle.dnp_objects.specs.declared.store.StoreFault.{StoreFault}
 use Rattle.dnp_objects.specs.declared.store.StoreFault.TheVariants as store
 use Rattle.dnp_controls.specs.Calls.{IsOutputsCall}
 use Rattle.dnp_controls.specs.Panel.{Panel, accepted}
-use Rattle.dnp_outstation.specs.Performing.{IsPerforming}
+use Rattle.dnp_outstation.specs.steps.Performing.{IsPerforming}
 
 -- ---- whether one of them is accepted
 

@@ -21,9 +21,9 @@ use Rattle.dnp_outstation.specs.declared.offer.writer.Run.{Run}
 use Rattle.dnp_outstation.specs.declared.offer.writer.Run.TheVariants.{OfBlock}
 use Rattle.dnp_outstation.specs.declared.offer.writer.Writer.{Writer}
 use Rattle.dnp_outstation.specs.Items.{Item, present_of, passed, static_at, statics_from}
-use Rattle.dnp_outstation.specs.Filling.{put, fits, fill, ended, built_for, is_same_run}
+use Rattle.dnp_outstation.specs.steps.Filling.{put, fits, fill, ended, built_for, is_same_run}
 use Rattle.dnp_outstation.specs.Offer.{Filled}
-use Rattle.dnp_outstation.specs.Putting.{rows_from, passed_by, group_of}
+use Rattle.dnp_outstation.specs.steps.Putting.{rows_from, passed_by, group_of}
 use Rattle.dnp_outstation.proofs.OfferLemmas.{heads_broken}
 use Rattle.dnp_outstation.proofs.OfferPresent.{point_fits}
 

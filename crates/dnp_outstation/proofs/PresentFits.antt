@@ -14,7 +14,7 @@ use Rattle.dnp_pointdb.specs.Events.{row_of}
 use Rattle.dnp_pointdb.specs.Ranges.{is_carried}
 use Rattle.dnp_pointdb.specs.Sound.{IsSound, IsSoundBlock, IsSoundPoint, static_object}
 use Rattle.dnp_outstation.specs.Items.{Source, Static, statics_from, statics_in, output_row, outputs_from}
-use Rattle.dnp_outstation.specs.Putting.{group_of}
+use Rattle.dnp_outstation.specs.steps.Putting.{group_of}
 use Rattle.dnp_outstation.specs.Said.{AreWritable}
 use Rattle.dnp_outstation.proofs.OfferPresent.{point_fits, output_fits}
 

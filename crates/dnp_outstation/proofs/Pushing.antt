@@ -18,10 +18,10 @@ use Rattle.dnp_eventbuf.specs.Stock.{Stock, lane_at}
 use Rattle.dnp_eventbuf.specs.Sound.{IsSound}
 use Rattle.dnp_outstation.specs.declared.offer.writer.Writer.{Writer}
 use Rattle.dnp_outstation.specs.Items.{Item, no_ids, first_place, place_after, given_after, rows_left, event_of, event_items, class_lanes, enabled_lanes, lane_items}
-use Rattle.dnp_outstation.specs.Filling.{after_release, is_same_run, put_laid, fits, fill_laid, fill, ended, built_for, empty_for, empty_from}
+use Rattle.dnp_outstation.specs.steps.Filling.{after_release, is_same_run, put_laid, fits, fill_laid, fill, ended, built_for, empty_for, empty_from}
 use Rattle.dnp_outstation.specs.Layout.{Laid, laid}
 use Rattle.dnp_outstation.specs.Offer.{Filled, pushed}
-use Rattle.dnp_outstation.specs.Putting.{Puts}
+use Rattle.dnp_outstation.specs.steps.Putting.{Puts}
 use Rattle.dnp_outstation.proofs.Carried.{lane_rises}
 use Rattle.dnp_outstation.proofs.Filled.{fill_offers}
 use Rattle.dnp_outstation.proofs.Joined.{run_at, written_of}

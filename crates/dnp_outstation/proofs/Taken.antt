@@ -22,7 +22,7 @@ use Rattle.dnp_outstation.specs.declared.offer.writer.Writer.{Writer}
 use Rattle.dnp_outstation.specs.Items.{Thing, no_ids, given_after, place_after}
 use Rattle.dnp_outstation.specs.Items.Thing.{Event, Present}
 use Rattle.dnp_outstation.specs.Layout.{Laid, item_of, object_of, goes_on, Stretch, alone, header_of, headers_of, fits_fragment}
-use Rattle.dnp_outstation.specs.Filling.{is_same_run, no_headers, empty_from, built_for, put_laid, fits}
+use Rattle.dnp_outstation.specs.steps.Filling.{is_same_run, no_headers, empty_from, built_for, put_laid, fits}
 use Rattle.dnp_outstation.proofs.Joined.{run_at, written_of, IsBehind, behind_on, behind_next, chain_behind, same_run, IsFew, joins, no_join}
 use Rattle.dnp_outstation.proofs.Stretches.{laid_as, IsChain, last_item, chain_push, last_push, one_stretch, stretch_ends}
 

@@ -2,14 +2,14 @@
 use Rattle.std.proofs.Common.{◌≡◌, ◌⊎◌, inl, inr, ℕ, ◌+◌, ◌≤◌, Bool, true, false, if◌then◌else◌, ◌&&◌, ◌||◌, not, nat_le, is_none, [], ◌∷◌, length, Option, None, Some, IfSome, refl, sym, ap, ◌∙◌}
 use Rattle.std.proofs.lemmas.Bool.{and_left, and_right}
 use Rattle.dnp_controls.specs.Selecting.{deadline}
-use Rattle.dnp_outstation.specs.Answering.{KeepsWhole}
+use Rattle.dnp_outstation.specs.steps.Answering.{KeepsWhole}
 use Rattle.dnp_outstation.specs.Connection.{closed, has_ended, unsolicited_timer}
 use Rattle.dnp_outstation.specs.declared.session.Session.{Session}
 use Rattle.dnp_outstation.specs.declared.session.Unsolicited.{Unsolicited}
 use Rattle.dnp_outstation.specs.declared.unsolicited.AtTimer.{AtTimer}
 use Rattle.dnp_outstation.specs.declared.unsolicited.AtTimer.TheVariants.{Repeats}
 use Rattle.dnp_outstation.specs.Links.{begun}
-use Rattle.dnp_outstation.specs.Pushing.{is_ready, timed_by}
+use Rattle.dnp_outstation.specs.steps.Pushing.{is_ready, timed_by}
 use Rattle.dnp_outstation.specs.State.{Core, State, Step, nothing, sending, still, holds_read, is_free}
 
 -- ---- readiness

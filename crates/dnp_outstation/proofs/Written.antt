@@ -16,7 +16,7 @@ use Rattle.dnp_outstation.specs.Items.{Thing, Item, first_place}
 use Rattle.dnp_outstation.specs.Items.Thing.{Event, Present}
 use Rattle.dnp_outstation.specs.Layout.{Laid, lay, object_of, headers_of, fits_fragment}
 use Rattle.dnp_outstation.specs.Said.{CanStand, CanGo}
-use Rattle.dnp_outstation.specs.Filling.{is_same_run, empty_from, built_for, put_laid, fits}
+use Rattle.dnp_outstation.specs.steps.Filling.{is_same_run, empty_from, built_for, put_laid, fits}
 use Rattle.dnp_outstation.proofs.Grows.{fits_begins}
 use Rattle.dnp_outstation.proofs.Joined.{run_at, written_of}
 use Rattle.dnp_outstation.proofs.Stretches.{laid_as}

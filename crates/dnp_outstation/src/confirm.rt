@@ -5,7 +5,7 @@ ghost use Rattle.dnp_appfragment.specs.declared.function.Function.TheVariants as
 ghost use Rattle.dnp_controls.specs.Panel.{Panel};
 ghost use Rattle.dnp_controls.specs.Selecting.{deadline};
 ghost use Rattle.dnp_eventbuf.specs.Stock.{without, rows_in};
-ghost use Rattle.dnp_outstation.specs.Answering.{goes_on_by, went_on, KeepsWhole};
+ghost use Rattle.dnp_outstation.specs.steps.Answering.{goes_on_by, went_on, KeepsWhole};
 ghost use Rattle.dnp_outstation.specs.Calls.{with_that};
 ghost use Rattle.dnp_outstation.specs.Connection.{goes_on, on_confirm, confirmed, at_end};
 ghost use Rattle.dnp_outstation.specs.State.{Core, State, nothing, with_session, is_free};

@@ -3,7 +3,7 @@
 ghost use Rattle.std.specs.Prelude.{◌≡◌, ◌≤◌, length, ◌&&◌, is_none, None, IsSome};
 ghost use Rattle.dnp_controls.specs.Selecting.{deadline};
 ghost use Rattle.dnp_objects.specs.declared.limits.TheConstants.{MAX_FRAGMENT};
-ghost use Rattle.dnp_outstation.specs.Answering.{KeepsWhole, first_in};
+ghost use Rattle.dnp_outstation.specs.steps.Answering.{KeepsWhole, first_in};
 ghost use Rattle.dnp_outstation.specs.State.{new_session, holds_read};
 ghost use Rattle.dnp_outstation.specs.Connection.{is_last_request, is_number, awaited_number, confirmed, new_request, no_response, held};
 

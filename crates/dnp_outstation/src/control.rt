@@ -5,7 +5,7 @@ ghost use Rattle.dnp_appfragment.specs.declared.function.Function.TheVariants as
 ghost use Rattle.dnp_controls.specs.Selecting.{deadline};
 ghost use Rattle.dnp_eventbuf.specs.Stock.{rows_in};
 ghost use Rattle.dnp_objects.specs.declared.limits.TheConstants.{MAX_FRAGMENT};
-ghost use Rattle.dnp_outstation.specs.Answering.{content_by, KeepsWhole};
+ghost use Rattle.dnp_outstation.specs.steps.Answering.{content_by, KeepsWhole};
 ghost use Rattle.dnp_outstation.specs.Connection.{on_request, at_end, replied};
 ghost use Rattle.dnp_outstation.specs.Controls.{is_control};
 ghost use Rattle.dnp_outstation.specs.Calls.{performed_at};

@@ -10,12 +10,12 @@ ghost use Rattle.dnp_appfragment.specs.Meaning.{request_at};
 ghost use Rattle.dnp_appfragment.specs.Whole.{request};
 ghost use Rattle.dnp_controls.specs.Panel.{Panel, accepted};
 ghost use Rattle.dnp_controls.specs.Selecting.{Select};
-ghost use Rattle.dnp_outstation.specs.Answering.{content_by};
+ghost use Rattle.dnp_outstation.specs.steps.Answering.{content_by};
 ghost use Rattle.dnp_outstation.specs.Connection.{function_in};
 ghost use Rattle.dnp_outstation.specs.Controls.{commands_in, outcome_of, come_to, outcome_at, with_select, is_silent, is_control, control_content, performs_of, performed_by};
-ghost use Rattle.dnp_outstation.specs.Deciding.{select_by, select_for, select_in, bits_in, headers_in};
+ghost use Rattle.dnp_outstation.specs.steps.Deciding.{select_by, select_for, select_in, bits_in, headers_in};
 ghost use Rattle.dnp_outstation.specs.Items.{no_ids};
-ghost use Rattle.dnp_outstation.specs.Performing.{IsPerforming};
+ghost use Rattle.dnp_outstation.specs.steps.Performing.{IsPerforming};
 ghost use Rattle.dnp_outstation.specs.State.{State};
 
 mod commands;

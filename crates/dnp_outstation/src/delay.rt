@@ -2,7 +2,7 @@
 
 ghost use Rattle.std.specs.Prelude.{◌≡◌};
 ghost use Rattle.dnp_outstation.specs.Items.{first_place};
-ghost use Rattle.dnp_outstation.specs.Filling.{empty_from};
+ghost use Rattle.dnp_outstation.specs.steps.Filling.{empty_from};
 ghost use Rattle.dnp_outstation.specs.Content.{no_delay};
 ghost use Rattle.dnp_appfragment.specs.Built.{with_header};
 

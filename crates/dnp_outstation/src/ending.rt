@@ -4,10 +4,10 @@ ghost use Rattle.std.specs.Prelude.{◌≡◌, ◌≤◌, ℕ, All, length, not,
 ghost use Rattle.dnp_appfragment.specs.declared.function.Function.TheVariants as function;
 ghost use Rattle.dnp_controls.specs.Panel.{Panel};
 ghost use Rattle.dnp_controls.specs.Selecting.{deadline};
-ghost use Rattle.dnp_outstation.specs.Answering.{KeepsWhole};
+ghost use Rattle.dnp_outstation.specs.steps.Answering.{KeepsWhole};
 ghost use Rattle.dnp_outstation.specs.Connection.{at_end};
-ghost use Rattle.dnp_outstation.specs.Filling.{after_release};
-ghost use Rattle.dnp_outstation.specs.Pushing.{is_ready, ended_by};
+ghost use Rattle.dnp_outstation.specs.steps.Filling.{after_release};
+ghost use Rattle.dnp_outstation.specs.steps.Pushing.{is_ready, ended_by};
 ghost use Rattle.dnp_outstation.specs.State.{Core, State, Step, nothing, still, with_session, is_free};
 ghost use Rattle.dnp_outstation.specs.Station.{state_of, actions_of, HasRoom};
 ghost use Rattle.dnp_outstation.specs.Stores.{IsLook};

@@ -11,11 +11,11 @@ ghost use Rattle.dnp_eventbuf.specs.Carried.{IsCarried};
 ghost use Rattle.dnp_eventbuf.specs.Sound.{IsSound};
 ghost use Rattle.dnp_eventbuf.specs.Stock.{Stock, rows_in, with_rows, dropped_by};
 ghost use Rattle.dnp_objects.specs.declared.limits.TheConstants.{LANES};
-ghost use Rattle.dnp_outstation.specs.Filling.{empty_for, ended};
-ghost use Rattle.dnp_outstation.specs.Holding.{AreFirst, IsLaneHeld, IsClassHeld, IsHeld, AreClassEvents, AreEvents, new_of, kept_of, more_of};
+ghost use Rattle.dnp_outstation.specs.steps.Filling.{empty_for, ended};
+ghost use Rattle.dnp_outstation.specs.steps.Holding.{AreFirst, IsLaneHeld, IsClassHeld, IsHeld, AreClassEvents, AreEvents, new_of, kept_of, more_of};
 ghost use Rattle.dnp_outstation.specs.Items.{event_of, class_lanes, lane_items, first_place};
 ghost use Rattle.dnp_outstation.specs.Offer.{pushed};
-ghost use Rattle.dnp_outstation.specs.Putting.{Puts};
+ghost use Rattle.dnp_outstation.specs.steps.Putting.{Puts};
 ghost use Rattle.dnp_outstation.specs.Stores.{IsLook};
 
 use crate::offer::rows::enough;

@@ -3,11 +3,11 @@
 ghost use Rattle.std.specs.Prelude.{◌≡◌, ◌≤◌, ℕ, All, length, true, false, IsTrue, IsErr, IfOk, OnOk, OnErr};
 ghost use Rattle.dnp_appfragment.specs.declared.function.Function.TheVariants as function;
 ghost use Rattle.dnp_outstation.specs.Calls.{opened_of, tick_of};
-ghost use Rattle.dnp_outstation.specs.Answering.{KeepsWhole};
+ghost use Rattle.dnp_outstation.specs.steps.Answering.{KeepsWhole};
 ghost use Rattle.dnp_outstation.specs.Connection.{solicited_timer, unsolicited_timer};
 ghost use Rattle.dnp_outstation.specs.Links.{begun};
 ghost use Rattle.dnp_outstation.specs.declared.unsolicited.AtTimer.TheVariants as at;
-ghost use Rattle.dnp_outstation.specs.Pushing.{ended_by, timed_by};
+ghost use Rattle.dnp_outstation.specs.steps.Pushing.{ended_by, timed_by};
 ghost use Rattle.dnp_outstation.specs.State.{Core, State, still, is_free};
 ghost use Rattle.dnp_outstation.specs.Station.{state_of, actions_of, HasRoom};
 ghost use Rattle.dnp_outstation.specs.Stores.{IsLook};

@@ -4,7 +4,7 @@ ghost use Rattle.std.specs.Prelude.{◌≡◌, ◌<◌, ◌+◌, ◌*◌, if◌t
 ghost use Rattle.dnp_eventbuf.specs.Stock.{lane_at, last_of};
 ghost use Rattle.dnp_objects.specs.declared.limits.TheConstants.{LANES};
 ghost use Rattle.dnp_outstation.specs.Connection.{has_enabled_rows};
-ghost use Rattle.dnp_outstation.specs.Filling.{after_release, released_to, has_rows_in};
+ghost use Rattle.dnp_outstation.specs.steps.Filling.{after_release, released_to, has_rows_in};
 ghost use Rattle.dnp_outstation.specs.Items.{class_lanes, last_in_class, last_in};
 ghost use Rattle.dnp_outstation.specs.State.{State};
 

@@ -3,7 +3,7 @@
 ghost use Rattle.std.specs.Prelude.{◌≡◌, ◌<◌, ◌≤◌, ℕ, All, length, false, not, ◌&&◌, if◌then◌else◌, is_none, None, Some};
 ghost use Rattle.dnp_appfragment.specs.declared.function.Function.TheVariants as function;
 ghost use Rattle.dnp_controls.specs.Selecting.{deadline};
-ghost use Rattle.dnp_outstation.specs.Answering.{content_by, sent_by, KeepsWhole};
+ghost use Rattle.dnp_outstation.specs.steps.Answering.{content_by, sent_by, KeepsWhole};
 ghost use Rattle.dnp_outstation.specs.State.{State, with_session, nothing, sending};
 ghost use Rattle.dnp_outstation.specs.Connection.{has_rows, asks_confirm, fragment_of, further_sent, responds, responds_further};
 ghost use Rattle.dnp_outstation.specs.Station.{actions_of, HasRoom};

@@ -5,11 +5,11 @@ ghost use Rattle.dnp_appfragment.specs.declared.function.Function.TheVariants as
 ghost use Rattle.dnp_appfragment.specs.Built.{heads};
 ghost use Rattle.dnp_appfragment.specs.Fragments.{response_octets};
 ghost use Rattle.dnp_controls.specs.Selecting.{deadline};
-ghost use Rattle.dnp_outstation.specs.Answering.{KeepsWhole};
+ghost use Rattle.dnp_outstation.specs.steps.Answering.{KeepsWhole};
 ghost use Rattle.dnp_outstation.specs.Connection.{starts, unsolicited_timer};
 ghost use Rattle.dnp_outstation.specs.Content.{content_from};
-ghost use Rattle.dnp_outstation.specs.Filling.{ended};
-ghost use Rattle.dnp_outstation.specs.Pushing.{started_by, timed_by};
+ghost use Rattle.dnp_outstation.specs.steps.Filling.{ended};
+ghost use Rattle.dnp_outstation.specs.steps.Pushing.{started_by, timed_by};
 ghost use Rattle.dnp_outstation.specs.State.{State, Step};
 
 use crate::connection::deadline;

@@ -5,10 +5,10 @@ ghost use Rattle.dnp_appfragment.specs.declared.function.Function.TheVariants as
 ghost use Rattle.dnp_controls.specs.Panel.{Panel};
 ghost use Rattle.dnp_controls.specs.Selecting.{deadline};
 ghost use Rattle.dnp_eventbuf.specs.Stock.{rows_in};
-ghost use Rattle.dnp_outstation.specs.Answering.{answers_held_by, switched_by, KeepsWhole};
+ghost use Rattle.dnp_outstation.specs.steps.Answering.{answers_held_by, switched_by, KeepsWhole};
 ghost use Rattle.dnp_outstation.specs.Calls.{with_that};
 ghost use Rattle.dnp_outstation.specs.Connection.{control_in, answers_held, on_unsolicited_confirm, at_end};
-ghost use Rattle.dnp_outstation.specs.Filling.{after_release};
+ghost use Rattle.dnp_outstation.specs.steps.Filling.{after_release};
 ghost use Rattle.dnp_outstation.specs.Items.{last_in};
 ghost use Rattle.dnp_outstation.specs.State.{State, with_session, is_free};
 ghost use Rattle.dnp_outstation.specs.Station.{state_of, actions_of, HasRoom};

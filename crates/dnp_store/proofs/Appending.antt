@@ -10,7 +10,7 @@ use Rattle.dnp_objects.specs.declared.lane.LaneRow.{LaneRow}
 use Rattle.dnp_eventbuf.specs.declared.numbered.Numbered.{Numbered}
 use Rattle.dnp_eventbuf.specs.Latest.{numbered_for, KeepsLatest}
 use Rattle.dnp_eventbuf.specs.Stock.{LaneState, Stock, lane_at, no_lane, is_full, put_in, with_row, with_rows, added_in}
-use Rattle.dnp_store.specs.Steps.{added, all_added, over, any_over}
+use Rattle.dnp_store.specs.steps.Steps.{added, all_added, over, any_over}
 use Rattle.dnp_store.proofs.Tests.{is_same, is_other}
 
 -- ---- the rows are put in

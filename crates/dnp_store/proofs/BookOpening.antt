@@ -23,10 +23,10 @@ use Rattle.dnp_controls.specs.Book.{Ledger, IsSound}
 use Rattle.dnp_store.specs.Tables.{IsCounted}
 use Rattle.dnp_store.specs.QueueTables.{IsForm1}
 use Rattle.dnp_store.specs.BookTables.{book_schema, book_columns, entry_row, IsBook, status_of}
-use Rattle.dnp_store.specs.BookShown.{ShowsEntry, ShowEntries, EntriesRise, HoldsEntries, FindsBook}
+use Rattle.dnp_store.specs.steps.BookShown.{ShowsEntry, ShowEntries, EntriesRise, HoldsEntries, FindsBook}
 use Rattle.dnp_store.specs.BookKept.{Stands}
 use Rattle.dnp_store.specs.declared.store_kind.StoreKind.TheVariants.{Book}
-use Rattle.dnp_store.specs.Stores.{Reads}
+use Rattle.dnp_store.specs.steps.Stores.{Reads}
 use Rattle.dnp_store.proofs.Rows.{IsTyped, typed_rows, null_is, and_left, at_most}
 use Rattle.dnp_store.proofs.Opening.{query, listed, shown_by, unchanged}
 

@@ -17,8 +17,8 @@ use Rattle.dnp_store.specs.QueueTables.{queue_with, queue_schema}
 use Rattle.dnp_store.specs.declared.store_kind.StoreKind.{StoreKind}
 use Rattle.dnp_store.specs.declared.store_kind.StoreKind.TheVariants.{Queue, Journal, Book}
 use Rattle.dnp_store.specs.Schemas.{form_text, lanes_text, rows_text, table_of_text, checks_of_form, checks_of_rows, checks_of_lanes}
-use Rattle.dnp_store.specs.Stores.{form_schema, rows_with, HasForm, HasTables, HasNumber}
-use Rattle.dnp_store.specs.Making.{HasLanes}
+use Rattle.dnp_store.specs.steps.Stores.{form_schema, rows_with, HasForm, HasTables, HasNumber}
+use Rattle.dnp_store.specs.steps.Making.{HasLanes}
 use Rattle.dnp_store.proofs.Statements.{went, same_value, picked, otherwise}
 
 -- ---- what the texts define

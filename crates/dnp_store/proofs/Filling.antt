@@ -27,7 +27,7 @@ use Rattle.dnp_store.proofs.Inserting.{quiet}
 use Rattle.dnp_objects.specs.declared.limits.TheConstants.{LANES}
 use Rattle.dnp_eventbuf.specs.Stock.{empty_stock, empty_lane, no_lane}
 use Rattle.dnp_store.specs.Schemas.{checks_of_form, checks_of_rows, made_queue}
-use Rattle.dnp_store.specs.Making.{HasLanes, fresh}
+use Rattle.dnp_store.specs.steps.Making.{HasLanes, fresh}
 use Rattle.dnp_store.proofs.Numbering.{PutsIn}
 
 abbrev pub lane_text : List ℕ

@@ -17,7 +17,7 @@ use Rattle.std.proofs.lemmas.Bool.{cases_eq}
 use Rattle.std.proofs.lemmas.List.{map-append, get_or-set_same, get_or-set_other}
 use Rattle.std.proofs.Common.{length-set}
 use Rattle.std.proofs.lemmas.List.Sorted.{IsPermutation-append_left}
-use Rattle.dnp_store.specs.Steps.{with_lane, added, cut, counted}
+use Rattle.dnp_store.specs.steps.Steps.{with_lane, added, cut, counted}
 use Rattle.dnp_store.proofs.Counting.{PutsAt}
 use Rattle.dnp_store.proofs.IdRows as id_rows
 use Rattle.dnp_store.proofs.QueueDeletes.{Takes, stays}

@@ -21,7 +21,7 @@ use Rattle.sqlite.proofs.Callers.{command_of, statement_of, runs_as}
 use Rattle.dnp_store.specs.Tables.{sequence, IsCounted}
 use Rattle.dnp_store.specs.declared.store_kind.StoreKind.{StoreKind}
 use Rattle.dnp_store.specs.declared.store_kind.StoreKind.TheVariants.{Queue, Journal, Book}
-use Rattle.dnp_store.specs.Stores.{name_of, columns_of, rows_with, more_with, schema_for}
+use Rattle.dnp_store.specs.steps.Stores.{name_of, columns_of, rows_with, more_with, schema_for}
 use Rattle.dnp_store.proofs.Statements.{written}
 use Rattle.dnp_store.proofs.Counting as counting
 use Rattle.dnp_store.proofs.Counting.{PutsAt}

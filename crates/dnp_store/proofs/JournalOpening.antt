@@ -23,9 +23,9 @@ use Rattle.dnp_eventbuf.specs.declared.numbered.Numbered.{Numbered}
 use Rattle.dnp_store.specs.Tables.{IsCounted}
 use Rattle.dnp_store.specs.QueueTables.{queue_columns, Queued, queued_row, event_of, IsForm1}
 use Rattle.dnp_store.specs.JournalTables.{journal_schema, journal_columns, IsLogged}
-use Rattle.dnp_store.specs.JournalShown.{ShowsEvent, ShowEvents, AreInOrder, Logs, Finds}
+use Rattle.dnp_store.specs.steps.JournalShown.{ShowsEvent, ShowEvents, AreInOrder, Logs, Finds}
 use Rattle.dnp_store.specs.declared.store_kind.StoreKind.TheVariants.{Journal}
-use Rattle.dnp_store.specs.Stores.{Reads}
+use Rattle.dnp_store.specs.steps.Stores.{Reads}
 use Rattle.dnp_store.proofs.Rows.{IsTyped, typed_rows, queue_row, queued_of}
 use Rattle.dnp_store.proofs.Opening.{query, listed, shown_by, unchanged, queue_terms}
 use Rattle.dnp_store.proofs.JournalHolding.{kind_is, kind_low}

@@ -40,7 +40,7 @@ use Rattle.dnp_eventbuf.specs.Archive.{Archive}
 use Rattle.dnp_store.specs.Tables.{or_null}
 use Rattle.dnp_store.specs.QueueTables.{Queued, queued_row, queued_cells, event_of}
 use Rattle.dnp_store.specs.JournalTables.{journal_schema, IsJournal, moment, event_in}
-use Rattle.dnp_store.specs.JournalShown.{ShowsEvent, ShowEvents, ShowOver}
+use Rattle.dnp_store.specs.steps.JournalShown.{ShowsEvent, ShowEvents, ShowOver}
 use Rattle.dnp_store.proofs.IdRows as id_rows
 use Rattle.dnp_store.proofs.Tests.{truth_of}
 use Rattle.dnp_store.proofs.JournalHolding.{kind_is, told}

@@ -14,7 +14,7 @@ use Rattle.sqlite.specs.declared.error.Error.{Error}
 use Rattle.sqlite.specs.State.{State, HasCleanDisk, Survives}
 use Rattle.dnp_eventbuf.specs.Archive.{Archive, IsSoundArchive, rows_over}
 use Rattle.dnp_store.specs.JournalTables.{HoldsArchive, IsJournal, archive_in}
-use Rattle.dnp_store.specs.JournalShown.{Finds}
+use Rattle.dnp_store.specs.steps.JournalShown.{Finds}
 use Rattle.dnp_store.specs.JournalKept.{Kept, Keeps, IsHonest, Stands, archive_of, held_archive}
 use Rattle.dnp_store.proofs.Statements.{leaves_committed, leaves_either}
 use Rattle.sqlite_trees.specs.declared.store.Store.{Ghosts}

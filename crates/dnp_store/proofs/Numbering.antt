@@ -27,7 +27,7 @@ use Rattle.dnp_store.specs.BookTables.{HoldsBook, IsBook}
 use Rattle.dnp_store.specs.declared.store_kind.StoreKind.{StoreKind}
 use Rattle.dnp_store.specs.declared.store_kind.StoreKind.TheVariants.{Journal, Book}
 use Rattle.dnp_store.specs.Schemas.{checks_of_form, checks_of_rows}
-use Rattle.dnp_store.specs.Stores.{rows_with, number_row, HasTables, IsFresh, HasNumber}
+use Rattle.dnp_store.specs.steps.Stores.{rows_with, number_row, HasTables, IsFresh, HasNumber}
 use Rattle.dnp_store.proofs.Statements.{went, written, same_value}
 use Rattle.dnp_store.proofs.Counting.{cast_int, cast_null}
 

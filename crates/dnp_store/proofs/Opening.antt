@@ -25,10 +25,10 @@ use Rattle.sqlite.specs.Clock.{timed}
 use Rattle.sqlite.proofs.Callers.{command_of, reads_as, one_permutation}
 use Rattle.dnp_store.specs.Tables.{sequence, IsCounted}
 use Rattle.dnp_store.specs.QueueTables.{queue_schema, lanes_columns, Figures, no_figures, figures_rows, IsForm1}
-use Rattle.dnp_store.specs.Shown.{ShowsForm1, ShowsFigures, ShowNine, AreNine, ShowsCount}
+use Rattle.dnp_store.specs.steps.Shown.{ShowsForm1, ShowsFigures, ShowNine, AreNine, ShowsCount}
 use Rattle.dnp_store.specs.declared.store_kind.StoreKind.{StoreKind}
 use Rattle.dnp_store.specs.declared.store_kind.StoreKind.TheVariants.{Queue, Journal, Book}
-use Rattle.dnp_store.specs.Stores.{Reads, schema_for}
+use Rattle.dnp_store.specs.steps.Stores.{Reads, schema_for}
 use Rattle.dnp_store.proofs.Rows.{IsTyped, form_columns, shown_lane, typed_form, typed_lanes, typed_counts, form_row, lanes_rows, count_row_is}
 
 -- ---- a query over one table

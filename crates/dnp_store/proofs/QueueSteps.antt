@@ -18,7 +18,7 @@ use Rattle.dnp_eventbuf.specs.Carried.{IsCarried}
 use Rattle.dnp_eventbuf.specs.Stock.{Stock}
 use Rattle.dnp_store.specs.Tables.{or_null}
 use Rattle.dnp_store.specs.QueueTables.{Queued, queued_cells, Figures, HoldsQueue, IsForm1}
-use Rattle.dnp_store.specs.Steps.{added, counted, cut, noted}
+use Rattle.dnp_store.specs.steps.Steps.{added, counted, cut, noted}
 use Rattle.dnp_store.proofs.IdRows as id_rows
 use Rattle.dnp_store.proofs.QueueStatements.{insert_text, insert_params, inserts}
 use Rattle.dnp_store.proofs.QueueDeletes.{delete_text, delete_params, deletes}

@@ -13,7 +13,7 @@ use Rattle.dnp_eventbuf.specs.declared.numbered.Numbered.{Numbered}
 use Rattle.dnp_eventbuf.specs.Sound.{IsSound}
 use Rattle.dnp_eventbuf.specs.Stock.{LaneState, Stock, lane_at, no_lane, above, emptied, without, without_all, lanes_above}
 use Rattle.dnp_store.specs.QueueTables.{Figures, no_figures, HoldsQueue, HoldsStock, IsQueue, is_raised}
-use Rattle.dnp_store.specs.Steps.{mixed, cut, counted, noted, left, released}
+use Rattle.dnp_store.specs.steps.Steps.{mixed, cut, counted, noted, left, released}
 use Rattle.dnp_store.proofs.Standing.{on_trees}
 use Rattle.dnp_store.proofs.Trimming.{mixed_low, mixed_high, nine_mixed, same_queue, of_queue, as_queue}
 

@@ -23,12 +23,12 @@ use Rattle.dnp_store.specs.Tables.{IsCounted}
 use Rattle.dnp_store.specs.QueueTables.{queue_schema, queue_columns, Queued, queued_row, event_of, in_lane, Figures, figures_rows, IsForm1, IsQueue}
 use Rattle.sqlite.specs.Effect.{Database}
 use Rattle.sqlite.specs.Term.{Term}
-use Rattle.dnp_store.specs.Shown.{AreNine, IsBegun, Restores, PutBack}
+use Rattle.dnp_store.specs.steps.Shown.{AreNine, IsBegun, Restores, PutBack}
 use Rattle.dnp_store.proofs.Appending.{behind}
 use Rattle.dnp_store.proofs.Holding.{at_lane, kind_is}
 use Rattle.dnp_store.proofs.Opening.{listed, queue_is, queue_plain, queue_query, queue_terms, shown_by, unchanged}
 use Rattle.dnp_store.specs.declared.store_kind.StoreKind.TheVariants.{Queue}
-use Rattle.dnp_store.specs.Stores.{Reads}
+use Rattle.dnp_store.specs.steps.Stores.{Reads}
 use Rattle.dnp_store.proofs.Rows.{IsTyped, typed_rows, queue_row, queued_of}
 use Rattle.dnp_store.proofs.Tests.{is_same, is_other}
 

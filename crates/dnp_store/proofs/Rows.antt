@@ -16,10 +16,10 @@ use Rattle.sqlite.specs.Schema.{Schema}
 use Rattle.sqlite.specs.Effect.{Database, IsDatabase}
 use Rattle.dnp_store.specs.Tables.{or_null, column_of, sequence, form_with}
 use Rattle.dnp_store.specs.QueueTables.{queue_schema, queue_columns, lanes_columns, lanes_with, Queued, queued_row, Figures, no_figures, figures_rows, figures_cells}
-use Rattle.dnp_store.specs.Shown.{ShowsFigures}
+use Rattle.dnp_store.specs.steps.Shown.{ShowsFigures}
 use Rattle.dnp_store.specs.declared.store_kind.StoreKind.{StoreKind}
 use Rattle.dnp_store.specs.declared.store_kind.StoreKind.TheVariants.{Queue}
-use Rattle.dnp_store.specs.Stores.{columns_of, rows_with, schema_for}
+use Rattle.dnp_store.specs.steps.Stores.{columns_of, rows_with, schema_for}
 
 pub and_left : (a b : Bool) → (a && b) ≡ true → a ≡ true
 and_left true b h = refl

@@ -8,7 +8,7 @@ use Rattle.sqlite.specs.State.{HasCleanDisk}
 use Rattle.sqlite.specs.Held.{Held, state}
 use Rattle.sqlite.proofs.InsideLemmas.{keeps_then}
 use Rattle.sqlite.proofs.StateLemmas.{survives_then}
-use Rattle.dnp_store.specs.Inside.{IsStep}
+use Rattle.dnp_store.specs.steps.Inside.{IsStep}
 
 -- the steps so far, all answered Ok
 abbrev pub AreSteps : {S : Type 0} → Ghosts S → MutBor (Held S) → MutBor (Held S) → Type 0

@@ -20,7 +20,7 @@ use Rattle.dnp_eventbuf.specs.Latest.{numbered_for}
 use Rattle.dnp_eventbuf.specs.Sound.{IsSound}
 use Rattle.dnp_eventbuf.specs.Stock.{LaneState, Stock, lane_at, no_lane, with_row, with_rows, above}
 use Rattle.dnp_store.specs.QueueTables.{Queued, event_of, in_lane, Figures, HoldsQueue, is_raised, IsQueue}
-use Rattle.dnp_store.specs.Steps.{all_added, mixed, over, any_over, cut, counted, noted, IsTrimmed}
+use Rattle.dnp_store.specs.steps.Steps.{all_added, mixed, over, any_over, cut, counted, noted, IsTrimmed}
 use Rattle.dnp_store.proofs.Appending.{KeepsRows, behind, lane_added, nine_added, last_added, overflow_is}
 use Rattle.dnp_store.proofs.Holding.{same_stock}
 

@@ -9,10 +9,4 @@ pub mod BookKept
 pub mod Schemas
 pub mod Faults
 -- Words of private steps.
-pub mod Inside
-pub mod Steps
-pub mod Stores
-pub mod Making
-pub mod Shown
-pub mod JournalShown
-pub mod BookShown
+pub mod steps

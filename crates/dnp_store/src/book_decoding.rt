@@ -2,7 +2,7 @@
 
 ghost use Rattle.std.specs.Prelude.{◌≡◌, ◌++◌, ◌∷◌, [], IsTrue, OnOk, IfSome};
 ghost use Rattle.dnp_controls.specs.declared.book.Entry.{Entry};
-ghost use Rattle.dnp_store.specs.BookShown.{EntriesRise, ShowEntries, ShowsCommand, ShowsEntry, ShowsState};
+ghost use Rattle.dnp_store.specs.steps.BookShown.{EntriesRise, ShowEntries, ShowsCommand, ShowsEntry, ShowsState};
 
 use crate::decoding::{signed, small, whole};
 use crate::fault::Unread;

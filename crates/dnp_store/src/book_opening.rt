@@ -8,10 +8,10 @@ ghost use Rattle.sqlite.specs.Term.{Term};
 ghost use Rattle.dnp_objects.specs.declared.limits.TheConstants as limits;
 ghost use Rattle.dnp_controls.specs.declared.book.Entry.{Entry};
 ghost use Rattle.dnp_controls.specs.Book.{IsSound};
-ghost use Rattle.dnp_store.specs.Inside.{IsInside, IsStep};
-ghost use Rattle.dnp_store.specs.BookShown.{FindsBook, HoldsEntries, ShowEntries};
+ghost use Rattle.dnp_store.specs.steps.Inside.{IsInside, IsStep};
+ghost use Rattle.dnp_store.specs.steps.BookShown.{FindsBook, HoldsEntries, ShowEntries};
 ghost use Rattle.dnp_store.specs.BookTables.{book_schema};
-ghost use Rattle.dnp_store.specs.Stores.{Reads};
+ghost use Rattle.dnp_store.specs.steps.Stores.{Reads};
 
 use crate::book_decoding::{are_in_order, put_entries};
 use crate::book_form::is_of_book;

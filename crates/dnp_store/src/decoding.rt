@@ -7,7 +7,7 @@ ghost use Rattle.dnp_objects.specs.declared.limits.TheConstants as limits;
 ghost use Rattle.dnp_eventbuf.specs.Carried.{IsCarried};
 ghost use Rattle.dnp_eventbuf.specs.Stock.{lane_at};
 ghost use Rattle.dnp_store.specs.QueueTables.{is_raised, no_figures};
-ghost use Rattle.dnp_store.specs.Shown.{AreInRange, AreNine, IsBegun, Restores, ShowNine, IsMost, ShowsCount, ShowsCountOf, ShowsFigures, ShowsForm1, ShowsQueued};
+ghost use Rattle.dnp_store.specs.steps.Shown.{AreInRange, AreNine, IsBegun, Restores, ShowNine, IsMost, ShowsCount, ShowsCountOf, ShowsFigures, ShowsForm1, ShowsQueued};
 ghost use Rattle.dnp_store.specs.declared.figures.Figures.{Figures as FiguresValue};
 
 use crate::fault::Unread;

@@ -1,7 +1,7 @@
 //! What rows that queries show of a journal's table say.
 
 ghost use Rattle.std.specs.Prelude.{◌<◌, IsTrue, IfOk, IfSome};
-ghost use Rattle.dnp_store.specs.JournalShown.{AreInOrder, ShowEvents, ShowsEvent};
+ghost use Rattle.dnp_store.specs.steps.JournalShown.{AreInOrder, ShowEvents, ShowsEvent};
 
 use crate::decoding::{signed, small, whole};
 use crate::fault::Unread;

@@ -7,10 +7,10 @@ ghost use Rattle.sqlite.specs.State.{HasCleanDisk, Survives};
 ghost use Rattle.sqlite.specs.Term.{Term};
 ghost use Rattle.dnp_objects.specs.declared.limits.TheConstants as limits;
 ghost use Rattle.dnp_eventbuf.specs.declared.numbered.Numbered.{Numbered};
-ghost use Rattle.dnp_store.specs.Inside.{IsInside, IsStep};
-ghost use Rattle.dnp_store.specs.JournalShown.{AreInOrder, Finds, Logs, ShowEvents};
+ghost use Rattle.dnp_store.specs.steps.Inside.{IsInside, IsStep};
+ghost use Rattle.dnp_store.specs.steps.JournalShown.{AreInOrder, Finds, Logs, ShowEvents};
 ghost use Rattle.dnp_store.specs.JournalTables.{journal_schema};
-ghost use Rattle.dnp_store.specs.Stores.{Reads};
+ghost use Rattle.dnp_store.specs.steps.Stores.{Reads};
 
 use crate::decoding::last_used;
 use crate::fault::Unread;

@@ -7,7 +7,7 @@ ghost use Rattle.dnp_objects.specs.declared.limits.TheConstants as limits;
 ghost use Rattle.dnp_eventbuf.specs.Archive.{Archive, rows_over};
 ghost use Rattle.dnp_store.specs.Faults.{RefusesNothing, is_out_of_memory};
 ghost use Rattle.dnp_store.specs.JournalKept.{Stands};
-ghost use Rattle.dnp_store.specs.JournalShown.{ShowOver};
+ghost use Rattle.dnp_store.specs.steps.JournalShown.{ShowOver};
 
 use crate::fault::{Unread, is_lost, loses, serves};
 use crate::journal_decoding::events_in;

@@ -6,10 +6,10 @@ ghost use Rattle.sqlite.specs.Held.{state};
 ghost use Rattle.sqlite.specs.State.{HasCleanDisk};
 ghost use Rattle.dnp_objects.specs.declared.limits.TheConstants as limits;
 ghost use Rattle.dnp_eventbuf.specs.Stock.{Stock, lane_at};
-ghost use Rattle.dnp_store.specs.Inside.{IsInside, IsStep};
+ghost use Rattle.dnp_store.specs.steps.Inside.{IsInside, IsStep};
 ghost use Rattle.dnp_store.specs.QueueTables.{figures_rows};
-ghost use Rattle.dnp_store.specs.Shown.{AreNine, PutBack, Restores};
-ghost use Rattle.dnp_store.specs.Stores.{Reads};
+ghost use Rattle.dnp_store.specs.steps.Shown.{AreNine, PutBack, Restores};
+ghost use Rattle.dnp_store.specs.steps.Stores.{Reads};
 
 use crate::decoding::all_figures;
 use crate::fault::Unread;

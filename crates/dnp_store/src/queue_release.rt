@@ -6,10 +6,10 @@ ghost use Rattle.sqlite.specs.State.{HasCleanDisk, Survives};
 ghost use Rattle.dnp_objects.specs.declared.limits.TheConstants as limits;
 ghost use Rattle.dnp_eventbuf.specs.Sound.{IsSound};
 ghost use Rattle.dnp_eventbuf.specs.Stock.{Stock, lane_at, without};
-ghost use Rattle.dnp_store.specs.Inside.{IsInside, IsStep};
+ghost use Rattle.dnp_store.specs.steps.Inside.{IsInside, IsStep};
 ghost use Rattle.dnp_store.specs.Kept.{Stands};
 ghost use Rattle.dnp_store.specs.QueueTables.{Figures, HoldsQueue, HoldsStock, IsQueue, is_raised};
-ghost use Rattle.dnp_store.specs.Steps.{left, released};
+ghost use Rattle.dnp_store.specs.steps.Steps.{left, released};
 
 use crate::queue_statements::{note, take};
 use dnp_eventbuf::laws::a_release_is_lane_by_lane;

@@ -6,9 +6,9 @@ ghost use Rattle.sqlite.specs.State.{HasCleanDisk};
 ghost use Rattle.dnp_objects.specs.declared.limits.TheConstants as limits;
 ghost use Rattle.dnp_eventbuf.specs.Carried.{IsCarried};
 ghost use Rattle.dnp_eventbuf.specs.Stock.{Stock};
-ghost use Rattle.dnp_store.specs.Inside.{IsInside, IsStep};
+ghost use Rattle.dnp_store.specs.steps.Inside.{IsInside, IsStep};
 ghost use Rattle.dnp_store.specs.QueueTables.{Figures, HoldsQueue};
-ghost use Rattle.dnp_store.specs.Steps.{added, counted, cut, noted};
+ghost use Rattle.dnp_store.specs.steps.Steps.{added, counted, cut, noted};
 
 use dnp_eventbuf::LaneRow;
 use sqlite::{Alter, Error, Transaction, params};

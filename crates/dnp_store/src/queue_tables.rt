@@ -4,12 +4,12 @@ ghost use Rattle.std.specs.Prelude.{◌≡◌, ◌++◌, false, IsTrue, OnOk, On
 ghost use Rattle.sqlite.specs.Held.{state};
 ghost use Rattle.sqlite.specs.State.{HasCleanDisk, Survives};
 ghost use Rattle.dnp_eventbuf.specs.Stock.{empty_stock};
-ghost use Rattle.dnp_store.specs.Inside.{IsInside, IsStep};
+ghost use Rattle.dnp_store.specs.steps.Inside.{IsInside, IsStep};
 ghost use Rattle.dnp_store.specs.Kept.{Stands};
-ghost use Rattle.dnp_store.specs.Making.{HasLanes, fresh};
+ghost use Rattle.dnp_store.specs.steps.Making.{HasLanes, fresh};
 ghost use Rattle.dnp_store.specs.QueueTables.{Figures, HoldsStock};
 ghost use Rattle.dnp_store.specs.Schemas.{made_queue};
-ghost use Rattle.dnp_store.specs.Stores.{HasNumber};
+ghost use Rattle.dnp_store.specs.steps.Stores.{HasNumber};
 ghost use Rattle.dnp_store.specs.Tables.{no_schema};
 
 use crate::store_kind::StoreKind;

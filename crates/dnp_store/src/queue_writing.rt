@@ -7,10 +7,10 @@ ghost use Rattle.dnp_objects.specs.declared.limits.TheConstants as limits;
 ghost use Rattle.dnp_eventbuf.specs.Carried.{IsCarried};
 ghost use Rattle.dnp_eventbuf.specs.Sound.{IsSound};
 ghost use Rattle.dnp_eventbuf.specs.Stock.{Stock, with_rows};
-ghost use Rattle.dnp_store.specs.Inside.{IsInside, IsStep};
+ghost use Rattle.dnp_store.specs.steps.Inside.{IsInside, IsStep};
 ghost use Rattle.dnp_store.specs.Kept.{Stands};
 ghost use Rattle.dnp_store.specs.QueueTables.{Figures, HoldsQueue, HoldsStock};
-ghost use Rattle.dnp_store.specs.Steps.{IsTrimmed, all_added};
+ghost use Rattle.dnp_store.specs.steps.Steps.{IsTrimmed, all_added};
 
 use crate::queue_statements::{insert, note, take};
 use dnp_eventbuf::laws::a_lane_keeps_its_latest_rows;

@@ -4,10 +4,10 @@
 ghost use Rattle.std.specs.Prelude.{◌≡◌, ℕ, List, IsTrue, false, OnOk, OnErr, IfOk, []};
 ghost use Rattle.sqlite.specs.Held.{state};
 ghost use Rattle.sqlite.specs.State.{HasCleanDisk, Shown, Survives};
-ghost use Rattle.dnp_store.specs.Inside.{IsInside, IsStep};
+ghost use Rattle.dnp_store.specs.steps.Inside.{IsInside, IsStep};
 ghost use Rattle.dnp_store.specs.QueueTables.{IsForm1};
-ghost use Rattle.dnp_store.specs.Shown.{ShowsCount};
-ghost use Rattle.dnp_store.specs.Stores.{HasForm, HasNumber, HasTables, IsFresh, Reads};
+ghost use Rattle.dnp_store.specs.steps.Shown.{ShowsCount};
+ghost use Rattle.dnp_store.specs.steps.Stores.{HasForm, HasNumber, HasTables, IsFresh, Reads};
 ghost use Rattle.dnp_store.specs.Tables.{IsCounted, no_schema};
 
 use crate::decoding::form1;

@@ -1,7 +1,7 @@
 -- Controls: what was done on their way, and where they stop.
 use Rattle.std.proofs.Common.{◌≡◌, ℕ, [], ◌∷◌, Option, Some, None, Result, Ok, Err, inl, inr, refl, subst}
 use Rattle.std.specs.Prelude.{◌⊎◌, IfErr, OnOk, ⊤}
-use Rattle.dnp_world.specs.ControlSteps.{EndsBy}
+use Rattle.dnp_world.specs.steps.ControlSteps.{EndsBy}
 use Rattle.dnp_world.specs.Controls.{CanGo, ControlEnds, IsAccepted, IsControlFor, IsRefusedFor, IsRefusedOn, Passes, PassesBack, StopsBack, StopsFor, StopsOn, StopsRelaying, next_below, station_in}
 use Rattle.dnp_world.specs.Rounds.{Flushes, StopsFlushingAll, StopsInTurn}
 use Rattle.dnp_world.specs.Systems.{System}

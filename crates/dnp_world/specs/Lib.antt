@@ -32,7 +32,6 @@ pub mod Polled
 pub mod Arriving
 pub mod Opening
 pub mod Controls
-pub mod ControlSteps
 pub mod ControlAnswers
 pub mod ControlExchanges
 pub mod ControlMoves
@@ -42,3 +41,4 @@ pub mod Settled
 pub mod Movement
 pub mod Steady
 pub mod Shown
+pub mod steps

@@ -3,7 +3,7 @@
 ghost use Rattle.std.specs.Prelude.{◌≡◌, ◌≤◌, ◌<◌, [], ◌∷◌, ◌++◌, IsTrue, false, length};
 ghost use Rattle.dnp_appfragment.specs.Seen.{head};
 ghost use Rattle.dnp_outstation.specs.Controls.{commands_in, commands_of};
-ghost use Rattle.dnp_outstation.specs.Deciding.{told_of, few_of};
+ghost use Rattle.dnp_outstation.specs.steps.Deciding.{told_of, few_of};
 
 use crate::controls::told::Told;
 use dnp_appfragment::{Header, Headers};

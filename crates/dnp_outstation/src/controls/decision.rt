@@ -10,7 +10,7 @@ ghost use Rattle.dnp_appfragment.specs.declared.function.Function.TheVariants as
 ghost use Rattle.dnp_appfragment.specs.declared.table.Form.TheVariants as form;
 ghost use Rattle.dnp_appfragment.specs.Table.{form_of};
 ghost use Rattle.dnp_outstation.specs.Controls.{checked, commands_in, selects, operates, operates_selected, outcome_of};
-ghost use Rattle.dnp_outstation.specs.Deciding.{outcome_by, told_of, few_of};
+ghost use Rattle.dnp_outstation.specs.steps.Deciding.{outcome_by, told_of, few_of};
 
 use crate::controls::commands::Commands;
 use crate::controls::told::Told;

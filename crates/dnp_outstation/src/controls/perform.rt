@@ -5,7 +5,7 @@ ghost use Rattle.std.specs.Result.{result_err};
 ghost use Rattle.std.specs.List.{list_any};
 ghost use Rattle.dnp_objects.specs.Status as status;
 ghost use Rattle.dnp_controls.specs.Panel.{accepted};
-ghost use Rattle.dnp_outstation.specs.Performing.{IsPerforming};
+ghost use Rattle.dnp_outstation.specs.steps.Performing.{IsPerforming};
 
 use dnp_controls::Outputs;
 use dnp_eventbuf::StoreFault;

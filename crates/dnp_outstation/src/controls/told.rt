@@ -9,7 +9,7 @@ ghost use Rattle.dnp_appfragment.specs.Built.{heads, size, with_header};
 ghost use Rattle.dnp_appfragment.specs.Headers.{IsHeader, AreHeaders, begin, header_octets, spelled};
 ghost use Rattle.dnp_appfragment.specs.Seen.{head};
 ghost use Rattle.dnp_outstation.specs.Controls.{command_at, with_status, answered_head, headers_with};
-ghost use Rattle.dnp_outstation.specs.Deciding.{code_by};
+ghost use Rattle.dnp_outstation.specs.steps.Deciding.{code_by};
 
 use crate::offer::writer::Writer;
 use arrayvec::ArrayVec;

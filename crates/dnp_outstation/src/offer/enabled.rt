@@ -6,9 +6,9 @@ ghost use Rattle.dnp_appfragment.specs.Table.{is_response};
 ghost use Rattle.dnp_eventbuf.specs.Sound.{IsSound};
 ghost use Rattle.dnp_eventbuf.specs.Stock.{rows_in};
 ghost use Rattle.dnp_outstation.specs.Items.{class_lanes, lane_items, enabled_lanes, first_place};
-ghost use Rattle.dnp_outstation.specs.Filling.{after_release, empty_for, ended};
+ghost use Rattle.dnp_outstation.specs.steps.Filling.{after_release, empty_for, ended};
 ghost use Rattle.dnp_outstation.specs.Offer.{pushed};
-ghost use Rattle.dnp_outstation.specs.Putting.{Puts};
+ghost use Rattle.dnp_outstation.specs.steps.Putting.{Puts};
 ghost use Rattle.dnp_outstation.specs.Stores.{IsLook};
 
 use crate::offer::place::RowPart;

@@ -6,9 +6,9 @@ ghost use Rattle.dnp_appfragment.specs.Table.{is_response};
 ghost use Rattle.dnp_eventbuf.specs.Stock.{rows_in};
 ghost use Rattle.dnp_outstation.specs.Items.{Source, part_of, part_after, part_items, parts_left, items_of, given_after};
 ghost use Rattle.dnp_outstation.specs.declared.offer.place.Place.{Place as PlaceValue};
-ghost use Rattle.dnp_outstation.specs.Filling.{after_release, empty_from, ended};
+ghost use Rattle.dnp_outstation.specs.steps.Filling.{after_release, empty_from, ended};
 ghost use Rattle.dnp_outstation.specs.Offer.{offered};
-ghost use Rattle.dnp_outstation.specs.Putting.{Puts};
+ghost use Rattle.dnp_outstation.specs.steps.Putting.{Puts};
 ghost use Rattle.dnp_outstation.specs.Stores.{IsLook};
 
 use crate::offer::place::Wanted;

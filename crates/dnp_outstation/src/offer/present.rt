@@ -7,8 +7,8 @@ ghost use Rattle.dnp_appfragment.specs.Written.{FitsPoint};
 ghost use Rattle.dnp_pointdb.specs.Events.{row_of};
 ghost use Rattle.dnp_pointdb.specs.Sound.{IsSoundPoint, IsSoundBlock, AreSound};
 ghost use Rattle.dnp_outstation.specs.Items.{present_of, static_at, is_within, in_range, statics_from, statics_in, output_row, outputs_from, statics_of, Source, Static, given_after};
-ghost use Rattle.dnp_outstation.specs.Filling.{built_for};
-ghost use Rattle.dnp_outstation.specs.Putting.{Puts, presents, group_of, rows_from, passed_by};
+ghost use Rattle.dnp_outstation.specs.steps.Filling.{built_for};
+ghost use Rattle.dnp_outstation.specs.steps.Putting.{Puts, presents, group_of, rows_from, passed_by};
 
 use crate::offer::place::Place;
 use crate::offer::writer::{Run, Writer};

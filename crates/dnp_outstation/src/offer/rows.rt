@@ -8,8 +8,8 @@ ghost use Rattle.dnp_appfragment.specs.Built.{size};
 ghost use Rattle.dnp_appfragment.specs.Table.{is_response};
 ghost use Rattle.dnp_objects.specs.declared.limits.TheConstants.{LANES, MAX_FRAGMENT};
 ghost use Rattle.dnp_outstation.specs.Items.{event_of, given_after, event_items, rows_left, at_most, less};
-ghost use Rattle.dnp_outstation.specs.Filling.{after_release, over_of};
-ghost use Rattle.dnp_outstation.specs.Putting.{Puts, least_octets, least_of};
+ghost use Rattle.dnp_outstation.specs.steps.Filling.{after_release, over_of};
+ghost use Rattle.dnp_outstation.specs.steps.Putting.{Puts, least_octets, least_of};
 ghost use Rattle.dnp_outstation.specs.Stores.{IsLook};
 
 use crate::offer::place::RowPart;

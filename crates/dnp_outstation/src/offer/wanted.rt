@@ -4,7 +4,7 @@ ghost use Rattle.std.specs.Prelude.{◌≡◌, ◌≤◌, ◌-◌, map};
 ghost use Rattle.dnp_objects.specs.Lanes.{lane_number, kind_number};
 ghost use Rattle.dnp_appfragment.specs.Seen.{head};
 ghost use Rattle.dnp_outstation.specs.Items.{Source, class_lanes, kind_lanes, limit_of, part_of};
-ghost use Rattle.dnp_outstation.specs.Filling.{part_by};
+ghost use Rattle.dnp_outstation.specs.steps.Filling.{part_by};
 
 use crate::offer::place::{RowPart, Wanted};
 use dnp_appfragment::{Header, Range};

@@ -8,8 +8,8 @@ ghost use Rattle.dnp_appfragment.specs.Written.{FitsPoint};
 ghost use Rattle.dnp_objects.specs.declared.limits.TheConstants.{MAX_FRAGMENT};
 ghost use Rattle.dnp_outstation.specs.Items.{first_place, event_of, present_of, passed, place_after};
 ghost use Rattle.dnp_appfragment.specs.declared.function.Function.TheVariants as function;
-ghost use Rattle.dnp_outstation.specs.Filling.{put, fits, ended, empty_from, empty_for, is_same_run};
-ghost use Rattle.dnp_outstation.specs.Putting.{least_octets};
+ghost use Rattle.dnp_outstation.specs.steps.Filling.{put, fits, ended, empty_from, empty_for, is_same_run};
+ghost use Rattle.dnp_outstation.specs.steps.Putting.{least_octets};
 
 use crate::offer::place::Place;
 use dnp_appfragment::{Builder, Function};

@@ -3,7 +3,7 @@
 ghost use Rattle.std.specs.Prelude.{◌≡◌, true, false, IfErr, IfOk, IfSome, OnOk, ℕ};
 ghost use Rattle.std.specs.Option.{option_and_then, option_map};
 ghost use Rattle.dnp_controls.specs.Book.{next_of};
-ghost use Rattle.dnp_world.specs.ControlSteps.{EndsBy};
+ghost use Rattle.dnp_world.specs.steps.ControlSteps.{EndsBy};
 ghost use Rattle.dnp_world.specs.Controls.{ControlEnds, IsAccepted, IsControlFor, IsRefusedFor, IsRefusedOn, IsTold, Passes, PassesBack, StopsBack, StopsFor, StopsOn, StopsRelaying, are_quiet_for, first_with, found_in, is_free_below, is_next_for, next_below, station_in, status_in, status_on};
 ghost use Rattle.dnp_world.specs.Systems.{has_station};
 

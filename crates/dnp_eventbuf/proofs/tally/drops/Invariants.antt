@@ -1,6 +1,6 @@
 -- what is done and what is left make the whole
 use Rattle.std.proofs.Common.{◌≡◌, ◌≤◌, drop}
-use Rattle.dnp_eventbuf.specs.Tallies.{drops_from}
+use Rattle.dnp_eventbuf.specs.steps.Tallies.{drops_from}
 use Rattle.dnp_eventbuf.proofs.tally.drops.Given as goal
 
 abbrev pub invariant-loop-x : goal.invariant-loop-x

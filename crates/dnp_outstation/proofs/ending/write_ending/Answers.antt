@@ -1,6 +1,6 @@
 use Rattle.std.proofs.Common.{rules, ◌≡◌, true, ap, sym, ◌∙◌}
 use Rattle.dnp_eventbuf.specs.Stock.{Stock}
-use Rattle.dnp_outstation.specs.Filling.{after_release, ended}
+use Rattle.dnp_outstation.specs.steps.Filling.{after_release, ended}
 use Rattle.dnp_outstation.specs.Offer.{pushed}
 use Rattle.dnp_outstation.proofs.Endings.{starts_at_end}
 use Rattle.dnp_outstation.proofs.ending.write_ending.Goals as goal

@@ -2,7 +2,7 @@ use Rattle.std.proofs.Common.{rules, None, ◌≡◌, true, List, refl, ap, ◌�
 use Rattle.std.specs.List.{list_all}
 use Rattle.dnp_appfragment.specs.Headers.{Head}
 use Rattle.dnp_outstation.specs.Items.{Source, first_place, is_inside}
-use Rattle.dnp_outstation.specs.Filling.{after_release}
+use Rattle.dnp_outstation.specs.steps.Filling.{after_release}
 use Rattle.dnp_outstation.specs.declared.answer.Answer.{Answer}
 use Rattle.dnp_outstation.proofs.Steps.{read_answered}
 use Rattle.dnp_outstation.proofs.execute.read.Goals as goal

@@ -4,7 +4,7 @@ use Rattle.dnp_objects.specs.Lanes.{lane_number}
 use Rattle.dnp_objects.specs.declared.lane.LaneRow.{LaneRow}
 use Rattle.dnp_eventbuf.specs.Stock.{Stock, lane_at, last_of, is_full, with_rows, dropped_by}
 use Rattle.dnp_objects.specs.declared.limits.TheConstants.{LANES}
-use Rattle.dnp_outstation.specs.Holding.{new_of}
+use Rattle.dnp_outstation.specs.steps.Holding.{new_of}
 use Rattle.dnp_outstation.proofs.Holding.{last_then, dropped_then, not_empty, same_new}
 use Rattle.dnp_outstation.proofs.held.new_row.Goals as goal
 

@@ -2,7 +2,7 @@ use Rattle.std.proofs.Common.{rules, ◌≡◌, ◌++◌, [], List, ℕ, false, 
 use Rattle.std.specs.Prelude.{option_to_list}
 use Rattle.dnp_eventbuf.specs.Stock.{Stock, with_rows}
 use Rattle.dnp_outstation.specs.Items.{class_lanes, lane_items}
-use Rattle.dnp_outstation.specs.Putting.{Puts}
+use Rattle.dnp_outstation.specs.steps.Putting.{Puts}
 use Rattle.dnp_outstation.proofs.Holding.{lanes_put, lanes_full, three_classes}
 use Rattle.dnp_outstation.proofs.Pushing.{filled_pushed}
 use Rattle.dnp_outstation.proofs.held.put_held.Goals as goal

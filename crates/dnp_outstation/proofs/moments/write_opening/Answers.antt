@@ -1,7 +1,7 @@
 use Rattle.std.proofs.Common.{rules, ◌≡◌, ◌⊎◌, inl, inr, true, false, ap, sym, ◌∙◌}
 use Rattle.dnp_outstation.specs.Connection.{starts}
 use Rattle.dnp_outstation.specs.Content.{content_from}
-use Rattle.dnp_outstation.specs.Filling.{ended}
+use Rattle.dnp_outstation.specs.steps.Filling.{ended}
 use Rattle.dnp_outstation.specs.Links.{begun}
 use Rattle.dnp_outstation.specs.State.{still}
 use Rattle.dnp_outstation.specs.declared.offer.writer.Writer.{Writer}

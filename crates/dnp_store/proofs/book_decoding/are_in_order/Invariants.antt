@@ -1,5 +1,5 @@
 use Rattle.std.proofs.Common.{drop}
-use Rattle.dnp_store.specs.BookShown.{EntriesRise}
+use Rattle.dnp_store.specs.steps.BookShown.{EntriesRise}
 use Rattle.dnp_store.proofs.book_decoding.are_in_order.Given as goal
 
 -- with the entries that are still to come all are in order

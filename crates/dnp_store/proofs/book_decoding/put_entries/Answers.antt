@@ -2,7 +2,7 @@ use Rattle.std.proofs.Common.{◌≡◌, ◌+◌, ◌<◌, [], ◌∷◌, ℕ, L
 use Rattle.std.proofs.lemmas.List.{get_or_default}
 use Rattle.sqlite.specs.Order.{Row}
 use Rattle.dnp_controls.specs.declared.book.Entry.{Entry}
-use Rattle.dnp_store.specs.BookShown.{ShowsEntry, no_entry}
+use Rattle.dnp_store.specs.steps.BookShown.{ShowsEntry, no_entry}
 use Rattle.dnp_store.proofs.Pushing.{pushed_each}
 use Rattle.dnp_store.proofs.book_decoding.put_entries.Goals as goal
 

@@ -1,6 +1,6 @@
 use Rattle.std.proofs.Common.{◌≡◌, ◌<◌, ℕ, [], length}
 use Rattle.std.specs.Prelude.{slice_index_or}
-use Rattle.dnp_store.specs.BookShown.{ShowsEntry, no_entry}
+use Rattle.dnp_store.specs.steps.BookShown.{ShowsEntry, no_entry}
 use Rattle.dnp_store.proofs.book_decoding.put_entries.Given as goal
 
 -- the rows so far are decoded

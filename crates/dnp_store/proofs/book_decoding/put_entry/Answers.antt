@@ -1,6 +1,6 @@
 use Rattle.std.proofs.Common.{rules, ◌≡◌, ◌++◌, ◌∷◌, []}
 use Rattle.dnp_controls.specs.declared.book.Entry.{Entry}
-use Rattle.dnp_store.specs.BookShown.{ShowsEntry}
+use Rattle.dnp_store.specs.steps.BookShown.{ShowsEntry}
 use Rattle.dnp_store.proofs.book_decoding.put_entry.Goals as goal
 
 pub returns : goal.returns

@@ -3,8 +3,8 @@ use Rattle.sqlite.specs.State.{HasCleanDisk}
 use Rattle.sqlite.specs.Held.{state}
 use Rattle.sqlite.specs.Effect.{Database, IsDatabase}
 use Rattle.dnp_store.specs.Tables.{IsCounted}
-use Rattle.dnp_store.specs.Shown.{ShowsCount}
-use Rattle.dnp_store.specs.BookShown.{EntriesRise, ShowEntries, HoldsEntries}
+use Rattle.dnp_store.specs.steps.Shown.{ShowsCount}
+use Rattle.dnp_store.specs.steps.BookShown.{EntriesRise, ShowEntries, HoldsEntries}
 use Rattle.dnp_store.specs.declared.store_kind.StoreKind.TheVariants.{Book}
 use Rattle.dnp_store.proofs.BookOpening.{opened, sound_of_rise}
 use Rattle.dnp_store.proofs.book_opening.read_all.Goals as goal

@@ -2,7 +2,7 @@ use Rattle.std.proofs.Common.{rules, ◌≡◌, not, IsTrue, arith, sym, ap, sub
 use Rattle.sqlite.specs.State.{HasCleanDisk}
 use Rattle.sqlite.specs.Held.{state}
 use Rattle.sqlite.specs.Effect.{Database, IsDatabase}
-use Rattle.dnp_store.specs.BookShown.{FindsBook}
+use Rattle.dnp_store.specs.steps.BookShown.{FindsBook}
 use Rattle.dnp_store.proofs.book_opening.read_book.Goals as goal
 
 pub returns-clause-read : goal.returns-clause-read

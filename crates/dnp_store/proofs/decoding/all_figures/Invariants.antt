@@ -1,7 +1,7 @@
 use Rattle.std.proofs.Common.{◌≡◌, ◌<◌, ℕ, [], length}
 use Rattle.std.specs.Prelude.{slice_index_or}
 use Rattle.dnp_store.specs.QueueTables.{no_figures}
-use Rattle.dnp_store.specs.Shown.{AreInRange, ShowsFigures}
+use Rattle.dnp_store.specs.steps.Shown.{AreInRange, ShowsFigures}
 use Rattle.dnp_store.proofs.decoding.all_figures.Given as goal
 
 -- the lanes so far are decoded

@@ -1,6 +1,6 @@
 use Rattle.std.proofs.Common.{◌≤◌, ◌<◌, ℕ, []}
 use Rattle.std.specs.Prelude.{slice_index_or}
-use Rattle.dnp_store.specs.Shown.{ShowsCountOf}
+use Rattle.dnp_store.specs.steps.Shown.{ShowsCountOf}
 use Rattle.dnp_store.proofs.decoding.greatest.Given as goal
 
 -- none of the rows so far notes more

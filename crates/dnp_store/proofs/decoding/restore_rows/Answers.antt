@@ -3,7 +3,7 @@ use Rattle.sqlite.specs.Order.{Row}
 use Rattle.dnp_eventbuf.specs.Carried.{IsCarried}
 use Rattle.dnp_eventbuf.specs.Restored.{fits_behind, with_old_row}
 use Rattle.dnp_eventbuf.specs.Stock.{Stock}
-use Rattle.dnp_store.specs.Shown.{Restores, ShowsQueued}
+use Rattle.dnp_store.specs.steps.Shown.{Restores, ShowsQueued}
 use Rattle.dnp_store.proofs.decoding.restore_rows.Goals as goal
 
 pub loop-row-preserved : goal.loop-row-preserved

@@ -1,6 +1,6 @@
 use Rattle.std.proofs.Common.{drop}
 use Rattle.dnp_eventbuf.specs.Stock.{Stock}
-use Rattle.dnp_store.specs.Shown.{Restores}
+use Rattle.dnp_store.specs.steps.Shown.{Restores}
 use Rattle.dnp_store.proofs.decoding.restore_rows.Given as goal
 
 -- with the rows that are still to come all are put back

@@ -1,5 +1,5 @@
 use Rattle.std.proofs.Common.{drop}
-use Rattle.dnp_store.specs.JournalShown.{AreInOrder}
+use Rattle.dnp_store.specs.steps.JournalShown.{AreInOrder}
 use Rattle.dnp_store.proofs.journal_decoding.are_in_order.Given as goal
 
 -- with the events that are still to come all are in order

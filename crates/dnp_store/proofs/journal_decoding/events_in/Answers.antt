@@ -2,7 +2,7 @@ use Rattle.std.proofs.Common.{rules, ◌≡◌, ◌+◌, ◌<◌, ◌++◌, [], 
 use Rattle.std.proofs.lemmas.List.{get_or_default}
 use Rattle.sqlite.specs.Order.{Row}
 use Rattle.dnp_eventbuf.specs.declared.numbered.Numbered.{Numbered}
-use Rattle.dnp_store.specs.JournalShown.{ShowsEvent, no_event}
+use Rattle.dnp_store.specs.steps.JournalShown.{ShowsEvent, no_event}
 use Rattle.dnp_store.proofs.Pushing.{pushed_each}
 use Rattle.dnp_store.proofs.journal_decoding.events_in.Goals as goal
 

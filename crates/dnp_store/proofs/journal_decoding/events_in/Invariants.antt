@@ -1,6 +1,6 @@
 use Rattle.std.proofs.Common.{◌≡◌, ◌<◌, ℕ, [], length}
 use Rattle.std.specs.Prelude.{slice_index_or}
-use Rattle.dnp_store.specs.JournalShown.{ShowsEvent, no_event}
+use Rattle.dnp_store.specs.steps.JournalShown.{ShowsEvent, no_event}
 use Rattle.dnp_store.proofs.journal_decoding.events_in.Given as goal
 
 -- the rows so far are decoded

@@ -4,8 +4,8 @@ use Rattle.sqlite.specs.Held.{state}
 use Rattle.sqlite.specs.Effect.{Database, IsDatabase}
 use Rattle.dnp_objects.specs.declared.limits.TheConstants.{MAX_ID}
 use Rattle.dnp_store.specs.Tables.{IsCounted}
-use Rattle.dnp_store.specs.Shown.{ShowsCount}
-use Rattle.dnp_store.specs.JournalShown.{AreInOrder, ShowEvents, Logs, Finds}
+use Rattle.dnp_store.specs.steps.Shown.{ShowsCount}
+use Rattle.dnp_store.specs.steps.JournalShown.{AreInOrder, ShowEvents, Logs, Finds}
 use Rattle.dnp_store.specs.declared.store_kind.StoreKind.TheVariants.{Journal}
 use Rattle.dnp_store.proofs.JournalOpening.{opened, few_in_order}
 use Rattle.dnp_store.proofs.journal_opening.read_all.Goals as goal

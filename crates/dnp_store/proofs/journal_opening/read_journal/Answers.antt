@@ -2,7 +2,7 @@ use Rattle.std.proofs.Common.{rules, ◌≡◌, not, IsTrue, arith, sym, ap, sub
 use Rattle.sqlite.specs.State.{HasCleanDisk}
 use Rattle.sqlite.specs.Held.{state}
 use Rattle.sqlite.specs.Effect.{Database, IsDatabase}
-use Rattle.dnp_store.specs.JournalShown.{Finds}
+use Rattle.dnp_store.specs.steps.JournalShown.{Finds}
 use Rattle.dnp_store.proofs.journal_opening.read_journal.Goals as goal
 
 pub returns-clause-read : goal.returns-clause-read

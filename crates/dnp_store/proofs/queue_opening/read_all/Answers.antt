@@ -6,7 +6,7 @@ use Rattle.sqlite.specs.Effect.{Database, IsDatabase}
 use Rattle.dnp_eventbuf.specs.Stock.{LaneState}
 use Rattle.dnp_store.specs.Tables.{IsCounted}
 use Rattle.dnp_store.specs.QueueTables.{Figures, figures_rows}
-use Rattle.dnp_store.specs.Shown.{AreNine, IsBegun, PutBack, Restores, ShowsCount}
+use Rattle.dnp_store.specs.steps.Shown.{AreNine, IsBegun, PutBack, Restores, ShowsCount}
 use Rattle.dnp_store.specs.declared.store_kind.StoreKind.TheVariants.{Queue}
 use Rattle.dnp_store.proofs.Restoring.{opened}
 use Rattle.dnp_store.proofs.Stepping.{step_then, step_as}

@@ -1,6 +1,6 @@
 use Rattle.std.proofs.Common.{List, IfOk, subst}
 use Rattle.sqlite.specs.Held.{state}
-use Rattle.dnp_store.specs.Shown.{ShowNine}
+use Rattle.dnp_store.specs.steps.Shown.{ShowNine}
 use Rattle.dnp_store.proofs.Opening.{lanes_if}
 use Rattle.dnp_store.proofs.queue_reading.read_figures.Goals as goal
 

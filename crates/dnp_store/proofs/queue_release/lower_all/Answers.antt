@@ -2,7 +2,7 @@ use Rattle.std.proofs.Common.{◌≡◌, ◌<◌, false, arith, sym, ◌∙◌}
 use Rattle.sqlite.specs.State.{HasCleanDisk}
 use Rattle.sqlite.specs.Held.{state}
 use Rattle.dnp_objects.specs.declared.limits.TheConstants.{LANES}
-use Rattle.dnp_store.specs.Steps.{noted}
+use Rattle.dnp_store.specs.steps.Steps.{noted}
 use Rattle.dnp_store.proofs.Releasing.{note_step, lowered_step, none_raised}
 use Rattle.dnp_store.proofs.Stepping.{step_then}
 use Rattle.dnp_store.proofs.queue_release.lower_all.Goals as goal

@@ -3,7 +3,7 @@ use Rattle.sqlite.specs.State.{HasCleanDisk}
 use Rattle.sqlite.specs.Held.{state}
 use Rattle.dnp_objects.specs.declared.limits.TheConstants.{LANES}
 use Rattle.dnp_store.specs.QueueTables.{IsQueue}
-use Rattle.dnp_store.specs.Steps.{left, released}
+use Rattle.dnp_store.specs.steps.Steps.{left, released}
 use Rattle.dnp_store.proofs.Trimming.{of_queue}
 use Rattle.dnp_store.proofs.Releasing.{lost_left, nine_left, kept_mark, lowered_mark}
 use Rattle.dnp_store.proofs.queue_release.release_in.Goals as goal

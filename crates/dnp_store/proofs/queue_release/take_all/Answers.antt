@@ -3,7 +3,7 @@ use Rattle.sqlite.specs.State.{HasCleanDisk}
 use Rattle.sqlite.specs.Held.{state}
 use Rattle.dnp_objects.specs.declared.limits.TheConstants.{LANES, MAX_ID}
 use Rattle.dnp_store.specs.QueueTables.{HoldsQueue}
-use Rattle.dnp_store.specs.Steps.{left, mixed}
+use Rattle.dnp_store.specs.steps.Steps.{left, mixed}
 use Rattle.dnp_store.proofs.Releasing.{cut_step, nine_left}
 use Rattle.dnp_store.proofs.Trimming.{nine_mixed}
 use Rattle.dnp_store.proofs.Stepping.{step_then}

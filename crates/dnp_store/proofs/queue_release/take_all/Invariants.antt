@@ -4,7 +4,7 @@ use Rattle.sqlite.specs.Held.{state}
 use Rattle.dnp_eventbuf.specs.Sound.{IsSound}
 use Rattle.dnp_eventbuf.specs.Stock.{Stock}
 use Rattle.dnp_store.specs.QueueTables.{Figures, HoldsQueue}
-use Rattle.dnp_store.specs.Steps.{left, mixed}
+use Rattle.dnp_store.specs.steps.Steps.{left, mixed}
 use Rattle.dnp_store.proofs.Stepping.{AreSteps}
 use Rattle.dnp_store.proofs.queue_release.take_all.Given as goal
 

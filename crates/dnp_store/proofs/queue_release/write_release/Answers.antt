@@ -3,7 +3,7 @@ use Rattle.std.specs.Prelude.{OnOk}
 use Rattle.sqlite.specs.State.{HasCleanDisk, Survives}
 use Rattle.sqlite.specs.Held.{state}
 use Rattle.sqlite.specs.Tree.{Trees}
-use Rattle.dnp_store.specs.Steps.{released}
+use Rattle.dnp_store.specs.steps.Steps.{released}
 use Rattle.dnp_store.specs.Kept.{Stands}
 use Rattle.dnp_store.specs.QueueTables.{IsQueue, HoldsStock}
 use Rattle.dnp_store.proofs.Statements.{finished, survives_commit}

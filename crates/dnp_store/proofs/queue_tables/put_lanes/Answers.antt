@@ -3,7 +3,7 @@ use Rattle.std.proofs.lemmas.List.{take_more, map-append}
 use Rattle.sqlite.specs.State.{HasCleanDisk}
 use Rattle.sqlite.specs.Held.{state}
 use Rattle.dnp_objects.specs.declared.limits.TheConstants.{LANES}
-use Rattle.dnp_store.specs.Making.{HasLanes, fresh}
+use Rattle.dnp_store.specs.steps.Making.{HasLanes, fresh}
 use Rattle.dnp_store.proofs.Filling.{length_fresh}
 use Rattle.dnp_store.proofs.Stepping.{step_then}
 use Rattle.dnp_store.proofs.queue_tables.put_lanes.Goals as goal

@@ -1,7 +1,7 @@
 use Rattle.std.proofs.Common.{[], take, map}
 use Rattle.sqlite.specs.State.{HasCleanDisk}
 use Rattle.sqlite.specs.Held.{state}
-use Rattle.dnp_store.specs.Making.{HasLanes, fresh}
+use Rattle.dnp_store.specs.steps.Making.{HasLanes, fresh}
 use Rattle.dnp_store.proofs.Stepping.{AreSteps}
 use Rattle.dnp_store.proofs.queue_tables.put_lanes.Given as goal
 

@@ -4,7 +4,7 @@ use Rattle.sqlite.specs.Held.{state}
 use Rattle.dnp_eventbuf.specs.Stock.{lane_at, above}
 use Rattle.dnp_eventbuf.specs.declared.numbered.Numbered.{Numbered}
 use Rattle.dnp_eventbuf.specs.Latest.{numbered_for}
-use Rattle.dnp_store.specs.Steps.{over, cut, IsTrimmed}
+use Rattle.dnp_store.specs.steps.Steps.{over, cut, IsTrimmed}
 use Rattle.dnp_store.proofs.Trimming.{trimmed_none, trimmed_some, lost_low, id_low}
 use Rattle.dnp_store.proofs.queue_writing.trim.Goals as goal
 

@@ -1,7 +1,7 @@
 use Rattle.std.proofs.Common.{◌≡◌, arith, subst}
 use Rattle.sqlite.specs.Held.{state}
 use Rattle.dnp_objects.specs.declared.limits.TheConstants.{LANES}
-use Rattle.dnp_store.specs.Steps.{IsTrimmed}
+use Rattle.dnp_store.specs.steps.Steps.{IsTrimmed}
 use Rattle.dnp_store.proofs.queue_writing.trim_all.Goals as goal
 
 pub returns-clause-trimmed : goal.returns-clause-trimmed

@@ -1,7 +1,7 @@
 use Rattle.std.proofs.Common.{Bool}
 use Rattle.sqlite.specs.State.{HasCleanDisk}
 use Rattle.sqlite.specs.Held.{state}
-use Rattle.dnp_store.specs.Steps.{IsTrimmed}
+use Rattle.dnp_store.specs.steps.Steps.{IsTrimmed}
 use Rattle.dnp_store.proofs.Stepping.{AreSteps}
 use Rattle.dnp_store.proofs.queue_writing.trim_all.Given as goal
 

@@ -1,6 +1,6 @@
 use Rattle.std.proofs.Common.{rules}
 use Rattle.sqlite.specs.Held.{state}
-use Rattle.dnp_store.specs.Shown.{ShowsForm1}
+use Rattle.dnp_store.specs.steps.Shown.{ShowsForm1}
 use Rattle.dnp_store.proofs.Opening.{reads_form}
 use Rattle.dnp_store.proofs.stores.read_form.Goals as goal
 

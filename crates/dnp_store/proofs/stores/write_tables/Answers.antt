@@ -4,7 +4,7 @@ use Rattle.sqlite.specs.State.{HasCleanDisk, Survives}
 use Rattle.sqlite.specs.Held.{state}
 use Rattle.sqlite.specs.Tree.{Trees}
 use Rattle.dnp_store.specs.Tables.{no_schema}
-use Rattle.dnp_store.specs.Stores.{HasNumber, IsFresh}
+use Rattle.dnp_store.specs.steps.Stores.{HasNumber, IsFresh}
 use Rattle.dnp_store.proofs.Statements.{finished, survives_commit}
 use Rattle.dnp_store.proofs.stores.write_tables.Goals as goal
 

@@ -3,7 +3,7 @@ use Rattle.dnp_concentrator.specs.declared.limits.TheConstants.{MAX_SUBSTATIONS}
 use Rattle.dnp_concentrator.specs.declared.order.Place.{Place}
 use Rattle.dnp_concentrator.specs.declared.span.Spans.{Spans}
 use Rattle.dnp_concentrator.specs.IndexMap.{index_below}
-use Rattle.dnp_concentrator.specs.Order.{IsOrder}
+use Rattle.dnp_concentrator.specs.steps.Order.{IsOrder}
 use Rattle.dnp_concentrator.proofs.Mapping.{station_below}
 use Rattle.dnp_concentrator.proofs.Orders.{order_rising}
 use Rattle.dnp_concentrator.proofs.index_map.IndexMap.below.Goals as goal

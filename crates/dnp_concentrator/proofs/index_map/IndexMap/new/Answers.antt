@@ -2,7 +2,7 @@ use Rattle.std.proofs.Common.{rules, ◌≡◌, List, map, arith, ◌∙◌, sym
 use Rattle.std.proofs.lemmas.List.{length-map}
 use Rattle.dnp_concentrator.specs.declared.span.Spans.{Spans}
 use Rattle.dnp_concentrator.specs.IndexMap.{IsMap}
-use Rattle.dnp_concentrator.specs.Order.{AreOrders}
+use Rattle.dnp_concentrator.specs.steps.Order.{AreOrders}
 use Rattle.dnp_concentrator.specs.Plan.{spans_of}
 use Rattle.dnp_concentrator.proofs.Refusals.{is_map}
 use Rattle.dnp_concentrator.proofs.index_map.IndexMap.new.Goals as goal

@@ -1,7 +1,7 @@
 use Rattle.std.proofs.Common.{◌≡◌, ◌∙◌, subst, ap, map, arith}
 use Rattle.dnp_eventbuf.specs.Sound.{IsSound}
 use Rattle.dnp_eventbuf.specs.Stock.{Stock}
-use Rattle.dnp_eventbuf.specs.Tallies.{tally_of, drops_from}
+use Rattle.dnp_eventbuf.specs.steps.Tallies.{tally_of, drops_from}
 use Rattle.dnp_eventbuf.proofs.Drops.{exhausts-many, drops-Some, drops-None}
 use Rattle.dnp_eventbuf.proofs.plain.PlainLanes.drops.Goals as goal
 

@@ -1,6 +1,6 @@
 use Rattle.std.proofs.Common.{◌/◌, ◌≤◌, ℕ, length, rules}
 use Rattle.dnp_appfragment.specs.Seen.{head}
-use Rattle.dnp_outstation.specs.Deciding.{code_by}
+use Rattle.dnp_outstation.specs.steps.Deciding.{code_by}
 use Rattle.dnp_outstation.proofs.ControlHeaders.{piece_is, piece_some, object_put, longer_by, cut_again}
 use Rattle.dnp_outstation.proofs.controls.told.fill.Goals as goal
 

@@ -1,7 +1,7 @@
 use Rattle.std.proofs.Common.{◌≡◌, ◌-◌, ◌*◌, ◌++◌, drop, length}
 use Rattle.dnp_appfragment.specs.Seen.{head}
 use Rattle.dnp_outstation.specs.Controls.{answered_from}
-use Rattle.dnp_outstation.specs.Deciding.{code_by}
+use Rattle.dnp_outstation.specs.steps.Deciding.{code_by}
 use Rattle.dnp_outstation.proofs.controls.told.fill.Given as goal
 
 -- what is still to come

@@ -1,4 +1,4 @@
-use Rattle.dnp_outstation.specs.Filling.{after_release}
+use Rattle.dnp_outstation.specs.steps.Filling.{after_release}
 use Rattle.dnp_outstation.proofs.Pushing.{filled_pushed}
 use Rattle.dnp_outstation.proofs.offer.enabled.put_enabled.Goals as goal
 

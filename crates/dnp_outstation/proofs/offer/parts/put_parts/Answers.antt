@@ -1,6 +1,6 @@
 use Rattle.std.proofs.Common.{refl}
 use Rattle.dnp_outstation.specs.Items.{Source}
-use Rattle.dnp_outstation.specs.Filling.{after_release}
+use Rattle.dnp_outstation.specs.steps.Filling.{after_release}
 use Rattle.dnp_outstation.proofs.OfferParts.{filled_offered}
 use Rattle.dnp_outstation.proofs.offer.parts.put_parts.Goals as goal
 

@@ -8,7 +8,7 @@ use Rattle.dnp_eventbuf.specs.declared.numbered.Numbered.{Numbered}
 use Rattle.dnp_eventbuf.specs.Sound.{IsSound}
 use Rattle.dnp_eventbuf.specs.Stock.{Stock, offered, rows_in}
 use Rattle.dnp_outstation.specs.Items.{rows_left}
-use Rattle.dnp_outstation.specs.Filling.{after_release, over_of}
+use Rattle.dnp_outstation.specs.steps.Filling.{after_release, over_of}
 use Rattle.dnp_outstation.proofs.NoRows.{none_offered}
 use Rattle.dnp_outstation.proofs.OfferRows.{lane_kinds, rows_given, stood_at}
 use Rattle.dnp_outstation.proofs.offer.rows.rows_to_give.Goals as goal

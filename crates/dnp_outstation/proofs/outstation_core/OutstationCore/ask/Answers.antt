@@ -1,13 +1,13 @@
 use Rattle.std.proofs.Common.{rules, ◌≡◌, ℕ, Bool, if◌then◌else◌, refl, ap, sym, subst, ◌∙◌}
 use Rattle.dnp_eventbuf.specs.Stock.{Stock}
-use Rattle.dnp_outstation.specs.Answering.{KeepsWhole, content_by, state_by, executed_by}
+use Rattle.dnp_outstation.specs.steps.Answering.{KeepsWhole, content_by, state_by, executed_by}
 use Rattle.dnp_outstation.specs.declared.answer.Answer.{Answer}
 use Rattle.dnp_outstation.specs.declared.answer.Switches.{Switches}
 use Rattle.dnp_outstation.specs.Connection.{control_in, asked, responds, replied, on_request, at_end}
 use Rattle.dnp_outstation.specs.Content.{content_of}
 use Rattle.dnp_outstation.specs.Items.{last_in}
 use Rattle.dnp_outstation.specs.Controls.{control_content}
-use Rattle.dnp_outstation.specs.Pushing.{ended_by}
+use Rattle.dnp_outstation.specs.steps.Pushing.{ended_by}
 use Rattle.dnp_outstation.specs.State.{Core, State, Step, Actions, sending, with_session}
 use Rattle.dnp_outstation.specs.Station.{state_of, actions_of}
 use Rattle.dnp_outstation.proofs.Cores.{core_in}

@@ -7,7 +7,7 @@ use Rattle.dnp_pointdb.specs.Database.{Database, answer_of, changed_of}
 use Rattle.dnp_pointdb.specs.declared.fault.ChangeFault.{ChangeFault}
 use Rattle.dnp_eventbuf.specs.Stock.{Stock, with_rows, dropped_by}
 use Rattle.dnp_outstation.specs.Calls.{change_of}
-use Rattle.dnp_outstation.specs.Pushing.{is_ready}
+use Rattle.dnp_outstation.specs.steps.Pushing.{is_ready}
 use Rattle.dnp_outstation.specs.State.{Core, State, Step, Actions, nothing}
 use Rattle.dnp_outstation.specs.Station.{state_of, actions_of}
 use Rattle.dnp_outstation.proofs.Cores.{core_in}

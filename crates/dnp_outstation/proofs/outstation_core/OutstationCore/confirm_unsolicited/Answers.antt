@@ -3,7 +3,7 @@ use Rattle.dnp_objects.specs.declared.row.Row.{Row}
 use Rattle.dnp_eventbuf.specs.Stock.{Stock, without, all_up_to, rows_in}
 use Rattle.dnp_outstation.specs.declared.answer.Switches.{Switches}
 use Rattle.dnp_outstation.specs.declared.session.Unsolicited.{Unsolicited}
-use Rattle.dnp_outstation.specs.Answering.{answers_held_by}
+use Rattle.dnp_outstation.specs.steps.Answering.{answers_held_by}
 use Rattle.dnp_outstation.specs.Calls.{with_that}
 use Rattle.dnp_outstation.specs.Connection.{at_end, answers_held, discarding, on_unsolicited_confirm}
 use Rattle.dnp_outstation.specs.Items.{last_in}

@@ -8,12 +8,12 @@ use Rattle.dnp_outstation.specs.declared.answer.Answer.{Answer}
 use Rattle.dnp_outstation.specs.declared.answer.Switches.{Switches}
 use Rattle.dnp_outstation.specs.declared.offer.writer.Writer.{Writer}
 use Rattle.dnp_outstation.specs.declared.session.Session.{Session}
-use Rattle.dnp_outstation.specs.Answering.{content_by}
+use Rattle.dnp_outstation.specs.steps.Answering.{content_by}
 use Rattle.dnp_outstation.specs.Connection.{control_in, asked, on_request, at_end, replied}
 use Rattle.dnp_outstation.specs.Content.{Executed, content_of}
 use Rattle.dnp_outstation.specs.Controls.{is_control, control_content, with_select}
 use Rattle.dnp_outstation.specs.Items.{no_ids, last_in}
-use Rattle.dnp_outstation.specs.Pushing.{is_ready}
+use Rattle.dnp_outstation.specs.steps.Pushing.{is_ready}
 use Rattle.dnp_outstation.specs.State.{Core, State, Step, with_session, is_free}
 use Rattle.dnp_outstation.specs.Station.{state_of, actions_of}
 use Rattle.dnp_outstation.proofs.Cores.{core_in}

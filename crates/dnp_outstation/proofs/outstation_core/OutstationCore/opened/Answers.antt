@@ -1,7 +1,7 @@
 use Rattle.std.proofs.Common.{◌≡◌, true, refl, ap, sym, subst, ◌∙◌}
 use Rattle.dnp_eventbuf.specs.Stock.{Stock}
 use Rattle.dnp_outstation.specs.Calls.{opened_of}
-use Rattle.dnp_outstation.specs.Pushing.{ended_by}
+use Rattle.dnp_outstation.specs.steps.Pushing.{ended_by}
 use Rattle.dnp_outstation.specs.State.{Core, State, Step, Actions, still}
 use Rattle.dnp_outstation.specs.Station.{state_of}
 use Rattle.dnp_outstation.specs.Links.{begun}

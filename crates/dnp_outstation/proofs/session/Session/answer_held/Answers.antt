@@ -1,7 +1,7 @@
 use Rattle.std.proofs.Common.{◌≡◌, Bool, List, [], ℕ, Option, IfSome, refl, ap, sym, subst, ◌∙◌}
 use Rattle.dnp_outstation.specs.declared.answer.Answer.{Answer}
 use Rattle.dnp_outstation.specs.declared.session.Session.{Session}
-use Rattle.dnp_outstation.specs.Answering.{content_by, state_by, executed_by, answers_held_by}
+use Rattle.dnp_outstation.specs.steps.Answering.{content_by, state_by, executed_by, answers_held_by}
 use Rattle.dnp_outstation.specs.Connection.{control_in, responds, replied}
 use Rattle.dnp_outstation.specs.Items.{last_in}
 use Rattle.dnp_outstation.specs.State.{State, Step, Actions, sending, with_session}

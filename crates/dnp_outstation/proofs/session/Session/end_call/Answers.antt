@@ -1,5 +1,5 @@
 use Rattle.std.proofs.Common.{ℕ, List, [], ◌∷◌, ◌++◌, true, ap, sym, ◌∙◌}
-use Rattle.dnp_outstation.specs.Pushing.{ended_by}
+use Rattle.dnp_outstation.specs.steps.Pushing.{ended_by}
 use Rattle.dnp_outstation.specs.State.{Step, Actions, with_session}
 use Rattle.dnp_outstation.specs.Station.{actions_of}
 use Rattle.dnp_outstation.proofs.session.Session.end_call.Goals as goal

@@ -1,5 +1,5 @@
 use Rattle.std.proofs.Common.{ℕ, List, true, ap, sym, ◌∙◌}
-use Rattle.dnp_outstation.specs.Pushing.{ended_by}
+use Rattle.dnp_outstation.specs.steps.Pushing.{ended_by}
 use Rattle.dnp_outstation.specs.State.{Step, Actions, nothing, sending, with_session}
 use Rattle.dnp_outstation.proofs.session.Session.end_change.Goals as goal
 

@@ -4,7 +4,7 @@ use Rattle.sqlite.specs.Held.{state}
 use Rattle.dnp_eventbuf.specs.Stock.{without_all}
 use Rattle.dnp_store.specs.Kept.{Kept, Stands, Leaves, LeavesEither}
 use Rattle.dnp_store.specs.QueueTables.{IsQueue, HoldsStock}
-use Rattle.dnp_store.specs.Steps.{released}
+use Rattle.dnp_store.specs.steps.Steps.{released}
 use Rattle.dnp_store.proofs.Standing.{either_of, leaves_last}
 use Rattle.dnp_store.proofs.Releasing.{all_left, all_left_in, nine_most, all_most}
 use Rattle.dnp_store.proofs.queue.QueueLanes.empty.Goals as goal

@@ -4,7 +4,7 @@ use Rattle.sqlite.specs.Held.{state}
 use Rattle.dnp_eventbuf.specs.Stock.{Stock, without}
 use Rattle.dnp_store.specs.Kept.{Kept, LeavesEither}
 use Rattle.dnp_store.specs.QueueTables.{HoldsStock}
-use Rattle.dnp_store.specs.Steps.{released}
+use Rattle.dnp_store.specs.steps.Steps.{released}
 use Rattle.dnp_store.proofs.Standing.{either_of, survives_itself}
 use Rattle.dnp_store.proofs.queue.QueueLanes.release.Goals as goal
 

@@ -2,7 +2,7 @@ use Rattle.std.proofs.Common.{◌≡◌, ap}
 use Rattle.dnp_appfragment.specs.Built.{with_header}
 use Rattle.dnp_appfragment.specs.Seen.{head}
 use Rattle.dnp_outstation.specs.Controls.{answered_head}
-use Rattle.dnp_outstation.specs.Deciding.{code_by}
+use Rattle.dnp_outstation.specs.steps.Deciding.{code_by}
 use Rattle.dnp_outstation.proofs.ControlHeaders.{header_put, room_left, room_in}
 use Rattle.dnp_outstation.proofs.offer.writer.Writer.put_answers.Goals as goal
 

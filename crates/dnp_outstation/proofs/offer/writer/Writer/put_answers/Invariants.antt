@@ -5,7 +5,7 @@ use Rattle.dnp_appfragment.specs.declared.table.Form.TheVariants as form
 use Rattle.dnp_appfragment.specs.Built.{heads, size}
 use Rattle.dnp_appfragment.specs.Headers.{AreHeaders, begin, spelled}
 use Rattle.dnp_outstation.specs.Controls.{headers_with}
-use Rattle.dnp_outstation.specs.Deciding.{code_by}
+use Rattle.dnp_outstation.specs.steps.Deciding.{code_by}
 use Rattle.dnp_outstation.proofs.offer.writer.Writer.put_answers.Given as goal
 
 -- what is still to come

@@ -2,8 +2,8 @@ use Rattle.std.proofs.Common.{◌≡◌, ℕ, ◌+◌, ◌-◌, ◌++◌, ap, sy
 use Rattle.std.proofs.lemmas.List.{take_all, length-drop}
 use Rattle.dnp_pointdb.specs.declared.state.PointState.{PointState}
 use Rattle.dnp_outstation.specs.Items.{Static, present_of, in_range, statics_from}
-use Rattle.dnp_outstation.specs.Filling.{fill}
-use Rattle.dnp_outstation.specs.Putting.{group_of}
+use Rattle.dnp_outstation.specs.steps.Filling.{fill}
+use Rattle.dnp_outstation.specs.steps.Putting.{group_of}
 use Rattle.dnp_outstation.proofs.OfferPresent.{named_left, length_named}
 use Rattle.dnp_outstation.proofs.offer.writer.Writer.put_block.Goals as goal
 

@@ -1,7 +1,7 @@
 use Rattle.std.proofs.Common.{rules, ◌++◌, ap, sym, ◌∙◌, List}
 use Rattle.dnp_outstation.specs.Items.{Item, in_range, statics_from, statics_in}
-use Rattle.dnp_outstation.specs.Filling.{fill}
-use Rattle.dnp_outstation.specs.Putting.{group_of, presents}
+use Rattle.dnp_outstation.specs.steps.Filling.{fill}
+use Rattle.dnp_outstation.specs.steps.Putting.{group_of, presents}
 use Rattle.std.proofs.Common.{◌+◌, drop}
 use Rattle.dnp_outstation.proofs.OfferPresent.{block_first, block_skipped, puts_more, puts_full}
 use Rattle.dnp_outstation.proofs.offer.writer.Writer.put_blocks.Goals as goal

@@ -1,7 +1,7 @@
 use Rattle.std.proofs.Common.{◌≡◌, ◌++◌, ◌-◌, List, drop, length}
 use Rattle.dnp_outstation.specs.Items.{Item, in_range, statics_in}
-use Rattle.dnp_outstation.specs.Filling.{fill}
-use Rattle.dnp_outstation.specs.Putting.{group_of, presents}
+use Rattle.dnp_outstation.specs.steps.Filling.{fill}
+use Rattle.dnp_outstation.specs.steps.Putting.{group_of, presents}
 use Rattle.dnp_outstation.proofs.offer.writer.Writer.put_blocks.Given as goal
 
 -- what is written and what is left to write are the whole, whatever comes after

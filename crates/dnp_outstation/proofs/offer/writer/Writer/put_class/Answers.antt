@@ -1,8 +1,8 @@
 use Rattle.std.proofs.Common.{rules, ◌≡◌, ◌^◌, ◌+◌, ◌-◌, true, if◌then◌else◌, [], List, map, subst, ap, ◌∙◌, arith, Bool, IfOk}
 use Rattle.dnp_objects.specs.Lanes.{lane_number}
 use Rattle.dnp_outstation.specs.Items.{Item, class_lanes, lane_items}
-use Rattle.dnp_outstation.specs.Filling.{after_release}
-use Rattle.dnp_outstation.specs.Putting.{Puts}
+use Rattle.dnp_outstation.specs.steps.Filling.{after_release}
+use Rattle.dnp_outstation.specs.steps.Putting.{Puts}
 use Rattle.dnp_outstation.proofs.Pushing.{class_left}
 use Rattle.dnp_outstation.proofs.offer.writer.Writer.put_class.Goals as goal
 

@@ -1,8 +1,8 @@
 use Rattle.std.proofs.Common.{rules, ◌≡◌, ◌∷◌, ◌+◌, Bool, if◌then◌else◌, [], false, subst, sym, ◌∙◌, drop, get_or, length}
 use Rattle.dnp_eventbuf.specs.Stock.{Stock}
 use Rattle.dnp_outstation.specs.Items.{class_lanes, lane_items}
-use Rattle.dnp_outstation.specs.Filling.{after_release}
-use Rattle.dnp_outstation.specs.Putting.{Puts}
+use Rattle.dnp_outstation.specs.steps.Filling.{after_release}
+use Rattle.dnp_outstation.specs.steps.Putting.{Puts}
 use Rattle.dnp_outstation.proofs.Pushing.{class_at, class_put, class_full}
 use Rattle.dnp_outstation.proofs.offer.writer.Writer.put_classes.Goals as goal
 

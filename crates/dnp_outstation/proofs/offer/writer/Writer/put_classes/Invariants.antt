@@ -1,6 +1,6 @@
 use Rattle.std.proofs.Common.{◌≡◌, ◌++◌, List, drop}
 use Rattle.dnp_outstation.specs.Items.{Item, enabled_lanes, lane_items}
-use Rattle.dnp_outstation.specs.Filling.{after_release, fill}
+use Rattle.dnp_outstation.specs.steps.Filling.{after_release, fill}
 use Rattle.dnp_outstation.proofs.offer.writer.Writer.put_classes.Given as goal
 
 -- what is written and what is left to write are the whole, whatever comes after

@@ -7,7 +7,7 @@ use Rattle.dnp_appfragment.specs.Headers.{Head, IsHeader}
 use Rattle.dnp_appfragment.specs.Seen.{head}
 use Rattle.dnp_appfragment.specs.Table.{form_of}
 use Rattle.dnp_outstation.specs.Controls.{answered_head}
-use Rattle.dnp_outstation.specs.Deciding.{code_by}
+use Rattle.dnp_outstation.specs.steps.Deciding.{code_by}
 use Rattle.dnp_outstation.specs.declared.offer.writer.Writer.{Writer}
 use Rattle.dnp_outstation.proofs.ControlHeaders.{answered_header, header_length, size_with, put_there}
 use Rattle.dnp_outstation.proofs.offer.writer.Writer.put_copied.Goals as goal

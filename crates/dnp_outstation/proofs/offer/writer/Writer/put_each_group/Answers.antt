@@ -1,7 +1,7 @@
 use Rattle.std.proofs.Common.{◌++◌, List, ap, sym, ◌∙◌}
 use Rattle.dnp_outstation.specs.Items.{Static}
-use Rattle.dnp_outstation.specs.Filling.{fill}
-use Rattle.dnp_outstation.specs.Putting.{presents}
+use Rattle.dnp_outstation.specs.steps.Filling.{fill}
+use Rattle.dnp_outstation.specs.steps.Putting.{presents}
 use Rattle.dnp_outstation.proofs.OfferPresent.{each_group}
 use Rattle.dnp_outstation.proofs.offer.writer.Writer.put_each_group.Goals as goal
 

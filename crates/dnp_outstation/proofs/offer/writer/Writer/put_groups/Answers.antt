@@ -2,8 +2,8 @@ use Rattle.std.proofs.Common.{rules, ℕ, ◌+◌, ◌-◌, ◌++◌, ap, refl, 
 use Rattle.std.proofs.lemmas.List.{drop_more}
 use Rattle.std.specs.List.{flat_map}
 use Rattle.dnp_outstation.specs.Items.{Item, in_range, statics_of}
-use Rattle.dnp_outstation.specs.Filling.{fill}
-use Rattle.dnp_outstation.specs.Putting.{presents}
+use Rattle.dnp_outstation.specs.steps.Filling.{fill}
+use Rattle.dnp_outstation.specs.steps.Putting.{presents}
 use Rattle.dnp_outstation.proofs.OfferPresent.{group_first, puts_more, puts_full}
 use Rattle.dnp_outstation.proofs.offer.writer.Writer.put_groups.Goals as goal
 

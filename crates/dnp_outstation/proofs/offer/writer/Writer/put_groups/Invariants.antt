@@ -1,8 +1,8 @@
 use Rattle.std.proofs.Common.{◌≡◌, ◌++◌, List, drop}
 use Rattle.std.specs.List.{flat_map}
 use Rattle.dnp_outstation.specs.Items.{Item, Source, in_range, statics_of}
-use Rattle.dnp_outstation.specs.Filling.{fill}
-use Rattle.dnp_outstation.specs.Putting.{presents}
+use Rattle.dnp_outstation.specs.steps.Filling.{fill}
+use Rattle.dnp_outstation.specs.steps.Putting.{presents}
 use Rattle.dnp_outstation.proofs.offer.writer.Writer.put_groups.Given as goal
 
 -- what is written and what is left to write are the whole, whatever comes after

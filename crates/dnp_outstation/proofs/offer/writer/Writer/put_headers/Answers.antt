@@ -1,7 +1,7 @@
 use Rattle.std.proofs.Common.{◌≡◌, ◌∷◌, IsTrue, ap, sym, ◌∙◌, arith, rules, length}
 use Rattle.dnp_appfragment.specs.Seen.{head}
 use Rattle.dnp_eventbuf.specs.Stock.{Stock}
-use Rattle.dnp_outstation.specs.Filling.{after_release}
+use Rattle.dnp_outstation.specs.steps.Filling.{after_release}
 use Rattle.dnp_outstation.proofs.OfferParts.{part_put}
 use Rattle.dnp_outstation.proofs.offer.writer.Writer.put_headers.Goals as goal
 

@@ -1,6 +1,6 @@
 use Rattle.std.proofs.Common.{◌≡◌, ◌++◌, ◌+◌, List, map, length}
 use Rattle.dnp_outstation.specs.Items.{Source, Item, part_of, parts_left, items_of}
-use Rattle.dnp_outstation.specs.Filling.{after_release, fill}
+use Rattle.dnp_outstation.specs.steps.Filling.{after_release, fill}
 use Rattle.dnp_outstation.proofs.offer.writer.Writer.put_headers.Given as goal
 
 -- what is written and what is left to write are the whole, whatever comes after

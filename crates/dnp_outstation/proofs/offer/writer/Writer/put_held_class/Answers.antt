@@ -1,7 +1,7 @@
 use Rattle.std.proofs.Common.{◌+◌, ◌*◌, true, false, [], ◌∷◌, sym, subst, arith}
 use Rattle.std.specs.Prelude.{option_to_list}
 use Rattle.dnp_eventbuf.specs.Stock.{Stock, lane_at, with_rows}
-use Rattle.dnp_outstation.specs.Holding.{AreFirst, IsClassHeld}
+use Rattle.dnp_outstation.specs.steps.Holding.{AreFirst, IsClassHeld}
 use Rattle.dnp_outstation.proofs.Holding.{lane_put, lanes_put, lanes_full, class_on}
 use Rattle.dnp_outstation.proofs.offer.writer.Writer.put_held_class.Goals as goal
 

@@ -3,7 +3,7 @@ use Rattle.dnp_appfragment.specs.Built.{size, front_size}
 use Rattle.dnp_objects.specs.declared.limits.TheConstants.{MAX_FRAGMENT}
 use Rattle.dnp_objects.specs.declared.row.Kind.{Kind}
 use Rattle.dnp_objects.specs.declared.row.Kind.TheVariants.{Binary, Counter, Analog}
-use Rattle.dnp_outstation.specs.Putting.{least_octets}
+use Rattle.dnp_outstation.specs.steps.Putting.{least_octets}
 use Rattle.dnp_outstation.proofs.Holding.{held_full, held_fits}
 use Rattle.dnp_outstation.proofs.offer.writer.Writer.put_held_lane.Goals as goal
 

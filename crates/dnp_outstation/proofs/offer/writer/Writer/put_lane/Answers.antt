@@ -3,8 +3,8 @@ use Rattle.std.specs.List.{All}
 use Rattle.dnp_objects.specs.Lanes.{lane_number}
 use Rattle.dnp_eventbuf.specs.declared.numbered.Numbered.{Numbered}
 use Rattle.dnp_outstation.specs.Items.{at_most, event_of, given_after, rows_left}
-use Rattle.dnp_outstation.specs.Filling.{after_release}
-use Rattle.dnp_outstation.specs.Putting.{Puts}
+use Rattle.dnp_outstation.specs.steps.Filling.{after_release}
+use Rattle.dnp_outstation.specs.steps.Putting.{Puts}
 use Rattle.dnp_outstation.proofs.OfferRoom.{all_asked}
 use Rattle.dnp_outstation.proofs.OfferRows.{lane_full}
 use Rattle.dnp_outstation.proofs.offer.writer.Writer.put_lane.Given.{Over}

@@ -1,7 +1,7 @@
 use Rattle.std.proofs.Common.{◌≡◌, ◌++◌, List, map, fold, drop}
 use Rattle.dnp_objects.specs.Lanes.{lane_number}
 use Rattle.dnp_outstation.specs.Items.{Item, event_items, given_after}
-use Rattle.dnp_outstation.specs.Filling.{after_release, fill}
+use Rattle.dnp_outstation.specs.steps.Filling.{after_release, fill}
 use Rattle.dnp_outstation.proofs.offer.writer.Writer.put_lanes.Given as goal
 
 -- what is written and what is left to write are the whole, whatever comes after

@@ -1,6 +1,6 @@
 use Rattle.std.proofs.Common.{◌≡◌, ℕ, ◌-◌, ◌++◌, ap, sym, ◌∙◌, arith, List, map, drop, length}
 use Rattle.dnp_outstation.specs.Items.{Static, present_of, in_range, outputs_from}
-use Rattle.dnp_outstation.specs.Filling.{fill}
+use Rattle.dnp_outstation.specs.steps.Filling.{fill}
 use Rattle.dnp_outstation.proofs.OfferPresent.{outputs_left, length_outputs_named}
 use Rattle.dnp_outstation.proofs.offer.writer.Writer.put_outputs.Goals as goal
 

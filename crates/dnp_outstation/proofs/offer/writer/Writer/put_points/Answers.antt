@@ -5,8 +5,8 @@ use Rattle.dnp_appfragment.specs.Written.{FitsPoint}
 use Rattle.dnp_outstation.specs.declared.offer.writer.Run.TheVariants.{OfBlock}
 use Rattle.dnp_outstation.specs.declared.offer.writer.Writer.{Writer}
 use Rattle.dnp_outstation.specs.Items.{present_of, statics_from}
-use Rattle.dnp_outstation.specs.Filling.{fill, ended, built_for}
-use Rattle.dnp_outstation.specs.Putting.{rows_from, passed_by}
+use Rattle.dnp_outstation.specs.steps.Filling.{fill, ended, built_for}
+use Rattle.dnp_outstation.specs.steps.Putting.{rows_from, passed_by}
 use Rattle.dnp_outstation.proofs.PointValues.{length_rows, rows_in_order, rows_fit, heads_from, none_puts, some_puts}
 use Rattle.dnp_outstation.proofs.offer.writer.Writer.put_points.Goals.{After-points-count}
 use Rattle.dnp_outstation.proofs.offer.writer.Writer.put_points.Goals as goal

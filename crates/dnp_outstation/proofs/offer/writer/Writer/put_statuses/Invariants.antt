@@ -1,6 +1,6 @@
 use Rattle.std.proofs.Common.{◌≡◌, ◌++◌, ◌-◌, List, map}
 use Rattle.dnp_outstation.specs.Items.{Item, present_of, outputs_from}
-use Rattle.dnp_outstation.specs.Filling.{fill}
+use Rattle.dnp_outstation.specs.steps.Filling.{fill}
 use Rattle.dnp_outstation.proofs.offer.writer.Writer.put_statuses.Given as goal
 
 -- what is written and what is left to write are the whole, whatever comes after

@@ -9,7 +9,7 @@ use Rattle.dnp_pointdb.specs.Events.{row_of}
 use Rattle.dnp_outstation.specs.declared.offer.place.Place.{Place}
 use Rattle.dnp_outstation.specs.declared.offer.writer.Writer.{Writer}
 use Rattle.dnp_outstation.specs.Items.{Item, Static, present_of}
-use Rattle.dnp_outstation.specs.Filling.{fill, ended}
+use Rattle.dnp_outstation.specs.steps.Filling.{fill, ended}
 
 -- the items were put, all of them or, where they don't fit, as many as do: whatever comes after
 abbrev pub Puts : Writer → List Item → Bool → Writer → Type 0

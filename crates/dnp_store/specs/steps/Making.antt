@@ -5,7 +5,7 @@ use Rattle.sqlite.specs.Effect.{Database}
 use Rattle.dnp_store.specs.QueueTables.{queue_schema, Figures, figures_rows}
 use Rattle.dnp_store.specs.declared.store_kind.StoreKind.TheVariants.{Queue}
 use Rattle.dnp_store.specs.Schemas.{checks_of_form, checks_of_lanes, checks_of_rows}
-use Rattle.dnp_store.specs.Stores.{IsFresh}
+use Rattle.dnp_store.specs.steps.Stores.{IsFresh}
 
 abbrev pub fresh : ℕ → Figures
 fresh capacity = record { capacity = capacity; lost = 0; raised = false }

@@ -3,7 +3,7 @@ use Rattle.std.specs.Prelude.{ℕ, Bool, true, ◌&&◌, if◌then◌else◌, []
 use Rattle.dnp_outstation.specs.State.{Core, State, Step, nothing, still, sending, with_session, is_free}
 use Rattle.dnp_outstation.specs.Connection.{closed, starts}
 use Rattle.dnp_outstation.specs.Content.{content_from}
-use Rattle.dnp_outstation.specs.Filling.{ended}
+use Rattle.dnp_outstation.specs.steps.Filling.{ended}
 use Rattle.dnp_outstation.specs.declared.offer.writer.Writer.{Writer}
 use Rattle.dnp_outstation.specs.declared.session.Session.{Session}
 use Rattle.dnp_outstation.specs.declared.unsolicited.AtTimer.{AtTimer}

@@ -11,7 +11,7 @@ use Rattle.dnp_eventbuf.specs.Stock.{Stock, lane_at, is_full}
 use Rattle.dnp_outstation.specs.declared.held.HeldClass.{HeldClass}
 use Rattle.dnp_outstation.specs.declared.held.HeldRows.{HeldRows}
 use Rattle.dnp_outstation.specs.declared.held.NewRow.{NewRow}
-use Rattle.dnp_outstation.specs.Putting.{least_octets}
+use Rattle.dnp_outstation.specs.steps.Putting.{least_octets}
 
 -- ---- what is held
 

@@ -1,0 +1,8 @@
+-- Private steps: words of clauses that no caller sees.
+pub mod BookShown
+pub mod Inside
+pub mod JournalShown
+pub mod Making
+pub mod Shown
+pub mod Steps
+pub mod Stores
