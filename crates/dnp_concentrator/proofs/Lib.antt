@@ -1,5 +1,7 @@
 pub mod Added
 pub mod Awaiting
+pub mod Forgets
+pub mod HungUp
 pub mod Ledgers
 pub mod MappedBack
 pub mod Mapping
@@ -7,5 +9,6 @@ pub mod Orders
 pub mod Passing
 pub mod Queued
 pub mod Refusals
+pub mod RestartedCores
 pub mod Sendings
 pub mod SoundPoints

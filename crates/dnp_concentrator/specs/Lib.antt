@@ -12,5 +12,6 @@ pub mod Plan
 pub mod PointsAbove
 pub mod Relayed
 pub mod Relaying
+pub mod Restarting
 -- Words of private steps.
 pub mod steps

@@ -19,6 +19,8 @@ ghost use Rattle.dnp_concentrator.specs.Plan.{KeepsLimits, map_of};
 ghost use Rattle.dnp_concentrator.specs.PointsAbove.{points_above};
 ghost use Rattle.dnp_concentrator.specs.Relayed as says;
 ghost use Rattle.dnp_concentrator.specs.Relaying as spec;
+ghost use Rattle.dnp_concentrator.specs.Restarting.{LinkRestartsAsNew};
+ghost use Rattle.dnp_concentrator.specs.declared.plan.Plan.{Plan as PlanValue};
 
 use crate::fault::MapFault;
 use crate::index_map::IndexMap;
@@ -67,6 +69,7 @@ impl<J: JournalStore + Drop, B: Book + Drop> Centre<J, B> {
     pub fn new(alloc: Global, plan: &Plan, journal: J, book: B) -> Result<Self, MapFault>
         requires { KeepsLimits plan.now }
         ensures link { IfOk result (λ c. link_of c ≡ spec.new_relaying (points_above plan.now) plan.now.times) }
+        ensures restarts { IfOk result (λ c. LinkRestartsAsNew plan.now (link_of c)) }
         ensures indices { IfOk result (λ c. indices_of c ≡ map_of plan.now) }
         ensures journal { IfOk result (λ c. journal_of c ≡ journal) }
         ensures book { IfOk result (λ c. book_of c ≡ book) }
@@ -155,6 +158,9 @@ impl<J: JournalStore, B: Book> Centre<J, B> {
     /// A restart keeps journal and book alone: the rest is as `new` makes it.
     pub fn restart(&mut self)
         ensures link { link_of self.new ≡ spec.new_relaying (link_of self.old).master.plan (link_of self.old).master.times }
+        // So it is as `new` makes it over this journal and this book, whatever came: `restart_laws`.
+        ensures as_new { (plan : PlanValue) → LinkRestartsAsNew plan (link_of self.old)
+            → link_of self.new ≡ spec.new_relaying (points_above plan) plan.times }
         ensures journal { journal_of self.new ≡ journal_of self.old }
         ensures book { book_of self.new ≡ book_of self.old }
         ensures indices { indices_of self.new ≡ indices_of self.old }

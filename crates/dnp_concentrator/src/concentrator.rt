@@ -14,6 +14,8 @@ ghost use Rattle.dnp_concentrator.specs.Plan.{KeepsLimits, map_of};
 ghost use Rattle.dnp_concentrator.specs.PointsAbove.{points_above};
 ghost use Rattle.dnp_concentrator.specs.Below.{new_links};
 ghost use Rattle.dnp_concentrator.specs.Relaying as link;
+ghost use Rattle.dnp_concentrator.specs.Restarting.{RestartsAsNew};
+ghost use Rattle.dnp_concentrator.specs.declared.plan.Plan.{Plan as PlanValue};
 ghost use Rattle.dnp_pointdb.specs.Database.{new_database};
 ghost use Rattle.dnp_concentrator.specs.contracts.concentrator.Concentrator.{the_row};
 ghost use Rattle.dnp_concentrator.specs.Concentrator.{core_of, queue_of, outputs_of, book_of, indices_of, links_of, plan_above, with_queue, with_other_book, IsBookWell, above_of};
@@ -25,6 +27,7 @@ use crate::links::{hang_up_all, new_links};
 use crate::plan::Plan;
 use crate::points_above::points_above;
 use crate::relay::Relay;
+use crate::restart_laws::a_restart_leaves_what_is_new;
 use dnp_controls::Book;
 use dnp_eventbuf::{Lanes, StoreFault};
 use dnp_outstation::{Actions, OutstationCore};
@@ -81,11 +84,13 @@ impl<Q: Lanes + Drop, B: Book + Drop> Concentrator<Q, B> {
         ensures plan { IfOk result (λ c. plan_above c ≡ points_above plan.now) }
         ensures indices { IfOk result (λ c. indices_of c ≡ map_of plan.now) }
         ensures links { IfOk result (λ c. links_of c ≡ new_links plan.now) }
+        ensures restarts { IfOk result (λ c. RestartsAsNew plan.now (core_of c) (links_of c)) }
         ensures queue { IfOk result (λ c. queue_of c ≡ queue) }
         ensures book { IfOk result (λ c. book_of c ≡ book) }
         ensures too_wide { (result ≡ Err MapFault.TooWide) ↔ IsTooWide (map_of plan.now) }
         ensures overlap { (result ≡ Err MapFault.Overlap) ↔ (Overlaps (map_of plan.now) × (IsTooWide (map_of plan.now) → ⊥)) }
     {
+        a_restart_leaves_what_is_new();
         let map = IndexMap::new(alloc, plan)?;
         let _mapped = map.substations();
         let Ok(points) = points_above(alloc, plan) else {
@@ -150,12 +155,13 @@ impl<Q: Lanes, B: Book> Concentrator<Q, B> {
     /// in progress there. The queue and the book stay, and nothing else does.
     pub fn restart(&mut self, alloc: Global)
         ensures core { core_of self.new ≡ restarted_core (core_of self.old) }
-        ensures queue { Q.honest (queue_of self.new) → Q.contents (queue_of self.new) ≡ Q.contents (queue_of self.old) }
-        ensures held { Q.honest (queue_of self.new) → Q.honest (queue_of self.old) }
-        ensures runs_on { Q.is_stopped (queue_of self.new) ≡ Q.is_stopped (queue_of self.old) }
+        ensures queue { queue_of self.new ≡ queue_of self.old }
         ensures outputs { outputs_of self.new ≡ outputs_of self.old }
         ensures links { links_of self.new ≡ map link.hung_up (links_of self.old) }
         ensures plan { plan_above self.new ≡ plan_above self.old }
+        // So it is as `new` makes it over this queue and this book, whatever came and whatever was read: `restart_laws`.
+        ensures as_new { (plan : PlanValue) → RestartsAsNew plan (core_of self.old) (links_of self.old)
+            → (core_of self.new ≡ new_core (new_database (points_above plan)) plan.times) × (links_of self.new ≡ new_links plan) }
     {
         let _ = self.core.restart(alloc, &mut self.queue, true);
         hang_up_all(&mut self.links);

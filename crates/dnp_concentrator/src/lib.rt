@@ -29,6 +29,7 @@ mod relay;
 pub mod relay_laws;
 mod relayed;
 mod relaying_below;
+pub mod restart_laws;
 mod span;
 mod substation_points;
 
