@@ -59,7 +59,8 @@ pub trait Outputs {
     /// checks of all, in order.
     ///
     /// At a fault none was performed; only after Device, when a store was to keep them, that is not known.
-    /// Exhausted only where the store has not the numbers, and no Memory where no command is performed.
+    /// Exhausted exactly where the store has not the numbers, unless its device fails, and no Memory where no
+    /// command is performed.
     fn operate(
         &mut self,
         alloc: Global,
@@ -75,6 +76,7 @@ pub trait Outputs {
         ensures listed { honest self.new → OnOk result ((panel self.new).performed ≡ (panel self.old).performed ++ accepted (panel self.old).check commands.now) }
         ensures not_exhausted { honest self.new → OnOk result (exhausts self.old (accepted (panel self.old).check commands.now) → ⊥) }
         ensures exhausted { honest self.new → IfErr result (λ e. e ≡ StoreFault.Exhausted → exhausts self.old (accepted (panel self.old).check commands.now)) }
+        ensures exhausted_first { honest self.new → IfErr result (λ e. e ≡ StoreFault.Memory → exhausts self.old (accepted (panel self.old).check commands.now) → ⊥) }
         ensures named { IfErr result (λ e. IsTrue (may_fault e)) }
         ensures memory { result ≡ Err StoreFault.Memory → accepted (panel self.old).check commands.now ≢ [] };
 }

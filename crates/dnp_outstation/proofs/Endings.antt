@@ -15,8 +15,7 @@ use Rattle.dnp_outstation.specs.Calls.{with_that}
 use Rattle.dnp_outstation.specs.Content.{Content, content_from}
 use Rattle.dnp_outstation.specs.Connection.{asks_confirm, awaits, control_in, on_again, first_sent, starts, at_end, has_enabled_rows}
 use Rattle.dnp_outstation.specs.Offer.{Filled, pushed}
-use Rattle.dnp_outstation.specs.steps.Pushing.{is_ready}
-use Rattle.dnp_outstation.specs.State.{Core, State, Step, sending, with_session, is_free, holds_read}
+use Rattle.dnp_outstation.specs.State.{Core, State, Step, sending, with_session, is_free, holds_read, is_ready}
 
 and_rows : (on announced opened free rows : Bool) → true ≡ (on && (announced && (opened && free))) → true ≡ rows
     → (on && (announced && (opened && (free && rows)))) ≡ true

@@ -2,10 +2,11 @@
 use Rattle.std.proofs.Common.{◌≡◌, inl, inr, ℕ, zero, suc, ◌+◌, ◌<◌, ◌≤◌, ◌==◌, ◌&&◌, not, Bool, true, false, if◌then◌else◌, List, [], ◌∷◌, ◌++◌, map, length, get_or, set, take, drop, nat_lt, nat_le, Option, None, Some, refl, sym, ap, subst, ◌∙◌, arith, append_assoc, append-nil, eq-eqb, ne_eqb}
 use Rattle.std.specs.Prelude.{option_to_list}
 use Rattle.std.specs.List.{All}
-use Rattle.std.proofs.lemmas.Bool.{cases_eq, leb-true}
+use Rattle.std.proofs.lemmas.Bool.{cases_eq, leb-true, or_right}
 use Rattle.std.proofs.lemmas.Bool.Decides.{nat_tests}
 use Rattle.std.proofs.lemmas.List.{take-append-drop, map-append, get_or-set_same, get_or-set_other}
 use Rattle.std.proofs.lemmas.List.Elements.{All-drop}
+use Rattle.std.proofs.lemmas.List.Folds.{list_any-append}
 use Rattle.dnp_objects.specs.declared.lane.LaneRow.{LaneRow}
 use Rattle.dnp_objects.specs.declared.limits.TheConstants.{LANES, MAX_FRAGMENT}
 use Rattle.dnp_objects.specs.declared.row.Kind.{Kind}
@@ -17,7 +18,7 @@ use Rattle.dnp_eventbuf.specs.Stock.{Stock, LaneState, no_lane, lane_at, is_full
 use Rattle.dnp_outstation.specs.declared.held.NewRow.{NewRow}
 use Rattle.dnp_outstation.specs.declared.offer.writer.Writer.{Writer}
 use Rattle.dnp_outstation.specs.Items.{Item, event_of, class_lanes, enabled_lanes, lane_items}
-use Rattle.dnp_outstation.specs.steps.Filling.{put, fill}
+use Rattle.dnp_outstation.specs.steps.Filling.{put, fill, has_rows_in}
 use Rattle.dnp_outstation.specs.steps.Holding.{AreFirst, new_of, kept_of, more_of}
 use Rattle.dnp_outstation.specs.steps.Putting.{Puts, least_of}
 use Rattle.dnp_outstation.proofs.LeftLanes.{last_is}
@@ -229,6 +230,16 @@ three_classes [] few = absurd (omega arith)
 three_classes (a ∷ []) few = absurd (omega arith)
 three_classes (a ∷ b ∷ []) few = absurd (omega arith)
 three_classes (a ∷ b ∷ c ∷ d ∷ more) few = absurd (omega arith)
+
+-- the last class has rows
+pub third_has_rows : (s : Stock) (enabled : List Bool) → length enabled ≡ 3
+    → has_rows_in s (if get_or enabled 2 false then class_lanes 2 else []) ≡ true → has_rows_in s (enabled_lanes 0 enabled) ≡ true
+third_has_rows s enabled few some =
+    let on : ℕ → List ℕ = λ class. if get_or enabled class false then class_lanes class else [] in
+    let has : ℕ → Bool = λ lane. nat_lt 0 (length (lane_at s lane).rows) in
+    subst (λ (lanes : List ℕ). has_rows_in s lanes ≡ true) (three_classes enabled few)
+    (list_any-append has (on 0) (on 1 ++ on 2)
+    ∙ or_right (has_rows_in s (on 0)) _ (list_any-append has (on 1) (on 2) ∙ or_right (has_rows_in s (on 1)) _ some))
 
 -- ---- small steps
 

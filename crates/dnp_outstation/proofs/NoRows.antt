@@ -30,9 +30,13 @@ take_none : {A : Type 0} (n : ℕ) → take n (let xs : List A = [] in xs) ≡ [
 take_none zero = refl
 take_none (suc n) = refl
 
+-- a lane without rows offers none
+pub lane_offers_none : (s : Stock) (number after most : ℕ) → (lane_at s number).rows ≡ [] → offered s number after most ≡ []
+lane_offers_none s number after most none =
+    ap (λ (rows : List Numbered). take most (filter (λ x. nat_lt after x.id) rows)) none ∙ take_none most
+
 pub none_offered : (s : Stock) (number after most : ℕ) → rows_in s ≡ [] → offered s number after most ≡ []
-none_offered s number after most none =
-    ap (λ (rows : List Numbered). take most (filter (λ x. nat_lt after x.id) rows)) (none_in s.lanes number none) ∙ take_none most
+none_offered s number after most none = lane_offers_none s number after most (none_in s.lanes number none)
 
 -- where there are no rows, none is dropped for one that comes
 dropped_none : (lane : LaneState) → lane.rows ≡ [] → dropped_from lane ≡ []

@@ -54,6 +54,7 @@ module _ {Outputs : Type 0} (honest : Outputs → Type 0) (is_stopped : Outputs 
     not_exhausted = λ h _ _. enough h;
     unchanged = λ _. tt;
     exhausted = λ h is. cc;
+    exhausted_first = λ h is. cc;
     named = tt;
     device_stops = λ is. cc;
     runs_on = λ _. call.runs_on (λ is. cc);
@@ -63,9 +64,10 @@ module _ {Outputs : Type 0} (honest : Outputs → Type 0) (is_stopped : Outputs 
   pub none_performed : {Answer : Type 0} (fault : StoreFault) → commands ≢ []
       → IsOutputsCall {Answer = Answer} honest is_stopped panel performs (commands ≢ []) old new (Err fault)
       → (panel new).most ≡ (panel old).most → (panel new).outputs ≡ (panel old).outputs
-      → (honest new → fault ≡ store.Exhausted → exhausts old commands) → IsTrue (may_fault fault)
+      → (honest new → fault ≡ store.Exhausted → exhausts old commands)
+      → (honest new → fault ≡ store.Memory → exhausts old commands → ⊥) → IsTrue (may_fault fault)
       → IsPerforming honest is_stopped panel performs exhausts may_fault commands old new (Some fault)
-  none_performed {Answer} fault some call most outputs exhausted named = record {
+  none_performed {Answer} fault some call most outputs exhausted first named = record {
     held = call.held;
     serves = λ _. call.serves;
     same_most = most;
@@ -77,6 +79,7 @@ module _ {Outputs : Type 0} (honest : Outputs → Type 0) (is_stopped : Outputs 
     not_exhausted = λ h is. cc;
     unchanged = call.unchanged;
     exhausted = λ h is. exhausted h (fault_is is);
+    exhausted_first = λ h is. first h (fault_is is);
     named = named;
     device_stops = λ is. call.device_stops (ap (λ (e : StoreFault). let r : Result Answer StoreFault = Err e in r) (fault_is is));
     runs_on = λ not. call.runs_on (λ is. not (told_is is));
@@ -103,6 +106,7 @@ module _ {Outputs : Type 0} (honest : Outputs → Type 0) (is_stopped : Outputs 
     not_exhausted = λ _ _ some. absurd (some none);
     unchanged = λ _. tt;
     exhausted = λ h is. cc;
+    exhausted_first = λ h is. cc;
     named = tt;
     device_stops = λ is. cc;
     runs_on = λ _. ap is_stopped same;

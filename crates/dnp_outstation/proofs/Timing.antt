@@ -9,8 +9,8 @@ use Rattle.dnp_outstation.specs.declared.session.Unsolicited.{Unsolicited}
 use Rattle.dnp_outstation.specs.declared.unsolicited.AtTimer.{AtTimer}
 use Rattle.dnp_outstation.specs.declared.unsolicited.AtTimer.TheVariants.{Repeats}
 use Rattle.dnp_outstation.specs.Links.{begun}
-use Rattle.dnp_outstation.specs.steps.Pushing.{is_ready, timed_by}
-use Rattle.dnp_outstation.specs.State.{Core, State, Step, nothing, sending, still, holds_read, is_free}
+use Rattle.dnp_outstation.specs.steps.Pushing.{timed_by}
+use Rattle.dnp_outstation.specs.State.{Core, State, Step, nothing, sending, still, holds_read, is_free, is_ready}
 
 -- ---- readiness
 

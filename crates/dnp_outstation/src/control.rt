@@ -94,6 +94,10 @@ impl OutstationCore {
         ensures device { result ≡ Err StoreFault.Device → IsTrue (L.is_stopped lanes.new) ⊎ IsTrue (O.is_stopped outputs.new) }
         ensures memory { L.honest lanes.new → result ≡ Err StoreFault.Memory → L.asks_memory ≡ false
             → (rows_in (L.contents lanes.old) ≢ []) ⊎ (performed_at self.old (O.panel outputs.old) now octets.now ≢ []) }
+        ensures memory_named { L.honest lanes.new → result ≡ Err StoreFault.Memory → L.asks_memory ≡ false
+            → (rows_in (L.contents lanes.old) ≢ []) ⊎ IsTrue (O.may_fault StoreFault.Memory) }
+        ensures exhausted_first { L.honest lanes.new → O.honest outputs.new → result ≡ Err StoreFault.Memory → L.asks_memory ≡ false
+            → (rows_in (L.contents lanes.old) ≢ []) ⊎ (O.exhausts outputs.old (performed_at self.old (O.panel outputs.old) now octets.now) → ⊥) }
         ensures asks { IsErr result → (self.old.times.unsolicited ≡ true) ⊎ (performed_at self.old (O.panel outputs.old) now octets.now ≢ []) }
     {
         let switches = self.switches();

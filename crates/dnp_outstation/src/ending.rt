@@ -6,9 +6,10 @@ ghost use Rattle.dnp_controls.specs.Panel.{Panel};
 ghost use Rattle.dnp_controls.specs.Selecting.{deadline};
 ghost use Rattle.dnp_outstation.specs.steps.Answering.{KeepsWhole};
 ghost use Rattle.dnp_outstation.specs.Connection.{at_end};
-ghost use Rattle.dnp_outstation.specs.steps.Filling.{after_release};
-ghost use Rattle.dnp_outstation.specs.steps.Pushing.{is_ready, ended_by};
-ghost use Rattle.dnp_outstation.specs.State.{Core, State, Step, nothing, still, with_session, is_free};
+ghost use Rattle.dnp_outstation.specs.steps.Filling.{after_release, has_rows_in};
+ghost use Rattle.dnp_outstation.specs.Items.{enabled_lanes};
+ghost use Rattle.dnp_outstation.specs.steps.Pushing.{ended_by};
+ghost use Rattle.dnp_outstation.specs.State.{Core, State, Step, nothing, still, with_session, is_free, is_ready};
 ghost use Rattle.dnp_outstation.specs.Station.{state_of, actions_of, HasRoom};
 ghost use Rattle.dnp_outstation.specs.Stores.{IsLook};
 
@@ -38,6 +39,7 @@ pub(crate) fn write_ending<L: Lanes>(
     ensures response { IfOk result (λ starts. IsTrue starts → writer.new.builder.function ≡ function.UnsolicitedResponse) }
     ensures look { IsLook L.honest L.is_stopped L.contents L.beside L.place L.asks_memory lanes.old lanes.new result }
     ensures asks { IsErr result → IsTrue is_due }
+    ensures asks_rows { L.honest lanes.new → IsErr result → has_rows_in (after_release (L.contents lanes.old) released.now) (enabled_lanes 0 enabled) ≡ true }
 {
     if !is_due || !has_enabled_rows(lanes, enabled, released) {
         return Ok(false);

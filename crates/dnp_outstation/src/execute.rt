@@ -1,7 +1,7 @@
 //! Executes requests, and writes what they are answered.
 
 ghost use Rattle.std.specs.Prelude.{◌≡◌, ◌<◌, ◌==◌, ◌&&◌, ◌^◌, length, true, false, not, if◌then◌else◌, None, Some, Ok, Err, IfOk, IfErr, IsErr};
-ghost use Rattle.std.specs.List.{list_any};
+ghost use Rattle.std.specs.List.{list_any, list_all};
 ghost use Rattle.dnp_appfragment.specs.declared.function.Function.TheVariants as function;
 ghost use Rattle.dnp_appfragment.specs.Fragments.{IsRequest};
 ghost use Rattle.dnp_appfragment.specs.Meaning.{request_at};
@@ -10,10 +10,11 @@ ghost use Rattle.dnp_appfragment.specs.Whole.{request};
 ghost use Rattle.dnp_outstation.specs.steps.Answering.{executed_by};
 ghost use Rattle.dnp_appfragment.specs.Table.{function_octet};
 ghost use Rattle.dnp_outstation.specs.Connection.{function_in};
-ghost use Rattle.dnp_outstation.specs.Items.{last_in as last_in_stock, first_place};
+ghost use Rattle.dnp_outstation.specs.Items.{Source, last_in as last_in_stock, first_place, is_inside};
 ghost use Rattle.dnp_outstation.specs.steps.Filling.{after_release, empty_from};
 ghost use Rattle.dnp_outstation.specs.declared.offer.writer.Writer.{Writer as WriterValue};
 ghost use Rattle.dnp_outstation.specs.State.{State};
+ghost use Rattle.dnp_outstation.specs.Station.{reads_inside};
 ghost use Rattle.dnp_outstation.specs.Stores.{IsLook};
 ghost use Rattle.dnp_outstation.specs.Content.{content_of, bits_of, clears_restart, header_bits, write_bits, enabled_after, read_executed, write_executed, switch_executed, delay_executed, time_in, later, time_written};
 
@@ -200,6 +201,7 @@ fn read<L: Lanes, O: Outputs>(
     ensures stood { IfOk result (λ a. a.stood ≡ stood) }
     ensures small { IfOk result (λ a. a.bits < 8) }
     ensures response { writer.new.builder.function ≡ function.Response }
+    ensures asks_inside { IsErr result → (s : Source) → s.points ≡ points.now → s.panel ≡ O.panel outputs.now → list_all (is_inside s) headers.now.headers ≡ true }
 {
     if !are_inside(points, outputs, headers.after(0)) {
         return Ok(plain(PARAMETER_ERROR, switches, stood));
@@ -306,6 +308,7 @@ pub(crate) fn execute_after<L: Lanes, O: Outputs>(
     ensures small { IfOk result (λ a. a.bits < 8) }
     ensures response { writer.new.builder.function ≡ function.Response }
     ensures reads { IsErr result → function_in octets.now ≡ function_octet function.Read }
+    ensures asks_inside { IsErr result → (s : State) → s.core.points ≡ points.now → reads_inside s (O.panel outputs.now) octets.now ≡ true }
 {
     writer.restart(FIRST_PLACE);
     let stood = last_left(lanes, released);
@@ -350,6 +353,7 @@ pub(crate) fn execute<L: Lanes, O: Outputs>(
     ensures small { IfOk result (λ a. a.bits < 8) }
     ensures response { writer.new.builder.function ≡ function.Response }
     ensures reads { IsErr result → function_in octets.now ≡ function_octet function.Read }
+    ensures asks_inside { IsErr result → (s : State) → s.core.points ≡ points.now → reads_inside s (O.panel outputs.now) octets.now ≡ true }
 {
     execute_after(
         writer, alloc, points, lanes, outputs, switches, octets, &None,

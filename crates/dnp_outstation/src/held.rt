@@ -9,11 +9,11 @@ ghost use Rattle.dnp_appfragment.specs.Table.{is_response};
 ghost use Rattle.dnp_eventbuf.specs.declared.numbered.Numbered.{Numbered as NumberedRow};
 ghost use Rattle.dnp_eventbuf.specs.Carried.{IsCarried};
 ghost use Rattle.dnp_eventbuf.specs.Sound.{IsSound};
-ghost use Rattle.dnp_eventbuf.specs.Stock.{Stock, rows_in, with_rows, dropped_by};
+ghost use Rattle.dnp_eventbuf.specs.Stock.{Stock, lane_at, with_rows, dropped_by};
 ghost use Rattle.dnp_objects.specs.declared.limits.TheConstants.{LANES};
-ghost use Rattle.dnp_outstation.specs.steps.Filling.{empty_for, ended};
+ghost use Rattle.dnp_outstation.specs.steps.Filling.{empty_for, ended, has_rows_in};
 ghost use Rattle.dnp_outstation.specs.steps.Holding.{AreFirst, IsLaneHeld, IsClassHeld, IsHeld, AreClassEvents, AreEvents, new_of, kept_of, more_of};
-ghost use Rattle.dnp_outstation.specs.Items.{event_of, class_lanes, lane_items, first_place};
+ghost use Rattle.dnp_outstation.specs.Items.{event_of, class_lanes, enabled_lanes, lane_items, first_place};
 ghost use Rattle.dnp_outstation.specs.Offer.{pushed};
 ghost use Rattle.dnp_outstation.specs.steps.Putting.{Puts};
 ghost use Rattle.dnp_outstation.specs.Stores.{IsLook};
@@ -61,6 +61,7 @@ fn held_lane<L: Lanes>(
     requires { number < LANES }
     ensures rows { L.honest lanes.new → IfOk result (λ rows. IsLaneHeld (L.contents lanes.old) number rows.items) }
     ensures events { IfOk result (λ rows. All (λ x. IsEvent x.row) rows.items) }
+    ensures memory_held { L.honest lanes.new → result ≡ Err StoreFault.Memory → L.asks_memory ≡ false → (lane_at (L.contents lanes.old) number).rows ≢ [] }
     ensures look { IsLook L.honest L.is_stopped L.contents L.beside L.place L.asks_memory lanes.old lanes.new result }
 {
     let lane = match Lane::numbered(number) {
@@ -82,6 +83,8 @@ fn held_class<L: Lanes>(
     requires { class < 3 }
     ensures rows { L.honest lanes.new → IfOk result (λ held. is_enabled ≡ true → IsClassHeld (L.contents lanes.old) class held) }
     ensures events { IfOk result AreClassEvents }
+    ensures memory_enabled { L.honest lanes.new → result ≡ Err StoreFault.Memory → L.asks_memory ≡ false
+        → has_rows_in (L.contents lanes.old) (if is_enabled then class_lanes class else []) ≡ true }
     ensures look { IsLook L.honest L.is_stopped L.contents L.beside L.place L.asks_memory lanes.old lanes.new result }
 {
     if !is_enabled {
@@ -110,6 +113,8 @@ pub(crate) fn held_rows<L: Lanes>(
 ) -> Result<HeldRows, StoreFault>
     ensures rows { L.honest lanes.new → IfOk result (IsHeld (L.contents lanes.old) enabled) }
     ensures events { IfOk result AreEvents }
+    ensures memory_enabled { L.honest lanes.new → result ≡ Err StoreFault.Memory → L.asks_memory ≡ false
+        → has_rows_in (L.contents lanes.old) (enabled_lanes 0 enabled) ≡ true }
     ensures look { IsLook L.honest L.is_stopped L.contents L.beside L.place L.asks_memory lanes.old lanes.new result }
 {
     // Whatever the lanes say without a refusal says that ids rise from 1 on.

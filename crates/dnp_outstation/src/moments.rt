@@ -4,11 +4,13 @@ ghost use Rattle.std.specs.Prelude.{◌≡◌, ◌≤◌, ℕ, All, length, true
 ghost use Rattle.dnp_appfragment.specs.declared.function.Function.TheVariants as function;
 ghost use Rattle.dnp_outstation.specs.Calls.{opened_of, tick_of};
 ghost use Rattle.dnp_outstation.specs.steps.Answering.{KeepsWhole};
-ghost use Rattle.dnp_outstation.specs.Connection.{solicited_timer, unsolicited_timer};
+ghost use Rattle.dnp_outstation.specs.Connection.{has_enabled_rows, solicited_timer, unsolicited_timer};
+ghost use Rattle.dnp_outstation.specs.steps.Filling.{has_rows_in};
+ghost use Rattle.dnp_outstation.specs.Items.{enabled_lanes};
 ghost use Rattle.dnp_outstation.specs.Links.{begun};
 ghost use Rattle.dnp_outstation.specs.declared.unsolicited.AtTimer.TheVariants as at;
 ghost use Rattle.dnp_outstation.specs.steps.Pushing.{ended_by, timed_by};
-ghost use Rattle.dnp_outstation.specs.State.{Core, State, still, is_free};
+ghost use Rattle.dnp_outstation.specs.State.{Core, State, still, is_free, is_ready};
 ghost use Rattle.dnp_outstation.specs.Station.{state_of, actions_of, HasRoom};
 ghost use Rattle.dnp_outstation.specs.Stores.{IsLook};
 
@@ -38,6 +40,8 @@ fn write_opening<L: Lanes>(
     ensures response { IfOk result (λ starts. IsTrue starts → writer.new.builder.function ≡ function.UnsolicitedResponse) }
     ensures look { IsLook L.honest L.is_stopped L.contents L.beside L.place L.asks_memory lanes.old lanes.new result }
     ensures asks { IsErr result → IsTrue is_on }
+    ensures asks_announced { IsErr result → IsTrue announced }
+    ensures asks_rows { L.honest lanes.new → IsErr result → has_rows_in (L.contents lanes.old) (enabled_lanes 0 enabled) ≡ true }
 {
     if is_on && !announced {
         writer.restart_unsolicited();
@@ -132,6 +136,8 @@ impl OutstationCore {
         ensures unchanged { OnErr result (self.new ≡ self.old) }
         ensures actions_unchanged { OnErr result (actions.new ≡ actions.old) }
         ensures asks { IsErr result → self.old.times.unsolicited ≡ true }
+        ensures asks_announced { IsErr result → self.old.announced ≡ true }
+        ensures asks_rows { L.honest lanes.new → IsErr result → has_enabled_rows (state_of self.old (L.contents lanes.old) (O.panel outputs.old)) ≡ true }
     {
         let enabled = self.enabled;
         let starts = write_opening(
@@ -182,6 +188,8 @@ impl OutstationCore {
         ensures unchanged { OnErr result (self.new ≡ self.old) }
         ensures actions_unchanged { OnErr result (actions.new ≡ actions.old) }
         ensures asks { IsErr result → self.old.times.unsolicited ≡ true }
+        ensures asks_ready { IsErr result → is_ready (solicited_timer self.old now) ≡ true }
+        ensures asks_rows { L.honest lanes.new → IsErr result → has_enabled_rows (state_of self.old (L.contents lanes.old) (O.panel outputs.old)) ≡ true }
     {
         if !self.is_open {
             actions.set_nothing(alloc);

@@ -1,10 +1,13 @@
 //! What comes from the master.
 
 ghost use Rattle.std.specs.Prelude.{All, ◌⊎◌, ◌≡◌, ◌≢◌, ◌≤◌, [], true, false, length, IsErr, OnOk, OnErr, IsTrue, Err};
+ghost use Rattle.dnp_appfragment.specs.declared.function.Function.TheVariants as function;
+ghost use Rattle.dnp_appfragment.specs.Table.{function_octet};
 ghost use Rattle.dnp_eventbuf.specs.Stock.{rows_in};
 ghost use Rattle.dnp_outstation.specs.Calls.{connection_after, performed_in};
-ghost use Rattle.dnp_outstation.specs.Connection.{is_looked_at};
-ghost use Rattle.dnp_outstation.specs.Station.{state_of, actions_of, MayAsk};
+ghost use Rattle.dnp_outstation.specs.Connection.{is_looked_at, case_of, function_in};
+ghost use Rattle.dnp_outstation.specs.declared.case.Case.TheVariants as case;
+ghost use Rattle.dnp_outstation.specs.Station.{state_of, actions_of, reads_inside, MayAsk};
 ghost use Rattle.dnp_outstation.specs.Stores.{KeepsLanes, KeepsOutputs};
 
 use crate::actions::Actions;
@@ -42,8 +45,15 @@ impl OutstationCore {
         ensures device { result ≡ Err StoreFault.Device → IsTrue (L.is_stopped lanes.new) ⊎ IsTrue (O.is_stopped outputs.new) }
         ensures memory { L.honest lanes.new → result ≡ Err StoreFault.Memory → L.asks_memory ≡ false
             → (rows_in (L.contents lanes.old) ≢ []) ⊎ (performed_in self.old (O.panel outputs.old) now octets.now ≢ []) }
+        ensures memory_named { L.honest lanes.new → result ≡ Err StoreFault.Memory → L.asks_memory ≡ false
+            → (rows_in (L.contents lanes.old) ≢ []) ⊎ IsTrue (O.may_fault StoreFault.Memory) }
+        ensures exhausted_first { L.honest lanes.new → O.honest outputs.new → result ≡ Err StoreFault.Memory → L.asks_memory ≡ false
+            → (rows_in (L.contents lanes.old) ≢ []) ⊎ (O.exhausts outputs.old (performed_in self.old (O.panel outputs.old) now octets.now) → ⊥) }
         ensures looked_at { IsErr result → is_looked_at self.old octets.now ≡ true }
         ensures asks { IsErr result → self.old.times.unsolicited ≡ false → MayAsk self.old (O.panel outputs.old) now octets.now }
+        ensures asks_held { IsErr result → case_of self.old octets.now ≡ case.Waits → ⊥ }
+        ensures asks_inside { IsErr result → self.old.times.unsolicited ≡ false → function_in octets.now ≡ function_octet function.Read
+            → reads_inside (state_of self.old (L.contents lanes.old) (O.panel outputs.old)) (O.panel outputs.old) octets.now ≡ true }
     {
         match self.case(octets) {
             Case::PassedOver => actions.set_nothing(alloc),

@@ -5,7 +5,7 @@ ghost use Rattle.dnp_eventbuf.specs.Stock.{lane_at, last_of};
 ghost use Rattle.dnp_objects.specs.declared.limits.TheConstants.{LANES};
 ghost use Rattle.dnp_outstation.specs.Connection.{has_enabled_rows};
 ghost use Rattle.dnp_outstation.specs.steps.Filling.{after_release, released_to, has_rows_in};
-ghost use Rattle.dnp_outstation.specs.Items.{class_lanes, last_in_class, last_in};
+ghost use Rattle.dnp_outstation.specs.Items.{class_lanes, enabled_lanes, last_in_class, last_in};
 ghost use Rattle.dnp_outstation.specs.State.{State};
 
 use dnp_eventbuf::laws::{a_release_is_lane_by_lane, lanes_stay_sound};
@@ -94,6 +94,7 @@ pub(crate) fn has_enabled_rows<L: Lanes>(
     ensures same { lanes.new ≡ lanes.old }
     ensures value { L.honest lanes.new → (s : State) → s.lanes ≡ after_release (L.contents lanes.new) released.now → s.core.enabled ≡ enabled
         → result ≡ has_enabled_rows s }
+    ensures rows { L.honest lanes.new → result ≡ has_rows_in (after_release (L.contents lanes.new) released.now) (enabled_lanes 0 enabled) }
 {
     let first = has_rows(lanes, enabled[0], released, 0);
     let second = has_rows(lanes, enabled[1], released, 1);

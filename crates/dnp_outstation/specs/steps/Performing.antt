@@ -23,6 +23,7 @@ pub record IsPerforming {Outputs : Type 0} (honest : Outputs → Type 0) (is_sto
   -- at a fault none was
   pub unchanged : honest new → IfSome fault (λ _. performs old [] new × (panel new ≡ panel old))
   pub exhausted : honest new → fault ≡ Some store.Exhausted → exhausts old commands
+  pub exhausted_first : honest new → fault ≡ Some store.Memory → exhausts old commands → ⊥
   pub named : IfSome fault (λ e. IsTrue (may_fault e))
   pub device_stops : fault ≡ Some store.Device → IsTrue (is_stopped new)
   pub runs_on : fault ≢ Some store.Device → is_stopped new ≡ is_stopped old

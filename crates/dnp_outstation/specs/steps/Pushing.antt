@@ -1,6 +1,6 @@
 -- Private steps: what a session makes of a step that begins an unsolicited response, and of its timer.
-use Rattle.std.specs.Prelude.{ℕ, Bool, true, ◌&&◌, if◌then◌else◌, [], ◌∷◌, ◌++◌}
-use Rattle.dnp_outstation.specs.State.{Core, State, Step, nothing, still, sending, with_session, is_free}
+use Rattle.std.specs.Prelude.{ℕ, Bool, true, if◌then◌else◌, [], ◌∷◌, ◌++◌}
+use Rattle.dnp_outstation.specs.State.{State, Step, nothing, still, sending, with_session}
 use Rattle.dnp_outstation.specs.Connection.{closed, starts}
 use Rattle.dnp_outstation.specs.Content.{content_from}
 use Rattle.dnp_outstation.specs.steps.Filling.{ended}
@@ -21,10 +21,6 @@ abbrev pub timed_by : State → Session → AtTimer → Step
 timed_by s session Waits = still (with_session s session)
 timed_by s session Repeats = record { state = with_session s session; does = sending session.unsolicited_response }
 timed_by s session Closes = record { state = record s { core = closed s.core }; does = record nothing { close = true } }
-
--- ready for an unsolicited response, once there are rows for one
-abbrev pub is_ready : Core → Bool
-is_ready c = c.times.unsolicited && (c.announced && (c.is_open && is_free c))
 
 -- a call that ends with what stands in the writer, or with nothing
 abbrev pub ended_by : Writer → Bool → ℕ → Step → Step

@@ -1,4 +1,4 @@
-use Rattle.std.proofs.Common.{rules, ◌≡◌, ℕ, Err, List, ◌+◌, ap, subst, sym, ◌∙◌, arith, take}
+use Rattle.std.proofs.Common.{rules, ◌≡◌, ℕ, Err, List, [], ◌+◌, ap, subst, sym, ◌∙◌, arith, take}
 use Rattle.std.specs.List.{All}
 use Rattle.dnp_objects.specs.Lanes.{lane_number}
 use Rattle.dnp_objects.specs.declared.lane.Lane.{Lane}
@@ -7,7 +7,7 @@ use Rattle.dnp_eventbuf.specs.declared.numbered.Numbered.{Numbered}
 use Rattle.dnp_eventbuf.specs.Sound.{IsSound}
 use Rattle.dnp_eventbuf.specs.Stock.{Stock, lane_at, rows_in, offered}
 use Rattle.dnp_outstation.proofs.Carried.{lane_rises}
-use Rattle.dnp_outstation.proofs.NoRows.{none_offered}
+use Rattle.dnp_outstation.proofs.NoRows.{lane_offers_none, none_offered}
 use Rattle.dnp_outstation.proofs.OfferRows.{lane_kinds}
 use Rattle.dnp_outstation.proofs.Rising.{over_all}
 use Rattle.dnp_outstation.proofs.held.held_lane.Goals as goal
@@ -30,6 +30,13 @@ returns-clause-rows g c = λ honest.
           ∙ ap (λ (n : ℕ). offered old n 0 most) c.in-Some.ensures.value
           ∙ ap (λ (l : List Numbered). take most l) (over_all 0 0 rows (omega arith) (lane_rises old c.args.number sound c.requires));
     }
+
+pub returns-in_err-rows-clause-memory_held : goal.returns-in_err-rows-clause-memory_held
+returns-in_err-rows-clause-memory_held g c = λ honest is asks none.
+    let old : Stock = g.L.Lanes.contents c.args.lanes.now in
+    let memory : c.offer.result ≡ Err Memory = search rules in
+    let here : (lane_at old (lane_number c.in-Some.lane)).rows ≡ [] = ap (λ (n : ℕ). (lane_at old n).rows) c.in-Some.ensures.value ∙ none in
+    c.offer.ensures.memory memory asks (lane_offers_none old (lane_number c.in-Some.lane) 0 (c.enough-held.result + 1) here)
 
 pub returns-in_err-rows-clause-look : goal.returns-in_err-rows-clause-look
 returns-in_err-rows-clause-look g c = record {

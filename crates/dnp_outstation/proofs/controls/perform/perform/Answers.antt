@@ -12,7 +12,7 @@ returns-in_err-operate g c =
     let some : commands ≢ [] = some_accepted check c.args.commands.now (sym c.is_one_accepted.ensures ∙ c.if-is_one_accepted.true) in
     let e = c.in_err-operate.ensures in
     let done = none_performed o.honest o.is_stopped o.panel o.performs o.exhausts o.may_fault commands c.args.outputs.now c.operate.new.self
-    c.in_err-operate.field-0.0 some e.call e.same_most e.same_outputs e.exhausted e.named in
+    c.in_err-operate.field-0.0 some e.call e.same_most e.same_outputs e.exhausted e.exhausted_first e.named in
     let told : result_err c.from_residual.result ≡ Some c.in_err-operate.field-0.0 = search rules in
     rw told done
 

@@ -12,3 +12,17 @@ returns-in_err-receive_into-clause-memory g c = λ honest failed.
     let is : Some c.in_err-receive_into.field-0.0 ≡ Some fault.Memory = sym told ∙ ap result_err failed in
     let same : Err c.in_err-receive_into.field-0.0 ≡ Err fault.Memory = cc in
     c.in_err-receive_into.ensures.memory honest same
+
+pub returns-in_err-receive_into-clause-memory_named : goal.returns-in_err-receive_into-clause-memory_named
+returns-in_err-receive_into-clause-memory_named g c = λ honest failed.
+    let told : result_err c.from_residual.result ≡ Some c.in_err-receive_into.field-0.0 = search rules in
+    let is : Some c.in_err-receive_into.field-0.0 ≡ Some fault.Memory = sym told ∙ ap result_err failed in
+    let same : Err c.in_err-receive_into.field-0.0 ≡ Err fault.Memory = cc in
+    c.in_err-receive_into.ensures.memory_named honest same
+
+pub returns-in_err-receive_into-clause-exhausted_first : goal.returns-in_err-receive_into-clause-exhausted_first
+returns-in_err-receive_into-clause-exhausted_first g c = λ honest outputs_honest failed.
+    let told : result_err c.from_residual.result ≡ Some c.in_err-receive_into.field-0.0 = search rules in
+    let is : Some c.in_err-receive_into.field-0.0 ≡ Some fault.Memory = sym told ∙ ap result_err failed in
+    let same : Err c.in_err-receive_into.field-0.0 ≡ Err fault.Memory = cc in
+    c.in_err-receive_into.ensures.exhausted_first honest outputs_honest same

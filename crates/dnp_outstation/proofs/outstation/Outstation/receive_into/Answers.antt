@@ -20,3 +20,17 @@ returns-in_err-receive-clause-memory g c = λ honest failed.
     let is : c.in_err-receive.field-0.0 ≡ store.Memory = memory_of c.in_err-receive.field-0.0 (sym told ∙ ap result_err failed) in
     let same : Err c.in_err-receive.field-0.0 ≡ Err store.Memory = cc in
     c.in_err-receive.ensures.memory honest same
+
+pub returns-in_err-receive-clause-memory_named : goal.returns-in_err-receive-clause-memory_named
+returns-in_err-receive-clause-memory_named g c = λ honest failed.
+    let told : result_err c.from_residual.result ≡ Some (fault_of c.in_err-receive.field-0.0) = search rules in
+    let is : c.in_err-receive.field-0.0 ≡ store.Memory = memory_of c.in_err-receive.field-0.0 (sym told ∙ ap result_err failed) in
+    let same : Err c.in_err-receive.field-0.0 ≡ Err store.Memory = cc in
+    c.in_err-receive.ensures.memory_named honest same
+
+pub returns-in_err-receive-clause-exhausted_first : goal.returns-in_err-receive-clause-exhausted_first
+returns-in_err-receive-clause-exhausted_first g c = λ honest outputs_honest failed.
+    let told : result_err c.from_residual.result ≡ Some (fault_of c.in_err-receive.field-0.0) = search rules in
+    let is : c.in_err-receive.field-0.0 ≡ store.Memory = memory_of c.in_err-receive.field-0.0 (sym told ∙ ap result_err failed) in
+    let same : Err c.in_err-receive.field-0.0 ≡ Err store.Memory = cc in
+    c.in_err-receive.ensures.exhausted_first honest outputs_honest same

@@ -5,8 +5,8 @@ use Rattle.dnp_outstation.specs.declared.session.Awaited.{Awaited}
 use Rattle.dnp_outstation.specs.declared.session.Session.{Session}
 use Rattle.dnp_outstation.specs.Calls.{with_that}
 use Rattle.dnp_outstation.specs.Connection.{control_in, on_again, at_end}
-use Rattle.dnp_outstation.specs.steps.Pushing.{is_ready, ended_by}
-use Rattle.dnp_outstation.specs.State.{Core, State, Step, Actions, sending, with_session}
+use Rattle.dnp_outstation.specs.steps.Pushing.{ended_by}
+use Rattle.dnp_outstation.specs.State.{Core, State, Step, Actions, sending, with_session, is_ready}
 use Rattle.dnp_outstation.specs.Station.{state_of}
 use Rattle.dnp_outstation.proofs.Cores.{core_in}
 use Rattle.dnp_outstation.proofs.Endings.{awaits_in_session, first_again, ready_unless}

@@ -1,4 +1,4 @@
-use Rattle.std.proofs.Common.{◌≡◌, false, option_to_list, ap, sym, subst, ◌∙◌, List, Option, Result, Ok, Err}
+use Rattle.std.proofs.Common.{◌≡◌, ◌≢◌, ◌⊎◌, true, false, [], option_to_list, ap, sym, subst, ◌∙◌, List, Option, Result, Ok, Err}
 use Rattle.std.specs.Result.{IfOk}
 use Rattle.dnp_objects.specs.declared.lane.LaneRow.{LaneRow}
 use Rattle.dnp_objects.specs.declared.row.Row.{Row}
@@ -7,8 +7,8 @@ use Rattle.dnp_pointdb.specs.Database.{Database, answer_of, changed_of}
 use Rattle.dnp_pointdb.specs.declared.fault.ChangeFault.{ChangeFault}
 use Rattle.dnp_eventbuf.specs.Stock.{Stock, with_rows, dropped_by}
 use Rattle.dnp_outstation.specs.Calls.{change_of}
-use Rattle.dnp_outstation.specs.steps.Pushing.{is_ready}
-use Rattle.dnp_outstation.specs.State.{Core, State, Step, Actions, nothing}
+use Rattle.dnp_outstation.specs.Connection.{has_enabled_rows}
+use Rattle.dnp_outstation.specs.State.{Core, State, Step, Actions, nothing, is_ready}
 use Rattle.dnp_outstation.specs.Station.{state_of, actions_of}
 use Rattle.dnp_outstation.proofs.Cores.{core_in}
 use Rattle.dnp_outstation.proofs.Endings.{nothing_at_end}
@@ -21,6 +21,23 @@ returns-in_err-append_made-clause-memory g c = λ honest is asks none.
     let memory : c.in_err-append_made.field-0.0 ≡ store.Memory =
     memory_from c.in_err-append_made.field-0.0 c.from_residual-in_err-append_made.result c.from_residual-in_err-append_made.ensures.1 is in
     c.in_err-append_made.ensures.memory (ap Err memory) asks (none_dropped (g.L.Lanes.contents c.args.lanes.now) c.made-made.result none)
+
+pub returns-in_err-change_reported-clause-memory_held : goal.returns-in_err-change_reported-clause-memory_held
+returns-in_err-change_reported-clause-memory_held g c = λ honest is asks.
+    let old = g.L.Lanes.contents c.args.lanes.now in
+    let panel = g.O.Outputs.panel c.args.outputs.now in
+    let kind = c.args.kind in
+    let index = c.args.index in
+    let reading = c.args.reading in
+    let made = c.made-row.result in
+    let memory : c.in_err-change_reported.field-0.0 ≡ store.Memory =
+    memory_from c.in_err-change_reported.field-0.0 c.from_residual-in_err-change_reported.result c.from_residual-in_err-change_reported.ensures.1 is in
+    let why : (has_enabled_rows (state_of c.args.self.now old panel) ≡ true) ⊎ (dropped_by old (option_to_list made) ≢ []) =
+    c.in_err-change_reported.ensures.memory_held honest (ap Err memory) asks in
+    let answer_is : Ok made ≡ answer_of c.args.self.now.points kind index reading =
+    sym c.made-row.ensures.answer ∙ ap (λ (k : Core). answer_of k.points kind index reading) c.self.view_is in
+    subst (λ (r : Result (Option LaneRow) ChangeFault). IfOk r (λ m. (has_enabled_rows (state_of c.args.self.now old panel) ≡ true) ⊎ (dropped_by old (option_to_list m) ≢ [])))
+    answer_is why
 
 pub returns-then-is_ready-clause-changed : goal.returns-then-is_ready-clause-changed
 returns-then-is_ready-clause-changed g c = λ honest.

@@ -5,8 +5,8 @@ use Rattle.dnp_objects.specs.declared.store.StoreFault.TheVariants as store
 use Rattle.dnp_pointdb.specs.Database.{Database, changed_of}
 use Rattle.dnp_eventbuf.specs.Stock.{Stock, rows_in, with_rows, dropped_by}
 use Rattle.dnp_outstation.specs.Calls.{change_of}
-use Rattle.dnp_outstation.specs.steps.Pushing.{is_ready, ended_by}
-use Rattle.dnp_outstation.specs.State.{Core, State, Step, Actions, nothing}
+use Rattle.dnp_outstation.specs.steps.Pushing.{ended_by}
+use Rattle.dnp_outstation.specs.State.{Core, State, Step, Actions, nothing, is_ready}
 use Rattle.dnp_outstation.specs.Station.{state_of}
 use Rattle.dnp_outstation.proofs.Cores.{core_in}
 use Rattle.dnp_outstation.proofs.NoRows.{none_dropped}

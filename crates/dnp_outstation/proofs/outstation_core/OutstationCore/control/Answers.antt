@@ -13,8 +13,7 @@ use Rattle.dnp_outstation.specs.Connection.{control_in, asked, on_request, at_en
 use Rattle.dnp_outstation.specs.Content.{Executed, content_of}
 use Rattle.dnp_outstation.specs.Controls.{is_control, control_content, with_select}
 use Rattle.dnp_outstation.specs.Items.{no_ids, last_in}
-use Rattle.dnp_outstation.specs.steps.Pushing.{is_ready}
-use Rattle.dnp_outstation.specs.State.{Core, State, Step, with_session, is_free}
+use Rattle.dnp_outstation.specs.State.{Core, State, Step, with_session, is_free, is_ready}
 use Rattle.dnp_outstation.specs.Station.{state_of, actions_of}
 use Rattle.dnp_outstation.proofs.Cores.{core_in}
 use Rattle.dnp_outstation.proofs.outstation_core.OutstationCore.control.Goals as goal

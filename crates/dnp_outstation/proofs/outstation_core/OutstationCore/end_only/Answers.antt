@@ -1,8 +1,8 @@
 use Rattle.std.proofs.Common.{◌≡◌, refl, ap, sym, subst, ◌∙◌}
 use Rattle.dnp_eventbuf.specs.Stock.{Stock}
 use Rattle.dnp_outstation.specs.Connection.{at_end}
-use Rattle.dnp_outstation.specs.steps.Pushing.{is_ready, ended_by}
-use Rattle.dnp_outstation.specs.State.{Core, State, Step, Actions, still}
+use Rattle.dnp_outstation.specs.steps.Pushing.{ended_by}
+use Rattle.dnp_outstation.specs.State.{Core, State, Step, Actions, still, is_ready}
 use Rattle.dnp_outstation.specs.Station.{state_of}
 use Rattle.dnp_outstation.proofs.Cores.{core_in}
 use Rattle.dnp_outstation.proofs.outstation_core.OutstationCore.end_only.Goals as goal

@@ -34,6 +34,26 @@ returns-in_err-control-in-Asks-clause-memory g c = λ honest fault asks.
     let memory = c.in_err-control-in-Asks.ensures.memory honest same asks in
     subst (λ (commands : List Command). (rows_in (g.L.Lanes.contents c.args.lanes.now) ≢ []) ⊎ (commands ≢ [])) (sym performed_is) memory
 
+pub returns-in_err-control-in-Asks-clause-memory_named : goal.returns-in_err-control-in-Asks-clause-memory_named
+returns-in_err-control-in-Asks-clause-memory_named g c = λ honest fault.
+    let told : result_err c.from_residual-in_err-control-in-Asks.result ≡ Some c.in_err-control-in-Asks.field-0.0 = search rules in
+    let memory_is : Some c.in_err-control-in-Asks.field-0.0 ≡ Some store.Memory = sym told ∙ ap result_err fault in
+    let same : Err c.in_err-control-in-Asks.field-0.0 ≡ Err store.Memory = cc in
+    c.in_err-control-in-Asks.ensures.memory_named honest same
+
+pub returns-in_err-control-in-Asks-clause-exhausted_first : goal.returns-in_err-control-in-Asks-clause-exhausted_first
+returns-in_err-control-in-Asks-clause-exhausted_first g c = λ honest outputs_honest fault asks.
+    let o = g.O.Outputs.panel c.args.outputs.now in
+    let case_is : case_of c.args.self.now c.args.octets.now ≡ Asks = search rules in
+    let control_is : is_control c.args.octets.now ≡ true = search rules in
+    let performed_is = control_performed c.args.self.now o c.args.now c.args.octets.now case_is control_is in
+    let told : result_err c.from_residual-in_err-control-in-Asks.result ≡ Some c.in_err-control-in-Asks.field-0.0 = search rules in
+    let memory_is : Some c.in_err-control-in-Asks.field-0.0 ≡ Some store.Memory = sym told ∙ ap result_err fault in
+    let same : Err c.in_err-control-in-Asks.field-0.0 ≡ Err store.Memory = cc in
+    let first = c.in_err-control-in-Asks.ensures.exhausted_first honest outputs_honest same asks in
+    subst (λ (commands : List Command). (rows_in (g.L.Lanes.contents c.args.lanes.now) ≢ []) ⊎ (g.O.Outputs.exhausts c.args.outputs.now commands → ⊥))
+    (sym performed_is) first
+
 pub returns-in_ok-control-in-Asks-clause-received : goal.returns-in_ok-control-in-Asks-clause-received
 returns-in_ok-control-in-Asks-clause-received g c = λ honest outputs_honest.
     let o = g.O.Outputs.panel c.args.outputs.now in

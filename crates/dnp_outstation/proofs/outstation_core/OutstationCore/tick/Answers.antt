@@ -2,8 +2,8 @@ use Rattle.std.proofs.Common.{rules, ◌≡◌, true, refl, ap, sym, subst, ◌�
 use Rattle.dnp_eventbuf.specs.Stock.{Stock}
 use Rattle.dnp_outstation.specs.Calls.{tick_of}
 use Rattle.dnp_outstation.specs.Connection.{at_end, solicited_timer}
-use Rattle.dnp_outstation.specs.steps.Pushing.{is_ready, ended_by}
-use Rattle.dnp_outstation.specs.State.{Core, State, Step, is_free}
+use Rattle.dnp_outstation.specs.steps.Pushing.{ended_by}
+use Rattle.dnp_outstation.specs.State.{Core, State, Step, is_free, is_ready}
 use Rattle.dnp_outstation.specs.Station.{state_of, actions_of}
 use Rattle.dnp_outstation.proofs.Cores.{core_in}
 use Rattle.dnp_outstation.proofs.LinkTimers.{open_tick, solicited_is}
