@@ -91,9 +91,12 @@ stop_issues (event.Pass ms) old new same = ap (λ (s : System). s.history.issued
 stop_issues (event.Tick on end) old new same = ap (λ (s : System). s.history.issued) same
 stop_issues (event.Restart place) old new same = ap (λ (s : System). s.history.issued) same
 
+so_far_issues : (events : List Event) (old before new : System) (event : Event) → RunsTo old events before → CountsFor before event new
+    → Issues events old new
+so_far_issues events old before new event ran counts = stop_issues event before new counts ∙ ran_issues events old before ran
+
 pub stopped_issues : (events : List Event) (done : ℕ) (old new : System) → StopsAfter old events done new → Issues (take done events) old new
-stopped_issues events done old new stop =
-    stop_issues stop.event stop.before new stop.counts ∙ ran_issues (take done events) old stop.before stop.ran
+stopped_issues events done old new stop = so_far_issues (take done events) old stop.before new stop.event stop.ran stop.counts
 
 -- ---- rounds and controls issue nothing
 
@@ -116,7 +119,8 @@ ran_none P none old new r = nothing_after P none r.events r.all old new (ran_iss
 stop_none : (P : Event → Type 0) → ((e : Event) → P e → (s : System) → issued_by s e ≡ []) → (old new : System) → StopsIn P old new
     → new.history.issued ≡ old.history.issued
 stop_none P none old new r =
-    nothing_after P none (take r.done r.events) (all_taken P r.done r.events r.all) old new (stopped_issues r.events r.done old new r.stops)
+    nothing_after P none (take r.done r.events) (all_taken P r.done r.events r.all) old new
+    (so_far_issues (take r.done r.events) old r.stops.before new r.stops.event r.stops.ran r.stops.counts)
 
 of_round : (on : Link) (e : Event) → IsOfRound on e → (s : System) → issued_by s e ≡ []
 of_round on e (inl is) s = rw is refl

@@ -46,6 +46,10 @@ pub mod JoinedRuns
 pub mod JoinedConclusions
 pub mod MasterTakes
 mod SystemPlaces
+mod IdleLines
+mod OneLinkIdle
+mod SystemIdle
+mod SystemRefusals
 mod SystemArrivals
 mod SystemTasks
 mod SystemComing

@@ -56,6 +56,6 @@ get_some (x ∷ xs) (suc k) d low = get_some xs k d (omega (arith, low))
 
 pub stops_after : {S : Type 0} (takes : S → List Row → List Row → List Row → S → Type 0) (keeps : S → S → Type 0) (old mid new : LinkState S)
     (events : List LinkEvent) (k : ℕ) (event : LinkEvent) → k < length events → event ≡ get_or events k event → RunsTo takes old (take k events) mid
-    → may_stop event ≡ true → StopsAt takes keeps mid event new → StopsAfter takes keeps old events k new
+    → may_stop mid event ≡ true → StopsAt takes keeps mid event new → StopsAfter takes keeps old events k new
 stops_after takes keeps old mid new events k event low is ran may stops =
     record { before = mid; ran = ran; event = event; next = get_some events k event low ∙ ap Some (sym is); may = may; stops = stops }

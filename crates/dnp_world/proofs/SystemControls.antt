@@ -44,7 +44,7 @@ ran_accepted on id old new p =
 
 -- before its next step
 stops_still : (on : Link) (old new : System) → new ≡ old → StopsIn IsOfControl old new
-stops_still on old new same = stops_at IsOfControl old new (Relay on) (on, inl refl) refl same
+stops_still on old new same = stops_at IsOfControl old new (Relay on) (on, inl refl) same
 
 stops_relaying : (on : Link) (old new : System) → StopsRelaying on old new → StopsIn IsOfControl old new
 stops_relaying on old new (inl counts) = stops_still on old new counts

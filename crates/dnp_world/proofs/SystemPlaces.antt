@@ -42,7 +42,7 @@ changes_at station i Change rest old new xs was is list same low at changed afte
       ∙ ap (λ (n : ℕ). slice_set old.substations n (substation_of is)) same);
 }
 
-both_first : (a b : Bool) → a && b ≡ true → a ≡ true
+pub both_first : (a b : Bool) → a && b ≡ true → a ≡ true
 both_first true b e = refl
 both_first false b e = e
 

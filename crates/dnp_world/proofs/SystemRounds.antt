@@ -1,10 +1,10 @@
 -- Rounds: lists of events that were done one after the other, and where they stop.
 use Rattle.std.proofs.Common.{◌≡◌, ℕ, true, zero, suc, ◌+◌, ◌<◌, List, [], ◌∷◌, ◌++◌, length, take, inl, inr, Some, refl, sym, ap, ◌∙◌, subst, zero-add, arith}
-use Rattle.std.specs.Prelude.{◌⊎◌, All, replicate, slice_get}
+use Rattle.std.specs.Prelude.{◌⊎◌, All, is_some, replicate, slice_get}
 use Rattle.std.proofs.lemmas.List.{replicate_more, take-replicate}
 use Rattle.dnp_world.specs.Rounds.{Flushes, StopsFlushing, StopsFlushingAll, StopsInRound, StopsInTurn, deliveries, events_polled}
-use Rattle.dnp_world.specs.SystemRuns.{CountsFor, Happens, RunsTo, StopsAfter, may_stop}
-use Rattle.dnp_world.specs.Systems.{System, standing_on}
+use Rattle.dnp_world.specs.SystemRuns.{CountsFor, Happens, RunsTo, StopsAfter}
+use Rattle.dnp_world.specs.Systems.{System, front_on, standing_on}
 use Rattle.dnp_world.specs.declared.event.Event.{Event}
 use Rattle.dnp_world.specs.declared.event.Event.TheVariants.{Ask, Deliver}
 use Rattle.dnp_world.specs.declared.event.Link.{Link}
@@ -80,21 +80,31 @@ ran_both P old mid new first more = record {
 
 -- ---- lists that stopped
 
+-- so many events were done, and the one behind them was not, whatever stopped the list there
+pub record StaysAfter (old : System) (events : List Event) (done : ℕ) (new : System) : Type 0 where
+  pub before : System
+  pub ran : RunsTo old (take done events) before
+  pub event : Event
+  pub next : slice_get events done ≡ Some event
+  pub counts : CountsFor before event new
+
+stays_after : (old : System) (events : List Event) (done : ℕ) (new : System) → StopsAfter old events done new → StaysAfter old events done new
+stays_after old events done new s = record { before = s.before; ran = s.ran; event = s.event; next = s.next; counts = s.counts }
+
 -- a list of such events stopped
 pub record StopsIn (IsOne : Event → Type 0) (old new : System) : Type 0 where
   pub events : List Event
   pub done : ℕ
   pub all : All IsOne events
-  pub stops : StopsAfter old events done new
+  pub stops : StaysAfter old events done new
 
 -- at their first event
-pub stops_at : (P : Event → Type 0) (old new : System) (event : Event) → P event → may_stop event ≡ true → CountsFor old event new
-    → StopsIn P old new
-stops_at P old new event is may counts = record {
+pub stops_at : (P : Event → Type 0) (old new : System) (event : Event) → P event → CountsFor old event new → StopsIn P old new
+stops_at P old new event is counts = record {
   events = event ∷ [];
   done = 0;
   all = all_one P event is;
-  stops = record { before = old; ran = refl; event = event; next = refl; may = may; counts = counts };
+  stops = record { before = old; ran = refl; event = event; next = refl; counts = counts };
 }
 
 -- after another was done
@@ -109,7 +119,6 @@ stops_after P old mid new first s = record {
         (runs_joined old mid s.stops.before first.events (take s.done s.events) first.ran s.stops.ran);
     event = s.stops.event;
     next = get_past first.events s.events s.done ∙ s.stops.next;
-    may = s.stops.may;
     counts = s.stops.counts;
   };
 }
@@ -131,13 +140,13 @@ one_delivered old mid new n on way ran h =
 
 -- so many of all were, and the next one stopped
 pub stops_delivering : (old mid new : System) (n all : ℕ) (on : Link) (way : Way) → n < all → RunsTo old (deliveries n on way) mid
-    → CountsFor mid (Deliver on way) new → StopsAfter old (deliveries all on way) n new
-stops_delivering old mid new n all on way low ran counts = record {
+    → is_some (front_on mid on way) ≡ true → CountsFor mid (Deliver on way) new → StopsAfter old (deliveries all on way) n new
+stops_delivering old mid new n all on way low ran there counts = record {
   before = mid;
   ran = subst (λ (es : List Event). RunsTo old es mid) (sym (take-replicate n all (Deliver on way) (omega (arith, low)))) ran;
   event = Deliver on way;
   next = get_same (Deliver on way) all n low;
-  may = refl;
+  may = there;
   counts = counts;
 }
 
@@ -147,7 +156,7 @@ stops_flushing P on way is old new (done, stops) = record {
   events = deliveries (standing_on old on way) on way;
   done = done;
   all = all_same P (Deliver on way) (standing_on old on way) is;
-  stops = stops;
+  stops = stays_after old (deliveries (standing_on old on way) on way) done new stops;
 }
 
 pub stops_flushing_all : (P : Event → Type 0) (on : Link) → ((way : Way) → P (Deliver on way)) → (ways : List Way) (old new : System)
@@ -170,5 +179,5 @@ ran_poll on old new h = ran_one (IsOfRound on) old new (Ask on events_polled) (i
 pub stops_round : (on : Link) (old new : System) → StopsInRound on old new → StopsIn (IsOfRound on) old new
 stops_round on old new s =
     stops_in_turn (IsOfRound on) (λ a b. CountsFor a (Ask on events_polled) b) (λ a b. Happens a (Ask on events_polled) b)
-    (StopsFlushingAll on (Down ∷ Up ∷ Down ∷ [])) (λ a b. stops_at (IsOfRound on) a b (Ask on events_polled) (inl refl) refl) (ran_poll on)
+    (StopsFlushingAll on (Down ∷ Up ∷ Down ∷ [])) (λ a b. stops_at (IsOfRound on) a b (Ask on events_polled) (inl refl)) (ran_poll on)
     (stops_flushing_all (IsOfRound on) on (λ way. inr (way, refl)) (Down ∷ Up ∷ Down ∷ [])) old new s

@@ -23,7 +23,7 @@ pub all_done : (old new : System) (events : List Event) (k : ℕ) → length eve
 all_done old new events k high ran = subst (λ (es : List Event). RunsTo old es new) (take_all k events high) ran
 
 pub stops_after : (old mid new : System) (events : List Event) (k : ℕ) (event : Event) → k < length events → event ≡ get_or events k event
-    → RunsTo old (take k events) mid → may_stop event ≡ true → CountsFor mid event new → StopsAfter old events k new
+    → RunsTo old (take k events) mid → may_stop mid event ≡ true → CountsFor mid event new → StopsAfter old events k new
 stops_after old mid new events k event low is ran may counts = record {
   before = mid;
   ran = ran;

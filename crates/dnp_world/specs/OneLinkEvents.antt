@@ -1,6 +1,6 @@
 -- Definition: one link by itself, and what each event makes of it: the stations by their functions, the lines and ports by those of
 -- `dnp_line`, and nothing else (IEEE Std 1815-2012: application layer, transport function and data link layer together).
-use Rattle.std.specs.Prelude.{◌≡◌, ℕ, ◌+◌, ◌^◌, ◌-◌, Bool, true, false, List, [], ◌∷◌, ◌++◌, min, take, slice_get, Option, Some, IfSome, option_to_list, Result, Ok, Err}
+use Rattle.std.specs.Prelude.{◌≡◌, ℕ, ◌+◌, ◌^◌, ◌-◌, Bool, true, false, ◌&&◌, List, [], ◌∷◌, ◌++◌, min, take, slice_get, Option, Some, IfSome, is_some, option_to_list, Result, Ok, Err, is_ok}
 use Rattle.dnp_objects.specs.declared.row.Row.{Row}
 use Rattle.dnp_objects.specs.declared.row.Kind.{Kind}
 use Rattle.dnp_objects.specs.declared.lane.LaneRow.{LaneRow}
@@ -23,7 +23,7 @@ use Rattle.dnp_master.specs.declared.task.Task.{Task}
 use Rattle.dnp_master.specs.declared.task.Task.TheVariants as task
 use Rattle.dnp_master.specs.State as master
 use Rattle.dnp_master.specs.Calls.{Taking, ask_answer, asked, receive_of, has_rows}
-use Rattle.dnp_world.specs.Channels.{ChannelState, DamagesAt, GoDown, GoUp, cleared, hung_up_at, lost_at}
+use Rattle.dnp_world.specs.Channels.{ChannelState, DamagesAt, GoDown, GoUp, cleared, hung_up_at, line_of, lost_at}
 use Rattle.dnp_world.specs.declared.link_event.End.TheVariants as end
 use Rattle.dnp_world.specs.declared.link_event.Way.{Way}
 use Rattle.dnp_world.specs.declared.link_event.Way.TheVariants as way
@@ -213,21 +213,22 @@ pub record StopsAt {Sink : Type 0} (takes : Sink → List Row → List Row → L
   pub kept : keeps old.sink sink
   pub counts : CountsFor takes (record old { sink = sink }) event new
 
--- the events at which a store, or a request for memory, is asked
-abbrev pub may_stop : LinkEvent → Bool
-may_stop event.Open = true
-may_stop (event.HangUp end) = false
-may_stop (event.Deliver way) = true
-may_stop (event.Repeat way) = true
-may_stop (event.Lose way) = false
-may_stop (event.Damage way octets) = false
-may_stop (event.Change kind index reading) = true
-may_stop (event.Ask task) = true
-may_stop (event.Pass ms) = false
-may_stop (event.Tick end.Master) = false
-may_stop (event.Tick end.Outstation) = true
-may_stop (event.Restart end.Master) = false
-may_stop (event.Restart end.Outstation) = true
+-- The events at which a store, or a request for memory, is asked, by the link as it stands: none that finds an empty line, or brings
+-- what its station refuses, a reading or a task.
+abbrev pub may_stop : {Sink : Type 0} → LinkState Sink → LinkEvent → Bool
+may_stop s event.Open = true
+may_stop s (event.HangUp end) = false
+may_stop s (event.Deliver way) = is_some (front_of (line_of way s.channel))
+may_stop s (event.Repeat way) = is_some (front_of (line_of way s.channel))
+may_stop s (event.Lose way) = false
+may_stop s (event.Damage way octets) = false
+may_stop s (event.Change kind index reading) = is_ok (answer_of s.outstation.core.points kind index reading)
+may_stop s (event.Ask task) = is_own task && is_ok (ask_answer s.master task)
+may_stop s (event.Pass ms) = false
+may_stop s (event.Tick end.Master) = false
+may_stop s (event.Tick end.Outstation) = true
+may_stop s (event.Restart end.Master) = false
+may_stop s (event.Restart end.Outstation) = true
 
 -- so many events were done, and the list stopped at the one after them
 pub record StopsAfter {Sink : Type 0} (takes : Sink → List Row → List Row → List Row → Sink → Type 0) (keeps : Sink → Sink → Type 0)
@@ -236,5 +237,5 @@ pub record StopsAfter {Sink : Type 0} (takes : Sink → List Row → List Row �
   pub ran : RunsTo takes old (take done events) before
   pub event : LinkEvent
   pub next : slice_get events done ≡ Some event
-  pub may : may_stop event ≡ true
+  pub may : may_stop before event ≡ true
   pub stops : StopsAt takes keeps before event new

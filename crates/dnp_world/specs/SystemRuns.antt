@@ -1,12 +1,17 @@
 -- Definition: what an event makes of a system, by what events of its kind do, and lists of events (own rule: IEEE Std 1815-2012
 -- speaks of one link at a time).
-use Rattle.std.specs.Prelude.{◌≡◌, ℕ, ◌+◌, ◌^◌, ◌-◌, Bool, true, false, List, [], ◌∷◌, min, take, slice_get, Some}
+use Rattle.std.specs.Prelude.{◌≡◌, ℕ, ◌+◌, ◌^◌, ◌-◌, Bool, true, false, ◌&&◌, List, [], ◌∷◌, min, take, slice_get, Option, Some, None, is_some, is_ok}
+use Rattle.dnp_objects.specs.declared.row.Kind.{Kind}
+use Rattle.dnp_pointdb.specs.declared.reading.Reading.{Reading}
+use Rattle.dnp_pointdb.specs.Database.{answer_of}
 use Rattle.dnp_line.specs.Lines.{delivered_on, repeated_on}
+use Rattle.dnp_master.specs.Calls.{ask_answer}
+use Rattle.dnp_master.specs.State.{is_idle}
 use Rattle.dnp_concentrator.specs.Mapped.{command_above}
 use Rattle.dnp_world.specs.Channels.{DamagesAt}
 use Rattle.dnp_world.specs.OneLinkEvents.{is_own}
-use Rattle.dnp_world.specs.Systems.{System, has_station, has_link}
-use Rattle.dnp_world.specs.SystemEvents.{LinesChange, OpensOn, HangsUpOn, concentrator_restarted, SubstationRestarts, ComesOn, LosesOn, Reads, AsksOn, RelaysOn, IssuesBy, MasterTicks, OutstationTicks}
+use Rattle.dnp_world.specs.Systems.{SubstationState, System, front_on, has_station, has_link}
+use Rattle.dnp_world.specs.SystemEvents.{LinesChange, OpensOn, HangsUpOn, concentrator_restarted, SubstationRestarts, ComesOn, LosesOn, Reads, AsksOn, RelaysOn, IssuesBy, MasterTicks, OutstationTicks, relaying_at}
 use Rattle.dnp_world.specs.declared.event.Event.{Event}
 use Rattle.dnp_world.specs.declared.event.Event.TheVariants as event
 use Rattle.dnp_world.specs.declared.event.Link.TheVariants.{Above}
@@ -52,24 +57,31 @@ abbrev pub CountsFor : System → Event → System → Type 0
 CountsFor old (event.Deliver on way) new = Happens old (event.Lose on way) new
 CountsFor old event new = new ≡ old
 
--- the events at which a store, or a request for memory, is asked
-abbrev pub may_stop : Event → Bool
-may_stop (event.Open on) = true
-may_stop (event.HangUp on end) = false
-may_stop (event.Deliver on way) = true
-may_stop (event.Repeat on way) = true
-may_stop (event.Lose on way) = false
-may_stop (event.Damage on way octets) = false
-may_stop (event.Change station kind index reading) = true
-may_stop (event.Ask on task) = true
-may_stop (event.Issue station command) = true
-may_stop (event.Relay on) = true
-may_stop (event.Pass ms) = false
-may_stop (event.Tick on end.Master) = false
-may_stop (event.Tick on end.Outstation) = true
-may_stop (event.Restart place.Centre) = false
-may_stop (event.Restart place.Concentrator) = false
-may_stop (event.Restart (place.Substation station)) = true
+-- the substation is there, and its points take the reading
+abbrev pub takes_reading : Option SubstationState → Kind → ℕ → Reading → Bool
+takes_reading None kind index reading = false
+takes_reading (Some s) kind index reading = is_ok (answer_of s.core.points kind index reading)
+
+-- The events at which a store, or a request for memory, is asked, by the system as it stands: none that names nothing in the plan,
+-- finds an empty line, brings what its station refuses, a reading, a task or a command, or relays over a master that waits.
+abbrev pub may_stop : System → Event → Bool
+may_stop s (event.Open on) = has_link s on
+may_stop s (event.HangUp on end) = false
+may_stop s (event.Deliver on way) = is_some (front_on s on way)
+may_stop s (event.Repeat on way) = is_some (front_on s on way)
+may_stop s (event.Lose on way) = false
+may_stop s (event.Damage on way octets) = false
+may_stop s (event.Change station kind index reading) =
+    has_station s station && takes_reading (slice_get s.substations station) kind index reading
+may_stop s (event.Ask on task) = has_link s on && (is_own task && is_ok (ask_answer (relaying_at s on).master task))
+may_stop s (event.Issue station command) = is_some (command_above s.centre.indices station command)
+may_stop s (event.Relay on) = has_link s on && is_idle (relaying_at s on).master
+may_stop s (event.Pass ms) = false
+may_stop s (event.Tick on end.Master) = false
+may_stop s (event.Tick on end.Outstation) = has_link s on
+may_stop s (event.Restart place.Centre) = false
+may_stop s (event.Restart place.Concentrator) = false
+may_stop s (event.Restart (place.Substation station)) = has_station s station
 
 -- so many events were done, and the list stopped at the one after them, whose refusal has changed nothing
 pub record StopsAfter (old : System) (events : List Event) (done : ℕ) (new : System) : Type 0 where
@@ -77,5 +89,5 @@ pub record StopsAfter (old : System) (events : List Event) (done : ℕ) (new : S
   pub ran : RunsTo old (take done events) before
   pub event : Event
   pub next : slice_get events done ≡ Some event
-  pub may : may_stop event ≡ true
+  pub may : may_stop before event ≡ true
   pub counts : CountsFor before event new

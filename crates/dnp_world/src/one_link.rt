@@ -140,7 +140,7 @@ impl<L: Lanes, S: Sink> OneLink<L, S> {
             → OnOk result (HappensOn S.takes no_panel (link_of L.contents self.old) event.now (link_of L.contents self.new)) }
         ensures stopped { L.honest (lanes_of self.new) → S.honest (sink_of self.new)
             → OnErr result (StopsAt S.takes S.keeps (link_of L.contents self.old) event.now (link_of L.contents self.new)) }
-        ensures named { OnErr result (may_stop event.now ≡ true) }
+        ensures named { OnErr result (may_stop (link_of L.contents self.old) event.now ≡ true) }
     {
         match event {
             LinkEvent::Open => self.open(alloc)?,
@@ -167,7 +167,8 @@ impl<L: Lanes, S: Sink> OneLink<L, S> {
     }
 
     /// The events happen, one after the other, up to the first at which the lanes, the sink or a request for memory
-    /// refuses. That one counts as `Lose` if it is `Deliver`, and else it is left out.
+    /// refuses. That one counts as `Lose` if it is `Deliver`, and else it is left out. None of them is asked for an event that
+    /// finds an empty line, or brings a reading or a task that its station refuses.
     pub fn run(&mut self, alloc: Global, events: &[LinkEvent]) -> Result<(), Stopped>
         ensures held { L.honest (lanes_of self.new) → L.honest (lanes_of self.old) }
         ensures sink_held { S.honest (sink_of self.new) → S.honest (sink_of self.old) }

@@ -1,6 +1,6 @@
 //! A substation and its link.
 
-ghost use Rattle.std.specs.Prelude.{◌≡◌, ◌&&◌, ◌++◌, ◌∷◌, [], false, List, IfErr, IfOk, IfSome, OnErr, OnOk, drop, length, map};
+ghost use Rattle.std.specs.Prelude.{◌≡◌, ◌&&◌, ◌++◌, ◌∷◌, [], false, List, IfErr, IfOk, IfSome, OnErr, OnOk, drop, is_ok, length, map, true};
 ghost use Rattle.dnp_eventbuf.specs.Stock.{exhausts, rows_in, without_all};
 ghost use Rattle.dnp_objects.specs.declared.row.Row.{Row as RowValue};
 ghost use Rattle.dnp_pointdb.specs.Database.{answer_of};
@@ -85,8 +85,50 @@ impl Substation {
     }
 
     /// The outstation of the substation of this number reads a point. What a full lane dropped for it is put after the list.
-    /// A reading that its points refuse does nothing.
+    /// A reading that its points refuse does nothing, and asks for no memory.
     pub fn change(
+        &mut self,
+        actions: &mut Actions,
+        alloc: Global,
+        now: u64,
+        station: u8,
+        kind: Kind,
+        index: u16,
+        reading: Reading,
+        overwritten: &mut StationList<Row>,
+    ) -> Result<(), Cause>
+        ensures refused { OnOk result (IfErr (answer_of (substation_of self.old).core.points kind index reading) (λ _.
+            (substation_of self.new ≡ substation_of self.old) × (overwritten.new.items ≡ overwritten.old.items))) }
+        ensures numbers { OnOk result (IfOk (answer_of (substation_of self.old).core.points kind index reading) (λ made.
+            IfSome made (λ row. exhausts (substation_of self.old).lanes (row ∷ []) ≡ false))) }
+        ensures done { OnOk result (IfOk (answer_of (substation_of self.old).core.points kind index reading) (λ made.
+            SubstationSteps (change_of (station_of (substation_of self.old)) now kind index reading made) (substation_of self.old).channel
+            (substation_of self.old) (substation_of self.new))) }
+        ensures listed { OnOk result (IfOk (answer_of (substation_of self.old).core.points kind index reading) (λ made.
+            overwritten.new.items ≡ overwritten.old.items
+            ++ at_station station (change_of (station_of (substation_of self.old)) now kind index reading made).does.overwritten)) }
+        ensures stopped { OnErr result (substation_of self.new ≡ substation_of self.old) }
+        ensures unlisted { OnErr result (overwritten.new.items ≡ overwritten.old.items) }
+        ensures named { OnErr result (is_ok (answer_of (substation_of self.old).core.points kind index reading) ≡ true) }
+    {
+        let made = self.outstation.points().would(kind, index, reading);
+        if made.is_err() {
+            return Ok(());
+        }
+        self.change_taken(
+            actions,
+            alloc,
+            now,
+            station,
+            kind,
+            index,
+            reading,
+            overwritten,
+        )
+    }
+
+    /// The same of a reading that the points take.
+    fn change_taken(
         &mut self,
         actions: &mut Actions,
         alloc: Global,

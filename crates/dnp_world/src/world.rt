@@ -150,7 +150,9 @@ impl<Q: Lanes, J: JournalStore, A: Book, B: Book> World<Q, J, A, B> {
     }
 
     /// The events happen, one after the other, up to the first at which a store or a request for memory refuses. That one
-    /// counts as `Lose` if it is `Deliver`, and else it is left out.
+    /// counts as `Lose` if it is `Deliver`, and else it is left out. Neither is asked for an event that names nothing in the
+    /// plan, finds an empty line, brings a reading, a task or a command that its station refuses, or relays over a master that
+    /// is closed or awaits a response.
     pub fn run(&mut self, alloc: Global, events: &[Event]) -> Result<(), Stopped>
         ensures held { ⟦<Self as Stored>⟧.well self.new → ⟦<Self as Stored>⟧.well self.old }
         ensures done { ⟦<Self as Stored>⟧.well self.new → OnOk result (RunsTo self.old.system events.now self.new.system) }

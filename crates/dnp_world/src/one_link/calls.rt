@@ -1,9 +1,12 @@
 //! The events of a link by itself: what comes over its lines, and the calls of its stations.
 
-ghost use Rattle.std.specs.Prelude.{◌≡◌, OnErr, OnOk};
+ghost use Rattle.std.specs.Prelude.{◌≡◌, ◌&&◌, true, is_ok, is_some, OnErr, OnOk};
 ghost use Rattle.dnp_controls.specs.Latches.{no_panel};
+ghost use Rattle.dnp_line.specs.Lines.{front_of};
+ghost use Rattle.dnp_master.specs.Calls.{ask_answer};
+ghost use Rattle.dnp_pointdb.specs.Database.{answer_of};
 ghost use Rattle.dnp_world.specs.Channels.{left_by};
-ghost use Rattle.dnp_world.specs.OneLinkEvents.{ComesDown, ComesUp, HappensOn, IsStopped, StopsAt};
+ghost use Rattle.dnp_world.specs.OneLinkEvents.{ComesDown, ComesUp, HappensOn, IsStopped, StopsAt, is_own};
 ghost use Rattle.dnp_world.specs.OneLinkParts.{link_of, lanes_of, sink_of};
 ghost use Rattle.dnp_world.specs.declared.link_event.End.TheVariants as end;
 ghost use Rattle.dnp_world.specs.declared.link_event.LinkEvent.TheVariants as event;
@@ -26,13 +29,17 @@ use std::alloc::Global;
 
 impl<L: Lanes, S: Sink> OneLink<L, S> {
     /// The front unit comes to the outstation, and stays on the line where it is repeated. At a refusal the line and the
-    /// port stay.
+    /// port stay. On an empty line nothing is asked.
     fn come_down(&mut self, alloc: Global, repeats: bool) -> Result<(), Cause>
         ensures held { L.honest (lanes_of self.new) → L.honest (lanes_of self.old) }
         ensures sink { sink_of self.new ≡ sink_of self.old }
         ensures done { L.honest (lanes_of self.new) → OnOk result (ComesDown no_panel (left_by repeats (link_of L.contents self.old).channel.down) (link_of L.contents self.old) (link_of L.contents self.new)) }
         ensures stopped { L.honest (lanes_of self.new) → OnErr result (link_of L.contents self.new ≡ link_of L.contents self.old) }
+        ensures there { OnErr result (is_some (front_of (link_of L.contents self.old).channel.down) ≡ true) }
     {
+        if self.channel.front(Way::Down).is_none() {
+            return Ok(());
+        }
         each_case_says_what_came();
         a_confirm_releases_what_its_fragment_reported();
         let waiting = rows_waiting(self.outstation.lanes());
@@ -53,13 +60,17 @@ impl<L: Lanes, S: Sink> OneLink<L, S> {
     }
 
     /// The front unit comes to the master, and stays on the line where it is repeated. At a refusal the line and the port
-    /// stay. What the sink drops is listed nowhere.
+    /// stay. On an empty line nothing is asked. What the sink drops is listed nowhere.
     fn come_up(&mut self, alloc: Global, repeats: bool) -> Result<(), Cause>
         ensures lanes { lanes_of self.new ≡ lanes_of self.old }
         ensures sink_held { S.honest (sink_of self.new) → S.honest (sink_of self.old) }
         ensures done { S.honest (sink_of self.new) → OnOk result (ComesUp S.takes (left_by repeats (link_of L.contents self.old).channel.up) (link_of L.contents self.old) (link_of L.contents self.new)) }
         ensures stopped { S.honest (sink_of self.new) → OnErr result (IsStopped S.keeps (link_of L.contents self.old) (link_of L.contents self.new)) }
+        ensures there { OnErr result (is_some (front_of (link_of L.contents self.old).channel.up) ≡ true) }
     {
+        if self.channel.front(Way::Up).is_none() {
+            return Ok(());
+        }
         let mut dropped = Vec::new(alloc);
         self.channel.come_up(
             alloc,
@@ -77,6 +88,7 @@ impl<L: Lanes, S: Sink> OneLink<L, S> {
         ensures sink { sink_of self.new ≡ sink_of self.old }
         ensures done { L.honest (lanes_of self.new) → OnOk result (HappensOn S.takes no_panel (link_of L.contents self.old) (event.Deliver way.Down) (link_of L.contents self.new)) }
         ensures stopped { L.honest (lanes_of self.new) → OnErr result (StopsAt S.takes S.keeps (link_of L.contents self.old) (event.Deliver way.Down) (link_of L.contents self.new)) }
+        ensures there { OnErr result (is_some (front_of (link_of L.contents self.old).channel.down) ≡ true) }
     {
         if let Err(cause) = self.come_down(alloc, false) {
             self.channel.lose(Way::Down);
@@ -91,6 +103,7 @@ impl<L: Lanes, S: Sink> OneLink<L, S> {
         ensures sink_held { S.honest (sink_of self.new) → S.honest (sink_of self.old) }
         ensures done { S.honest (sink_of self.new) → OnOk result (HappensOn S.takes no_panel (link_of L.contents self.old) (event.Deliver way.Up) (link_of L.contents self.new)) }
         ensures stopped { S.honest (sink_of self.new) → OnErr result (StopsAt S.takes S.keeps (link_of L.contents self.old) (event.Deliver way.Up) (link_of L.contents self.new)) }
+        ensures there { OnErr result (is_some (front_of (link_of L.contents self.old).channel.up) ≡ true) }
     {
         if let Err(cause) = self.come_up(alloc, false) {
             self.channel.lose(Way::Up);
@@ -105,6 +118,7 @@ impl<L: Lanes, S: Sink> OneLink<L, S> {
         ensures sink { sink_of self.new ≡ sink_of self.old }
         ensures done { L.honest (lanes_of self.new) → OnOk result (HappensOn S.takes no_panel (link_of L.contents self.old) (event.Repeat way.Down) (link_of L.contents self.new)) }
         ensures stopped { L.honest (lanes_of self.new) → OnErr result (StopsAt S.takes S.keeps (link_of L.contents self.old) (event.Repeat way.Down) (link_of L.contents self.new)) }
+        ensures there { OnErr result (is_some (front_of (link_of L.contents self.old).channel.down) ≡ true) }
     {
         self.come_down(alloc, true)
     }
@@ -115,6 +129,7 @@ impl<L: Lanes, S: Sink> OneLink<L, S> {
         ensures sink_held { S.honest (sink_of self.new) → S.honest (sink_of self.old) }
         ensures done { S.honest (sink_of self.new) → OnOk result (HappensOn S.takes no_panel (link_of L.contents self.old) (event.Repeat way.Up) (link_of L.contents self.new)) }
         ensures stopped { S.honest (sink_of self.new) → OnErr result (StopsAt S.takes S.keeps (link_of L.contents self.old) (event.Repeat way.Up) (link_of L.contents self.new)) }
+        ensures there { OnErr result (is_some (front_of (link_of L.contents self.old).channel.up) ≡ true) }
     {
         self.come_up(alloc, true)
     }
@@ -145,8 +160,29 @@ impl<L: Lanes, S: Sink> OneLink<L, S> {
         self.channel.hang_up(end);
     }
 
-    /// The outstation reads a point. A reading that its points refuse does nothing.
+    /// The outstation reads a point. A reading that its points refuse does nothing, and asks for no memory.
     pub(crate) fn change(
+        &mut self,
+        alloc: Global,
+        kind: Kind,
+        index: u16,
+        reading: Reading,
+    ) -> Result<(), Cause>
+        ensures held { L.honest (lanes_of self.new) → L.honest (lanes_of self.old) }
+        ensures sink { sink_of self.new ≡ sink_of self.old }
+        ensures done { L.honest (lanes_of self.new) → OnOk result (HappensOn S.takes no_panel (link_of L.contents self.old) (event.Change kind index reading) (link_of L.contents self.new)) }
+        ensures stopped { L.honest (lanes_of self.new) → OnErr result (link_of L.contents self.new ≡ link_of L.contents self.old) }
+        ensures named { OnErr result (is_ok (answer_of (link_of L.contents self.old).outstation.core.points kind index reading) ≡ true) }
+    {
+        let made = self.outstation.points().would(kind, index, reading);
+        if made.is_err() {
+            return Ok(());
+        }
+        self.change_taken(alloc, kind, index, reading)
+    }
+
+    /// The same of a reading that the points take.
+    fn change_taken(
         &mut self,
         alloc: Global,
         kind: Kind,
@@ -179,14 +215,25 @@ impl<L: Lanes, S: Sink> OneLink<L, S> {
         }
     }
 
-    /// The master asks a task. What it refuses does nothing, as a command does.
+    /// Whether the master asks a task of its own now.
+    fn asks(&self, task: &Task) -> bool
+        ensures { is_own task.now ≡ true → result ≡ is_ok (ask_answer (link_of L.contents self.now).master task.now) }
+    {
+        self.receiver.master.idle() && task.is_good()
+    }
+
+    /// The master asks a task. What it refuses does nothing, as a command does, and asks for no memory.
     pub(crate) fn ask(&mut self, task: Task) -> Result<(), Cause>
         ensures lanes { lanes_of self.new ≡ lanes_of self.old }
         ensures sink { sink_of self.new ≡ sink_of self.old }
         ensures done { OnOk result (HappensOn S.takes no_panel (link_of L.contents self.old) (event.Ask task) (link_of L.contents self.new)) }
         ensures stopped { OnErr result (link_of L.contents self.new ≡ link_of L.contents self.old) }
+        ensures named { OnErr result ((is_own task && is_ok (ask_answer (link_of L.contents self.old).master task)) ≡ true) }
     {
         if matches!(task, Task::Select(_) | Task::Operate(_)) {
+            return Ok(());
+        }
+        if !self.asks(&task) {
             return Ok(());
         }
         self.channel.reserve_down()?;

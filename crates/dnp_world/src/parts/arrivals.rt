@@ -1,9 +1,9 @@
 //! What comes over the lines of a system.
 
-ghost use Rattle.std.specs.Prelude.{◌≡◌, true, OnErr, OnOk};
+ghost use Rattle.std.specs.Prelude.{◌≡◌, true, is_some, OnErr, OnOk};
 ghost use Rattle.dnp_world.specs.Channels.{left_by};
 ghost use Rattle.dnp_world.specs.SystemEvents.{ComesDownAbove, ComesDownBelow, ComesOn, ComesUp};
-ghost use Rattle.dnp_world.specs.Systems.{has_link, has_station};
+ghost use Rattle.dnp_world.specs.Systems.{front_on, has_link, has_station};
 ghost use Rattle.dnp_world.specs.declared.event.Link.TheVariants as link;
 
 use super::Parts;
@@ -90,7 +90,8 @@ impl<Q: Lanes, J: JournalStore, A: Book, B: Book> Parts<Q, J, A, B> {
         Ok(())
     }
 
-    /// The front unit of this way of the link comes to its end, and stays on the line where it is repeated.
+    /// The front unit of this way of the link comes to its end, and stays on the line where it is repeated. On an empty line
+    /// nothing is asked.
     pub(crate) fn come(
         &mut self,
         alloc: Global,
@@ -102,7 +103,11 @@ impl<Q: Lanes, J: JournalStore, A: Book, B: Book> Parts<Q, J, A, B> {
         ensures held { ⟦<Self as Stored>⟧.well self.new → ⟦<Self as Stored>⟧.well self.old }
         ensures done { ⟦<Self as Stored>⟧.well self.new → OnOk result (ComesOn (left_by repeats) on way self.old.system self.new.system) }
         ensures stopped { ⟦<Self as Stored>⟧.well self.new → OnErr result (self.new.system ≡ self.old.system) }
+        ensures there { OnErr result (is_some (front_on self.old.system on way) ≡ true) }
     {
+        if self.front(on, way).is_none() {
+            return Ok(());
+        }
         match (on, way) {
             (Link::Below(station), Way::Down) => self.come_down_below(alloc, station, repeats)?,
             (Link::Above, Way::Down) => self.come_down_above(alloc, repeats)?,

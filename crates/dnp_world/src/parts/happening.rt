@@ -1,9 +1,9 @@
 //! One event of a system after the other.
 
-ghost use Rattle.std.specs.Prelude.{◌≡◌, true, IfErr, OnErr, OnOk};
+ghost use Rattle.std.specs.Prelude.{◌≡◌, true, is_some, IfErr, OnErr, OnOk};
 ghost use Rattle.dnp_world.specs.SystemEvents.{ComesOn};
 ghost use Rattle.dnp_world.specs.SystemRuns.{CountsFor, Happens, RunsTo, StopsAfter, may_stop};
-ghost use Rattle.dnp_world.specs.Systems.{has_link};
+ghost use Rattle.dnp_world.specs.Systems.{front_on, has_link};
 ghost use Rattle.dnp_world.specs.declared.event.Event.TheVariants as event;
 ghost use Rattle.dnp_line.specs.Lines.{delivered_on};
 
@@ -25,6 +25,7 @@ impl<Q: Lanes, J: JournalStore, A: Book, B: Book> Parts<Q, J, A, B> {
         ensures held { ⟦<Self as Stored>⟧.well self.new → ⟦<Self as Stored>⟧.well self.old }
         ensures done { ⟦<Self as Stored>⟧.well self.new → OnOk result (ComesOn delivered_on on way self.old.system self.new.system) }
         ensures stopped { ⟦<Self as Stored>⟧.well self.new → OnErr result (CountsFor self.old.system (event.Deliver on way) self.new.system) }
+        ensures there { OnErr result (is_some (front_on self.old.system on way) ≡ true) }
     {
         let Err(cause) = self.come(alloc, on, way, false) else {
             return Ok(());
@@ -40,7 +41,7 @@ impl<Q: Lanes, J: JournalStore, A: Book, B: Book> Parts<Q, J, A, B> {
         ensures held { ⟦<Self as Stored>⟧.well self.new → ⟦<Self as Stored>⟧.well self.old }
         ensures done { ⟦<Self as Stored>⟧.well self.new → OnOk result (Happens self.old.system event.now self.new.system) }
         ensures stopped { ⟦<Self as Stored>⟧.well self.new → OnErr result (CountsFor self.old.system event.now self.new.system) }
-        ensures named { OnErr result (may_stop event.now ≡ true) }
+        ensures named { OnErr result (may_stop self.old.system event.now ≡ true) }
     {
         match event {
             Event::Open(on) if self.has(*on) => self.open(alloc, *on)?,
@@ -77,7 +78,9 @@ impl<Q: Lanes, J: JournalStore, A: Book, B: Book> Parts<Q, J, A, B> {
     }
 
     /// Carries the unit at the front of this way of the link, if there is one.
-    fn carry<C: Carrier>(&self, on: Link, way: Way, carrier: &mut C) -> Result<(), Cause> {
+    fn carry<C: Carrier>(&self, on: Link, way: Way, carrier: &mut C) -> Result<(), Cause>
+        ensures { OnErr result (is_some (front_on self.now.system on way) ≡ true) }
+    {
         match self.front(on, way) {
             Some(unit) => carrier.carry(on, way, unit),
             None => Ok(()),
@@ -94,7 +97,7 @@ impl<Q: Lanes, J: JournalStore, A: Book, B: Book> Parts<Q, J, A, B> {
         ensures held { ⟦<Self as Stored>⟧.well self.new → ⟦<Self as Stored>⟧.well self.old }
         ensures done { ⟦<Self as Stored>⟧.well self.new → OnOk result (Happens self.old.system event.now self.new.system) }
         ensures stopped { ⟦<Self as Stored>⟧.well self.new → OnErr result (CountsFor self.old.system event.now self.new.system) }
-        ensures named { OnErr result (may_stop event.now ≡ true) }
+        ensures named { OnErr result (may_stop self.old.system event.now ≡ true) }
     {
         if let Event::Deliver(on, way) = event
             && let Err(cause) = self.carry(*on, *way, carrier)

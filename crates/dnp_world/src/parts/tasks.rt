@@ -1,6 +1,6 @@
 //! The events of a system that ask tasks, and the commands that are issued and relayed.
 
-ghost use Rattle.std.specs.Prelude.{◌≡◌, ◌⊎◌, ◌≤◌, ℕ, List, true, IfErr, IfNone, IfOk, IsErr, MatchResult, OnErr, OnOk, Result, Ok, Err};
+ghost use Rattle.std.specs.Prelude.{◌≡◌, ◌⊎◌, ◌≤◌, ℕ, List, true, IfErr, IfNone, IfOk, IsErr, MatchResult, OnErr, OnOk, Result, Ok, Err, ◌&&◌, is_ok, is_some, slice_get};
 ghost use Rattle.dnp_appfragment.specs.Fragments.{Asked, IsRequest};
 ghost use Rattle.dnp_concentrator.specs.Mapped.{command_above};
 ghost use Rattle.dnp_concentrator.specs.Relayed.{Tells};
@@ -10,7 +10,10 @@ ghost use Rattle.dnp_objects.specs.declared.command.Command.TheVariants.{Block, 
 ghost use Rattle.dnp_world.specs.Channels.{GoDown, state_of};
 ghost use Rattle.dnp_world.specs.CommandWidths.{HasWidths};
 ghost use Rattle.dnp_world.specs.OneLinkEvents.{is_own};
-ghost use Rattle.dnp_world.specs.SystemEvents.{AsksOn, IssuesBy, Reads, RelaysOn, request_of, requests_of};
+ghost use Rattle.dnp_world.specs.SystemEvents.{AsksOn, IssuesBy, Reads, RelaysOn, request_of, requests_of, relaying_at};
+ghost use Rattle.dnp_master.specs.Calls.{ask_answer};
+ghost use Rattle.dnp_master.specs.State.{is_idle};
+ghost use Rattle.dnp_world.specs.SystemRuns.{takes_reading};
 ghost use Rattle.dnp_world.specs.Systems.{has_link, has_station};
 ghost use Rattle.dnp_world.specs.declared.event.Link.TheVariants as link;
 
@@ -146,14 +149,37 @@ impl<Q: Lanes, J: JournalStore, A: Book, B: Book> Parts<Q, J, A, B> {
         Ok(())
     }
 
-    /// The master of the link asks a task. What it refuses does nothing, as a command does.
+    /// Whether the master of the link is open and awaits no response.
+    fn idle(&self, on: Link) -> bool
+        requires { has_link self.now.system on ≡ true }
+        ensures { result ≡ is_idle (relaying_at self.now.system on).master }
+    {
+        match on {
+            Link::Below(station) => self.concentrator.idle_below(station),
+            Link::Above => self.centre.idle(),
+        }
+    }
+
+    /// Whether the master of the link asks a task of its own now.
+    fn asks(&self, on: Link, task: &Task) -> bool
+        requires { has_link self.now.system on ≡ true }
+        ensures { is_own task.now ≡ true → result ≡ is_ok (ask_answer (relaying_at self.now.system on).master task.now) }
+    {
+        self.idle(on) && task.is_good()
+    }
+
+    /// The master of the link asks a task. What it refuses does nothing, as a command does, and asks for no memory.
     pub(crate) fn ask(&mut self, on: Link, task: Task) -> Result<(), Cause>
         requires { has_link self.old.system on ≡ true }
         ensures held { ⟦<Self as Stored>⟧.well self.new → ⟦<Self as Stored>⟧.well self.old }
         ensures done { ⟦<Self as Stored>⟧.well self.new → OnOk result (AsksOn (is_own task) on task self.old.system self.new.system) }
         ensures stopped { ⟦<Self as Stored>⟧.well self.new → OnErr result (self.new.system ≡ self.old.system) }
+        ensures named { OnErr result ((is_own task && is_ok (ask_answer (relaying_at self.old.system on).master task)) ≡ true) }
     {
         if matches!(task, Task::Select(_) | Task::Operate(_)) {
+            return Ok(());
+        }
+        if !self.asks(on, &task) {
             return Ok(());
         }
         match on {
@@ -187,13 +213,17 @@ impl<Q: Lanes, J: JournalStore, A: Book, B: Book> Parts<Q, J, A, B> {
         send_relayed(&mut self.above, &relayed)
     }
 
-    /// A step of relaying over the link.
+    /// A step of relaying over the link. A master that is closed or awaits a response waits, and nothing is asked.
     pub(crate) fn relay(&mut self, alloc: Global, on: Link) -> Result<(), Cause>
         requires { has_link self.old.system on ≡ true }
         ensures held { ⟦<Self as Stored>⟧.well self.new → ⟦<Self as Stored>⟧.well self.old }
         ensures done { ⟦<Self as Stored>⟧.well self.new → OnOk result (RelaysOn on self.old.system self.new.system) }
         ensures stopped { ⟦<Self as Stored>⟧.well self.new → OnErr result (self.new.system ≡ self.old.system) }
+        ensures named { OnErr result (is_idle (relaying_at self.old.system on).master ≡ true) }
     {
+        if !self.idle(on) {
+            return Ok(());
+        }
         match on {
             Link::Below(station) => self.relay_below(alloc, station)?,
             Link::Above => self.relay_above(alloc)?,
@@ -214,6 +244,7 @@ impl<Q: Lanes, J: JournalStore, A: Book, B: Book> Parts<Q, J, A, B> {
         ensures held { ⟦<Self as Stored>⟧.well self.new → ⟦<Self as Stored>⟧.well self.old }
         ensures done { ⟦<Self as Stored>⟧.well self.new → OnOk result (Reads station kind index reading self.old.system self.new.system) }
         ensures stopped { ⟦<Self as Stored>⟧.well self.new → OnErr result (self.new.system ≡ self.old.system) }
+        ensures named { OnErr result (takes_reading (slice_get self.old.system.substations station) kind index reading ≡ true) }
     {
         let substation = &mut self.substations[usize::from(station)];
         substation.change(
@@ -229,7 +260,7 @@ impl<Q: Lanes, J: JournalStore, A: Book, B: Book> Parts<Q, J, A, B> {
         Ok(())
     }
 
-    /// A command is issued at the centre. One to no output does nothing.
+    /// A command is issued at the centre. One to no output does nothing, and asks for no memory.
     pub(crate) fn issue(
         &mut self,
         alloc: Global,
@@ -239,8 +270,12 @@ impl<Q: Lanes, J: JournalStore, A: Book, B: Book> Parts<Q, J, A, B> {
         ensures held { ⟦<Self as Stored>⟧.well self.new → ⟦<Self as Stored>⟧.well self.old }
         ensures done { ⟦<Self as Stored>⟧.well self.new → OnOk result (IssuesBy (command_above self.old.system.centre.indices station command.now) station command.now self.old.system self.new.system) }
         ensures stopped { ⟦<Self as Stored>⟧.well self.new → OnErr result (self.new.system ≡ self.old.system) }
+        ensures named { OnErr result (is_some (command_above self.old.system.centre.indices station command.now) ≡ true) }
     {
         has_widths(command);
+        if !self.centre.has_output(station, command) {
+            return Ok(());
+        }
         self.history.issued.reserve(1)?;
         match self.centre.issue(alloc, station, command) {
             Ok(_) => {

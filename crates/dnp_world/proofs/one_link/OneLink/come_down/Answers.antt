@@ -5,16 +5,26 @@ use Rattle.std.proofs.lemmas.Bool.{false≢true}
 use Rattle.dnp_objects.specs.declared.row.Row.{Row}
 use Rattle.dnp_controls.specs.Latches.{no_panel}
 use Rattle.dnp_eventbuf.specs.Stock.{rows_in}
+use Rattle.dnp_line.specs.Lines.{front_of}
 use Rattle.dnp_outstation.specs.Parts.{whole_of, with_lanes}
 use Rattle.dnp_outstation.specs.State.{State, Actions}
 use Rattle.dnp_outstation.specs.Station.{actions_of}
 use Rattle.dnp_world.specs.Channels.{ChannelState, state_of, ComesToOutstation, left_by}
 use Rattle.dnp_world.specs.OneLinkEvents.{ComesDown}
 use Rattle.dnp_world.specs.OneLinkParts.{link_of}
+use Rattle.dnp_world.proofs.IdleLines.{not_there}
 use Rattle.dnp_world.proofs.OneLinkComing.{comes, few_came, unfollowed, with_parts}
+use Rattle.dnp_world.proofs.OneLinkIdle.{idle_down}
 use Rattle.dnp_world.proofs.OneLinkLists.{extended}
 use Rattle.dnp_world.proofs.OneLinkSteps.{Laws}
 use Rattle.dnp_world.proofs.one_link.OneLink.come_down.Goals as goal
+
+-- nothing comes over an empty line
+pub returns-then-is_none-clause-done : goal.returns-then-is_none-clause-done
+returns-then-is_none-clause-done g c = λ honest.
+    let old = link_of g.L.Lanes.contents c.args.self.now in
+    idle_down c.args.repeats no_panel old
+    (not_there c.front.result (front_of old.channel.down) c.is_none.result c.front.ensures c.is_none.ensures c.if-is_none.true)
 
 pub returns-then-answered-clause-done : goal.returns-then-answered-clause-done
 returns-then-answered-clause-done g c = λ honest.

@@ -1,8 +1,18 @@
 -- What comes to the receiver comes up the link.
+use Rattle.dnp_line.specs.Lines.{front_of}
 use Rattle.dnp_world.specs.Channels.{left_by, state_of}
 use Rattle.dnp_world.specs.OneLinkParts.{link_of}
+use Rattle.dnp_world.proofs.IdleLines.{not_there}
 use Rattle.dnp_world.proofs.OneLinkArrivals.{comes_up, on_err, on_ok, stops_up}
+use Rattle.dnp_world.proofs.OneLinkIdle.{idle_up}
 use Rattle.dnp_world.proofs.one_link.OneLink.come_up.Goals as goal
+
+-- nothing comes over an empty line
+pub returns-then-is_none-clause-done : goal.returns-then-is_none-clause-done
+returns-then-is_none-clause-done g c = λ honest.
+    let old = link_of g.L.Lanes.contents c.args.self.now in
+    idle_up g.S.Sink.takes c.args.repeats old
+    (not_there c.front.result (front_of old.channel.up) c.is_none.result c.front.ensures c.is_none.ensures c.if-is_none.true)
 
 pub returns-clause-done : goal.returns-clause-done
 returns-clause-done g c = λ honest.

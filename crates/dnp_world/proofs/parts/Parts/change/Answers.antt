@@ -1,9 +1,11 @@
 -- One substation is written, and what a full lane dropped is listed.
-use Rattle.std.proofs.Common.{◌≡◌, ◌∙◌, ℕ, List, refl, ap, map, slice_set, subst}
-use Rattle.std.specs.Prelude.{slice_get, Some}
+use Rattle.std.proofs.Common.{◌≡◌, ◌∙◌, ℕ, true, List, refl, sym, ap, map, slice_set, subst}
+use Rattle.std.specs.Prelude.{slice_get, Option, Some}
 use Rattle.dnp_objects.specs.declared.row.Row.{Row}
 use Rattle.dnp_pointdb.specs.Database.{answer_of}
 use Rattle.dnp_world.specs.SystemParts.{system_of, substation_of}
+use Rattle.dnp_world.specs.SystemRuns.{takes_reading}
+use Rattle.dnp_world.specs.Systems.{SubstationState}
 use Rattle.dnp_world.proofs.OneLinkRuns.{any_err}
 use Rattle.dnp_world.proofs.SystemPlaces.{is_there, there, unchanged_at}
 use Rattle.dnp_world.proofs.SystemReadings.{reads_at}
@@ -22,6 +24,19 @@ returns-in_err-change-clause-stopped g c = λ well.
     }) c.in_err-change.ensures.unlisted
     ∙ unchanged_at old xs c.args.station c.from.result c.index_mut-substation.result.now c.change.new.self refl c.from.ensures planned
     c.index_mut-substation.ensures.value c.in_err-change.ensures.stopped))
+
+pub returns-in_err-change-clause-named : goal.returns-in_err-change-clause-named
+returns-in_err-change-clause-named g c =
+    let planned = rw (← c.self.view_is) at c.requires in
+    let old = system_of g.Q.Lanes.contents g.J.JournalStore.archive g.A.Book.contents g.B.Book.contents c.self.inside in
+    let xs = c.self.inside.substations.items in
+    let was = c.index_mut-substation.result.now in
+    rw (← c.self.view_is)
+    (any_err c.from_residual.result _
+    (subst (λ (o : Option SubstationState). takes_reading o c.args.kind c.args.index c.args.reading ≡ true)
+    (sym (subst (λ (n : ℕ). slice_get (map substation_of xs) n ≡ Some (substation_of was)) c.from.ensures
+    (there substation_of xs c.from.result was was (rw c.from.ensures (is_there old xs c.args.station refl planned)) c.index_mut-substation.ensures.value)))
+    c.in_err-change.ensures.named))
 
 pub returns-clause-done : goal.returns-clause-done
 returns-clause-done g c = λ well.

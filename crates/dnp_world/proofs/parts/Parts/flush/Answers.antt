@@ -27,7 +27,7 @@ returns-in_err-happen_by-clause-stopped g c = λ well.
     any_err c.from_residual.result (StopsFlushing on way old new) (
       c.loop.counter,
       stops_delivering old mid new c.loop.counter (standing_on old on way) on way more
-          (c.loop.invariant.ran (c.happen_by.ensures.held well)) (c.in_err-happen_by.ensures.stopped well),
+          (c.loop.invariant.ran (c.happen_by.ensures.held well)) c.in_err-happen_by.ensures.named (c.in_err-happen_by.ensures.stopped well),
     )
 
 pub returns-clause-done : goal.returns-clause-done

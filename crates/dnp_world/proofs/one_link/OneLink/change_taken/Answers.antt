@@ -11,7 +11,7 @@ use Rattle.dnp_world.specs.Channels.{AreSent, state_of}
 use Rattle.dnp_world.specs.OneLinkParts.{link_of}
 use Rattle.dnp_world.proofs.OneLinkLists.{extended}
 use Rattle.dnp_world.proofs.OneLinkSteps.{changes}
-use Rattle.dnp_world.proofs.one_link.OneLink.change.Goals as goal
+use Rattle.dnp_world.proofs.one_link.OneLink.change_taken.Goals as goal
 
 pub returns-in-Ok-clause-done : goal.returns-in-Ok-clause-done
 returns-in-Ok-clause-done g c = λ honest.

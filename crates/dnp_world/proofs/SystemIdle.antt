@@ -1,0 +1,110 @@
+-- What comes over a line that nothing stands on.
+use Rattle.std.proofs.Common.{◌≡◌, ℕ, zero, suc, ◌<◌, Bool, true, List, [], ◌∷◌, ◌++◌, length, drop, Option, Some, None, refl, sym, ap, ◌∙◌, subst, append-nil, slice_set, arith}
+use Rattle.std.specs.Prelude.{if◌then◌else◌, nat_lt, slice_get}
+use Rattle.std.proofs.lemmas.Bool.Decides.{nat_tests}
+use Rattle.std.proofs.lemmas.List.{drop_all}
+use Rattle.dnp_objects.specs.declared.command.Command.{Command}
+use Rattle.dnp_objects.specs.declared.row.Row.{Row}
+use Rattle.dnp_line.specs.Lines.{LineState, front_of}
+use Rattle.dnp_world.specs.Channels.{ChannelState, left_by}
+use Rattle.dnp_world.specs.SystemEvents.{ComesDownBelow, ComesOn, IsHeardUp}
+use Rattle.dnp_world.specs.Systems.{SubstationState, System, at_station, front_at, front_on, has_link, has_station}
+use Rattle.dnp_world.specs.declared.event.Link.{Link}
+use Rattle.dnp_world.specs.declared.event.Link.TheVariants.{Above, Below}
+use Rattle.dnp_world.specs.declared.link_event.Way.{Way}
+use Rattle.dnp_world.specs.declared.link_event.Way.TheVariants.{Down, Up}
+use Rattle.dnp_world.proofs.IdleLines.{idle_line, idle_port}
+use Rattle.dnp_world.proofs.SystemPlaces.{both_first}
+
+-- ---- the line up
+
+idle_up : (repeats : Bool) (c : ChannelState) → front_of c.up ≡ None → IsHeardUp (left_by repeats) [] c c
+idle_up repeats c none = record {
+  heard = idle_port c.up c.master_port none;
+  after = sym (ap (λ (l : LineState). record c { up = l }) (idle_line repeats c.up none));
+}
+
+-- ---- a substation
+
+pub member : (xs : List SubstationState) (i : ℕ) → i < length xs → (s : SubstationState) × (slice_get xs i ≡ Some s)
+member [] i low = absurd (omega (arith, low))
+member (x ∷ xs) zero low = (x, refl)
+member (x ∷ xs) (suc i) low = member xs i (omega (arith, low))
+
+same_at : (xs : List SubstationState) (i : ℕ) (s : SubstationState) → slice_get xs i ≡ Some s → slice_set xs i s ≡ xs
+same_at [] i s is = refl
+same_at (x ∷ xs) zero s is = ap (λ (o : Option SubstationState). elim o as (λ _. List SubstationState) [ None ↦ x ∷ xs | Some y ↦ y ∷ xs ]) (sym is)
+same_at (x ∷ xs) (suc i) s is = ap (λ (ys : List SubstationState). x ∷ ys) (same_at xs i s is)
+
+pub same_system : (s : System) (station : ℕ) (was : SubstationState) → slice_get s.substations station ≡ Some was
+    → s ≡ record s { substations = slice_set s.substations station was }
+same_system s station was is = ap (λ (xs : List SubstationState). record s { substations = xs }) (sym (same_at s.substations station was is))
+
+idle_below_down : (repeats : Bool) (station : ℕ) (s : System) (was : SubstationState) → slice_get s.substations station ≡ Some was
+    → front_of was.channel.down ≡ None → ComesDownBelow (left_by repeats) station s s
+idle_below_down repeats station s was is none =
+    let performed : List Command = was.outputs.performed in
+    let listed : List (ℕ × Command) = at_station station (drop (length performed) performed) in
+    record {
+      released = [];
+      came = record {
+        was = was;
+        is = was;
+        there = is;
+        changed = record {
+          port = was.channel.outstation_port;
+          given = [];
+          heard = idle_port was.channel.down was.channel.outstation_port none;
+          came = (refl, sym (ap (λ (l : LineState). record was { channel = record was.channel { down = l } }) (idle_line repeats was.channel.down none)));
+        };
+        after = same_system s station was is
+            ∙ sym (
+            ap (λ (rows : List (ℕ × Row)). record s {
+              substations = slice_set s.substations station was;
+              history = record s.history { confirmed = rows; operated = s.history.operated ++ listed };
+            }) (append-nil s.history.confirmed)
+            ∙ ap (λ (commands : List Command). record s {
+              substations = slice_set s.substations station was;
+              history = record s.history { operated = s.history.operated ++ at_station station commands };
+            }) (drop_all (length performed) performed (omega arith))
+            ∙ ap (λ (commands : List (ℕ × Command)). record s {
+              substations = slice_set s.substations station was;
+              history = record s.history { operated = commands };
+            }) (append-nil s.history.operated)
+            );
+      };
+    }
+
+idle_below : (repeats : Bool) (way : Way) (station : ℕ) (s : System) (was : SubstationState) → slice_get s.substations station ≡ Some was
+    → front_at way (Some was) ≡ None → ComesOn (left_by repeats) (Below station) way s s
+idle_below repeats Down station s was is none = idle_below_down repeats station s was is none
+idle_below repeats Up station s was is none = record {
+  given = [];
+  between = s;
+  heard = record { was = was; is = was; there = is; changed = (idle_up repeats was.channel none, refl); after = same_system s station was is };
+  came = refl;
+}
+
+-- ---- a link
+
+pub is_under : (s : System) (station : ℕ) → has_station s station ≡ true → station < length s.substations
+is_under s station has =
+    let low : nat_lt station (length s.substations) ≡ true = both_first (nat_lt station (length s.substations)) (nat_lt station (length s.concentrator.links)) has in
+    grind (arith, nat_tests, low)
+
+pub comes_idle : (repeats : Bool) (on : Link) (way : Way) (s : System) → has_link s on ≡ true → front_on s on way ≡ None
+    → ComesOn (left_by repeats) on way s s
+comes_idle repeats (Below station) way s has none =
+    let low : station < length s.substations = is_under s station has in
+    let found = member s.substations station low in
+    idle_below repeats way station s found.0 found.1
+    (subst (λ (o : Option SubstationState). front_at way o ≡ None) found.1
+    (subst (λ (b : Bool). (if b then front_at way (slice_get s.substations station) else None) ≡ None) has none))
+comes_idle repeats Above Down s has none = record {
+  port = s.above.outstation_port;
+  given = [];
+  heard = idle_port s.above.down s.above.outstation_port none;
+  came = sym (ap (λ (l : LineState). record s { above = record s.above { down = l } }) (idle_line repeats s.above.down none));
+}
+comes_idle repeats Above Up s has none =
+    record { given = []; between = s; heard = (idle_up repeats s.above none, refl); came = refl }

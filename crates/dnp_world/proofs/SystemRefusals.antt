@@ -1,0 +1,81 @@
+-- What a master refuses, and where it waits, as it is looked at before anything is asked.
+use Rattle.std.proofs.Common.{◌≡◌, ℕ, Bool, true, false, List, [], Result, Ok, Err, refl, sym, ap, ◌∙◌, subst}
+use Rattle.std.specs.Prelude.{if◌then◌else◌, is_ok}
+use Rattle.std.proofs.lemmas.Bool.{false≢true}
+use Rattle.std.proofs.lemmas.List.{set-get_or}
+use Rattle.dnp_concentrator.specs.Below.{no_link}
+use Rattle.dnp_concentrator.specs.Relaying.{Relaying, Step, Waits, relaying_after, step_by}
+use Rattle.dnp_controls.specs.Book.{Has, is_pending}
+use Rattle.dnp_master.specs.Calls.{ask_answer, asked_by}
+use Rattle.dnp_master.specs.State.{is_idle}
+use Rattle.dnp_master.specs.declared.fault.AskFault.{AskFault}
+use Rattle.dnp_master.specs.declared.task.Task.{Task}
+use Rattle.dnp_world.specs.Channels.{ChannelState, GoDown}
+use Rattle.dnp_world.specs.SystemEvents.{AsksOn, IfOperates, LinesChange, RelaysOn, SendsDown, Steps, entries_on, relaying_at, request_of, requests_of, step_on, told, with_relaying}
+use Rattle.dnp_world.specs.Systems.{System, has_link, link_at}
+use Rattle.dnp_world.specs.declared.event.Link.{Link}
+use Rattle.dnp_world.specs.declared.event.Link.TheVariants.{Above, Below}
+use Rattle.dnp_world.proofs.SystemIdle.{is_under, member, same_system}
+
+-- ---- a task
+
+-- nothing goes down, and the master stays
+none_down : (c : ChannelState) → GoDown [] c c
+none_down c = record { sent = (refl, refl); after = refl }
+
+still : (on : Link) (s : System) → has_link s on ≡ true → SendsDown on [] (relaying_at s on) s s
+still Above s has = (none_down s.above, refl)
+still (Below station) s has =
+    let found = member s.substations station (is_under s station has) in
+    let same : with_relaying s (Below station) (relaying_at s (Below station)) ≡ s =
+    ap (λ (links : List Relaying). record s { concentrator = record s.concentrator { links = links } }) (set-get_or s.concentrator.links station no_link) in
+    subst (λ (first : System). LinesChange (Below station) (GoDown []) first s) (sym same)
+    (record {
+      was = found.0;
+      is = found.0;
+      there = found.1;
+      changed = (none_down found.0.channel, refl);
+      after = same_system s station found.0 found.1;
+    })
+
+sends_nothing : (on : Link) (task : Task) (s : System) → has_link s on ≡ true → (answer : Result (List ℕ) AskFault) → is_ok answer ≡ false
+    → SendsDown on (request_of answer) (record (relaying_at s on) { master = asked_by (relaying_at s on).master s.now task answer }) s s
+sends_nothing on task s has (Ok octets) none = absurd (false≢true (sym none))
+sends_nothing on task s has (Err fault) none = still on s has
+
+-- a task that the master doesn't ask does nothing
+pub asks_nothing : (own answer : Bool) (on : Link) (task : Task) (s : System) → has_link s on ≡ true
+    → (own ≡ true → answer ≡ is_ok (ask_answer (relaying_at s on).master task)) → answer ≡ false → AsksOn own on task s s
+asks_nothing false answer on task s has answers none = refl
+asks_nothing true answer on task s has answers none =
+    sends_nothing on task s has (ask_answer (relaying_at s on).master task) (sym (answers refl) ∙ none)
+
+-- ---- a step of relaying
+
+told_none : (on : Link) (s : System) → told s on Waits ≡ s
+told_none Above s = refl
+told_none (Below station) s = refl
+
+waits_by : (on : Link) (s : System) → has_link s on ≡ true → (step : Step) → step ≡ Waits
+    → IfOperates step (λ id. Has (entries_on s on) id is_pending)
+    × SendsDown on (requests_of step (relaying_at s on).master.seq) (relaying_after (relaying_at s on) s.now step) (told s on step) s
+waits_by on s has step is =
+    subst
+    (λ (its : Step). IfOperates its (λ id. Has (entries_on s on) id is_pending)
+    × SendsDown on (requests_of its (relaying_at s on).master.seq) (relaying_after (relaying_at s on) s.now its) (told s on its) s)
+    (sym is)
+    (tt, subst (λ (first : System). SendsDown on [] (relaying_at s on) first s) (sym (told_none on s)) (still on s has))
+
+-- a master that isn't idle waits
+step_waits : (on : Link) (s : System) → is_idle (relaying_at s on).master ≡ false → step_on s on ≡ Waits
+step_waits (Below station) s busy =
+    let r : Relaying = link_at s.concentrator station in
+    ap (λ (idle : Bool). if idle then step_by r.progress r.master.selected s.concentrator.controls.entries station else Waits) busy
+step_waits Above s busy =
+    let r : Relaying = s.centre.link in
+    ap (λ (idle : Bool). if idle then step_by r.progress r.master.selected s.centre.orders.entries 0 else Waits) busy
+
+pub waits : (on : Link) (s : System) → has_link s on ≡ true → is_idle (relaying_at s on).master ≡ false → RelaysOn on s s
+waits on s has busy =
+    let steps = waits_by on s has (step_on s on) (step_waits on s busy) in
+    Steps steps.0 steps.1
