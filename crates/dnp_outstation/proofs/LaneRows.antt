@@ -54,6 +54,11 @@ abbrev pub IsOnce : ℕ → List ℕ → Type 0
 IsOnce lane [] = Unit {0}
 IsOnce lane (number ∷ numbers) = (number ≡ lane → IsApart lane numbers) × IsOnce lane numbers
 
+-- each of these numbers is below one
+abbrev pub AreLow : ℕ → List ℕ → Type 0
+AreLow n [] = Unit {0}
+AreLow n (number ∷ numbers) = (number < n) × AreLow n numbers
+
 starts_most : {A : Type 0} (most : Option ℕ) (xs : List A) → Starts (at_most most xs) xs
 starts_most None xs = starts_all xs
 starts_most (Some n) xs = record { rest = drop n xs; is = sym (take-append-drop n xs) }
@@ -144,6 +149,14 @@ last_given given (x ∷ xs) lane low =
 
 -- ---- all items of a READ
 
+abbrev pub HasLow : ℕ → Part → Type 0
+HasLow n (RowsOf lanes most) = AreLow n lanes
+HasLow n (StaticsOf statics) = Unit {0}
+
+abbrev pub AllLow : ℕ → List Part → Type 0
+AllLow n [] = Unit {0}
+AllLow n (part ∷ parts) = HasLow n part × AllLow n parts
+
 abbrev pub HasOnce : ℕ → Part → Type 0
 HasOnce lane (RowsOf lanes most) = IsOnce lane lanes
 HasOnce lane (StaticsOf statics) = Unit {0}
@@ -152,7 +165,7 @@ abbrev pub AllOnce : ℕ → List Part → Type 0
 AllOnce lane [] = Unit {0}
 AllOnce lane (part ∷ parts) = HasOnce lane part × AllOnce lane parts
 
-part_rows : (s : Source) (stood : ℕ) (given : List ℕ) (header : ℕ) (part : Part) (lane : ℕ) → HasOnce lane part
+pub part_rows : (s : Source) (stood : ℕ) (given : List ℕ) (header : ℕ) (part : Part) (lane : ℕ) → HasOnce lane part
     → Starts (rows_in_lane lane (part_items s stood given header part)) (rows_left s.lanes stood given lane)
 part_rows s stood given header (RowsOf lanes most) lane once = event_rows s.lanes stood given header most lanes lane once
 part_rows s stood given header (StaticsOf statics) lane once =
@@ -186,7 +199,7 @@ filter_swap p q (x ∷ xs) = by (p x) (q x) refl refl (filter_swap p q xs)
     by a b pa qb same = left (q x) ∙ middle (p x) (q x) same ∙ sym (right (p x))
 
 -- a beginning of the rows left is given: what is left then stands after it
-left_behind : (s : Stock) (stood : ℕ) (given given' : List ℕ) (lane : ℕ) (xs rest : List Numbered) → Rising 0 (lane_at s lane).rows
+pub left_behind : (s : Stock) (stood : ℕ) (given given' : List ℕ) (lane : ℕ) (xs rest : List Numbered) → Rising 0 (lane_at s lane).rows
     → slice_index given' lane ≡ last_or (slice_index given lane) xs → rows_left s stood given lane ≡ xs ++ rest → rows_left s stood given' lane ≡ rest
 left_behind s stood given given' lane xs rest rising last is =
     let rows = (lane_at s lane).rows in

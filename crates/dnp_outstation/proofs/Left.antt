@@ -26,7 +26,7 @@ All-first P xs ys all = λ k d low. subst P (get_or_append_left xs ys d k low) (
 
 -- ---- the rows of a fragment, in order
 
-given_rise : (s : Stock) (stood : ℕ) (given : List ℕ) (lane : ℕ) → IsSound s → lane < LANES → Rising (slice_index given lane) (rows_left s stood given lane)
+pub given_rise : (s : Stock) (stood : ℕ) (given : List ℕ) (lane : ℕ) → IsSound s → lane < LANES → Rising (slice_index given lane) (rows_left s stood given lane)
 given_rise s stood given lane sound low =
     let rows = (lane_at s lane).rows in
     let id = slice_index given lane in
@@ -77,12 +77,12 @@ all_upto_last : (low : ℕ) (xs : List Numbered) → Rising low xs → All (λ x
 all_upto_last low [] rising = All-nil (λ (x : Numbered). x.id ≤ low)
 all_upto_last low (x ∷ xs) rising = All-cons (λ (y : Numbered). y.id ≤ last_or x.id xs) x xs (last_is_over x.id xs rising.1) (all_upto_last x.id xs rising.1)
 
-chosen : {A : Type 0} (b : Bool) (x y : A) → (if b then None else Some x) ≡ Some y → x ≡ y
+pub chosen : {A : Type 0} (b : Bool) (x y : A) → (if b then None else Some x) ≡ Some y → x ≡ y
 chosen true x y is = cc
 chosen false x y is = cc
 
 -- the last id given in a lane after a fragment
-given_is : (s : Source) (stood : ℕ) (place next : Place) (headers : List Head) (lane : ℕ) → length place.given ≡ LANES → lane < LANES
+pub given_is : (s : Source) (stood : ℕ) (place next : Place) (headers : List Head) (lane : ℕ) → length place.given ≡ LANES → lane < LANES
     → (offered s stood place headers).left ≡ Some next
     → slice_index next.given lane ≡ last_or (slice_index place.given lane) (rows_in_lane lane (held_of (items_left s stood place headers)))
 unfolding offered_of
@@ -93,7 +93,7 @@ given_is s stood place next headers lane nine low is =
     ∙ ap (λ (ids : List ℕ). slice_index ids lane) (place_given place held)
     ∙ last_given place.given held lane (omega arith)
 
-nine_after : (s : Source) (stood : ℕ) (place next : Place) (headers : List Head) → length place.given ≡ LANES → (offered s stood place headers).left ≡ Some next
+pub nine_after : (s : Source) (stood : ℕ) (place next : Place) (headers : List Head) → length place.given ≡ LANES → (offered s stood place headers).left ≡ Some next
     → length next.given ≡ LANES
 unfolding offered_of
 nine_after s stood place next headers nine is =
@@ -134,7 +134,7 @@ given_before given later stood items others reached onward next = λ lane low k 
 
 -- ---- what is left in the lanes of what was given
 
-from_first : (low low' : ℕ) (xs : List Numbered) → last_or low xs ≡ low ⊎ (last_or low xs ≡ last_or low' xs)
+pub from_first : (low low' : ℕ) (xs : List Numbered) → last_or low xs ≡ low ⊎ (last_or low xs ≡ last_or low' xs)
 from_first low low' [] = inl refl
 from_first low low' (x ∷ xs) = inr refl
 

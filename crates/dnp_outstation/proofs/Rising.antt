@@ -76,10 +76,10 @@ not_upto m n h = go (nat_le m n) (leb-true m n)
     go true less = absurd (let l : m ≤ n = less refl in omega arith)
     go false less = refl
 
-kept : (p : Numbered → Bool) (x : Numbered) (xs : List Numbered) → p x ≡ true → filter p (x ∷ xs) ≡ x ∷ filter p xs
+pub kept : (p : Numbered → Bool) (x : Numbered) (xs : List Numbered) → p x ≡ true → filter p (x ∷ xs) ≡ x ∷ filter p xs
 kept p x xs yes' = ap (λ (b : Bool). cond b (x ∷ filter p xs) (filter p xs)) yes'
 
-left_out : (p : Numbered → Bool) (x : Numbered) (xs : List Numbered) → p x ≡ false → filter p (x ∷ xs) ≡ filter p xs
+pub left_out : (p : Numbered → Bool) (x : Numbered) (xs : List Numbered) → p x ≡ false → filter p (x ∷ xs) ≡ filter p xs
 left_out p x xs no' = ap (λ (b : Bool). cond b (x ∷ filter p xs) (filter p xs)) no'
 
 -- all of them are over what they rise from

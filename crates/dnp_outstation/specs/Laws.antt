@@ -1,13 +1,16 @@
 -- Definition: words of the laws of a response: the longest beginning, and which rows of the lanes a fragment carries
 -- (IEEE Std 1815-2012, application layer: responses, confirms, event buffers).
-use Rattle.std.specs.Prelude.{◌≡◌, ℕ, ◌<◌, ◌≤◌, ◌==◌, Bool, true, false, if◌then◌else◌, nat_le, List, length, map, filter, take, slice_index, Option, None, Some, All, AllPairs}
+use Rattle.std.specs.Prelude.{◌≡◌, ℕ, ◌<◌, ◌≤◌, ◌==◌, ◌^◌, ⊤, Bool, true, false, if◌then◌else◌, nat_le, List, [], ◌∷◌, length, map, filter, take, slice_index, Option, None, Some, All, AllPairs}
 use Rattle.std.specs.List.{filter_map, flat_map, range_with_len}
 use Rattle.dnp_objects.specs.declared.limits.TheConstants.{LANES}
 use Rattle.dnp_objects.specs.declared.row.Row.{Row}
 use Rattle.dnp_eventbuf.specs.declared.numbered.Numbered.{Numbered}
 use Rattle.dnp_eventbuf.specs.Stock.{Stock, lane_at, row_of}
-use Rattle.dnp_outstation.specs.Items.{Thing, Item}
+use Rattle.dnp_appfragment.specs.Headers.{Head}
+use Rattle.dnp_outstation.specs.declared.offer.place.Place.{Place}
+use Rattle.dnp_outstation.specs.Items.{Source, Thing, Item, statics_of, items_left}
 use Rattle.dnp_outstation.specs.Items.Thing.{Event, Present}
+use Rattle.dnp_outstation.specs.Offer.{held_of, offered}
 
 -- ---- the longest beginning
 
@@ -65,6 +68,18 @@ AreGiven given items = (lane : ℕ) → lane < LANES → All (λ x. x.id ≤ sli
 abbrev pub AreBefore : List Item → List Item → Type 0
 AreBefore items others = (lane : ℕ) → lane < LANES
     → All (λ x. All (λ y. x.id < y.id) (rows_in_lane lane others)) (rows_in_lane lane items)
+
+-- of each group there are few present values: its indexes are numbers of two octets
+abbrev pub AreFewPresent : Source → Type 0
+AreFewPresent s = (group : ℕ) → length (statics_of s group) ≤ 2 ^ 16
+
+-- these are what the fragments of a response hold, one after the other, from a place on
+abbrev pub AreHeldFrom : Source → ℕ → List Head → Option Place → List (List Item) → Type 0
+AreHeldFrom s stood headers None [] = ⊤
+AreHeldFrom s stood headers None (held ∷ others) = ⊥
+AreHeldFrom s stood headers (Some place) [] = ⊥
+AreHeldFrom s stood headers (Some place) (held ∷ others) =
+    (held ≡ held_of (items_left s stood place headers)) × AreHeldFrom s stood headers (offered s stood place headers).left others
 
 -- ---- what stands in the lanes of what was given
 

@@ -22,6 +22,7 @@ pub mod laws;
 pub mod link_laws;
 mod moments;
 mod offer;
+pub mod offer_laws;
 mod outstation;
 mod outstation_core;
 pub mod poll_laws;
