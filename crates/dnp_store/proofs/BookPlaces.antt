@@ -1,11 +1,18 @@
 -- Entries by their places, and what is so of the entries of a book at all times.
-use Rattle.std.proofs.Common.{◌≡◌, ℕ, zero, suc, ◌<◌, ◌≤◌, ◌==◌, List, [], ◌∷◌, set, get_or, length, Option, None, Some, Bool, true, false, cond, refl, sym, ap, subst, ◌∙◌, arith}
-use Rattle.std.specs.Prelude.{IsSome, option_map}
+use Rattle.std.proofs.Common.{◌≡◌, ◌≢◌, ℕ, zero, suc, ◌+◌, ◌<◌, ◌≤◌, ◌==◌, nat_le, nat_lt, List, [], ◌∷◌, ◌++◌, set, get_or, length, drop, filter, take, Option, None, Some, Bool, true, false, cond, inl, inr, refl, sym, ap, subst, ◌∙◌, arith, length-append, length-drop}
+use Rattle.std.specs.Prelude.{All, IsSome, option_map}
 use Rattle.std.specs.List.{AllByRecursion}
+use Rattle.std.specs.List.Sorted.{IsNonDecreasingBy, IsPartitionPoint}
+use Rattle.std.proofs.lemmas.Bool.{cases_lt}
+use Rattle.std.proofs.lemmas.Bool.Decides.{nat_tests}
+use Rattle.std.proofs.lemmas.List.{length-map, take-append-le}
 use Rattle.std.proofs.lemmas.List.Elements.{recursion_from_All}
 use Rattle.dnp_controls.specs.declared.book.Entry.{Entry}
 use Rattle.dnp_controls.specs.declared.book.State.{State as Control}
-use Rattle.dnp_controls.specs.Book.{Ledger, IsSound, entry_of, in_state}
+use Rattle.dnp_controls.specs.Book.{Ledger, IsSound, entry_of, in_state, is_pending}
+use Rattle.dnp_controls.proofs.Numbered.{past-more, past-in_state}
+use Rattle.dnp_eventbuf.proofs.InOrder.{drop-passes}
+use Rattle.dnp_store.specs.BookKept.{IsPast}
 use Rattle.dnp_store.proofs.Tests.{is_same, is_other}
 use Rattle.dnp_store.proofs.BookUpdates.{Rising, first_low, rest_rise, same_over, in_its_state}
 use Rattle.dnp_store.proofs.BookHolding.{named, some_is}
@@ -44,3 +51,94 @@ there_of es id r is some = go (entry_of es id) (subst IsSome is some)
     go : (o : Option Entry) → IsSome (option_map (λ (e : Entry). e.state) o) → IsSome o
     go None h = absurd cc
     go (Some e) h = refl
+
+-- ---- an id and its place
+
+pub entry_at : (es : List Entry) (place : ℕ) (d : Entry) (id : ℕ) → Rising es → place < length es → (get_or es place d).id ≡ id
+    → entry_of es id ≡ Some (get_or es place d)
+entry_at [] place d id rise low is = absurd (omega arith)
+entry_at (e ∷ es) zero d id rise low is = rw (ap (λ (n : ℕ). n == id) is ∙ is_same id) refl
+entry_at (e ∷ es) (suc k) d id rise low is =
+    let less : e.id < (get_or es k d).id = rise 0 (suc k) d (omega arith) (omega arith) in
+    rw (is_other e.id id (λ same. absurd (omega arith))) (entry_at es k d id (rest_rise e es rise) (omega arith) is)
+
+none_named : (es : List Entry) (id : ℕ) → ((k : ℕ) (d : Entry) → k < length es → (get_or es k d).id ≢ id) → entry_of es id ≡ None
+none_named [] id other = refl
+none_named (e ∷ es) id other =
+    rw (is_other e.id id (other 0 e (omega arith))) (none_named es id (λ k d low. other (suc k) d (omega arith)))
+
+below : (m n : ℕ) → nat_lt m n ≡ true → m < n
+below m n h = grind (h, arith, nat_tests)
+
+not_below : (m n : ℕ) → nat_lt m n ≡ false → n ≤ m
+not_below m n h = grind (h, arith, nat_tests)
+
+-- where the entries with lesser ids end, the first of the others alone can have the id
+pub none_there : (es : List Entry) (id k : ℕ) → Rising es
+    → IsPartitionPoint (λ (e : Entry). nat_lt e.id id ≡ true) (λ (e : Entry). nat_lt e.id id ≡ false) es k
+    → ((d : Entry) → k < length es → (get_or es k d).id ≢ id) → entry_of es id ≡ None
+none_there es id k rise split other =
+    none_named es id (λ j d low same. elim (cases_lt j k) [
+      | inl before ↦ (let less = below (get_or es j d).id id (split.0 j d (omega arith) before) in absurd (omega arith))
+      | inr from ↦ elim (cases_lt k j) [
+        | inl past ↦ (let less = rise k j d past low in let more = not_below (get_or es k d).id id (split.1 k d (omega arith) (omega arith)) in absurd (omega arith))
+        | inr up ↦ (let here : j ≡ k = omega arith in other d (omega arith) (ap (λ (n : ℕ). (get_or es n d).id) (sym here) ∙ same))
+      ]
+    ])
+
+pub unset : (es : List Entry) (id : ℕ) (s : Control) → entry_of es id ≡ None → in_state es id s ≡ es
+unset [] id s none = refl
+unset (e ∷ es) id s none = go (e.id == id) (unset es id s) none
+  where
+    go : (b : Bool) → (entry_of es id ≡ None → in_state es id s ≡ es) → cond b (Some e) (entry_of es id) ≡ None
+        → cond b (in_its_state e s) e ∷ in_state es id s ≡ e ∷ es
+    go true more is = absurd cc
+    go false more is = ap (λ (xs : List Entry). e ∷ xs) (more is)
+
+-- ---- those with ids over a number
+
+pub no_fall : (es : List Entry) → Rising es → IsNonDecreasingBy (λ (e : Entry). e.id) es
+no_fall es rise i j d le low =
+    elim (cases_lt i j) [
+      | inl before ↦ (let less = rise i j d before low in omega arith)
+      | inr same ↦ (let e : i ≡ j = omega arith in let f : (get_or es i d).id ≡ (get_or es j d).id = ap (λ (n : ℕ). (get_or es n d).id) e in omega arith)
+    ]
+
+not_over : (from : ℕ) (e : Entry) → nat_le e.id from ≡ true → nat_lt from e.id ≡ false
+not_over from e h = grind (arith, nat_tests)
+
+is_over : (from : ℕ) (e : Entry) → nat_le e.id from ≡ false → nat_lt from e.id ≡ true
+is_over from e h = grind (arith, nat_tests)
+
+pub over_kept : (es : List Entry) (from k : ℕ) → IsPartitionPoint (λ (e : Entry). nat_le e.id from ≡ true) (λ (e : Entry). nat_le e.id from ≡ false) es k
+    → drop k es ≡ filter (λ (e : Entry). nat_lt from e.id) es
+over_kept es from k split =
+    drop-passes (λ (e : Entry). nat_lt from e.id) es k (λ j d low len. not_over from (get_or es j d) (split.0 j d (omega arith) low))
+    (λ j d more len. is_over from (get_or es j d) (split.1 j d more len))
+
+-- ---- those that are past pending
+
+pub past_none : (es : List Entry) → IsPast es 0
+past_none es = record { within = omega arith; none = λ k d low. absurd (omega arith) }
+
+pub past_push : (es : List Entry) (first : ℕ) (e : Entry) → IsPast es first → IsPast (es ++ e ∷ []) first
+past_push es first e h = record {
+  within = (let within = h.within in omega (arith, length-append es (e ∷ [])));
+  none = subst (λ (xs : List Entry). All (λ (x : Entry). is_pending x.state ≡ false) xs) (sym (take-append-le first es (e ∷ []) h.within)) h.none;
+}
+
+pub past_turned : (es : List Entry) (first id : ℕ) (s : Control) → is_pending s ≡ false → IsPast es first → IsPast (in_state es id s) first
+past_turned es first id s done h = record {
+  within = (let within = h.within in omega (
+    arith,
+    length-map es (λ (e : Entry). cond (e.id == id) (in_its_state e s) e),
+  ));
+  none = past-in_state es first id s done h.none;
+}
+
+pub past_on : (es : List Entry) (first more : ℕ) → IsPast es first → more ≤ length (drop first es)
+    → All (λ (x : Entry). is_pending x.state ≡ false) (take more (drop first es)) → IsPast es (first + more)
+past_on es first more h low then = record {
+  within = (let within = h.within in omega (arith, length-drop first es));
+  none = past-more es first more h.none then;
+}

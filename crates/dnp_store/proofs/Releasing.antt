@@ -1,8 +1,9 @@
 -- A release, lane by lane.
 use Rattle.std.proofs.Common.{◌≡◌, ◌≢◌, inl, inr, ℕ, zero, suc, ◌<◌, ◌≤◌, ◌||◌, ◌&&◌, not, nat_lt, min, Bool, true, false, cond, List, [], ◌∷◌, length, set, get_or, filter, refl, sym, ap, ap₂, subst, ◌∙◌, arith}
-use Rattle.std.specs.Prelude.{slice_index_or}
+use Rattle.std.specs.Prelude.{AllPairs, Option, Some, None, nat_le, option_map, slice_get, slice_index_or, ◌++◌}
 use Rattle.std.specs.List.{AllByRecursion}
 use Rattle.std.proofs.lemmas.Bool.{cases_eq, cases_lt}
+use Rattle.std.proofs.lemmas.Bool.Decides.{Decides-ltb}
 use Rattle.std.proofs.lemmas.List.{get_or-set_same, get_or-set_other}
 use Rattle.std.proofs.Math.ListN.{get_or-map}
 use Rattle.std.proofs.lemmas.List.Elements.{recursion_from_All}
@@ -10,6 +11,7 @@ use Rattle.sqlite.specs.Effect.{Database}
 use Rattle.sqlite.specs.Tree.{Trees}
 use Rattle.dnp_objects.specs.declared.limits.TheConstants.{LANES, MAX_ID}
 use Rattle.dnp_eventbuf.specs.declared.numbered.Numbered.{Numbered}
+use Rattle.dnp_eventbuf.specs.Latest.{numbered_for}
 use Rattle.dnp_eventbuf.specs.Sound.{IsSound}
 use Rattle.dnp_eventbuf.specs.Stock.{LaneState, Stock, lane_at, no_lane, above, emptied, without, without_all, lanes_above}
 use Rattle.dnp_store.specs.QueueTables.{Figures, no_figures, HoldsQueue, HoldsStock, IsQueue, is_raised}
@@ -42,6 +44,43 @@ same_above u m (x ∷ xs) all = ap₂ (λ b (l : List Numbered). cond b (x ∷ l
 weaker : (m n : ℕ) (xs : List Numbered) → m ≤ n → AllByRecursion (λ x. x.id ≤ m) xs → AllByRecursion (λ x. x.id ≤ n) xs
 weaker m n [] low all = tt
 weaker m n (x ∷ xs) low all = let first = all.0 in (omega arith, weaker m n xs low all.1)
+
+-- ---- a lane whose rows are all over a number
+
+keeps_all : (u : ℕ) (xs : List Numbered) → AllByRecursion (λ x. u < x.id) xs → filter (λ x. nat_lt u x.id) xs ≡ xs
+keeps_all u [] all = refl
+keeps_all u (x ∷ xs) all =
+    let less : nat_lt u x.id ≡ true = (Decides-ltb u x.id).1 all.0 in
+    ap₂ (λ b (l : List Numbered). cond b (x ∷ l) l) less (keeps_all u xs all.1)
+
+-- the first id, if there is one, is over the number
+abbrev pub IsOver : ℕ → Option ℕ → Type 0
+IsOver u first = (n : ℕ) → first ≡ Some n → u < n
+
+pub some_over : (u n : ℕ) (first : Option ℕ) → first ≡ Some n → nat_le n u ≡ false → IsOver u first
+some_over u n first is not_up m at =
+    let same : n ≡ m = some_is n m (sym is ∙ at) in
+    let less : u < n = grind (not_up, arith) in omega arith
+  where
+    some_is : (a b : ℕ) → ◌≡◌ {A = Option ℕ} (Some a) (Some b) → a ≡ b
+    some_is a b h = cc
+
+pub none_over : (u : ℕ) (first : Option ℕ) → first ≡ None → IsOver u first
+none_over u first is m at = absurd cc
+
+pub over_all : (s : Stock) (number upto : ℕ) (first : Option ℕ) → IsSound s → number < LANES
+    → first ≡ option_map (λ (x : Numbered). x.id) (slice_get ((lane_at s number).rows ++ numbered_for number s.last_id []) 0) → IsOver upto first
+    → above upto (lane_at s number) ≡ lane_at s number
+over_all s number upto first sound low is over =
+    ap (λ (rows : List Numbered). record (lane_at s number) { rows = rows }) (go (lane_at s number).rows (sound.each number low).rising is)
+  where
+    go : (xs : List Numbered) → AllPairs (λ (x y : Numbered). x.id < y.id) xs → first ≡ option_map (λ (x : Numbered). x.id) (slice_get (xs ++ []) 0)
+        → filter (λ x. nat_lt upto x.id) xs ≡ xs
+    go [] rise at = refl
+    go (x ∷ xs) rise at =
+        let less : upto < x.id = over x.id at in
+        let more = recursion_from_All (λ (y : Numbered). upto < y.id) xs (λ i d i_low. let next : x.id < (get_or xs i d).id = rise 0 (suc i) d (omega arith) (omega arith) in omega arith) in
+        keeps_all upto (x ∷ xs) (less, more)
 
 -- what the law of a release says of each lane
 abbrev pub LaneByLane : Type 0

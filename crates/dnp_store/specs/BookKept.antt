@@ -1,10 +1,10 @@
 -- Definition: a book of controls, whose entries stand in memory and in a database.
-use Rattle.std.specs.Prelude.{◌≡◌, ◌≤◌, ◌⊎◌, ℕ, List, Bool, false, IsTrue, refl}
+use Rattle.std.specs.Prelude.{◌≡◌, ◌≤◌, ◌⊎◌, ℕ, List, Bool, false, IsTrue, All, length, take, refl}
 use Rattle.std.specs.Coded.{Coded, code_by, coded×, coded_bool, coded_ℕ}
 use Rattle.dnp_objects.specs.declared.limits.TheConstants.{MAX_ID}
 use Rattle.dnp_controls.specs.contracts.plain_book.PlainBook as plain
 use Rattle.dnp_controls.specs.declared.book.Entry.{Entry}
-use Rattle.dnp_controls.specs.Book.{Ledger, IsSound}
+use Rattle.dnp_controls.specs.Book.{Ledger, IsSound, is_pending}
 use Rattle.sqlite_trees.specs.declared.store.Store.{Ghosts}
 use Rattle.sqlite.specs.Tree.{Trees}
 use Rattle.sqlite.specs.State.{State, HasCleanDisk}
@@ -30,10 +30,16 @@ pub record Stands (s : State) (book : Ledger) : Type 0 where
   pub is_open : IsTrue s.is_open
   pub holds : IsBook s.committed book
 
+-- no entry before this place is pending
+pub record IsPast (entries : List Entry) (first : ℕ) : Type 0 where
+  pub within : first ≤ length entries
+  pub none : All (λ entry. is_pending entry.state ≡ false) (take first entries)
+
 -- what is so of a book at all times
-pub record Keeps {S : Type 0} (g : Ghosts S) (conn : Held S) (ledger : Ledger) (stopped owned : Bool) : Type 0 where
+pub record Keeps {S : Type 0} (g : Ghosts S) (conn : Held S) (ledger : Ledger) (first : ℕ) (stopped owned : Bool) : Type 0 where
   pub idle : conn.in_transaction ≡ false
   pub sound : IsSound ledger
+  pub past : IsPast ledger.entries first
   pub last_in_range : ledger.last_id ≤ MAX_ID
   pub stands : stopped ≡ false → IsTrue owned → HasCleanDisk (state g conn) → Stands (state g conn) ledger
 

@@ -7,7 +7,7 @@ ghost use Rattle.dnp_controls.specs.Book.{Has, added, entry_of, finished, is_fin
 ghost use Rattle.dnp_controls.specs.Calls.{IsBookCall};
 ghost use Rattle.dnp_store.specs.BookKept.{IsHonest, Leaves, LeavesEither};
 
-use crate::book_entries::{first_over, first_pending, set_state, state_of};
+use crate::book_entries::{count_past, first_over, first_pending, set_state, state_of};
 use crate::book_writing::{write_added, write_turned};
 use crate::fault::is_lost;
 use dnp_controls::laws::ids_go_on;
@@ -26,6 +26,8 @@ pub struct ControlBook<S: Alter> {
     pub(crate) entries: Vec<Entry>,
     /// The last id used.
     pub(crate) last_id: u64,
+    /// No entry before this place is pending, so the search for a pending one begins here.
+    pub(crate) first: usize,
     /// Whether the book has answered Device.
     pub(crate) stopped: bool,
     /// Whether the database had no other tables as the book began: what a statement means is known for no
@@ -42,7 +44,7 @@ impl<S: Alter> Model for ControlBook<S> {
 
     ghost view = { λ b. record { conn = b.conn; ledger = record { entries = b.entries.items; last_id = b.last_id }; stopped = b.stopped; owned = b.owned } };
 
-    ghost invariant = { λ b. Keeps S.Store b.conn (record { entries = b.entries.items; last_id = b.last_id }) b.stopped b.owned };
+    ghost invariant = { λ b. Keeps S.Store b.conn (record { entries = b.entries.items; last_id = b.last_id }) b.first b.stopped b.owned };
 }
 
 impl<S: Alter + Drop> Drop for ControlBook<S> {
@@ -52,6 +54,7 @@ impl<S: Alter + Drop> Drop for ControlBook<S> {
             conn: _,
             entries: _,
             last_id: _,
+            first: _,
             stopped: _,
             owned: _,
         } = self;
@@ -68,6 +71,7 @@ impl<S: Alter> ControlBook<S> {
             conn,
             entries: _,
             last_id: _,
+            first: _,
             stopped: _,
             owned: _,
         } = self;
@@ -152,7 +156,10 @@ impl<S: Alter> Book for ControlBook<S> {
         if self.stopped {
             return Err(BookFault::Device);
         }
-        Ok(first_pending(&self.entries, target))
+        let rest = self.entries.split_at(self.first).1;
+        let past = count_past(rest);
+        self.first += past;
+        Ok(first_pending(rest.split_at(past).1, target))
     }
 
     /// What a crash leaves at any exit holds the entries before or after, and after Ok those after.

@@ -53,6 +53,7 @@ impl<S: Alter> ControlBook<S> {
             conn,
             entries: Vec::new(alloc),
             last_id: 0,
+            first: 0,
             stopped: false,
             owned,
         })
@@ -94,6 +95,7 @@ impl<S: Alter> ControlBook<S> {
                     stopped: false,
                     owned,
                     last_id: found.last_id,
+                    first: 0,
                     entries,
                 })
             }

@@ -1,15 +1,15 @@
 //! What a release or an emptying writes of a queue, in one transaction.
 
-ghost use Rattle.std.specs.Prelude.{◌≡◌, ℕ, ◌<◌, false, IsTrue, OnOk, OnErr, List, length};
+ghost use Rattle.std.specs.Prelude.{◌≡◌, ℕ, ◌<◌, false, IsTrue, OnOk, OnErr, List, length, min, slice_index_or};
 ghost use Rattle.sqlite.specs.Held.{state};
 ghost use Rattle.sqlite.specs.State.{HasCleanDisk, Survives};
 ghost use Rattle.dnp_objects.specs.declared.limits.TheConstants as limits;
 ghost use Rattle.dnp_eventbuf.specs.Sound.{IsSound};
-ghost use Rattle.dnp_eventbuf.specs.Stock.{Stock, lane_at, without};
+ghost use Rattle.dnp_eventbuf.specs.Stock.{Stock, above, lane_at, without};
 ghost use Rattle.dnp_store.specs.steps.Inside.{IsInside, IsStep};
 ghost use Rattle.dnp_store.specs.Kept.{Stands};
 ghost use Rattle.dnp_store.specs.QueueTables.{Figures, HoldsQueue, HoldsStock, IsQueue, is_raised};
-ghost use Rattle.dnp_store.specs.steps.Steps.{left, released};
+ghost use Rattle.dnp_store.specs.steps.Steps.{cut, left, released};
 
 use crate::queue_statements::{note, take};
 use dnp_eventbuf::laws::a_release_is_lane_by_lane;
@@ -17,17 +17,56 @@ use dnp_eventbuf::{PlainLanes, Upto};
 use dnp_objects::{LANES, MAX_ID};
 use sqlite::{Alter, Connection, Error, Transaction};
 
-/// Takes the rows of each lane with ids up to its number out of the table.
-fn take_all<S: Alter>(tx: &mut Transaction<'_, S>, upto: &Upto) -> Result<(), Error>
+/// Whether a lane has rows with ids up to a number.
+fn has_up_to(lanes: &PlainLanes, number: usize, upto: u64) -> bool
+    requires number { number < limits.LANES }
+    requires sound { IsSound lanes.now }
+    ensures { result ≡ false → above upto (lane_at lanes.now number) ≡ lane_at lanes.now number }
+{
+    match lanes.id_at(number, &[], 0) {
+        Some(first) => first <= upto,
+        None => false,
+    }
+}
+
+/// Takes the rows of a lane with ids up to its number out of the table, where it has any: a statement costs
+/// the same for none as for one.
+fn take_some<S: Alter>(
+    tx: &mut Transaction<'_, S>,
+    lanes: &PlainLanes,
+    number: usize,
+    upto: &Upto,
+) -> Result<(), Error>
     requires inside { IsInside S.Store tx.old.conn }
+    requires number { number < limits.LANES }
+    requires sound { IsSound lanes.now }
     ensures step { IsStep S.Store tx.old.conn tx.new.conn result }
-    ensures taken { HasCleanDisk (state S.Store tx.new.conn.now) → OnOk result ((s : Stock) (figures : List Figures) → IsSound s
-        → HoldsQueue (state S.Store tx.old.conn.now).now s figures → HoldsQueue (state S.Store tx.new.conn.now).now (left s upto.now) figures) }
+    ensures taken { HasCleanDisk (state S.Store tx.new.conn.now) → OnOk result ((s : Stock) (figures : List Figures) → length s.lanes ≡ limits.LANES
+        → lane_at s number ≡ lane_at lanes.now number → HoldsQueue (state S.Store tx.old.conn.now).now s figures
+        → HoldsQueue (state S.Store tx.new.conn.now).now (cut s number (min (slice_index_or upto.now number 0) limits.MAX_ID)) figures) }
+{
+    if has_up_to(lanes, number, upto[number].min(MAX_ID)) {
+        take(tx, number, upto[number].min(MAX_ID))?;
+    }
+    Ok(())
+}
+
+/// Takes the rows of each lane with ids up to its number out of the table.
+fn take_all<S: Alter>(
+    tx: &mut Transaction<'_, S>,
+    lanes: &PlainLanes,
+    upto: &Upto,
+) -> Result<(), Error>
+    requires inside { IsInside S.Store tx.old.conn }
+    requires sound { IsSound lanes.now }
+    ensures step { IsStep S.Store tx.old.conn tx.new.conn result }
+    ensures taken { HasCleanDisk (state S.Store tx.new.conn.now) → OnOk result ((figures : List Figures)
+        → HoldsQueue (state S.Store tx.old.conn.now).now lanes.now figures → HoldsQueue (state S.Store tx.new.conn.now).now (left lanes.now upto.now) figures) }
 {
     // (a law, for the proof: it does nothing)
     a_release_is_lane_by_lane();
     for number in 0..LANES {
-        take(tx, number, upto[number].min(MAX_ID))?;
+        take_some(tx, lanes, number, upto)?;
     }
     Ok(())
 }
@@ -60,7 +99,7 @@ fn release_in<S: Alter>(
     ensures released { HasCleanDisk (state S.Store tx.new.conn.now) → OnOk result (
         IsQueue (state S.Store tx.old.conn.now).now lanes.now → IsQueue (state S.Store tx.new.conn.now).now (released lanes.now upto.now lower)) }
 {
-    take_all(tx, upto)?;
+    take_all(tx, lanes, upto)?;
     if lower {
         // (a law, for the proof: it does nothing)
         a_release_is_lane_by_lane();

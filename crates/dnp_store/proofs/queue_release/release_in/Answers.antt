@@ -18,7 +18,7 @@ returns-in_ok-lower_all-clause-released g c clean held =
     let early : HasCleanDisk mid = omega (arith, c.lower_all.ensures.step.survives.clean) in
     let nine_u : length upto ≡ LANES = search rules in
     let is : c.args.lower ≡ true = search rules in
-    let took = c.in_ok-take_all.ensures.taken early s held.holds.figures c.requires.sound (of_queue old.now s held) in
+    let took = c.in_ok-take_all.ensures.taken early held.holds.figures (of_queue old.now s held) in
     let low = c.in_ok-lower_all.ensures.lowered clean (left s upto) held.holds.figures (nine_left s upto c.requires.sound.nine)
     (lost_left c.a_release_is_lane_by_lane.ensures s upto c.requires.sound.nine nine_u) took in
     subst (λ b. IsQueue new.now (released s upto b)) (sym is) (lowered_mark s upto new.now low.0 low.1 low.2)
@@ -30,5 +30,5 @@ returns-else-lower-clause-released g c clean held =
     let old = state g.S.Store c.args.tx.now.conn.now in
     let new = state g.S.Store c.take_all.new.tx.conn.now in
     let is : c.args.lower ≡ false = search rules in
-    let took = c.in_ok-take_all.ensures.taken clean s held.holds.figures c.requires.sound (of_queue old.now s held) in
+    let took = c.in_ok-take_all.ensures.taken clean held.holds.figures (of_queue old.now s held) in
     subst (λ b. IsQueue new.now (released s upto b)) (sym is) (kept_mark old.now s upto held new.now took)

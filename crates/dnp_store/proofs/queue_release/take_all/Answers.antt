@@ -1,31 +1,33 @@
-use Rattle.std.proofs.Common.{rules, ◌≡◌, ◌<◌, min, length, get_or, arith, sym, subst, ◌∙◌, add-one}
+use Rattle.std.proofs.Common.{rules, ◌≡◌, ◌<◌, min, length, get_or, arith, sym, subst, add-one, refl}
 use Rattle.sqlite.specs.State.{HasCleanDisk}
 use Rattle.sqlite.specs.Held.{state}
 use Rattle.dnp_objects.specs.declared.limits.TheConstants.{LANES, MAX_ID}
 use Rattle.dnp_store.specs.QueueTables.{HoldsQueue}
 use Rattle.dnp_store.specs.steps.Steps.{left, mixed}
 use Rattle.dnp_store.proofs.Releasing.{cut_step, nine_left}
-use Rattle.dnp_store.proofs.Trimming.{nine_mixed}
+use Rattle.dnp_store.proofs.Trimming.{mixed_high, nine_mixed}
 use Rattle.dnp_store.proofs.Stepping.{step_then}
 use Rattle.dnp_store.proofs.queue_release.take_all.Goals as goal
 
 pub loop-number-preserved : goal.loop-number-preserved
 loop-number-preserved g c =
     let mid = state g.S.Store c.loop-number.tx.conn.now in
-    let new = state g.S.Store c.take.new.tx.conn.now in
+    let new = state g.S.Store c.take_some.new.tx.conn.now in
     let number = c.loop-number.number in
-    let upto = c.args.upto.now in record {
-      step = step_then g.S.Store c.args.tx.now.conn c.loop-number.tx.conn c.take.new.tx.conn _ _ c.loop-number.invariant.step c.in_ok-take.ensures.step;
+    let s = c.args.lanes.now in
+    let upto = c.args.upto.now in
+    let sound = c.requires.sound in record {
+      step = step_then g.S.Store c.args.tx.now.conn c.loop-number.tx.conn c.take_some.new.tx.conn _ _ c.loop-number.invariant.step c.in_ok-take_some.ensures.step;
       taken = λ clean.
-          let early : HasCleanDisk mid = omega (arith, c.take.ensures.step.survives.clean) in
+          let early : HasCleanDisk mid = omega (arith, c.take_some.ensures.step.survives.clean) in
           let was = c.loop-number.invariant.taken early in
-          λ s figures sound held.
+          λ figures held.
           let nine_u : length upto ≡ LANES = search rules in
           let low : number < LANES = omega arith in
-          let u_is : c.min.result ≡ min (get_or upto number 0) MAX_ID = search rules in
-          let nine : length (mixed number s (left s upto)).lanes ≡ LANES = nine_mixed number s (left s upto) sound.nine (nine_left s upto sound.nine)
-          (omega arith) in
-          let did = c.in_ok-take.ensures.cut clean (mixed number s (left s upto)) figures nine (was s figures sound held) in
+          let nine_b = nine_left s upto sound.nine in
+          let nine : length (mixed number s (left s upto)).lanes ≡ LANES = nine_mixed number s (left s upto) sound.nine nine_b (omega arith) in
+          let same = mixed_high number number s (left s upto) sound.nine nine_b (omega arith) low in
+          let did = c.in_ok-take_some.ensures.taken clean (mixed number s (left s upto)) figures nine same (was figures held) in
           subst (λ n. HoldsQueue new.now (mixed n s (left s upto)) figures) (sym (add-one number))
-          (cut_step c.a_release_is_lane_by_lane.ensures new.now s upto figures number c.min.result sound nine_u low u_is did);
+          (cut_step c.a_release_is_lane_by_lane.ensures new.now s upto figures number (min (get_or upto number 0) MAX_ID) sound nine_u low refl did);
     }

@@ -1,8 +1,6 @@
 use Rattle.std.proofs.Common.{List}
 use Rattle.sqlite.specs.State.{HasCleanDisk}
 use Rattle.sqlite.specs.Held.{state}
-use Rattle.dnp_eventbuf.specs.Sound.{IsSound}
-use Rattle.dnp_eventbuf.specs.Stock.{Stock}
 use Rattle.dnp_store.specs.QueueTables.{Figures, HoldsQueue}
 use Rattle.dnp_store.specs.steps.Steps.{left, mixed}
 use Rattle.dnp_store.proofs.Stepping.{AreSteps}
@@ -15,6 +13,6 @@ invariant-loop-number g l =
     let now = state g.S.Store l.tx.conn.now in
     record {
       step : AreSteps g.S.Store l.fn.tx.conn l.tx.conn;
-      taken : HasCleanDisk now → (s : Stock) (figures : List Figures) → IsSound s → HoldsQueue old.now s figures
-          → HoldsQueue now.now (mixed l.number s (left s l.upto)) figures;
+      taken : HasCleanDisk now → (figures : List Figures) → HoldsQueue old.now l.lanes figures
+          → HoldsQueue now.now (mixed l.number l.lanes (left l.lanes l.upto)) figures;
     }

@@ -3,6 +3,7 @@ use Rattle.sqlite.specs.State.{HasCleanDisk}
 use Rattle.sqlite.specs.Held.{state}
 use Rattle.dnp_controls.specs.Book.{Ledger}
 use Rattle.dnp_store.proofs.BookOpening.{found_again}
+use Rattle.dnp_store.proofs.BookPlaces.{past_none}
 use Rattle.dnp_store.proofs.book.ControlBook.open.Goals as goal
 
 pub invariant_of-result : goal.invariant_of-result
@@ -15,6 +16,7 @@ invariant_of-result g c =
     record {
       idle = c.serves.ensures.idle;
       sound = c.in-Ok.ensures.sound;
+      past = past_none c.read_book.new.entries.items;
       last_in_range = c.in-Ok.ensures.range;
       stands = λ _ own clean.
           let early : HasCleanDisk mid = omega (arith, clean, c.serves.ensures.survives.clean) in

@@ -3,7 +3,8 @@ use Rattle.sqlite.specs.State.{HasCleanDisk}
 use Rattle.sqlite.specs.Held.{state}
 use Rattle.dnp_controls.specs.Book.{Ledger, IsSound, added}
 use Rattle.dnp_controls.specs.Moves.{Add}
-use Rattle.dnp_store.specs.BookKept.{Kept, Stands, LeavesEither}
+use Rattle.dnp_store.specs.BookKept.{Kept, IsPast, Stands, LeavesEither}
+use Rattle.dnp_store.proofs.BookPlaces.{past_push}
 use Rattle.dnp_store.proofs.BookStanding.{either_of, leaves_last}
 use Rattle.dnp_store.proofs.book.ControlBookBook.add.Goals as goal
 
@@ -33,6 +34,7 @@ invariant_of-self-2 g c =
     record {
       idle = c.write_added.ensures.idle;
       sound = subst IsSound is (c.ids_go_on.ensures.sound book (Add c.args.target c.args.command.now ∷ []) c.self.invariant.sound);
+      past = subst (λ es. IsPast es c.self.inside.first) (sym items) (past_push c.self.inside.entries.items c.self.inside.first _ c.self.invariant.past);
       last_in_range = omega (arith, c.if-self-ge-MAX_ID.false);
       stands = λ serves own clean. subst (Stands (state g.S.Store c.write_added.new.conn)) is
           (let early : HasCleanDisk (state g.S.Store c.self.inside.conn) = omega (arith, clean, c.write_added.ensures.survives.clean) in

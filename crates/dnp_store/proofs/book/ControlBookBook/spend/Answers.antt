@@ -1,12 +1,12 @@
-use Rattle.std.proofs.Common.{rules, ◌≡◌, ◌∷◌, [], inr, false, IsTrue, arith, sym, ap, subst, ◌∙◌}
+use Rattle.std.proofs.Common.{rules, refl, ◌≡◌, ◌∷◌, [], inr, false, IsTrue, arith, sym, ap, subst, ◌∙◌}
 use Rattle.std.specs.Prelude.{IsSome}
 use Rattle.sqlite.specs.State.{HasCleanDisk}
 use Rattle.sqlite.specs.Held.{state}
 use Rattle.dnp_controls.specs.declared.book.State.TheVariants.{Spent}
 use Rattle.dnp_controls.specs.Book.{Ledger, IsSound, entry_of, in_state, spent}
 use Rattle.dnp_controls.specs.Moves.{Spend}
-use Rattle.dnp_store.specs.BookKept.{Kept, Stands, LeavesEither}
-use Rattle.dnp_store.proofs.BookPlaces.{id_low, there_of}
+use Rattle.dnp_store.specs.BookKept.{Kept, IsPast, Stands, LeavesEither}
+use Rattle.dnp_store.proofs.BookPlaces.{id_low, past_turned, there_of}
 use Rattle.dnp_store.proofs.BookStanding.{either_of, leaves_last}
 use Rattle.dnp_store.proofs.BookTurning.{turned_is}
 use Rattle.dnp_store.proofs.book.ControlBookBook.spend.Goals as goal
@@ -44,6 +44,7 @@ invariant_of-self-2 g c =
     record {
       idle = c.write_turned.ensures.idle;
       sound = subst IsSound is (c.ids_go_on.ensures.sound book (Spend id ∷ []) c.self.invariant.sound);
+      past = subst (λ (b : Ledger). IsPast b.entries c.self.inside.first) is (past_turned items c.self.inside.first id Spent refl c.self.invariant.past);
       last_in_range = c.self.invariant.last_in_range;
       stands = λ serves own clean. subst (Stands (state g.S.Store c.write_turned.new.conn)) is
           (let early : HasCleanDisk (state g.S.Store c.self.inside.conn) = omega (arith, clean, c.write_turned.ensures.survives.clean) in
