@@ -1,5 +1,5 @@
 -- A restart of points forgets all that was read of them.
-use Rattle.std.proofs.Common.{◌≡◌, ℕ, zero, suc, ◌-◌, Bool, true, false, cond, List, [], ◌∷◌, map, refl, ap, ap₂, ◌∙◌, get_or, set, Option, None, Some}
+use Rattle.std.proofs.Common.{◌≡◌, ℕ, zero, suc, ◌-◌, Bool, true, false, cond, if◌then◌else◌, List, [], ◌∷◌, map, refl, ap, ap₂, ◌∙◌, get_or, set, Option, None, Some}
 use Rattle.dnp_objects.specs.declared.row.Kind.{Kind}
 use Rattle.dnp_objects.specs.Lanes.{kind_number}
 use Rattle.dnp_objects.specs.declared.row.Row.{Row}
@@ -12,7 +12,6 @@ use Rattle.dnp_pointdb.specs.Plan.{Plan, kinds}
 use Rattle.dnp_pointdb.specs.Plan as plan_words
 use Rattle.dnp_pointdb.specs.Ranges.{is_in_range}
 use Rattle.dnp_pointdb.specs.Database.{Database, blocks_of, has_index, updated, updated_in, new_state, new_block, new_database, restarted_state, restarted_block, restarted, set_state, set_in, set_of, lost_state, lost_block, lost_of}
-use Rattle.dnp_pointdb.proofs.Histories.{updated_in-cons}
 use Rattle.dnp_concentrator.specs.Below.{reading_of, readings_set, set_by}
 use Rattle.dnp_concentrator.specs.Mapped.{row_above}
 use Rattle.dnp_concentrator.specs.declared.span.Spans.{Spans}
@@ -36,24 +35,23 @@ set_same g [] n y d h = refl
 set_same g (x ∷ xs) zero y d h = ap (λ z. z ∷ map g xs) h
 set_same g (x ∷ xs) (suc n) y d h = ap (λ zs. g x ∷ zs) (set_same g xs n y d h)
 
-in_step : (f : PointState → PointState) → ((s : PointState) → restarted_state (f s) ≡ restarted_state s) → (b : BlockState) (bs : List BlockState) (index : ℕ)
-    (t : Bool) → has_index b index ≡ t → map restarted_block (updated_in f bs index) ≡ map restarted_block bs
-    → map restarted_block (updated_in f (b ∷ bs) index) ≡ map restarted_block (b ∷ bs)
-in_step f h b bs index true is rest =
-    ap (map restarted_block) (updated_in-cons f b bs index true is)
-    ∙ ap (λ (ps : List PointState). record b { points = ps } ∷ map restarted_block bs) (updated_same restarted_state f h b.points (index - b.base))
-in_step f h b bs index false is rest =
-    ap (map restarted_block) (updated_in-cons f b bs index false is) ∙ ap (λ cs. restarted_block b ∷ cs) rest
-
 in_blocks : (f : PointState → PointState) → ((s : PointState) → restarted_state (f s) ≡ restarted_state s) → (bs : List BlockState) (index : ℕ)
     → map restarted_block (updated_in f bs index) ≡ map restarted_block bs
 in_blocks f h [] index = refl
-in_blocks f h (b ∷ bs) index = in_step f h b bs index (has_index b index) refl (in_blocks f h bs index)
+in_blocks f h (b ∷ bs) index = by (has_index b index) (in_blocks f h bs index)
+  where
+    by : (t : Bool) → map restarted_block (updated_in f bs index) ≡ map restarted_block bs
+        → map restarted_block (if t then record b { points = updated f b.points (index - b.base) } ∷ bs else b ∷ updated_in f bs index)
+        ≡ map restarted_block (b ∷ bs)
+    by true rest =
+        ap (λ (ps : List PointState). record b { points = ps } ∷ map restarted_block bs) (updated_same restarted_state f h b.points (index - b.base))
+    by false rest = ap (λ (cs : List BlockState). restarted_block b ∷ cs) rest
 
 pub set_forgets : (database : Database) (kind : Kind) (index : ℕ) (reading : Reading) → restarted (set_of database kind index reading) ≡ restarted database
 set_forgets database kind index reading =
     ap (λ (banks : List (List BlockState)). record { banks = banks })
-    (set_same (map restarted_block) database.banks (kind_number kind) (set_in (blocks_of database kind) kind index reading) [] (either (is_in_range kind reading)))
+    (set_same (map restarted_block) database.banks (kind_number kind) (set_in (blocks_of database kind) kind index reading) []
+    (either (is_in_range kind reading)))
   where
     either : (t : Bool) → map restarted_block (cond t (updated_in (set_state reading) (blocks_of database kind) index) (blocks_of database kind))
         ≡ map restarted_block (blocks_of database kind)
@@ -64,14 +62,16 @@ pub lost_forgets : (database : Database) (number : ℕ) → restarted (lost_of d
 lost_forgets database number =
     ap (λ (banks : List (List BlockState)). record { banks = banks })
     (map_same (map restarted_block) (λ bs. updated lost_block bs number)
-    (λ bs. updated_same restarted_block lost_block (λ b. ap (λ (ps : List PointState). record b { points = ps }) (map_same restarted_state lost_state (λ s. refl) b.points))
-    bs number) database.banks)
+    (λ bs. updated_same restarted_block lost_block
+    (λ b. ap (λ (ps : List PointState). record b { points = ps }) (map_same restarted_state lost_state (λ s. refl) b.points)) bs number)
+    database.banks)
 
 pub twice_forgets : (database : Database) → restarted (restarted database) ≡ restarted database
 twice_forgets database =
     ap (λ (banks : List (List BlockState)). record { banks = banks })
     (map_same (map restarted_block) (map restarted_block)
-    (map_same restarted_block restarted_block (λ b. ap (λ (ps : List PointState). record b { points = ps }) (map_same restarted_state restarted_state (λ s. refl) b.points)))
+    (map_same restarted_block restarted_block
+    (λ b. ap (λ (ps : List PointState). record b { points = ps }) (map_same restarted_state restarted_state (λ s. refl) b.points)))
     database.banks)
 
 pub new_forgets : (plan : Plan) → restarted (new_database plan) ≡ new_database plan

@@ -80,7 +80,7 @@ opened_closes : (s : State) (b : Bool) (r : Result Taking MasterFault) → IfOk 
 opened_closes s true r h = h
 opened_closes s false r h = refl
 
-receiving_closes : (s : State) (now : ℕ) (octets : List ℕ) → IfOk (receive_of s now octets) (Closes s)
+pub receiving_closes : (s : State) (now : ℕ) (octets : List ℕ) → IfOk (receive_of s now octets) (Closes s)
 unfolding receive_of
 receiving_closes s now octets = opened_closes s s.is_open (heard s now (response_at octets)) (heard_closes s now (response_at octets))
 

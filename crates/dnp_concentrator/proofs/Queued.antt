@@ -64,12 +64,12 @@ queued_carried spans m plan station row (Some x) e event more all =
     all_more first all zero d lt = first
     all_more first all (suc i) d lt = all i d (omega arith)
 
-pub all_carried : (spans : List Spans) → IsMap spans → (plan : points.Plan) (station : ℕ) (rows : List Row) → All IsEvent rows
+pub all_carried : (spans : List Spans) (plan : points.Plan) (station : ℕ) (rows : List Row) → IsMap spans → All IsEvent rows
     → All IsCarried (queued_rows spans plan station rows)
-all_carried spans m plan station [] events = λ i d lt. absurd (omega arith)
-all_carried spans m plan station (row ∷ rows) events =
+all_carried spans plan station [] m events = λ i d lt. absurd (omega arith)
+all_carried spans plan station (row ∷ rows) m events =
     queued_carried spans m plan station row (queued_row spans plan station row) refl (All-head IsEvent row rows events)
-    (queued_rows spans plan station rows) (all_carried spans m plan station rows (All-tail IsEvent row rows events))
+    (queued_rows spans plan station rows) (all_carried spans plan station rows m (All-tail IsEvent row rows events))
 
 -- ---- all rows
 

@@ -14,6 +14,9 @@ ghost use Rattle.dnp_master.specs.Calls.{receive_of};
 ghost use Rattle.dnp_master.specs.Rows.{is_reported};
 ghost use Rattle.dnp_master.specs.State.{State};
 ghost use Rattle.dnp_objects.specs.declared.row.Row.{Row};
+ghost use Rattle.dnp_objects.specs.Events.{IsEvent};
+ghost use Rattle.dnp_eventbuf.specs.Carried.{IsCarried};
+ghost use Rattle.dnp_pointdb.specs.Plan as points;
 ghost use Rattle.dnp_objects.specs.declared.command.Command.{Command};
 ghost use Rattle.dnp_concentrator.specs.Addresses.{outstation_address};
 ghost use Rattle.dnp_concentrator.specs.declared.addresses.TheConstants as addresses;
@@ -45,6 +48,12 @@ pub fn no_index_above_is_of_two()
 pub fn indices_above_are_in_range()
     ensures { (spans : List Spans) (kind : IndexKind) (station index above : ℕ) → IsMap spans
         → index_above spans station kind index ≡ Some above → above < INDICES }
+{}
+
+/// Rows that are queued above are such as their lanes can carry.
+pub fn rows_are_queued_as_lanes_carry_them()
+    ensures { (spans : List Spans) (plan : points.Plan) (station : ℕ) (events : List Row) → IsMap spans → All IsEvent events
+        → All IsCarried (queued_rows spans plan station events) }
 {}
 
 /// A row that went up is undone to the row and its substation.

@@ -51,7 +51,7 @@ use Rattle.dnp_world.proofs.Counting.{count_by-append}
 use Rattle.dnp_world.proofs.HappenedRows.{all_at, all_counted}
 use Rattle.dnp_world.proofs.JoinedRuns.{append_follows, append_of, listed}
 use Rattle.dnp_world.proofs.ListedAt.{set_here, listed_here, listed_there}
-use Rattle.dnp_world.proofs.QueuedRows.{LowIndexes, StaySound, all_taken, readings_sound}
+use Rattle.dnp_world.proofs.QueuedRows.{QueuedCarried, StaySound, readings_sound}
 use Rattle.dnp_world.proofs.SystemCounts.{count_by-map, same_is, same_refl}
 use Rattle.dnp_world.proofs.SystemMapping.{RowsBack, queued_undone}
 use Rattle.dnp_world.proofs.SystemPlans.{asked_still, link_here, link_there, still_of_plan}
@@ -71,7 +71,7 @@ pub record ArrivalLaws : Type 0 where
       → m.plan ≡ points_below substation
       → IfOk (receive_of m now octets) (λ t. length (queued_rows (map_of plan) (points_above plan) station t.events) ≡ length t.events)
   pub undone : RowsBack
-  pub low : LowIndexes
+  pub carried : QueuedCarried
   pub set_sound : StaySound
 
 -- ---- what is taken happened
@@ -162,8 +162,8 @@ events_follow : ArrivalLaws → (old : System) (h : IsStanding old) (station : �
 events_follow laws old h station [] events fits = none_follows old h
 events_follow laws old h station (row ∷ rows) events fits =
     queued_follows laws old h (queued_for old station (row ∷ rows))
-    (all_taken laws.low old.concentrator.indices (subst IsMap (sym h.of_plan.middle_indices) h.of_plan.is_map)
-    old.concentrator.points station (row ∷ rows) events)
+    (laws.carried old.concentrator.indices old.concentrator.points station (row ∷ rows)
+    (subst IsMap (sym h.of_plan.middle_indices) h.of_plan.is_map) events)
     (fits (λ none. absurd (cc)))
 
 -- ---- the system after it

@@ -14,7 +14,7 @@ use crate::laws::link_law;
 use crate::outstation_laws::an_append_is_moves;
 use crate::system_laws::lists_are_of_links;
 use dnp_concentrator::laws::{
-    indices_above_are_in_range, no_event_is_passed_over, rows_above_are_undone,
+    no_event_is_passed_over, rows_above_are_undone, rows_are_queued_as_lanes_carry_them,
 };
 use dnp_eventbuf::laws::an_append_conserves_rows;
 use dnp_objects::Row;
@@ -39,6 +39,6 @@ pub fn what_comes_from_a_substation_keeps_what_stands()
     an_append_conserves_rows();
     no_event_is_passed_over();
     rows_above_are_undone();
-    indices_above_are_in_range();
+    rows_are_queued_as_lanes_carry_them();
     points_stay_sound();
 }

@@ -32,7 +32,6 @@ use crate::laws::link_law;
 use crate::master_laws::{
     a_master_asks_by_a_move, a_master_opens_and_closes_by_moves, a_master_takes_by_moves,
 };
-use crate::outstation_laws as outstation;
 use crate::system_laws::lists_are_of_links;
 use dnp_appfragment::laws::{
     a_header_holds_what_was_put, what_is_held_is_read, what_is_spelled_is_said,
@@ -40,18 +39,12 @@ use dnp_appfragment::laws::{
 };
 use dnp_concentrator::laws::indices_above_are_in_range;
 use dnp_controls::laws::ids_go_on;
-use dnp_eventbuf::laws::lanes_stay_sound;
 use dnp_line::laws::line_law;
 use dnp_master::laws::{
     a_closed_master_is_silent, an_idle_master_asks, what_comes_is_taken_or_passed_over,
 };
 use dnp_objects::Command;
 use dnp_objects::laws::equality_is_decided;
-use dnp_outstation::link_laws::{
-    a_closed_outstation_is_silent, an_unsolicited_response_starts_where_none_is_awaited,
-    content_leaves_the_connection_alone,
-};
-use dnp_pointdb::laws::a_change_makes_what_its_lane_takes;
 
 /// A book grants a step of relaying or refuses it for its entry, one of the two and never both: so of what a step may make of a
 /// system (`RelaysOn`) just one is possible.
@@ -83,23 +76,13 @@ pub fn a_request_goes_by_a_move()
         → ask_answer s.master task ≡ Ok octets → IsAsked task octets s new
         → Follows [] [] (commands_in octets) s.outstation.performed l new }
 {
-    outstation::an_opening_is_moves();
-    outstation::what_comes_is_moves();
-    outstation::time_is_moves();
-    outstation::a_change_is_moves();
-    outstation::a_closing_is_moves();
     a_master_takes_by_moves();
     a_master_asks_by_a_move();
     a_master_opens_and_closes_by_moves();
     line_law();
-    a_closed_outstation_is_silent();
-    an_unsolicited_response_starts_where_none_is_awaited();
-    content_leaves_the_connection_alone();
     a_closed_master_is_silent();
     an_idle_master_asks();
     what_comes_is_taken_or_passed_over();
-    a_change_makes_what_its_lane_takes();
-    lanes_stay_sound();
 }
 
 /// A step of relaying keeps what stands behind the system, where the controls in progress are in step with their books: an

@@ -12,4 +12,4 @@ returns-clause-carried c = λ events.
     all_queued c.args.map.now c.args.points.now c.args.station c.args.events.now c.loop-event.event-index c.loop-event.rows.items c.loop-event.invariant
     (omega (arith, c.loop-event-test.false)) in
     subst (λ (rows : List LaneRow). All IsCarried rows) (sym all)
-    (all_carried c.args.map.now c.substations.ensures.map c.args.points.now c.args.station c.args.events.now events)
+    (all_carried c.args.map.now c.args.points.now c.args.station c.args.events.now c.substations.ensures.map events)

@@ -19,7 +19,7 @@ laws_of c = record {
   lost = c.an_append_conserves_rows.ensures.lost;
   queued = c.no_event_is_passed_over.ensures.taken;
   undone = c.rows_above_are_undone.ensures;
-  low = c.indices_above_are_in_range.ensures;
+  carried = c.rows_are_queued_as_lanes_carry_them.ensures;
   set_sound = c.points_stay_sound.ensures.set;
 }
 

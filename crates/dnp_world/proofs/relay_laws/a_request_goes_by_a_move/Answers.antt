@@ -5,10 +5,10 @@ use Rattle.dnp_world.proofs.JoinedMaster.{after_asking}
 use Rattle.dnp_world.proofs.JoinedWays.{LineLaws}
 use Rattle.dnp_world.proofs.relay_laws.a_request_goes_by_a_move.Goals as goal
 
-line_of : goal.After-lanes_stay_sound → LineLaws
+line_of : goal.After-what_comes_is_taken_or_passed_over → LineLaws
 line_of c = record { reopened = c.line_law.ensures.reopened; kept = c.line_law.ensures.kept }
 
-master_of : goal.After-lanes_stay_sound → MasterLaws
+master_of : goal.After-what_comes_is_taken_or_passed_over → MasterLaws
 master_of c = record {
   came = c.a_master_takes_by_moves.ensures.came;
   asks = c.a_master_asks_by_a_move.ensures;
