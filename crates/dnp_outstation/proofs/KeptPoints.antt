@@ -168,8 +168,7 @@ solicited_keeps c now = go c.session.awaited
     go (Some w) = by (has_ended now w.ends)
       where
         by : (b : Bool)
-            → KeepsPoints c (if b then record c { session = record c.session { awaited = None } }
-            else record c { session = record c.session { awaited = Some w } })
+            → KeepsPoints c (if b then record c { session = record c.session { awaited = None } } else record c { session = record c.session { awaited = Some w } })
         by true = record { points = refl; times = refl }
         by false = record { points = refl; times = refl }
 
