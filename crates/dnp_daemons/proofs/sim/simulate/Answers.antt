@@ -3,9 +3,9 @@ use Rattle.dnp_daemons.proofs.Simulating.{new_stores, on_new}
 use Rattle.dnp_daemons.proofs.sim.simulate.Goals as goal
 
 pub new-made-requires-clause-empty : goal.new-made-requires-clause-empty
-new-made-requires-clause-empty g c =
+new-made-requires-clause-empty g c = λ honest.
     rw (c.in-Ok.ensures, c.new-2.ensures, c.new-3.ensures, c.new-4.ensures)
-    (λ honest. new_stores c.lanes_stay_sound.ensures.made c.args.plan.now c.requires.limits c.plans_have_all_lanes.ensures.queue)
+    (new_stores c.lanes_stay_sound.ensures.made c.args.plan.now c.requires.limits c.plans_have_all_lanes.ensures.queue)
 
 pub returns-in-Ok-made : goal.returns-in-Ok-made
 returns-in-Ok-made g c = λ lines says.
