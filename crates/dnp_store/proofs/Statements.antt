@@ -1,5 +1,5 @@
 -- What a statement on the rows of a table makes of a database.
-use Rattle.std.proofs.Common.{◌≡◌, ◌⊎◌, inl, inr, refl, arith, Bool, true, false, IsTrue, None, Ok, Err, Result, sym, ap, subst}
+use Rattle.std.proofs.Common.{◌≡◌, ◌⊎◌, inl, inr, Bool, true, false, IsTrue, None, Ok, Err, Result, sym, ap, subst}
 use Rattle.std.specs.Prelude.{MatchBool}
 use Rattle.sqlite.specs.declared.run.Mode.{Mode}
 use Rattle.sqlite.specs.Command.{Command}
@@ -62,18 +62,7 @@ survives_as old new P Q more h = record {
   crash = λ clean db may. elim (h.crash clean db may) [ inl before ↦ inl before | inr made ↦ inr (more db made) ];
 }
 
--- a call that changes nothing leaves no more
-pub survives_still : (s : State) (P : Trees → Type 0) → Survives s s P
-survives_still s P = record {
-  clean = omega arith;
-  shield = λ h. h;
-  counts = omega arith;
-  limit = refl;
-  closes = λ _ is_open. inl is_open;
-  crash = λ _ db may. inl may;
-}
-
--- nor does one that commits nothing, after another
+-- a call that commits nothing leaves no more than the one before it
 pub survives_on : (old mid new : State) (P : Trees → Type 0) → Survives old mid P → Survives mid new (λ _. ⊥) → Survives old new P
 survives_on old mid new P = survives_then old mid new P (λ _. ⊥) P (λ _ db made. made) (λ _ db none. absurd none)
 
