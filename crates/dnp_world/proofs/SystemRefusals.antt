@@ -5,13 +5,12 @@ use Rattle.std.proofs.lemmas.Bool.{false≢true}
 use Rattle.std.proofs.lemmas.List.{set-get_or}
 use Rattle.dnp_concentrator.specs.Below.{no_link}
 use Rattle.dnp_concentrator.specs.Relaying.{Relaying, Step, Waits, relaying_after, step_by}
-use Rattle.dnp_controls.specs.Book.{Has, is_pending}
 use Rattle.dnp_master.specs.Calls.{ask_answer, asked_by}
 use Rattle.dnp_master.specs.State.{is_idle}
 use Rattle.dnp_master.specs.declared.fault.AskFault.{AskFault}
 use Rattle.dnp_master.specs.declared.task.Task.{Task}
 use Rattle.dnp_world.specs.Channels.{ChannelState, GoDown}
-use Rattle.dnp_world.specs.SystemEvents.{AsksOn, IfOperates, LinesChange, RelaysOn, SendsDown, Steps, entries_on, relaying_at, request_of, requests_of, step_on, told, with_relaying}
+use Rattle.dnp_world.specs.SystemEvents.{AsksOn, IsGranted, LinesChange, RelaysOn, SendsDown, Steps, entries_on, relaying_at, request_of, requests_of, step_on, told, with_relaying}
 use Rattle.dnp_world.specs.Systems.{System, has_link, link_at}
 use Rattle.dnp_world.specs.declared.event.Link.{Link}
 use Rattle.dnp_world.specs.declared.event.Link.TheVariants.{Above, Below}
@@ -57,11 +56,11 @@ told_none Above s = refl
 told_none (Below station) s = refl
 
 waits_by : (on : Link) (s : System) → has_link s on ≡ true → (step : Step) → step ≡ Waits
-    → IfOperates step (λ id. Has (entries_on s on) id is_pending)
+    → IsGranted (entries_on s on) step
     × SendsDown on (requests_of step (relaying_at s on).master.seq) (relaying_after (relaying_at s on) s.now step) (told s on step) s
 waits_by on s has step is =
     subst
-    (λ (its : Step). IfOperates its (λ id. Has (entries_on s on) id is_pending)
+    (λ (its : Step). IsGranted (entries_on s on) its
     × SendsDown on (requests_of its (relaying_at s on).master.seq) (relaying_after (relaying_at s on) s.now its) (told s on its) s)
     (sym is)
     (tt, subst (λ (first : System). SendsDown on [] (relaying_at s on) first s) (sym (told_none on s)) (still on s has))
