@@ -53,14 +53,18 @@ gone() {
 
 # concentrates ARGS..: begins to concentrate over queue.db and below.db
 concentrates() {
-    timeout 300 "$dnp" concentrate --plan plan.toml --queue queue.db --controls below.db --port "$port" --below "$below" "$@" \
-        >rounds 2>said </dev/null &
+    "$dnp" concentrate --plan plan.toml --queue queue.db --controls below.db --port "$port" --below "$below" "$@" >rounds 2>said </dev/null &
     concentrating=$!
 }
 
-# ended NAME STATUS STDOUT: holds what it printed against what was expected, once it has ended
+# ended NAME STATUS STDOUT: holds what it printed against what was expected, once it has ended, in a minute at most
 ended() {
-    local got=0
+    local got=0 try
+    for ((try = 0; try < 600; try++)); do
+        kill -0 "$concentrating" 2>/dev/null || break
+        sleep 0.1
+    done
+    kill "$concentrating" 2>/dev/null
     wait "$concentrating" || got=$?
     mv rounds out
     mv said err

@@ -2,7 +2,7 @@
 # `dnp concentrate` from the shell: its words, its files, and substations of another make, some of which fail.
 . "$(dirname "${BASH_SOURCE[0]}")/../expect.bash"
 . "$top/tests/networks.bash"
-trap 'gone; rm -rf "$room"' EXIT
+trap 'gone; kill "${concentrating-}" 2>/dev/null; rm -rf "$room"' EXIT
 
 below=$(free) port=$(free)
 plan plan.toml 1 2
@@ -85,7 +85,7 @@ ended serves-all-the-same 0 'round 1 rows 3'
 
 # A plan that has changed under what is stored
 concentrates
-listens "$port"
+while [ ! -s rounds ] && kill -0 "$concentrating" 2>/dev/null; do sleep 0.01; done
 kill -9 "$concentrating"
 wait "$concentrating" 2>/dev/null
 plan changed.toml 0 2
@@ -102,30 +102,42 @@ says names-the-control-that-is-not-planned 'dnp: below.db: control 1, 1 block 0 
 
 # Other tables beside the queue's: it works
 sqlite3 beside.db 'CREATE TABLE beside (x INTEGER)'
-cp queue.db kept.db
-timeout 60 "$dnp" concentrate $refused --queue beside.db --controls next.db --new >rounds 2>said </dev/null &
+"$dnp" concentrate $refused --queue beside.db --controls next.db --new >rounds 2>said </dev/null &
 concentrating=$!
 listens "$port"
-polls polls-over-other-tables 0 'rows 6'
+polls polls-over-other-tables 0 'rows 3'
 ended works-beside-other-tables 0 'round 1 rows 3'
 says tells-of-other-tables 'dnp: beside.db: other tables stand there too: nothing is promised of what is stored beside them'
 gone
 
 # Substations that are not there, silent, send noise, or rows that are not planned: a line each, and the next one is polled
-# fails NAME EVENTS LEAST MOST LINE: substation 0 fails so, in so many milliseconds, and 1 has its events
+# printed COUNT: waits until so many rounds are printed
+printed() {
+    while [ "$(wc -l <rounds)" -lt "$1" ] && kill -0 "$concentrating" 2>/dev/null; do sleep 0.01; done
+}
+ms() { echo $(($(date +%s%N) / 1000000)); }
+# fails NAME EVENTS LEAST MOST LINE: substation 0 fails so, in so many milliseconds, and 1 has its events. The time is that of
+# the second round, which begins with the end of the centre's first connection.
 fails() {
-    local began ended
+    local before after ended
     rm -f queue.db below.db
     substation 1 2
     [ "$2" = none ] || substation 0 "$2"
-    began=$(date +%s%N)
-    concentrates --new
-    until [ -s rounds ]; do sleep 0.01; done
-    ended=$((($(date +%s%N) - began) / 1000000))
+    concentrates --new --rounds 2
+    printed 1
+    before=$(ms)
     polls "is-served-after-$1" 0 'rows 2'
-    ended "goes-on-after-$1" 0 'round 1 rows 2'
-    says "tells-of-$1" "dnp: substation 0: $5"
-    if ((ended >= $3 && ended <= $4)); then echo "ok waits-in-time-for-$1"; else echo "FAILED waits-in-time-for-$1: $ended ms"; fi
+    after=$(ms)
+    printed 2
+    ended=$(ms)
+    polls "is-served-again-after-$1" 0 'rows 2'
+    ended "goes-on-after-$1" 0 $'round 1 rows 2\nround 2 rows 2'
+    says "tells-of-$1" "dnp: substation 0: $5${lf}dnp: substation 0: $5"
+    if ((ended - before >= $3 && ended - after <= $4)); then
+        echo "ok waits-in-time-for-$1"
+    else
+        echo "FAILED waits-in-time-for-$1: $((ended - before)) and $((ended - after)) ms"
+    fi
     gone
 }
 fails one-that-is-not-there none 0 1000 "port $below: Connection refused (os error 111)"

@@ -1,6 +1,5 @@
 //! Stations that ask on a stream by the machine's clock, and how long they wait for an answer.
 
-
 use dnp_concentrator::Relayed;
 use dnp_controls::BookFault;
 use dnp_daemons::{Answer, Asker, Station, StationFault};
@@ -63,14 +62,14 @@ impl<'a, C: Clock> Patience<'a, C> {
 
 /// A stream that is read as long as there is patience: then a read fails, whatever dribbles in.
 #[derive(Drop)]
-pub(crate) struct Patient<'a, C> {
+pub(crate) struct Patient<'s, 'p, 'c, C> {
     /// The stream.
-    pub stream: &'a TcpStream,
+    pub stream: &'s TcpStream,
     /// How long is waited.
-    pub patience: &'a Patience<'a, C>,
+    pub patience: &'p Patience<'c, C>,
 }
 
-impl<'a, C: Clock> Read for Patient<'a, C> {
+impl<'s, 'p, 'c, C: Clock> Read for Patient<'s, 'p, 'c, C> {
     fn read(&mut self, buf: &mut [u8]) -> io::Result<usize> {
         let left = self.patience.left();
         if left == 0 {
@@ -87,18 +86,18 @@ impl<'a, C: Clock> Read for Patient<'a, C> {
 /// stores or its memory refused first, which is no fault of the other end; and what it asks, and what comes of an answer,
 /// lets the wait begin again.
 #[derive(Drop)]
-pub(crate) struct Minded<'a, S, C> {
+pub(crate) struct Minded<'s, 'p, 'c, S, C> {
     /// The station.
-    station: &'a mut S,
+    station: &'s mut S,
     /// How long it waits.
-    patience: &'a Patience<'a, C>,
+    patience: &'p Patience<'c, C>,
     /// Why its stores or its memory first refused a call, if they did.
     cause: Option<Cause>,
 }
 
-impl<'a, S, C> Minded<'a, S, C> {
+impl<'s, 'p, 'c, S, C> Minded<'s, 'p, 'c, S, C> {
     /// A station of which nothing was asked yet.
-    pub(crate) fn new(station: &'a mut S, patience: &'a Patience<'a, C>) -> Self {
+    pub(crate) fn new(station: &'s mut S, patience: &'p Patience<'c, C>) -> Self {
         Minded {
             station,
             patience,
@@ -127,7 +126,7 @@ impl<'a, S, C> Minded<'a, S, C> {
     }
 }
 
-impl<'a, S: Station, C: Clock> Station for Minded<'a, S, C> {
+impl<'s, 'p, 'c, S: Station, C: Clock> Station for Minded<'s, 'p, 'c, S, C> {
     ghost use Rattle.std.specs.Prelude.{Bool, ⊤};
 
     // It is only shown to be safe: of its state no more is promised than whether it is idle.
@@ -176,7 +175,7 @@ impl<'a, S: Station, C: Clock> Station for Minded<'a, S, C> {
     }
 }
 
-impl<'a, S: Asker, C: Clock> Asker for Minded<'a, S, C> {
+impl<'s, 'p, 'c, S: Asker, C: Clock> Asker for Minded<'s, 'p, 'c, S, C> {
     fn ask(&mut self, _now: u64, task: Task) -> Result<Fragment, AskFault> {
         let now = self.patience.now();
         self.patience.begin_again();
