@@ -160,8 +160,8 @@ done
 mkdir -p unbuilt/crates/dnp
 cp "$dnp" unbuilt/dnp
 cp -r "$top/crates/dnp/help" unbuilt/crates/dnp/help
-for words in --help:dnp -h:dnp help:dnp --version:version -V:version {answer,decode,loopback,outstation,sim}' --help:' \
-    {answer,decode,loopback,outstation,sim}' -h:' 'help '{answer,decode,loopback,outstation,sim}:; do
+for words in --help:dnp -h:dnp help:dnp --version:version -V:version {answer,centre,concentrate,decode,loopback,outstation,sim}' --help:' \
+    {answer,centre,concentrate,decode,loopback,outstation,sim}' -h:' 'help '{answer,centre,concentrate,decode,loopback,outstation,sim}:; do
     case $words in
     *' '*) words=$words$(tr ' ' '\n' <<<"${words%:}" | grep -v -e help -e -h) ;;
     esac
@@ -172,7 +172,8 @@ done
 
 # Words that are refused: what ./dnp says of them where it is not built is what the program says
 for words in '' foo help\ foo -x answer\ extra 'answer --own=3 y' sim 'sim extra' loopback 'loopback extra' \
-    outstation 'outstation --port 1' 'outstation --plan p x' 'outstation extra'; do
+    outstation 'outstation --port 1' 'outstation --plan p x' 'outstation extra' centre 'centre --new x' 'centre --plan p --rounds 1' \
+    concentrate 'concentrate --plan p --new' 'concentrate --new --issue x'; do
     "$dnp" $words >want 2>want.err </dev/null
     wanted=$?
     got=0

@@ -161,9 +161,6 @@ for words in '' '--station 0' "$rules" '--plan plan.toml --port 0 --station 0' '
     "--plan none.toml $rules --connections 1000001" "--plan none.toml $rules --rounds 1"; do
     expect "takes-no-words:outstation $words" 2 '' '' outstation $words
 done
-for name in concentrate centre; do
-    expect "is-not-there-yet:$name" 2 '' '' $name --plan plan.toml --port "$port"
-done
 
 # What Debian's tshark reads in a capture of what the station sends, where it is installed and may capture. Debian's nmap
 # (7.93) has no script for DNP3 among its 604, so none is tried.

@@ -22,4 +22,4 @@ completes completes-options '--plan --station --port --connections --help' outst
 completes completes-the-one-option '--own' answer --o
 completes completes-the-options-of-sim '--plan --limit --trace --chart --capture --json --help' sim ''
 completes completes-no-number '' outstation --port ''
-completes completes-help 'answer decode loopback outstation sim' help ''
+completes completes-help 'answer centre concentrate decode loopback outstation sim' help ''

@@ -4,15 +4,21 @@
 #![tactic(auto)]
 
 mod answer;
+mod asking;
+mod centre;
+mod concentrate;
 mod decode;
 mod exit;
 mod fault;
+mod files;
 mod looks;
 mod loopback;
 mod numbers;
 mod options;
 mod outstation;
+mod patience;
 mod plan_file;
+mod planned;
 mod serving;
 mod sim;
 mod texts;
@@ -24,9 +30,7 @@ use crate::options::HINT;
 use clap::error::ErrorKind;
 use clap::{ArgMatches, Command};
 use std::alloc::{AllocError, Global};
-use std::net::{Net, TcpListener, TcpStream};
 use std::process::ExitCode;
-use std::rt::{Clock, Env, Files};
 use std::{env, io};
 
 /// What the program is, in a line.
@@ -54,11 +58,7 @@ fn main(rt: HostRuntime) -> ExitCode {
 }
 
 /// Reads the words of the command line, and does what they ask.
-fn run<R>(rt: &R) -> anyhow::Result<ExitCode>
-where
-    R: Env + AllocGlobal + Input + Print + Eprint + Files + Clock,
-    R: Net<Listener = TcpListener, Stream = TcpStream>,
-{
+fn run(rt: &HostRuntime) -> anyhow::Result<ExitCode> {
     let words = match env::args(rt) {
         Ok(words) => words,
         Err(fault) if fault.kind() == io::ErrorKind::InvalidData => {
@@ -84,6 +84,8 @@ fn command<'a>(alloc: Global) -> Result<Command<'a>, AllocError> {
         .subcommand_required(true)
         .arg_required_else_help(true)
         .subcommand(answer::command(alloc)?)?
+        .subcommand(centre::command(alloc)?)?
+        .subcommand(concentrate::command(alloc)?)?
         .subcommand(decode::command(alloc)?)?
         .subcommand(loopback::command(alloc)?)?
         .subcommand(outstation::command(alloc)?)?
@@ -91,13 +93,11 @@ fn command<'a>(alloc: Global) -> Result<Command<'a>, AllocError> {
 }
 
 /// Does what the subcommand asks.
-fn dispatch<R>(rt: &R, matches: &ArgMatches<'_>) -> anyhow::Result<ExitCode>
-where
-    R: AllocGlobal + Input + Print + Eprint + Files + Clock,
-    R: Net<Listener = TcpListener, Stream = TcpStream>,
-{
+fn dispatch(rt: &HostRuntime, matches: &ArgMatches<'_>) -> anyhow::Result<ExitCode> {
     match matches.subcommand() {
         Some((answer::NAME, given)) => answer::run(rt, given),
+        Some((centre::NAME, given)) => centre::run(rt, given),
+        Some((concentrate::NAME, given)) => concentrate::run(rt, given),
         Some((decode::NAME, given)) => decode::run(rt, given),
         Some((loopback::NAME, given)) => loopback::run(rt, given),
         Some((outstation::NAME, given)) => outstation::run(rt, given),

@@ -1,12 +1,16 @@
 //! The file of a plan.
 
+ghost use Rattle.std.specs.Prelude.{IfOk};
+ghost use Rattle.dnp_concentrator.specs.Plan.{KeepsLimits};
+
 use crate::exit;
 use crate::fault::{lost, unwritten};
-use dnp_daemons::{PlanTextFault, plan_fault};
-use std::fs;
+use dnp_concentrator::Plan;
+use dnp_daemons::{PlanTextFault, plan_fault, read_plan};
 use std::io::Read;
 use std::process::ExitCode;
 use std::rt::Files;
+use std::{fs, str};
 
 /// The most octets of a plan that are read: many times what the largest plan needs. So no file can fill the memory.
 const MAX_PLAN: u64 = 16 * 1_024 * 1_024;
@@ -28,6 +32,23 @@ pub(crate) fn plan_text<R: AllocGlobal + Eprint + Files>(
         }
         Ok(_) => Ok(text),
         Err(cause) => Err(lost(rt, path, &cause)),
+    }
+}
+
+/// The plan in its file. Where it can't be read or is refused, that is said, and the exit status is told.
+pub(crate) fn plan_given<R: AllocGlobal + Print + Eprint + Files>(
+    rt: &R,
+    path: &str,
+) -> Result<Plan, ExitCode>
+    ensures { IfOk result KeepsLimits }
+{
+    let octets = plan_text(rt, path)?;
+    let Ok(text) = str::from_utf8(octets.as_slice()) else {
+        return Err(refused(rt, path, None, PlanTextFault::Syntax));
+    };
+    match read_plan(rt.alloc(), text) {
+        Ok(plan) => Ok(plan),
+        Err(fault) => Err(refused(rt, path, Some(text), fault)),
     }
 }
 

@@ -13,6 +13,9 @@ use std::time::Duration;
 /// How long a connection may stand still, in seconds: nothing comes, or nothing can be sent.
 const SILENCE: u64 = 300;
 
+/// The same in milliseconds.
+pub(crate) const SILENCE_MS: u64 = SILENCE * 1_000;
+
 /// Where a station listens, and for how many connections.
 #[derive(Clone, Copy)]
 pub(crate) struct Listening {
@@ -44,7 +47,8 @@ where
             Ok((stream, _)) => stream,
             Err(cause) => return Ok(no_port(rt, listening.port, &cause)),
         };
-        let Some(fragments) = serve_connection(rt, station, listening.own, &stream) else {
+        let served = serve_connection(rt, station, listening.own, MASTER_BELOW, &stream);
+        let Some(fragments) = served else {
             return Ok(ExitCode::from(exit::FAULT));
         };
         if let Err(cause) = println!(rt; "served {fragments}") {
@@ -55,14 +59,20 @@ where
 }
 
 /// Says on standard error why no connection can be had on the port, and gives the exit status of a fault.
-fn no_port<R: Eprint>(rt: &R, port: u16, cause: &io::Error) -> ExitCode {
+pub(crate) fn no_port<R: Eprint>(rt: &R, port: u16, cause: &io::Error) -> ExitCode {
     let _ = eprintln!(rt; "dnp: port {port}: {cause}");
     ExitCode::from(exit::FAULT)
 }
 
-/// Serves a connection to its end, hangs the station up, and tells how many fragments came whole; nothing where memory
-/// ran out. What goes wrong is said on standard error.
-fn serve_connection<S, R>(rt: &R, station: &mut S, own: u16, stream: &TcpStream) -> Option<u64>
+/// Serves a connection of the station `peer` to its end, hangs the station up, and tells how many fragments came whole;
+/// nothing where memory ran out. What goes wrong is said on standard error.
+pub(crate) fn serve_connection<S, R>(
+    rt: &R,
+    station: &mut S,
+    own: u16,
+    peer: u16,
+    stream: &TcpStream,
+) -> Option<u64>
 where
     S: Station,
     R: AllocGlobal + Eprint + Clock,
@@ -71,7 +81,7 @@ where
         let _ = eprintln!(rt; "dnp: a connection: {cause}");
         return Some(0);
     }
-    let mut port = Port::new(own, MASTER_BELOW, false);
+    let mut port = Port::new(own, peer, false);
     let mut station = Clocked::new(station, rt);
     let mut reader = Noted::new(stream);
     let mut out = Noted::new(stream);

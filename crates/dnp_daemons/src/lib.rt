@@ -25,7 +25,7 @@ pub use dnp_streams::{
 pub use report_text::{PrintFault, print_report};
 pub use run::{ScriptStop, Scripted, run_script};
 pub use script::{
-    IdleLines, IdleReason, LineFault, ScriptFault, ScriptLine, idle_lines, number_in, read_script,
-    script_fault,
+    IdleLines, IdleReason, LineFault, ScriptFault, ScriptLine, idle_lines, issue_in, number_in,
+    read_script, script_fault,
 };
 pub use sim::{loop_text, sim_text};

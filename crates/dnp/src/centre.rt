@@ -1,0 +1,346 @@
+//! `dnp centre`: the centre of a plan over files, which polls the concentrator by TCP.
+
+ghost use Rattle.dnp_concentrator.specs.Plan.{KeepsLimits};
+
+use crate::asking::{Call, Ended, Peer};
+use crate::fault::unwritten;
+use crate::files::{Place, Stored};
+use crate::numbers::number_given;
+use crate::options::{HINT, flag, plan, required, valued};
+use crate::plan_file::plan_given;
+use crate::planned::{has_output, look_at_book, look_at_journal};
+use crate::{exit, files};
+use clap::{ArgMatches, Command};
+use dnp_concentrator::addresses::{CENTRE, CONCENTRATOR_ABOVE};
+use dnp_concentrator::{Centre, MAX_SUBSTATIONS, Plan};
+use dnp_controls::{Book, State};
+use dnp_daemons::issue_in;
+use dnp_eventbuf::JournalStore;
+use dnp_master::{Classes, Task};
+use dnp_objects::Command as Control;
+use dnp_store::{ControlBook, Journal};
+use sqlite::FileStore;
+use sqlite_disk::Disk;
+use std::alloc::{AllocError, Global};
+use std::net::{Net, TcpListener, TcpStream};
+use std::process::ExitCode;
+use std::rt::Clock;
+
+/// The subcommand's name.
+pub const NAME: &str = "centre";
+
+/// What it does, in a line.
+const ABOUT: &str = "Poll the concentrator of a plan into a journal, and issue a control";
+
+/// What its help text says after the options.
+const AFTER: &str = "\
+STORES
+  The journal holds every event that ever came, the book the controls that were issued. Each is a
+  database of its own that sqlite3 reads. --new makes both, and their files; without it they are
+  opened, and no file is made: give --new once, in the first run. A run that is stopped or killed
+  leaves each as it was before its last step, or after it; the next run goes on with what stands
+  there. One that is stopped while --new makes them may leave a file without its store: remove the
+  files that it left, and give --new again. Each event and control that stands there has to be of
+  the plan. A journal is read as it is opened, a million events in some seconds: make a new one
+  from time to time.
+
+WHAT IT DOES
+  It connects to the concentrator at the port of this machine, clears its restart bit, polls all
+  events (classes 1, 2 and 3) and what all points read (class 0), relays the controls that are
+  pending, and hangs up. It waits for an answer as long as the plan's response_ms for each
+  substation, and once more, since the concentrator may be waiting for each of them in turn. Where
+  the connection fails, what came before stands in the journal, and what was not confirmed comes
+  again in the next run: an event may stand there twice, but none is lost. Its link address is 1,
+  the concentrator's is 9.
+
+CONTROLS
+  --issue takes the words of a script's line 'issue' after 'issue': the substation, and 'block
+  INDEX CODE COUNT ON OFF', 'set16 INDEX VALUE' or 'set32 INDEX VALUE', where the index is the
+  substation's own (docs/scripts.md). The control is put into the book before anything is sent, and
+  its number is said on standard error; what became of it is said there at the end. One that is
+  still pending, as where the concentrator could not be reached, is sent by the next run without
+  --issue: to give --issue again would issue it once more. One that was sent, and whose answer is
+  not known, is not sent again. A status of 0 says that the concentrator took it; the substation
+  gets it in the concentrator's next round.
+
+OUTPUT
+  On standard output 'rows R', where the connection could be had: R is how many events the journal
+  grew by. Or 'refused plan N', where the plan is refused, as 'dnp outstation --help' has it.
+
+EXIT STATUS
+  0  all was asked and answered
+  1  the plan was refused; a file holds no such store, or already one where --new is to make it; or
+     a store holds an event or a control that is not of the plan
+  2  the command line is wrong, or the plan has no such output to issue a control to
+  3  the program failed: the plan or a file can't be read, a file is in use by another program or
+     given twice, the connection can't be had, or it failed, a store's device failed, out of
+     memory, or the output was lost; a line on standard error says which, and why, but for an
+     output whose reader has gone";
+
+/// What is said of the options.
+const JOURNAL: &str = "The file of the journal";
+
+const CONTROLS: &str = "The file of the book of controls";
+
+const PORT: &str = "The TCP port of the concentrator, 1 to 65535";
+
+const ISSUE: &str = "A control to issue, as in '0 block 3 129 1 100 200'";
+
+const NEW: &str = "Make the journal and the book of controls, which are not there yet";
+
+/// What the centre asks: that the restart bit is cleared, and then all events, class by class, and what all points read.
+const TASKS: [Task; 2] = [
+    Task::ClearRestart,
+    Task::Poll(Classes([true, true, true, true])),
+];
+
+/// What `clap` has to know of `dnp centre`.
+pub(crate) fn command<'a>(alloc: Global) -> Result<Command<'a>, AllocError> {
+    Command::new(alloc, NAME)
+        .about(ABOUT)
+        .after_help(AFTER)
+        .arg(plan(alloc))?
+        .arg(required(alloc, "journal", "FILE", JOURNAL))?
+        .arg(required(alloc, "controls", "FILE", CONTROLS))?
+        .arg(required(alloc, "port", "P", PORT))?
+        .arg(valued(alloc, "issue", "TEXT", ISSUE))?
+        .arg(flag(alloc, "new", NEW))
+}
+
+/// What the words of the command line say.
+#[derive(Clone, Copy)]
+struct Words<'a> {
+    /// The path of the plan's file.
+    plan: &'a str,
+    /// The file of the journal.
+    journal: Place<'a>,
+    /// The file of the book of controls.
+    controls: Place<'a>,
+    /// The TCP port of the concentrator.
+    port: u16,
+    /// The control to be issued, and the substation that it is for.
+    issue: Option<(u8, Control)>,
+}
+
+/// What the words say. Where one is wrong, that is printed.
+fn words_given<'a, R: Eprint>(rt: &R, given: &ArgMatches<'a>) -> Option<Words<'a>> {
+    let port = number_given(rt, given, "port", "P", 1, 65_535)?;
+    let issue = match given.get_str("issue") {
+        Some(text) => Some(control_given(rt, text)?),
+        None => None,
+    };
+    let new = given.get_flag("new");
+    Some(Words {
+        plan: given.get_str("plan").unwrap_or(""),
+        journal: Place {
+            path: given.get_str("journal").unwrap_or(""),
+            store: "journal",
+            new,
+        },
+        controls: Place {
+            path: given.get_str("controls").unwrap_or(""),
+            store: "book of controls",
+            new,
+        },
+        port: u16::try_from(port).ok()?,
+        issue,
+    })
+}
+
+/// The substation and the command that the words of a control name, for the largest plan. Where they name none, that is
+/// printed.
+fn control_given<R: Eprint>(rt: &R, text: &str) -> Option<(u8, Control)> {
+    let found = issue_in(text, MAX_SUBSTATIONS);
+    if found.is_none() {
+        no_control(rt, text, "not the words of a control");
+    }
+    found
+}
+
+/// Says on standard error what is wrong with the words of a control.
+fn no_control<R: Eprint>(rt: &R, text: &str, why: &str) {
+    let _ = eprintln!(rt;
+        "error: invalid value '{}' for '--issue <TEXT>': {why}{HINT}",
+        text.escape_debug()
+    );
+}
+
+/// Runs the centre that the given words name, and tells the exit status.
+pub(crate) fn run(rt: &HostRuntime, given: &ArgMatches<'_>) -> anyhow::Result<ExitCode> {
+    let Some(words) = words_given(rt, given) else {
+        return Ok(ExitCode::from(exit::USAGE));
+    };
+    let plan = match plan_given(rt, words.plan) {
+        Ok(plan) => plan,
+        Err(status) => return Ok(status),
+    };
+    if let Some((substation, control)) = words.issue
+        && !has_output(&plan, substation, &control)
+    {
+        let text = given.get_str("issue").unwrap_or("");
+        no_control(rt, text, "the plan has no such output");
+        return Ok(ExitCode::from(exit::USAGE));
+    }
+    Ok(start(rt, &words, &plan))
+}
+
+/// Opens the files, or makes them, and runs the centre over them.
+fn start(rt: &HostRuntime, words: &Words<'_>, plan: &Plan) -> ExitCode
+    requires { KeepsLimits plan.now }
+{
+    let journal = match journal_there(rt, &words.journal) {
+        Ok(journal) => journal,
+        Err(status) => return status,
+    };
+    match files::book_there(rt, &words.controls) {
+        Ok(book) => carry_on(rt, words, plan, journal, book),
+        Err(status) => status,
+    }
+}
+
+/// The journal in its file.
+fn journal_there(rt: &HostRuntime, place: &Place<'_>) -> Result<Journal<Stored>, ExitCode> {
+    let conn = files::connection(rt, place)?;
+    files::journal(rt, place, conn)
+}
+
+/// Runs the centre over its stores, and closes their files.
+fn carry_on<D: Disk + Drop, R>(
+    rt: &R,
+    words: &Words<'_>,
+    plan: &Plan,
+    journal: Journal<FileStore<D>>,
+    book: ControlBook<FileStore<D>>,
+) -> ExitCode
+where
+    R: AllocGlobal + Print + Eprint + Clock + Net<Listener = TcpListener, Stream = TcpStream>,
+    requires { KeepsLimits plan.now }
+{
+    match Centre::new(rt.alloc(), plan, journal, book) {
+        Ok(mut centre) => {
+            let status = match run_once(rt, &mut centre, words, plan) {
+                Ok(()) => ExitCode::from(exit::DONE),
+                Err(status) => status,
+            };
+            let (journal, book) = centre.into_stores();
+            let first = files::close(rt, &words.journal, journal.into_connection());
+            let second = files::close(rt, &words.controls, book.into_connection());
+            if first && second {
+                status
+            } else {
+                ExitCode::from(exit::FAULT)
+            }
+        }
+        Err(fault) => {
+            let _ = eprintln!(rt; "dnp: {fault}");
+            ExitCode::from(exit::FAULT)
+        }
+    }
+}
+
+/// Looks whether what the stores hold is of the plan, issues the control, and asks the concentrator. Where something
+/// fails, the exit status is told.
+fn run_once<J: JournalStore, B: Book, R>(
+    rt: &R,
+    centre: &mut Centre<J, B>,
+    words: &Words<'_>,
+    plan: &Plan,
+) -> Result<(), ExitCode>
+where
+    R: AllocGlobal + Print + Eprint + Clock + Net<Listener = TcpListener, Stream = TcpStream>,
+{
+    look_at_journal(rt, &words.journal, centre.journal(), plan)?;
+    look_at_book(rt, &words.controls, centre.book(), plan, true)?;
+    let issued = match &words.issue {
+        Some((substation, control)) => Some(issue(rt, centre, *substation, control)?),
+        None => None,
+    };
+    let asked = ask(rt, centre, words, plan);
+    if let Some(id) = issued {
+        say_state(rt, centre.book(), id);
+    }
+    asked
+}
+
+/// Issues a control, and says on standard error by which number it stands in the book. Where it can't be issued, that is
+/// said, and the exit status is told.
+fn issue<J: JournalStore, B: Book, R: AllocGlobal + Eprint>(
+    rt: &R,
+    centre: &mut Centre<J, B>,
+    substation: u8,
+    control: &Control,
+) -> Result<u64, ExitCode> {
+    match centre.issue(rt.alloc(), substation, control) {
+        Ok(id) => {
+            let _ = eprintln!(rt; "dnp: issued as control {id}");
+            Ok(id)
+        }
+        Err(fault) => {
+            let _ = eprintln!(rt; "dnp: the control was not issued: {fault}");
+            Err(ExitCode::from(exit::FAULT))
+        }
+    }
+}
+
+/// Asks the concentrator, and prints how many rows the journal grew by. Where the connection can't be had, or fails, the
+/// exit status is told.
+fn ask<J: JournalStore, B: Book, R>(
+    rt: &R,
+    centre: &mut Centre<J, B>,
+    words: &Words<'_>,
+    plan: &Plan,
+) -> Result<(), ExitCode>
+where
+    R: AllocGlobal + Print + Eprint + Clock + Net<Listener = TcpListener, Stream = TcpStream>,
+{
+    // (the concentrator may be waiting for each of the substations in turn)
+    let waits = plan.substations.as_slice().len().saturating_add(1) as u64;
+    let call = Call {
+        peer: Peer::Concentrator,
+        port: words.port,
+        own: CENTRE,
+        other: CONCENTRATOR_ABOVE,
+        patience_ms: plan.times.response_ms.saturating_mul(waits),
+    };
+    let before = centre.journal().count();
+    let Some(stream) = call.connect(rt) else {
+        return Err(ExitCode::from(exit::FAULT));
+    };
+    let ended = call.ask(rt, centre, &TASKS, &stream);
+    let rows = centre.journal().count().saturating_sub(before);
+    if let Err(cause) = println!(rt; "rows {rows}") {
+        return Err(unwritten(rt, &cause));
+    }
+    match ended {
+        Ended::Done(_) => Ok(()),
+        Ended::Failed | Ended::Lost => Err(ExitCode::from(exit::FAULT)),
+    }
+}
+
+/// Says on standard error what became of a control.
+fn say_state<B: Book, R: AllocGlobal + Eprint>(rt: &R, book: &mut B, id: u64) {
+    let Ok(entries) = book.rows(rt.alloc(), id.saturating_sub(1), 1) else {
+        return;
+    };
+    let Some(entry) = entries.first() else {
+        return;
+    };
+    let _ = match entry.state {
+        State::Pending => {
+            eprintln!(rt;
+                "dnp: control {id} is pending: the next run sends it, and to issue it again would double it"
+            )
+        }
+        State::Spent => {
+            eprintln!(rt;
+                "dnp: control {id} was sent, and its answer is not known: it is not sent again"
+            )
+        }
+        State::Finished(status) => {
+            eprintln!(rt;
+                "dnp: control {id} was answered with status {}",
+                status.code()
+            )
+        }
+    };
+}

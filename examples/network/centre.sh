@@ -1,0 +1,10 @@
+#!/bin/bash
+# The centre of plan.toml polls once, over journal.db and above.db of this folder, which it makes where journal.db isn't
+# there, and then shows both. Further words go to `dnp centre`: centre.sh --issue '0 block 3 1 1 250 0'
+network=$(cd "$(dirname "${BASH_SOURCE[0]}")" && pwd)
+[ -e journal.db ] || new=--new
+"$network/../../dnp" centre --plan "$network/plan.toml" --journal journal.db --controls above.db --port 20000 $new "$@"
+status=$?
+sqlite3 -header journal.db 'SELECT * FROM journal'
+sqlite3 -header above.db 'SELECT id, point, code, on_ms, state, status FROM control'
+exit "$status"

@@ -1,0 +1,57 @@
+#!/usr/bin/env python3
+"""kills.py KILLS EVENTS SEED: the programs of a network, killed at random moments, the concentrator in half of the cases and the
+centre in the others. Then all goes on in good order, and no event may be lost, and no control operated twice."""
+import random
+import shutil
+import signal
+import sys
+import tempfile
+import time
+
+from network import Network
+
+
+def main():
+    kills, events, seed = (int(word) for word in sys.argv[1:])
+    chance = random.Random(seed)
+    room = tempfile.mkdtemp(prefix="kills-")
+    network = Network(room, events)
+    faults, told = [], ""
+    try:
+        assert network.begin(new=True), "it did not begin"
+        assert network.poll(new=True) == 0, "the first poll failed"
+        done = serial = 0
+        while done < kills and not faults:
+            if network.concentrator.poll() is not None and not network.begin():
+                faults.append("a store did not open again")
+                break
+            serial += chance.random() < 0.5
+            centre = network.centre(issue=f"0 block 0 1 1 {serial} 0" if chance.random() < 0.5 else None)
+            time.sleep(chance.random() ** 2 * 0.15)
+            program = network.concentrator if chance.random() < 0.5 else centre
+            if program.poll() is None:
+                program.send_signal(signal.SIGKILL)
+                done += 1
+            centre.communicate(timeout=60)
+            network.statuses[f"centre {centre.returncode}"] += 1
+        if not faults and not network.settle(8):
+            faults.append("it did not go on in good order")
+        time.sleep(0.2)
+        network.end()
+        more, told = network.count()
+        faults += more
+        if not any(name != "centre -9" and name not in ("centre 0", "centre 3") for name in network.statuses):
+            told += f"; {dict(sorted(network.statuses.items()))}"
+        else:
+            faults.append(f"exit statuses {dict(network.statuses)}")
+    finally:
+        network.end()
+    for fault in faults:
+        print(f"    {fault} (seed {seed}, in {room})")
+    if not faults:
+        shutil.rmtree(room)
+    print(f"{'FAILED' if faults else 'ok'} programs:killed-{kills}-times-at-{events}-events-a-poll ({told})")
+    return bool(faults)
+
+
+sys.exit(main())

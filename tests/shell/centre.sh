@@ -1,0 +1,107 @@
+#!/bin/bash
+# `dnp centre` from the shell: its words, its files, controls, and a concentrator that fails.
+. "$(dirname "${BASH_SOURCE[0]}")/../expect.bash"
+. "$top/tests/networks.bash"
+trap 'gone; kill "${concentrating-}" 2>/dev/null; rm -rf "$room"' EXIT
+
+below=$(free) port=$(free)
+plan plan.toml 1 2
+words="--journal journal.db --controls above.db --port $port"
+
+# Words, then the plan's file, then its text, then words against the plan, then files
+for wrong in '' '--plan plan.toml' "--plan none.toml --journal journal.db --controls above.db --port 65536" \
+    "--plan none.toml $words --rounds 1"; do
+    expect "takes-no-words:centre $wrong" 2 '' '' centre $wrong
+done
+# commands TEXT: which are no words of a control, whatever the plan
+for text in '' '0' '0 block 0 1 1 0' '0 block 0 1 1 0 0 0' '0 block 0 256 1 0 0' '16 block 0 1 1 0 0' 'issue 0 block 0 1 1 0 0' \
+    '0 set16 0 32768' '0 set32  0 1' '0 set8 0 1' $'0 set16 0 1\n' '0 set16 0 +1'; do
+    expect "issues-no:$text" 2 '' '' centre --plan none.toml $words --issue "$text"
+    says "tells-what-is-no-control:$text" "error: invalid value '${text//$'\n'/\\n}' for '--issue <TEXT>': not the words of a control
+
+For more information, try '--help'."
+done
+expect has-no-plan 3 '' '' centre --plan none.toml $words --issue '15 set16 0 1'
+says tells-that-it-has-no-plan 'dnp: none.toml: No such file or directory (os error 2)'
+plan wrong.toml 1 2 retries=4
+expect refuses-a-plan-before-a-control 1 'refused plan 3' '' centre --plan wrong.toml $words --issue '15 set16 0 1'
+for text in '2 set16 0 1' '0 set16 1 1' '1 block 1 1 1 0 0'; do
+    expect "has-no-output-for:$text" 2 '' '' centre --plan plan.toml $words --issue "$text" --new
+    says "tells-of-no-output-for:$text" "error: invalid value '$text' for '--issue <TEXT>': the plan has no such output
+
+For more information, try '--help'."
+done
+[ ! -e journal.db ] && [ ! -e above.db ] && echo ok makes-no-file-for-no-output || echo FAILED makes-no-file-for-no-output
+expect has-no-journal 3 '' '' centre --plan plan.toml $words
+says tells-that-it-has-no-journal 'dnp: journal.db: No such file or directory (os error 2)'
+: >empty.db
+expect takes-no-empty-journal 1 '' '' centre --plan plan.toml --journal empty.db --controls above.db --port "$port"
+says tells-that-no-journal-was-made "dnp: empty.db: no journal was made there: remove the file, and let '--new' make one"
+expect takes-no-file-twice 3 '' '' centre --plan plan.toml --journal twice.db --controls twice.db --port "$port" --new
+
+# Nobody listens: a control stands in the book, and the next run sends it
+polls finds-nobody 3 '' --new --issue '0 set16 0 -7'
+says tells-that-nobody-is-there "dnp: issued as control 1
+dnp: the concentrator: port $port: Connection refused (os error 111)
+dnp: control 1 is pending: the next run sends it, and to issue it again would double it"
+holds keeps-the-control above.db 'SELECT id, kind, point, value, state FROM control' '1|1|0|-7|0'
+polls makes-no-second-journal 1 '' --new
+says tells-of-a-journal-that-is-there "dnp: journal.db: a journal is there already, or tables of its names: leave '--new' away, or remove the file"
+
+substation 0 2
+substation 1 none
+concentrates --new --rounds 4
+listens "$port"
+polls sends-what-is-pending 0 'rows 2'
+says says-nothing-of-a-good-run ''
+polls issues-another 0 'rows 2' --issue '0 block 0 1 1 33 0'
+says tells-what-became-of-it 'dnp: issued as control 2
+dnp: control 2 was answered with status 0'
+polls issues-what-is-no-code 0 'rows 2' --issue '0 block 0 0 1 34 0'
+says tells-of-a-refusal 'dnp: issued as control 3
+dnp: control 3 was answered with status 4'
+polls polls-on 0 'rows 2'
+ended counts-rounds 0 'round 1 rows 2
+round 2 rows 2
+round 3 rows 2
+round 4 rows 2'
+grep operated log-0 >out
+judge operates-in-the-next-round 0 'operated -7
+operated 33' 0
+holds has-finished-controls above.db 'SELECT id, state, status FROM control' '1|2|0
+2|2|0
+3|2|4'
+holds has-each-event-once journal.db 'SELECT group_concat(value) FROM journal' '1,2,3,4,5,6,7,8'
+gone
+
+# A concentrator that is silent, and one that leaves
+plan plan.toml 1 2 response_ms=300
+python3 -c '
+import socket, sys, time
+s = socket.socket()
+s.setsockopt(socket.SOL_SOCKET, socket.SO_REUSEADDR, 1)
+s.bind(("127.0.0.1", int(sys.argv[1])))
+s.listen()
+first, _ = s.accept()
+began = time.monotonic()
+while first.recv(1000):
+    pass
+print(int(1000 * (time.monotonic() - began)), flush=True)
+second, _ = s.accept()
+second.close()' "$port" >held &
+running+=($!)
+listens "$port"
+polls waits-for-a-silent-one 3 'rows 0'
+says tells-of-silence 'dnp: the concentrator: the stream could not be read: no answer in 900 ms'
+took=$(<held)
+if ((took >= 890 && took <= 1900)); then echo ok waits-for-each-in-turn; else echo "FAILED waits-for-each-in-turn: $took ms"; fi
+polls fails-with-one-that-leaves 3 'rows 0'
+gone
+
+# A plan that has changed under what is stored
+plan plan.toml 0 2
+polls takes-no-row-that-is-not-planned 1 ''
+says names-the-row-that-is-not-planned 'dnp: journal.db: row 1, analog 0 1 01 -: the plan has no such point'
+sed -i 's/^setpoints = 1/setpoints = 0/; s/^analog = .*/analog = [1]/; s/^deadband = .*/deadband = [0]/' plan.toml
+polls takes-no-control-that-is-not-planned 1 ''
+says names-the-control-that-is-not-planned 'dnp: above.db: control 1, 0 set16 0 -7: the plan has no such output'

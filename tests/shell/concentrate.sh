@@ -1,0 +1,146 @@
+#!/bin/bash
+# `dnp concentrate` from the shell: its words, its files, and substations of another make, some of which fail.
+. "$(dirname "${BASH_SOURCE[0]}")/../expect.bash"
+. "$top/tests/networks.bash"
+trap 'gone; kill "${concentrating-}" 2>/dev/null; rm -rf "$room"' EXIT
+
+below=$(free) port=$(free)
+plan plan.toml 1 2
+words="--queue queue.db --controls below.db --port $port --below $below"
+
+# Words, then the plan's file, then its text, then words against the plan
+for wrong in '' '--plan plan.toml' "--plan none.toml $words --rounds 0" "--plan none.toml $words --rounds 1000001" \
+    "--plan none.toml --queue queue.db --controls below.db --port 0 --below $below" "--plan none.toml $words --connections 1" \
+    "--plan none.toml --queue queue.db --controls below.db --port $port --below 65536"; do
+    expect "takes-no-words:concentrate $wrong" 2 '' '' concentrate $wrong
+done
+expect has-no-plan 3 '' '' concentrate --plan none.toml $words
+says tells-that-it-has-no-plan 'dnp: none.toml: No such file or directory (os error 2)'
+plan wrong.toml 1 2 retries=4
+expect refuses-a-plan-before-a-port 1 'refused plan 3' '' concentrate --plan wrong.toml --queue queue.db --controls below.db --port 1 --below 65535
+says tells-why-it-refuses-a-plan 'dnp: wrong.toml: retries: 4, where a whole number from 0 to 3 belongs'
+expect has-no-port-for-the-last 2 '' '' concentrate --plan plan.toml --queue queue.db --controls below.db --port "$port" --below 65535
+expect looks-at-ports-before-files 2 '' '' concentrate --plan plan.toml --queue "$room" --controls below.db --port "$port" --below 65535
+
+# Files: what is there, or isn't
+expect has-no-queue 3 '' '' concentrate --plan plan.toml $words
+says tells-that-it-has-no-queue 'dnp: queue.db: No such file or directory (os error 2)'
+[ ! -e queue.db ] && [ ! -e below.db ] && echo ok makes-no-file || echo FAILED makes-no-file
+refused="--plan plan.toml --port $port --below $below"
+echo 'no database, but longer than the head of one is, which has a hundred octets, and so a text of some length' >text.db
+: >empty.db
+sqlite3 other.db 'CREATE TABLE form (number INTEGER NOT NULL); INSERT INTO form VALUES (1)'
+mkdir folder.db
+expect takes-no-text-for-a-queue 1 '' '' concentrate $refused --queue text.db --controls below.db
+says tells-that-a-text-is-no-queue 'dnp: text.db: no queue: file is not a database that obeys its schema'
+expect takes-no-empty-file 1 '' '' concentrate $refused --queue empty.db --controls below.db
+says tells-that-no-queue-was-made "dnp: empty.db: no queue was made there: remove the file, and let '--new' make one"
+expect takes-no-other-tables-for-a-queue 1 '' '' concentrate $refused --queue other.db --controls below.db
+says tells-that-other-tables-are-no-queue 'dnp: other.db: no queue, or not whole'
+expect makes-no-queue-over-a-name-of-its-own 1 '' '' concentrate $refused --queue other.db --controls below.db --new
+says tells-what-is-there-already "dnp: other.db: a queue is there already, or tables of its names: leave '--new' away, or remove the file"
+expect takes-no-folder 3 '' '' concentrate $refused --queue folder.db --controls below.db
+expect takes-no-file-twice 3 '' '' concentrate $refused --queue twice.db --controls twice.db --new
+says tells-that-a-file-is-given-twice 'dnp: twice.db: in use by another program, or given for two stores'
+rm -f twice.db*
+
+# A round: the events of one substation, and none of one of ours
+substation 0 3
+substation 1 outstation
+concentrates --new --rounds 3
+listens "$port"
+polls has-three-events 0 'rows 3' --new
+polls has-the-next-three 0 'rows 3'
+polls takes-a-control 0 'rows 3' --issue '1 block 0 3 1 250 0'
+ended prints-each-round 0 'round 1 rows 3
+round 2 rows 3
+round 3 rows 3'
+says says-nothing-of-good-rounds ''
+holds has-let-the-confirmed-go queue.db 'SELECT count(*) FROM queue' 0
+holds has-the-control below.db 'SELECT target, point, code, on_ms, state FROM control' '1|0|3|250|0'
+holds keeps-the-journal journal.db 'SELECT group_concat(value), min(point), max(point) FROM journal' '1,2,3,4,5,6,7,8,9|0|0'
+for store in queue below; do
+    holds "keeps-a-whole-file:$store" "$store.db" 'PRAGMA integrity_check' ok
+done
+expect makes-no-second-queue 1 '' '' concentrate $refused --queue queue.db --controls below.db --new
+expect takes-no-book-for-a-queue 1 '' '' concentrate $refused --queue below.db --controls queue.db
+says tells-that-a-book-is-no-queue 'dnp: below.db: no queue, or not whole'
+
+# The next run sends the control, and goes on with what stands
+concentrates
+listens "$port"
+polls has-three-more 0 'rows 3'
+ended goes-on 0 'round 1 rows 3'
+holds has-sent-the-control below.db 'SELECT state, status FROM control' '2|0'
+
+# In use by another program, which serves on
+concentrates
+listens "$port"
+expect takes-no-file-in-use 3 '' '' concentrate $refused --queue queue.db --controls below.db
+says tells-that-a-file-is-in-use 'dnp: queue.db: in use by another program, or given for two stores'
+expect takes-no-port-in-use 3 '' '' concentrate $refused --queue second.db --controls third.db --new
+says tells-that-a-port-is-in-use "dnp: port $port: Address already in use (os error 98)"
+polls is-served-all-the-same 0 'rows 3'
+ended serves-all-the-same 0 'round 1 rows 3'
+
+# A plan that has changed under what is stored
+concentrates
+while [ ! -s rounds ] && kill -0 "$concentrating" 2>/dev/null; do sleep 0.01; done
+kill -9 "$concentrating"
+wait "$concentrating" 2>/dev/null
+plan changed.toml 0 2
+for _ in {1..100}; do
+    "$dnp" concentrate --plan changed.toml $words >out 2>err </dev/null
+    [ $? = 3 ] || break
+    sleep 0.05
+done
+expect takes-no-row-that-is-not-planned 1 '' '' concentrate --plan changed.toml $words
+says names-the-row-that-is-not-planned 'dnp: queue.db: row 16, analog 0 16 01 -: the plan has no such point with a class'
+plan changed.toml 1 1
+expect takes-no-control-that-is-not-planned 1 '' '' concentrate --plan changed.toml $words
+says names-the-control-that-is-not-planned 'dnp: below.db: control 1, 1 block 0 3 1 250 0: the plan has no such output'
+
+# Other tables beside the queue's: it works
+sqlite3 beside.db 'CREATE TABLE beside (x INTEGER)'
+"$dnp" concentrate $refused --queue beside.db --controls next.db --new >rounds 2>said </dev/null &
+concentrating=$!
+listens "$port"
+polls polls-over-other-tables 0 'rows 3'
+ended works-beside-other-tables 0 'round 1 rows 3'
+says tells-of-other-tables 'dnp: beside.db: other tables stand there too: nothing is promised of what is stored beside them'
+gone
+
+# Substations that are not there, silent, send noise, or rows that are not planned: a line each, and the next one is polled
+# printed COUNT: waits until so many rounds are printed
+printed() {
+    while [ "$(wc -l <rounds)" -lt "$1" ] && kill -0 "$concentrating" 2>/dev/null; do sleep 0.01; done
+}
+ms() { echo $(($(date +%s%N) / 1000000)); }
+# fails NAME EVENTS LEAST MOST LINE: substation 0 fails so, in so many milliseconds, and 1 has its events. The time is that of
+# the second round, which begins with the end of the centre's first connection.
+fails() {
+    local before after ended
+    rm -f queue.db below.db
+    substation 1 2
+    [ "$2" = none ] || substation 0 "$2"
+    concentrates --new --rounds 2
+    printed 1
+    before=$(ms)
+    polls "is-served-after-$1" 0 'rows 2'
+    after=$(ms)
+    printed 2
+    ended=$(ms)
+    polls "is-served-again-after-$1" 0 'rows 2'
+    ended "goes-on-after-$1" 0 $'round 1 rows 2\nround 2 rows 2'
+    says "tells-of-$1" "dnp: substation 0: $5${lf}dnp: substation 0: $5"
+    if ((ended - before >= $3 && ended - after <= $4)); then
+        echo "ok waits-in-time-for-$1"
+    else
+        echo "FAILED waits-in-time-for-$1: $((ended - before)) and $((ended - after)) ms"
+    fi
+    gone
+}
+fails one-that-is-not-there none 0 1000 "port $below: Connection refused (os error 111)"
+fails a-silent-one silent 1000 2000 'the stream could not be read: no answer in 1000 ms'
+fails noise noise 1000 2000 'the stream could not be read: no answer in 1000 ms'
+fails rows-that-are-not-planned stranger 1000 2000 'the stream could not be read: no answer in 1000 ms'
