@@ -19,8 +19,7 @@ use dnp_eventbuf::JournalStore;
 use dnp_master::{Classes, Task};
 use dnp_objects::Command as Control;
 use dnp_store::{ControlBook, Journal};
-use sqlite::FileStore;
-use sqlite_disk::Disk;
+use sqlite::{Alter, Connection};
 use std::alloc::{AllocError, Global};
 use std::net::{Net, TcpListener, TcpStream};
 use std::process::ExitCode;
@@ -184,7 +183,7 @@ pub(crate) fn run(rt: &HostRuntime, given: &ArgMatches<'_>) -> anyhow::Result<Ex
     Ok(start(rt, &words, &plan))
 }
 
-/// Opens the files, or makes them, and runs the centre over them.
+/// Opens the files, or makes them, runs the centre over them, and closes them.
 fn start(rt: &HostRuntime, words: &Words<'_>, plan: &Plan) -> ExitCode
     requires { KeepsLimits plan.now }
 {
@@ -192,8 +191,14 @@ fn start(rt: &HostRuntime, words: &Words<'_>, plan: &Plan) -> ExitCode
         Ok(journal) => journal,
         Err(status) => return status,
     };
-    match files::book_there(rt, &words.controls) {
-        Ok(book) => carry_on(rt, words, plan, journal, book),
+    let book = match files::book_there(rt, &words.controls) {
+        Ok(book) => book,
+        Err(status) => return status,
+    };
+    match carry_on(rt, words, plan, journal, book) {
+        Ok((status, journal, book)) => {
+            files::close_both(rt, &words.journal, journal, &words.controls, book, status)
+        }
         Err(status) => status,
     }
 }
@@ -204,14 +209,36 @@ fn journal_there(rt: &HostRuntime, place: &Place<'_>) -> Result<Journal<Stored>,
     files::journal(rt, place, conn)
 }
 
-/// Runs the centre over its stores, and closes their files.
-fn carry_on<D: Disk + Drop, R>(
+/// Runs the centre over its stores, and gives their databases back, with the exit status. Where it can't begin, the exit
+/// status alone is told.
+fn carry_on<S: Alter + Drop, R>(
     rt: &R,
     words: &Words<'_>,
     plan: &Plan,
-    journal: Journal<FileStore<D>>,
-    book: ControlBook<FileStore<D>>,
-) -> ExitCode
+    journal: Journal<S>,
+    book: ControlBook<S>,
+) -> Result<(ExitCode, Connection<S>, Connection<S>), ExitCode>
+where
+    R: AllocGlobal + Print + Eprint + Clock + Net<Listener = TcpListener, Stream = TcpStream>,
+    requires { KeepsLimits plan.now }
+{
+    match run_over(rt, words, plan, journal, book) {
+        Ok((status, journal, book)) => {
+            Ok((status, journal.into_connection(), book.into_connection()))
+        }
+        Err(status) => Err(status),
+    }
+}
+
+/// Runs a centre over these stores, and gives them back, with the exit status. Where it can't begin, why is said on
+/// standard error, and the exit status alone is told.
+fn run_over<J: JournalStore + Drop, B: Book + Drop, R>(
+    rt: &R,
+    words: &Words<'_>,
+    plan: &Plan,
+    journal: J,
+    book: B,
+) -> Result<(ExitCode, J, B), ExitCode>
 where
     R: AllocGlobal + Print + Eprint + Clock + Net<Listener = TcpListener, Stream = TcpStream>,
     requires { KeepsLimits plan.now }
@@ -223,17 +250,11 @@ where
                 Err(status) => status,
             };
             let (journal, book) = centre.into_stores();
-            let first = files::close(rt, &words.journal, journal.into_connection());
-            let second = files::close(rt, &words.controls, book.into_connection());
-            if first && second {
-                status
-            } else {
-                ExitCode::from(exit::FAULT)
-            }
+            Ok((status, journal, book))
         }
         Err(fault) => {
             let _ = eprintln!(rt; "dnp: {fault}");
-            ExitCode::from(exit::FAULT)
+            Err(ExitCode::from(exit::FAULT))
         }
     }
 }

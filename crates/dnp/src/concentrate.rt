@@ -20,8 +20,7 @@ use dnp_daemons::{Above, Below};
 use dnp_eventbuf::Lanes;
 use dnp_master::{Classes, Task};
 use dnp_store::{ControlBook, Queue};
-use sqlite::FileStore;
-use sqlite_disk::Disk;
+use sqlite::{Alter, Connection};
 use std::alloc::{AllocError, Global};
 use std::net::{IpAddr, Ipv4Addr, Net, SocketAddr, TcpListener, TcpStream};
 use std::process::ExitCode;
@@ -170,7 +169,7 @@ fn has_ports<R: Eprint>(rt: &R, words: &Words<'_>, plan: &Plan) -> bool {
     false
 }
 
-/// Opens the files, or makes them, and runs the concentrator over them.
+/// Opens the files, or makes them, runs the concentrator over them, and closes them.
 fn start(rt: &HostRuntime, words: &Words<'_>, plan: &Plan) -> ExitCode
     requires { KeepsLimits plan.now }
 {
@@ -178,8 +177,14 @@ fn start(rt: &HostRuntime, words: &Words<'_>, plan: &Plan) -> ExitCode
         Ok(queue) => queue,
         Err(status) => return status,
     };
-    match files::book_there(rt, &words.controls) {
-        Ok(book) => carry_on(rt, words, plan, queue, book),
+    let book = match files::book_there(rt, &words.controls) {
+        Ok(book) => book,
+        Err(status) => return status,
+    };
+    match carry_on(rt, words, plan, queue, book) {
+        Ok((status, queue, book)) => {
+            files::close_both(rt, &words.queue, queue, &words.controls, book, status)
+        }
         Err(status) => status,
     }
 }
@@ -192,14 +197,34 @@ fn queue_there(rt: &HostRuntime, words: &Words<'_>, plan: &Plan) -> Result<Queue
     files::queue(rt, &words.queue, conn, plan.queue)
 }
 
-/// Runs the concentrator over its stores, and closes their files.
-fn carry_on<D: Disk + Drop, R>(
+/// Runs the concentrator over its stores, and gives their databases back, with the exit status. Where it can't begin, the
+/// exit status alone is told.
+fn carry_on<S: Alter + Drop, R>(
     rt: &R,
     words: &Words<'_>,
     plan: &Plan,
-    queue: Queue<FileStore<D>>,
-    book: ControlBook<FileStore<D>>,
-) -> ExitCode
+    queue: Queue<S>,
+    book: ControlBook<S>,
+) -> Result<(ExitCode, Connection<S>, Connection<S>), ExitCode>
+where
+    R: AllocGlobal + Print + Eprint + Clock + Net<Listener = TcpListener, Stream = TcpStream>,
+    requires { KeepsLimits plan.now }
+{
+    match run_over(rt, words, plan, queue, book) {
+        Ok((status, queue, book)) => Ok((status, queue.into_connection(), book.into_connection())),
+        Err(status) => Err(status),
+    }
+}
+
+/// Runs a concentrator over these stores, and gives them back, with the exit status. Where it can't begin, why is said on
+/// standard error, and the exit status alone is told.
+fn run_over<Q: Lanes + Drop, B: Book + Drop, R>(
+    rt: &R,
+    words: &Words<'_>,
+    plan: &Plan,
+    queue: Q,
+    book: B,
+) -> Result<(ExitCode, Q, B), ExitCode>
 where
     R: AllocGlobal + Print + Eprint + Clock + Net<Listener = TcpListener, Stream = TcpStream>,
     requires { KeepsLimits plan.now }
@@ -211,17 +236,11 @@ where
                 Err(status) => status,
             };
             let (queue, book) = concentrator.into_stores();
-            let first = files::close(rt, &words.queue, queue.into_connection());
-            let second = files::close(rt, &words.controls, book.into_connection());
-            if first && second {
-                status
-            } else {
-                ExitCode::from(exit::FAULT)
-            }
+            Ok((status, queue, book))
         }
         Err(fault) => {
             let _ = eprintln!(rt; "dnp: {fault}");
-            ExitCode::from(exit::FAULT)
+            Err(ExitCode::from(exit::FAULT))
         }
     }
 }

@@ -201,3 +201,21 @@ pub(crate) fn close<D: Disk + Drop, R: Eprint>(
         }
     }
 }
+
+/// Closes the databases of two stores in good order, and gives this exit status; that of a fault where one couldn't be
+/// closed, which is said on standard error.
+pub(crate) fn close_both<D: Disk + Drop, R: Eprint>(
+    rt: &R,
+    first: &Place<'_>,
+    one: Connection<FileStore<D>>,
+    second: &Place<'_>,
+    other: Connection<FileStore<D>>,
+    status: ExitCode,
+) -> ExitCode {
+    let closed = close(rt, first, one);
+    if close(rt, second, other) && closed {
+        status
+    } else {
+        ExitCode::from(exit::FAULT)
+    }
+}
