@@ -25,8 +25,9 @@ def main():
             if network.concentrator.poll() is not None and not network.begin():
                 faults.append("a store did not open again")
                 break
-            serial += chance.random() < 0.5
-            centre = network.centre(issue=f"0 block 0 1 1 {serial} 0" if chance.random() < 0.5 else None)
+            issues = chance.random() < 0.5
+            serial += issues
+            centre = network.centre(issue=f"0 block 0 1 1 {serial} 0" if issues else None)
             time.sleep(chance.random() ** 2 * 0.15)
             program = network.concentrator if chance.random() < 0.5 else centre
             if program.poll() is None:

@@ -136,7 +136,7 @@ class Network:
         journal = collections.Counter(value for (value,) in self.rows("journal.db", "SELECT value FROM journal"))
         queue = {value for (value,) in self.rows("queue.db", "SELECT value FROM queue")}
         ((dropped,),) = self.rows("queue.db", "SELECT sum(lost) FROM lanes")
-        issued = self.rows("above.db", "SELECT on_ms FROM control")
+        issued = collections.Counter(f"operated {serial}" for (serial,) in self.rows("above.db", "SELECT on_ms FROM control"))
         self.rows("below.db", "SELECT id FROM control")
         faults = []
         missing = [value for value in range(1, made + 1) if value not in journal and value not in queue]
@@ -146,9 +146,10 @@ class Network:
             faults.append("the journal has an event that never was")
         if dropped:
             faults.append(f"{dropped} events were dropped")
-        if any(count > 1 for count in operated.values()):
-            faults.append(f"a control was operated twice: {operated}")
-        if not {int(line.split()[1]) for line in operated} <= {serial for (serial,) in issued}:
+        often = [line for line, count in operated.items() if count > issued[line]]
+        if often:
+            faults.append(f"controls were operated more often than they were issued: {often}")
+        if not operated.keys() <= issued.keys():
             faults.append("a control was operated that was never issued")
         again = sum(1 for count in journal.values() if count > 1)
-        return faults, f"{made} events, {again} of them again; {len(issued)} controls, {len(operated)} operated"
+        return faults, f"{made} events, {again} of them again; {issued.total()} controls, {operated.total()} operated"
