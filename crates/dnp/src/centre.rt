@@ -200,7 +200,9 @@ impl<S: Alter + Drop> Program<S, Journal<S>> for Words<'_> {
         plan: &Plan,
         first: Journal<S>,
         book: ControlBook<S>,
-    ) -> Result<Centre<Journal<S>, ControlBook<S>>, MapFault> {
+    ) -> Result<Centre<Journal<S>, ControlBook<S>>, MapFault>
+        requires { KeepsLimits plan.now }
+    {
         Centre::new(alloc, plan, first, book)
     }
 

@@ -188,7 +188,9 @@ impl<S: Alter + Drop> Program<S, Queue<S>> for Words<'_> {
         plan: &Plan,
         first: Queue<S>,
         book: ControlBook<S>,
-    ) -> Result<Concentrator<Queue<S>, ControlBook<S>>, MapFault> {
+    ) -> Result<Concentrator<Queue<S>, ControlBook<S>>, MapFault>
+        requires { KeepsLimits plan.now }
+    {
         Concentrator::new(alloc, plan, first, book)
     }
 
