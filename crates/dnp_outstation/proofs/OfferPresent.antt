@@ -33,7 +33,6 @@ pub point_fits : (kind : Kind) (asked : ℕ) (row : Row) → Fits (static_object
     → FitsPoint (static_object kind asked).0 (static_object kind asked).1 row
 point_fits kind asked row fits = record { object_is = static_is kind asked; row_fits = fits }
 
-
 -- ---- places
 
 kept : {A : Type 0} (b : Bool) (x : A) (xs ys : List A) → b ≡ true → xs ≡ ys → cond b (x ∷ xs) xs ≡ x ∷ ys

@@ -150,9 +150,7 @@ impl Writer {
             first,
             points,
         };
-        let count = self
-            .builder
-            .points(group, variation, first as u16, values);
+        let count = self.builder.points(group, variation, first as u16, values);
         if count == 0 {
             return false;
         }
