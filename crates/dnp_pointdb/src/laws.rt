@@ -138,14 +138,14 @@ pub fn a_point_has_its_index()
         → place < length block.points → state_at database kind (block.base + place) ≡ slice_get block.points place }
 {}
 
-/// A reading in range can be written as a present value of its kind: 1.2, 20.1 or 30.1. So can the
-/// reading of each point of a sound database.
+/// A reading in range can be written as a present value of its kind, whatever variation was asked for: 1.2,
+/// 20.1 or 30.1. So can the reading of each point of a sound database.
 pub fn readings_fit_their_static_objects()
-    ensures carried { (kind : KindValue) (index : ℕ) (reading : ReadingValue)
+    ensures carried { (kind : KindValue) (asked index : ℕ) (reading : ReadingValue)
         → is_carried kind reading ≡ true
-        → let object = sound.static_object kind in Fits object.0 object.1 (row_of kind index reading) }
-    ensures kept { (database : Database) (kind : KindValue) (index : ℕ) → sound.IsSound database
-        → let object = sound.static_object kind in IfSome (state_at database kind index)
+        → let object = sound.static_object kind asked in Fits object.0 object.1 (row_of kind index reading) }
+    ensures kept { (database : Database) (kind : KindValue) (asked index : ℕ) → sound.IsSound database
+        → let object = sound.static_object kind asked in IfSome (state_at database kind index)
         (λ state. Fits object.0 object.1 (row_of kind index state.reading)) }
 {}
 
