@@ -38,7 +38,12 @@ fn append<Q: Lanes>(queue: &mut Q, alloc: Global, rows: &[LaneRow]) -> Result<Ro
 
 impl<Q: Lanes, B: Book> Concentrator<Q, B> {
     /// Queues a substation's events by one append, if there are any: the rows that the queue dropped for them.
-    fn queue_events(&mut self, alloc: Global, substation: u8, events: &[Row]) -> Result<Rows, MasterFault>
+    fn queue_events(
+        &mut self,
+        alloc: Global,
+        substation: u8,
+        events: &[Row],
+    ) -> Result<Rows, MasterFault>
         requires { All IsEvent events.now }
         ensures links { links_of self.new ≡ links_of self.old }
         ensures core { core_of self.new ≡ core_of self.old }

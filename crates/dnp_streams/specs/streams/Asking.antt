@@ -74,13 +74,13 @@ CentreRefuses old task fault = ask_answer old.link.master task ≡ Err fault
 
 -- the step of relaying by the centre's book, whose one target is the station below
 abbrev pub centre_step : CentreSeen → RelayStep
-centre_step s = step_of s.link s.orders.entries 0
+centre_step s = step_of s.link s.controls.entries 0
 
 -- the book becomes what the step makes of it: a control whose OPERATE is sent was pending there, and is spent by this very call
 pub record CentreRelays (old : CentreSeen) (now : ℕ) (relayed : Relayed) (new : CentreSeen) : Type 0 where
   pub told : Tells old.link.master.seq (centre_step old) relayed
-  pub after : new ≡ record old { link = relaying_after old.link now (centre_step old); orders = ledger_after old.orders (centre_step old) }
-  pub spent : IfSent relayed (IsSpentBy old.orders new.orders)
+  pub after : new ≡ record old { link = relaying_after old.link now (centre_step old); controls = ledger_after old.controls (centre_step old) }
+  pub spent : IfSent relayed (IsSpentBy old.controls new.controls)
 
 -- the step is refused
 abbrev pub CentreRefusesRelay : CentreSeen → BookFault → Type 0

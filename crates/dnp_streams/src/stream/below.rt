@@ -30,7 +30,10 @@ impl<'a, Q: Lanes, B: Book> Below<'a, Q, B> {
         ensures same_reference { (lent_below result).ghost_name ≡ concentrator.entry.ghost_name }
         ensures substation { substation_of result ≡ substation }
     {
-        Below { concentrator, substation }
+        Below {
+            concentrator,
+            substation,
+        }
     }
 
     /// Whether the concentrator's plan has the substation.
