@@ -7,6 +7,7 @@ ghost use Rattle.dnp_eventbuf.specs.Stock.{with_rows, dropped_by, exhausts};
 ghost use Rattle.dnp_master.specs.Calls.{actions_of, has_rows};
 ghost use Rattle.dnp_master.specs.Sinks.{IsSinkFault};
 ghost use Rattle.dnp_objects.specs.Events.{IsEvent};
+ghost use Rattle.dnp_objects.specs.declared.store.StoreFault.TheVariants as store;
 ghost use Rattle.dnp_concentrator.specs.Concentrator.{core_of, link_at, links_of, outputs_of, plan_above, queued_at, queue_of, taking_at, with_readings, LeavesQueue, SetsLink};
 ghost use Rattle.dnp_concentrator.specs.Relaying as spec;
 
@@ -31,6 +32,7 @@ fn append<Q: Lanes>(queue: &mut Q, alloc: Global, rows: &[LaneRow]) -> Result<Ro
     ensures exhausted_first { Q.honest queue.new → IfErr result (λ fault. fault ≡ MasterFault.Memory → exhausts (Q.contents queue.old) rows.now ≡ false) }
     ensures memory { result ≡ Err MasterFault.Memory → Q.asks_memory ≡ false → dropped_by (Q.contents queue.old) rows.now ≢ [] }
     ensures named { IfErr result IsSinkFault }
+    ensures device { result ≡ Err MasterFault.Device → IsTrue (Q.may_fault store.Device) }
 {
     let dropped = queue.append(alloc, rows)?;
     Ok(Rows::of(dropped))
@@ -61,6 +63,7 @@ impl<Q: Lanes, B: Book> Concentrator<Q, B> {
         ensures exhausted { Q.honest (queue_of self.new) → IfErr result (λ fault. fault ≡ MasterFault.Exhausted → IsTrue (
             exhausts (Q.contents (queue_of self.old)) (queued_at self.old substation events.now))) }
         ensures named { IfErr result IsSinkFault }
+        ensures device { result ≡ Err MasterFault.Device → IsTrue (Q.may_fault store.Device) }
     {
         if events.is_empty() {
             return Ok(Rows::new(alloc));
@@ -137,6 +140,8 @@ impl<Q: Lanes, B: Book> Concentrator<Q, B> {
         ensures exhausted { Q.honest (queue_of self.new) → IfErr result (λ fault. fault ≡ MasterFault.Exhausted
             → IfOk (taking_at self.old substation now octets.now) (λ t.
             IsTrue (exhausts (Q.contents (queue_of self.old)) (queued_at self.old substation t.events)))) }
+        // A queue in memory has no device.
+        ensures device { result ≡ Err MasterFault.Device → IsTrue (Q.may_fault store.Device) }
     {
         let taken = self.links[usize::from(substation)].look(alloc, now, octets)?;
         let dropped = self.queue_events(alloc, substation, taken.events())?;

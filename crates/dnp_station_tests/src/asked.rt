@@ -39,6 +39,8 @@ impl Lanes for CountedQueue {
 
     ghost asks_memory = { true };
 
+    ghost may_fault = { λ _. true };
+
     fn append(&mut self, alloc: Global, _rows: &[LaneRow]) -> Result<Vec<Row>, StoreFault> {
         self.appends = self.appends.saturating_add(1);
         if self.is_spent {
