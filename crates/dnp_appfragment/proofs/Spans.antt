@@ -21,9 +21,9 @@ use Rattle.dnp_appfragment.specs.Headers.{Head, range_octets, octets_of, IsHeade
 use Rattle.dnp_appfragment.specs.Left.{headers_of}
 use Rattle.dnp_appfragment.specs.Joining.{joined_range, joined}
 use Rattle.dnp_appfragment.specs.Built.{Built, heads, size, with_run, with_object, with_objects, objects_put}
-use Rattle.dnp_appfragment.specs.Building.{run_head, built, joined_run, longer}
+use Rattle.dnp_appfragment.specs.steps.Building.{run_head, built, joined_run, longer}
 use Rattle.dnp_appfragment.specs.Written.{InOrder, FitsPoint, is_point_object}
-use Rattle.dnp_appfragment.specs.Spans.{row_head, all_written, span}
+use Rattle.dnp_appfragment.specs.steps.Spans.{row_head, all_written, span}
 use Rattle.dnp_appfragment.proofs.Joins.{join_by, size-run, with_longer, some_is}
 use Rattle.dnp_appfragment.proofs.ObjectHeaders.{RowsFill}
 

@@ -38,7 +38,7 @@ pub struct Builder {
 
 impl Model for Builder {
     ghost use Rattle.dnp_appfragment.specs.Built.{Built};
-    ghost use Rattle.dnp_appfragment.specs.Building.{built_in, IsLaid};
+    ghost use Rattle.dnp_appfragment.specs.steps.Building.{built_in, IsLaid};
 
     ghost Value = { Built };
 
@@ -52,8 +52,8 @@ impl Builder {
     ghost use Rattle.std.specs.Borrow.{sem};
     ghost use Rattle.std.specs.Option.{IsSomeAnd};
     ghost use Rattle.dnp_objects.specs.Rows.{Fits};
-    ghost use Rattle.dnp_appfragment.specs.Building.{run_head};
-    ghost use Rattle.dnp_appfragment.specs.Spans.{row_head};
+    ghost use Rattle.dnp_appfragment.specs.steps.Building.{run_head};
+    ghost use Rattle.dnp_appfragment.specs.steps.Spans.{row_head};
     ghost use Rattle.dnp_objects.specs.Objects.{object_size};
     ghost use Rattle.dnp_objects.specs.Events.{IsEvent};
     ghost use Rattle.dnp_appfragment.specs.Table as table;

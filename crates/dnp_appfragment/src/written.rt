@@ -4,7 +4,7 @@ ghost use Rattle.arrayvec.specs.ArrayVec.{array_vec_len};
 ghost use Rattle.dnp_objects.specs.Rows.{Fits, written};
 ghost use Rattle.dnp_appfragment.specs.declared.header.Range.TheVariants as range;
 ghost use Rattle.dnp_appfragment.specs.Headers.{Head, NumbersFit};
-ghost use Rattle.dnp_appfragment.specs.Building.{run_head};
+ghost use Rattle.dnp_appfragment.specs.steps.Building.{run_head};
 ghost use Rattle.dnp_appfragment.specs.Written as spec;
 
 use crate::header::Range;

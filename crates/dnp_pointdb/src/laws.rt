@@ -21,7 +21,7 @@ ghost use Rattle.dnp_pointdb.specs.Events.{event_of, row_of, distance};
 ghost use Rattle.dnp_pointdb.specs.declared.state.BlockState.{BlockState as BlockStateValue};
 ghost use Rattle.dnp_pointdb.specs.Database as database_words;
 ghost use Rattle.dnp_pointdb.specs.Database.{Database, state_at, answer_of, new_database, changed_of, set_of, restarted, changed_state, set_state, restarted_state, lost_flags, lost_of};
-ghost use Rattle.dnp_pointdb.specs.Order.{Extent, IsOrder, place_in};
+ghost use Rattle.dnp_pointdb.specs.steps.Order.{Extent, IsOrder, place_in};
 ghost use Rattle.dnp_pointdb.specs.declared.order.Place.{Place as PlaceValue};
 ghost use Rattle.dnp_pointdb.specs.Ranges.{is_carried, is_in_range};
 ghost use Rattle.dnp_pointdb.specs.Runs.{Move, rows_of, rows_at, happened_at, happenings_of};
