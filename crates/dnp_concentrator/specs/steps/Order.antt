@@ -16,7 +16,7 @@ extent kind spans = record { first = (span_of spans kind).base; count = (span_of
 
 -- a place, as that of a block, whose number is the substation's
 abbrev pub as_block : Place → BlockPlace
-as_block place = record { first = place.first; count = place.count; block = place.station }
+as_block place = record { first = place.first; count = place.count; block = place.substation }
 
 -- the substations that have indices of this kind, by rising base
 abbrev pub IsOrder : IndexKind → List Spans → List Place → Type 0
