@@ -7,8 +7,8 @@ use Rattle.std.proofs.lemmas.Bool.Decides.{nat_tests}
 use Rattle.std.proofs.lemmas.List.{get_or-map, length-map, map-append}
 use Rattle.std.proofs.lemmas.List.Sorted.{IsPermutation-map}
 use Rattle.dnp_pointdb.specs.declared.order.Place.{Place as BlockPlace}
-use Rattle.dnp_pointdb.specs.Order.{Extent, AreApart, covers, place_in}
-use Rattle.dnp_pointdb.specs.Order as blocks
+use Rattle.dnp_pointdb.specs.steps.Order.{Extent, AreApart, covers, place_in}
+use Rattle.dnp_pointdb.specs.steps.Order as blocks
 use Rattle.dnp_pointdb.proofs.Orders.{Placed, placed_push, placed_skip, placed_sorted}
 use Rattle.dnp_concentrator.specs.declared.index_kind.IndexKind.{IndexKind}
 use Rattle.dnp_concentrator.specs.declared.order.Place.{Place}

@@ -1,5 +1,4 @@
 pub mod Calls
-pub mod Gathering
 pub mod Outcomes
 pub mod Requests
 pub mod Rows
@@ -7,3 +6,5 @@ pub mod State
 pub mod Steps
 pub mod Taking
 pub mod Sinks
+-- Words of private steps.
+pub mod steps

@@ -23,7 +23,7 @@ use Rattle.dnp_outstation.specs.Calls.{with_that, answered_by, received, connect
 use Rattle.dnp_outstation.specs.Links.{KeepsPoints, unsolicited_confirmed, begun}
 use Rattle.dnp_outstation.proofs.LinkCalls.{content_keeps, held_keeps as kept_held}
 
--- points and times are still these, and no row is dropped
+-- a step leaves them, and drops no row
 pub record KeptIn (c : Core) (step : Step) : Type 0 where
   pub points : step.state.core.points ≡ c.points
   pub times : step.state.core.times ≡ c.times
@@ -39,6 +39,17 @@ end_keeps c now step is =
     by : (b : Bool) → KeptIn c (if b then starts step now (content_from (pushed step.state.lanes step.state.core.enabled)) else step)
     by true = record { points = is.points; times = is.times; none = is.none }
     by false = is
+
+-- whatever was dropped before, the end of a call leaves the points
+pub end_points : (now : ℕ) (step : Step) → (at_end now step).state.core.points ≡ step.state.core.points
+end_points now step =
+    by (step.state.core.times.unsolicited &&
+    (step.state.core.announced && (step.state.core.is_open && (is_free step.state.core && has_enabled_rows step.state))))
+  where
+    by : (b : Bool) → (if b then starts step now (content_from (pushed step.state.lanes step.state.core.enabled)) else step).state.core.points
+        ≡ step.state.core.points
+    by true = refl
+    by false = refl
 
 -- ---- answers
 
@@ -82,7 +93,9 @@ again_keeps s now octets last = go last.reply
     go Held = record { points = refl; times = refl; none = refl }
     go Silent = record { points = refl; times = refl; none = refl }
     go Further = record { points = refl; times = refl; none = refl }
-    go (First f) = record { points = kept.points; times = kept.times; none = refl }
+    go (First f) =
+        let kept = by (f.is_awaited && is_none s.core.session.unsolicited) in
+        record { points = kept.points; times = kept.times; none = refl }
       where
         again : Option Awaited
         again = awaits now s.core.times.confirm_ms (control_in octets).seq f.upto
@@ -90,9 +103,6 @@ again_keeps s now octets last = go last.reply
         by : (b : Bool) → KeepsPoints s.core (if b then with_session s (record s.core.session { awaited = again }) else s).core
         by true = record { points = refl; times = refl }
         by false = record { points = refl; times = refl }
-
-        kept : KeepsPoints s.core (if f.is_awaited && is_none s.core.session.unsolicited then with_session s (record s.core.session { awaited = again }) else s).core
-        kept = by (f.is_awaited && is_none s.core.session.unsolicited)
 
 -- ---- what comes from the master
 
@@ -174,7 +184,8 @@ solicited_keeps c now = go c.session.awaited
     go (Some w) = by (has_ended now w.ends)
       where
         by : (b : Bool)
-            → KeepsPoints c (if b then record c { session = record c.session { awaited = None } } else record c { session = record c.session { awaited = Some w } })
+            → KeepsPoints c (if b then record c { session = record c.session { awaited = None } }
+            else record c { session = record c.session { awaited = Some w } })
         by true = record { points = refl; times = refl }
         by false = record { points = refl; times = refl }
 

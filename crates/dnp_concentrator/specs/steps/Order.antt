@@ -2,7 +2,7 @@
 -- base, as the blocks of a plan of points are. What a look-up has to find is said in IndexMap.antt.
 use Rattle.std.specs.Prelude.{List, map, slice_index_or, []}
 use Rattle.dnp_pointdb.specs.declared.order.Place.{Place as BlockPlace}
-use Rattle.dnp_pointdb.specs.Order as blocks
+use Rattle.dnp_pointdb.specs.steps.Order as blocks
 use Rattle.dnp_concentrator.specs.declared.index_kind.IndexKind.{IndexKind}
 use Rattle.dnp_concentrator.specs.declared.order.Orders.{Orders}
 use Rattle.dnp_concentrator.specs.declared.order.Place.{Place}

@@ -67,8 +67,12 @@ impl Writer {
                 self.put_lanes(alloc, lanes, at, &part, &bounds)
             }
             Wanted::EachGroup => Ok(self.put_each_group(at, from.points, from.outputs, count)),
-            Wanted::OneGroup(group, range) => {
-                let ask = Ask { header: at, range };
+            Wanted::OneGroup(group, variation, range) => {
+                let ask = Ask {
+                    header: at,
+                    variation,
+                    range,
+                };
                 Ok(self.put_one_group(ask, group, from.points, from.outputs, count))
             }
         }

@@ -3,7 +3,7 @@ use Rattle.dnp_outstation.specs.Connection.{control_in, replied}
 use Rattle.dnp_outstation.specs.Content.{content_of}
 use Rattle.dnp_outstation.specs.State.{holds_read}
 use Rattle.dnp_outstation.proofs.HeldRead.{held_is_answered}
-use Rattle.dnp_outstation.proofs.unsolicited_confirm.write_held.Goals as goal
+use Rattle.dnp_outstation.proofs.confirm.write_held.Goals as goal
 
 pub returns-clause-written : goal.returns-clause-written
 returns-clause-written g c = λ honest s now points_is restart_is enabled_is request_is lanes_is.
