@@ -3,7 +3,7 @@ pub mod Outcomes
 pub mod Requests
 pub mod Rows
 pub mod State
-pub mod Steps
+pub mod LinkCalls
 pub mod Taking
 pub mod Sinks
 -- Words of private steps.

@@ -1,7 +1,7 @@
 //! Confirms. That of a fragment: its rows leave, and the response goes on. That of an unsolicited response: its rows
 //! leave, and a READ that waited for it is answered.
 
-ghost use Rattle.std.specs.Prelude.{All, ◌≤◌, length, ◌≡◌, ◌≢◌, ℕ, [], false, IfOk, IfSome, OnOk, OnErr, IsTrue, Err, ◌<◌, true, None};
+ghost use Rattle.std.specs.Prelude.{All, ◌≤◌, length, ◌≡◌, ◌≢◌, ℕ, [], false, IfOk, IfErr, IfSome, OnOk, OnErr, IsTrue, Err, ◌<◌, true, None};
 ghost use Rattle.dnp_appfragment.specs.declared.function.Function.TheVariants as function;
 ghost use Rattle.dnp_controls.specs.Panel.{Panel};
 ghost use Rattle.dnp_controls.specs.Selecting.{deadline};
@@ -44,7 +44,7 @@ fn write_next<L: Lanes, O: Outputs>(
     session: &Session,
     released: Upto,
 ) -> Result<Option<Answer>, StoreFault>
-    ensures look { IsLook L.honest L.is_stopped L.contents L.beside L.place L.asks_memory lanes.old lanes.new result }
+    ensures look { IsLook L.honest L.is_stopped L.contents L.beside L.place L.asks_memory L.may_fault lanes.old lanes.new result }
     ensures written { L.honest lanes.new → IfOk result (λ next. (s : State) (now seq : ℕ) → s.core.points ≡ points.now
         → s.core.session.request ≡ session.now.request → s.lanes ≡ without (L.contents lanes.old) released
         → goes_on s (O.panel outputs.now) now seq session.now.last ≡ goes_on_by s now seq writer.new next) }
@@ -149,6 +149,7 @@ impl OutstationCore {
         ensures device { result ≡ Err StoreFault.Device → IsTrue (L.is_stopped lanes.new) }
         ensures memory { L.honest lanes.new → result ≡ Err StoreFault.Memory → L.asks_memory ≡ false → rows_in (L.contents lanes.old) ≢ [] }
         ensures named { result ≢ Err StoreFault.Exhausted }
+        ensures faults { IfErr result (λ e. IsTrue (L.may_fault e)) }
     {
         let Some(awaited) = self.session.awaited else {
             return self.end_only(actions, alloc, lanes, now);
@@ -197,7 +198,7 @@ fn write_held<L: Lanes, O: Outputs>(
     session: &Session,
     released: &Option<Upto>,
 ) -> Result<Option<Answer>, StoreFault>
-    ensures look { IsLook L.honest L.is_stopped L.contents L.beside L.place L.asks_memory lanes.old lanes.new result }
+    ensures look { IsLook L.honest L.is_stopped L.contents L.beside L.place L.asks_memory L.may_fault lanes.old lanes.new result }
     ensures written { L.honest lanes.new → IfOk result (λ held. (s : State) (now : ℕ) → s.core.points ≡ points.now → s.core.restart ≡ switches.restart → s.core.enabled ≡ switches.enabled
         → s.core.session.request ≡ session.now.request → s.lanes ≡ after_release (L.contents lanes.old) released.now
         → answers_held s (O.panel outputs.now) now session.now.last ≡ answers_held_by s now writer.new held) }
@@ -306,6 +307,7 @@ impl OutstationCore {
         ensures device { result ≡ Err StoreFault.Device → IsTrue (L.is_stopped lanes.new) }
         ensures memory { L.honest lanes.new → result ≡ Err StoreFault.Memory → L.asks_memory ≡ false → rows_in (L.contents lanes.old) ≢ [] }
         ensures named { result ≢ Err StoreFault.Exhausted }
+        ensures faults { IfErr result (λ e. IsTrue (L.may_fault e)) }
     {
         let Some(response) = self.session.unsolicited else {
             return self.end_only(actions, alloc, lanes, now);
