@@ -17,6 +17,7 @@ mod journal_decoding;
 mod journal_form;
 mod journal_open;
 mod journal_opening;
+mod journal_paging;
 mod journal_reading;
 mod journal_writing;
 mod open;
