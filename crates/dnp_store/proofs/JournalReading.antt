@@ -157,7 +157,7 @@ over_listed old new f j from most rows has h =
       back.0,
       back.1,
       a.shown ∙ ap (λ all. page over_query params (map (λ (o : Output). o.1) all)) back.2 ∙ ap (take most) (map-map (λ (o : Output). o.1) made back.0)
-      ∙ take-map shown_row most back.0,
+          ∙ take-map shown_row most back.0,
     )
 
 pub over_shows : (old new : State) (f j : List Term) (xs : List Queued) (from most : ℕ) (rows : List Row) → old.now.schema ≡ journal_schema f j

@@ -12,9 +12,10 @@ ghost use Rattle.dnp_store.specs.JournalTables.{journal_schema};
 
 use crate::decoding::last_noted;
 use crate::fault::Unread;
-use crate::journal_form::is_of_journal;
 use crate::journal_paging::read_logged;
 use crate::queue_opening::both;
+use crate::store_form::is_of_three;
+use crate::store_kind::StoreKind;
 use crate::stores::{read_counts, read_form};
 use sqlite::{Alter, Connection, Transaction};
 use std::alloc::Global;
@@ -66,7 +67,7 @@ pub(crate) fn read_journal<S: Alter>(
     ensures survives { Survives (state S.Store conn.old) (state S.Store conn.new) (λ _. ⊥) }
 {
     prove!(conn.is_autocommit());
-    let ours = is_of_journal(conn);
+    let ours = is_of_three(conn, StoreKind::Journal);
     let mut tx = conn.transaction();
     let found = read_all(&mut tx, alloc)?;
     tx.rollback();

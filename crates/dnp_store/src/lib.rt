@@ -29,6 +29,7 @@ mod queue_release;
 mod queue_statements;
 mod queue_tables;
 mod queue_writing;
+mod store_form;
 mod store_kind;
 mod stores;
 
