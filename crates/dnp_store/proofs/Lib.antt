@@ -36,3 +36,8 @@ pub mod BookPlaces
 pub mod BookTurning
 pub mod BookOpening
 pub mod InMemory
+pub mod CountingMany
+pub mod Sixteen
+pub mod QueueMany
+pub mod JournalMany
+pub mod Blocks

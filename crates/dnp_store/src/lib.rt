@@ -9,6 +9,7 @@ mod book_form;
 mod book_open;
 mod book_opening;
 mod book_writing;
+mod cells;
 mod decoding;
 mod fault;
 mod figures;
