@@ -12,9 +12,9 @@ _dnp() {
     centre:*) COMPREPLY=($(compgen -W '--plan --journal --controls --port --issue --new --help' -- "$word")) ;;
     concentrate:*) COMPREPLY=($(compgen -W '--plan --queue --controls --port --below --rounds --new --help' -- "$word")) ;;
     decode:*) COMPREPLY=($(compgen -W '--raw --pcap --json --help' -- "$word")) ;;
-    loopback:*) COMPREPLY=($(compgen -W '--plan --limit --help' -- "$word")) ;;
+    loopback:*) COMPREPLY=($(compgen -W '--plan --limit --plain --help' -- "$word")) ;;
     outstation:*) COMPREPLY=($(compgen -W '--plan --station --port --connections --help' -- "$word")) ;;
-    sim:*) COMPREPLY=($(compgen -W '--plan --limit --trace --chart --capture --json --help' -- "$word")) ;;
+    sim:*) COMPREPLY=($(compgen -W '--plan --limit --trace --chart --capture --json --plain --help' -- "$word")) ;;
     help:*) COMPREPLY=($(compgen -W 'answer centre concentrate decode loopback outstation sim' -- "$word")) ;;
     esac
 }

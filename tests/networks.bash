@@ -44,6 +44,16 @@ listens() {
     echo "FAILED nobody-listens-at:$1"
 }
 
+# connects PORT: waits until somebody has connected there
+connects() {
+    local try
+    for ((try = 0; try < 400; try++)); do
+        grep -qi ":$(printf '%04X' "$1") [0-9A-F]*:[0-9A-F]* 01" /proc/net/tcp && return
+        sleep 0.02
+    done
+    echo "FAILED nobody-connects-to:$1"
+}
+
 # gone: ends the substations that were begun
 gone() {
     kill "${running[@]}" 2>/dev/null

@@ -64,11 +64,11 @@ class Network:
             time.sleep(0.005)
         return False
 
-    def begin(self, new=False, env=None):
+    def begin(self, new=False, env=None, tries=200):
         """Begins to concentrate, and tells whether it came to listen. A file of a process that was killed may be held a
         moment longer, so it is tried again."""
         words = ["--new"] if new else []
-        for _ in range(200):
+        for _ in range(tries):
             with open(self.room / "said", "a", encoding="utf-8") as said:
                 self.concentrator = subprocess.Popen(
                     [DNP, "concentrate", "--plan", "plan.toml", "--queue", "queue.db", "--controls", "below.db", "--port",
@@ -110,6 +110,11 @@ class Network:
                 return True
             time.sleep(0.02)
         return False
+
+    def stop(self):
+        """Kills the concentrator."""
+        self.concentrator.kill()
+        self.concentrator.wait()
 
     def end(self):
         for program in (self.concentrator, self.substation):

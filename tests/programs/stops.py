@@ -1,64 +1,100 @@
 #!/usr/bin/env python3
-"""stops.py LIBRARY PROGRAM: ends `dnp concentrate` or `dnp centre` before its first call that writes or syncs a file, then before
-its second, and so on until none is left. After each, all goes on in good order, and no event may be lost, and the control that
-was issued not be operated twice. LIBRARY is stop.c, compiled."""
+"""stops.py LIBRARY PROGRAM HOW [STEP]: `dnp concentrate` or `dnp centre`, cut at its first call that writes or syncs a file, then
+at the call STEP behind that, and so on until none is left. LIBRARY is stop.c, compiled. HOW it is cut:
+
+    stopped   it ends before the call. After each, all goes on in good order
+    failing   the call fails, and all that follow: the program ends with 3. After that, all goes on in good order
+    new       it ends before the call while --new makes its stores. Then either a run without --new serves, or both files are
+              removed, and one with --new does
+
+No event may be lost, and the control that was issued not be operated twice."""
 import os
 import shutil
 import sys
 import tempfile
 import time
 
-from network import KILLED, Network
+from network import KILLED, UNREACHED, Network
 
 CONTROL = "0 block 0 1 1 7 0"
+FILES = {"centre": ("journal.db", "above.db"), "concentrate": ("queue.db", "below.db")}
 
 
-def stop_at(number, library, name):
+def is_cut(network, name, env, cut):
+    """Runs the program in a network of which both ran well once, and tells whether it ended as one that is cut."""
+    assert network.begin(new=True) and network.poll(new=True) == 0, "it did not begin"
+    if name == "centre":
+        return network.poll(issue=CONTROL, env=env) == cut
+    network.stop()
+    network.begin(env=env, tries=1 if cut == UNREACHED else 200)
+    network.poll(issue=CONTROL)
+    network.poll()
+    time.sleep(0.05)
+    if network.concentrator.poll() == cut:
+        return True
+    network.stop()
+    return False
+
+
+def is_cut_in_new(network, name, env, faults):
+    """Runs the program with --new, and tells whether it was stopped. What it left serves, or can be made anew."""
+    if name == "centre":
+        assert network.begin(new=True), "it did not begin"
+        stopped = network.poll(new=True, env=env) == KILLED
+        serves = network.poll() == 0
+    else:
+        stopped = not network.begin(new=True, env=env, tries=1)
+        if not stopped:
+            network.stop()
+        serves = network.begin(tries=20)
+    if not serves:
+        for file in FILES[name]:
+            for end in ("", "-wal", "-shm"):
+                (network.room / (file + end)).unlink(missing_ok=True)
+        if not (network.poll(new=True) == 0 if name == "centre" else network.begin(new=True)):
+            faults.append("with --new it did not begin after its files were removed")
+    if name == "concentrate" and network.poll(new=True) != 0:
+        faults.append("the centre found nobody")
+    return stopped
+
+
+def cut_at(number, library, name, how):
     """Whether the program came to that call, and what was wrong after it."""
     room = tempfile.mkdtemp(prefix="stops-")
     network = Network(room, 3)
-    env = dict(os.environ, STOP_AT=str(number), LD_PRELOAD=library)
+    env = dict(os.environ, LD_PRELOAD=library)
+    env["FAIL_AT" if how == "failing" else "STOP_AT"] = str(number)
+    faults = []
     try:
-        # (one good round, so that the stores hold something)
-        assert network.begin(new=True) and network.poll(new=True) == 0, "it did not begin"
-        if name == "centre":
-            stopped = network.poll(issue=CONTROL, env=env) == KILLED
+        if how == "new":
+            cut = is_cut_in_new(network, name, env, faults)
         else:
-            network.concentrator.kill()
-            network.concentrator.wait()
-            network.begin(env=env)
-            network.poll(issue=CONTROL)
-            network.poll()
-            time.sleep(0.05)
-            stopped = network.concentrator.poll() == KILLED
-            if not stopped:
-                network.concentrator.kill()
-                network.concentrator.wait()
-        settled = network.settle(4)
+            cut = is_cut(network, name, env, UNREACHED if how == "failing" else KILLED)
+        if not network.settle(4):
+            faults.append("it did not go on in good order")
         time.sleep(0.05)
         network.end()
-        faults, _ = network.count()
-        if not settled:
-            faults.append("it did not go on in good order")
-        return stopped, faults
+        faults += network.count()[0]
+        return cut, faults
     finally:
         network.end()
         shutil.rmtree(room)
 
 
 def main():
-    library, name = sys.argv[1:]
-    stops = failed = 0
-    for number in range(1, 10_000):
-        stopped, faults = stop_at(number, library, name)
+    library, name, how = sys.argv[1:4]
+    step = int(sys.argv[4]) if len(sys.argv) > 4 else 1
+    cuts = failed = 0
+    for number in range(1, 10_000, step):
+        cut, faults = cut_at(number, library, name, how)
         for fault in faults:
-            print(f"    stopped at call {number}: {fault}")
+            print(f"    {how} at call {number}: {fault}")
         failed += bool(faults)
-        if not stopped:
+        if not cut:
             break
-        stops += 1
-    good = not failed and stops > 20
-    print(f"{'ok' if good else 'FAILED'} programs:{name}-stopped-at-each-write ({stops} stops)")
+        cuts += 1
+    good = not failed and cuts * step > 20
+    print(f"{'ok' if good else 'FAILED'} programs:{name}-{how}-at-each-write ({cuts} times, from call 1 on in steps of {step})")
     return not good
 
 

@@ -65,6 +65,12 @@ done
 expect makes-no-second-queue 1 '' '' concentrate $refused --queue queue.db --controls below.db --new
 expect takes-no-book-for-a-queue 1 '' '' concentrate $refused --queue below.db --controls queue.db
 says tells-that-a-book-is-no-queue 'dnp: below.db: no queue, or not whole'
+expect has-no-book 3 '' '' concentrate $refused --queue queue.db --controls none.db
+says tells-that-it-has-no-book 'dnp: none.db: No such file or directory (os error 2)'
+[ ! -e none.db ] && echo ok makes-no-book || echo FAILED makes-no-book
+sqlite3 queue.db '.backup altered.db' && sqlite3 altered.db 'DROP TABLE lanes'
+expect takes-no-altered-queue 1 '' '' concentrate $refused --queue altered.db --controls below.db
+says tells-that-a-queue-is-altered 'dnp: altered.db: no queue, or not whole'
 
 # The next run sends the control, and goes on with what stands
 concentrates
@@ -72,6 +78,16 @@ listens "$port"
 polls has-three-more 0 'rows 3'
 ended goes-on 0 'round 1 rows 3'
 holds has-sent-the-control below.db 'SELECT state, status FROM control' '2|0'
+
+# By a plan of other capacities: those by which the queue was made stand
+mv plan.toml whole.toml
+plan plan.toml 1 2 queue='[1, 1, 1, 1, 1, 1, 1, 1, 1]'
+concentrates
+listens "$port"
+polls has-all-of-a-fuller-round 0 'rows 3'
+ended keeps-its-capacities 0 'round 1 rows 3'
+holds has-dropped-none queue.db 'SELECT sum(lost) FROM lanes' 0
+mv whole.toml plan.toml
 
 # In use by another program, which serves on
 concentrates
@@ -95,10 +111,17 @@ for _ in {1..100}; do
     sleep 0.05
 done
 expect takes-no-row-that-is-not-planned 1 '' '' concentrate --plan changed.toml $words
-says names-the-row-that-is-not-planned 'dnp: queue.db: row 16, analog 0 16 01 -: the plan has no such point with a class'
+says names-the-row-that-is-not-planned 'dnp: queue.db: row 19, analog 0 19 01 -: the plan has no such point with a class'
 plan changed.toml 1 1
 expect takes-no-control-that-is-not-planned 1 '' '' concentrate --plan changed.toml $words
 says names-the-control-that-is-not-planned 'dnp: below.db: control 1, 1 block 0 3 1 250 0: the plan has no such output'
+
+# A round that can't be printed
+got=0
+"$dnp" concentrate --plan plan.toml $words >/dev/full 2>err </dev/null || got=$?
+: >out
+judge fails-without-an-output 3 '' "$got"
+says tells-that-its-output-is-full 'dnp: standard output: No space left on device (os error 28)'
 
 # Other tables beside the queue's: it works
 sqlite3 beside.db 'CREATE TABLE beside (x INTEGER)'

@@ -14,6 +14,9 @@ for script in "$examples"/*.script; do
     got=0
     "$dnp" sim --plan "$of" <"$script" >out 2>err || got=$?
     judge "reports:$name" 0 "$(<"$examples/$name.report")" "$got"
+    got=0
+    "$dnp" sim --plain --plan "$of" <"$script" >out 2>err || got=$?
+    judge "reports-over-lists:$name" 0 "$(<"$examples/$name.report")" "$got"
 done
 
 # A report in which nothing happened, behind these lines

@@ -2,10 +2,10 @@
 
 use crate::fault::{Noted, lost};
 use crate::options::plan;
-use crate::texts::{Texts, finish, limit, texts_given};
+use crate::texts::{Texts, finish, limit, plain, stores_given, texts_given};
 use crate::wire::Wire;
 use clap::{ArgMatches, Command};
-use dnp_daemons::loop_text;
+use dnp_daemons::{Stores, loop_text};
 use std::alloc::{AllocError, Global};
 use std::io;
 use std::io::BufWriter;
@@ -27,7 +27,8 @@ const WIRE: &str = "the connection to this program itself";
 const AFTER: &str = "\
 INPUT
   A plan and a script as for 'dnp sim', but the script loses, repeats and damages nothing: lines
-  'lose', 'repeat' and 'damage' are refused as lines that don't fit.
+  'lose', 'repeat' and 'damage' are refused as lines that don't fit. The stores, and --plain, are
+  as there.
 
 THE LINES
   Each unit that comes to the end of a line is first written to a TCP connection of the program to
@@ -43,8 +44,8 @@ EXIT STATUS
   1  the plan or the script was refused
   2  the command line is wrong
   3  the program failed: the plan can't be read, the script is over its limit, no connection can be
-     had, or it failed, out of memory, or the input or the output was lost; a line on standard error
-     says which, and why, but for an output whose reader has gone";
+     had, or it failed, a database failed, out of memory, or the input or the output was lost; a line
+     on standard error says which, and why, but for an output whose reader has gone";
 
 /// What `clap` has to know of `dnp loopback`.
 pub(crate) fn command<'a>(alloc: Global) -> Result<Command<'a>, AllocError> {
@@ -52,7 +53,8 @@ pub(crate) fn command<'a>(alloc: Global) -> Result<Command<'a>, AllocError> {
         .about(ABOUT)
         .after_help(AFTER)
         .arg(plan(alloc))?
-        .arg(limit(alloc))
+        .arg(limit(alloc))?
+        .arg(plain(alloc))
 }
 
 /// Runs the script on standard input by the given words, and tells the exit status.
@@ -66,7 +68,7 @@ where
         Err(status) => return Ok(status),
     };
     match Wire::new(rt) {
-        Ok(mut wire) => carry(rt, &texts, &mut wire),
+        Ok(mut wire) => carry(rt, &texts, stores_given(given), &mut wire),
         Err(cause) => Ok(lost(rt, WIRE, &cause)),
     }
 }
@@ -75,6 +77,7 @@ where
 fn carry<R: AllocGlobal + Print + Eprint>(
     rt: &R,
     texts: &Texts,
+    stores: Stores,
     wire: &mut Wire,
 ) -> anyhow::Result<ExitCode> {
     let mut out = BufWriter::new(rt.alloc(), Noted::new(io::writer(rt)))?;
@@ -82,6 +85,7 @@ fn carry<R: AllocGlobal + Print + Eprint>(
         rt.alloc(),
         texts.plan.as_str(),
         texts.script.as_str(),
+        stores,
         &mut *wire,
         &mut out,
     );

@@ -19,6 +19,7 @@ mod outstation;
 mod patience;
 mod plan_file;
 mod planned;
+mod running;
 mod serving;
 mod sim;
 mod texts;

@@ -4,9 +4,9 @@ use crate::exit;
 use crate::fault::Noted;
 use crate::looks::{misuse, write_looks};
 use crate::options::{HINT, flag, plan, valued};
-use crate::texts::{Texts, finish, limit, texts_given};
+use crate::texts::{Texts, finish, limit, plain, stores_given, texts_given};
 use clap::{ArgMatches, Command};
-use dnp_daemons::sim_text;
+use dnp_daemons::{Stores, sim_text};
 use dnp_trace::report_json;
 use std::alloc::{AllocError, Global};
 use std::io;
@@ -50,6 +50,11 @@ EXAMPLE
       dnp sim --plan examples/plan.toml
 
   Then the change stands in the report below 'journal 1' and below 'confirmed 1'.
+
+THE STORES
+  The concentrator's queue, the centre's journal and the controls of both stand in SQL databases in
+  memory, of the form that 'dnp concentrate' and 'dnp centre' have in files. With --plain they
+  stand in lists, and the same is printed sooner.
 
 OUTPUT
   On standard output:
@@ -123,8 +128,8 @@ EXIT STATUS
   1  the plan or the script was refused
   2  the command line is wrong
   3  the program failed: the plan can't be read, the script is over its limit, a file can't be
-     written, out of memory, or the input or the output was lost; a line on standard error says
-     which, and why, but for an output whose reader has gone";
+     written, a database failed, out of memory, or the input or the output was lost; a line on
+     standard error says which, and why, but for an output whose reader has gone";
 
 /// What `clap` has to know of `dnp sim`.
 pub(crate) fn command<'a>(alloc: Global) -> Result<Command<'a>, AllocError> {
@@ -136,7 +141,8 @@ pub(crate) fn command<'a>(alloc: Global) -> Result<Command<'a>, AllocError> {
         .arg(valued(alloc, "trace", "FILE", TRACE))?
         .arg(valued(alloc, "chart", "FILE", CHART))?
         .arg(valued(alloc, "capture", "FILE", CAPTURE))?
-        .arg(flag(alloc, "json", JSON))
+        .arg(flag(alloc, "json", JSON))?
+        .arg(plain(alloc))
 }
 
 /// Runs the script on standard input by the given words, and tells the exit status.
@@ -156,25 +162,31 @@ pub(crate) fn run<R: AllocGlobal + Input + Print + Eprint + Files>(
         return Ok(status);
     }
     if given.get_flag("json") {
-        return run_json(rt, &texts);
+        return run_json(rt, &texts, stores_given(given));
     }
     let mut out = BufWriter::new(rt.alloc(), Noted::new(io::writer(rt)))?;
     let ended = sim_text(
         rt.alloc(),
         texts.plan.as_str(),
         texts.script.as_str(),
+        stores_given(given),
         &mut out,
     );
     finish(rt, &texts, None, &mut out, ended)
 }
 
 /// Runs the script as without '--json', and prints what came of it as JSON, if it ran to its report.
-fn run_json<R: AllocGlobal + Print + Eprint>(rt: &R, texts: &Texts) -> anyhow::Result<ExitCode> {
+fn run_json<R: AllocGlobal + Print + Eprint>(
+    rt: &R,
+    texts: &Texts,
+    stores: Stores,
+) -> anyhow::Result<ExitCode> {
     let mut printed = Vec::new(rt.alloc());
     let ended = sim_text(
         rt.alloc(),
         texts.plan.as_str(),
         texts.script.as_str(),
+        stores,
         &mut printed,
     );
     let mut out = BufWriter::new(rt.alloc(), Noted::new(io::writer(rt)))?;

@@ -5,12 +5,12 @@ ghost use Rattle.dnp_concentrator.specs.Plan.{KeepsLimits};
 use crate::exit;
 use crate::fault::{Noted, lost, unwritten};
 use crate::numbers::number_given;
-use crate::options::defaulted;
+use crate::options::{defaulted, flag};
 use crate::plan_file::{plan_text, refused};
 use crate::wire::Wire;
 use clap::{Arg, ArgMatches};
 use dnp_concentrator::Plan;
-use dnp_daemons::{PlanTextFault, ScriptStop, idle_lines, read_plan, script_fault};
+use dnp_daemons::{PlanTextFault, ScriptStop, Stores, idle_lines, read_plan, script_fault};
 use dnp_world::Cause;
 use std::alloc::{AllocError, Global};
 use std::io::{BufWriter, Read, Write};
@@ -34,6 +34,23 @@ const NO_CHARACTER: &str = "\u{FFFD}";
 
 /// What is said of the option for the limit.
 const LIMIT: &str = "The most octets of the script, 1 to 1099511627776";
+
+/// What is said of the option for the stores.
+const PLAIN: &str = "Run over lists, and not over SQL databases in memory";
+
+/// The option that says over which stores a script runs.
+pub(crate) fn plain<'a>(alloc: Global) -> Arg<'a> {
+    flag(alloc, "plain", PLAIN)
+}
+
+/// Over which stores the script runs by the given words.
+pub(crate) fn stores_given(given: &ArgMatches<'_>) -> Stores {
+    if given.get_flag("plain") {
+        Stores::Plain
+    } else {
+        Stores::Sql
+    }
+}
 
 /// The option that says how many octets of a script are read.
 pub(crate) fn limit<'a>(alloc: Global) -> Arg<'a> {
@@ -135,7 +152,7 @@ pub(crate) fn finish<R: AllocGlobal + Eprint, W: Write + Drop>(
 }
 
 /// Says on standard error why a script was not run to its report. A line stops at a unit that the wire lost, of which that
-/// was said, or else out of memory: the stores are in memory, and their numbers end at 2^62.
+/// was said, or else out of memory: where a database failed, that is the fault, and the stores' numbers end at 2^62.
 fn say_stop<R: Eprint>(rt: &R, stop: ScriptStop, is_lost: bool) {
     let _ = match stop {
         ScriptStop::Stopped(_) if !is_lost => eprintln!(rt; "dnp: {stop}: {}", Cause::Memory),

@@ -1,5 +1,5 @@
 -- The texts of a plan and a script, run or refused.
-use Rattle.std.proofs.Common.{◌≡◌, ℕ, ◌≤◌, Bool, List, [], ◌∷◌, length, map, Option, Some, Ok, Err, refl, subst}
+use Rattle.std.proofs.Common.{◌≡◌, ℕ, ◌≤◌, ap, Bool, List, [], ◌∷◌, length, map, Option, Some, Ok, Err, refl, subst}
 use Rattle.std.specs.Prelude.{⊤, Result, All}
 use Rattle.std.proofs.lemmas.List.Elements.{All-weaker}
 use Rattle.dnp_concentrator.specs.Plan.{IsCapacity, KeepsLimits}
@@ -15,7 +15,9 @@ use Rattle.dnp_daemons.specs.declared.run.ScriptStop.{ScriptStop}
 use Rattle.dnp_daemons.specs.declared.run.ScriptStop.TheVariants as stop
 use Rattle.dnp_daemons.specs.declared.script.ScriptLine.{ScriptLine}
 use Rattle.dnp_daemons.specs.Judgements.{AreGood, IsRefusal, refused_line}
-use Rattle.dnp_daemons.specs.Simulations.{Run, AreUnfinished, RefusalCut, Begun, Unrun, PlanEnds, Unmade, Made, TextsEnd}
+use Rattle.dnp_daemons.specs.Simulations.{Run, AreUnfinished, RefusalCut, Begun, IsSpokenFor, Unrun, PlanEnds, Unmade, Made, TextsEnd}
+use Rattle.dnp_daemons.specs.declared.sim.Stores.{Stores}
+use Rattle.dnp_daemons.specs.declared.sim.Stores.TheVariants.{Plain, Sql}
 use Rattle.dnp_daemons.specs.ScriptLines.{LineReader}
 use Rattle.dnp_daemons.specs.ScriptReports.{ReportEnds}
 use Rattle.dnp_daemons.specs.ScriptWorlds.{law_of_worlds, plain_system}
@@ -54,6 +56,17 @@ pub on_new : (of : Plan) (lines : List ScriptLine) (result : Result ⊤ ScriptSt
     → ReportEnds law_of_worlds old lines result new held held' → PlanEnds of lines result held held'
 on_new of lines result old new held held' is ends =
     Made new (subst (λ (s : System). ReportEnds law_of_worlds s lines result new held held') is ends)
+
+-- ---- what is spoken for
+
+-- is that of a call which is answered alike
+pub spoken_cut : (stores : Stores) (by : ScriptStop) → IsSpokenFor {A = ℕ} stores (Err by) → IsSpokenFor {A = ⊤} stores (Err by)
+spoken_cut Plain by spoken = tt
+spoken_cut Sql by spoken = λ is. spoken (let why : by ≡ stop.Fault cause.Device = cc in ap Err why)
+
+pub spoken_done : (stores : Stores) (done : ⊤) → IsSpokenFor {A = ⊤} stores (Ok done)
+spoken_done Plain done = tt
+spoken_done Sql done = λ is. absurd cc
 
 -- ---- new stores in memory
 

@@ -28,7 +28,7 @@ use Rattle.dnp_daemons.specs.declared.script.idle.IdleReason.TheVariants.{NoPoin
 
 -- the substation has this point, output or setpoint
 abbrev pub has_index : Plan → ℕ → IndexKind → ℕ → Bool
-has_index plan station kind index = nat_lt index (span_at (map_of plan) station kind).count
+has_index plan substation kind index = nat_lt index (span_at (map_of plan) substation kind).count
 
 -- ---- one line
 
@@ -52,10 +52,10 @@ task_reason _ = None
 
 -- why the line does nothing on any system of the plan, if it does
 abbrev pub idle_reason : Plan → ScriptLine → Option IdleReason
-idle_reason plan (One (Change station kind index reading)) =
-    if has_index plan station (kind_of_points kind) index then reading_reason kind reading else Some NoPoint
-idle_reason plan (One (Issue station command)) =
-    if has_index plan station (kind_of_command command) (index_of command) then None else Some (unnamed_by command)
+idle_reason plan (One (Change substation kind index reading)) =
+    if has_index plan substation (kind_of_points kind) index then reading_reason kind reading else Some NoPoint
+idle_reason plan (One (Issue substation command)) =
+    if has_index plan substation (kind_of_command command) (index_of command) then None else Some (unnamed_by command)
 idle_reason plan (One (Ask link task)) = task_reason task
 idle_reason plan (One (Pass ms)) = if ms == 0 then Some NoTime else None
 idle_reason plan _ = None

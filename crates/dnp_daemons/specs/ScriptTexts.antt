@@ -16,7 +16,7 @@ outcome_line name subject (Some number) =
     concat (name ∷ codes " " ∷ subject ∷ codes " refused " ∷ decimal number ∷ (10 ∷ []) ∷ [])
 
 abbrev pub round_line : Link → Option ℕ → List ℕ
-round_line (Below station) refusal = outcome_line (codes "round") (decimal station) refusal
+round_line (Below substation) refusal = outcome_line (codes "round") (decimal substation) refusal
 round_line Above refusal = outcome_line (codes "round") (codes "above") refusal
 
 abbrev pub control_line : ℕ → Option ℕ → List ℕ

@@ -1,6 +1,6 @@
 -- Definition: what the texts of a plan and a script come to: a refusal, or a script that is run on a new system of the plan, and
 -- its report.
-use Rattle.std.specs.Prelude.{◌≡◌, ℕ, List, ◌++◌, Option, Result, Ok, Err, ⊤}
+use Rattle.std.specs.Prelude.{◌≡◌, ℕ, List, ◌++◌, Option, Result, Ok, Err, ⊤, ◌≢◌}
 use Rattle.std.specs.Io.KnownBytes.{Appends}
 use Rattle.dnp_concentrator.specs.declared.plan.Plan.{Plan}
 use Rattle.dnp_world.specs.Systems.{System}
@@ -8,6 +8,8 @@ use Rattle.dnp_concentrator.specs.declared.cause.Cause.TheVariants as cause
 use Rattle.dnp_daemons.specs.declared.script.ScriptLine.{ScriptLine}
 use Rattle.dnp_daemons.specs.declared.run.ScriptStop.{ScriptStop}
 use Rattle.dnp_daemons.specs.declared.run.ScriptStop.TheVariants as stop
+use Rattle.dnp_daemons.specs.declared.sim.Stores.{Stores}
+use Rattle.dnp_daemons.specs.declared.sim.Stores.TheVariants.{Plain, Sql}
 use Rattle.dnp_daemons.specs.Judgements.{AreGood, IsRefusal}
 use Rattle.dnp_daemons.specs.ScriptLines.{LineReader}
 use Rattle.dnp_daemons.specs.ScriptReports.{IsReported, ReportEnds}
@@ -37,3 +39,8 @@ TextsEnd reads plan script (Err by) held held' = AreUnfinished reads plan script
 pub data PlanEnds (of : Plan) (lines : List ScriptLine) (result : Result ⊤ ScriptStop) (held held' : Option (List ℕ)) : Type 0 where
   Unmade : result ≡ Err (stop.Fault cause.Memory) → held' ≡ held → PlanEnds of lines result held held'
   Made : (new : System) → ReportEnds law_of_worlds (plain_system of) lines result new held held' → PlanEnds of lines result held held'
+
+-- what is spoken for: all that runs over lists, and over databases what ran while none of them had answered Device
+abbrev pub IsSpokenFor : {A : Type 0} → Stores → Result A ScriptStop → Type 0
+IsSpokenFor Plain result = ⊤
+IsSpokenFor Sql result = result ≢ Err (stop.Fault cause.Device)

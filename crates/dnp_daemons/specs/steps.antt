@@ -4,3 +4,4 @@ pub mod Judging
 pub mod Lines
 pub mod Readings
 pub mod Idle
+pub mod SqlStores

@@ -28,4 +28,4 @@ pub use script::{
     IdleLines, IdleReason, LineFault, ScriptFault, ScriptLine, idle_lines, issue_in, number_in,
     read_script, script_fault,
 };
-pub use sim::{loop_text, sim_text};
+pub use sim::{Stores, loop_text, sim_text};

@@ -4,7 +4,7 @@ ghost use Rattle.std.specs.Prelude.{List};
 ghost use Rattle.dnp_concentrator.specs.Plan.{KeepsLimits};
 ghost use Rattle.dnp_daemons.specs.declared.script.ScriptLine.{ScriptLine};
 ghost use Rattle.dnp_daemons.specs.ScriptLines.{lossless_reading_of, reading_of};
-ghost use Rattle.dnp_daemons.specs.Simulations.{PlanEnds, TextsEnd};
+ghost use Rattle.dnp_daemons.specs.Simulations.{IsSpokenFor, PlanEnds, TextsEnd};
 ghost use Rattle.dnp_daemons.specs.steps.Judging.{reading_by};
 ghost use Rattle.dnp_daemons.specs.steps.Readings.{Says};
 
@@ -13,6 +13,7 @@ use crate::run::carried::Carried;
 use crate::run::reporting::run_to_report;
 use crate::script::checking::ScriptText;
 use crate::sim::judging::{Judged, judge, print_refusal};
+use crate::sim::sql::simulate_sql;
 use dnp_concentrator::Plan;
 use dnp_controls::PlainBook;
 use dnp_eventbuf::laws::lanes_stay_sound;
@@ -23,6 +24,17 @@ use std::alloc::Global;
 use std::io::Write;
 
 mod judging;
+mod sql;
+
+/// Over which stores a script runs, all of them in memory: the concentrator's queue, the centre's journal, and the books of
+/// controls of both.
+#[derive(Clone, Copy, Debug, PartialEq, Eq)]
+pub enum Stores {
+    /// SQL databases, as a concentrator and a centre have them in files.
+    Sql,
+    /// Lists.
+    Plain,
+}
 
 /// The status of texts that were run.
 const DONE: u8 = 0;
@@ -30,8 +42,8 @@ const DONE: u8 = 0;
 /// The status of texts of which one is refused.
 const REFUSED: u8 = 1;
 
-/// Runs a script on a new system of the plan, over stores in memory, and prints the report at its end.
-fn simulate<C: Carrier + Drop, W: Write>(
+/// Runs a script on a new system of the plan, over lists, and prints the report at its end.
+fn simulate_plain<C: Carrier + Drop, W: Write>(
     alloc: Global,
     plan: &Plan,
     script: &ScriptText<'_>,
@@ -64,16 +76,36 @@ fn simulate<C: Carrier + Drop, W: Write>(
     }
 }
 
+/// Runs a script on a new system of the plan, over such stores, and prints the report at its end.
+fn simulate<C: Carrier + Drop, W: Write>(
+    alloc: Global,
+    plan: &Plan,
+    script: &ScriptText<'_>,
+    stores: Stores,
+    carrier: C,
+    out: &mut W,
+) -> Result<(), ScriptStop>
+    requires limits { KeepsLimits plan.now }
+    requires fits { (lines : List ScriptLine) × Says script.now lines }
+    ensures { IsSpokenFor stores result → (lines : List ScriptLine) → Says script.now lines → PlanEnds plan.now lines result (W.contents out.old) (W.contents out.new) }
+{
+    match stores {
+        Stores::Sql => simulate_sql(alloc, plan, script, carrier, out),
+        Stores::Plain => simulate_plain(alloc, plan, script, carrier, out),
+    }
+}
+
 /// Runs a script on a new system of a plan, whose units may be carried, and prints the report at its end.
 fn texts_by<C: Carrier + Drop, W: Write>(
     alloc: Global,
     plan: &str,
     script: &str,
     carried: bool,
+    stores: Stores,
     carrier: C,
     out: &mut W,
 ) -> Result<u8, ScriptStop>
-    ensures { TextsEnd (reading_by carried) plan.now script.now result (W.contents out.old) (W.contents out.new) }
+    ensures { IsSpokenFor stores result → TextsEnd (reading_by carried) plan.now script.now result (W.contents out.old) (W.contents out.new) }
 {
     let judged = match judge(alloc, plan, script, carried) {
         Ok(judged) => judged,
@@ -86,7 +118,7 @@ fn texts_by<C: Carrier + Drop, W: Write>(
                 substations: plan.substations.as_slice().len(),
                 carried,
             };
-            match simulate(alloc, &plan, &script, carrier, out) {
+            match simulate(alloc, &plan, &script, stores, carrier, out) {
                 Ok(()) => Ok(DONE),
                 Err(stop) => Err(stop),
             }
@@ -102,21 +134,25 @@ fn texts_by<C: Carrier + Drop, W: Write>(
     }
 }
 
-/// Runs a script on a new system of a plan, over stores in memory, and prints the report at its end: what `run_script`
-/// and `print_report` print. It answers 0.
+/// Runs a script on a new system of a plan, over such stores, and prints the report at its end: what `run_script` and
+/// `print_report` print. It answers 0.
 ///
 /// Both texts are judged before anything runs, first the plan. A plan that is refused is `refused plan` and the number of
 /// its `PlanTextFault`, a script `refused line` and the number of its first line that doesn't fit: that line is
 /// printed, and the answer is 1.
+///
+/// SQL databases are asked at the end whether one of them has answered Device: then that is the fault, and what was printed
+/// is not spoken for.
 pub fn sim_text<W: Write>(
     alloc: Global,
     plan: &str,
     script: &str,
+    stores: Stores,
     out: &mut W,
 ) -> Result<u8, ScriptStop>
-    ensures { TextsEnd reading_of plan.now script.now result (W.contents out.old) (W.contents out.new) }
+    ensures { IsSpokenFor stores result → TextsEnd reading_of plan.now script.now result (W.contents out.old) (W.contents out.new) }
 {
-    texts_by(alloc, plan, script, false, InMemory, out)
+    texts_by(alloc, plan, script, false, stores, InMemory, out)
 }
 
 /// Runs a script as [`sim_text`] does, and carries each unit of the system's lines before it comes to its end.
@@ -127,10 +163,11 @@ pub fn loop_text<C: Carrier + Drop, W: Write>(
     alloc: Global,
     plan: &str,
     script: &str,
+    stores: Stores,
     carrier: C,
     out: &mut W,
 ) -> Result<u8, ScriptStop>
-    ensures { TextsEnd lossless_reading_of plan.now script.now result (W.contents out.old) (W.contents out.new) }
+    ensures { IsSpokenFor stores result → TextsEnd lossless_reading_of plan.now script.now result (W.contents out.old) (W.contents out.new) }
 {
-    texts_by(alloc, plan, script, true, carrier, out)
+    texts_by(alloc, plan, script, true, stores, carrier, out)
 }

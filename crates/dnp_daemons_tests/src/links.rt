@@ -12,21 +12,16 @@ use dnp_plantext::read_plan;
 use dnp_streams::{Above, Asked, Below, ServeFault, Served, Station, ask_stream, serve_stream};
 use std::alloc::Global;
 
-/// An unsolicited response from outstation 10 to master 2: binary input 0 has become 1, with a time.
-const REPORT: [u8; 33] = [
-    0x05, 0x64, 0x18, 0x44, 0x02, 0x00, 0x0A, 0x00, 0x59, 0x71, 0xC0, 0xF0, 0x82, 0x80, 0x00, 0x02,
-    0x02, 0x28, 0x01, 0x00, 0x00, 0x00, 0x81, 0xE8, 0x03, 0x00, 0xDA, 0xDC, 0x00, 0x00, 0x00, 0xFF,
-    0xFF,
-];
+/// The addresses of a frame from outstation 10 to master 2, and the check word of its header.
+const BELOW: [u8; 6] = [0x02, 0x00, 0x0A, 0x00, 0x59, 0x71];
 
-/// The same of binary input 1, which is not there.
-const STRANGE: [u8; 33] = [
-    0x05, 0x64, 0x18, 0x44, 0x02, 0x00, 0x0A, 0x00, 0x59, 0x71, 0xC0, 0xF0, 0x82, 0x80, 0x00, 0x02,
-    0x02, 0x28, 0x01, 0x00, 0x01, 0x00, 0x81, 0xE8, 0x03, 0x00, 0x3D, 0x69, 0x00, 0x00, 0x00, 0xFF,
-    0xFF,
-];
+/// The same from outstation 9 to master 1.
+const ABOVE: [u8; 6] = [0x01, 0x00, 0x09, 0x00, 0xB3, 0xCB];
 
-/// Its confirm.
+/// The control octet, the function and the first indications of an unsolicited response.
+const REPORTS: [u8; 3] = [0xF0, 0x82, 0x80];
+
+/// The confirm of an unsolicited response from outstation 10.
 const CONFIRM: [u8; 15] = [
     0x05, 0x64, 0x08, 0xC4, 0x0A, 0x00, 0x02, 0x00, 0x57, 0xF2, 0xC0, 0xD0, 0x00, 0x1B, 0x49,
 ];
@@ -37,30 +32,9 @@ const POLL: [u8; 18] = [
     0x54, 0xE0,
 ];
 
-/// The response: binary input 100 has become 1, at the same time.
-const RESPONSE: [u8; 33] = [
-    0x05, 0x64, 0x18, 0x44, 0x01, 0x00, 0x09, 0x00, 0xB3, 0xCB, 0xC0, 0xE0, 0x81, 0x80, 0x00, 0x02,
-    0x02, 0x28, 0x01, 0x00, 0x64, 0x00, 0x81, 0xE8, 0x03, 0x00, 0xB4, 0x8E, 0x00, 0x00, 0x00, 0xFF,
-    0xFF,
-];
-
-/// The same as an unsolicited response.
-const REPORT_ABOVE: [u8; 33] = [
-    0x05, 0x64, 0x18, 0x44, 0x01, 0x00, 0x09, 0x00, 0xB3, 0xCB, 0xC0, 0xF0, 0x82, 0x80, 0x00, 0x02,
-    0x02, 0x28, 0x01, 0x00, 0x64, 0x00, 0x81, 0xE8, 0x03, 0x00, 0x4B, 0xCE, 0x00, 0x00, 0x00, 0xFF,
-    0xFF,
-];
-
-/// Its confirm.
+/// The confirm of an unsolicited response from outstation 9.
 const CONFIRM_ABOVE: [u8; 15] = [
     0x05, 0x64, 0x08, 0xC4, 0x09, 0x00, 0x01, 0x00, 0xBD, 0x48, 0xC0, 0xD0, 0x00, 0x1B, 0x49,
-];
-
-/// The response to a READ of class 1, from outstation 10 to master 2: binary input 0 has become 1.
-const ANSWER: [u8; 33] = [
-    0x05, 0x64, 0x18, 0x44, 0x02, 0x00, 0x0A, 0x00, 0x59, 0x71, 0xC0, 0xE0, 0x81, 0x00, 0x00, 0x02,
-    0x02, 0x28, 0x01, 0x00, 0x00, 0x00, 0x81, 0xE8, 0x03, 0x00, 0xEA, 0x4C, 0x00, 0x00, 0x00, 0xFF,
-    0xFF,
 ];
 
 /// The READ of class 1, and the confirm of its response.
@@ -72,6 +46,24 @@ const ASKED: [u8; 33] = [
 
 /// A task that polls class 1.
 const POLL_1: Task = Task::Poll(Classes([false, true, false, false]));
+
+/// The frame of an event: an unsolicited response from outstation 10 to master 2, binary input 0 has become 1, with a time.
+const EVENT: [u8; 33] = [
+    0x05, 0x64, 0x18, 0x44, 0x02, 0x00, 0x0A, 0x00, 0x59, 0x71, 0xC0, 0xF0, 0x82, 0x80, 0x00, 0x02,
+    0x02, 0x28, 0x01, 0x00, 0x00, 0x00, 0x81, 0xE8, 0x03, 0x00, 0xDA, 0xDC, 0x00, 0x00, 0x00, 0xFF,
+    0xFF,
+];
+
+/// The same frame with these addresses and their check word, this beginning of its fragment, and this index; `check` is the
+/// check word of its first block.
+fn event_frame(addresses: [u8; 6], begins: [u8; 3], index: u8, check: [u8; 2]) -> [u8; 33] {
+    let mut frame = EVENT;
+    frame[4..10].copy_from_slice(&addresses);
+    frame[11..14].copy_from_slice(&begins);
+    frame[20] = index;
+    frame[26..28].copy_from_slice(&check);
+    frame
+}
 
 /// One fragment came, and so many were refused.
 fn one(faults: u64) -> Result<Served, ServeFault> {
@@ -112,7 +104,9 @@ fn a_concentrator_on_streams(rt: HostRuntime) {
         &rt,
         "a concentrator",
     );
-    let below = [(0, &STRANGE, 0, 1), (1, &REPORT, 0, 0), (0, &REPORT, 15, 0)];
+    let strange = event_frame(BELOW, REPORTS, 1, [0x3D, 0x69]);
+    let response = event_frame(ABOVE, [0xE0, 0x81, 0x80], 100, [0xB4, 0x8E]);
+    let below = [(0, &strange, 0, 1), (1, &EVENT, 0, 0), (0, &EVENT, 15, 0)];
     for (link, octets, count, faults) in below {
         let mut station = Below::new(&mut concentrator, link);
         let port = Port::new(2, 10, true);
@@ -135,7 +129,7 @@ fn a_concentrator_on_streams(rt: HostRuntime) {
             &mut station,
             Port::new(9, 1, false),
             &POLL,
-            &RESPONSE,
+            &response,
             one(0)
         )
     );
@@ -153,12 +147,13 @@ fn a_centre_on_a_stream(rt: HostRuntime) {
         PlainBook::new(alloc),
     )
     .expect(&rt, "a centre");
+    let report = event_frame(ABOVE, REPORTS, 100, [0x4B, 0xCE]);
     assert!(rt;
         sends(
             alloc,
             &mut centre,
             Port::new(1, 9, true),
-            &REPORT_ABOVE,
+            &report,
             &CONFIRM_ABOVE,
             one(0)
         )
@@ -174,8 +169,9 @@ fn asks(
     turns: u64,
     writer: &mut Taking,
 ) -> Result<Asked, ServeFault> {
+    let answer = event_frame(BELOW, [0xE0, 0x81, 0x00], 0, [0xEA, 0x4C]);
     let mut reader = Giving {
-        octets: &ANSWER,
+        octets: &answer,
         most: 10,
         fails: false,
     };

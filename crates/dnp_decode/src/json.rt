@@ -111,26 +111,25 @@ struct Told(Command, Status);
 impl Display for Told {
     fn fmt<W: Write>(&self, f: &mut Formatter<W>) -> fmt::Result {
         let status = self.1.code();
-        if let Some((word, index, value)) = setting_of(self.0) {
-            return write!(
+        match self.0 {
+            Command::Block {
+                index,
+                code,
+                count,
+                on_ms,
+                off_ms,
+            } => write!(
                 f,
-                "\"layer\":\"command\",\"command\":\"{word}\",\"index\":{index},\"value\":{value},\"status\":{status}"
-            );
+                "\"layer\":\"command\",\"command\":\"block\",\"index\":{index},\"code\":{code},\"count\":{count},\"on_ms\":{on_ms},\"off_ms\":{off_ms},\"status\":{status}"
+            ),
+            setting => match setting_of(setting) {
+                Some((word, index, value)) => write!(
+                    f,
+                    "\"layer\":\"command\",\"command\":\"{word}\",\"index\":{index},\"value\":{value},\"status\":{status}"
+                ),
+                None => Ok(()),
+            },
         }
-        let Command::Block {
-            index,
-            code,
-            count,
-            on_ms,
-            off_ms,
-        } = self.0
-        else {
-            return Ok(());
-        };
-        write!(
-            f,
-            "\"layer\":\"command\",\"command\":\"block\",\"index\":{index},\"code\":{code},\"count\":{count},\"on_ms\":{on_ms},\"off_ms\":{off_ms},\"status\":{status}"
-        )
     }
 }
 
@@ -148,6 +147,50 @@ impl Display for Skipped {
             )
         } else {
             write!(f, "\"refused\":\"Noise\",\"octets\":{octets}")
+        }
+    }
+}
+
+/// A line of a fragment, or of a layer below.
+#[derive(Clone, Copy)]
+struct Said(Line);
+
+impl Display for Said {
+    fn fmt<W: Write>(&self, f: &mut Formatter<W>) -> fmt::Result {
+        match self.0 {
+            Line::Request { control, function } => {
+                let bits = Bits(control);
+                let function = function_name(function);
+                write!(
+                    f,
+                    "\"layer\":\"request\",{bits},\"function\":\"{function}\""
+                )
+            }
+            Line::Response {
+                control,
+                function,
+                iin,
+            } => {
+                let bits = Bits(control);
+                let function = function_name(function);
+                let one = iin.one;
+                let two = iin.two;
+                write!(
+                    f,
+                    "\"layer\":\"response\",{bits},\"function\":\"{function}\",\"iin\":[\"{one:02X}\",\"{two:02X}\"]"
+                )
+            }
+            Line::FragmentRefused { fault, place } => {
+                let fault = fault_name(fault);
+                write!(
+                    f,
+                    "\"layer\":\"fragment\",\"refused\":\"{fault}\",\"octet\":{place}"
+                )
+            }
+            line => {
+                let carried = Carried(line);
+                write!(f, "{carried}")
+            }
         }
     }
 }
@@ -219,50 +262,6 @@ impl Display for Carried {
             line => {
                 let linked = Linked(line);
                 write!(f, "{linked}")
-            }
-        }
-    }
-}
-
-/// A line of a fragment, or of a layer below.
-#[derive(Clone, Copy)]
-struct Said(Line);
-
-impl Display for Said {
-    fn fmt<W: Write>(&self, f: &mut Formatter<W>) -> fmt::Result {
-        match self.0 {
-            Line::Request { control, function } => {
-                let bits = Bits(control);
-                let function = function_name(function);
-                write!(
-                    f,
-                    "\"layer\":\"request\",{bits},\"function\":\"{function}\""
-                )
-            }
-            Line::Response {
-                control,
-                function,
-                iin,
-            } => {
-                let bits = Bits(control);
-                let function = function_name(function);
-                let one = iin.one;
-                let two = iin.two;
-                write!(
-                    f,
-                    "\"layer\":\"response\",{bits},\"function\":\"{function}\",\"iin\":[\"{one:02X}\",\"{two:02X}\"]"
-                )
-            }
-            Line::FragmentRefused { fault, place } => {
-                let fault = fault_name(fault);
-                write!(
-                    f,
-                    "\"layer\":\"fragment\",\"refused\":\"{fault}\",\"octet\":{place}"
-                )
-            }
-            line => {
-                let carried = Carried(line);
-                write!(f, "{carried}")
             }
         }
     }

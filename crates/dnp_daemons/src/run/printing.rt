@@ -57,9 +57,9 @@ pub(crate) fn print_round<W: Write>(
         × Appends (W.contents out.old) (W.contents out.new) part) }
 {
     match link {
-        Link::Below(station) => {
+        Link::Below(substation) => {
             let mut digits = Buffer::new();
-            print_outcome(b"round", digits.format(station).as_bytes(), refusal, out)
+            print_outcome(b"round", digits.format(substation).as_bytes(), refusal, out)
         }
         Link::Above => print_outcome(b"round", b"above", refusal, out),
     }

@@ -10,6 +10,10 @@ use crate::script::names::{
 use crate::script::numbers::{
     integer_in, integer16_in, integer32_in, number_in, number8_in, number16_in, number32_in,
 };
+use Slot::{
+    Block, Classes, End, Flags, Integer16, Integer32, Integer64, Kind, Link, Number8, Number16,
+    Number32, Number64, Octets, Set16, Set32, Station, Substation, Time, Verb, Way,
+};
 
 /// How many forms there are.
 pub(crate) const FORMS: usize = 22;
@@ -177,64 +181,61 @@ impl Form {
         ensures { result.now ≡ slots_of self }
     {
         match self {
-            Form::Open => &[Slot::Verb(Form::Open), Slot::Link],
-            Form::Clear => &[Slot::Verb(Form::Clear), Slot::Link],
-            Form::Relay => &[Slot::Verb(Form::Relay), Slot::Link],
-            Form::Round => &[Slot::Verb(Form::Round), Slot::Link],
-            Form::HangUp => &[Slot::Verb(Form::HangUp), Slot::Link, Slot::End],
-            Form::Tick => &[Slot::Verb(Form::Tick), Slot::Link, Slot::End],
-            Form::Deliver => &[Slot::Verb(Form::Deliver), Slot::Link, Slot::Way],
-            Form::Repeat => &[Slot::Verb(Form::Repeat), Slot::Link, Slot::Way],
-            Form::Lose => &[Slot::Verb(Form::Lose), Slot::Link, Slot::Way],
-            Form::Flush => &[Slot::Verb(Form::Flush), Slot::Link, Slot::Way],
-            Form::Damage => &[
-                Slot::Verb(Form::Damage),
-                Slot::Link,
-                Slot::Way,
-                Slot::Octets,
-            ],
-            Form::Poll => &[Slot::Verb(Form::Poll), Slot::Link, Slot::Classes],
-            Form::Enable => &[Slot::Verb(Form::Enable), Slot::Link, Slot::Classes],
-            Form::Disable => &[Slot::Verb(Form::Disable), Slot::Link, Slot::Classes],
-            Form::SetTime => &[Slot::Verb(Form::SetTime), Slot::Link, Slot::Number64],
-            Form::Pass => &[Slot::Verb(Form::Pass), Slot::Number64],
-            Form::Control => &[Slot::Verb(Form::Control), Slot::Number64],
-            Form::Restart => &[Slot::Verb(Form::Restart), Slot::Station],
-            Form::Change => &[
-                Slot::Verb(Form::Change),
-                Slot::Substation,
-                Slot::Kind,
-                Slot::Number16,
-                Slot::Integer64,
-                Slot::Flags,
-                Slot::Time,
-            ],
-            Form::Set16 => &[
-                Slot::Verb(Form::Set16),
-                Slot::Substation,
-                Slot::Set16,
-                Slot::Number16,
-                Slot::Integer16,
-            ],
-            Form::Set32 => &[
-                Slot::Verb(Form::Set32),
-                Slot::Substation,
-                Slot::Set32,
-                Slot::Number16,
-                Slot::Integer32,
-            ],
-            Form::Block => &[
-                Slot::Verb(Form::Block),
-                Slot::Substation,
-                Slot::Block,
-                Slot::Number16,
-                Slot::Number8,
-                Slot::Number8,
-                Slot::Number32,
-                Slot::Number32,
-            ],
+            Form::Open => &[Verb(Form::Open), Link],
+            Form::Clear => &[Verb(Form::Clear), Link],
+            Form::Relay => &[Verb(Form::Relay), Link],
+            Form::Round => &[Verb(Form::Round), Link],
+            Form::HangUp => &[Verb(Form::HangUp), Link, End],
+            Form::Tick => &[Verb(Form::Tick), Link, End],
+            Form::Deliver => &[Verb(Form::Deliver), Link, Way],
+            Form::Repeat => &[Verb(Form::Repeat), Link, Way],
+            Form::Lose => &[Verb(Form::Lose), Link, Way],
+            Form::Flush => &[Verb(Form::Flush), Link, Way],
+            Form::Damage => &[Verb(Form::Damage), Link, Way, Octets],
+            Form::Poll => &[Verb(Form::Poll), Link, Classes],
+            Form::Enable => &[Verb(Form::Enable), Link, Classes],
+            Form::Disable => &[Verb(Form::Disable), Link, Classes],
+            Form::SetTime => &[Verb(Form::SetTime), Link, Number64],
+            Form::Pass => &[Verb(Form::Pass), Number64],
+            Form::Control => &[Verb(Form::Control), Number64],
+            Form::Restart => &[Verb(Form::Restart), Station],
+            Form::Change => slots_of_a_change(),
+            Form::Set16 => &[Verb(Form::Set16), Substation, Set16, Number16, Integer16],
+            Form::Set32 => &[Verb(Form::Set32), Substation, Set32, Number16, Integer32],
+            Form::Block => slots_of_a_block(),
         }
     }
+}
+
+/// What the words of a line `change` say.
+fn slots_of_a_change() -> &'static [Slot]
+    ensures { result.now ≡ slots_of Form.Change }
+{
+    &[
+        Verb(Form::Change),
+        Substation,
+        Kind,
+        Number16,
+        Integer64,
+        Flags,
+        Time,
+    ]
+}
+
+/// What the words of a line `issue` with a block say.
+fn slots_of_a_block() -> &'static [Slot]
+    ensures { result.now ≡ slots_of Form.Block }
+{
+    &[
+        Verb(Form::Block),
+        Substation,
+        Block,
+        Number16,
+        Number8,
+        Number8,
+        Number32,
+        Number32,
+    ]
 }
 
 impl Slot {
@@ -243,27 +244,27 @@ impl Slot {
         ensures { result ≡ takes substations self word.now }
     {
         match self {
-            Slot::Verb(form) => word == form.verb(),
-            Slot::Link => link_in(word, substations).is_some(),
-            Slot::Substation => substation_in(word, substations).is_some(),
-            Slot::Station => place_in(word, substations).is_some(),
-            Slot::End => end_in(word).is_some(),
-            Slot::Way => way_in(word).is_some(),
-            Slot::Kind => kind_in(word).is_some(),
-            Slot::Classes => classes_in(word).is_some(),
-            Slot::Flags => flags_in(word).is_some(),
-            Slot::Time => time_in(word).is_some(),
-            Slot::Octets => octets_in(word).is_some(),
-            Slot::Set16 => word == "set16",
-            Slot::Set32 => word == "set32",
-            Slot::Block => word == "block",
-            Slot::Number8 => number8_in(word).is_some(),
-            Slot::Number16 => number16_in(word).is_some(),
-            Slot::Number32 => number32_in(word).is_some(),
-            Slot::Number64 => number_in(word).is_some(),
-            Slot::Integer16 => integer16_in(word).is_some(),
-            Slot::Integer32 => integer32_in(word).is_some(),
-            Slot::Integer64 => integer_in(word).is_some(),
+            Verb(form) => word == form.verb(),
+            Link => link_in(word, substations).is_some(),
+            Substation => substation_in(word, substations).is_some(),
+            Station => place_in(word, substations).is_some(),
+            End => end_in(word).is_some(),
+            Way => way_in(word).is_some(),
+            Kind => kind_in(word).is_some(),
+            Classes => classes_in(word).is_some(),
+            Flags => flags_in(word).is_some(),
+            Time => time_in(word).is_some(),
+            Octets => octets_in(word).is_some(),
+            Set16 => word == "set16",
+            Set32 => word == "set32",
+            Block => word == "block",
+            Number8 => number8_in(word).is_some(),
+            Number16 => number16_in(word).is_some(),
+            Number32 => number32_in(word).is_some(),
+            Number64 => number_in(word).is_some(),
+            Integer16 => integer16_in(word).is_some(),
+            Integer32 => integer32_in(word).is_some(),
+            Integer64 => integer_in(word).is_some(),
         }
     }
 }

@@ -76,11 +76,11 @@ impl Display for IdleLines {
 }
 
 /// Whether the substation has this point, output or setpoint.
-fn has_index(plan: &Plan, station: u8, kind: IndexKind, index: u16) -> bool
-    ensures { result ≡ spec.has_index plan.now station kind index }
+fn has_index(plan: &Plan, substation: u8, kind: IndexKind, index: u16) -> bool
+    ensures { result ≡ spec.has_index plan.now substation kind index }
 {
-    match plan.substations.as_slice().get(usize::from(station)) {
-        Some(substation) => usize::from(index) < substation.spans().of(kind).count,
+    match plan.substations.as_slice().get(usize::from(substation)) {
+        Some(planned) => usize::from(index) < planned.spans().of(kind).count,
         None => false,
     }
 }

@@ -1,15 +1,5 @@
-use Rattle.std.proofs.Common.{refl}
-use Rattle.dnp_daemons.proofs.Simulating.{new_stores, on_new}
 use Rattle.dnp_daemons.proofs.sim.simulate.Goals as goal
 
-pub new-made-requires-clause-empty : goal.new-made-requires-clause-empty
-new-made-requires-clause-empty g c = λ honest.
-    rw (c.in-Ok.ensures, c.new-2.ensures, c.new-3.ensures, c.new-4.ensures)
-    (new_stores c.lanes_stay_sound.ensures.made c.args.plan.now c.requires.limits c.plans_have_all_lanes.ensures.queue)
-
-pub returns-in-Ok-made : goal.returns-in-Ok-made
-returns-in-Ok-made g c = λ lines says.
-    let fresh = rw (c.in-Ok.ensures, c.new-2.ensures, c.new-3.ensures, c.new-4.ensures) at c.in-Ok-made.ensures.fresh in
-    on_new c.args.plan.now lines c.run_to_report.result _ _ _ _ fresh
-    (c.run_to_report.ensures.ends
-    (record { queue_is = tt; journal_is = tt; controls_is = tt; controls_run = refl; orders_is = tt; orders_run = refl }) lines says)
+pub returns-in-Sql : goal.returns-in-Sql
+returns-in-Sql g c = λ spoken.
+    c.simulate_sql.ensures (rw c.in-Sql.is at spoken)

@@ -1,0 +1,136 @@
+//! A script over SQL databases in memory, which are asked at its end whether they are well.
+
+ghost use Rattle.std.specs.Prelude.{◌≡◌, ◌≢◌, ◌≤◌, All, Err, IfOk, IsTrue, List};
+ghost use Rattle.dnp_concentrator.specs.Plan.{KeepsLimits};
+ghost use Rattle.dnp_concentrator.specs.declared.cause.Cause.TheVariants.{Device, Memory};
+ghost use Rattle.dnp_daemons.specs.declared.script.ScriptLine.{ScriptLine};
+ghost use Rattle.dnp_daemons.specs.Simulations.{PlanEnds};
+ghost use Rattle.dnp_daemons.specs.steps.Readings.{Says};
+ghost use Rattle.dnp_daemons.specs.steps.SqlStores.{AreNew, AreWell};
+
+use crate::run::ScriptStop;
+use crate::run::carried::Carried;
+use crate::run::reporting::run_to_report;
+use crate::script::checking::ScriptText;
+use dnp_concentrator::Plan;
+use dnp_eventbuf::MAX_CAPACITY;
+use dnp_eventbuf::laws::lanes_stay_sound;
+use dnp_objects::LANES;
+use dnp_store::{ControlBook, Journal, OpenFault, Queue};
+use dnp_world::standing_laws::plans_have_all_lanes;
+use dnp_world::{Carrier, Cause, World};
+use sqlite::MemStore;
+use std::alloc::Global;
+use std::io::Write;
+
+/// The stores of a system, in databases in memory.
+#[derive(Drop)]
+struct SqlStores {
+    /// The concentrator's queue.
+    queue: Queue<MemStore>,
+    /// The centre's journal.
+    journal: Journal<MemStore>,
+    /// The concentrator's book of controls.
+    controls: ControlBook<MemStore>,
+    /// The centre's book of controls.
+    orders: ControlBook<MemStore>,
+}
+
+/// Why no system was made, where a store was not.
+fn unmade(fault: OpenFault) -> ScriptStop
+    ensures { result ≢ ScriptStop.Fault Device → result ≡ ScriptStop.Fault Memory }
+{
+    match fault {
+        OpenFault::Memory => ScriptStop::Fault(Cause::Memory),
+        OpenFault::WrongForm | OpenFault::Device => ScriptStop::Fault(Cause::Device),
+    }
+}
+
+impl SqlStores {
+    /// Stores that hold nothing, the queue with lanes of these capacities.
+    fn new(alloc: Global, capacities: [u32; LANES]) -> Result<SqlStores, OpenFault>
+        requires { All (λ capacity. (1 ≤ capacity) × (capacity ≤ MAX_CAPACITY)) capacities }
+        ensures { IfOk result (AreNew capacities) }
+    {
+        Ok(SqlStores {
+            queue: Queue::in_memory(alloc, capacities)?,
+            journal: Journal::in_memory(alloc)?,
+            controls: ControlBook::in_memory(alloc)?,
+            orders: ControlBook::in_memory(alloc)?,
+        })
+    }
+
+    /// Whether none of them has answered Device.
+    fn are_well(&self) -> bool
+        ensures { IsTrue result → AreWell self.now }
+    {
+        self.queue.is_well()
+            && self.journal.is_well()
+            && self.controls.is_well()
+            && self.orders.is_well()
+    }
+}
+
+/// Runs a script on a new system of the plan, over SQL databases in memory, and prints the report at its end. Where a
+/// database has answered Device, that is the fault.
+pub(super) fn simulate_sql<C: Carrier + Drop, W: Write>(
+    alloc: Global,
+    plan: &Plan,
+    script: &ScriptText<'_>,
+    carrier: C,
+    out: &mut W,
+) -> Result<(), ScriptStop>
+    requires limits { KeepsLimits plan.now }
+    requires fits { (lines : List ScriptLine) × Says script.now lines }
+    ensures { result ≢ Err (ScriptStop.Fault Device) → (lines : List ScriptLine) → Says script.now lines → PlanEnds plan.now lines result (W.contents out.old) (W.contents out.new) }
+{
+    match SqlStores::new(alloc, plan.queue) {
+        Ok(stores) => simulate_over(alloc, plan, script, stores, carrier, out),
+        Err(fault) => Err(unmade(fault)),
+    }
+}
+
+/// The same over stores that hold nothing.
+fn simulate_over<C: Carrier + Drop, W: Write>(
+    alloc: Global,
+    plan: &Plan,
+    script: &ScriptText<'_>,
+    stores: SqlStores,
+    carrier: C,
+    out: &mut W,
+) -> Result<(), ScriptStop>
+    requires limits { KeepsLimits plan.now }
+    requires fits { (lines : List ScriptLine) × Says script.now lines }
+    requires new { AreNew plan.now.queue stores }
+    ensures { result ≢ Err (ScriptStop.Fault Device) → (lines : List ScriptLine) → Says script.now lines → PlanEnds plan.now lines result (W.contents out.old) (W.contents out.new) }
+{
+    plans_have_all_lanes(plan);
+    lanes_stay_sound();
+    let SqlStores {
+        queue,
+        journal,
+        controls,
+        orders,
+    } = stores;
+    let made = World::new(alloc, plan, queue, journal, controls, orders);
+    match made {
+        Ok(world) => {
+            let mut carried = Carried { world, carrier };
+            let result = run_to_report(alloc, &mut carried, script, out);
+            let Carried { world, carrier: _ } = carried;
+            let (queue, journal, controls, orders) = world.into_stores();
+            let stores = SqlStores {
+                queue,
+                journal,
+                controls,
+                orders,
+            };
+            if stores.are_well() {
+                result
+            } else {
+                Err(ScriptStop::Fault(Cause::Device))
+            }
+        }
+        Err(_) => Err(ScriptStop::Fault(Cause::Memory)),
+    }
+}
