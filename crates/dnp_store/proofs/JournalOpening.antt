@@ -1,22 +1,12 @@
 -- What the rows of a journal's table say, as an open reads them.
-use Rattle.std.proofs.Common.{◌≡◌, ℕ, suc, ◌+◌, ◌<◌, ◌≤◌, Bool, false, List, [], ◌∷◌, map, length, codes, Option, Some, None, Ok, Err, Result, IfOk, refl, sym, ap₂, subst, arith, IsPermutation}
-use Rattle.std.specs.Prelude.{Vec, if◌then◌else◌}
-use Rattle.std.specs.declared.alloc.Global.{Global}
+use Rattle.std.proofs.Common.{◌≡◌, ℕ, suc, ◌+◌, ◌<◌, ◌≤◌, Bool, List, [], ◌∷◌, map, length, codes, Option, Some, None, refl, sym, ap₂, arith}
+use Rattle.std.specs.Prelude.{if◌then◌else◌}
 use Rattle.std.specs.List.{AllByRecursion}
-use Rattle.std.proofs.lemmas.List.Sorted.{IsPermutation-sym}
-use Rattle.sqlite_tied.specs.Compute.{everything}
-use Rattle.sqlite_trees.proofs.ListLemmas.{all-permutation, all_weaker}
-use Rattle.sqlite.specs.Command.TheVariants.{Select}
-use Rattle.sqlite.specs.declared.types.Value.{Value}
-use Rattle.sqlite.specs.declared.types.Value.TheVariants.{Null}
+use Rattle.sqlite_trees.proofs.ListLemmas.{all_weaker}
 use Rattle.sqlite.specs.Order.{Row}
 use Rattle.sqlite.specs.Term.{Term}
 use Rattle.sqlite.specs.Tree.{IsAscending}
 use Rattle.sqlite.specs.Effect.{Database, IsDatabase}
-use Rattle.sqlite.specs.Given.{IsPlain}
-use Rattle.sqlite.specs.Listing.{understood, reads_listing}
-use Rattle.sqlite.specs.State.{State, Shown}
-use Rattle.sqlite.proofs.Callers.{command_of, reads_as}
 use Rattle.dnp_objects.specs.declared.row.Kind.{Kind}
 use Rattle.dnp_objects.specs.Lanes.{kind_number}
 use Rattle.dnp_eventbuf.specs.declared.numbered.Numbered.{Numbered}
@@ -25,9 +15,8 @@ use Rattle.dnp_store.specs.QueueTables.{queue_columns, Queued, queued_row, event
 use Rattle.dnp_store.specs.JournalTables.{journal_schema, journal_columns, IsLogged}
 use Rattle.dnp_store.specs.steps.JournalShown.{ShowsEvent, ShowEvents, AreInOrder, Logs, Finds}
 use Rattle.dnp_store.specs.declared.store_kind.StoreKind.TheVariants.{Journal}
-use Rattle.dnp_store.specs.steps.Stores.{Reads}
 use Rattle.dnp_store.proofs.Rows.{IsTyped, typed_rows, queue_row, queued_of}
-use Rattle.dnp_store.proofs.Opening.{query, listed, shown_by, unchanged, queue_terms}
+use Rattle.dnp_store.proofs.Opening.{shown_by, queue_terms}
 use Rattle.dnp_store.proofs.JournalHolding.{kind_is, kind_low}
 
 -- ---- rows have their tables' columns

@@ -1,16 +1,16 @@
 -- A journal's rows, a page at a time: those that were looked at, and those that are left.
-use Rattle.std.proofs.Common.{◌≡◌, ℕ, ◌+◌, ◌<◌, ◌≤◌, pos, negsuc, get_or, append-nil, Bool, true, false, not, List, [], ◌∷◌, ◌++◌, map, filter, take, drop, length, codes, Some, None, Ok, Err, Result, IfOk, refl, sym, ap, subst, ◌∙◌, arith, IsPermutation, append_assoc, take-append-drop, length-append}
+use Rattle.std.proofs.Common.{◌≡◌, ℕ, ◌+◌, ◌<◌, ◌≤◌, pos, negsuc, get_or, append-nil, Bool, false, not, List, [], ◌∷◌, ◌++◌, map, filter, take, drop, length, codes, Some, Ok, Err, Result, IfOk, refl, sym, ap, subst, ◌∙◌, arith, IsPermutation, append_assoc, take-append-drop, length-append}
 use Rattle.std.specs.Prelude.{Vec, nat_lt, min}
 use Rattle.std.specs.declared.alloc.Global.{Global}
 use Rattle.std.specs.List.{AllByRecursion, AllZip, list_all}
 use Rattle.std.proofs.lemmas.List.{map-append, length-map}
 use Rattle.std.proofs.lemmas.List.Elements.{filter-append}
 use Rattle.std.proofs.lemmas.List.Sorted.{IsPermutation-refl, IsPermutation-sym, IsPermutation-trans, IsPermutation-append_left, IsPermutation-append_right, IsPermutation-filter_both, length_permutation}
-use Rattle.sqlite_trees.proofs.ListLemmas.{all-permutation, all-append, all-filter, all_weaker, all-map, ascending-append, filter_none, IsPermutation-filter}
+use Rattle.sqlite_trees.proofs.ListLemmas.{all-permutation, all-append, all-filter, all_weaker, ascending-append, filter_none, IsPermutation-filter}
 use Rattle.sqlite.specs.declared.types.Value.{Value}
 use Rattle.sqlite.specs.declared.types.Value.TheVariants.{Null, Int}
 use Rattle.sqlite.specs.Order.{Row, column}
-use Rattle.sqlite.specs.Tree.{Trees, IsAscending}
+use Rattle.sqlite.specs.Tree.{Trees}
 use Rattle.sqlite.specs.State.{State, Shown}
 use Rattle.sqlite.specs.Command.TheVariants.{Select}
 use Rattle.sqlite.specs.Program.{overlay}
@@ -32,8 +32,8 @@ use Rattle.dnp_store.specs.declared.store_kind.StoreKind.TheVariants.{Journal}
 use Rattle.dnp_store.specs.steps.Stores.{Reads}
 use Rattle.dnp_store.proofs.Rows.{IsTyped}
 use Rattle.dnp_store.proofs.Opening.{each_one, unchanged}
-use Rattle.dnp_store.proofs.JournalReading.{over_text, over_params, over_plain, over_listed, over_holds, is_over, shown_row, unchanged_by}
-use Rattle.dnp_store.proofs.JournalOpening.{typed_journal, Logged, logged, Ordered, ordered}
+use Rattle.dnp_store.proofs.JournalReading.{over_text, over_params, over_plain, over_listed, over_holds, is_over, unchanged_by}
+use Rattle.dnp_store.proofs.JournalOpening.{typed_journal, logged, Ordered, ordered}
 
 -- ---- rows up to an id are not over it
 

@@ -1,4 +1,4 @@
-use Rattle.std.proofs.Common.{rules, ◌≡◌, ◌+◌, length, arith, ap, subst}
+use Rattle.std.proofs.Common.{rules, ◌≡◌, ◌+◌, length, arith, subst}
 use Rattle.sqlite.specs.Held.{state}
 use Rattle.dnp_store.specs.steps.JournalShown.{AreInOrder, ShowEvents, Gathers}
 use Rattle.dnp_store.proofs.JournalOpening.{few_in_order}

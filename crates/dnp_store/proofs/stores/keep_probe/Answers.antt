@@ -1,4 +1,4 @@
-use Rattle.std.proofs.Common.{rules, [], inl, IsTrue, arith, ◌∙◌}
+use Rattle.std.proofs.Common.{rules, [], inl, arith, ◌∙◌}
 use Rattle.sqlite.specs.State.{HasCleanDisk}
 use Rattle.sqlite.specs.Held.{state}
 use Rattle.sqlite.proofs.InsideLemmas.{unchanged_keeps}
