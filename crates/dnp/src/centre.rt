@@ -19,8 +19,7 @@ use dnp_daemons::issue_in;
 use dnp_eventbuf::JournalStore;
 use dnp_master::{Classes, Task};
 use dnp_objects::Command as Control;
-use dnp_store::{ControlBook, Journal};
-use sqlite::{Alter, Connection};
+use dnp_store::Journal;
 use std::alloc::{AllocError, Global};
 use std::net::{Net, TcpListener, TcpStream};
 use std::process::ExitCode;
@@ -191,36 +190,24 @@ fn journal_there(rt: &HostRuntime, place: &Place<'_>) -> Result<Journal<Stored>,
     files::journal(rt, place, conn)
 }
 
-impl<S: Alter + Drop> Program<S, Journal<S>> for Words<'_> {
-    type Station = Centre<Journal<S>, ControlBook<S>>;
+impl<J: JournalStore + Drop, B: Book + Drop> Program<J, B> for Words<'_> {
+    type Station = Centre<J, B>;
 
-    fn begin(
-        &self,
-        alloc: Global,
-        plan: &Plan,
-        first: Journal<S>,
-        book: ControlBook<S>,
-    ) -> Result<Centre<Journal<S>, ControlBook<S>>, MapFault>
+    fn begin(&self, alloc: Global, plan: &Plan, first: J, book: B) -> Result<Centre<J, B>, MapFault>
         requires { KeepsLimits plan.now }
     {
         Centre::new(alloc, plan, first, book)
     }
 
-    fn run<R>(
-        &self,
-        rt: &R,
-        station: &mut Centre<Journal<S>, ControlBook<S>>,
-        plan: &Plan,
-    ) -> Result<(), ExitCode>
+    fn run<R>(&self, rt: &R, station: &mut Centre<J, B>, plan: &Plan) -> Result<(), ExitCode>
     where
         R: AllocGlobal + Print + Eprint + Clock + Net<Listener = TcpListener, Stream = TcpStream>,
     {
         run_once(rt, station, self, plan)
     }
 
-    fn end(station: Centre<Journal<S>, ControlBook<S>>) -> (Connection<S>, Connection<S>) {
-        let (journal, book) = station.into_stores();
-        (journal.into_connection(), book.into_connection())
+    fn end(station: Centre<J, B>) -> (J, B) {
+        station.into_stores()
     }
 }
 

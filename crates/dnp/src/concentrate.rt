@@ -20,8 +20,7 @@ use dnp_controls::Book;
 use dnp_daemons::{Above, Below};
 use dnp_eventbuf::Lanes;
 use dnp_master::{Classes, Task};
-use dnp_store::{ControlBook, Queue};
-use sqlite::{Alter, Connection};
+use dnp_store::Queue;
 use std::alloc::{AllocError, Global};
 use std::net::{IpAddr, Ipv4Addr, Net, SocketAddr, TcpListener, TcpStream};
 use std::process::ExitCode;
@@ -179,36 +178,30 @@ fn queue_there(rt: &HostRuntime, words: &Words<'_>, plan: &Plan) -> Result<Queue
     files::queue(rt, &words.queue, conn, plan.queue)
 }
 
-impl<S: Alter + Drop> Program<S, Queue<S>> for Words<'_> {
-    type Station = Concentrator<Queue<S>, ControlBook<S>>;
+impl<Q: Lanes + Drop, B: Book + Drop> Program<Q, B> for Words<'_> {
+    type Station = Concentrator<Q, B>;
 
     fn begin(
         &self,
         alloc: Global,
         plan: &Plan,
-        first: Queue<S>,
-        book: ControlBook<S>,
-    ) -> Result<Concentrator<Queue<S>, ControlBook<S>>, MapFault>
+        first: Q,
+        book: B,
+    ) -> Result<Concentrator<Q, B>, MapFault>
         requires { KeepsLimits plan.now }
     {
         Concentrator::new(alloc, plan, first, book)
     }
 
-    fn run<R>(
-        &self,
-        rt: &R,
-        station: &mut Concentrator<Queue<S>, ControlBook<S>>,
-        plan: &Plan,
-    ) -> Result<(), ExitCode>
+    fn run<R>(&self, rt: &R, station: &mut Concentrator<Q, B>, plan: &Plan) -> Result<(), ExitCode>
     where
         R: AllocGlobal + Print + Eprint + Clock + Net<Listener = TcpListener, Stream = TcpStream>,
     {
         run_rounds(rt, station, self, plan)
     }
 
-    fn end(station: Concentrator<Queue<S>, ControlBook<S>>) -> (Connection<S>, Connection<S>) {
-        let (queue, book) = station.into_stores();
-        (queue.into_connection(), book.into_connection())
+    fn end(station: Concentrator<Q, B>) -> (Q, B) {
+        station.into_stores()
     }
 }
 

@@ -20,6 +20,39 @@ pub(crate) const BOOK: &str = "book of controls";
 /// Where a store in a file keeps its rows.
 pub(crate) type Stored = FileStore<File>;
 
+/// A store that keeps its rows in a database.
+pub(crate) trait InDatabase {
+    /// The connection to the database.
+    type Database;
+
+    /// The connection, as it stands.
+    fn into_database(self) -> Self::Database;
+}
+
+impl<S: Alter> InDatabase for Queue<S> {
+    type Database = Connection<S>;
+
+    fn into_database(self) -> Connection<S> {
+        self.into_connection()
+    }
+}
+
+impl<S: Alter> InDatabase for Journal<S> {
+    type Database = Connection<S>;
+
+    fn into_database(self) -> Connection<S> {
+        self.into_connection()
+    }
+}
+
+impl<S: Alter> InDatabase for ControlBook<S> {
+    type Database = Connection<S>;
+
+    fn into_database(self) -> Connection<S> {
+        self.into_connection()
+    }
+}
+
 /// A file that a word of the command line names for a store, and what is to be done with it.
 #[derive(Clone, Copy)]
 pub(crate) struct Place<'a> {

@@ -2,18 +2,18 @@
 
 ghost use Rattle.dnp_concentrator.specs.Plan.{KeepsLimits};
 
-use crate::files::{Place, Stored};
+use crate::files::{InDatabase, Place, Stored};
 use crate::{exit, files};
 use dnp_concentrator::{MapFault, Plan};
 use dnp_store::ControlBook;
-use sqlite::{Alter, Connection};
+use sqlite::Connection;
 use std::alloc::Global;
 use std::net::{Net, TcpListener, TcpStream};
 use std::process::ExitCode;
 use std::rt::Clock;
 
 /// What a program does with a station of a plan over two stores: a queue or a journal, and a book of controls.
-pub(crate) trait Program<S: Alter, A> {
+pub(crate) trait Program<A, B> {
     /// The station.
     type Station;
 
@@ -23,7 +23,7 @@ pub(crate) trait Program<S: Alter, A> {
         alloc: Global,
         plan: &Plan,
         first: A,
-        book: ControlBook<S>,
+        book: B,
     ) -> Result<Self::Station, MapFault>
         requires { KeepsLimits plan.now };
 
@@ -33,13 +33,13 @@ pub(crate) trait Program<S: Alter, A> {
     where
         R: AllocGlobal + Print + Eprint + Clock + Net<Listener = TcpListener, Stream = TcpStream>;
 
-    /// The databases of its stores.
-    fn end(station: Self::Station) -> (Connection<S>, Connection<S>);
+    /// Its stores, as they stand.
+    fn end(station: Self::Station) -> (A, B);
 }
 
 /// Runs a program over a store that was opened, or made, in the first file, and the book of controls in the second, and
 /// closes both.
-pub(crate) fn start<P: Program<Stored, A>, A: Drop>(
+pub(crate) fn start<P: Program<A, ControlBook<Stored>>, A>(
     rt: &HostRuntime,
     program: &P,
     plan: &Plan,
@@ -47,6 +47,8 @@ pub(crate) fn start<P: Program<Stored, A>, A: Drop>(
     one: &Place<'_>,
     other: &Place<'_>,
 ) -> ExitCode
+where
+    A: InDatabase<Database = Connection<Stored>> + Drop,
     requires { KeepsLimits plan.now }
 {
     let book = match files::book_there(rt, other) {
@@ -61,14 +63,16 @@ pub(crate) fn start<P: Program<Stored, A>, A: Drop>(
 
 /// Runs a program over its stores, and gives their databases back, with the exit status. Where it can't begin, why is said on
 /// standard error, and the exit status alone is told.
-fn run_over<P: Program<S, A>, S: Alter + Drop, A, R>(
+fn run_over<P: Program<A, B>, A, B, C, R>(
     rt: &R,
     program: &P,
     plan: &Plan,
     first: A,
-    book: ControlBook<S>,
-) -> Result<(ExitCode, Connection<S>, Connection<S>), ExitCode>
+    book: B,
+) -> Result<(ExitCode, C, C), ExitCode>
 where
+    A: InDatabase<Database = C>,
+    B: InDatabase<Database = C>,
     R: AllocGlobal + Print + Eprint + Clock + Net<Listener = TcpListener, Stream = TcpStream>,
     requires { KeepsLimits plan.now }
 {
@@ -79,7 +83,7 @@ where
                 Err(status) => status,
             };
             let (first, book) = P::end(station);
-            Ok((status, first, book))
+            Ok((status, first.into_database(), book.into_database()))
         }
         Err(fault) => {
             let _ = eprintln!(rt; "dnp: {fault}");
