@@ -1,13 +1,15 @@
 //! What an outstation does, octet for octet: the tables of `polls`, `unsolicited` and `controls`, step
 //! by step, with lanes in lists; the first two again in rings and in a database in memory.
 
+ghost use Rattle.std.specs.Prelude.{◌≤◌, All};
+
 use crate::controls::CONTROLS;
 use crate::plans::{Alike, plan_of};
 use crate::polls::POLLS;
 use crate::unsolicited::UNSOLICITED;
 use arrayvec::ArrayVec;
 use dnp_controls::PlainOutputs;
-use dnp_eventbuf::{Lane, LaneRow, Lanes, PlainLanes, RingLanes, is_carried};
+use dnp_eventbuf::{Lane, LaneRow, Lanes, MAX_CAPACITY, PlainLanes, RingLanes, is_carried};
 use dnp_objects::{Command, Kind, Row};
 use dnp_outstation::{Actions, Fault, Fragment, Outstation};
 use dnp_pointdb::{PointDb, Reading, Times};
@@ -286,7 +288,9 @@ fn times_of(setup: Setup) -> Times {
 }
 
 /// How many rows each lane of an outstation that is made so takes.
-fn capacities_of(setup: Setup) -> [u32; 9] {
+fn capacities_of(setup: Setup) -> [u32; 9]
+    ensures { All (λ capacity. (1 ≤ capacity) × (capacity ≤ MAX_CAPACITY)) result }
+{
     match setup {
         Setup::PolledInTwo | Setup::UnsolicitedInTwo => [2; 9],
         Setup::Polled | Setup::Unsolicited => [200; 9],
@@ -316,10 +320,15 @@ fn first_wrong<L: Lanes>(station: &mut Station<L>, alloc: Global, steps: &[Step]
         .position(|step| !goes(station, alloc, &mut now, *step))
 }
 
-/// Whether an outstation of a case with these lanes does all its steps, or else the first that it doesn't.
-fn case_over<L: Lanes + Drop>(alloc: Global, case: &Case, lanes: L) -> Result<(), Option<usize>> {
-    let (points, setup, steps) = case;
-    let Some(mut station) = station_of(alloc, points, *setup, lanes) else {
+/// Whether an outstation with these points and lanes, made so, does all these steps, or else the first that it doesn't.
+fn steps_over<L: Lanes + Drop>(
+    alloc: Global,
+    points: &[Alike],
+    setup: Setup,
+    steps: &[Step],
+    lanes: L,
+) -> Result<(), Option<usize>> {
+    let Some(mut station) = station_of(alloc, points, setup, lanes) else {
         return Err(None);
     };
     match first_wrong(&mut station, alloc, steps) {
@@ -337,13 +346,10 @@ fn outstations_step_by_step(rt: HostRuntime) -> Result<(), Fail> {
         ("controls", CONTROLS.as_slice()),
     ];
     for (table, cases) in tables {
-        for (number, case) in cases.iter().enumerate() {
-            let lanes = PlainLanes::new(alloc, capacities_of(case.1))?;
-            assert_eq!(rt;
-                case_over(alloc, case, lanes),
-                Ok(()),
-                "{table}, case {number}"
-            );
+        for (case, (points, setup, steps)) in cases.iter().enumerate() {
+            let lanes = PlainLanes::new(alloc, capacities_of(*setup))?;
+            let ran = steps_over(alloc, points, *setup, steps, lanes);
+            assert!(rt; ran.is_ok(), "{table}, case {case}: {ran:?}");
         }
     }
     Ok(())
@@ -352,25 +358,19 @@ fn outstations_step_by_step(rt: HostRuntime) -> Result<(), Fail> {
 #[test]
 fn outstations_over_other_lanes(rt: HostRuntime) -> Result<(), Fail> {
     let alloc = rt.alloc();
-    for (table, cases) in [
+    let tables = [
         ("polls", POLLS.as_slice()),
         ("unsolicited", UNSOLICITED.as_slice()),
-    ] {
-        for (number, case) in cases.iter().enumerate() {
-            let rings = RingLanes::new(alloc, capacities_of(case.1))?;
-            assert_eq!(rt;
-                case_over(alloc, case, rings),
-                Ok(()),
-                "rings, {table}, case {number}"
-            );
-            let queue = Queue::in_memory(alloc, capacities_of(case.1))
-                .ok()
-                .expect(&rt, "a queue");
-            assert_eq!(rt;
-                case_over(alloc, case, queue),
-                Ok(()),
-                "a queue, {table}, case {number}"
-            );
+    ];
+    for (table, cases) in tables {
+        for (case, (points, setup, steps)) in cases.iter().enumerate() {
+            let rings = RingLanes::new(alloc, capacities_of(*setup))?;
+            let ran = steps_over(alloc, points, *setup, steps, rings);
+            assert!(rt; ran.is_ok(), "rings, {table}, case {case}: {ran:?}");
+            let queue = Queue::in_memory(alloc, capacities_of(*setup));
+            let queue = queue.ok().expect(&rt, "a queue");
+            let ran = steps_over(alloc, points, *setup, steps, queue);
+            assert!(rt; ran.is_ok(), "a queue, {table}, case {case}: {ran:?}");
         }
     }
     Ok(())
