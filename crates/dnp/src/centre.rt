@@ -9,11 +9,10 @@ use crate::numbers::number_given;
 use crate::options::{HINT, flag, plan, required, valued};
 use crate::plan_file::plan_given;
 use crate::planned::{has_output, look_at_book, look_at_journal};
-use crate::running::Program;
-use crate::{exit, files, running};
+use crate::{exit, files};
 use clap::{ArgMatches, Command};
 use dnp_concentrator::addresses::{CENTRE, CONCENTRATOR_ABOVE};
-use dnp_concentrator::{Centre, MAX_SUBSTATIONS, MapFault, Plan};
+use dnp_concentrator::{Centre, MAX_SUBSTATIONS, Plan};
 use dnp_controls::{Book, State};
 use dnp_daemons::issue_in;
 use dnp_eventbuf::JournalStore;
@@ -129,10 +128,19 @@ fn words_given<'a, R: Eprint>(rt: &R, given: &ArgMatches<'a>) -> Option<Words<'a
         Some(text) => Some(control_given(rt, text)?),
         None => None,
     };
+    let new = given.get_flag("new");
     Some(Words {
         plan: given.get_str("plan").unwrap_or(""),
-        journal: Place::given(given, "journal", "journal"),
-        controls: Place::given(given, "controls", files::BOOK),
+        journal: Place {
+            path: given.get_str("journal").unwrap_or(""),
+            store: "journal",
+            new,
+        },
+        controls: Place {
+            path: given.get_str("controls").unwrap_or(""),
+            store: "book of controls",
+            new,
+        },
         port: u16::try_from(port).ok()?,
         issue,
     })
@@ -179,8 +187,18 @@ pub(crate) fn run(rt: &HostRuntime, given: &ArgMatches<'_>) -> anyhow::Result<Ex
 fn start(rt: &HostRuntime, words: &Words<'_>, plan: &Plan) -> ExitCode
     requires { KeepsLimits plan.now }
 {
-    match journal_there(rt, &words.journal) {
-        Ok(journal) => running::start(rt, words, plan, journal, &words.journal, &words.controls),
+    let journal = match journal_there(rt, &words.journal) {
+        Ok(journal) => journal,
+        Err(status) => return status,
+    };
+    let book = match files::book_there(rt, &words.controls) {
+        Ok(book) => book,
+        Err(status) => return status,
+    };
+    match carry_on(rt, words, plan, journal, book) {
+        Ok((status, journal, book)) => {
+            files::close_both(rt, &words.journal, journal, &words.controls, book, status)
+        }
         Err(status) => status,
     }
 }
@@ -191,36 +209,53 @@ fn journal_there(rt: &HostRuntime, place: &Place<'_>) -> Result<Journal<Stored>,
     files::journal(rt, place, conn)
 }
 
-impl<S: Alter + Drop> Program<S, Journal<S>> for Words<'_> {
-    type Station = Centre<Journal<S>, ControlBook<S>>;
-
-    fn begin(
-        &self,
-        alloc: Global,
-        plan: &Plan,
-        first: Journal<S>,
-        book: ControlBook<S>,
-    ) -> Result<Centre<Journal<S>, ControlBook<S>>, MapFault>
-        requires { KeepsLimits plan.now }
-    {
-        Centre::new(alloc, plan, first, book)
+/// Runs the centre over its stores, and gives their databases back, with the exit status. Where it can't begin, the exit
+/// status alone is told.
+fn carry_on<S: Alter + Drop, R>(
+    rt: &R,
+    words: &Words<'_>,
+    plan: &Plan,
+    journal: Journal<S>,
+    book: ControlBook<S>,
+) -> Result<(ExitCode, Connection<S>, Connection<S>), ExitCode>
+where
+    R: AllocGlobal + Print + Eprint + Clock + Net<Listener = TcpListener, Stream = TcpStream>,
+    requires { KeepsLimits plan.now }
+{
+    match run_over(rt, words, plan, journal, book) {
+        Ok((status, journal, book)) => {
+            Ok((status, journal.into_connection(), book.into_connection()))
+        }
+        Err(status) => Err(status),
     }
+}
 
-    fn run<R>(
-        &self,
-        rt: &R,
-        station: &mut Centre<Journal<S>, ControlBook<S>>,
-        plan: &Plan,
-    ) -> Result<(), ExitCode>
-    where
-        R: AllocGlobal + Print + Eprint + Clock + Net<Listener = TcpListener, Stream = TcpStream>,
-    {
-        run_once(rt, station, self, plan)
-    }
-
-    fn end(station: Centre<Journal<S>, ControlBook<S>>) -> (Connection<S>, Connection<S>) {
-        let (journal, book) = station.into_stores();
-        (journal.into_connection(), book.into_connection())
+/// Runs a centre over these stores, and gives them back, with the exit status. Where it can't begin, why is said on
+/// standard error, and the exit status alone is told.
+fn run_over<J: JournalStore + Drop, B: Book + Drop, R>(
+    rt: &R,
+    words: &Words<'_>,
+    plan: &Plan,
+    journal: J,
+    book: B,
+) -> Result<(ExitCode, J, B), ExitCode>
+where
+    R: AllocGlobal + Print + Eprint + Clock + Net<Listener = TcpListener, Stream = TcpStream>,
+    requires { KeepsLimits plan.now }
+{
+    match Centre::new(rt.alloc(), plan, journal, book) {
+        Ok(mut centre) => {
+            let status = match run_once(rt, &mut centre, words, plan) {
+                Ok(()) => ExitCode::from(exit::DONE),
+                Err(status) => status,
+            };
+            let (journal, book) = centre.into_stores();
+            Ok((status, journal, book))
+        }
+        Err(fault) => {
+            let _ = eprintln!(rt; "dnp: {fault}");
+            Err(ExitCode::from(exit::FAULT))
+        }
     }
 }
 

@@ -10,12 +10,11 @@ use crate::options::{HINT, defaulted, flag, plan, required};
 use crate::patience::{Minded, Patience};
 use crate::plan_file::plan_given;
 use crate::planned::{look_at_book, look_at_queue};
-use crate::running::Program;
 use crate::serving::{SILENCE_MS, no_port, serve_connection};
-use crate::{exit, files, running};
+use crate::{exit, files};
 use clap::{ArgMatches, Command};
 use dnp_concentrator::addresses::{CENTRE, CONCENTRATOR_ABOVE, MASTER_BELOW, outstation_address};
-use dnp_concentrator::{Concentrator, MAX_SUBSTATIONS, MapFault, Plan};
+use dnp_concentrator::{Concentrator, MAX_SUBSTATIONS, Plan};
 use dnp_controls::Book;
 use dnp_daemons::{Above, Below};
 use dnp_eventbuf::Lanes;
@@ -126,10 +125,19 @@ fn words_given<'a, R: Eprint>(rt: &R, given: &ArgMatches<'a>) -> Option<Words<'a
     let port = number_given(rt, given, "port", "P", 1, 65_535)?;
     let below = number_given(rt, given, "below", "P", 1, 65_535)?;
     let rounds = number_given(rt, given, "rounds", "N", 1, 1_000_000)?;
+    let new = given.get_flag("new");
     Some(Words {
         plan: given.get_str("plan").unwrap_or(""),
-        queue: Place::given(given, "queue", "queue"),
-        controls: Place::given(given, "controls", files::BOOK),
+        queue: Place {
+            path: given.get_str("queue").unwrap_or(""),
+            store: "queue",
+            new,
+        },
+        controls: Place {
+            path: given.get_str("controls").unwrap_or(""),
+            store: "book of controls",
+            new,
+        },
         port: u16::try_from(port).ok()?,
         below: u16::try_from(below).ok()?,
         rounds,
@@ -165,8 +173,18 @@ fn has_ports<R: Eprint>(rt: &R, words: &Words<'_>, plan: &Plan) -> bool {
 fn start(rt: &HostRuntime, words: &Words<'_>, plan: &Plan) -> ExitCode
     requires { KeepsLimits plan.now }
 {
-    match queue_there(rt, words, plan) {
-        Ok(queue) => running::start(rt, words, plan, queue, &words.queue, &words.controls),
+    let queue = match queue_there(rt, words, plan) {
+        Ok(queue) => queue,
+        Err(status) => return status,
+    };
+    let book = match files::book_there(rt, &words.controls) {
+        Ok(book) => book,
+        Err(status) => return status,
+    };
+    match carry_on(rt, words, plan, queue, book) {
+        Ok((status, queue, book)) => {
+            files::close_both(rt, &words.queue, queue, &words.controls, book, status)
+        }
         Err(status) => status,
     }
 }
@@ -179,36 +197,51 @@ fn queue_there(rt: &HostRuntime, words: &Words<'_>, plan: &Plan) -> Result<Queue
     files::queue(rt, &words.queue, conn, plan.queue)
 }
 
-impl<S: Alter + Drop> Program<S, Queue<S>> for Words<'_> {
-    type Station = Concentrator<Queue<S>, ControlBook<S>>;
-
-    fn begin(
-        &self,
-        alloc: Global,
-        plan: &Plan,
-        first: Queue<S>,
-        book: ControlBook<S>,
-    ) -> Result<Concentrator<Queue<S>, ControlBook<S>>, MapFault>
-        requires { KeepsLimits plan.now }
-    {
-        Concentrator::new(alloc, plan, first, book)
+/// Runs the concentrator over its stores, and gives their databases back, with the exit status. Where it can't begin, the
+/// exit status alone is told.
+fn carry_on<S: Alter + Drop, R>(
+    rt: &R,
+    words: &Words<'_>,
+    plan: &Plan,
+    queue: Queue<S>,
+    book: ControlBook<S>,
+) -> Result<(ExitCode, Connection<S>, Connection<S>), ExitCode>
+where
+    R: AllocGlobal + Print + Eprint + Clock + Net<Listener = TcpListener, Stream = TcpStream>,
+    requires { KeepsLimits plan.now }
+{
+    match run_over(rt, words, plan, queue, book) {
+        Ok((status, queue, book)) => Ok((status, queue.into_connection(), book.into_connection())),
+        Err(status) => Err(status),
     }
+}
 
-    fn run<R>(
-        &self,
-        rt: &R,
-        station: &mut Concentrator<Queue<S>, ControlBook<S>>,
-        plan: &Plan,
-    ) -> Result<(), ExitCode>
-    where
-        R: AllocGlobal + Print + Eprint + Clock + Net<Listener = TcpListener, Stream = TcpStream>,
-    {
-        run_rounds(rt, station, self, plan)
-    }
-
-    fn end(station: Concentrator<Queue<S>, ControlBook<S>>) -> (Connection<S>, Connection<S>) {
-        let (queue, book) = station.into_stores();
-        (queue.into_connection(), book.into_connection())
+/// Runs a concentrator over these stores, and gives them back, with the exit status. Where it can't begin, why is said on
+/// standard error, and the exit status alone is told.
+fn run_over<Q: Lanes + Drop, B: Book + Drop, R>(
+    rt: &R,
+    words: &Words<'_>,
+    plan: &Plan,
+    queue: Q,
+    book: B,
+) -> Result<(ExitCode, Q, B), ExitCode>
+where
+    R: AllocGlobal + Print + Eprint + Clock + Net<Listener = TcpListener, Stream = TcpStream>,
+    requires { KeepsLimits plan.now }
+{
+    match Concentrator::new(rt.alloc(), plan, queue, book) {
+        Ok(mut concentrator) => {
+            let status = match run_rounds(rt, &mut concentrator, words, plan) {
+                Ok(()) => ExitCode::from(exit::DONE),
+                Err(status) => status,
+            };
+            let (queue, book) = concentrator.into_stores();
+            Ok((status, queue, book))
+        }
+        Err(fault) => {
+            let _ = eprintln!(rt; "dnp: {fault}");
+            Err(ExitCode::from(exit::FAULT))
+        }
     }
 }
 

@@ -4,7 +4,6 @@ ghost use Rattle.std.specs.Prelude.{◌≤◌, All};
 
 use crate::exit;
 use crate::fault::lost;
-use clap::ArgMatches;
 use dnp_eventbuf::MAX_CAPACITY;
 use dnp_objects::LANES;
 use dnp_store::{ControlBook, Journal, OpenFault, Queue};
@@ -13,9 +12,6 @@ use sqlite_disk::Disk;
 use std::fs;
 use std::process::ExitCode;
 use std::rt::Files;
-
-/// What a book of controls is called.
-pub(crate) const BOOK: &str = "book of controls";
 
 /// Where a store in a file keeps its rows.
 pub(crate) type Stored = FileStore<File>;
@@ -32,15 +28,6 @@ pub(crate) struct Place<'a> {
 }
 
 impl<'a> Place<'a> {
-    /// The file that this word of the command line names for such a store, which '--new' makes.
-    pub(crate) fn given(given: &ArgMatches<'a>, word: &str, store: &'a str) -> Place<'a> {
-        Place {
-            path: given.get_str(word).unwrap_or(""),
-            store,
-            new: given.get_flag("new"),
-        }
-    }
-
     /// Says on standard error what is wrong with the file.
     pub(crate) fn say<R: Eprint>(&self, rt: &R, what: &str) {
         let _ = eprintln!(rt; "dnp: {}: {what}", self.path);

@@ -19,7 +19,6 @@ mod outstation;
 mod patience;
 mod plan_file;
 mod planned;
-mod running;
 mod serving;
 mod sim;
 mod texts;
