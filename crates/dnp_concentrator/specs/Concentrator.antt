@@ -98,8 +98,8 @@ pub record KeepsStores {Q B : Type 0} (old new : Concentrator Q B) : Type 0 wher
 -- What a call leaves that does no more above than look at the queue: nothing but the outstation above has changed, nor that where the
 -- call is refused, and it is refused only where unsolicited responses are on.
 pub record LeavesAbove {Q B Place Answer : Type 0} (honest : Q → Type 0) (is_stopped : Q → Bool) (contents : Q → Stock) (others : Q → List Stock)
-    (kept : Q → Place) (asks_memory : Bool) (old new : Concentrator Q B) (answer : Result Answer StoreFault) : Type 0 where
-  pub look : IsLook honest is_stopped contents others kept asks_memory (queue_of old) (queue_of new) answer
+    (kept : Q → Place) (asks_memory : Bool) (may_fault : StoreFault → Bool) (old new : Concentrator Q B) (answer : Result Answer StoreFault) : Type 0 where
+  pub look : IsLook honest is_stopped contents others kept asks_memory may_fault (queue_of old) (queue_of new) answer
   pub unchanged : OnErr answer (core_of new ≡ core_of old)
   pub asks : IsErr answer → (core_of old).times.unsolicited ≡ true
   pub outputs : outputs_of new ≡ outputs_of old

@@ -190,7 +190,7 @@ impl<Q: Lanes, B: Book> Concentrator<Q, B> {
         alloc: Global,
         now: u64,
     ) -> Result<(), StoreFault>
-        ensures leaves { LeavesAbove Q.honest Q.is_stopped Q.contents Q.beside Q.place Q.asks_memory self.old self.new result }
+        ensures leaves { LeavesAbove Q.honest Q.is_stopped Q.contents Q.beside Q.place Q.asks_memory Q.may_fault self.old self.new result }
         ensures opened { Q.honest (queue_of self.new) → OnOk result (opened_of (above_of Q.contents B.contents self.old) now
             ≡ record { state = above_of Q.contents B.contents self.new; does = actions_of actions.new }) }
         ensures whole { OnOk result (All (λ fragment. 4 ≤ length fragment) (actions_of actions.new).send) }
@@ -211,7 +211,7 @@ impl<Q: Lanes, B: Book> Concentrator<Q, B> {
         alloc: Global,
         now: u64,
     ) -> Result<(), StoreFault>
-        ensures leaves { LeavesAbove Q.honest Q.is_stopped Q.contents Q.beside Q.place Q.asks_memory self.old self.new result }
+        ensures leaves { LeavesAbove Q.honest Q.is_stopped Q.contents Q.beside Q.place Q.asks_memory Q.may_fault self.old self.new result }
         ensures ticked { Q.honest (queue_of self.new) → OnOk result (tick_of (above_of Q.contents B.contents self.old) now
             ≡ record { state = above_of Q.contents B.contents self.new; does = actions_of actions.new }) }
         ensures whole { OnOk result (All (λ fragment. 4 ≤ length fragment) (actions_of actions.new).send) }

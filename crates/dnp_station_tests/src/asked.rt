@@ -118,7 +118,7 @@ impl Sink for SpentJournal {
 }
 
 impl JournalStore for SpentJournal {
-    ghost use Rattle.std.specs.Prelude.{[], absurd, refl};
+    ghost use Rattle.std.specs.Prelude.{[], refl};
 
     ghost archive = { λ _. record { rows = []; last_id = 0 } };
 

@@ -1,9 +1,9 @@
 -- Controls: what was done on their way, and where they stop.
-use Rattle.std.proofs.Common.{◌≡◌, ℕ, [], ◌∷◌, Option, Some, None, Result, Ok, Err, inl, inr, refl, subst}
+use Rattle.std.proofs.Common.{◌≡◌, ℕ, Bool, false, ◌&&◌, ap, [], ◌∷◌, Option, Some, None, Result, Ok, Err, inl, inr, refl, subst}
 use Rattle.std.specs.Prelude.{◌⊎◌, IfErr, OnOk, ⊤}
 use Rattle.dnp_world.specs.steps.ControlSteps.{EndsBy}
-use Rattle.dnp_world.specs.Controls.{CanGo, ControlEnds, IsAccepted, IsControlFor, IsRefusedFor, IsRefusedOn, Passes, PassesBack, StopsBack, StopsFor, StopsOn, StopsRelaying, next_below, station_in}
-use Rattle.dnp_world.specs.Rounds.{Flushes, StopsFlushingAll, StopsInTurn}
+use Rattle.dnp_world.specs.Controls.{CanGo, ControlEnds, IsAccepted, IsControlFor, IsRefusedFor, IsRefusedOn, Passes, PassesBack, StopsBack, StopsFor, StopsOn, StopsRelaying, are_quiet_for, next_below, station_in}
+use Rattle.dnp_world.specs.Rounds.{Flushes, StopsFlushingAll, StopsInTurn, is_quiet_on}
 use Rattle.dnp_world.specs.Systems.{System}
 use Rattle.dnp_world.specs.declared.event.Event.{Event}
 use Rattle.dnp_world.specs.declared.event.Event.TheVariants.{Deliver, Relay}
@@ -14,6 +14,11 @@ use Rattle.dnp_world.specs.declared.link_event.Way.TheVariants.{Down, Up}
 use Rattle.dnp_world.specs.declared.round_fault.ControlFault.{ControlFault}
 use Rattle.dnp_world.specs.declared.round_fault.ControlFault.TheVariants.{NotQuiet, NotNext, Refused, Fault}
 use Rattle.dnp_world.proofs.SystemRounds.{Ran, StopsIn, ran_both, ran_flush, ran_one, stops_after, stops_at, stops_flushing_all, stops_in_turn}
+
+-- a control goes over the link above first
+pub not_quiet : (s : System) (station : Option ℕ) → is_quiet_on s Above ≡ false → are_quiet_for s station ≡ false
+not_quiet s None is = is
+not_quiet s (Some station) is = ap (λ (quiet : Bool). quiet && is_quiet_on s (Below station)) is
 
 -- ---- what was done
 

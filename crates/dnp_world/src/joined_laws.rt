@@ -46,21 +46,26 @@ use dnp_outstation::link_laws::{
 };
 
 /// Each event of a link is some moves of the link of its law, whatever its outputs show, and so is a list of them, also
-/// one that stops, where there are no outputs. The rows
+/// one that stops, where there are no outputs; whatever an append makes of the sink. The rows
 /// that come to the lanes meanwhile are those that the changes of the list make of the points, no command is asked for, and
-/// what the link performs its outputs perform.
-pub fn events_are_moves<S: Sink>()
-    ensures event { (panel : Panel) (others : List Row) (s new : LinkState S) (event : LinkEvent) (l : Link) → ShowOctets panel
-        → Stands l → Joined others s l → HappensOn S.takes panel s event new
+/// what the link performs its outputs perform. So is a restart of the outstation that keeps the lanes.
+pub fn events_are_moves<T>()
+    ensures event { (takes : T → List Row → List Row → List Row → T → Type 0) (panel : Panel) (others : List Row) (s new : LinkState T)
+        (event : LinkEvent) (l : Link) → ShowOctets panel → Stands l → Joined others s l → HappensOn takes panel s event new
         → Follows others (rows_made_by s.outstation.core.points (event ∷ [])) [] s.outstation.performed l new }
-    ensures stopped { (others : List Row) (s new : LinkState S) (event : LinkEvent) (l : Link) → Stands l
-        → Joined others s l → StopsAt S.takes S.keeps s event new → Follows others [] [] s.outstation.performed l new }
-    ensures runs { (others : List Row) (s new : LinkState S) (events : List LinkEvent) (l : Link) → Stands l
-        → Joined others s l → RunsTo S.takes s events new
+    ensures stopped { (takes : T → List Row → List Row → List Row → T → Type 0) (keeps : T → T → Type 0) (others : List Row)
+        (s new : LinkState T) (event : LinkEvent) (l : Link) → Stands l → Joined others s l → StopsAt takes keeps s event new
+        → Follows others [] [] s.outstation.performed l new }
+    ensures runs { (takes : T → List Row → List Row → List Row → T → Type 0) (others : List Row) (s new : LinkState T)
+        (events : List LinkEvent) (l : Link) → Stands l → Joined others s l → RunsTo takes s events new
         → Follows others (rows_made_by s.outstation.core.points events) [] s.outstation.performed l new }
-    ensures stops { (others : List Row) (s new : LinkState S) (events : List LinkEvent) (done : ℕ) (l : Link)
-        → Stands l → Joined others s l → StopsAfter S.takes S.keeps s events done new
+    ensures stops { (takes : T → List Row → List Row → List Row → T → Type 0) (keeps : T → T → Type 0) (others : List Row)
+        (s new : LinkState T) (events : List LinkEvent) (done : ℕ) (l : Link) → Stands l → Joined others s l
+        → StopsAfter takes keeps s events done new
         → Follows others (rows_made_by s.outstation.core.points (take done events)) [] s.outstation.performed l new }
+    ensures restarted { (others : List Row) (s new : LinkState T) (l : Link) → Joined others s l
+        → new ≡ record s { outstation = restart_of s.outstation true; channel = hung_up_at end.Outstation s.channel }
+        → Follows others [] [] s.outstation.performed l new }
 {
     outstation::an_opening_is_moves();
     outstation::what_comes_is_moves();
@@ -79,8 +84,7 @@ pub fn events_are_moves<S: Sink>()
     what_comes_is_taken_or_passed_over();
 }
 
-/// The same of an event of a link whose master gives its rows to no sink of the link's own, and of a restart of its outstation that
-/// keeps the lanes.
+/// The same of an event of a link whose master gives its rows to no sink of the link's own.
 pub fn events_without_a_sink_are_moves()
     ensures event { (panel : Panel) (s new : LinkState ⊤) (event : LinkEvent) (l : Link) → ShowOctets panel → Stands l
         → Joined [] s l → HappensOn no_sink panel s event new
@@ -89,21 +93,7 @@ pub fn events_without_a_sink_are_moves()
         → new ≡ record s { outstation = restart_of s.outstation true; channel = hung_up_at end.Outstation s.channel }
         → Follows [] [] [] s.outstation.performed l new }
 {
-    outstation::an_opening_is_moves();
-    outstation::what_comes_is_moves();
-    outstation::time_is_moves();
-    outstation::a_change_is_moves();
-    outstation::a_closing_is_moves();
-    a_master_takes_by_moves();
-    a_master_asks_by_a_move();
-    a_master_opens_and_closes_by_moves();
-    line_law();
-    a_closed_outstation_is_silent();
-    an_unsolicited_response_starts_where_none_is_awaited();
-    content_leaves_the_connection_alone();
-    a_closed_master_is_silent();
-    an_idle_master_asks();
-    what_comes_is_taken_or_passed_over();
+    events_are_moves::<()>();
 }
 
 /// Rows that others append to the lanes are moves too, and what full lanes drop for them has left unconfirmed. It may

@@ -1,4 +1,5 @@
 -- The laws that the body calls are what the lemmas ask for.
+use Rattle.dnp_world.proofs.JoinedEvents.{restarts_kept}
 use Rattle.dnp_world.proofs.JoinedLaws.{Laws}
 use Rattle.dnp_world.proofs.JoinedRuns.{one_follows, stop_follows, run_follows, stopped_follows}
 use Rattle.dnp_world.proofs.joined_laws.events_are_moves.Given as given
@@ -35,14 +36,17 @@ laws_of g c = record {
 
 pub returns-clause-event : goal.returns-clause-event
 returns-clause-event g c =
-    λ panel others s new event l shown stands j h. one_follows (laws_of g c) g.S.Sink.takes panel shown others s new l event stands j h
+    λ takes panel others s new event l shown stands j h. one_follows (laws_of g c) takes panel shown others s new l event stands j h
 
 pub returns-clause-stopped : goal.returns-clause-stopped
-returns-clause-stopped g c = λ others s new event l stands j h. stop_follows (laws_of g c) g.S.Sink.takes g.S.Sink.keeps others s new l event stands j h
+returns-clause-stopped g c = λ takes keeps others s new event l stands j h. stop_follows (laws_of g c) takes keeps others s new l event stands j h
 
 pub returns-clause-runs : goal.returns-clause-runs
-returns-clause-runs g c = λ others s new events l stands j h. run_follows (laws_of g c) g.S.Sink.takes others s new l events stands j h
+returns-clause-runs g c = λ takes others s new events l stands j h. run_follows (laws_of g c) takes others s new l events stands j h
 
 pub returns-clause-stops : goal.returns-clause-stops
 returns-clause-stops g c =
-    λ others s new events done l stands j h. stopped_follows (laws_of g c) g.S.Sink.takes g.S.Sink.keeps others s new l events done stands j h
+    λ takes keeps others s new events done l stands j h. stopped_follows (laws_of g c) takes keeps others s new l events done stands j h
+
+pub returns-clause-restarted : goal.returns-clause-restarted
+returns-clause-restarted g c = λ others s new l j h. restarts_kept (laws_of g c) others s new l j h

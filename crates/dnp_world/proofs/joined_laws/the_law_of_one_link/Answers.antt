@@ -16,13 +16,13 @@ returns-clause-law g c = λ others s h. law_of (laws_of g c) others s h
 pub returns-clause-runs : goal.returns-clause-runs
 returns-clause-runs g c = λ others s new events h ran.
     let came : List Row = rows_made_by s.outstation.core.points events in
-    let f = c.events_are_moves.ensures.runs others s new events h.link h.stands h.joined ran in
+    let f = c.events_are_moves.ensures.runs g.S.Sink.takes others s new events h.link h.stands h.joined ran in
     (kept_by others came s.outstation.performed h.link new h.stands f, grown_by (laws_of g c) others others came s new h.link h.stands h.joined f)
 
 pub returns-clause-stops : goal.returns-clause-stops
 returns-clause-stops g c = λ others s new events done h stopped.
     let came : List Row = rows_made_by s.outstation.core.points (take done events) in
-    let f = c.events_are_moves.ensures.stops others s new events done h.link h.stands h.joined stopped in
+    let f = c.events_are_moves.ensures.stops g.S.Sink.takes g.S.Sink.keeps others s new events done h.link h.stands h.joined stopped in
     (kept_by others came s.outstation.performed h.link new h.stands f, grown_by (laws_of g c) others others came s new h.link h.stands h.joined f)
 
 pub returns-clause-appended : goal.returns-clause-appended
