@@ -27,6 +27,7 @@ pub mod JournalHolding
 pub mod JournalReading
 pub mod JournalStanding
 pub mod JournalOpening
+pub mod JournalPaging
 pub mod BookStatements
 pub mod BookUpdates
 pub mod BookHolding

@@ -17,6 +17,7 @@ mod journal_decoding;
 mod journal_form;
 mod journal_open;
 mod journal_opening;
+mod journal_paging;
 mod journal_reading;
 mod journal_writing;
 mod open;
@@ -28,6 +29,7 @@ mod queue_release;
 mod queue_statements;
 mod queue_tables;
 mod queue_writing;
+mod store_form;
 mod store_kind;
 mod stores;
 
