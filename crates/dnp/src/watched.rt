@@ -29,6 +29,12 @@ struct Watcher {
 }
 
 impl Carrier for Watcher {
+    ghost use Rattle.std.specs.Prelude.{⊤};
+
+    ghost carries = { λ _ _ _ _ _. ⊤ };
+
+    ghost refuses = { λ _ _ _. ⊥ };
+
     fn carry(&mut self, on: Link, way: Way, unit: &[u8]) -> Result<(), Cause> {
         self.log.carried(course_of(on, way), unit);
         Ok(())

@@ -76,6 +76,13 @@ fn send(mut from: &TcpStream, mut to: &TcpStream, unit: &[u8]) -> io::Result<()>
 }
 
 impl Carrier for Wire {
+    ghost use Rattle.std.specs.Prelude.{◌≡◌, ⊤};
+    ghost use Rattle.dnp_concentrator.specs.declared.cause.Cause.TheVariants.{Device};
+
+    ghost carries = { λ _ _ _ _ _. ⊤ };
+
+    ghost refuses = { λ _ cause _. cause ≡ Device };
+
     fn carry(&mut self, _on: Link, way: Way, unit: &[u8]) -> Result<(), Cause> {
         let sent = match way {
             Way::Down => send(&self.master, &self.outstation, unit),

@@ -14,7 +14,7 @@ use Rattle.dnp_appfragment.specs.Table.{form_of, is_response}
 use Rattle.dnp_appfragment.specs.Headers.{Head, header_octets, spelled, IsHeader, Divide, AreHeaders, begin}
 use Rattle.dnp_appfragment.specs.Left.{headers_of}
 use Rattle.dnp_appfragment.specs.Built.{Built, front_size, heads, size, broken, with_header}
-use Rattle.dnp_appfragment.specs.Building.{run_head, built, IsBuilt}
+use Rattle.dnp_appfragment.specs.steps.Building.{run_head, built, IsBuilt}
 use Rattle.dnp_appfragment.proofs.Divisions.{divided_headers}
 
 -- ---- lists of headers

@@ -9,7 +9,7 @@ use Rattle.dnp_appfragment.specs.Table.{function_octet, form_of, is_response}
 use Rattle.dnp_appfragment.specs.Headers.{Divide}
 use Rattle.dnp_appfragment.specs.Fragments.{IsRequest, IsResponse, request_octets, response_octets}
 use Rattle.dnp_appfragment.specs.Built.{Built, front_size, heads, asked, answered}
-use Rattle.dnp_appfragment.specs.Building.{ended_in, objects_in, built_in, IsLaid}
+use Rattle.dnp_appfragment.specs.steps.Building.{ended_in, objects_in, built_in, IsLaid}
 use Rattle.dnp_appfragment.proofs.ObjectHeaders.{response_form, looked_at_divides}
 use Rattle.dnp_appfragment.proofs.Building.{is_heads}
 use Rattle.dnp_appfragment.proofs.Laid.{body_is, front_laid}

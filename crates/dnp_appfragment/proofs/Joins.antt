@@ -16,7 +16,7 @@ use Rattle.dnp_appfragment.specs.Headers.{Head, qualifier_of, range_octets, Numb
 use Rattle.dnp_appfragment.specs.Joining.{joined_range, joined}
 use Rattle.dnp_appfragment.specs.Left.{headers_of}
 use Rattle.dnp_appfragment.specs.Built.{Built, front_size, heads, size, broken, with_run, with_object}
-use Rattle.dnp_appfragment.specs.Building.{run_head, built, IsBuilt, joined_run, longer}
+use Rattle.dnp_appfragment.specs.steps.Building.{run_head, built, IsBuilt, joined_run, longer}
 use Rattle.dnp_appfragment.proofs.Building.{built_is, spelled-append, spelled-one}
 
 -- ---- two ranges as one

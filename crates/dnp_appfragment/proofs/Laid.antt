@@ -13,9 +13,9 @@ use Rattle.dnp_appfragment.specs.Table.{form_of, is_response}
 use Rattle.dnp_appfragment.specs.Headers.{Head, number, qualifier_of, range_octets, header_octets, spelled, IsHeader}
 use Rattle.dnp_appfragment.specs.Joining.{joined_range}
 use Rattle.dnp_appfragment.specs.Left.{headers_of}
-use Rattle.dnp_appfragment.specs.Overwriting.{written_over}
+use Rattle.dnp_appfragment.specs.steps.Overwriting.{written_over}
 use Rattle.dnp_appfragment.specs.Built.{Built, front_size, heads, size, broken, with_header, with_object}
-use Rattle.dnp_appfragment.specs.Building.{run_head, built, IsBuilt, ended_in, objects_in, built_in, run_octets, IsLaid, range_end, joined_run, longer}
+use Rattle.dnp_appfragment.specs.steps.Building.{run_head, built, IsBuilt, ended_in, objects_in, built_in, run_octets, IsLaid, range_end, joined_run, longer}
 use Rattle.dnp_appfragment.proofs.Building.{spelled-append, spelled-one, empty, run_ended, header_put}
 use Rattle.dnp_appfragment.proofs.Joins.{some_is, joined_all, object_begins}
 

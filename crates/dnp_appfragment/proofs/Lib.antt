@@ -14,6 +14,7 @@ pub mod Numbers
 pub mod ObjectHeaders
 pub mod ObjectValues
 pub mod OneFragment
+pub mod PointObjects
 pub mod Ranges
 pub mod ReadBack
 pub mod Requests

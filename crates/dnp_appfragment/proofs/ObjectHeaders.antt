@@ -1,5 +1,5 @@
 -- Rows and commands that are put are headers of their function, each with one object.
-use Rattle.std.proofs.Common.{◌≡◌, Bool, true, false, IsTrue, refl, sym, ◌∙◌, ap, ap₂, subst, ℕ, ◌+◌, ◌-◌, ◌*◌, ◌^◌, ◌<◌, ◌==◌, ◌||◌, List, [], ◌∷◌, length, arith, Option, Some, None, IsSome, ◌⊎◌, inl, inr, eqb-true}
+use Rattle.std.proofs.Common.{◌≡◌, Bool, true, false, IsTrue, refl, sym, ◌∙◌, ap, ap₂, subst, ℕ, ◌+◌, ◌-◌, ◌*◌, ◌^◌, ◌<◌, ◌==◌, ◌||◌, List, [], ◌∷◌, length, arith, Option, Some, None, IsSome, ◌⊎◌, inl, inr}
 use Rattle.dnp_objects.specs.Objects.{objects, content_of, object_size}
 use Rattle.dnp_objects.specs.Rows.{written}
 use Rattle.dnp_objects.specs.Commands.{object_of, index_of, command_octets}
@@ -18,7 +18,8 @@ use Rattle.dnp_appfragment.specs.Fragments.{looked_at}
 use Rattle.dnp_appfragment.specs.Built.{carries_commands}
 use Rattle.dnp_objects.specs.Rows.{Fits}
 use Rattle.dnp_objects.specs.Events.{IsEvent, event_object}
-use Rattle.dnp_appfragment.specs.Written.{indexed, spanned, FitsPoint, is_point_group, point_variation}
+use Rattle.dnp_appfragment.specs.Written.{indexed, spanned, FitsPoint, is_point_object}
+use Rattle.dnp_appfragment.proofs.PointObjects.{point_in_table}
 
 -- ---- forms
 
@@ -113,32 +114,11 @@ event_header f k time i octets response sized =
     subst (λ (x : Form). IsHeader x (indexed (event_object k time).0 (event_object k time).1 i octets)) (sym (response_form f response))
     (indexed_header form.Response _ _ i octets (event_in_table k time) refl sized)
 
-pub point_in_table : (g : ℕ) → IsTrue (is_point_group g) → IsInTable form.Response g (point_variation g) 0x01
-unfolding takes_of rules objects
-point_in_table g is =
-    one 1 (1 == g) refl refl (λ a.
-    one 10 (10 == g) refl refl (λ b.
-    one 20 (20 == g) refl refl (λ c.
-    one 30 (30 == g) refl refl (λ d.
-    absurd (no (1 == g) (10 == g) (20 == g) (30 == g) a b c d is)))))
-  where
-    one : (n : ℕ) (b : Bool) → (n == g) ≡ b → IsInTable form.Response n (point_variation n) 0x01
-        → (b ≡ false → IsInTable form.Response g (point_variation g) 0x01) → IsInTable form.Response g (point_variation g) 0x01
-    one n true same here other = subst (λ (m : ℕ). IsInTable form.Response m (point_variation m) 0x01) (eqb-true n g same) here
-    one n false same here other = other refl
-
-    no : (a b c d : Bool) → a ≡ false → b ≡ false → c ≡ false → d ≡ false → (a || (b || (c || (d || false)))) ≡ true → ⊥
-    no true b c d e e' e'' e''' is = cc
-    no false true c d e e' e'' e''' is = cc
-    no false false true d e e' e'' e''' is = cc
-    no false false false true e e' e'' e''' is = cc
-    no false false false false e e' e'' e''' is = cc
-
-pub point_header : (f : Function) (g i : ℕ) (octets : List ℕ) → IsTrue (is_response f) → IsTrue (is_point_group g) → i < 2 ^ 16
-    → IsSized g (point_variation g) octets → IsHeader (form_of f) (spanned g (point_variation g) i octets)
-point_header f g i octets response group fits sized =
-    subst (λ (x : Form). IsHeader x (spanned g (point_variation g) i octets)) (sym (response_form f response))
-    (spanned_header g (point_variation g) i octets (point_in_table g group) fits sized)
+pub point_header : (f : Function) (g v i : ℕ) (octets : List ℕ) → IsTrue (is_response f) → IsTrue (is_point_object g v) → i < 2 ^ 16
+    → IsSized g v octets → IsHeader (form_of f) (spanned g v i octets)
+point_header f g v i octets response object fits sized =
+    subst (λ (x : Form). IsHeader x (spanned g v i octets)) (sym (response_form f response))
+    (spanned_header g v i octets (point_in_table g v object) fits sized)
 
 command_in_table : (c : Command) → IsInTable form.Command (object_of c).0 (object_of c).1 0x28 × IsInTable form.Response (object_of c).0 (object_of c).1 0x28
 unfolding takes_of rules objects
@@ -171,15 +151,10 @@ event_put law f row kind time of_kind at_time response fits =
     (event_header f row.kind row.time row.index _ response
     (row_sized law (event_object row.kind row.time).0 (event_object row.kind row.time).1 row fits))
 
-pub point_put : RowsFill → (f : Function) (g v : ℕ) (row : Row) (items shown : List ℕ) → v ≡ point_variation g
-    → items ≡ written g v row → shown ≡ items → IsTrue (is_response f) → FitsPoint g row → row.index < 2 ^ 16
-    → IsHeader (form_of f) (spanned g v row.index shown)
-point_put law f g v row items shown same own seen response fits index =
-    let octets : shown ≡ written g (point_variation g) row = seen ∙ own ∙ ap (λ (n : ℕ). written g n row) same in
-    let sized : IsSized g (point_variation g) shown =
-    subst (λ (t : List ℕ). IsSized g (point_variation g) t) (sym octets) (row_sized law g (point_variation g) row fits.row_fits) in
-    subst (λ (n : ℕ). IsHeader (form_of f) (spanned g n row.index shown)) (sym same)
-    (point_header f g row.index shown response fits.group_is index sized)
+pub point_put : RowsFill → (f : Function) (g v : ℕ) (row : Row) → IsTrue (is_response f) → FitsPoint g v row → row.index < 2 ^ 16
+    → IsHeader (form_of f) (spanned g v row.index (written g v row))
+point_put law f g v row response fits index =
+    point_header f g v row.index (written g v row) response fits.object_is index (row_sized law g v row fits.row_fits)
 
 pub command_put : (f : Function) (c : Command) (status : ℕ) (object : ℕ × ℕ) (index : ℕ) (items shown : List ℕ) → object ≡ object_of c → index ≡ index_of c
     → items ≡ command_octets c status → shown ≡ items → IsTrue (carries_commands f)

@@ -12,9 +12,10 @@ use Rattle.dnp_appfragment.specs.Headers.{Head}
 use Rattle.dnp_appfragment.specs.Objects.{IsRow, IsCommand}
 use Rattle.dnp_objects.specs.Rows.{Fits}
 use Rattle.dnp_objects.specs.Events.{IsEvent, event_object}
-use Rattle.dnp_appfragment.specs.Written.{FitsPoint, is_point_group, point_variation}
+use Rattle.dnp_appfragment.specs.Written.{FitsPoint}
 use Rattle.dnp_appfragment.specs.Items.{Item, Holds, event_item, point_item, command_item}
 use Rattle.dnp_appfragment.proofs.Held.{HasObject, has_object}
+use Rattle.dnp_appfragment.proofs.PointObjects.{untimed, point_reads}
 
 -- ---- the octets of an object
 
@@ -30,32 +31,6 @@ event_reads row Counter None is fits =
     record { index_is = refl; carried_is = λ i. record row { time = sym is i }; row_is = record { fits = fits; spelled = refl } }
 event_reads row Analog None is fits =
     record { index_is = refl; carried_is = λ i. record row { time = sym is i }; row_is = record { fits = fits; spelled = refl } }
-
-abbrev pub untimed : Row → Row
-untimed row = record row { time = None }
-
--- a present value of group n, where that is the group
-abbrev pub ReadsPoint : ℕ → Row → Type 0
-ReadsPoint g row = Fits g (point_variation g) row → Reads g (point_variation g) row.index (written g (point_variation g) row) (untimed row)
-
-point_reads : (g : ℕ) (row : Row) → IsTrue (is_point_group g) → g ≢ 10 → ReadsPoint g row
-unfolding content_of objects
-point_reads g row is other =
-    one 1 (1 == g) refl (λ fits. record { index_is = refl; carried_is = refl; row_is = record { fits = fits; spelled = refl } }) (λ a.
-    one 20 (20 == g) refl (λ fits. record { index_is = refl; carried_is = refl; row_is = record { fits = fits; spelled = refl } }) (λ b.
-    one 30 (30 == g) refl (λ fits. record { index_is = refl; carried_is = refl; row_is = record { fits = fits; spelled = refl } }) (λ c.
-    absurd (other (sym (eqb-true 10 g (left (1 == g) (10 == g) (20 == g) (30 == g) a b c is)))))))
-  where
-    one : (n : ℕ) (b : Bool) → (n == g) ≡ b → ReadsPoint n row → (b ≡ false → ReadsPoint g row) → ReadsPoint g row
-    one n true same here rest = subst (λ (m : ℕ). ReadsPoint m row) (eqb-true n g same) here
-    one n false same here rest = rest refl
-
-    left : (a b c d : Bool) → a ≡ false → c ≡ false → d ≡ false → (a || (b || (c || (d || false)))) ≡ true → b ≡ true
-    left a true c d e e' e'' is = refl
-    left true false c d e e' e'' is = cc
-    left false false true d e e' e'' is = cc
-    left false false false true e e' e'' is = cc
-    left false false false false e e' e'' is = cc
 
 -- ---- object k of a header
 
@@ -73,10 +48,10 @@ pub event_back : (h : Head) (items : List Item) (k : ℕ) (row : Row) → Holds 
 event_back h items k row holds fits at =
     row_of h k (event_item row) row (has_object h items k (event_item row) holds at) (event_reads row row.kind row.time refl fits)
 
-pub point_back : (h : Head) (items : List Item) (k g : ℕ) (row : Row) → Holds h items → FitsPoint g row → g ≢ 10
-    → slice_get items k ≡ Some (point_item g row) → IsRow h k (untimed row)
-point_back h items k g row holds fits other at =
-    row_of h k (point_item g row) (untimed row) (has_object h items k (point_item g row) holds at) (point_reads g row fits.group_is other fits.row_fits)
+pub point_back : (h : Head) (items : List Item) (k g v : ℕ) (row : Row) → Holds h items → FitsPoint g v row → g ≢ 10
+    → slice_get items k ≡ Some (point_item g v row) → IsRow h k (untimed row)
+point_back h items k g v row holds fits other at =
+    row_of h k (point_item g v row) (untimed row) (has_object h items k (point_item g v row) holds at) (point_reads g v row fits.object_is other fits.row_fits)
 
 -- by the law that a command that was written is read
 pub command_back : ((command : Command) (status : ℕ) → IsInRange command → status < 128

@@ -11,7 +11,7 @@ use Rattle.dnp_appfragment.specs.declared.table.Form.TheVariants as form
 use Rattle.dnp_appfragment.specs.Built.{Built, heads, with_run, with_object}
 use Rattle.dnp_appfragment.specs.Headers.{Head, IsHeader, AreHeaders, begin}
 use Rattle.dnp_appfragment.specs.Joining.{joined}
-use Rattle.dnp_appfragment.specs.Written.{FitsPoint, event, point, point_variation}
+use Rattle.dnp_appfragment.specs.Written.{FitsPoint, event, point}
 use Rattle.dnp_appfragment.proofs.Joins.{heads_join}
 use Rattle.dnp_appfragment.proofs.ObjectHeaders.{IsSized, RowsFill, row_sized, has_size, event_header, point_header}
 
@@ -25,13 +25,13 @@ event_stands law row fits =
     let sized : IsSized object.0 object.1 octets = row_sized law object.0 object.1 row fits in
     (event_header function.Response row.kind row.time row.index octets refl sized, has_size object.0 object.1 octets sized)
 
-pub point_stands : RowsFill → (group : ℕ) (row : Row) → FitsPoint group row → row.index < 2 ^ 16
-    → IsHeader form.Response (point group row) × IsSome (object_size (point group row).group (point group row).variation)
-point_stands law group row fits index =
-    let octets = written group (point_variation group) row in
-    let sized : IsSized group (point_variation group) octets = row_sized law group (point_variation group) row fits.row_fits in (
-      point_header function.Response group row.index octets refl fits.group_is index sized,
-      has_size group (point_variation group) octets sized,
+pub point_stands : RowsFill → (group variation : ℕ) (row : Row) → FitsPoint group variation row → row.index < 2 ^ 16
+    → IsHeader form.Response (point group variation row) × IsSome (object_size group variation)
+point_stands law group variation row fits index =
+    let octets = written group variation row in
+    let sized : IsSized group variation octets = row_sized law group variation row fits.row_fits in (
+      point_header function.Response group variation row.index octets refl fits.object_is index sized,
+      has_size group variation octets sized,
     )
 
 -- ---- after others

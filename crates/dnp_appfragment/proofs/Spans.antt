@@ -21,9 +21,9 @@ use Rattle.dnp_appfragment.specs.Headers.{Head, range_octets, octets_of, IsHeade
 use Rattle.dnp_appfragment.specs.Left.{headers_of}
 use Rattle.dnp_appfragment.specs.Joining.{joined_range, joined}
 use Rattle.dnp_appfragment.specs.Built.{Built, heads, size, with_run, with_object, with_objects, objects_put}
-use Rattle.dnp_appfragment.specs.Building.{run_head, built, joined_run, longer}
-use Rattle.dnp_appfragment.specs.Written.{InOrder, FitsPoint, point_variation}
-use Rattle.dnp_appfragment.specs.Spans.{row_head, all_written, span}
+use Rattle.dnp_appfragment.specs.steps.Building.{run_head, built, joined_run, longer}
+use Rattle.dnp_appfragment.specs.Written.{InOrder, FitsPoint, is_point_object}
+use Rattle.dnp_appfragment.specs.steps.Spans.{row_head, all_written, span}
 use Rattle.dnp_appfragment.proofs.Joins.{join_by, size-run, with_longer, some_is}
 use Rattle.dnp_appfragment.proofs.ObjectHeaders.{RowsFill}
 
@@ -390,40 +390,26 @@ joined_empty old f octets (Some run) objects object long seen joins empty =
       length-append (range_octets long.range) (objects ++ object.octets),
     )
 
--- ---- each group's object
+-- ---- each object
 
-pub fits_as : (group g : ℕ) (rows : List Row) → group ≡ g → All (FitsPoint group) rows → All (Fits g (point_variation g)) rows
-fits_as group g rows is all = λ k d less. (subst (λ (n : ℕ). FitsPoint n (get_or rows k d)) is (all k d less)).row_fits
+pub fits_as : (group g variation v : ℕ) (rows : List Row) → group ≡ g → variation ≡ v → All (FitsPoint group variation) rows → All (Fits g v) rows
+fits_as group g variation v rows is its all = λ k d less.
+    (subst (λ (o : ℕ × ℕ). FitsPoint o.0 o.1 (get_or rows k d)) (λ i. (is i, its i)) (all k d less)).row_fits
 
-pub no_such_group : (group : ℕ) (rows : List Row) → (1 ≡ group → ⊥) → (10 ≡ group → ⊥) → (20 ≡ group → ⊥) → (30 ≡ group → ⊥)
-    → All (FitsPoint group) rows → rows ≡ []
-no_such_group group [] a b c d all = refl
-no_such_group group (row ∷ rows) a b c d all = absurd (by_tests (1 == group) (10 == group) (20 == group) (30 == group) refl refl refl refl
-    (All-head (FitsPoint group) row rows all).group_is)
+pub not_this : (n m group variation : ℕ) → ((group ≡ n) × (variation ≡ m → ⊥)) ⊎ (group ≡ n → ⊥)
+    → ((n == group) && (m == variation)) ≡ false
+not_this n m group variation other = by (n == group) (m == variation) refl refl other
   where
-    by_tests : (w x y z : Bool) → (1 == group) ≡ w → (10 == group) ≡ x → (20 == group) ≡ y → (30 == group) ≡ z
-        → (w || (x || (y || (z || false)))) ≡ true → ⊥
-    by_tests true x y z e e' e'' e''' is = a (eqb-true 1 group e)
-    by_tests false true y z e e' e'' e''' is = b (eqb-true 10 group e')
-    by_tests false false true z e e' e'' e''' is = c (eqb-true 20 group e'')
-    by_tests false false false true e e' e'' e''' is = d (eqb-true 30 group e''')
-    by_tests false false false false e e' e'' e''' is = cc
+    by : (a b : Bool) → (n == group) ≡ a → (m == variation) ≡ b → ((group ≡ n) × (variation ≡ m → ⊥)) ⊎ (group ≡ n → ⊥) → (a && b) ≡ false
+    by true true first second (inl (is, not)) = absurd (not (sym (eqb-true m variation second)))
+    by true true first second (inr not) = absurd (not (sym (eqb-true n group first)))
+    by true false first second other = refl
+    by false b first second other = refl
 
-abbrev pub HasSize : ℕ → ℕ → Type 0
-HasSize g v = IsSomeAnd (object_size g v) (λ size. 1 ≤ size)
-
-pub binary_size : HasSize 1 2
-unfolding content_of objects
-binary_size = le_refl 1
-
-pub output_size : HasSize 10 2
-unfolding content_of objects
-output_size = le_refl 1
-
-pub counter_size : HasSize 20 1
-unfolding content_of objects
-counter_size = omega arith
-
-pub analog_size : HasSize 30 1
-unfolding content_of objects
-analog_size = omega arith
+pub no_such_object : (group variation : ℕ) (rows : List Row) → is_point_object group variation ≡ false
+    → All (FitsPoint group variation) rows → rows ≡ []
+no_such_object group variation [] none all = refl
+no_such_object group variation (row ∷ rows) none all =
+    let is : is_point_object group variation ≡ true = (All-head (FitsPoint group variation) row rows all).object_is in
+    let no : false ≡ true = sym none ∙ is in
+    cc

@@ -21,7 +21,7 @@ use Rattle.dnp_appfragment.specs.Meaning.{start_of, bit_in, shaped_row_in, row_i
 use Rattle.dnp_appfragment.specs.Objects.{IsSpan, HasRows}
 use Rattle.dnp_appfragment.proofs.ObjectValues.{shape_sized}
 use Rattle.dnp_appfragment.proofs.There.{bits_of, rows_of}
-use Rattle.dnp_appfragment.specs.Walking.{carried_by, Cut, cut_octets, cut_at, shaped_left, bits_left, rows_left}
+use Rattle.dnp_appfragment.specs.steps.Walking.{carried_by, Cut, cut_octets, cut_at, shaped_left, bits_left, rows_left}
 
 -- ---- a step
 

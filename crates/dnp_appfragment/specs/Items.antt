@@ -10,7 +10,6 @@ use Rattle.dnp_appfragment.specs.Headers.{Head, IsForward, count_of}
 use Rattle.dnp_appfragment.specs.Objects.{IsIndex, prefix_octets}
 use Rattle.dnp_objects.specs.Events.{event_object}
 use Rattle.dnp_objects.specs.Rows.{written}
-use Rattle.dnp_appfragment.specs.Written.{point_variation}
 
 -- an object: what it is, whose it is, and its octets
 pub record Item : Type 0 where
@@ -49,9 +48,9 @@ event_item row =
     let object = event_object row.kind row.time in
     record { group = object.0; variation = object.1; index = row.index; octets = written object.0 object.1 row }
 
-abbrev pub point_item : ℕ → Row → Item
-point_item group row =
-    record { group = group; variation = point_variation group; index = row.index; octets = written group (point_variation group) row }
+abbrev pub point_item : ℕ → ℕ → Row → Item
+point_item group variation row =
+    record { group = group; variation = variation; index = row.index; octets = written group variation row }
 
 abbrev pub command_item : Command → ℕ → Item
 command_item command status =

@@ -19,7 +19,4 @@ pub mod Table
 pub mod Whole
 pub mod Written
 -- Words of private steps.
-pub mod Building
-pub mod Overwriting
-pub mod Spans
-pub mod Walking
+pub mod steps

@@ -1,6 +1,6 @@
 -- Definition: what rows and commands are written as in a fragment, each as a header of its own (IEEE Std
 -- 1815-2012, application layer: object headers; object library).
-use Rattle.std.specs.Prelude.{◌≡◌, ℕ, ◌+◌, ⊤, Bool, true, IsTrue, ◌==◌, ◌||◌, if◌then◌else◌, List, [], ◌∷◌, ◌++◌}
+use Rattle.std.specs.Prelude.{◌≡◌, ℕ, ◌+◌, ⊤, Bool, true, IsTrue, ◌==◌, ◌&&◌, List, [], ◌∷◌, ◌++◌}
 use Rattle.std.specs.List.{list_any}
 use Rattle.dnp_objects.specs.Rows.{Fits, written}
 use Rattle.dnp_objects.specs.Events.{event_object}
@@ -30,21 +30,21 @@ event row =
     let object = event_object row.kind row.time in
     indexed object.0 object.1 row.index (written object.0 object.1 row)
 
--- the groups of present values: binary inputs and outputs, 1.2 and 10.2, counters, 20.1, and analog
--- inputs, 30.1
-abbrev pub is_point_group : ℕ → Bool
-is_point_group group = list_any (λ g. g == group) (1 ∷ 10 ∷ 20 ∷ 30 ∷ [])
+-- the objects that present values go as, by group and variation: of binary inputs and outputs, of counters, and of
+-- analog inputs
+abbrev pub point_objects : List (ℕ × ℕ)
+point_objects = (1, 2) ∷ (10, 2) ∷ (20, 1) ∷ (30, 1) ∷ []
 
-abbrev pub point_variation : ℕ → ℕ
-point_variation group = if (group == 1) || (group == 10) then 2 else 1
+abbrev pub is_point_object : ℕ → ℕ → Bool
+is_point_object group variation = list_any (λ o. (o.0 == group) && (o.1 == variation)) point_objects
 
--- the row can be written as a present value of this group
-pub record FitsPoint (group : ℕ) (row : Row) : Type 0 where
-  pub group_is : IsTrue (is_point_group group)
-  pub row_fits : Fits group (point_variation group) row
+-- the row can be written as a present value, as this object
+pub record FitsPoint (group variation : ℕ) (row : Row) : Type 0 where
+  pub object_is : IsTrue (is_point_object group variation)
+  pub row_fits : Fits group variation row
 
-abbrev pub point : ℕ → Row → Head
-point group row = spanned group (point_variation group) row.index (written group (point_variation group) row)
+abbrev pub point : ℕ → ℕ → Row → Head
+point group variation row = spanned group variation row.index (written group variation row)
 
 -- the rows have the indexes from this one on
 abbrev pub InOrder : ℕ → List Row → Type 0

@@ -38,7 +38,7 @@ pub struct Builder {
 
 impl Model for Builder {
     ghost use Rattle.dnp_appfragment.specs.Built.{Built};
-    ghost use Rattle.dnp_appfragment.specs.Building.{built_in, IsLaid};
+    ghost use Rattle.dnp_appfragment.specs.steps.Building.{built_in, IsLaid};
 
     ghost Value = { Built };
 
@@ -52,8 +52,8 @@ impl Builder {
     ghost use Rattle.std.specs.Borrow.{sem};
     ghost use Rattle.std.specs.Option.{IsSomeAnd};
     ghost use Rattle.dnp_objects.specs.Rows.{Fits};
-    ghost use Rattle.dnp_appfragment.specs.Building.{run_head};
-    ghost use Rattle.dnp_appfragment.specs.Spans.{row_head};
+    ghost use Rattle.dnp_appfragment.specs.steps.Building.{run_head};
+    ghost use Rattle.dnp_appfragment.specs.steps.Spans.{row_head};
     ghost use Rattle.dnp_objects.specs.Objects.{object_size};
     ghost use Rattle.dnp_objects.specs.Events.{IsEvent};
     ghost use Rattle.dnp_appfragment.specs.Table as table;
@@ -210,23 +210,27 @@ impl Builder {
         }
     }
 
-    /// Puts a row into a response as a present value of this group: 1.2, 10.2, 20.1 or 30.1, in a
+    /// Puts a row into a response as a present value, as this object: 1.2, 10.2, 20.1 or 30.1, in a
     /// range of indexes. It joins the header before it, where that is of the same object, ends at
-    /// the index before it, and no `break_run` came between. `fits_point` is the test of what group
+    /// the index before it, and no `break_run` came between. `fits_point` is the test of what object
     /// and row have to be.
     ///
     /// Full, where the fragment would pass 2,048 octets; nothing is put then.
-    pub fn point(&mut self, group: u8, row: &Row) -> Result<(), Full>
+    pub fn point(&mut self, group: u8, variation: u8, row: &Row) -> Result<(), Full>
         requires response { IsTrue (table.is_response self.old.function) }
-        requires fits { written.FitsPoint group row.now }
-        ensures ok { OnOk result (self.new ≡ built.with_object self.old (written.point group row.now)) }
-        ensures full { IsErr result ↔ (MAX_FRAGMENT < built.size (built.with_object self.old (written.point group row.now))) }
+        requires fits { written.FitsPoint group variation row.now }
+        ensures ok { OnOk result (self.new ≡ built.with_object self.old (written.point group variation row.now)) }
+        ensures full { IsErr result ↔ (MAX_FRAGMENT < built.size (built.with_object self.old (written.point group variation row.now))) }
         ensures err { OnErr result (self.new ≡ self.old) }
         ensures function { self.new.function ≡ self.old.function }
     {
         // (a law, for the proof: it does nothing)
         a_written_row_fills_its_object();
-        self.put(&Point { group, row: *row })
+        self.put(&Point {
+            group,
+            variation,
+            row: *row,
+        })
     }
 
     /// How many octets of objects fit into the fragment where an object of this run is put: under the
@@ -281,25 +285,36 @@ impl Builder {
         count
     }
 
-    /// Puts rows of consecutive indexes into a response as present values of this group, one by one as
+    /// Puts rows of consecutive indexes into a response as present values, as this object, one by one as
     /// `point` puts them, up to the first that does not fit; answers how many are put. `first` is the
     /// index of the first row.
-    pub fn points<R: PointRows + Copy>(&mut self, group: u8, first: u16, rows: R) -> usize
+    pub fn points<R: PointRows + Copy>(
+        &mut self,
+        group: u8,
+        variation: u8,
+        first: u16,
+        rows: R,
+    ) -> usize
         requires response { IsTrue (table.is_response self.old.function) }
-        requires fits { All (written.FitsPoint group) (R.rows rows) }
+        requires fits { All (written.FitsPoint group variation) (R.rows rows) }
         requires in_order { written.InOrder first (R.rows rows) }
         requires narrow { first + length (R.rows rows) ≤ 2 ^ 16 }
-        ensures count { result ≡ built.objects_put self.old (map (written.point group) (R.rows rows)) }
+        ensures count { result ≡ built.objects_put self.old (map (written.point group variation) (R.rows rows)) }
         ensures few { result ≤ length (R.rows rows) }
-        ensures put { self.new ≡ built.with_objects self.old (map (written.point group) (R.rows rows)) }
+        ensures put { self.new ≡ built.with_objects self.old (map (written.point group variation) (R.rows rows)) }
         ensures function { self.new.function ≡ self.old.function }
     {
-        match group {
-            1 => self.put_points::<R, 1, 2>(first, rows),
-            10 => self.put_points::<R, 10, 2>(first, rows),
-            20 => self.put_points::<R, 20, 1>(first, rows),
-            30 => self.put_points::<R, 30, 1>(first, rows),
-            _ => 0,
+        // (each by its numbers in the type, so that the compiler knows how many octets an object has)
+        if group == 1 && variation == 2 {
+            self.put_points::<R, 1, 2>(first, rows)
+        } else if group == 10 && variation == 2 {
+            self.put_points::<R, 10, 2>(first, rows)
+        } else if group == 20 && variation == 1 {
+            self.put_points::<R, 20, 1>(first, rows)
+        } else if group == 30 && variation == 1 {
+            self.put_points::<R, 30, 1>(first, rows)
+        } else {
+            0
         }
     }
 

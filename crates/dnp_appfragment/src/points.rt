@@ -1,6 +1,6 @@
 //! Present values of consecutive indexes, which stand under one header.
 ghost use Rattle.std.specs.Prelude.{◌≡◌, ◌<◌, ℕ, List, length, take, slice_index_or};
-ghost use Rattle.dnp_appfragment.specs.Spans.{CanSpan, span, all_written};
+ghost use Rattle.dnp_appfragment.specs.steps.Spans.{CanSpan, span, all_written};
 
 use crate::run::Run;
 use crate::written::{Object, span_of};

@@ -6,8 +6,8 @@ ghost use Rattle.dnp_appfragment.specs.Seen.{head};
 ghost use Rattle.dnp_appfragment.specs.Control.{IsControl, control_octet};
 ghost use Rattle.dnp_appfragment.specs.Table.{function_octet, is_response};
 ghost use Rattle.dnp_appfragment.specs.Built.{front_size};
-ghost use Rattle.dnp_appfragment.specs.Overwriting.{written_over};
-ghost use Rattle.dnp_appfragment.specs.Building.{run_head};
+ghost use Rattle.dnp_appfragment.specs.steps.Overwriting.{written_over};
+ghost use Rattle.dnp_appfragment.specs.steps.Building.{run_head};
 
 use crate::control::Control;
 use crate::function::Function;

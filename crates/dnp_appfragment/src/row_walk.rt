@@ -2,7 +2,7 @@
 ghost use Rattle.std.specs.Prelude.{◌≡◌, ◌≤◌, ◌<◌, length, IfSome};
 ghost use Rattle.std.specs.Option.{option_map};
 ghost use Rattle.dnp_appfragment.specs.Headers.{count_of as count};
-ghost use Rattle.dnp_appfragment.specs.Walking as spec;
+ghost use Rattle.dnp_appfragment.specs.steps.Walking as spec;
 
 use crate::header::{Header, Range};
 use crate::objects::{bit_at, index_at};
@@ -67,7 +67,7 @@ pub struct RowWalk<'a> {
 impl<'a> Model for RowWalk<'a> {
     ghost use Rattle.std.specs.Prelude.{List};
     ghost use Rattle.dnp_objects.specs.declared.row.Row.{Row as RowValue};
-    ghost use Rattle.dnp_appfragment.specs.Walking.{rows_left, IsWalk};
+    ghost use Rattle.dnp_appfragment.specs.steps.Walking.{rows_left, IsWalk};
 
     ghost Value = { List RowValue };
 

@@ -1,7 +1,7 @@
 //! The header that the next object may join.
 ghost use Rattle.std.specs.Prelude.{◌≡◌, []};
 ghost use Rattle.dnp_appfragment.specs.Joining.{joined_range};
-ghost use Rattle.dnp_appfragment.specs.Building as spec;
+ghost use Rattle.dnp_appfragment.specs.steps.Building as spec;
 
 use crate::header::Range;
 
@@ -54,7 +54,7 @@ fn joined_range(first: Range, second: Range) -> Option<Range>
 }
 
 impl Run {
-    ghost use Rattle.dnp_appfragment.specs.Building.{run_head, joined_run, range_end};
+    ghost use Rattle.dnp_appfragment.specs.steps.Building.{run_head, joined_run, range_end};
 
     /// The number that grows with the run, the count or the last index, and where its two octets lie
     /// after the header's qualifier.

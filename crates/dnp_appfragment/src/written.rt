@@ -4,7 +4,7 @@ ghost use Rattle.arrayvec.specs.ArrayVec.{array_vec_len};
 ghost use Rattle.dnp_objects.specs.Rows.{Fits, written};
 ghost use Rattle.dnp_appfragment.specs.declared.header.Range.TheVariants as range;
 ghost use Rattle.dnp_appfragment.specs.Headers.{Head, NumbersFit};
-ghost use Rattle.dnp_appfragment.specs.Building.{run_head};
+ghost use Rattle.dnp_appfragment.specs.steps.Building.{run_head};
 ghost use Rattle.dnp_appfragment.specs.Written as spec;
 
 use crate::header::Range;
@@ -17,32 +17,26 @@ use dnp_objects::{MAX_FRAGMENT, Row, append_object, fits_object, object_size};
 /// The range of one object after its index: qualifier 28.
 const BEHIND_INDEX: Range = Range::Indexed { wide: true, n: 1 };
 
-/// The variation of the present values of a group.
-pub(crate) fn point_variation(group: u8) -> u8
-    ensures { result ≡ spec.point_variation group }
-{
-    if group == 1 || group == 10 { 2 } else { 1 }
-}
-
-/// Whether the row can be put as a present value of this group: of binary inputs 1, of binary
-/// outputs 10 (a binary), of counters 20, of analog inputs 30. It is of the group's kind, a binary's
+/// Whether the row can be put as a present value, as this object: of binary inputs 1.2, of binary
+/// outputs 10.2 (a binary), of counters 20.1, of analog inputs 30.1. It is of the object's kind, a binary's
 /// value is 0 or 1 and its flags lack bit 7, a counter's value has 32 bits, an analog's 32 with its
 /// sign. The time is ignored.
-pub fn fits_point(group: u8, row: &Row) -> bool
-    ensures { IsTrue result ↔ spec.FitsPoint group row.now }
+pub fn fits_point(group: u8, variation: u8, row: &Row) -> bool
+    ensures { IsTrue result ↔ spec.FitsPoint group variation row.now }
 {
-    matches!(group, 1 | 10 | 20 | 30) && fits_object(group, point_variation(group), row)
+    matches!((group, variation), (1, 2) | (10, 2) | (20, 1) | (30, 1))
+        && fits_object(group, variation, row)
 }
 
-/// How many octets a present value of this group has.
-fn point_size(group: u8, row: &Row) -> usize
-    requires { spec.FitsPoint group row.now }
-    ensures value { result ≡ length (written group (spec.point_variation group) row.now) }
+/// How many octets a present value has as this object.
+fn point_size(group: u8, variation: u8, row: &Row) -> usize
+    requires { spec.FitsPoint group variation row.now }
+    ensures value { result ≡ length (written group variation row.now) }
     ensures small { result ≤ 11 }
 {
     // (a law, for the proof: it does nothing)
     a_written_row_fills_its_object();
-    object_size(group, point_variation(group)).unwrap()
+    object_size(group, variation).unwrap()
 }
 
 /// An object that is put into a fragment, as a header of its own or after others.
@@ -121,36 +115,37 @@ pub(crate) fn span_of(first: u16, last: u16) -> Range
     }
 }
 
-/// A row as a present value of a group, in a range of its index: qualifier 01. It holds the row itself, so that a
+/// A row as a present value, as this object, in a range of its index: qualifier 01. It holds the row itself, so that a
 /// loop over points needs no memory for it.
 #[derive(Clone, Copy)]
 pub(crate) struct Point {
     pub group: u8,
+    pub variation: u8,
     pub row: Row,
 }
 
 impl Object for Point {
-    ghost can_put = { λ p. spec.FitsPoint p.group p.row };
+    ghost can_put = { λ p. spec.FitsPoint p.group p.variation p.row };
 
-    ghost head = { λ p. spec.point p.group p.row };
+    ghost head = { λ p. spec.point p.group p.variation p.row };
 
     #[inline]
     fn run(&self) -> Run {
         Run {
             group: self.group,
-            variation: point_variation(self.group),
+            variation: self.variation,
             range: span_of(self.row.index, self.row.index),
         }
     }
 
     #[inline]
     fn size(&self) -> usize {
-        point_size(self.group, &self.row)
+        point_size(self.group, self.variation, &self.row)
     }
 
     #[inline]
     fn append(&self, octets: &mut ArrayVec<u8, MAX_FRAGMENT>) {
-        append_object(self.group, point_variation(self.group), &self.row, octets);
+        append_object(self.group, self.variation, &self.row, octets);
     }
 }
 

@@ -88,8 +88,8 @@ set_by_forgets : (database : Database) (o : Option Row) → restarted (set_by da
 set_by_forgets database None = refl
 set_by_forgets database (Some row) = set_forgets database row.kind row.index (reading_of row)
 
-pub readings_forgotten : (spans : List Spans) (station : ℕ) (database : Database) (rows : List Row)
-    → restarted (readings_set spans station database rows) ≡ restarted database
-readings_forgotten spans station database [] = refl
-readings_forgotten spans station database (row ∷ rows) =
-    readings_forgotten spans station (set_by database (row_above spans station row)) rows ∙ set_by_forgets database (row_above spans station row)
+pub readings_forgotten : (spans : List Spans) (substation : ℕ) (database : Database) (rows : List Row)
+    → restarted (readings_set spans substation database rows) ≡ restarted database
+readings_forgotten spans substation database [] = refl
+readings_forgotten spans substation database (row ∷ rows) =
+    readings_forgotten spans substation (set_by database (row_above spans substation row)) rows ∙ set_by_forgets database (row_above spans substation row)

@@ -18,18 +18,18 @@ use Rattle.dnp_concentrator.proofs.Mapping.{up_and_down, down_and_up}
 abbrev undone_row : Row → ℕ × ℕ → ℕ × Row
 undone_row row p = (p.0, record row { index = p.1 })
 
-pub row_undone : (spans : List Spans) (station : ℕ) (row above : Row) → IsMap spans → row_above spans station row ≡ Some above
-    → row_below spans above ≡ Some (station, row)
-row_undone spans station row above m e = by (index_above spans station (kind_of_points row.kind) row.index) refl e
+pub row_undone : (spans : List Spans) (substation : ℕ) (row above : Row) → IsMap spans → row_above spans substation row ≡ Some above
+    → row_below spans above ≡ Some (substation, row)
+row_undone spans substation row above m e = by (index_above spans substation (kind_of_points row.kind) row.index) refl e
   where
-    by : (o : Option ℕ) → index_above spans station (kind_of_points row.kind) row.index ≡ o
-        → option_map (λ (index : ℕ). record row { index = index }) o ≡ Some above → row_below spans above ≡ Some (station, row)
+    by : (o : Option ℕ) → index_above spans substation (kind_of_points row.kind) row.index ≡ o
+        → option_map (λ (index : ℕ). record row { index = index }) o ≡ Some above → row_below spans above ≡ Some (substation, row)
     by None is e = absurd (grind (arith, e))
     by (Some index) is e =
         let r : Row = record row { index = index } in
         let same : r ≡ above = grind (arith, e) in
-        subst (λ (x : Row). ◌≡◌ {A = Option (ℕ × Row)} (row_below spans x) (Some (station, row))) same
-        (ap (option_map (undone_row row)) (up_and_down spans (kind_of_points row.kind) station row.index index m is))
+        subst (λ (x : Row). ◌≡◌ {A = Option (ℕ × Row)} (row_below spans x) (Some (substation, row))) same
+        (ap (option_map (undone_row row)) (up_and_down spans (kind_of_points row.kind) substation row.index index m is))
 
 -- ---- commands
 
@@ -52,23 +52,23 @@ command_redone spans command p e = by (index_below spans (kind_of_command comman
         let same : r ≡ p = grind (arith, e) in
         subst (λ (x : ℕ × Command). command_above spans x.0 x.1 ≡ Some command) same (back command q is)
 
-pub command_undone : (spans : List Spans) (station : ℕ) (command above : Command) → IsMap spans → command_above spans station command ≡ Some above
-    → command_below spans above ≡ Some (station, command)
-command_undone spans station command above m e = by (index_above spans station (kind_of_command command) (index_of command)) refl e
+pub command_undone : (spans : List Spans) (substation : ℕ) (command above : Command) → IsMap spans → command_above spans substation command ≡ Some above
+    → command_below spans above ≡ Some (substation, command)
+command_undone spans substation command above m e = by (index_above spans substation (kind_of_command command) (index_of command)) refl e
   where
-    back : (command : Command) (i : ℕ) → index_above spans station (kind_of_command command) (index_of command) ≡ Some i
-        → ◌≡◌ {A = Option (ℕ × Command)} (command_below spans (with_index command i)) (Some (station, command))
+    back : (command : Command) (i : ℕ) → index_above spans substation (kind_of_command command) (index_of command) ≡ Some i
+        → ◌≡◌ {A = Option (ℕ × Command)} (command_below spans (with_index command i)) (Some (substation, command))
     back (Block index code count on off) i is =
-        ap (option_map (λ (q : ℕ × ℕ). let r : ℕ × Command = (q.0, Block q.1 code count on off) in r)) (up_and_down spans Output station index i m is)
+        ap (option_map (λ (q : ℕ × ℕ). let r : ℕ × Command = (q.0, Block q.1 code count on off) in r)) (up_and_down spans Output substation index i m is)
     back (Set16 index value) i is =
-        ap (option_map (λ (q : ℕ × ℕ). let r : ℕ × Command = (q.0, Set16 q.1 value) in r)) (up_and_down spans Setpoint station index i m is)
+        ap (option_map (λ (q : ℕ × ℕ). let r : ℕ × Command = (q.0, Set16 q.1 value) in r)) (up_and_down spans Setpoint substation index i m is)
     back (Set32 index value) i is =
-        ap (option_map (λ (q : ℕ × ℕ). let r : ℕ × Command = (q.0, Set32 q.1 value) in r)) (up_and_down spans Setpoint station index i m is)
+        ap (option_map (λ (q : ℕ × ℕ). let r : ℕ × Command = (q.0, Set32 q.1 value) in r)) (up_and_down spans Setpoint substation index i m is)
 
-    by : (o : Option ℕ) → index_above spans station (kind_of_command command) (index_of command) ≡ o
+    by : (o : Option ℕ) → index_above spans substation (kind_of_command command) (index_of command) ≡ o
         → option_map (λ (i : ℕ). with_index command i) o ≡ Some above
-        → ◌≡◌ {A = Option (ℕ × Command)} (command_below spans above) (Some (station, command))
+        → ◌≡◌ {A = Option (ℕ × Command)} (command_below spans above) (Some (substation, command))
     by None is e = absurd (grind (arith, e))
     by (Some i) is e =
         let same : with_index command i ≡ above = grind (arith, e) in
-        subst (λ (x : Command). ◌≡◌ {A = Option (ℕ × Command)} (command_below spans x) (Some (station, command))) same (back command i is)
+        subst (λ (x : Command). ◌≡◌ {A = Option (ℕ × Command)} (command_below spans x) (Some (substation, command))) same (back command i is)

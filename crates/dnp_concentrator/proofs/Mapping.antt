@@ -24,21 +24,21 @@ some_is a b e = grind (arith, e)
 none_is_not : (b : ℕ) → None ≡ Some b → ⊥
 none_is_not b e = grind (arith, e)
 
-pub above_stands : (spans : List Spans) (station : ℕ) (kind : IndexKind) (index above : ℕ) → index_above spans station kind index ≡ Some above
-    → StandsAt (span_at spans station kind) index above
-above_stands spans station kind index above e = by (nat_lt index (span_at spans station kind).count) refl e
+pub above_stands : (spans : List Spans) (substation : ℕ) (kind : IndexKind) (index above : ℕ) → index_above spans substation kind index ≡ Some above
+    → StandsAt (span_at spans substation kind) index above
+above_stands spans substation kind index above e = by (nat_lt index (span_at spans substation kind).count) refl e
   where
-    by : (b : Bool) → nat_lt index (span_at spans station kind).count ≡ b → cond b (Some ((span_at spans station kind).base + index)) None ≡ Some above
-        → StandsAt (span_at spans station kind) index above
-    by true low e = record { low = grind (arith, nat_tests); at = some_is ((span_at spans station kind).base + index) above e }
+    by : (b : Bool) → nat_lt index (span_at spans substation kind).count ≡ b → cond b (Some ((span_at spans substation kind).base + index)) None ≡ Some above
+        → StandsAt (span_at spans substation kind) index above
+    by true low e = record { low = grind (arith, nat_tests); at = some_is ((span_at spans substation kind).base + index) above e }
     by false high e = absurd (none_is_not above e)
 
-pub stands_above : (spans : List Spans) (station : ℕ) (kind : IndexKind) (index : ℕ) → HasIndex spans station kind index
-    → index_above spans station kind index ≡ Some ((span_at spans station kind).base + index)
-stands_above spans station kind index low = by (nat_lt index (span_at spans station kind).count) refl
+pub stands_above : (spans : List Spans) (substation : ℕ) (kind : IndexKind) (index : ℕ) → HasIndex spans substation kind index
+    → index_above spans substation kind index ≡ Some ((span_at spans substation kind).base + index)
+stands_above spans substation kind index low = by (nat_lt index (span_at spans substation kind).count) refl
   where
-    by : (b : Bool) → nat_lt index (span_at spans station kind).count ≡ b
-        → cond b (Some ((span_at spans station kind).base + index)) None ≡ Some ((span_at spans station kind).base + index)
+    by : (b : Bool) → nat_lt index (span_at spans substation kind).count ≡ b
+        → cond b (Some ((span_at spans substation kind).base + index)) None ≡ Some ((span_at spans substation kind).base + index)
     by true is = refl
     by false is = absurd (grind (arith, nat_tests))
 
@@ -59,76 +59,76 @@ none_of Analog index low = absurd (omega (arith, low))
 none_of Output index low = absurd (omega (arith, low))
 none_of Setpoint index low = absurd (omega (arith, low))
 
-undone : (kind : IndexKind) (spans : List Spans) (station index : ℕ) → IsApart kind spans → HasIndex spans station kind index
-    → index_below spans kind ((span_at spans station kind).base + index) ≡ Some (station, index)
-undone kind [] station index apart low = absurd (none_of kind index low)
+undone : (kind : IndexKind) (spans : List Spans) (substation index : ℕ) → IsApart kind spans → HasIndex spans substation kind index
+    → index_below spans kind ((span_at spans substation kind).base + index) ≡ Some (substation, index)
+undone kind [] substation index apart low = absurd (none_of kind index low)
 undone kind (s ∷ more) zero index apart low =
     let span : Span = span_of s kind in
     let back : (span.base + index) - span.base ≡ index = omega arith in
     ap (λ (b : Bool). cond b (Some (zero, (span.base + index) - span.base)) (option_map one_on (index_below more kind (span.base + index))))
     (in_span span index low)
     ∙ ap (λ (n : ℕ). Some (zero, n)) back
-undone kind (s ∷ more) (suc station) index apart low =
+undone kind (s ∷ more) (suc substation) index apart low =
     let span : Span = span_of s kind in
-    let place : ℕ = (span_at more station kind).base + index in
-    let rest : index_below more kind place ≡ Some (station, index) = undone kind more station index (apart_later kind s more apart) low in
+    let place : ℕ = (span_at more substation kind).base + index in
+    let rest : index_below more kind place ≡ Some (substation, index) = undone kind more substation index (apart_later kind s more apart) low in
     ap (λ (b : Bool). cond b (Some (zero, place - span.base)) (option_map one_on (index_below more kind place))) (not_here (is_in span place) refl)
     ∙ ap (λ (o : Option (ℕ × ℕ)). option_map one_on o) rest
   where
-    not_here : (b : Bool) → is_in (span_of s kind) ((span_at more station kind).base + index) ≡ b → b ≡ false
+    not_here : (b : Bool) → is_in (span_of s kind) ((span_at more substation kind).base + index) ≡ b → b ≡ false
     not_here true e =
-        let same : zero ≡ suc station =
-        apart zero (suc station) ((span_at more station kind).base + index) e (in_span (span_at more station kind) index low) in
+        let same : zero ≡ suc substation =
+        apart zero (suc substation) ((span_at more substation kind).base + index) e (in_span (span_at more substation kind) index low) in
         absurd (omega (arith, same))
     not_here false e = refl
 
-pub up_and_down : (spans : List Spans) (kind : IndexKind) (station index above : ℕ) → IsMap spans
-    → index_above spans station kind index ≡ Some above → index_below spans kind above ≡ Some (station, index)
-up_and_down spans kind station index above m e =
-    let stands : StandsAt (span_at spans station kind) index above = above_stands spans station kind index above e in
-    ap (λ (n : ℕ). index_below spans kind n) (sym stands.at) ∙ undone kind spans station index (m.apart kind) stands.low
+pub up_and_down : (spans : List Spans) (kind : IndexKind) (substation index above : ℕ) → IsMap spans
+    → index_above spans substation kind index ≡ Some above → index_below spans kind above ≡ Some (substation, index)
+up_and_down spans kind substation index above m e =
+    let stands : StandsAt (span_at spans substation kind) index above = above_stands spans substation kind index above e in
+    ap (λ (n : ℕ). index_below spans kind n) (sym stands.at) ∙ undone kind spans substation index (m.apart kind) stands.low
 
 -- ---- down and up
 
 -- what a look-up below finds
-pub below_stands : (spans : List Spans) (kind : IndexKind) (station index above : ℕ) → index_below spans kind above ≡ Some (station, index)
-    → StandsAt (span_at spans station kind) index above
-below_stands [] kind station index above e = absurd (grind (arith, e))
-below_stands (s ∷ more) kind station index above e = by (is_in (span_of s kind) above) refl e (below_stands more kind)
+pub below_stands : (spans : List Spans) (kind : IndexKind) (substation index above : ℕ) → index_below spans kind above ≡ Some (substation, index)
+    → StandsAt (span_at spans substation kind) index above
+below_stands [] kind substation index above e = absurd (grind (arith, e))
+below_stands (s ∷ more) kind substation index above e = by (is_in (span_of s kind) above) refl e (below_stands more kind)
   where
-    first : (station index n : ℕ) → ◌≡◌ {A = Option (ℕ × ℕ)} (Some (zero, n)) (Some (station, index)) → (zero ≡ station) × (n ≡ index)
-    first station index n e = grind (arith, e)
+    first : (substation index n : ℕ) → ◌≡◌ {A = Option (ℕ × ℕ)} (Some (zero, n)) (Some (substation, index)) → (zero ≡ substation) × (n ≡ index)
+    first substation index n e = grind (arith, e)
 
-    here : is_in (span_of s kind) above ≡ true → (station index : ℕ) → zero ≡ station → above - (span_of s kind).base ≡ index
-        → StandsAt (span_at (s ∷ more) station kind) index above
-    here has station index zero_is is =
+    here : is_in (span_of s kind) above ≡ true → (substation index : ℕ) → zero ≡ substation → above - (span_of s kind).base ≡ index
+        → StandsAt (span_at (s ∷ more) substation kind) index above
+    here has substation index zero_is is =
         subst (λ (n : ℕ). StandsAt (span_at (s ∷ more) n kind) index above) zero_is
         (record { low = grind (arith, nat_tests); at = grind (arith, nat_tests) })
 
-    later : (o : Option (ℕ × ℕ)) → index_below more kind above ≡ o → option_map one_on o ≡ Some (station, index)
-        → ((station index above : ℕ) → index_below more kind above ≡ Some (station, index) → StandsAt (span_at more station kind) index above)
-        → StandsAt (span_at (s ∷ more) station kind) index above
+    later : (o : Option (ℕ × ℕ)) → index_below more kind above ≡ o → option_map one_on o ≡ Some (substation, index)
+        → ((substation index above : ℕ) → index_below more kind above ≡ Some (substation, index) → StandsAt (span_at more substation kind) index above)
+        → StandsAt (span_at (s ∷ more) substation kind) index above
     later None found e rest = absurd (grind (arith, e))
     later (Some p) found e rest =
-        let number : suc p.0 ≡ station = grind (arith, e) in
+        let number : suc p.0 ≡ substation = grind (arith, e) in
         let same : p.1 ≡ index = grind (arith, e) in
         subst (λ (n : ℕ). StandsAt (span_at (s ∷ more) n kind) index above) number
         (subst (λ (n : ℕ). StandsAt (span_at more p.0 kind) n above) same (rest p.0 p.1 above found))
 
     by : (b : Bool) → is_in (span_of s kind) above ≡ b
-        → cond b (Some (zero, above - (span_of s kind).base)) (option_map one_on (index_below more kind above)) ≡ Some (station, index)
-        → ((station index above : ℕ) → index_below more kind above ≡ Some (station, index) → StandsAt (span_at more station kind) index above)
-        → StandsAt (span_at (s ∷ more) station kind) index above
+        → cond b (Some (zero, above - (span_of s kind).base)) (option_map one_on (index_below more kind above)) ≡ Some (substation, index)
+        → ((substation index above : ℕ) → index_below more kind above ≡ Some (substation, index) → StandsAt (span_at more substation kind) index above)
+        → StandsAt (span_at (s ∷ more) substation kind) index above
     by true has e rest =
-        let parts : (zero ≡ station) × (above - (span_of s kind).base ≡ index) = first station index (above - (span_of s kind).base) e in
-        here has station index parts.0 parts.1
+        let parts : (zero ≡ substation) × (above - (span_of s kind).base ≡ index) = first substation index (above - (span_of s kind).base) e in
+        here has substation index parts.0 parts.1
     by false lacks e rest = later (index_below more kind above) refl e rest
 
-pub down_and_up : (spans : List Spans) (kind : IndexKind) (station index above : ℕ)
-    → index_below spans kind above ≡ Some (station, index) → index_above spans station kind index ≡ Some above
-down_and_up spans kind station index above e =
-    let stands : StandsAt (span_at spans station kind) index above = below_stands spans kind station index above e in
-    stands_above spans station kind index stands.low ∙ ap (λ (n : ℕ). Some n) stands.at
+pub down_and_up : (spans : List Spans) (kind : IndexKind) (substation index above : ℕ)
+    → index_below spans kind above ≡ Some (substation, index) → index_above spans substation kind index ≡ Some above
+down_and_up spans kind substation index above e =
+    let stands : StandsAt (span_at spans substation kind) index above = below_stands spans kind substation index above e in
+    stands_above spans substation kind index stands.low ∙ ap (λ (n : ℕ). Some n) stands.at
 
 -- ---- what follows
 
@@ -139,25 +139,26 @@ injective spans kind a b i j above m of_a of_b =
     sym (up_and_down spans kind a i above m of_a) ∙ up_and_down spans kind b j above m of_b in
     grind (arith, same)
 
-pub in_range : (spans : List Spans) (kind : IndexKind) (station index above : ℕ) → IsMap spans
-    → index_above spans station kind index ≡ Some above → above < INDICES
-in_range spans kind station index above m e =
-    let stands : StandsAt (span_at spans station kind) index above = above_stands spans station kind index above e in
-    elim (cases_lt station (length spans)) [
-      | inl there ↦ omega (arith, m.narrow kind station no_spans there, stands.low, stands.at)
+pub in_range : (spans : List Spans) (kind : IndexKind) (substation index above : ℕ) → IsMap spans
+    → index_above spans substation kind index ≡ Some above → above < INDICES
+in_range spans kind substation index above m e =
+    let stands : StandsAt (span_at spans substation kind) index above = above_stands spans substation kind index above e in
+    elim (cases_lt substation (length spans)) [
+      | inl there ↦ omega (arith, m.narrow kind substation no_spans there, stands.low, stands.at)
       | inr past ↦
           let nobody : index < (span_of no_spans kind).count =
-          subst (λ (s : Spans). index < (span_of s kind).count) (get_or_past spans station no_spans past) stands.low in
+          subst (λ (s : Spans). index < (span_of s kind).count) (get_or_past spans substation no_spans past) stands.low in
           absurd (none_of kind index nobody)
     ]
 
 -- what a look-up finds is of a substation
-there_in : (spans : List Spans) (kind : IndexKind) (station index above : ℕ) → StandsAt (span_at spans station kind) index above → station < length spans
-there_in spans kind station index above stands = elim (cases_lt station (length spans)) [
+there_in : (spans : List Spans) (kind : IndexKind) (substation index above : ℕ) → StandsAt (span_at spans substation kind) index above
+    → substation < length spans
+there_in spans kind substation index above stands = elim (cases_lt substation (length spans)) [
   | inl low ↦ low
   | inr past ↦
       let nobody : index < (span_of no_spans kind).count =
-      subst (λ (s : Spans). index < (span_of s kind).count) (get_or_past spans station no_spans past) stands.low in
+      subst (λ (s : Spans). index < (span_of s kind).count) (get_or_past spans substation no_spans past) stands.low in
       absurd (none_of kind index nobody)
 ]
 

@@ -7,8 +7,8 @@ use Rattle.std.proofs.lemmas.Bool.Decides.{nat_tests}
 use Rattle.std.proofs.lemmas.List.{get_or-map, length-map, map-append}
 use Rattle.std.proofs.lemmas.List.Sorted.{IsPermutation-map}
 use Rattle.dnp_pointdb.specs.declared.order.Place.{Place as BlockPlace}
-use Rattle.dnp_pointdb.specs.Order.{Extent, AreApart, covers, place_in}
-use Rattle.dnp_pointdb.specs.Order as blocks
+use Rattle.dnp_pointdb.specs.steps.Order.{Extent, AreApart, covers, place_in}
+use Rattle.dnp_pointdb.specs.steps.Order as blocks
 use Rattle.dnp_pointdb.proofs.Orders.{Placed, placed_push, placed_skip, placed_sorted}
 use Rattle.dnp_concentrator.specs.declared.index_kind.IndexKind.{IndexKind}
 use Rattle.dnp_concentrator.specs.declared.order.Place.{Place}
@@ -54,7 +54,7 @@ unfolding IsPlaced
 none_placed kind spans = record { listed = λ k d lt. absurd (omega arith); complete = λ j lt. absurd (omega arith) }
 
 pub place_pushed : (kind : IndexKind) (spans : List Spans) (n : ℕ) (order : List Place) (place : Place) (s : Spans) → IsPlaced kind spans n order
-    → n < length spans → place.station ≡ n → 0 < place.count
+    → n < length spans → place.substation ≡ n → 0 < place.count
     → place.first ≡ (span_of (get_or spans n s) kind).base → place.count ≡ (span_of (get_or spans n s) kind).count
     → IsPlaced kind spans (n + 1) (order ++ place ∷ [])
 unfolding IsPlaced
@@ -72,7 +72,7 @@ place_skipped kind spans n order s p lt none =
 rising_blocks : (order : List Place) → IsNonDecreasingBy (λ place. place.first) order → IsNonDecreasingBy (λ place. place.first) (map as_block order)
 rising_blocks order rising i j d le lt =
     let as_many : length (map as_block order) ≡ length order = length-map order as_block in
-    let e : Place = record { first = d.first; count = d.count; station = d.block } in
+    let e : Place = record { first = d.first; count = d.count; substation = d.block } in
     let of_i : (get_or (map as_block order) i d).first ≡ (get_or order i e).first = ap (λ (p : BlockPlace). p.first) (block_at order i e d (omega arith)) in
     let of_j : (get_or (map as_block order) j d).first ≡ (get_or order j e).first = ap (λ (p : BlockPlace). p.first) (block_at order j e d (omega arith)) in
     let low : (get_or order i e).first ≤ (get_or order j e).first = rising i j e le (omega arith) in
@@ -127,7 +127,7 @@ pub record FindsEach : Type 0 where
 -- the place at m has the index
 pub found_below : FindsEach → (kind : IndexKind) (spans : List Spans) (order : List Place) (index m : ℕ) (d : Place) → IsOrder kind spans order → m < length order
     → (get_or order m d).first ≤ index → index < (get_or order m d).first + (get_or order m d).count
-    → Some ((get_or order m d).station, index - (get_or order m d).first) ≡ index_below spans kind index
+    → Some ((get_or order m d).substation, index - (get_or order m d).first) ≡ index_below spans kind index
 found_below law kind spans order index m d o lt low high =
     let e : BlockPlace = as_block d in
     let at : get_or (map as_block order) m e ≡ as_block (get_or order m d) = block_at order m d e lt in

@@ -24,7 +24,7 @@ use Rattle.dnp_pointdb.specs.Blocks.{HasIndex}
 use Rattle.dnp_pointdb.specs.Classes.{class_at, has_index, point_in}
 use Rattle.dnp_pointdb.specs.Database.{new_database, state_at}
 use Rattle.dnp_pointdb.specs.Events.{lane_of}
-use Rattle.dnp_pointdb.specs.Plan as station
+use Rattle.dnp_pointdb.specs.Plan as plans
 use Rattle.dnp_concentrator.specs.declared.plan.Plan.{Plan}
 use Rattle.dnp_concentrator.specs.declared.plan.SubPlan.{SubPlan}
 use Rattle.dnp_concentrator.specs.declared.span.Span.{Span}
@@ -102,12 +102,12 @@ points-above points.Analog s = refl
 
 -- what a new database has at an index of a block
 abbrev IsThere : Type 0
-IsThere = (plan : station.Plan) (kind : Kind) (index : ℕ) (block : Block) → station.IsSound plan → Contains (station.blocks_of plan kind) block
+IsThere = (plan : plans.Plan) (kind : Kind) (index : ℕ) (block : Block) → plans.IsSound plan → Contains (plans.blocks_of plan kind) block
     → HasIndex block index → option_map (λ (state : PointState). state.point) (state_at (new_database plan) kind index)
     ≡ slice_get block.points (index - block.base)
 
 abbrev HasItsClass : Type 0
-HasItsClass = (plan : station.Plan) (kind : Kind) (index : ℕ)
+HasItsClass = (plan : plans.Plan) (kind : Kind) (index : ℕ)
     → option_map (λ (state : PointState). state.point.class) (state_at (new_database plan) kind index) ≡ class_at plan kind index
 
 of_point : (o : Option PointState)
@@ -116,7 +116,7 @@ of_point None = refl
 of_point (Some state) = refl
 
 contained : (plan : Plan) (kind : Kind) (number : ℕ) (s : SubPlan) → slice_get plan.substations number ≡ Some s
-    → Contains (station.blocks_of (points_above plan) kind) (block_above kind s)
+    → Contains (plans.blocks_of (points_above plan) kind) (block_above kind s)
 contained plan kind number s at =
     let lt : number < length plan.substations = slice_get_within plan.substations number s at in
     let here : Contains (map (block_above kind) plan.substations) (block_above kind s) = (
@@ -167,7 +167,7 @@ lane_some row (Some found) class e some few =
     (subst (λ (n : ℕ). IsSome (lane_of n row.kind)) same (some_lane class row.kind some few))
 
 -- a row whose index above is known
-at_index : (points : station.Plan) (row : Row) (o : Option ℕ) (above : ℕ) → o ≡ Some above
+at_index : (points : plans.Plan) (row : Row) (o : Option ℕ) (above : ℕ) → o ≡ Some above
     → IsSome (lane_row points (record row { index = above }))
     → IsSome (option_and_then (lane_row points) (option_map (λ (index : ℕ). record row { index = index }) o))
 at_index points row o above is h =
@@ -236,5 +236,5 @@ all_taken_queued there class_is reported plan number s master now octets keeps i
     if_ok-map (λ t. All (λ event. is_reported master.plan event ≡ true) t.events)
     (λ t. length (queued_rows (map_of plan) (points_above plan) number t.events) ≡ length t.events) (receive_of master now octets)
     (λ t all. all_events_queued there class_is plan number s t.events keeps is at
-    (subst (λ (p : station.Plan). All (λ event. is_reported p event ≡ true) t.events) of_plan all))
+    (subst (λ (p : plans.Plan). All (λ event. is_reported p event ≡ true) t.events) of_plan all))
     (reported master now octets)

@@ -44,38 +44,38 @@ class_carries : (row : Row) (x : LaneRow) (o : Option ℕ)
 class_carries row x None e event low = absurd (grind (arith, e))
 class_carries row x (Some class) e event low = lane_carries class row x (lane_of class row.kind) refl e event low
 
-index_carries : (spans : List Spans) → IsMap spans → (plan : points.Plan) (station : ℕ) (row : Row) (x : LaneRow) (o : Option ℕ)
-    → index_above spans station (kind_of_points row.kind) row.index ≡ o
+index_carries : (spans : List Spans) → IsMap spans → (plan : points.Plan) (substation : ℕ) (row : Row) (x : LaneRow) (o : Option ℕ)
+    → index_above spans substation (kind_of_points row.kind) row.index ≡ o
     → option_and_then (lane_row plan) (option_map (λ (index : ℕ). record row { index = index }) o) ≡ Some x → IsEvent row → IsCarried x
-index_carries spans m plan station row x None is e event = absurd (grind (arith, e))
-index_carries spans m plan station row x (Some index) is e event =
+index_carries spans m plan substation row x None is e event = absurd (grind (arith, e))
+index_carries spans m plan substation row x (Some index) is e event =
     let above : Row = record row { index = index } in
-    class_carries above x (class_at plan row.kind index) e event (in_range spans (kind_of_points row.kind) station row.index index m is)
+    class_carries above x (class_at plan row.kind index) e event (in_range spans (kind_of_points row.kind) substation row.index index m is)
 
-queued_carried : (spans : List Spans) → IsMap spans → (plan : points.Plan) (station : ℕ) (row : Row) (o : Option LaneRow)
-    → queued_row spans plan station row ≡ o
+queued_carried : (spans : List Spans) → IsMap spans → (plan : points.Plan) (substation : ℕ) (row : Row) (o : Option LaneRow)
+    → queued_row spans plan substation row ≡ o
     → IsEvent row → (more : List LaneRow) → All IsCarried more → All IsCarried (cons_option o more)
-queued_carried spans m plan station row None e event more all = all
-queued_carried spans m plan station row (Some x) e event more all =
-    let first : IsCarried x = index_carries spans m plan station row x (index_above spans station (kind_of_points row.kind) row.index) refl e event in
+queued_carried spans m plan substation row None e event more all = all
+queued_carried spans m plan substation row (Some x) e event more all =
+    let first : IsCarried x = index_carries spans m plan substation row x (index_above spans substation (kind_of_points row.kind) row.index) refl e event in
     all_more first all
   where
     all_more : IsCarried x → All IsCarried more → All IsCarried (x ∷ more)
     all_more first all zero d lt = first
     all_more first all (suc i) d lt = all i d (omega arith)
 
-pub all_carried : (spans : List Spans) (plan : points.Plan) (station : ℕ) (rows : List Row) → IsMap spans → All IsEvent rows
-    → All IsCarried (queued_rows spans plan station rows)
-all_carried spans plan station [] m events = λ i d lt. absurd (omega arith)
-all_carried spans plan station (row ∷ rows) m events =
-    queued_carried spans m plan station row (queued_row spans plan station row) refl (All-head IsEvent row rows events)
-    (queued_rows spans plan station rows) (all_carried spans plan station rows m (All-tail IsEvent row rows events))
+pub all_carried : (spans : List Spans) (plan : points.Plan) (substation : ℕ) (rows : List Row) → IsMap spans → All IsEvent rows
+    → All IsCarried (queued_rows spans plan substation rows)
+all_carried spans plan substation [] m events = λ i d lt. absurd (omega arith)
+all_carried spans plan substation (row ∷ rows) m events =
+    queued_carried spans m plan substation row (queued_row spans plan substation row) refl (All-head IsEvent row rows events)
+    (queued_rows spans plan substation rows) (all_carried spans plan substation rows m (All-tail IsEvent row rows events))
 
 -- ---- all rows
 
 -- when no row is to come, what was queued is all
-pub all_queued : (spans : List Spans) (plan : points.Plan) (station : ℕ) (rows : List Row) (n : ℕ) (queued : List LaneRow)
-    → queued ++ queued_rows spans plan station (drop n rows) ≡ queued_rows spans plan station rows → length rows ≤ n
-    → queued ≡ queued_rows spans plan station rows
-all_queued spans plan station rows n queued so_far all =
-    sym (append-nil queued) ∙ ap (λ (more : List Row). queued ++ queued_rows spans plan station more) (sym (drop_all n rows all)) ∙ so_far
+pub all_queued : (spans : List Spans) (plan : points.Plan) (substation : ℕ) (rows : List Row) (n : ℕ) (queued : List LaneRow)
+    → queued ++ queued_rows spans plan substation (drop n rows) ≡ queued_rows spans plan substation rows → length rows ≤ n
+    → queued ≡ queued_rows spans plan substation rows
+all_queued spans plan substation rows n queued so_far all =
+    sym (append-nil queued) ∙ ap (λ (more : List Row). queued ++ queued_rows spans plan substation more) (sym (drop_all n rows all)) ∙ so_far

@@ -122,13 +122,13 @@ none_shared kind subs n before all shared =
 
 -- ---- what is left is a map
 
-in_list : (spans : List Spans) (station : ℕ) (kind : IndexKind) (index : ℕ) → is_in (span_at spans station kind) index ≡ true → station < length spans
-in_list spans station kind index has =
-    elim (cases_lt station (length spans)) [
+in_list : (spans : List Spans) (substation : ℕ) (kind : IndexKind) (index : ℕ) → is_in (span_at spans substation kind) index ≡ true → substation < length spans
+in_list spans substation kind index has =
+    elim (cases_lt substation (length spans)) [
       | inl low ↦ low
       | inr past ↦
           let nobody : is_in (span_of no_spans kind) index ≡ true =
-          subst (λ (s : Spans). is_in (span_of s kind) index ≡ true) (get_or_past spans station no_spans past) has in
+          subst (λ (s : Spans). is_in (span_of s kind) index ≡ true) (get_or_past spans substation no_spans past) has in
           absurd (none_in kind index nobody)
     ]
   where

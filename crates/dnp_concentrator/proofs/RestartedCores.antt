@@ -21,11 +21,11 @@ kept_restarts old new kept = core_same new old (ap restarted kept.points) kept.t
 pub again_restarts : (c : Core) → restarted_core (restarted_core c) ≡ restarted_core c
 again_restarts c = core_same (restarted_core c) c (twice_forgets c.points) refl
 
-pub read_restarts : (c : Core) (spans : List Spans) (station : ℕ) (events statics : List Row)
-    → restarted_core (with_points c (readings_set spans station (readings_set spans station c.points events) statics)) ≡ restarted_core c
-read_restarts c spans station events statics =
-    core_same (with_points c (readings_set spans station (readings_set spans station c.points events) statics)) c
-    (readings_forgotten spans station (readings_set spans station c.points events) statics ∙ readings_forgotten spans station c.points events) refl
+pub read_restarts : (c : Core) (spans : List Spans) (substation : ℕ) (events statics : List Row)
+    → restarted_core (with_points c (readings_set spans substation (readings_set spans substation c.points events) statics)) ≡ restarted_core c
+read_restarts c spans substation events statics =
+    core_same (with_points c (readings_set spans substation (readings_set spans substation c.points events) statics)) c
+    (readings_forgotten spans substation (readings_set spans substation c.points events) statics ∙ readings_forgotten spans substation c.points events) refl
 
 pub lost_restarts : (c : Core) (number : ℕ) → restarted_core (without_link c number) ≡ restarted_core c
 lost_restarts c number = core_same (without_link c number) c (lost_forgets c.points number) refl

@@ -13,7 +13,7 @@ use Rattle.dnp_pointdb.specs.declared.point.Block.{Block}
 use Rattle.dnp_pointdb.specs.declared.point.Point.{Point}
 use Rattle.dnp_pointdb.specs.declared.fault.PlanFault.TheVariants.{Class, TooMany, TooWide, Overlap}
 use Rattle.dnp_pointdb.specs.Blocks.{HasIndex, ShareIndex}
-use Rattle.dnp_pointdb.specs.Plan as station
+use Rattle.dnp_pointdb.specs.Plan as plans
 use Rattle.dnp_concentrator.specs.declared.plan.Plan.{Plan}
 use Rattle.dnp_concentrator.specs.declared.plan.SubPlan.{SubPlan}
 use Rattle.dnp_concentrator.specs.declared.span.Span.{Span}
@@ -41,18 +41,18 @@ all_mapped P f xs all = λ k d lt. subst P (get_or-map f xs k d (f d) lt) (all k
 -- ---- a block above
 
 -- its points have classes, and no deadbands
-good-point : (kind : Kind) (class : ℕ) → IsClass class → station.IsWrong kind (point_of class) → ⊥
+good-point : (kind : Kind) (class : ℕ) → IsClass class → plans.IsWrong kind (point_of class) → ⊥
 good-point points.Binary class low (inl h) = omega arith
 good-point points.Binary class low (inr h) = omega arith
 good-point points.Counter class low (inl h) = omega arith
 good-point points.Counter class low (inr h) = omega arith
 good-point points.Analog class low h = omega arith
 
-good-points : (kind : Kind) (classes : List ℕ) → All IsClass classes → Any (station.IsWrong kind) (map point_of classes) → ⊥
+good-points : (kind : Kind) (classes : List ℕ) → All IsClass classes → Any (plans.IsWrong kind) (map point_of classes) → ⊥
 good-points kind classes good wrong =
-    all_any IsClass (λ class. station.IsWrong kind (point_of class)) classes (good-point kind) good (mapped_any (station.IsWrong kind) point_of classes wrong)
+    all_any IsClass (λ class. plans.IsWrong kind (point_of class)) classes (good-point kind) good (mapped_any (plans.IsWrong kind) point_of classes wrong)
 
-no-class : (kind : Kind) (s : SubPlan) → KeepsSubLimits s → station.HasWrongPoint kind (block_above kind s) → ⊥
+no-class : (kind : Kind) (s : SubPlan) → KeepsSubLimits s → plans.HasWrongPoint kind (block_above kind s) → ⊥
 no-class points.Binary s keeps wrong = good-points points.Binary s.binary keeps.binary wrong
 no-class points.Counter s keeps wrong = good-points points.Counter s.counter keeps.counter wrong
 no-class points.Analog s keeps wrong = good-points points.Analog s.analog keeps.analog wrong
@@ -73,12 +73,12 @@ few-above points.Binary s keeps = keeps.few_binary
 few-above points.Counter s keeps = keeps.few_counter
 few-above points.Analog s keeps = keeps.few_analog
 
-no-many : (kind : Kind) (s : SubPlan) → KeepsSubLimits s → station.HasTooMany (block_above kind s) → ⊥
+no-many : (kind : Kind) (s : SubPlan) → KeepsSubLimits s → plans.HasTooMany (block_above kind s) → ⊥
 no-many kind s keeps many = omega (arith, many, few-above kind s keeps, count-above kind s)
 
 no-wide : (kind : Kind) (s : SubPlan)
     → (span_of (spans_of s) (kind_of_points kind)).base + (span_of (spans_of s) (kind_of_points kind)).count ≤ INDICES
-    → station.IsTooWide (block_above kind s) → ⊥
+    → plans.IsTooWide (block_above kind s) → ⊥
 no-wide kind s narrow wide = omega (arith, wide, narrow, base-above kind s, count-above kind s)
 
 inside : (span : Span) (index : ℕ) → span.base ≤ index → index < span.base + span.count → is_in span index ≡ true
@@ -114,28 +114,28 @@ no-shared kind subs is shared =
     omega (arith, same, shared.in_order)
 
 -- the blocks of a kind
-pub blocks-above : (kind : Kind) (plan : Plan) → station.blocks_of (points_above plan) kind ≡ map (block_above kind) plan.substations
+pub blocks-above : (kind : Kind) (plan : Plan) → plans.blocks_of (points_above plan) kind ≡ map (block_above kind) plan.substations
 blocks-above points.Binary plan = refl
 blocks-above points.Counter plan = refl
 blocks-above points.Analog plan = refl
 
 -- no fault is any
-pub sound_above : (plan : Plan) → KeepsLimits plan → IsMap (map_of plan) → station.IsSound (points_above plan)
+pub sound_above : (plan : Plan) → KeepsLimits plan → IsMap (map_of plan) → plans.IsSound (points_above plan)
 sound_above plan keeps is Class (kind, wrong) =
-    all_any KeepsSubLimits (λ s. station.HasWrongPoint kind (block_above kind s)) plan.substations (no-class kind) keeps.substations
-    (mapped_any (station.HasWrongPoint kind) (block_above kind) plan.substations
-    (subst (λ (blocks : List Block). Any (station.HasWrongPoint kind) blocks) (blocks-above kind plan) wrong))
+    all_any KeepsSubLimits (λ s. plans.HasWrongPoint kind (block_above kind s)) plan.substations (no-class kind) keeps.substations
+    (mapped_any (plans.HasWrongPoint kind) (block_above kind) plan.substations
+    (subst (λ (blocks : List Block). Any (plans.HasWrongPoint kind) blocks) (blocks-above kind plan) wrong))
 sound_above plan keeps is TooMany (kind, many) =
-    all_any KeepsSubLimits (λ s. station.HasTooMany (block_above kind s)) plan.substations (no-many kind) keeps.substations
-    (mapped_any station.HasTooMany (block_above kind) plan.substations
-    (subst (λ (blocks : List Block). Any station.HasTooMany blocks) (blocks-above kind plan) many))
+    all_any KeepsSubLimits (λ s. plans.HasTooMany (block_above kind s)) plan.substations (no-many kind) keeps.substations
+    (mapped_any plans.HasTooMany (block_above kind) plan.substations
+    (subst (λ (blocks : List Block). Any plans.HasTooMany blocks) (blocks-above kind plan) many))
 sound_above plan keeps is TooWide (kind, wide) =
     all_any (λ s. (span_of (spans_of s) (kind_of_points kind)).base + (span_of (spans_of s) (kind_of_points kind)).count ≤ INDICES)
-    (λ s. station.IsTooWide (block_above kind s)) plan.substations (no-wide kind)
+    (λ s. plans.IsTooWide (block_above kind s)) plan.substations (no-wide kind)
     (all_mapped (λ s. (span_of s (kind_of_points kind)).base + (span_of s (kind_of_points kind)).count ≤ INDICES) spans_of plan.substations
     (is.narrow (kind_of_points kind)))
-    (mapped_any station.IsTooWide (block_above kind) plan.substations
-    (subst (λ (blocks : List Block). Any station.IsTooWide blocks) (blocks-above kind plan) wide))
+    (mapped_any plans.IsTooWide (block_above kind) plan.substations
+    (subst (λ (blocks : List Block). Any plans.IsTooWide blocks) (blocks-above kind plan) wide))
 sound_above plan keeps is Overlap (kind, shared) =
     no-shared kind plan.substations is (subst (λ (blocks : List Block). ShareIndex blocks) (blocks-above kind plan) shared)
 
@@ -149,51 +149,51 @@ only P x (suc k, y, lt, at, p) = absurd (omega (arith, lt))
 record IsAnalog (analog : Block) : Type 0 where
   base : analog.base ≡ 0
   few : length analog.points ≤ MAX_POINTS
-  classes : station.HasWrongPoint points.Analog analog → ⊥
+  classes : plans.HasWrongPoint points.Analog analog → ⊥
 
-abbrev with_analog : SubPlan → Block → station.Plan
-with_analog s analog = station.plan_of (block_of 0 s.binary ∷ []) (block_of 0 s.counter ∷ []) (analog ∷ [])
+abbrev with_analog : SubPlan → Block → plans.Plan
+with_analog s analog = plans.plan_of (block_of 0 s.binary ∷ []) (block_of 0 s.counter ∷ []) (analog ∷ [])
 
 class-in : (kind : Kind) (s : SubPlan) → KeepsSubLimits s → (analog : Block) → IsAnalog analog
-    → Any (station.HasWrongPoint kind) (station.blocks_of (with_analog s analog) kind) → ⊥
+    → Any (plans.HasWrongPoint kind) (plans.blocks_of (with_analog s analog) kind) → ⊥
 class-in points.Binary s keeps analog is wrong =
-    good-points points.Binary s.binary keeps.binary (only (station.HasWrongPoint points.Binary) (block_of 0 s.binary) wrong)
+    good-points points.Binary s.binary keeps.binary (only (plans.HasWrongPoint points.Binary) (block_of 0 s.binary) wrong)
 class-in points.Counter s keeps analog is wrong =
-    good-points points.Counter s.counter keeps.counter (only (station.HasWrongPoint points.Counter) (block_of 0 s.counter) wrong)
-class-in points.Analog s keeps analog is wrong = is.classes (only (station.HasWrongPoint points.Analog) analog wrong)
+    good-points points.Counter s.counter keeps.counter (only (plans.HasWrongPoint points.Counter) (block_of 0 s.counter) wrong)
+class-in points.Analog s keeps analog is wrong = is.classes (only (plans.HasWrongPoint points.Analog) analog wrong)
 
 few-in : (classes : List ℕ) → length classes ≤ MAX_POINTS → length (block_of 0 classes).points ≤ MAX_POINTS
 few-in classes few = omega (arith, length-map classes point_of, few)
 
 few-of : (kind : Kind) (s : SubPlan) → KeepsSubLimits s → (analog : Block) → IsAnalog analog → (P : Block → Type 0)
-    → Any P (station.blocks_of (with_analog s analog) kind) → (block : Block) × (block.base ≡ 0) × (length block.points ≤ MAX_POINTS) × P block
+    → Any P (plans.blocks_of (with_analog s analog) kind) → (block : Block) × (block.base ≡ 0) × (length block.points ≤ MAX_POINTS) × P block
 few-of points.Binary s keeps analog is P any = (block_of 0 s.binary, refl, few-in s.binary keeps.few_binary, only P (block_of 0 s.binary) any)
 few-of points.Counter s keeps analog is P any = (block_of 0 s.counter, refl, few-in s.counter keeps.few_counter, only P (block_of 0 s.counter) any)
 few-of points.Analog s keeps analog is P any = (analog, is.base, is.few, only P analog any)
 
-one-of : (kind : Kind) (s : SubPlan) (analog : Block) → length (station.blocks_of (with_analog s analog) kind) ≡ 1
+one-of : (kind : Kind) (s : SubPlan) (analog : Block) → length (plans.blocks_of (with_analog s analog) kind) ≡ 1
 one-of points.Binary s analog = refl
 one-of points.Counter s analog = refl
 one-of points.Analog s analog = refl
 
-sound-with : (s : SubPlan) → KeepsSubLimits s → (analog : Block) → IsAnalog analog → station.IsSound (with_analog s analog)
+sound-with : (s : SubPlan) → KeepsSubLimits s → (analog : Block) → IsAnalog analog → plans.IsSound (with_analog s analog)
 sound-with s keeps analog is Class (kind, wrong) = class-in kind s keeps analog is wrong
 sound-with s keeps analog is TooMany (kind, many) =
-    let found = few-of kind s keeps analog is station.HasTooMany many in
+    let found = few-of kind s keeps analog is plans.HasTooMany many in
     omega (arith, found.2, found.3)
 sound-with s keeps analog is TooWide (kind, wide) =
-    let found = few-of kind s keeps analog is station.IsTooWide wide in
+    let found = few-of kind s keeps analog is plans.IsTooWide wide in
     omega (arith, found.1, found.2, found.3)
 sound-with s keeps analog is Overlap (kind, shared) = omega (arith, shared.in_order, shared.in_list, one-of kind s analog)
 
 -- those that its master needs
-pub sound_below : (s : SubPlan) → KeepsSubLimits s → station.IsSound (points_below s)
+pub sound_below : (s : SubPlan) → KeepsSubLimits s → plans.IsSound (points_below s)
 sound_below s keeps =
     sound-with s keeps (block_of 0 s.analog)
     (record { base = refl; few = few-in s.analog keeps.few_analog; classes = good-points points.Analog s.analog keeps.analog })
 
 -- analog inputs have the classes of the plan, whatever their deadbands
-good-analogs : (classes deadbands : List ℕ) → All IsClass classes → Any (station.IsWrong points.Analog) (analog_points classes deadbands) → ⊥
+good-analogs : (classes deadbands : List ℕ) → All IsClass classes → Any (plans.IsWrong points.Analog) (analog_points classes deadbands) → ⊥
 good-analogs [] deadbands good (k, p, low, at, wrong) = omega (arith, low)
 good-analogs (class ∷ classes) [] good (k, p, low, at, wrong) = omega (arith, low)
 good-analogs (class ∷ classes) (deadband ∷ deadbands) good (zero, p, low, at, wrong) =
@@ -207,7 +207,7 @@ few-analogs : (classes deadbands : List ℕ) → length classes ≤ MAX_POINTS �
 few-analogs classes deadbands few = omega (arith, length-map (zip classes deadbands) analog_point, length-zip classes deadbands, few)
 
 -- its own
-pub sound_at : (s : SubPlan) → KeepsSubLimits s → station.IsSound (points_at s)
+pub sound_at : (s : SubPlan) → KeepsSubLimits s → plans.IsSound (points_at s)
 sound_at s keeps =
     sound-with s keeps (analog_block s.analog s.deadband)
     (record { base = refl; few = few-analogs s.analog s.deadband keeps.few_analog; classes = good-analogs s.analog s.deadband keeps.analog })

@@ -46,5 +46,5 @@ set_by points (Some row) = set_of points row.kind row.index (reading_of row)
 
 -- the same of each of a substation's rows, in order
 abbrev pub readings_set : List Spans → ℕ → Database → List Row → Database
-readings_set spans station points [] = points
-readings_set spans station points (row ∷ rows) = readings_set spans station (set_by points (row_above spans station row)) rows
+readings_set spans substation points [] = points
+readings_set spans substation points (row ∷ rows) = readings_set spans substation (set_by points (row_above spans substation row)) rows

@@ -1,11 +1,13 @@
 -- Definition: a concentrator's parts: an outstation towards the station above, to which the queue and the book are lent,
 -- and a link to each substation; what the concentrator is once one of them was written, and what a call leaves of them.
-use Rattle.std.specs.Prelude.{◌≡◌, ◌≢◌, ℕ, Bool, IsTrue, List, Result, Err, IfErr, slice_set}
+use Rattle.std.specs.Prelude.{◌≡◌, ◌≢◌, ℕ, Bool, true, IsTrue, List, Result, Err, IsErr, IfErr, OnErr, slice_set}
 use Rattle.dnp_controls.specs.Book.{Ledger}
 use Rattle.dnp_eventbuf.specs.Stock.{Stock}
 use Rattle.dnp_outstation.specs.State.{Core, State}
+use Rattle.dnp_outstation.specs.Stores.{IsLook}
 use Rattle.dnp_objects.specs.declared.lane.LaneRow.{LaneRow}
 use Rattle.dnp_objects.specs.declared.row.Row.{Row}
+use Rattle.dnp_objects.specs.declared.store.StoreFault.{StoreFault}
 use Rattle.dnp_master.specs.Calls.{Taking, receive_of}
 use Rattle.dnp_master.specs.declared.fault.MasterFault.{MasterFault}
 use Rattle.dnp_master.specs.declared.fault.MasterFault.TheVariants.{Device}
@@ -46,7 +48,7 @@ abbrev pub links_of : {Q B : Type 0} → Concentrator Q B → List Relaying
 links_of c = c.links.items
 
 abbrev pub link_at : {Q B : Type 0} → Concentrator Q B → ℕ → Relaying
-link_at c link = link_in (links_of c) link
+link_at c substation = link_in (links_of c) substation
 
 -- the readings above
 abbrev pub points_of : {Q B : Type 0} → Concentrator Q B → Database
@@ -70,22 +72,22 @@ above_of contents ledger c = state_of (core_of c) (contents (queue_of c)) (panel
 
 -- what the link's master makes of octets that come, or why it refuses them
 abbrev pub taking_at : {Q B : Type 0} → Concentrator Q B → ℕ → ℕ → List ℕ → Result Taking MasterFault
-taking_at c link now octets = receive_of (link_at c link).master now octets
+taking_at c substation now octets = receive_of (link_at c substation).master now octets
 
 -- the substation's events as they are queued above
 abbrev pub queued_at : {Q B : Type 0} → Concentrator Q B → ℕ → List Row → List LaneRow
-queued_at c link events = queued_rows (indices_of c) (plan_above c) link events
+queued_at c substation events = queued_rows (indices_of c) (plan_above c) substation events
 
 -- the outstation above with the readings that the substation's rows set: events first, and then present values
 abbrev pub with_readings : {Q B : Type 0} → Concentrator Q B → ℕ → List Row → List Row → Core
-with_readings c link events statics =
-    with_points (core_of c) (readings_set (indices_of c) link (readings_set (indices_of c) link (points_of c) events) statics)
+with_readings c substation events statics =
+    with_points (core_of c) (readings_set (indices_of c) substation (readings_set (indices_of c) substation (points_of c) events) statics)
 
 -- ---- what a call leaves
 
 -- of this link it makes that one, and no other changes
 abbrev pub SetsLink : {Q B : Type 0} → Concentrator Q B → ℕ → Relaying → Concentrator Q B → Type 0
-SetsLink old link r new = links_of new ≡ slice_set (links_of old) link r
+SetsLink old substation r new = links_of new ≡ slice_set (links_of old) substation r
 
 -- queue, book and index map are as they were, and so is the plan of the points above
 pub record KeepsStores {Q B : Type 0} (old new : Concentrator Q B) : Type 0 where
@@ -93,9 +95,20 @@ pub record KeepsStores {Q B : Type 0} (old new : Concentrator Q B) : Type 0 wher
   pub outputs : outputs_of new ≡ outputs_of old
   pub plan : plan_above new ≡ plan_above old
 
+-- What a call leaves that does no more above than look at the queue: nothing but the outstation above has changed, nor that where the
+-- call is refused, and it is refused only where unsolicited responses are on.
+pub record LeavesAbove {Q B Place Answer : Type 0} (honest : Q → Type 0) (is_stopped : Q → Bool) (contents : Q → Stock) (others : Q → List Stock)
+    (kept : Q → Place) (asks_memory : Bool) (may_fault : StoreFault → Bool) (old new : Concentrator Q B) (answer : Result Answer StoreFault) : Type 0 where
+  pub look : IsLook honest is_stopped contents others kept asks_memory may_fault (queue_of old) (queue_of new) answer
+  pub unchanged : OnErr answer (core_of new ≡ core_of old)
+  pub asks : IsErr answer → (core_of old).times.unsolicited ≡ true
+  pub outputs : outputs_of new ≡ outputs_of old
+  pub links : links_of new ≡ links_of old
+  pub plan : plan_above new ≡ plan_above old
+
 -- the outstation above where a substation can't be reached any more
 abbrev pub without_link : Core → ℕ → Core
-without_link core link = with_points core (lost_of core.points link)
+without_link core substation = with_points core (lost_of core.points substation)
 
 -- What a call of at most one append leaves of the queue, by the queue before and after it and the call's answer.
 pub record LeavesQueue {Queue Answer : Type 0} (honest : Queue → Type 0) (is_stopped : Queue → Bool) (contents : Queue → Stock)

@@ -30,18 +30,18 @@ no_spans = record { binary = no_span; counter = no_span; analog = no_span; outpu
 
 -- those of the substation with this number
 abbrev pub span_at : List Spans → ℕ → IndexKind → Span
-span_at spans station kind = span_of (slice_index_or spans station no_spans) kind
+span_at spans substation kind = span_of (slice_index_or spans substation no_spans) kind
 
 -- ---- both directions
 
 -- the substation has this index
 abbrev pub HasIndex : List Spans → ℕ → IndexKind → ℕ → Type 0
-HasIndex spans station kind index = index < (span_at spans station kind).count
+HasIndex spans substation kind index = index < (span_at spans substation kind).count
 
 -- a substation's index as it stands above, if the substation has it
 abbrev pub index_above : List Spans → ℕ → IndexKind → ℕ → Option ℕ
-index_above spans station kind index =
-    (if nat_lt index (span_at spans station kind).count then Some ((span_at spans station kind).base + index) else None)
+index_above spans substation kind index =
+    (if nat_lt index (span_at spans substation kind).count then Some ((span_at spans substation kind).base + index) else None)
 
 -- the same of the next substation
 abbrev pub one_on : ℕ × ℕ → ℕ × ℕ

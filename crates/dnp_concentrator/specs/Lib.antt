@@ -3,6 +3,7 @@ pub mod Addresses
 pub mod Awaiting
 pub mod Below
 pub mod BookOutputs
+pub mod Causes
 pub mod Centre
 pub mod Concentrator
 pub mod IndexKinds

@@ -18,8 +18,8 @@ use Rattle.dnp_concentrator.specs.IndexMap.{index_above, index_below}
 
 -- a substation's row as it stands above
 abbrev pub row_above : List Spans → ℕ → Row → Option Row
-row_above spans station row =
-    option_map (λ index. record row { index = index }) (index_above spans station (kind_of_points row.kind) row.index)
+row_above spans substation row =
+    option_map (λ index. record row { index = index }) (index_above spans substation (kind_of_points row.kind) row.index)
 
 -- whose row a row above is, and that row there
 abbrev pub row_below : List Spans → Row → Option (ℕ × Row)
@@ -33,10 +33,10 @@ lane_row plan row =
 
 -- a substation's event as it is queued above
 abbrev pub queued_row : List Spans → points.Plan → ℕ → Row → Option LaneRow
-queued_row spans plan station row = option_and_then (lane_row plan) (row_above spans station row)
+queued_row spans plan substation row = option_and_then (lane_row plan) (row_above spans substation row)
 
 abbrev pub queued_rows : List Spans → points.Plan → ℕ → List Row → List LaneRow
-queued_rows spans plan station rows = filter_map (queued_row spans plan station) rows
+queued_rows spans plan substation rows = filter_map (queued_row spans plan substation) rows
 
 -- ---- commands
 
@@ -48,8 +48,8 @@ with_index (Set32 index value) new = Set32 new value
 
 -- a command to a substation's output as it stands above
 abbrev pub command_above : List Spans → ℕ → Command → Option Command
-command_above spans station command =
-    option_map (λ index. with_index command index) (index_above spans station (kind_of_command command) (index_of command))
+command_above spans substation command =
+    option_map (λ index. with_index command index) (index_above spans substation (kind_of_command command) (index_of command))
 
 -- whom a command above is for, and that command there
 abbrev pub command_below : List Spans → Command → Option (ℕ × Command)

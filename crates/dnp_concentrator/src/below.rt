@@ -22,65 +22,65 @@ impl<Q: Lanes, B: Book> Concentrator<Q, B> {
     }
 
     /// Whether the substation's master is open and awaits no response.
-    pub fn idle_below(&self, link: u8) -> bool
-        requires { link < length (links_of self.now) }
-        ensures { result ≡ master.is_idle (link_at self.now link).master }
+    pub fn idle_below(&self, substation: u8) -> bool
+        requires { substation < length (links_of self.now) }
+        ensures { result ≡ master.is_idle (link_at self.now substation).master }
     {
-        self.links[usize::from(link)].idle()
+        self.links[usize::from(substation)].idle()
     }
 
     /// The id of the control in progress at the substation, if there is one.
-    pub fn in_progress(&self, link: u8) -> Option<u64>
-        requires { link < length (links_of self.now) }
-        ensures { result ≡ option_map (λ p. p.id) (link_at self.now link).progress }
+    pub fn in_progress(&self, substation: u8) -> Option<u64>
+        requires { substation < length (links_of self.now) }
+        ensures { result ≡ option_map (λ p. p.id) (link_at self.now substation).progress }
     {
-        self.links[usize::from(link)].in_progress()
+        self.links[usize::from(substation)].in_progress()
     }
 
     /// A connection to the substation was opened: its master is idle, whatever it was before, and no control is in
     /// progress there.
-    pub fn opened_below(&mut self, link: u8)
-        requires { link < length (links_of self.old) }
-        ensures link { SetsLink self.old link (spec.opened (link_at self.old link)) self.new }
+    pub fn opened_below(&mut self, substation: u8)
+        requires { substation < length (links_of self.old) }
+        ensures link { SetsLink self.old substation (spec.opened (link_at self.old substation)) self.new }
         ensures core { core_of self.new ≡ core_of self.old }
         ensures stores { KeepsStores self.old self.new }
     {
-        self.links[usize::from(link)].opened();
+        self.links[usize::from(substation)].opened();
     }
 
     /// The readings above of this substation's points are marked lost.
-    fn lose(&mut self, link: u8)
-        ensures core { core_of self.new ≡ without_link (core_of self.old) link }
+    fn lose(&mut self, substation: u8)
+        ensures core { core_of self.new ≡ without_link (core_of self.old) substation }
         ensures links { links_of self.new ≡ links_of self.old }
         ensures stores { KeepsStores self.old self.new }
     {
-        self.core.points().mark_lost(usize::from(link));
+        self.core.points().mark_lost(usize::from(substation));
     }
 
     /// The connection to the substation is gone: its master is closed, the control in progress there is forgotten, and
     /// the readings above of its points are marked lost.
-    pub fn hung_up_below(&mut self, link: u8)
-        requires { link < length (links_of self.old) }
-        ensures link { SetsLink self.old link (spec.hung_up (link_at self.old link)) self.new }
-        ensures core { core_of self.new ≡ without_link (core_of self.old) link }
+    pub fn hung_up_below(&mut self, substation: u8)
+        requires { substation < length (links_of self.old) }
+        ensures link { SetsLink self.old substation (spec.hung_up (link_at self.old substation)) self.new }
+        ensures core { core_of self.new ≡ without_link (core_of self.old) substation }
         ensures stores { KeepsStores self.old self.new }
     {
-        self.links[usize::from(link)].hung_up();
-        self.lose(link);
+        self.links[usize::from(substation)].hung_up();
+        self.lose(substation);
     }
 
     /// The moment has come for a link below: where its response timer has ended, its master closes, and the readings
     /// above of its points are marked lost. Whether it has closed now.
-    pub fn tick_below(&mut self, link: u8, now: u64) -> bool
-        requires { link < length (links_of self.old) }
-        ensures closes { result ≡ master.is_timed_out (link_at self.old link).master now }
-        ensures link { SetsLink self.old link (spec.ticked (link_at self.old link) now) self.new }
-        ensures core { core_of self.new ≡ (if result then without_link (core_of self.old) link else core_of self.old) }
+    pub fn tick_below(&mut self, substation: u8, now: u64) -> bool
+        requires { substation < length (links_of self.old) }
+        ensures closes { result ≡ master.is_timed_out (link_at self.old substation).master now }
+        ensures link { SetsLink self.old substation (spec.ticked (link_at self.old substation) now) self.new }
+        ensures core { core_of self.new ≡ (if result then without_link (core_of self.old) substation else core_of self.old) }
         ensures stores { KeepsStores self.old self.new }
     {
-        let has_closed = self.links[usize::from(link)].tick(now);
+        let has_closed = self.links[usize::from(substation)].tick(now);
         if has_closed {
-            self.lose(link);
+            self.lose(substation);
         }
         has_closed
     }
@@ -88,15 +88,15 @@ impl<Q: Lanes, B: Book> Concentrator<Q, B> {
     /// Asks the substation a task at this moment: the request, to be sent. Refused as `Master::ask` refuses it.
     ///
     /// Of what is asked here the book knows nothing. A control whose select stood is selected again.
-    pub fn ask_below(&mut self, link: u8, now: u64, task: Task) -> Result<Fragment, AskFault>
-        requires { link < length (links_of self.old) }
-        ensures answer { MatchResult result (λ request. ask_answer (link_at self.old link).master task ≡ Ok request.items)
-            (λ fault. ask_answer (link_at self.old link).master task ≡ Err fault) }
-        ensures reads { IfOk result (λ request. IsRequest request.items (request_for (link_at self.old link).master.seq task)) }
-        ensures link { SetsLink self.old link (spec.asking (link_at self.old link) now task) self.new }
+    pub fn ask_below(&mut self, substation: u8, now: u64, task: Task) -> Result<Fragment, AskFault>
+        requires { substation < length (links_of self.old) }
+        ensures answer { MatchResult result (λ request. ask_answer (link_at self.old substation).master task ≡ Ok request.items)
+            (λ fault. ask_answer (link_at self.old substation).master task ≡ Err fault) }
+        ensures reads { IfOk result (λ request. IsRequest request.items (request_for (link_at self.old substation).master.seq task)) }
+        ensures link { SetsLink self.old substation (spec.asking (link_at self.old substation) now task) self.new }
         ensures core { core_of self.new ≡ core_of self.old }
         ensures stores { KeepsStores self.old self.new }
     {
-        self.links[usize::from(link)].ask(now, task)
+        self.links[usize::from(substation)].ask(now, task)
     }
 }

@@ -99,8 +99,8 @@ impl<B: Book> BookOutputs<B> {
         ensures exhausted { IsWell B.honest B.is_stopped self.new → IfErr result (λ e. e ≡ StoreFault.Exhausted → MAX_ID ≤ (B.contents (book_in self.old)).last_id) }
         ensures exhausted_first { IsWell B.honest B.is_stopped self.new → IfErr result (λ e. e ≡ StoreFault.Memory → (B.contents (book_in self.old)).last_id < MAX_ID) }
     {
-        if let Some((station, below)) = self.map.command_below(command) {
-            if let Err(fault) = self.book.add(alloc, station, &below) {
+        if let Some((substation, below)) = self.map.command_below(command) {
+            if let Err(fault) = self.book.add(alloc, substation, &below) {
                 return Err(fault_of(fault));
             }
         }

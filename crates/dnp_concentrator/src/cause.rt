@@ -22,6 +22,11 @@ pub enum Cause {
 
 /// A request for memory that was refused is a cause.
 impl From<AllocError> for Cause {
+    ghost use Rattle.std.specs.Prelude.{◌≡◌};
+    ghost use Rattle.dnp_concentrator.specs.declared.cause.Cause.TheVariants.{Memory};
+
+    ghost from_gives = { λ _ cause. cause ≡ Memory };
+
     fn from(_: AllocError) -> Cause {
         Cause::Memory
     }
@@ -29,6 +34,11 @@ impl From<AllocError> for Cause {
 
 /// What a store under an outstation refuses is a cause. A reading that its points refuse is none, and stops nothing.
 impl From<Fault> for Cause {
+    ghost use Rattle.std.specs.Prelude.{◌≡◌};
+    ghost use Rattle.dnp_concentrator.specs.Causes.{outstation_cause};
+
+    ghost from_gives = { λ fault cause. cause ≡ outstation_cause fault };
+
     fn from(fault: Fault) -> Cause {
         match fault {
             Fault::Exhausted => Cause::Exhausted,
@@ -40,6 +50,11 @@ impl From<Fault> for Cause {
 
 /// What a store refuses is a cause.
 impl From<StoreFault> for Cause {
+    ghost use Rattle.std.specs.Prelude.{◌≡◌};
+    ghost use Rattle.dnp_concentrator.specs.Causes.{store_cause};
+
+    ghost from_gives = { λ fault cause. cause ≡ store_cause fault };
+
     fn from(fault: StoreFault) -> Cause {
         match fault {
             StoreFault::Exhausted => Cause::Exhausted,
@@ -51,6 +66,11 @@ impl From<StoreFault> for Cause {
 
 /// What a book refuses to read is a cause. What it refuses of one entry is none, and no reading is refused for it.
 impl From<BookFault> for Cause {
+    ghost use Rattle.std.specs.Prelude.{◌≡◌};
+    ghost use Rattle.dnp_concentrator.specs.Causes.{book_cause};
+
+    ghost from_gives = { λ fault cause. cause ≡ book_cause fault };
+
     fn from(fault: BookFault) -> Cause {
         match fault {
             BookFault::Exhausted => Cause::Exhausted,

@@ -2,13 +2,16 @@
 
 ghost use Rattle.std.specs.Prelude.{◌≡◌, ◌≢◌, ◌⊎◌, ◌≤◌, [], true, false, All, IsErr, IsTrue, OnOk, OnErr, IfOk, Err, ◌↔◌, length, map};
 ghost use Rattle.std.specs.Borrow.{Lends, sem};
+ghost use Rattle.dnp_appfragment.specs.declared.function.Function.TheVariants as function;
+ghost use Rattle.dnp_appfragment.specs.Table.{function_octet};
 ghost use Rattle.dnp_eventbuf.specs.Stock.{rows_in};
-ghost use Rattle.dnp_outstation.specs.State.{is_quiet};
+ghost use Rattle.dnp_outstation.specs.State.{is_quiet, is_ready};
 ghost use Rattle.dnp_outstation.specs.Calls.{opened_of, tick_of, connection_after, performed_in, restarted_core};
-ghost use Rattle.dnp_outstation.specs.Connection.{closed, is_looked_at};
-ghost use Rattle.dnp_outstation.specs.Stores.{IsLook};
-ghost use Rattle.dnp_outstation.specs.Station.{actions_of, new_core, MayAsk};
-ghost use Rattle.dnp_concentrator.specs.BookOutputs.{panel_of, Performs, Exhausts};
+ghost use Rattle.dnp_outstation.specs.Connection.{case_of, closed, function_in, has_enabled_rows, is_looked_at, solicited_timer};
+ghost use Rattle.dnp_outstation.specs.declared.case.Case.TheVariants as case;
+ghost use Rattle.dnp_outstation.specs.Stores.{KeepsLanes, KeepsOutputs};
+ghost use Rattle.dnp_outstation.specs.Station.{actions_of, new_core, reads_inside, MayAsk};
+ghost use Rattle.dnp_concentrator.specs.BookOutputs.{book_in, panel_of, IsWell, Performs, Exhausts};
 ghost use Rattle.dnp_concentrator.specs.IndexMap.{IsTooWide, Overlaps};
 ghost use Rattle.dnp_concentrator.specs.Plan.{KeepsLimits, map_of};
 ghost use Rattle.dnp_concentrator.specs.PointsAbove.{points_above};
@@ -18,7 +21,7 @@ ghost use Rattle.dnp_concentrator.specs.Restarting.{RestartsAsNew};
 ghost use Rattle.dnp_concentrator.specs.declared.plan.Plan.{Plan as PlanValue};
 ghost use Rattle.dnp_pointdb.specs.Database.{new_database};
 ghost use Rattle.dnp_concentrator.specs.contracts.concentrator.Concentrator.{the_row};
-ghost use Rattle.dnp_concentrator.specs.Concentrator.{core_of, queue_of, outputs_of, book_of, indices_of, links_of, plan_above, with_queue, with_other_book, IsBookWell, above_of};
+ghost use Rattle.dnp_concentrator.specs.Concentrator.{core_of, queue_of, outputs_of, book_of, indices_of, links_of, plan_above, with_queue, with_other_book, IsBookWell, LeavesAbove, above_of};
 
 use crate::book_outputs::BookOutputs;
 use crate::fault::MapFault;
@@ -187,16 +190,13 @@ impl<Q: Lanes, B: Book> Concentrator<Q, B> {
         alloc: Global,
         now: u64,
     ) -> Result<(), StoreFault>
-        ensures look { IsLook Q.honest Q.is_stopped Q.contents Q.beside Q.place Q.asks_memory (queue_of self.old) (queue_of self.new) result }
-        ensures outputs { outputs_of self.new ≡ outputs_of self.old }
+        ensures leaves { LeavesAbove Q.honest Q.is_stopped Q.contents Q.beside Q.place Q.asks_memory Q.may_fault self.old self.new result }
         ensures opened { Q.honest (queue_of self.new) → OnOk result (opened_of (above_of Q.contents B.contents self.old) now
             ≡ record { state = above_of Q.contents B.contents self.new; does = actions_of actions.new }) }
         ensures whole { OnOk result (All (λ fragment. 4 ≤ length fragment) (actions_of actions.new).send) }
-        ensures unchanged { OnErr result (core_of self.new ≡ core_of self.old) }
         ensures actions_unchanged { OnErr result (actions.new ≡ actions.old) }
-        ensures asks { IsErr result → (core_of self.old).times.unsolicited ≡ true }
-        ensures links { links_of self.new ≡ links_of self.old }
-        ensures plan { plan_above self.new ≡ plan_above self.old }
+        ensures asks_announced { IsErr result → (core_of self.old).announced ≡ true }
+        ensures asks_rows { Q.honest (queue_of self.new) → IsErr result → has_enabled_rows (above_of Q.contents B.contents self.old) ≡ true }
     {
         self.core
             .opened(actions, alloc, &mut self.queue, &mut self.outputs, now)
@@ -211,16 +211,13 @@ impl<Q: Lanes, B: Book> Concentrator<Q, B> {
         alloc: Global,
         now: u64,
     ) -> Result<(), StoreFault>
-        ensures look { IsLook Q.honest Q.is_stopped Q.contents Q.beside Q.place Q.asks_memory (queue_of self.old) (queue_of self.new) result }
-        ensures outputs { outputs_of self.new ≡ outputs_of self.old }
+        ensures leaves { LeavesAbove Q.honest Q.is_stopped Q.contents Q.beside Q.place Q.asks_memory Q.may_fault self.old self.new result }
         ensures ticked { Q.honest (queue_of self.new) → OnOk result (tick_of (above_of Q.contents B.contents self.old) now
             ≡ record { state = above_of Q.contents B.contents self.new; does = actions_of actions.new }) }
         ensures whole { OnOk result (All (λ fragment. 4 ≤ length fragment) (actions_of actions.new).send) }
-        ensures unchanged { OnErr result (core_of self.new ≡ core_of self.old) }
         ensures actions_unchanged { OnErr result (actions.new ≡ actions.old) }
-        ensures asks { IsErr result → (core_of self.old).times.unsolicited ≡ true }
-        ensures links { links_of self.new ≡ links_of self.old }
-        ensures plan { plan_above self.new ≡ plan_above self.old }
+        ensures asks_ready { IsErr result → is_ready (solicited_timer (core_of self.old) now) ≡ true }
+        ensures asks_rows { Q.honest (queue_of self.new) → IsErr result → has_enabled_rows (above_of Q.contents B.contents self.old) ≡ true }
     {
         self.core
             .tick(actions, alloc, &mut self.queue, &mut self.outputs, now)
@@ -237,33 +234,27 @@ impl<Q: Lanes, B: Book> Concentrator<Q, B> {
         now: u64,
         octets: &[u8],
     ) -> Result<(), StoreFault>
-        ensures held { Q.honest (queue_of self.new) → Q.honest (queue_of self.old) }
-        ensures book_held { IsBookWell B.honest B.is_stopped self.new → IsBookWell B.honest B.is_stopped self.old }
-        ensures beside { Q.honest (queue_of self.new) → Q.beside (queue_of self.new) ≡ Q.beside (queue_of self.old) }
+        ensures queue { KeepsLanes Q.honest Q.is_stopped Q.contents Q.beside Q.place StoreFault.Device (queue_of self.old) (queue_of self.new) result }
+        ensures outputs { KeepsOutputs (IsWell B.honest B.is_stopped) (λ o. B.is_stopped (book_in o)) (panel_of B.contents) (Performs B.contents) (Exhausts B.contents)
+            true StoreFault.Exhausted StoreFault.Device (performed_in (core_of self.old) (panel_of B.contents (outputs_of self.old)) now octets.now) (outputs_of self.old) (outputs_of self.new) result }
         ensures received { Q.honest (queue_of self.new) → IsBookWell B.honest B.is_stopped self.new → OnOk result (
             connection_after (above_of Q.contents B.contents self.old) (panel_of B.contents (outputs_of self.old)) now octets.now
             ≡ record { state = above_of Q.contents B.contents self.new; does = actions_of actions.new }) }
         ensures whole { OnOk result (All (λ fragment. 4 ≤ length fragment) (actions_of actions.new).send) }
         ensures unchanged { OnErr result (core_of self.new ≡ core_of self.old) }
         ensures actions_unchanged { OnErr result (actions.new ≡ actions.old) }
-        ensures queue_unchanged { Q.honest (queue_of self.new) → OnErr result (Q.contents (queue_of self.new) ≡ Q.contents (queue_of self.old)) }
-        ensures panel_unchanged { IsBookWell B.honest B.is_stopped self.new → OnErr result (panel_of B.contents (outputs_of self.new) ≡ panel_of B.contents (outputs_of self.old)) }
         ensures book_unchanged { IsBookWell B.honest B.is_stopped self.new → OnErr result (B.contents (book_of self.new) ≡ B.contents (book_of self.old)) }
         ensures indices_unchanged { IsBookWell B.honest B.is_stopped self.new → OnErr result (indices_of self.new ≡ indices_of self.old) }
-        ensures idle { performed_in (core_of self.old) (panel_of B.contents (outputs_of self.old)) now octets.now ≡ [] → outputs_of self.new ≡ outputs_of self.old }
-        ensures performed { IsBookWell B.honest B.is_stopped self.new → OnOk result (performed_in (core_of self.old) (panel_of B.contents (outputs_of self.old)) now octets.now ≢ []
-            → Performs B.contents (outputs_of self.old) (performed_in (core_of self.old) (panel_of B.contents (outputs_of self.old)) now octets.now) (outputs_of self.new)) }
         ensures device { result ≡ Err StoreFault.Device → IsTrue (Q.is_stopped (queue_of self.new)) ⊎ IsTrue (B.is_stopped (book_of self.new)) }
-        ensures runs_on { result ≢ Err StoreFault.Device → Q.is_stopped (queue_of self.new) ≡ Q.is_stopped (queue_of self.old) }
-        ensures book_runs_on { result ≢ Err StoreFault.Device → B.is_stopped (book_of self.new) ≡ B.is_stopped (book_of self.old) }
         ensures memory { Q.honest (queue_of self.new) → result ≡ Err StoreFault.Memory → Q.asks_memory ≡ false
             → (rows_in (Q.contents (queue_of self.old)) ≢ []) ⊎ (performed_in (core_of self.old) (panel_of B.contents (outputs_of self.old)) now octets.now ≢ []) }
-        ensures exhausted { IsBookWell B.honest B.is_stopped self.new → result ≡ Err StoreFault.Exhausted
-            → Exhausts B.contents (outputs_of self.old) (performed_in (core_of self.old) (panel_of B.contents (outputs_of self.old)) now octets.now) }
-        ensures not_exhausted { IsBookWell B.honest B.is_stopped self.new → OnOk result (performed_in (core_of self.old) (panel_of B.contents (outputs_of self.old)) now octets.now ≢ []
-            → Exhausts B.contents (outputs_of self.old) (performed_in (core_of self.old) (panel_of B.contents (outputs_of self.old)) now octets.now) → ⊥) }
+        ensures exhausted_first { Q.honest (queue_of self.new) → IsBookWell B.honest B.is_stopped self.new → result ≡ Err StoreFault.Memory → Q.asks_memory ≡ false
+            → (rows_in (Q.contents (queue_of self.old)) ≢ []) ⊎ (Exhausts B.contents (outputs_of self.old) (performed_in (core_of self.old) (panel_of B.contents (outputs_of self.old)) now octets.now) → ⊥) }
         ensures looked_at { IsErr result → is_looked_at (core_of self.old) octets.now ≡ true }
         ensures asks { IsErr result → (core_of self.old).times.unsolicited ≡ false → MayAsk (core_of self.old) (panel_of B.contents (outputs_of self.old)) now octets.now }
+        ensures asks_held { IsErr result → case_of (core_of self.old) octets.now ≡ case.Waits → ⊥ }
+        ensures asks_inside { IsErr result → (core_of self.old).times.unsolicited ≡ false → function_in octets.now ≡ function_octet function.Read
+            → reads_inside (above_of Q.contents B.contents self.old) (panel_of B.contents (outputs_of self.old)) octets.now ≡ true }
         ensures links { links_of self.new ≡ links_of self.old }
         ensures plan { plan_above self.new ≡ plan_above self.old }
     {

@@ -193,10 +193,10 @@ impl IndexMap {
 
     /// A substation's index of a kind as it stands above: the substation's base of that kind plus the index. `None` where
     /// the substation has no such index.
-    pub fn above(&self, station: u8, kind: IndexKind, index: u16) -> Option<u16>
-        ensures { result ≡ index_above self.now station kind index }
+    pub fn above(&self, substation: u8, kind: IndexKind, index: u16) -> Option<u16>
+        ensures { result ≡ index_above self.now substation kind index }
     {
-        let span = self.spans.get(usize::from(station))?.of(kind);
+        let span = self.spans.get(usize::from(substation))?.of(kind);
         if usize::from(index) < span.count {
             Some(span.base + index)
         } else {
@@ -208,7 +208,7 @@ impl IndexMap {
     /// is of no substation.
     pub fn below(&self, kind: IndexKind, index: u16) -> Option<(u8, u16)>
         ensures value { result ≡ index_below self.now kind index }
-        ensures station { IfSome result (λ found. found.0 < MAX_SUBSTATIONS) }
+        ensures substation { IfSome result (λ found. found.0 < MAX_SUBSTATIONS) }
     {
         find(self.orders.of(kind), index)
     }

@@ -53,10 +53,10 @@ fn add<B: Book>(alloc: Global, book: &mut B, command: &Command) -> Result<u64, I
 impl<J: JournalStore, B: Book> Centre<J, B> {
     /// Whether the substation has the output or setpoint of a command, whose index is the substation's own: `issue` then
     /// finds it.
-    pub fn has_output(&self, station: u8, command: &Command) -> bool
-        ensures { result ≡ is_some (command_above (indices_of self.now) station command.now) }
+    pub fn has_output(&self, substation: u8, command: &Command) -> bool
+        ensures { result ≡ is_some (command_above (indices_of self.now) substation command.now) }
     {
-        self.map.command_above(station, command).is_some()
+        self.map.command_above(substation, command).is_some()
     }
 
     /// Issues a command to a substation's output or setpoint, whose index is the substation's own: it stands
@@ -68,13 +68,13 @@ impl<J: JournalStore, B: Book> Centre<J, B> {
     pub fn issue(
         &mut self,
         alloc: Global,
-        station: u8,
+        substation: u8,
         command: &Command,
     ) -> Result<u64, IssueFault>
         ensures no_output { (result ≡ Err IssueFault.NoOutput)
-            ↔ (command_above (indices_of self.old) station command.now ≡ None) }
+            ↔ (command_above (indices_of self.old) substation command.now ≡ None) }
         ensures added { B.honest (book_of self.new) → OnOk result (
-            IfSome (command_above (indices_of self.old) station command.now) (λ above.
+            IfSome (command_above (indices_of self.old) substation command.now) (λ above.
             B.contents (book_of self.new) ≡ added (B.contents (book_of self.old)) 0 above)) }
         ensures id { B.honest (book_of self.new) → IfOk result (λ id. id ≡ (B.contents (book_of self.old)).last_id + 1) }
         ensures book { LeavesBook B.honest B.is_stopped B.contents IssueFault.Device (book_of self.old) (book_of self.new) result }
@@ -90,7 +90,7 @@ impl<J: JournalStore, B: Book> Centre<J, B> {
         ensures journal { journal_of self.new ≡ journal_of self.old }
         ensures indices { indices_of self.new ≡ indices_of self.old }
     {
-        match self.map.command_above(station, command) {
+        match self.map.command_above(substation, command) {
             Some(above) => add(alloc, &mut self.book, &above),
             None => Err(IssueFault::NoOutput),
         }

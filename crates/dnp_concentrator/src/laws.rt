@@ -27,10 +27,10 @@ use dnp_pointdb::laws::points_are_those_of_the_plan;
 
 /// What stands above is found again below, and what is found below stands there above.
 pub fn each_direction_undoes_the_other()
-    ensures up_and_down { (spans : List Spans) (kind : IndexKind) (station index above : ℕ) → IsMap spans
-        → index_above spans station kind index ≡ Some above → index_below spans kind above ≡ Some (station, index) }
-    ensures down_and_up { (spans : List Spans) (kind : IndexKind) (station index above : ℕ)
-        → index_below spans kind above ≡ Some (station, index) → index_above spans station kind index ≡ Some above }
+    ensures up_and_down { (spans : List Spans) (kind : IndexKind) (substation index above : ℕ) → IsMap spans
+        → index_above spans substation kind index ≡ Some above → index_below spans kind above ≡ Some (substation, index) }
+    ensures down_and_up { (spans : List Spans) (kind : IndexKind) (substation index above : ℕ)
+        → index_below spans kind above ≡ Some (substation, index) → index_above spans substation kind index ≡ Some above }
 {}
 
 /// Indices above that no cause refuses are a map: so the plan of each index map and each concentrator has one.
@@ -46,44 +46,44 @@ pub fn no_index_above_is_of_two()
 
 /// Indices above are below 65,536.
 pub fn indices_above_are_in_range()
-    ensures { (spans : List Spans) (kind : IndexKind) (station index above : ℕ) → IsMap spans
-        → index_above spans station kind index ≡ Some above → above < INDICES }
+    ensures { (spans : List Spans) (kind : IndexKind) (substation index above : ℕ) → IsMap spans
+        → index_above spans substation kind index ≡ Some above → above < INDICES }
 {}
 
 /// Rows that are queued above are such as their lanes can carry.
 pub fn rows_are_queued_as_lanes_carry_them()
-    ensures { (spans : List Spans) (plan : points.Plan) (station : ℕ) (events : List Row) → IsMap spans → All IsEvent events
-        → All IsCarried (queued_rows spans plan station events) }
+    ensures { (spans : List Spans) (plan : points.Plan) (substation : ℕ) (events : List Row) → IsMap spans → All IsEvent events
+        → All IsCarried (queued_rows spans plan substation events) }
 {}
 
 /// A row that went up is undone to the row and its substation.
 pub fn rows_above_are_undone()
-    ensures { (spans : List Spans) (station : ℕ) (row above : Row) → IsMap spans
-        → row_above spans station row ≡ Some above → row_below spans above ≡ Some (station, row) }
+    ensures { (spans : List Spans) (substation : ℕ) (row above : Row) → IsMap spans
+        → row_above spans substation row ≡ Some above → row_below spans above ≡ Some (substation, row) }
 {}
 
 /// A command as it goes down stands above as the command that came, and what stands above goes down as it was.
 pub fn commands_are_undone()
     ensures down_and_up { (spans : List Spans) (command : Command) (found : ℕ × Command)
         → command_below spans command ≡ Some found → command_above spans found.0 found.1 ≡ Some command }
-    ensures up_and_down { (spans : List Spans) (station : ℕ) (command above : Command) → IsMap spans
-        → command_above spans station command ≡ Some above → command_below spans above ≡ Some (station, command) }
+    ensures up_and_down { (spans : List Spans) (substation : ℕ) (command above : Command) → IsMap spans
+        → command_above spans substation command ≡ Some above → command_below spans above ≡ Some (substation, command) }
 {}
 
 /// No event is passed over: each event that a substation's master takes is of a point of its plan with a class, and is
 /// queued above.
 pub fn no_event_is_passed_over()
-    ensures one { (plan : PlanValue) (station : ℕ) (substation : SubPlanValue) (event : Row)
-        → KeepsLimits plan → IsMap (map_of plan) → slice_get plan.substations station ≡ Some substation
-        → is_reported (points_below substation) event ≡ true → IsSome (queued_row (map_of plan) (points_above plan) station event) }
-    ensures all { (plan : PlanValue) (station : ℕ) (substation : SubPlanValue) (events : List Row)
-        → KeepsLimits plan → IsMap (map_of plan) → slice_get plan.substations station ≡ Some substation
-        → All (λ event. is_reported (points_below substation) event ≡ true) events
-        → length (queued_rows (map_of plan) (points_above plan) station events) ≡ length events }
-    ensures taken { (plan : PlanValue) (station : ℕ) (substation : SubPlanValue) (master : State) (now : ℕ) (octets : List ℕ)
-        → KeepsLimits plan → IsMap (map_of plan) → slice_get plan.substations station ≡ Some substation
-        → master.plan ≡ points_below substation
-        → IfOk (receive_of master now octets) (λ t. length (queued_rows (map_of plan) (points_above plan) station t.events) ≡ length t.events) }
+    ensures one { (plan : PlanValue) (substation : ℕ) (planned : SubPlanValue) (event : Row)
+        → KeepsLimits plan → IsMap (map_of plan) → slice_get plan.substations substation ≡ Some planned
+        → is_reported (points_below planned) event ≡ true → IsSome (queued_row (map_of plan) (points_above plan) substation event) }
+    ensures all { (plan : PlanValue) (substation : ℕ) (planned : SubPlanValue) (events : List Row)
+        → KeepsLimits plan → IsMap (map_of plan) → slice_get plan.substations substation ≡ Some planned
+        → All (λ event. is_reported (points_below planned) event ≡ true) events
+        → length (queued_rows (map_of plan) (points_above plan) substation events) ≡ length events }
+    ensures taken { (plan : PlanValue) (substation : ℕ) (planned : SubPlanValue) (master : State) (now : ℕ) (octets : List ℕ)
+        → KeepsLimits plan → IsMap (map_of plan) → slice_get plan.substations substation ≡ Some planned
+        → master.plan ≡ points_below planned
+        → IfOk (receive_of master now octets) (λ t. length (queued_rows (map_of plan) (points_above plan) substation t.events) ≡ length t.events) }
 {
     points_are_those_of_the_plan();
     events_taken_are_of_the_plan();

@@ -38,10 +38,10 @@ fn with_index(command: &Command, new: u16) -> Command
 impl IndexMap {
     /// A substation's row as it stands above: under the index above, and else unchanged. `None` where the
     /// substation has no such index.
-    pub fn row_above(&self, station: u8, row: &Row) -> Option<Row>
-        ensures { result ≡ spec.row_above self.now station row.now }
+    pub fn row_above(&self, substation: u8, row: &Row) -> Option<Row>
+        ensures { result ≡ spec.row_above self.now substation row.now }
     {
-        let index = self.above(station, IndexKind::of_points(row.kind), row.index)?;
+        let index = self.above(substation, IndexKind::of_points(row.kind), row.index)?;
         Some(Row { index, ..*row })
     }
 
@@ -50,16 +50,16 @@ impl IndexMap {
     pub fn row_below(&self, row: &Row) -> Option<(u8, Row)>
         ensures { result ≡ spec.row_below self.now row.now }
     {
-        let (station, index) = self.below(IndexKind::of_points(row.kind), row.index)?;
-        Some((station, Row { index, ..*row }))
+        let (substation, index) = self.below(IndexKind::of_points(row.kind), row.index)?;
+        Some((substation, Row { index, ..*row }))
     }
 
     /// A command to a substation's output as it stands above: under the index above, and else unchanged. `None` where the
     /// substation has no such output or setpoint.
-    pub fn command_above(&self, station: u8, command: &Command) -> Option<Command>
-        ensures { result ≡ spec.command_above self.now station command.now }
+    pub fn command_above(&self, substation: u8, command: &Command) -> Option<Command>
+        ensures { result ≡ spec.command_above self.now substation command.now }
     {
-        let index = self.above(station, IndexKind::of_command(command), command.index())?;
+        let index = self.above(substation, IndexKind::of_command(command), command.index())?;
         Some(with_index(command, index))
     }
 
@@ -67,10 +67,10 @@ impl IndexMap {
     /// where its index is of no substation.
     pub fn command_below(&self, command: &Command) -> Option<(u8, Command)>
         ensures value { result ≡ spec.command_below self.now command.now }
-        ensures station { IfSome result (λ found. found.0 < MAX_SUBSTATIONS) }
+        ensures substation { IfSome result (λ found. found.0 < MAX_SUBSTATIONS) }
     {
-        let (station, index) = self.below(IndexKind::of_command(command), command.index())?;
-        Some((station, with_index(command, index)))
+        let (substation, index) = self.below(IndexKind::of_command(command), command.index())?;
+        Some((substation, with_index(command, index)))
     }
 }
 
@@ -85,10 +85,10 @@ fn lane_row(points: &PointPlan, row: Row) -> Option<LaneRow>
 }
 
 /// A substation's event as it is queued above: `points` are those above.
-fn queued_row(map: &IndexMap, points: &PointPlan, station: u8, event: &Row) -> Option<LaneRow>
-    ensures { result ≡ spec.queued_row map.now points.now station event.now }
+fn queued_row(map: &IndexMap, points: &PointPlan, substation: u8, event: &Row) -> Option<LaneRow>
+    ensures { result ≡ spec.queued_row map.now points.now substation event.now }
 {
-    lane_row(points, map.row_above(station, event)?)
+    lane_row(points, map.row_above(substation, event)?)
 }
 
 /// A substation's events as they are queued above, in order: each under its index above and in the lane of the class
@@ -98,17 +98,17 @@ pub fn queued_rows(
     alloc: Global,
     map: &IndexMap,
     points: &PointPlan,
-    station: u8,
+    substation: u8,
     events: &[Row],
 ) -> Result<Vec<LaneRow>, AllocError>
-    ensures rows { IfOk result (λ rows. rows.items ≡ spec.queued_rows map.now points.now station events.now) }
+    ensures rows { IfOk result (λ rows. rows.items ≡ spec.queued_rows map.now points.now substation events.now) }
     ensures carried { All IsEvent events.now → IfOk result (λ rows. All IsCarried rows.items) }
 {
     // To count the substations is to know that their indices above have 16 bits.
     prove!(map.substations() <= MAX_SUBSTATIONS);
     let mut rows = Vec::with_capacity(alloc, events.len())?;
     for event in events {
-        if let Some(row) = queued_row(map, points, station, event) {
+        if let Some(row) = queued_row(map, points, substation, event) {
             rows.push(row)?;
         }
     }

@@ -21,7 +21,7 @@ pub struct Place {
     /// How many they are, at least 1.
     pub count: usize,
     /// The substation's number.
-    pub station: u8,
+    pub substation: u8,
 }
 
 /// The places of the substations that have indices of this kind, by rising base.
@@ -37,7 +37,7 @@ pub fn order_of(alloc: Global, kind: IndexKind, spans: &[Spans]) -> Result<Vec<P
             order.push(Place {
                 first: span.base,
                 count: span.count,
-                station: number as u8,
+                substation: number as u8,
             })?;
         }
     }
@@ -74,7 +74,7 @@ pub fn find(order: &[Place], index: u16) -> Option<(u8, u16)>
     let place = order[last];
     let offset = index - place.first;
     if usize::from(offset) < place.count {
-        Some((place.station, offset))
+        Some((place.substation, offset))
     } else {
         None
     }

@@ -20,11 +20,11 @@ fn reading_of(row: &Row) -> Reading
 
 /// Sets the readings above by a substation's rows, in order. A row of a point that isn't there above, or that no
 /// reading of its kind can be, sets nothing. No reading that is set is an event above.
-pub(crate) fn set_readings(map: &IndexMap, points: &mut PointDb, station: u8, rows: &[Row])
-    ensures { points.new ≡ spec.readings_set map.now station points.old rows.now }
+pub(crate) fn set_readings(map: &IndexMap, points: &mut PointDb, substation: u8, rows: &[Row])
+    ensures { points.new ≡ spec.readings_set map.now substation points.old rows.now }
 {
     for row in rows {
-        if let Some(above) = map.row_above(station, row) {
+        if let Some(above) = map.row_above(substation, row) {
             let _ = points.set(above.kind, above.index, reading_of(&above));
         }
     }

@@ -21,14 +21,14 @@ impl<Q: Lanes, B: Book> Concentrator<Q, B> {
     /// again; the least pending one for the substation is selected.
     ///
     /// Refused by the book alone, and then nothing has changed.
-    pub fn relay(&mut self, alloc: Global, link: u8, now: u64) -> Result<Relayed, BookFault>
-        requires { link < length (links_of self.old) }
-        ensures told { B.honest (book_of self.new) → IfOk result (λ answer. says.Tells (link_at self.old link).master.seq
-            (spec.step_of (link_at self.old link) (B.contents (book_of self.old)).entries link) answer) }
-        ensures link { B.honest (book_of self.new) → OnOk result (SetsLink self.old link (spec.relaying_after (link_at self.old link) now
-            (spec.step_of (link_at self.old link) (B.contents (book_of self.old)).entries link)) self.new) }
+    pub fn relay(&mut self, alloc: Global, substation: u8, now: u64) -> Result<Relayed, BookFault>
+        requires { substation < length (links_of self.old) }
+        ensures told { B.honest (book_of self.new) → IfOk result (λ answer. says.Tells (link_at self.old substation).master.seq
+            (spec.step_of (link_at self.old substation) (B.contents (book_of self.old)).entries substation) answer) }
+        ensures link { B.honest (book_of self.new) → OnOk result (SetsLink self.old substation (spec.relaying_after (link_at self.old substation) now
+            (spec.step_of (link_at self.old substation) (B.contents (book_of self.old)).entries substation)) self.new) }
         ensures ledger { B.honest (book_of self.new) → OnOk result (B.contents (book_of self.new) ≡ spec.ledger_after (B.contents (book_of self.old))
-            (spec.step_of (link_at self.old link) (B.contents (book_of self.old)).entries link)) }
+            (spec.step_of (link_at self.old substation) (B.contents (book_of self.old)).entries substation)) }
         // The book grants what the answer tells.
         ensures granted { B.honest (book_of self.new) → IfOk result (λ answer. AreGranted (B.contents (book_of self.old)) (says.moves_of answer)) }
         ensures moved { B.honest (book_of self.new) → IfOk result (λ answer.
@@ -37,31 +37,31 @@ impl<Q: Lanes, B: Book> Concentrator<Q, B> {
         ensures spent { B.honest (book_of self.new) → IfOk result (λ answer.
             says.IfSent answer (says.IsSpentBy (B.contents (book_of self.old)) (B.contents (book_of self.new)))) }
         // Where none is in progress, the pending one of the least id comes.
-        ensures least { B.honest (book_of self.new) → (link_at self.old link).progress ≡ None → IfOk result (λ answer.
-            says.IfSelecting answer (says.IsLeast (B.contents (book_of self.old)).entries link)) }
-        ensures own { B.honest (book_of self.new) → says.IsOf (B.contents (book_of self.old)).entries link (link_at self.old link).progress
-            → OnOk result (says.IsOf (B.contents (book_of self.new)).entries link (link_at self.new link).progress) }
+        ensures least { B.honest (book_of self.new) → (link_at self.old substation).progress ≡ None → IfOk result (λ answer.
+            says.IfSelecting answer (says.IsLeast (B.contents (book_of self.old)).entries substation)) }
+        ensures own { B.honest (book_of self.new) → says.IsOf (B.contents (book_of self.old)).entries substation (link_at self.old substation).progress
+            → OnOk result (says.IsOf (B.contents (book_of self.new)).entries substation (link_at self.new substation).progress) }
         ensures unchanged { OnErr result (links_of self.new ≡ links_of self.old) }
         // No other link changes, whatever the book is.
-        ensures others { SetsLink self.old link (link_at self.new link) self.new }
+        ensures others { SetsLink self.old substation (link_at self.new substation) self.new }
         ensures book { says.LeavesBook B.honest B.is_stopped B.contents BookFault.Device (book_of self.old) (book_of self.new) result }
         ensures named { IfErr result (λ e. e ≢ BookFault.Exhausted) }
         ensures no_control { B.honest (book_of self.new) → result ≡ Err BookFault.NoControl
-            → IsSomeAnd (link_at self.old link).progress (λ p. entry_of (B.contents (book_of self.old)).entries p.id ≡ None) }
+            → IsSomeAnd (link_at self.old substation).progress (λ p. entry_of (B.contents (book_of self.old)).entries p.id ≡ None) }
         ensures not_pending { B.honest (book_of self.new) → result ≡ Err BookFault.NotPending
-            → IsSomeAnd (link_at self.old link).progress (λ p. Has (B.contents (book_of self.old)).entries p.id (λ state. not (is_pending state))) }
+            → IsSomeAnd (link_at self.old substation).progress (λ p. Has (B.contents (book_of self.old)).entries p.id (λ state. not (is_pending state))) }
         ensures past { B.honest (book_of self.new) → result ≡ Err BookFault.NotPending
-            → says.IsPast (B.contents (book_of self.old)).entries (spec.step_of (link_at self.old link) (B.contents (book_of self.old)).entries link) }
+            → says.IsPast (B.contents (book_of self.old)).entries (spec.step_of (link_at self.old substation) (B.contents (book_of self.old)).entries substation) }
         ensures memory { result ≡ Err BookFault.Memory → IsTrue B.asks_memory }
         // Where the step needs no book, none is asked, and nothing refused.
-        ensures unasked { says.asks_book (link_at self.old link) ≡ false → (book_of self.new ≡ book_of self.old) × IsOk result }
-        ensures stopped { says.asks_book (link_at self.old link) ≡ true → IsTrue (B.is_stopped (book_of self.old)) → result ≡ Err BookFault.Device }
+        ensures unasked { says.asks_book (link_at self.old substation) ≡ false → (book_of self.new ≡ book_of self.old) × IsOk result }
+        ensures stopped { says.asks_book (link_at self.old substation) ≡ true → IsTrue (B.is_stopped (book_of self.old)) → result ≡ Err BookFault.Device }
         ensures core { core_of self.new ≡ core_of self.old }
         ensures plan { plan_above self.new ≡ plan_above self.old }
         ensures queue { queue_of self.new ≡ queue_of self.old }
         ensures indices { indices_of self.new ≡ indices_of self.old }
     {
         let book = self.outputs.book();
-        self.links[usize::from(link)].relay(alloc, now, link, book)
+        self.links[usize::from(substation)].relay(alloc, now, substation, book)
     }
 }

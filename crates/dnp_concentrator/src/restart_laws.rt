@@ -31,8 +31,8 @@ pub fn a_restart_forgets_what_came_above()
     ensures ticked { (s : State) (now : ℕ) → restarted_core (tick_of s now).state.core ≡ restarted_core s.core }
     ensures closed { (c : Core) → restarted_core (closed c) ≡ restarted_core c }
     ensures again { (c : Core) → restarted_core (restarted_core c) ≡ restarted_core c }
-    ensures read { (c : Core) (spans : List Spans) (station : ℕ) (events statics : List Row)
-        → restarted_core (with_points c (readings_set spans station (readings_set spans station c.points events) statics))
+    ensures read { (c : Core) (spans : List Spans) (substation : ℕ) (events statics : List Row)
+        → restarted_core (with_points c (readings_set spans substation (readings_set spans substation c.points events) statics))
         ≡ restarted_core c }
     ensures lost { (c : Core) (number : ℕ) → restarted_core (without_link c number) ≡ restarted_core c }
 {

@@ -10,7 +10,7 @@ use Rattle.dnp_controls.specs.declared.limits.TheConstants.{MAX_OUTPUTS}
 use Rattle.dnp_objects.specs.declared.command.Command.{Command}
 use Rattle.dnp_objects.specs.declared.command.Command.TheVariants.{Block, Set16, Set32}
 use Rattle.dnp_controls.specs.Latches.{latch_of, latch_by, is_latched}
-use Rattle.dnp_controls.specs.History.{IsInPlace, IsLatchedBy}
+use Rattle.dnp_controls.specs.steps.History.{IsInPlace, IsLatchedBy}
 use Rattle.dnp_controls.specs.Code.{operation}
 
 -- the last of the values, or false

@@ -8,7 +8,7 @@ use Rattle.std.proofs.lemmas.Bool.Decides.{Decides-eqb, Decides-ltb}
 use Rattle.dnp_controls.specs.declared.book.Entry.{Entry}
 use Rattle.dnp_controls.specs.declared.book.State.{State}
 use Rattle.dnp_controls.specs.Book.{AreNumberedFrom, entry_of, in_state, next_of, is_pending}
-use Rattle.dnp_controls.specs.Places.{IsKept}
+use Rattle.dnp_controls.specs.steps.Places.{IsKept}
 
 eqb-same : (m n : ℕ) → m ≡ n → eqb m n ≡ true
 eqb-same m n e = (Decides-eqb m n).1 e

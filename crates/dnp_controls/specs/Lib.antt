@@ -7,6 +7,4 @@ pub mod Moves
 pub mod Panel
 pub mod Selecting
 -- Words of private steps.
-pub mod History
-pub mod Keeping
-pub mod Places
+pub mod steps

@@ -2,7 +2,7 @@
 
 ghost use Rattle.std.specs.Prelude.{◌≡◌, ◌≤◌, ◌<◌, ◌+◌, Bool, false, ℕ, [], ◌∷◌, ◌++◌, OnOk, OnErr, length, slice_index_or, unwrap_or};
 ghost use Rattle.dnp_controls.specs.Latches.{latch_of, latch_by, status_of, is_latched};
-ghost use Rattle.dnp_controls.specs.History.{IsInPlace};
+ghost use Rattle.dnp_controls.specs.steps.History.{IsInPlace};
 
 use crate::code::Operation;
 use crate::limits::MAX_OUTPUTS;
@@ -24,7 +24,7 @@ pub(crate) struct Performed {
 }
 
 impl Model for Performed {
-    ghost use Rattle.dnp_controls.specs.History.{History, IsLatchedBy};
+    ghost use Rattle.dnp_controls.specs.steps.History.{History, IsLatchedBy};
     ghost use Rattle.std.specs.Prelude.{◌-◌, vec_len};
     ghost use Rattle.std.specs.Vec.{vec_capacity};
 

@@ -2,7 +2,7 @@
 
 ghost use Rattle.std.specs.Prelude.{◌≡◌, ◌≤◌, ◌+◌, ℕ, [], length, take, filter, nat_lt, false, IsSome, option_map, All};
 ghost use Rattle.dnp_controls.specs.Book.{AreNumberedFrom, entry_of, in_state, is_pending, next_of};
-ghost use Rattle.dnp_controls.specs.Places.{IsKept};
+ghost use Rattle.dnp_controls.specs.steps.Places.{IsKept};
 
 use crate::book::{Book, BookFault, Entry, State};
 use dnp_objects::{Command, Status};
@@ -23,7 +23,7 @@ pub struct PlainBook {
 impl Model for PlainBook {
     ghost use Rattle.std.specs.Prelude.{List};
     ghost use Rattle.dnp_controls.specs.declared.book.Entry.{Entry};
-    ghost use Rattle.dnp_controls.specs.Places.{IsKept};
+    ghost use Rattle.dnp_controls.specs.steps.Places.{IsKept};
 
     ghost Value = { List Entry };
 

@@ -1,6 +1,6 @@
 //! Outputs in memory.
 
-ghost use Rattle.std.specs.Prelude.{◌≡◌, ◌≤◌, ◌+◌, ◌<◌, [], ◌++◌, OnErr, length, map};
+ghost use Rattle.std.specs.Prelude.{◌≡◌, ◌≤◌, ◌+◌, ◌<◌, [], ◌++◌, OnErr, OnOk, length, map};
 ghost use Rattle.dnp_controls.specs.Latches.{PlainState, can_perform, plain_check, plain_panel};
 ghost use Rattle.dnp_controls.specs.Panel.{accepted};
 
@@ -10,7 +10,7 @@ use crate::outputs::Outputs;
 use crate::performed::Performed;
 use arrayvec::ArrayVec;
 use dnp_objects::{Command, Status, StoreFault};
-use std::alloc::Global;
+use std::alloc::{AllocError, Global};
 use std::marker::Model;
 
 /// Outputs in memory: binary outputs and setpoints, each from index 0 on, that keep the commands which
@@ -100,6 +100,22 @@ fn count_performed(outputs: u16, setpoints: u16, commands: &[Command]) -> usize
     count
 }
 
+/// Takes all room for those of the commands that are performed, and none where they have room. An error says that it
+/// ran out of memory.
+fn make_room(
+    performed: &mut Performed,
+    outputs: u16,
+    setpoints: u16,
+    commands: &[Command],
+) -> Result<(), AllocError>
+    ensures same { performed.new.commands ≡ performed.old.commands }
+    ensures room { OnOk result (length (accepted (plain_check outputs setpoints) commands.now) ≤ performed.new.room) }
+    ensures full { OnErr result (performed.old.room < length (accepted (plain_check outputs setpoints) commands.now)) }
+{
+    let count = count_performed(outputs, setpoints, commands);
+    performed.reserve(count)
+}
+
 /// At most `MAX_COMMANDS` commands at a time. A block is answered SUCCESS where its output is there and it obeys the
 /// code rule, a setpoint command where its setpoint is there, and any other NOT_SUPPORTED. All room for
 /// the commands that are performed is taken before the first one is.
@@ -147,8 +163,8 @@ impl Outputs for PlainOutputs {
         _alloc: Global,
         commands: &[Command],
     ) -> Result<ArrayVec<Status, MAX_COMMANDS>, StoreFault> {
-        let count = count_performed(self.outputs, self.setpoints, commands);
-        if self.performed.reserve(count).is_err() {
+        let (outputs, setpoints) = (self.outputs, self.setpoints);
+        if make_room(&mut self.performed, outputs, setpoints, commands).is_err() {
             return Err(StoreFault::Memory);
         }
         let mut statuses = ArrayVec::new();

@@ -41,7 +41,7 @@ impl Model for Selects {
 
     ghost Value = { Option Select };
 
-    ghost use Rattle.dnp_controls.specs.Keeping.{select_of};
+    ghost use Rattle.dnp_controls.specs.steps.Keeping.{select_of};
 
     ghost view = { λ selects. select_of selects.stands selects.kept };
 }

@@ -47,22 +47,18 @@ const ASKED: [u8; 33] = [
 /// A task that polls class 1.
 const POLL_1: Task = Task::Poll(Classes([false, true, false, false]));
 
-/// The frame of an event: an unsolicited response from outstation 10 to master 2, binary input 0 has become 1, with a time.
-const EVENT: [u8; 33] = [
-    0x05, 0x64, 0x18, 0x44, 0x02, 0x00, 0x0A, 0x00, 0x59, 0x71, 0xC0, 0xF0, 0x82, 0x80, 0x00, 0x02,
-    0x02, 0x28, 0x01, 0x00, 0x00, 0x00, 0x81, 0xE8, 0x03, 0x00, 0xDA, 0xDC, 0x00, 0x00, 0x00, 0xFF,
-    0xFF,
-];
-
-/// The same frame with these addresses and their check word, this beginning of its fragment, and this index; `check` is the
-/// check word of its first block.
+/// The frame of an event, binary input `index` has become 1, with a time: these addresses and their check word, this
+/// beginning of its fragment, and `check`, the check word of its first block.
+#[rattlefmt::skip]
 fn event_frame(addresses: [u8; 6], begins: [u8; 3], index: u8, check: [u8; 2]) -> [u8; 33] {
-    let mut frame = EVENT;
-    frame[4..10].copy_from_slice(&addresses);
-    frame[11..14].copy_from_slice(&begins);
-    frame[20] = index;
-    frame[26..28].copy_from_slice(&check);
-    frame
+    let [to, to_high, from, from_high, header, header_high] = addresses;
+    let [control, function, indications] = begins;
+    let [block, block_high] = check;
+    [
+        0x05, 0x64, 0x18, 0x44, to, to_high, from, from_high, header, header_high, 0xC0, control, function,
+        indications, 0x00, 0x02, 0x02, 0x28, 0x01, 0x00, index, 0x00, 0x81, 0xE8, 0x03, 0x00, block, block_high,
+        0x00, 0x00, 0x00, 0xFF, 0xFF,
+    ]
 }
 
 /// One fragment came, and so many were refused.
@@ -104,9 +100,10 @@ fn a_concentrator_on_streams(rt: HostRuntime) {
         &rt,
         "a concentrator",
     );
+    let event = event_frame(BELOW, REPORTS, 0, [0xDA, 0xDC]);
     let strange = event_frame(BELOW, REPORTS, 1, [0x3D, 0x69]);
     let response = event_frame(ABOVE, [0xE0, 0x81, 0x80], 100, [0xB4, 0x8E]);
-    let below = [(0, &strange, 0, 1), (1, &EVENT, 0, 0), (0, &EVENT, 15, 0)];
+    let below = [(0, &strange, 0, 1), (1, &event, 0, 0), (0, &event, 15, 0)];
     for (link, octets, count, faults) in below {
         let mut station = Below::new(&mut concentrator, link);
         let port = Port::new(2, 10, true);

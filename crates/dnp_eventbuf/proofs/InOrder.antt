@@ -1,8 +1,9 @@
 -- Rows whose ids rise, cut at an id.
-use Rattle.std.proofs.Common.{◌≡◌, ℕ, zero, suc, ◌<◌, ◌≤◌, Bool, true, false, cond, List, [], ◌∷◌, ◌++◌, take, drop, length, get_or, sym, ap, ◌∙◌, arith, refl, nat_lt, nat_le, inl, inr}
+use Rattle.std.proofs.Common.{◌≡◌, ◌⊎◌, ℕ, zero, suc, ◌-◌, ◌<◌, ◌≤◌, Bool, not, true, false, cond, List, [], ◌∷◌, ◌++◌, take, drop, length, get_or, sym, ap, ◌∙◌, arith, refl, nat_lt, nat_le, inl, inr}
 use Rattle.std.specs.List.{filter}
 use Rattle.std.specs.List.Sorted.{IsNonDecreasingBy, IsPartitionPoint}
 use Rattle.std.proofs.lemmas.Bool.{cases_lt}
+use Rattle.std.proofs.lemmas.List.Filters.{length-filter_both}
 use Rattle.std.proofs.lemmas.Bool.Decides.{nat_tests}
 use Rattle.dnp_eventbuf.specs.declared.numbered.Numbered.{Numbered}
 use Rattle.dnp_eventbuf.proofs.Offers.{Rises}
@@ -71,3 +72,34 @@ pub back_kept : (upto n : ℕ) (rows : List Numbered) → IsPartitionPoint (λ x
 back_kept upto n rows split = drop-passes (is_over upto) rows n
     (λ k d low lt. over_not_up_to upto (get_or rows k d) (split.0 k d (omega arith) low))
     (λ k d low lt. over_else upto (get_or rows k d) (split.1 k d low lt))
+
+-- ---- the rows over an id are the last of rows that rise
+
+pub all_over : (upto : ℕ) (x : Numbered) (rows : List Numbered) → Rises (x ∷ rows) → is_over upto x ≡ true → filter (is_over upto) (x ∷ rows) ≡ x ∷ rows
+all_over upto x rows rising here =
+    sym (drop-passes (is_over upto) (x ∷ rows) zero (λ k d low lt. absurd (omega arith)) (λ k d low lt. later k d lt (cases_lt zero k)))
+  where
+    later : (k : ℕ) (d : Numbered) → k < length (x ∷ rows) → (0 < k) ⊎ (k ≤ 0) → is_over upto (get_or (x ∷ rows) k d) ≡ true
+    later k d lt (inl behind) =
+        let less : x.id < (get_or (x ∷ rows) k d).id = rising 0 k d behind lt in
+        grind (arith, nat_tests)
+    later k d lt (inr first) =
+        let at : k ≡ 0 = omega arith in
+        ap (λ j. is_over upto (get_or (x ∷ rows) j d)) at ∙ here
+
+pub last_over : (upto : ℕ) (rows : List Numbered) → Rises rows
+    → drop (length rows - length (filter (is_over upto) rows)) rows ≡ filter (is_over upto) rows
+last_over upto [] rising = refl
+last_over upto (x ∷ rows) rising = by (last_over upto rows (λ i j d less low. rising (suc i) (suc j) d (omega arith) (omega arith))) (is_over upto x) refl
+  where
+    by : drop (length rows - length (filter (is_over upto) rows)) rows ≡ filter (is_over upto) rows
+        → (b : Bool) → is_over upto x ≡ b → drop (length (x ∷ rows) - length (filter (is_over upto) (x ∷ rows))) (x ∷ rows) ≡ filter (is_over upto) (x ∷ rows)
+    by others true here =
+        let all = all_over upto x rows rising here in
+        let none : length (x ∷ rows) - length (filter (is_over upto) (x ∷ rows)) ≡ 0 = omega (arith, ap length all) in
+        ap (λ n. drop n (x ∷ rows)) none ∙ sym all
+    by others false here =
+        let same : filter (is_over upto) (x ∷ rows) ≡ filter (is_over upto) rows = ap (λ (b : Bool). cond b (x ∷ filter (is_over upto) rows) (filter (is_over upto) rows)) here in
+        let few : length (filter (is_over upto) rows) ≤ length rows = omega (arith, length-filter_both (is_over upto) (λ y. not (is_over upto y)) (λ y. refl) rows) in
+        let one : length (x ∷ rows) - length (filter (is_over upto) (x ∷ rows)) ≡ suc (length rows - length (filter (is_over upto) rows)) = omega (arith, ap length same) in
+        ap (λ n. drop n (x ∷ rows)) one ∙ (others ∙ sym same)

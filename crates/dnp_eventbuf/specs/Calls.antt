@@ -1,7 +1,7 @@
 -- Definition: what a call of lanes leaves, whatever the call is for.
-use Rattle.std.specs.Prelude.{◌≡◌, Bool, List, Result, ⊤}
+use Rattle.std.specs.Prelude.{◌≡◌, Bool, true, false, List, Result, ⊤}
 use Rattle.dnp_objects.specs.declared.store.StoreFault.{StoreFault}
-use Rattle.dnp_objects.specs.declared.store.StoreFault.TheVariants.{Device}
+use Rattle.dnp_objects.specs.declared.store.StoreFault.TheVariants.{Exhausted, Memory, Device}
 use Rattle.dnp_objects.specs.Stores.{IsStoreCall}
 use Rattle.dnp_eventbuf.specs.Sound.{IsSound}
 use Rattle.dnp_eventbuf.specs.Stock.{Stock}
@@ -11,3 +11,9 @@ abbrev pub IsLanesCall : {Store Answer : Type 0} → (Store → Type 0) → (Sto
     → Store → Store → Result Answer StoreFault → Type 0
 IsLanesCall honest is_stopped contents beside old new answer =
     IsStoreCall honest is_stopped (λ s. IsSound (contents s)) (λ s t. contents t ≡ contents s) (λ s t. beside t ≡ beside s) Device ⊤ old new answer
+
+-- the faults of lanes that have no device under them
+abbrev pub without_device : StoreFault → Bool
+without_device Exhausted = true
+without_device Memory = true
+without_device Device = false

@@ -18,6 +18,24 @@ pub fn cut(rows: &[Numbered], upto: u64) -> (&[Numbered], &[Numbered])
     rows.split_at(count)
 }
 
+/// Room for the first rows of these two runs, at most `most`, and for no other.
+fn room_for_first(
+    alloc: Global,
+    front: &[Numbered],
+    back: &[Numbered],
+    most: usize,
+) -> Result<Vec<Numbered>, AllocError>
+    ensures empty { IfOk result (λ rows. rows.items ≡ []) }
+    ensures len { IfOk result (λ rows. vec_len rows ≡ 0) }
+    ensures room { IfOk result (λ rows. vec_capacity rows ≡ length (take most (front.now ++ back.now))) }
+    ensures memory { OnErr result (take most (front.now ++ back.now) ≢ []) }
+{
+    let of_front = most.min(front.len());
+    let of_back = (most - of_front).min(back.len());
+    let room = Vec::with_capacity(alloc, of_front + of_back)?;
+    Ok(room)
+}
+
 /// The first rows of these two runs, one after the other, at most `most`. Memory is asked for once, for just
 /// as many.
 pub fn first_of(
@@ -29,9 +47,9 @@ pub fn first_of(
     ensures rows { IfOk result (λ rows. rows.items ≡ take most (front.now ++ back.now)) }
     ensures memory { OnErr result (take most (front.now ++ back.now) ≢ []) }
 {
+    let mut rows = room_for_first(alloc, front, back, most)?;
     let of_front = most.min(front.len());
     let of_back = (most - of_front).min(back.len());
-    let mut rows = Vec::with_capacity(alloc, of_front + of_back)?;
     rows.extend_from_slice(front.split_at(of_front).0)?;
     rows.extend_from_slice(back.split_at(of_back).0)?;
     Ok(rows)

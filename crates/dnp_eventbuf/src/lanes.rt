@@ -21,6 +21,8 @@ use std::alloc::Global;
 /// rows it offers are events, holds for every store. After Device each call that can fail answers
 /// Device again, and no call promises anything of the rows.
 pub trait Lanes {
+    ghost use Rattle.dnp_objects.specs.declared.store.StoreFault.{StoreFault};
+
     /// What the lanes hold.
     ghost contents: { Self → Stock };
 
@@ -44,6 +46,9 @@ pub trait Lanes {
     /// Calls may be out of memory also where they drop, take or offer no row, as those of a database may.
     ghost asks_memory: { Bool };
 
+    /// The faults that a call may answer.
+    ghost may_fault: { StoreFault → Bool };
+
     /// Puts the rows into their lanes, as if one by one, all or none, and answers the rows that full
     /// lanes dropped for them. A full lane drops its oldest row first, and counts it.
     ///
@@ -58,7 +63,8 @@ pub trait Lanes {
         ensures not_exhausted { honest self.new → OnOk result (exhausts (contents self.old) rows.now ≡ false) }
         ensures exhausted { honest self.new → IfErr result (λ e. e ≡ StoreFault.Exhausted → IsTrue (exhausts (contents self.old) rows.now)) }
         ensures exhausted_first { honest self.new → IfErr result (λ e. e ≡ StoreFault.Memory → exhausts (contents self.old) rows.now ≡ false) }
-        ensures memory { result ≡ Err StoreFault.Memory → asks_memory ≡ false → dropped_by (contents self.old) rows.now ≢ [] };
+        ensures memory { result ≡ Err StoreFault.Memory → asks_memory ≡ false → dropped_by (contents self.old) rows.now ≢ [] }
+        ensures faults { IfErr result (λ e. IsTrue (may_fault e)) };
 
     /// As `append`, but the rows that full lanes dropped come into the caller's `dropped`, in place of what
     /// was there. A refusal leaves those too. So a caller that keeps them asks for memory only where more are
@@ -80,6 +86,7 @@ pub trait Lanes {
         ensures exhausted { honest self.new → IfErr result (λ e. e ≡ StoreFault.Exhausted → IsTrue (exhausts (contents self.old) rows.now)) }
         ensures exhausted_first { honest self.new → IfErr result (λ e. e ≡ StoreFault.Memory → exhausts (contents self.old) rows.now ≡ false) }
         ensures memory { result ≡ Err StoreFault.Memory → asks_memory ≡ false → dropped_by (contents self.old) rows.now ≢ [] }
+        ensures faults { IfErr result (λ e. IsTrue (may_fault e)) }
     {
         *dropped = Rows::of(self.append(alloc, rows)?);
         Ok(())
@@ -101,7 +108,8 @@ pub trait Lanes {
         ensures same { honest self.new → OnOk result (contents self.new ≡ contents self.old) }
         ensures carried { IfOk result (λ rows. All (λ x. IsEvent x.row) rows.items) }
         ensures memory { result ≡ Err StoreFault.Memory → asks_memory ≡ false → offered (contents self.old) (lane_number lane) after most ≢ [] }
-        ensures named { IfErr result (λ e. e ≢ StoreFault.Exhausted) };
+        ensures named { IfErr result (λ e. e ≢ StoreFault.Exhausted) }
+        ensures faults { IfErr result (λ e. IsTrue (may_fault e)) };
 
     /// Takes out, lane by lane, the rows with ids up to the lane's number in `upto`, and answers them.
     /// The overflow ends if no lane is full then. Memory or Device.
@@ -112,7 +120,8 @@ pub trait Lanes {
         ensures released { honest self.new → OnOk result (contents self.new ≡ without (contents self.old) upto.now) }
         ensures taken { honest self.new → IfOk result (λ rows. rows.items ≡ all_up_to (contents self.old) upto.now) }
         ensures memory { result ≡ Err StoreFault.Memory → asks_memory ≡ false → all_up_to (contents self.old) upto.now ≢ [] }
-        ensures named { IfErr result (λ e. e ≢ StoreFault.Exhausted) };
+        ensures named { IfErr result (λ e. e ≢ StoreFault.Exhausted) }
+        ensures faults { IfErr result (λ e. IsTrue (may_fault e)) };
 
     /// Takes all rows out, and answers them, lane by lane. The overflow ends; the counts of lost rows
     /// and the last id used stay. Memory or Device.
@@ -123,7 +132,8 @@ pub trait Lanes {
         ensures emptied { honest self.new → OnOk result (contents self.new ≡ without_all (contents self.old)) }
         ensures taken { honest self.new → IfOk result (λ rows. rows.items ≡ rows_in (contents self.old)) }
         ensures memory { result ≡ Err StoreFault.Memory → asks_memory ≡ false → rows_in (contents self.old) ≢ [] }
-        ensures named { IfErr result (λ e. e ≢ StoreFault.Exhausted) };
+        ensures named { IfErr result (λ e. e ≢ StoreFault.Exhausted) }
+        ensures faults { IfErr result (λ e. IsTrue (may_fault e)) };
 
     /// How many rows the lane holds.
     fn len(&mut self, lane: Lane) -> u32

@@ -329,6 +329,8 @@ pub(crate) fn memory(_: AllocError) -> StoreFault
 }
 
 impl Lanes for PlainLanes {
+    ghost use Rattle.dnp_eventbuf.specs.Calls.{without_device};
+
     ghost contents = { λ s. s };
 
     ghost beside = { λ _. [] };
@@ -342,6 +344,8 @@ impl Lanes for PlainLanes {
     ghost is_stopped = { λ _. false };
 
     ghost asks_memory = { false };
+
+    ghost may_fault = { without_device };
 
     #[inline(always)]
     fn append(&mut self, alloc: Global, rows: &[LaneRow]) -> Result<Vec<Row>, StoreFault> {

@@ -1,6 +1,6 @@
 //! Rows that left the lanes, or that a sink dropped.
 
-ghost use Rattle.std.specs.Prelude.{◌≡◌, ◌≤◌, [], OnOk, OnErr, vec_capacity, vec_len};
+ghost use Rattle.std.specs.Prelude.{◌≡◌, ◌≤◌, ◌<◌, [], OnOk, OnErr, vec_capacity, vec_len};
 
 use dnp_objects::Row;
 use std::alloc::{AllocError, Global};
@@ -51,7 +51,7 @@ impl Rows {
     pub fn clear(&mut self)
         ensures { self.new ≡ [] }
     {
-        self.items.clear();
+        let_go(&mut self.items);
     }
 
     /// The rows, in order.
@@ -62,6 +62,14 @@ impl Rows {
     }
 }
 
+/// Lets all rows go, and keeps the memory that they took.
+fn let_go(rows: &mut Vec<Row>)
+    ensures empty { rows.new.items ≡ [] }
+    ensures room { vec_capacity rows.new ≡ vec_capacity rows.old }
+{
+    rows.clear();
+}
+
 /// Empties the rows, with room for so many. Memory is asked for only where that room is missing, and the rows stay
 /// where it is refused.
 pub(crate) fn empty_for(alloc: Global, rows: &mut Vec<Row>, count: usize) -> Result<(), AllocError>
@@ -69,12 +77,13 @@ pub(crate) fn empty_for(alloc: Global, rows: &mut Vec<Row>, count: usize) -> Res
     ensures len { OnOk result (vec_len rows.new ≡ 0) }
     ensures room { OnOk result (count ≤ vec_capacity rows.new) }
     ensures kept { OnErr result (rows.new.items ≡ rows.old.items) }
-    ensures asks { OnErr result (1 ≤ count) }
+    ensures keeps_room { vec_capacity rows.old ≤ vec_capacity rows.new }
+    ensures asks { OnErr result (vec_capacity rows.old < count) }
 {
     if rows.capacity() < count {
         *rows = Vec::with_capacity(alloc, count)?;
     } else {
-        rows.clear();
+        let_go(rows);
     }
     Ok(())
 }

@@ -8,7 +8,7 @@ use Rattle.dnp_objects.specs.declared.row.Kind.{Kind}
 use Rattle.dnp_objects.specs.declared.row.Row.{Row}
 use Rattle.dnp_master.specs.declared.gathering.Gathering.{Gathering}
 use Rattle.dnp_master.specs.declared.known.Known.{Known}
-use Rattle.dnp_master.specs.Gathering.{Gathers, HasRow, IsKnown}
+use Rattle.dnp_master.specs.steps.Gathering.{Gathers, HasRow, IsKnown}
 use Rattle.dnp_master.specs.Rows.{static_rows, is_reported, is_planned, statics_in, is_from_plan}
 use Rattle.dnp_objects.specs.Events.{IsEvent}
 use Rattle.dnp_appfragment.specs.EventRows.{header_rows, is_event_header, events_in}

@@ -22,7 +22,7 @@ use Rattle.dnp_master.specs.declared.request.OpenRequest.{OpenRequest}
 use Rattle.dnp_master.specs.Calls.{Taking, unheeded, is_report, is_solicited, is_next, case_by, case_of, report_taken, ended, going_on, taken_as, checked, heard, receive_of, confirm_for}
 use Rattle.dnp_master.specs.Rows.{is_from_plan}
 use Rattle.dnp_master.specs.State.{State, after}
-use Rattle.dnp_master.specs.Steps.{control_in, PassesOver, TakesResponse, TakesReport}
+use Rattle.dnp_master.specs.LinkCalls.{control_in, PassesOver, TakesResponse, TakesReport}
 
 -- ---- the control octet
 

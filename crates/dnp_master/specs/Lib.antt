@@ -1,9 +1,10 @@
 pub mod Calls
-pub mod Gathering
 pub mod Outcomes
 pub mod Requests
 pub mod Rows
 pub mod State
-pub mod Steps
+pub mod LinkCalls
 pub mod Taking
 pub mod Sinks
+-- Words of private steps.
+pub mod steps

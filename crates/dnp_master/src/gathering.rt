@@ -5,7 +5,7 @@ ghost use Rattle.std.specs.Vec.{vec_capacity};
 ghost use Rattle.std.specs.List.{list_all};
 ghost use Rattle.dnp_objects.specs.Events.{IsEvent};
 ghost use Rattle.dnp_appfragment.specs.EventRows.{events_in};
-ghost use Rattle.dnp_master.specs.Gathering.{Gathers, Holds};
+ghost use Rattle.dnp_master.specs.steps.Gathering.{Gathers, Holds};
 ghost use Rattle.dnp_master.specs.Rows as spec;
 ghost use Rattle.dnp_master.specs.Taking.{events_of, statics_of};
 

@@ -2,7 +2,7 @@
 
 ghost use Rattle.std.specs.Prelude.{◌≡◌, IsTrue, IfSome, is_some};
 ghost use Rattle.dnp_pointdb.specs.Classes.{class_at};
-ghost use Rattle.dnp_master.specs.Gathering.{HasRow, IsKnown};
+ghost use Rattle.dnp_master.specs.steps.Gathering.{HasRow, IsKnown};
 ghost use Rattle.dnp_pointdb.specs.Plan.{Plan};
 
 use dnp_objects::{Kind, Row};

@@ -6,7 +6,7 @@ ghost use Rattle.dnp_master.specs.declared.task.Task.{Task as TaskValue};
 ghost use Rattle.dnp_master.specs.Calls.{ask_answer, asked, receive_of, unheeded};
 ghost use Rattle.dnp_master.specs.Rows.{is_reported};
 ghost use Rattle.dnp_master.specs.State.{State, closed, is_timed_out, ticked};
-ghost use Rattle.dnp_master.specs.Steps.{Asks, PassesOver, TakesReport, TakesResponse};
+ghost use Rattle.dnp_master.specs.LinkCalls.{Asks, PassesOver, TakesReport, TakesResponse};
 
 use crate::fault::AskFault;
 use dnp_appfragment::laws::{octets_say_a_request, what_is_spelled_is_a_fragment};

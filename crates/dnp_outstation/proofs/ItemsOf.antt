@@ -12,7 +12,7 @@ use Rattle.dnp_eventbuf.specs.Sound.{IsSound}
 use Rattle.dnp_eventbuf.specs.Stock.{Stock, lane_at}
 use Rattle.dnp_appfragment.specs.Headers.{Head}
 use Rattle.dnp_outstation.specs.declared.offer.place.Place.{Place}
-use Rattle.dnp_outstation.specs.Items.{Source, Static, statics_of, in_range, is_within, Part, part_of, Item, at_most, less, rows_left, event_of, event_items, present_of, given_after, part_items, items_of, part_after, parts_left, items_left, enabled_lanes, lane_items}
+use Rattle.dnp_outstation.specs.Items.{Source, Static, statics_of, each_static, in_range, is_within, Part, part_of, Item, at_most, less, rows_left, event_of, event_items, present_of, given_after, part_items, items_of, part_after, parts_left, items_left, enabled_lanes, lane_items}
 use Rattle.dnp_outstation.specs.Items.Part.{RowsOf, StaticsOf}
 use Rattle.dnp_outstation.specs.Layout.{lay, laid}
 use Rattle.dnp_outstation.specs.Offer.{held_laid, held_of}
@@ -27,7 +27,7 @@ AreLow (lane ∷ lanes) = (lane < LANES) × AreLow lanes
 -- so of each row and each present value, for whatever header
 record AreAll (Q : Item → Type 0) (s : Source) : Type 0 where
   events : (lane : ℕ) → lane < LANES → All (λ x. (header : ℕ) → Q (event_of header lane x)) (lane_at s.lanes lane).rows
-  present : (group : ℕ) → All (λ x. (header : ℕ) → Q (present_of header x)) (statics_of s group)
+  present : (asked group : ℕ) → All (λ x. (header : ℕ) → Q (present_of header x)) (statics_of s asked group)
 
 abbrev IsPart : (Item → Type 0) → Part → Type 0
 IsPart Q (RowsOf lanes most) = AreLow lanes
@@ -46,14 +46,14 @@ either Q false p q first second = second
 is_part : (Q : Item → Type 0) (s : Source) (h : Head) → AreAll Q s → IsPart Q (part_of s h)
 is_part Q s h all =
     let P : Static → Type 0 = λ x. (header : ℕ) → Q (present_of header x) in
-    let four : All P (statics_of s 1 ++ statics_of s 10 ++ statics_of s 20 ++ statics_of s 30) =
-    All-append P (statics_of s 1 ++ statics_of s 10 ++ statics_of s 20) (statics_of s 30)
-    (All-append P (statics_of s 1 ++ statics_of s 10) (statics_of s 20) (All-append P (statics_of s 1) (statics_of s 10) (all.present 1) (all.present 10))
-    (all.present 20))
-    (all.present 30)
+    let four : All P (each_static s) =
+    All-append P (statics_of s 0 1 ++ statics_of s 0 10 ++ statics_of s 0 20) (statics_of s 0 30)
+    (All-append P (statics_of s 0 1 ++ statics_of s 0 10) (statics_of s 0 20) (All-append P (statics_of s 0 1) (statics_of s 0 10) (all.present 0 1) (all.present 0 10))
+    (all.present 0 20))
+    (all.present 0 30)
     in
-    let own : All P (in_range h.range (statics_of s h.group)) =
-    All-filter (λ (x : Static). is_within h.range x.row.index) P (statics_of s h.group) (all.present h.group) in
+    let own : All P (in_range h.range (statics_of s h.variation h.group)) =
+    All-filter (λ (x : Static). is_within h.range x.row.index) P (statics_of s h.variation h.group) (all.present h.variation h.group) in
     either Q (h.group == 60 && h.variation == 2) _ _ (omega arith, (omega arith, (omega arith, tt)))
     (either Q (h.group == 60 && h.variation == 3) _ _ (omega arith, (omega arith, (omega arith, tt)))
     (either Q (h.group == 60 && h.variation == 4) _ _ (omega arith, (omega arith, (omega arith, tt)))
@@ -163,7 +163,7 @@ events_stand s lane sound low =
 all_stand : (s : Source) → IsSound s.lanes → AreWritable s → AreAll CanStand s
 all_stand s sound writable = record {
   events = λ lane low. events_stand s.lanes lane sound low;
-  present = λ group k d within header. writable group k d within;
+  present = λ asked group k d within header. writable asked group k d within;
 }
 
 pub left_stand : (s : Source) (stood : ℕ) (place : Place) (headers : List Head) → IsSound s.lanes → AreWritable s
@@ -184,7 +184,7 @@ held_stand s stood place headers sound writable =
 pub held_low : (s : Source) (stood : ℕ) (place : Place) (headers : List Head) → All IsLow (held_of (items_left s stood place headers))
 held_low s stood place headers = read_are IsLow s stood place headers (record {
   events = λ lane low k d within header. low;
-  present = λ group k d within header. tt;
+  present = λ asked group k d within header. tt;
 })
 
 pub pushed_stand : (s : Stock) (enabled : List Bool) → IsSound s → length enabled ≤ 3

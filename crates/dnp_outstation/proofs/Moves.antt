@@ -1,7 +1,8 @@
 -- A fragment that leaves something holds something: each item fits alone.
-use Rattle.std.proofs.Common.{◌≡◌, Bool, true, false, IsTrue, refl, sym, ◌∙◌, ap, subst, ℕ, ◌≤◌, ◌==◌, ◌||◌, List, [], ◌∷◌, length, arith, Option, None, Some, IfSome, eqb-true}
+use Rattle.std.proofs.Common.{◌≡◌, Bool, true, false, IsTrue, refl, sym, ◌∙◌, ap, subst, ℕ, ◌≤◌, nat_le, List, [], ◌∷◌, length, arith, Option, None, Some, IfSome}
 use Rattle.std.specs.List.{All}
-use Rattle.std.proofs.lemmas.Bool.{le-leb}
+use Rattle.std.specs.Option.{option_map_or}
+use Rattle.std.proofs.lemmas.Bool.{le-leb, leb-true}
 use Rattle.std.proofs.lemmas.List.{length-append, length-map}
 use Rattle.std.proofs.lemmas.List.Elements.{All-head}
 use Rattle.dnp_objects.specs.Objects.{objects, content_of, object_size}
@@ -11,7 +12,7 @@ use Rattle.dnp_objects.specs.declared.row.Kind.{Kind}
 use Rattle.dnp_objects.specs.declared.row.Kind.TheVariants.{Binary, Counter, Analog}
 use Rattle.dnp_appfragment.specs.Headers.{Head, number}
 use Rattle.dnp_appfragment.specs.Items.{Item as Object}
-use Rattle.dnp_appfragment.specs.Written.{is_point_group, point_variation}
+use Rattle.dnp_appfragment.specs.Written.{is_point_object}
 use Rattle.dnp_eventbuf.specs.Sound.{IsSound}
 use Rattle.dnp_outstation.specs.declared.offer.place.Place.{Place}
 use Rattle.dnp_outstation.specs.Items.{Thing, Item, Source, items_left}
@@ -23,6 +24,7 @@ use Rattle.dnp_outstation.proofs.Grows.{one_size}
 use Rattle.dnp_outstation.proofs.HeldItems.{held_longest}
 use Rattle.dnp_outstation.proofs.ItemsOf.{left_stand}
 use Rattle.dnp_outstation.proofs.Left.{left_none}
+use Rattle.dnp_outstation.proofs.PointObjects.{point_passes}
 use Rattle.dnp_outstation.proofs.Stretches.{laid_as}
 use Rattle.dnp_outstation.proofs.Written.{PutLaws, stands_alone}
 
@@ -40,26 +42,13 @@ event_short Counter None = omega arith
 event_short Analog (Some time) = omega arith
 event_short Analog None = omega arith
 
-point_short : (g : ℕ) → IsTrue (is_point_group g) → IsShort (object_size g (point_variation g))
+point_short : (g v : ℕ) → IsTrue (is_point_object g v) → IsShort (object_size g v)
 unfolding content_of objects
-point_short g is =
-    one 1 (1 == g) refl (omega arith) (λ a.
-    one 10 (10 == g) refl (omega arith) (λ b.
-    one 20 (20 == g) refl (omega arith) (λ c.
-    one 30 (30 == g) refl (omega arith) (λ d.
-    absurd (none (1 == g) (10 == g) (20 == g) (30 == g) a b c d is)))))
+point_short g v is = short (object_size g v) (point_passes (λ g v. option_map_or (λ n. nat_le n 11) (object_size g v) true) refl g v is)
   where
-    one : (n : ℕ) (b : Bool) → (n == g) ≡ b → IsShort (object_size n (point_variation n))
-        → (b ≡ false → IsShort (object_size g (point_variation g))) → IsShort (object_size g (point_variation g))
-    one n true same here rest = subst (λ (m : ℕ). IsShort (object_size m (point_variation m))) (eqb-true n g same) here
-    one n false same here rest = rest refl
-
-    none : (a b c d : Bool) → a ≡ false → b ≡ false → c ≡ false → d ≡ false → (a || (b || (c || (d || false)))) ≡ true → ⊥
-    none true b c d e f g h is = cc
-    none false true c d e f g h is = cc
-    none false false true d e f g h is = cc
-    none false false false true e f g h is = cc
-    none false false false false e f g h is = cc
+    short : (size : Option ℕ) → option_map_or (λ n. nat_le n 11) size true ≡ true → IsShort size
+    short None is = tt
+    short (Some n) is = leb-true n 11 is
 
 short_octets : (size : Option ℕ) (octets : List ℕ) → IsShort size → size ≡ Some (length octets) → length octets ≤ 11
 short_octets size octets short is = subst IsShort is short
@@ -73,7 +62,7 @@ short_object law x can =
     go : (h : ℕ) (thing : Thing) → CanStand (record { header = h; thing = thing })
         → IsShort (object_size (own_object thing).group (own_object thing).variation)
     go h (Event lane row) fits = event_short row.row.kind row.row.time
-    go h (Present static) fits = point_short static.group fits.0.group_is
+    go h (Present static) fits = point_short static.object.0 static.object.1 fits.0.object_is
 
 -- ---- so one item fits
 

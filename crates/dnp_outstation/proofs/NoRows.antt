@@ -7,15 +7,15 @@ use Rattle.dnp_eventbuf.specs.declared.numbered.Numbered.{Numbered}
 use Rattle.dnp_eventbuf.specs.Stock.{Stock, LaneState, no_lane, lane_at, is_full, dropped_from, dropped_by, lane_rows, rows_in, row_of, offered, up_to, lanes_up_to, all_up_to}
 
 -- two lists that are none together are none
-first_none : {A : Type 0} (xs ys : List A) → xs ++ ys ≡ [] → xs ≡ []
+pub first_none : {A : Type 0} (xs ys : List A) → xs ++ ys ≡ [] → xs ≡ []
 first_none [] ys none = refl
 first_none (x ∷ xs) ys none = absurd (cc)
 
-second_none : {A : Type 0} (xs ys : List A) → xs ++ ys ≡ [] → ys ≡ []
+pub second_none : {A : Type 0} (xs ys : List A) → xs ++ ys ≡ [] → ys ≡ []
 second_none [] ys none = none
 second_none (x ∷ xs) ys none = absurd (cc)
 
-none_mapped : (xs : List Numbered) → map row_of xs ≡ [] → xs ≡ []
+pub none_mapped : (xs : List Numbered) → map row_of xs ≡ [] → xs ≡ []
 none_mapped [] none = refl
 none_mapped (x ∷ xs) none = absurd (cc)
 

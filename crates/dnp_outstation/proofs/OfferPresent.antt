@@ -1,5 +1,5 @@
 -- Present values: those that a range names of a row of points, those that are skipped, and what their objects take.
-use Rattle.std.proofs.Common.{◌≡◌, ◌<◌, ◌≤◌, ℕ, zero, suc, ◌+◌, ◌-◌, ◌*◌, pos, None, Bool, true, false, ◌&&◌, cond, nat_le, nat_lt, List, [], ◌∷◌, ◌++◌}
+use Rattle.std.proofs.Common.{◌≡◌, ◌<◌, ◌≤◌, ℕ, zero, suc, ◌+◌, ◌-◌, ◌*◌, pos, None, Bool, true, false, IsTrue, ◌&&◌, cond, nat_le, nat_lt, List, [], ◌∷◌, ◌++◌}
 use Rattle.std.proofs.Common.{length, get_or, min, map, take, drop, fold, refl, sym, ap, subst, ◌∙◌, arith, append_assoc, append-nil}
 use Rattle.std.proofs.lemmas.Bool.Decides.{nat_tests}
 use Rattle.std.proofs.lemmas.List.{map-append, length-append, drop_more}
@@ -11,25 +11,27 @@ use Rattle.dnp_pointdb.specs.declared.state.PointState.{PointState}
 use Rattle.dnp_pointdb.specs.declared.state.BlockState.{BlockState}
 use Rattle.dnp_outstation.specs.declared.offer.writer.Writer.{Writer}
 use Rattle.dnp_outstation.specs.Items.{Item, Static, present_of, given_after, is_within, in_range, statics_from, statics_in, output_row, outputs_from}
-use Rattle.dnp_outstation.specs.Items.{statics_of, Source}
+use Rattle.dnp_outstation.specs.Items.{statics_of, each_static, Source}
 use Rattle.dnp_objects.specs.declared.row.Kind.{Kind}
 use Rattle.dnp_objects.specs.declared.row.Kind.TheVariants.{Binary, Counter, Analog}
 use Rattle.dnp_objects.specs.declared.row.Row.{Row}
 use Rattle.dnp_objects.specs.Rows.{Fits}
 use Rattle.dnp_objects.specs.Objects.{content_of, objects}
-use Rattle.dnp_appfragment.specs.Written.{FitsPoint}
+use Rattle.dnp_appfragment.specs.Written.{FitsPoint, is_point_object}
 use Rattle.dnp_pointdb.specs.Sound.{static_object}
 use Rattle.dnp_outstation.specs.steps.Filling.{fill, ended}
-use Rattle.dnp_outstation.specs.steps.Putting.{Puts, presents, group_of}
+use Rattle.dnp_outstation.specs.steps.Putting.{Puts, presents}
 
--- a row that a kind's static object takes can be put as a present value of its group
-static_fits : (kind : Kind) (row : Row) → Fits (static_object kind).0 (static_object kind).1 row → FitsPoint (group_of kind) row
-static_fits Binary row fits = record { group_is = refl; row_fits = fits }
-static_fits Counter row fits = record { group_is = refl; row_fits = fits }
-static_fits Analog row fits = record { group_is = refl; row_fits = fits }
+-- present values of a kind go as an object for present values, whatever variation was asked for
+static_is : (kind : Kind) (asked : ℕ) → IsTrue (is_point_object (static_object kind asked).0 (static_object kind asked).1)
+static_is Binary asked = refl
+static_is Counter asked = refl
+static_is Analog asked = refl
 
-pub point_fits : (kind : Kind) (row row' : Row) → row' ≡ row → Fits (static_object kind).0 (static_object kind).1 row → FitsPoint (group_of kind) row'
-point_fits kind row row' same fits = subst (λ (r : Row). FitsPoint (group_of kind) r) (sym same) (static_fits kind row fits)
+-- so a row that it takes can be put as it
+pub point_fits : (kind : Kind) (asked : ℕ) (row : Row) → Fits (static_object kind asked).0 (static_object kind asked).1 row
+    → FitsPoint (static_object kind asked).0 (static_object kind asked).1 row
+point_fits kind asked row fits = record { object_is = static_is kind asked; row_fits = fits }
 
 -- ---- places
 
@@ -65,34 +67,34 @@ next_after : (lo n place : ℕ) → is_of (suc lo) n (suc place) ≡ is_of lo n 
 next_after lo n place = grind (arith, nat_tests)
 
 -- the points that a range names, of those that begin with an index
-pub in_range_from : (r : Range) (group block : ℕ) (kind : Kind) (base at lo n : ℕ) (ps : List PointState)
+pub in_range_from : (r : Range) (asked block : ℕ) (kind : Kind) (base at lo n : ℕ) (ps : List PointState)
     → at ≡ base + lo → ((place : ℕ) → place < length ps → is_within r (base + place) ≡ is_of lo n place)
-    → in_range r (statics_from group block kind base ps) ≡ statics_from group block kind at (take n (drop lo ps))
-in_range_from r group block kind base at lo n [] there named = sym (ap (statics_from group block kind at) (none_cut lo n))
-in_range_from r group block kind base at zero zero (p ∷ ps) there named =
+    → in_range r (statics_from asked block kind base ps) ≡ statics_from asked block kind at (take n (drop lo ps))
+in_range_from r asked block kind base at lo n [] there named = sym (ap (statics_from asked block kind at) (none_cut lo n))
+in_range_from r asked block kind base at zero zero (p ∷ ps) there named =
     left_out (is_within r base) _ _ _ (ap (is_within r) (omega arith) ∙ named 0 (omega arith) ∙ none_of 0)
-    (in_range_from r group block kind (base + 1) (base + 1) zero zero ps (omega arith)
+    (in_range_from r asked block kind (base + 1) (base + 1) zero zero ps (omega arith)
     (λ place less. ap (is_within r) (omega arith) ∙ named (suc place) (omega arith) ∙ none_of (suc place) ∙ sym (none_of place)))
-in_range_from r group block kind base at zero (suc n) (p ∷ ps) there named =
+in_range_from r asked block kind base at zero (suc n) (p ∷ ps) there named =
     rw (let same : at ≡ base = omega arith in same)
     (kept (is_within r base) _ _ _ (ap (is_within r) (omega arith) ∙ named 0 (omega arith) ∙ first_of n)
-    (in_range_from r group block kind (base + 1) (base + 1) zero n ps (omega arith)
+    (in_range_from r asked block kind (base + 1) (base + 1) zero n ps (omega arith)
     (λ place less. ap (is_within r) (omega arith) ∙ named (suc place) (omega arith) ∙ next_of n place)))
-in_range_from r group block kind base at (suc lo) n (p ∷ ps) there named =
+in_range_from r asked block kind base at (suc lo) n (p ∷ ps) there named =
     left_out (is_within r base) _ _ _ (ap (is_within r) (omega arith) ∙ named 0 (omega arith) ∙ first_not lo n)
-    (in_range_from r group block kind (base + 1) at lo n ps (omega arith)
+    (in_range_from r asked block kind (base + 1) at lo n ps (omega arith)
     (λ place less. ap (is_within r) (omega arith) ∙ named (suc place) (omega arith) ∙ next_after lo n place))
 
 -- so many of them skipped
-pub drop_statics : (group block : ℕ) (kind : Kind) (base at k : ℕ) (ps : List PointState)
-    → at ≡ base + k → drop k (statics_from group block kind base ps) ≡ statics_from group block kind at (drop k ps)
-drop_statics group block kind base at zero ps there = rw (let same : at ≡ base = omega arith in same) refl
-drop_statics group block kind base at (suc k) [] there = refl
-drop_statics group block kind base at (suc k) (p ∷ ps) there = drop_statics group block kind (base + 1) at k ps (omega arith)
+pub drop_statics : (asked block : ℕ) (kind : Kind) (base at k : ℕ) (ps : List PointState)
+    → at ≡ base + k → drop k (statics_from asked block kind base ps) ≡ statics_from asked block kind at (drop k ps)
+drop_statics asked block kind base at zero ps there = rw (let same : at ≡ base = omega arith in same) refl
+drop_statics asked block kind base at (suc k) [] there = refl
+drop_statics asked block kind base at (suc k) (p ∷ ps) there = drop_statics asked block kind (base + 1) at k ps (omega arith)
 
-pub length_statics : (group block : ℕ) (kind : Kind) (base : ℕ) (ps : List PointState) → length (statics_from group block kind base ps) ≡ length ps
-length_statics group block kind base [] = refl
-length_statics group block kind base (p ∷ ps) = ap (λ (n : ℕ). suc n) (length_statics group block kind (base + 1) ps)
+pub length_statics : (asked block : ℕ) (kind : Kind) (base : ℕ) (ps : List PointState) → length (statics_from asked block kind base ps) ≡ length ps
+length_statics asked block kind base [] = refl
+length_statics asked block kind base (p ∷ ps) = ap (λ (n : ℕ). suc n) (length_statics asked block kind (base + 1) ps)
 
 -- ---- outputs
 
@@ -128,7 +130,7 @@ length_outputs status base (suc n) = ap (λ (k : ℕ). suc k) (length_outputs st
 -- the first of those that are left
 pub next_output : (status : ℕ → ℕ) (index end : ℕ) → index < end
     → outputs_from status index (end - index)
-    ≡ (let x : Static = record { group = 10; block = 0; row = output_row status index } in x) ∷ outputs_from status (index + 1) (end - (index + 1))
+    ≡ (let x : Static = record { object = (10, 2); block = 0; row = output_row status index } in x) ∷ outputs_from status (index + 1) (end - (index + 1))
 next_output status index end less = ap (outputs_from status index) (let more : end - index ≡ suc (end - (index + 1)) = omega arith in more)
 
 -- ---- lists, one after the other
@@ -147,26 +149,26 @@ drop_min (suc n) m (x ∷ xs) is =
     drop_min n (m - 1) xs (omega arith) ∙ ap (λ (k : ℕ). drop k (x ∷ xs)) (let same : suc (m - 1) ≡ m = omega arith in same)
 
 -- the points that a range names but for the first so many, of a block's
-pub named_left : (r : Range) (group block : ℕ) (kind : Kind) (base lo hi n skip passed at : ℕ) (ps : List PointState)
+pub named_left : (r : Range) (asked block : ℕ) (kind : Kind) (base lo hi n skip passed at : ℕ) (ps : List PointState)
     → hi ≡ lo + n → ((place : ℕ) → place < length ps → is_within r (base + place) ≡ (nat_le lo place && nat_lt place hi))
     → passed ≡ min skip (length (take n (drop lo ps))) → at ≡ base + lo + passed
-    → drop skip (in_range r (statics_from group block kind base ps)) ≡ statics_from group block kind at (drop passed (take n (drop lo ps)))
-named_left r group block kind base lo hi n skip passed at ps hi_is named passed_is at_is =
-    let all = in_range_from r group block kind base (base + lo) lo n ps refl
+    → drop skip (in_range r (statics_from asked block kind base ps)) ≡ statics_from asked block kind at (drop passed (take n (drop lo ps)))
+named_left r asked block kind base lo hi n skip passed at ps hi_is named passed_is at_is =
+    let all = in_range_from r asked block kind base (base + lo) lo n ps refl
     (λ place less. named place less ∙ ap (λ (h : ℕ). nat_le lo place && nat_lt place h) hi_is) in
     ap (drop skip) all
-    ∙ drop_min skip passed (statics_from group block kind (base + lo) (take n (drop lo ps)))
-    (passed_is ∙ ap (min skip) (sym (length_statics group block kind (base + lo) (take n (drop lo ps)))))
-    ∙ drop_statics group block kind (base + lo) at passed (take n (drop lo ps)) at_is
+    ∙ drop_min skip passed (statics_from asked block kind (base + lo) (take n (drop lo ps)))
+    (passed_is ∙ ap (min skip) (sym (length_statics asked block kind (base + lo) (take n (drop lo ps)))))
+    ∙ drop_statics asked block kind (base + lo) at passed (take n (drop lo ps)) at_is
 
 -- how many points a range names, of a block's
-pub length_named : (r : Range) (group block : ℕ) (kind : Kind) (base lo hi n : ℕ) (ps : List PointState)
+pub length_named : (r : Range) (asked block : ℕ) (kind : Kind) (base lo hi n : ℕ) (ps : List PointState)
     → hi ≡ lo + n → ((place : ℕ) → place < length ps → is_within r (base + place) ≡ (nat_le lo place && nat_lt place hi))
-    → length (in_range r (statics_from group block kind base ps)) ≡ length (take n (drop lo ps))
-length_named r group block kind base lo hi n ps hi_is named =
-    ap length (in_range_from r group block kind base (base + lo) lo n ps refl
+    → length (in_range r (statics_from asked block kind base ps)) ≡ length (take n (drop lo ps))
+length_named r asked block kind base lo hi n ps hi_is named =
+    ap length (in_range_from r asked block kind base (base + lo) lo n ps refl
     (λ place less. named place less ∙ ap (λ (h : ℕ). nat_le lo place && nat_lt place h) hi_is))
-    ∙ length_statics group block kind (base + lo) (take n (drop lo ps))
+    ∙ length_statics asked block kind (base + lo) (take n (drop lo ps))
 
 -- ---- items, one after the other
 
@@ -205,26 +207,26 @@ next_block blocks number block less is =
     drop_more blocks number block less ∙ ap (λ (b : BlockState). b ∷ drop (number + 1) blocks) (sym is)
 
 -- what a header asks for of the blocks from one on: first of it, then of those after it
-pub block_first : (header skip skip' : ℕ) (r : Range) (kind : Kind) (number : ℕ) (block : BlockState) (blocks : List BlockState)
+pub block_first : (header skip skip' : ℕ) (r : Range) (asked : ℕ) (kind : Kind) (number : ℕ) (block : BlockState) (blocks : List BlockState)
     → number < length blocks → block ≡ get_or blocks number block
-    → skip' ≡ skip - length (in_range r (statics_from (group_of kind) number kind block.base block.points))
-    → presents header skip (in_range r (statics_in (group_of kind) kind number (drop number blocks)))
-    ≡ presents header skip (in_range r (statics_from (group_of kind) number kind block.base block.points))
-    ++ presents header skip' (in_range r (statics_in (group_of kind) kind (number + 1) (drop (number + 1) blocks)))
-block_first header skip skip' r kind number block blocks less is skipped =
-    ap (λ (bs : List BlockState). presents header skip (in_range r (statics_in (group_of kind) kind number bs))) (next_block blocks number block less is)
-    ∙ presents_both header skip skip' r (statics_from (group_of kind) number kind block.base block.points)
-    (statics_in (group_of kind) kind (number + 1) (drop (number + 1) blocks)) skipped
+    → skip' ≡ skip - length (in_range r (statics_from asked number kind block.base block.points))
+    → presents header skip (in_range r (statics_in asked kind number (drop number blocks)))
+    ≡ presents header skip (in_range r (statics_from asked number kind block.base block.points))
+    ++ presents header skip' (in_range r (statics_in asked kind (number + 1) (drop (number + 1) blocks)))
+block_first header skip skip' r asked kind number block blocks less is skipped =
+    ap (λ (bs : List BlockState). presents header skip (in_range r (statics_in asked kind number bs))) (next_block blocks number block less is)
+    ∙ presents_both header skip skip' r (statics_from asked number kind block.base block.points)
+    (statics_in asked kind (number + 1) (drop (number + 1) blocks)) skipped
 
-pub block_skipped : (skip skip' : ℕ) (r : Range) (kind : Kind) (number : ℕ) (block : BlockState) (blocks : List BlockState)
+pub block_skipped : (skip skip' : ℕ) (r : Range) (asked : ℕ) (kind : Kind) (number : ℕ) (block : BlockState) (blocks : List BlockState)
     → number < length blocks → block ≡ get_or blocks number block
-    → skip' ≡ skip - length (in_range r (statics_from (group_of kind) number kind block.base block.points))
-    → skip - length (in_range r (statics_in (group_of kind) kind number (drop number blocks)))
-    ≡ skip' - length (in_range r (statics_in (group_of kind) kind (number + 1) (drop (number + 1) blocks)))
-block_skipped skip skip' r kind number block blocks less is skipped =
-    ap (λ (bs : List BlockState). skip - length (in_range r (statics_in (group_of kind) kind number bs))) (next_block blocks number block less is)
-    ∙ skipped_both skip skip' r (statics_from (group_of kind) number kind block.base block.points)
-    (statics_in (group_of kind) kind (number + 1) (drop (number + 1) blocks)) skipped
+    → skip' ≡ skip - length (in_range r (statics_from asked number kind block.base block.points))
+    → skip - length (in_range r (statics_in asked kind number (drop number blocks)))
+    ≡ skip' - length (in_range r (statics_in asked kind (number + 1) (drop (number + 1) blocks)))
+block_skipped skip skip' r asked kind number block blocks less is skipped =
+    ap (λ (bs : List BlockState). skip - length (in_range r (statics_in asked kind number bs))) (next_block blocks number block less is)
+    ∙ skipped_both skip skip' r (statics_from asked number kind block.base block.points)
+    (statics_in asked kind (number + 1) (drop (number + 1) blocks)) skipped
 
 -- ---- outputs that are left
 
@@ -264,21 +266,21 @@ unfolding content_of objects
 output_by_parts index flags value is = ap (λ (b : Bool). b && true) is
 
 -- an output's status can be put as a present value of group 10
-pub output_fits : (status : ℕ → ℕ) (index : ℕ) (row : Row) → status index < 256 → row ≡ output_row status index → FitsPoint 10 row
+pub output_fits : (status : ℕ → ℕ) (index : ℕ) (row : Row) → status index < 256 → row ≡ output_row status index → FitsPoint 10 2 row
 output_fits status index row small is =
-    subst (λ (r : Row). FitsPoint 10 r) (sym is) (record {
-      group_is = refl;
+    subst (λ (r : Row). FitsPoint 10 2 r) (sym is) (record {
+      object_is = refl;
       row_fits = output_by_parts index (status index - 128 * cond (nat_le 128 (status index)) 1 0) (cond (nat_le 128 (status index)) 1 0)
           (bit_and_rest (status index) small);
     })
 
 -- ---- groups, one after the other
 
-pub group_first : (header skip skip' : ℕ) (r : Range) (s : Source) (group : ℕ) (groups : List ℕ)
-    → skip' ≡ skip - length (in_range r (statics_of s group))
-    → presents header skip (in_range r (flat_map (statics_of s) (group ∷ groups)))
-    ≡ presents header skip (in_range r (statics_of s group)) ++ presents header skip' (in_range r (flat_map (statics_of s) groups))
-group_first header skip skip' r s group groups skipped = presents_both header skip skip' r (statics_of s group) (flat_map (statics_of s) groups) skipped
+pub group_first : (header skip skip' : ℕ) (r : Range) (s : Source) (asked group : ℕ) (groups : List ℕ)
+    → skip' ≡ skip - length (in_range r (statics_of s asked group))
+    → presents header skip (in_range r (flat_map (statics_of s asked) (group ∷ groups)))
+    ≡ presents header skip (in_range r (statics_of s asked group)) ++ presents header skip' (in_range r (flat_map (statics_of s asked) groups))
+group_first header skip skip' r s asked group groups skipped = presents_both header skip skip' r (statics_of s asked group) (flat_map (statics_of s asked) groups) skipped
 
 -- a range of all names each
 pub all_in_range : (statics : List Static) → in_range range.All statics ≡ statics
@@ -289,11 +291,11 @@ four : (a b c d : List Static) → a ++ (b ++ (c ++ (d ++ []))) ≡ ((a ++ b) ++
 four a b c d = simp (append_assoc, append-nil)
 
 -- the groups of all present values, in their order
-pub each_group : (s : Source) → in_range range.All (flat_map (statics_of s) (1 ∷ 10 ∷ 20 ∷ 30 ∷ []))
-    ≡ statics_of s 1 ++ statics_of s 10 ++ statics_of s 20 ++ statics_of s 30
+pub each_group : (s : Source) → in_range range.All (flat_map (statics_of s 0) (1 ∷ 10 ∷ 20 ∷ 30 ∷ []))
+    ≡ each_static s
 each_group s =
-    all_in_range (flat_map (statics_of s) (1 ∷ 10 ∷ 20 ∷ 30 ∷ []))
-    ∙ four (statics_of s 1) (statics_of s 10) (statics_of s 20) (statics_of s 30)
+    all_in_range (flat_map (statics_of s 0) (1 ∷ 10 ∷ 20 ∷ 30 ∷ []))
+    ∙ four (statics_of s 0 1) (statics_of s 0 10) (statics_of s 0 20) (statics_of s 0 30)
 
 -- present values are no rows of lanes
 given_by : (given : List ℕ) (header : ℕ) (statics : List Static) → given ≡ fold given_after given (map (present_of header) statics)

@@ -45,17 +45,17 @@ rows_in_order kind index (p ∷ ps) = (refl, rows_in_order kind (index + 1) ps)
 
 -- by the law that a sound point's reading fits its static object
 abbrev pub ReadingsFit : Type 0
-ReadingsFit = (kind : Kind) (index : ℕ) (reading : Reading) → is_carried kind reading ≡ true
-    → Fits (static_object kind).0 (static_object kind).1 (row_of kind index reading)
+ReadingsFit = (kind : Kind) (asked index : ℕ) (reading : Reading) → is_carried kind reading ≡ true
+    → Fits (static_object kind asked).0 (static_object kind asked).1 (row_of kind index reading)
 
-pub rows_fit : ReadingsFit → (kind : Kind) (index : ℕ) (ps : List PointState) → All (IsSoundPoint kind) ps
-    → All (FitsPoint (group_of kind)) (rows_from kind index ps)
-rows_fit law kind index [] sound = All-nil (FitsPoint (group_of kind))
-rows_fit law kind index (p ∷ ps) sound =
-    All-cons (FitsPoint (group_of kind)) (row_of kind index p.reading) (rows_from kind (index + 1) ps)
-    (point_fits kind (row_of kind index p.reading) (row_of kind index p.reading) refl
-    (law kind index p.reading (All-head (IsSoundPoint kind) p ps sound).carried))
-    (rows_fit law kind (index + 1) ps (λ k d less. sound (suc k) d (omega arith)))
+pub rows_fit : ReadingsFit → (kind : Kind) (asked index : ℕ) (ps : List PointState) → All (IsSoundPoint kind) ps
+    → All (FitsPoint (static_object kind asked).0 (static_object kind asked).1) (rows_from kind index ps)
+rows_fit law kind asked index [] sound = All-nil (FitsPoint (static_object kind asked).0 (static_object kind asked).1)
+rows_fit law kind asked index (p ∷ ps) sound =
+    All-cons (FitsPoint (static_object kind asked).0 (static_object kind asked).1) (row_of kind index p.reading) (rows_from kind (index + 1) ps)
+    (point_fits kind asked (row_of kind index p.reading)
+    (law kind asked index p.reading (All-head (IsSoundPoint kind) p ps sound).carried))
+    (rows_fit law kind asked (index + 1) ps (λ k d less. sound (suc k) d (omega arith)))
 
 -- ---- the place
 
@@ -81,8 +81,12 @@ place_stays place header =
 
 -- ---- what is put
 
+-- a row as the object that present values of its kind go as
+abbrev pub point_of : Kind → ℕ → Row → Head
+point_of kind asked row = point (static_object kind asked).0 (static_object kind asked).1 row
+
 abbrev pub heads_from : ℕ → Kind → ℕ → List PointState → List Head
-heads_from group kind index ps = map (point group) (rows_from kind index ps)
+heads_from asked kind index ps = map (point_of kind asked) (rows_from kind index ps)
 
 -- the writer once so many were put
 abbrev pub after_points : Writer → ℕ → ℕ → ℕ → Built → ℕ → Writer
@@ -96,10 +100,10 @@ Ends w header group block more all b n =
 
 -- the points of a block are put one by one as they are put at once, onto this
 abbrev pub PutsFrom : Writer → Built → ℕ → ℕ → ℕ → Kind → ℕ → List PointState → List Item → Type 0
-PutsFrom w b header group block kind index ps more =
-    fill w (map (present_of header) (statics_from group block kind index ps) ++ more)
-    ≡ Ends w header group block more (objects_put b (heads_from group kind index ps) == length ps)
-    (with_objects b (heads_from group kind index ps)) (objects_put b (heads_from group kind index ps))
+PutsFrom w b header asked block kind index ps more =
+    fill w (map (present_of header) (statics_from asked block kind index ps) ++ more)
+    ≡ Ends w header (group_of kind asked) block more (objects_put b (heads_from asked kind index ps) == length ps)
+    (with_objects b (heads_from asked kind index ps)) (objects_put b (heads_from asked kind index ps))
 
 same_block : (header group block : ℕ) → is_same_run (OfBlock header group block) (OfBlock header group block) ≡ true
 same_block header group block = (λ i. eq-eqb header header refl i && (eq-eqb group group refl i && eq-eqb block block refl i))
@@ -116,19 +120,19 @@ no_count : (m : ℕ) → (0 == suc m) ≡ false
 no_count m = grind (arith, nat_tests)
 
 -- the first is put, and so are the others after it
-first_put : (w : Writer) (b : Built) (header group block : ℕ) (kind : Kind) (index : ℕ) (p : PointState) (ps : List PointState) (more : List Item)
-    → built_for w (OfBlock header group block) ≡ b → nat_le (size (with_object b (point group (row_of kind index p.reading)))) MAX_FRAGMENT ≡ true
-    → ((w' : Writer) → w'.run ≡ OfBlock header group block → passed_by w'.place header 0 ≡ w'.place
-    → PutsFrom w' w'.builder header group block kind (index + 1) ps more)
-    → PutsFrom w b header group block kind index (p ∷ ps) more
-first_put w b header group block kind index p ps more built_is fit others =
-    let h = point group (row_of kind index p.reading) in
-    let hs = heads_from group kind (index + 1) ps in
-    let x = present_of header (static_at group block kind index p) in
-    let rest = map (present_of header) (statics_from group block kind (index + 1) ps) ++ more in
-    let w' : Writer = record { builder = with_object b h; run = OfBlock header group block; place = passed w.place header; upto = w.upto } in
+first_put : (w : Writer) (b : Built) (header asked block : ℕ) (kind : Kind) (index : ℕ) (p : PointState) (ps : List PointState) (more : List Item)
+    → built_for w (OfBlock header (group_of kind asked) block) ≡ b → nat_le (size (with_object b (point_of kind asked (row_of kind index p.reading)))) MAX_FRAGMENT ≡ true
+    → ((w' : Writer) → w'.run ≡ OfBlock header (group_of kind asked) block → passed_by w'.place header 0 ≡ w'.place
+    → PutsFrom w' w'.builder header asked block kind (index + 1) ps more)
+    → PutsFrom w b header asked block kind index (p ∷ ps) more
+first_put w b header asked block kind index p ps more built_is fit others =
+    let h = point_of kind asked (row_of kind index p.reading) in
+    let hs = heads_from asked kind (index + 1) ps in
+    let x = present_of header (static_at asked block kind index p) in
+    let rest = map (present_of header) (statics_from asked block kind (index + 1) ps) ++ more in
+    let w' : Writer = record { builder = with_object b h; run = OfBlock header (group_of kind asked) block; place = passed w.place header; upto = w.upto } in
     let put_is : put w x ≡ w' =
-    (λ i. record { builder = with_object (built_is i) h; run = OfBlock header group block; place = passed w.place header; upto = w.upto }) in
+    (λ i. record { builder = with_object (built_is i) h; run = OfBlock header (group_of kind asked) block; place = passed w.place header; upto = w.upto }) in
     let n = objects_put (with_object b h) hs in
     let b' = with_objects (with_object b h) hs in
     let count : n + 1 ≡ objects_put b (h ∷ hs) = sym (ap (λ (t : Bool). cond t (n + 1) 0) fit) in
@@ -139,67 +143,67 @@ first_put w b header group block kind index p ps more built_is fit others =
     ∙ ap (λ (t : Bool). cond t (fill w' rest) (ended false w)) fit
     ∙ others w' refl (place_stays w.place header)
     ∙ (λ i.
-    let y : Writer = record { builder = b'; run = OfBlock header group block; place = place_more w.place header n i; upto = w.upto } in
+    let y : Writer = record { builder = b'; run = OfBlock header (group_of kind asked) block; place = place_more w.place header n i; upto = w.upto } in
     cond (n == length ps) (fill y more) (ended false y))
-    ∙ (λ i. Ends w header group block more (all i) (builder i) (count i))
+    ∙ (λ i. Ends w header (group_of kind asked) block more (all i) (builder i) (count i))
 
 -- the first doesn't fit
-none_put : (w : Writer) (b : Built) (header group block : ℕ) (kind : Kind) (index : ℕ) (p : PointState) (ps : List PointState) (more : List Item)
-    → built_for w (OfBlock header group block) ≡ b → nat_le (size (with_object b (point group (row_of kind index p.reading)))) MAX_FRAGMENT ≡ false
-    → fill w (map (present_of header) (statics_from group block kind index (p ∷ ps)) ++ more) ≡ ended false w
-none_put w b header group block kind index p ps more built_is full =
-    let x = present_of header (static_at group block kind index p) in
-    let rest = map (present_of header) (statics_from group block kind (index + 1) ps) ++ more in
-    ap (λ (y : Built). cond (nat_le (size (with_object y (point group (row_of kind index p.reading)))) MAX_FRAGMENT) (fill (put w x) rest) (ended false w))
+none_put : (w : Writer) (b : Built) (header asked block : ℕ) (kind : Kind) (index : ℕ) (p : PointState) (ps : List PointState) (more : List Item)
+    → built_for w (OfBlock header (group_of kind asked) block) ≡ b → nat_le (size (with_object b (point_of kind asked (row_of kind index p.reading)))) MAX_FRAGMENT ≡ false
+    → fill w (map (present_of header) (statics_from asked block kind index (p ∷ ps)) ++ more) ≡ ended false w
+none_put w b header asked block kind index p ps more built_is full =
+    let x = present_of header (static_at asked block kind index p) in
+    let rest = map (present_of header) (statics_from asked block kind (index + 1) ps) ++ more in
+    ap (λ (y : Built). cond (nat_le (size (with_object y (point_of kind asked (row_of kind index p.reading)))) MAX_FRAGMENT) (fill (put w x) rest) (ended false w))
     built_is
     ∙ ap (λ (t : Bool). cond t (fill (put w x) rest) (ended false w)) full
 
-put_behind : (w : Writer) (header group block : ℕ) (kind : Kind) (index : ℕ) (ps : List PointState) (more : List Item)
-    → w.run ≡ OfBlock header group block → passed_by w.place header 0 ≡ w.place → PutsFrom w w.builder header group block kind index ps more
-put_behind w header group block kind index [] more run_is place_is =
+put_behind : (w : Writer) (header asked block : ℕ) (kind : Kind) (index : ℕ) (ps : List PointState) (more : List Item)
+    → w.run ≡ OfBlock header (group_of kind asked) block → passed_by w.place header 0 ≡ w.place → PutsFrom w w.builder header asked block kind index ps more
+put_behind w header asked block kind index [] more run_is place_is =
     (λ i. fill (record { builder = w.builder; run = run_is i; place = sym place_is i; upto = w.upto }) more)
-put_behind w header group block kind index (p ∷ ps) more run_is place_is =
-    by_test (nat_le (size (with_object w.builder (point group (row_of kind index p.reading)))) MAX_FRAGMENT) refl
-    (λ w' run_is' place_is'. put_behind w' header group block kind (index + 1) ps more run_is' place_is')
+put_behind w header asked block kind index (p ∷ ps) more run_is place_is =
+    by_test (nat_le (size (with_object w.builder (point_of kind asked (row_of kind index p.reading)))) MAX_FRAGMENT) refl
+    (λ w' run_is' place_is'. put_behind w' header asked block kind (index + 1) ps more run_is' place_is')
   where
     h : Head
-    h = point group (row_of kind index p.reading)
+    h = point_of kind asked (row_of kind index p.reading)
 
     hs : List Head
-    hs = heads_from group kind (index + 1) ps
+    hs = heads_from asked kind (index + 1) ps
 
-    by_test : (t : Bool) → nat_le (size (with_object w.builder (point group (row_of kind index p.reading)))) MAX_FRAGMENT ≡ t
-        → ((w' : Writer) → w'.run ≡ OfBlock header group block → passed_by w'.place header 0 ≡ w'.place
-        → PutsFrom w' w'.builder header group block kind (index + 1) ps more)
-        → PutsFrom w w.builder header group block kind index (p ∷ ps) more
+    by_test : (t : Bool) → nat_le (size (with_object w.builder (point_of kind asked (row_of kind index p.reading)))) MAX_FRAGMENT ≡ t
+        → ((w' : Writer) → w'.run ≡ OfBlock header (group_of kind asked) block → passed_by w'.place header 0 ≡ w'.place
+        → PutsFrom w' w'.builder header asked block kind (index + 1) ps more)
+        → PutsFrom w w.builder header asked block kind index (p ∷ ps) more
     by_test true fit others =
-        first_put w w.builder header group block kind index p ps more (built_same w header group block run_is) fit others
+        first_put w w.builder header asked block kind index p ps more (built_same w header (group_of kind asked) block run_is) fit others
     by_test false full others =
-        none_put w w.builder header group block kind index p ps more (built_same w header group block run_is) full
+        none_put w w.builder header asked block kind index p ps more (built_same w header (group_of kind asked) block run_is) full
         ∙ (λ i. ended false (record { builder = w.builder; run = run_is i; place = sym place_is i; upto = w.upto }))
-        ∙ (λ i. Ends w header group block more (sym (no_count (length ps)) i) w.builder 0)
-        ∙ (λ i. Ends w header group block more (sym (ap (λ (t : Bool). cond t (objects_put (with_object w.builder h) hs + 1) 0) full) i == suc (length ps))
+        ∙ (λ i. Ends w header (group_of kind asked) block more (sym (no_count (length ps)) i) w.builder 0)
+        ∙ (λ i. Ends w header (group_of kind asked) block more (sym (ap (λ (t : Bool). cond t (objects_put (with_object w.builder h) hs + 1) 0) full) i == suc (length ps))
         (sym (ap (λ (t : Bool). cond t (with_objects (with_object w.builder h) hs) w.builder) full) i)
         (sym (ap (λ (t : Bool). cond t (objects_put (with_object w.builder h) hs + 1) 0) full) i))
 
 -- ---- from any writer
 
 -- some are put
-pub some_puts : (w : Writer) (header group block : ℕ) (kind : Kind) (index : ℕ) (ps : List PointState) (more : List Item)
-    → 0 < objects_put (built_for w (OfBlock header group block)) (heads_from group kind index ps)
-    → PutsFrom w (built_for w (OfBlock header group block)) header group block kind index ps more
-some_puts w header group block kind index [] more some = absurd (omega arith)
-some_puts w header group block kind index (p ∷ ps) more some =
-    by_test (nat_le (size (with_object (built_for w (OfBlock header group block)) (point group (row_of kind index p.reading)))) MAX_FRAGMENT) refl
+pub some_puts : (w : Writer) (header asked block : ℕ) (kind : Kind) (index : ℕ) (ps : List PointState) (more : List Item)
+    → 0 < objects_put (built_for w (OfBlock header (group_of kind asked) block)) (heads_from asked kind index ps)
+    → PutsFrom w (built_for w (OfBlock header (group_of kind asked) block)) header asked block kind index ps more
+some_puts w header asked block kind index [] more some = absurd (omega arith)
+some_puts w header asked block kind index (p ∷ ps) more some =
+    by_test (nat_le (size (with_object (built_for w (OfBlock header (group_of kind asked) block)) (point_of kind asked (row_of kind index p.reading)))) MAX_FRAGMENT) refl
   where
-    by_test : (t : Bool) → nat_le (size (with_object (built_for w (OfBlock header group block)) (point group (row_of kind index p.reading)))) MAX_FRAGMENT ≡ t
-        → PutsFrom w (built_for w (OfBlock header group block)) header group block kind index (p ∷ ps) more
+    by_test : (t : Bool) → nat_le (size (with_object (built_for w (OfBlock header (group_of kind asked) block)) (point_of kind asked (row_of kind index p.reading)))) MAX_FRAGMENT ≡ t
+        → PutsFrom w (built_for w (OfBlock header (group_of kind asked) block)) header asked block kind index (p ∷ ps) more
     by_test true fit =
-        first_put w (built_for w (OfBlock header group block)) header group block kind index p ps more refl fit
-        (λ w' run_is place_is. put_behind w' header group block kind (index + 1) ps more run_is place_is)
+        first_put w (built_for w (OfBlock header (group_of kind asked) block)) header asked block kind index p ps more refl fit
+        (λ w' run_is place_is. put_behind w' header asked block kind (index + 1) ps more run_is place_is)
     by_test false full =
-        let b' = with_object (built_for w (OfBlock header group block)) (point group (row_of kind index p.reading)) in
-        let zero = ap (λ (t : Bool). cond t (objects_put b' (heads_from group kind (index + 1) ps) + 1) 0) full in
+        let b' = with_object (built_for w (OfBlock header (group_of kind asked) block)) (point_of kind asked (row_of kind index p.reading)) in
+        let zero = ap (λ (t : Bool). cond t (objects_put b' (heads_from asked kind (index + 1) ps) + 1) 0) full in
         absurd (omega (arith, some, zero))
 
 built_heads : (t : Bool) (b : Built) → heads (cond t b (broken b)) ≡ heads b
@@ -211,25 +215,25 @@ abbrev pub ended_with : Writer → Built → Filled
 ended_with w b = record { headers = heads b; upto = w.upto; left = Some w.place }
 
 -- none is
-pub none_puts : (w : Writer) (header group block : ℕ) (kind : Kind) (index : ℕ) (ps : List PointState) (more : List Item) → 0 < length ps
-    → objects_put (built_for w (OfBlock header group block)) (heads_from group kind index ps) ≡ 0
-    → fill w (map (present_of header) (statics_from group block kind index ps) ++ more)
-    ≡ ended_with w (with_objects (built_for w (OfBlock header group block)) (heads_from group kind index ps))
-none_puts w header group block kind index [] more some none = absurd (omega arith)
-none_puts w header group block kind index (p ∷ ps) more some none =
-    by_test (nat_le (size (with_object (built_for w (OfBlock header group block)) (point group (row_of kind index p.reading)))) MAX_FRAGMENT) refl
+pub none_puts : (w : Writer) (header asked block : ℕ) (kind : Kind) (index : ℕ) (ps : List PointState) (more : List Item) → 0 < length ps
+    → objects_put (built_for w (OfBlock header (group_of kind asked) block)) (heads_from asked kind index ps) ≡ 0
+    → fill w (map (present_of header) (statics_from asked block kind index ps) ++ more)
+    ≡ ended_with w (with_objects (built_for w (OfBlock header (group_of kind asked) block)) (heads_from asked kind index ps))
+none_puts w header asked block kind index [] more some none = absurd (omega arith)
+none_puts w header asked block kind index (p ∷ ps) more some none =
+    by_test (nat_le (size (with_object (built_for w (OfBlock header (group_of kind asked) block)) (point_of kind asked (row_of kind index p.reading)))) MAX_FRAGMENT) refl
   where
-    by_test : (t : Bool) → nat_le (size (with_object (built_for w (OfBlock header group block)) (point group (row_of kind index p.reading)))) MAX_FRAGMENT ≡ t
-        → fill w (map (present_of header) (statics_from group block kind index (p ∷ ps)) ++ more)
-        ≡ ended_with w (with_objects (built_for w (OfBlock header group block)) (heads_from group kind index (p ∷ ps)))
+    by_test : (t : Bool) → nat_le (size (with_object (built_for w (OfBlock header (group_of kind asked) block)) (point_of kind asked (row_of kind index p.reading)))) MAX_FRAGMENT ≡ t
+        → fill w (map (present_of header) (statics_from asked block kind index (p ∷ ps)) ++ more)
+        ≡ ended_with w (with_objects (built_for w (OfBlock header (group_of kind asked) block)) (heads_from asked kind index (p ∷ ps)))
     by_test true fit =
-        let b' = with_object (built_for w (OfBlock header group block)) (point group (row_of kind index p.reading)) in
-        let one = ap (λ (t : Bool). cond t (objects_put b' (heads_from group kind (index + 1) ps) + 1) 0) fit in
+        let b' = with_object (built_for w (OfBlock header (group_of kind asked) block)) (point_of kind asked (row_of kind index p.reading)) in
+        let one = ap (λ (t : Bool). cond t (objects_put b' (heads_from asked kind (index + 1) ps) + 1) 0) fit in
         absurd (omega (arith, none, one))
     by_test false full =
-        let b = built_for w (OfBlock header group block) in
-        let b' = with_object b (point group (row_of kind index p.reading)) in
-        let stays = ap (λ (t : Bool). cond t (with_objects b' (heads_from group kind (index + 1) ps)) b) full in
-        none_put w b header group block kind index p ps more refl full
-        ∙ (λ i. record { headers = sym (built_heads (is_same_run w.run (OfBlock header group block)) w.builder) i; upto = w.upto; left = Some w.place })
+        let b = built_for w (OfBlock header (group_of kind asked) block) in
+        let b' = with_object b (point_of kind asked (row_of kind index p.reading)) in
+        let stays = ap (λ (t : Bool). cond t (with_objects b' (heads_from asked kind (index + 1) ps)) b) full in
+        none_put w b header asked block kind index p ps more refl full
+        ∙ (λ i. record { headers = sym (built_heads (is_same_run w.run (OfBlock header (group_of kind asked) block)) w.builder) i; upto = w.upto; left = Some w.place })
         ∙ ap (ended_with w) (sym stays)

@@ -17,6 +17,7 @@ use Rattle.dnp_outstation.specs.Offer.{held_of}
 use Rattle.dnp_outstation.specs.Said.{event_in, events_in}
 use Rattle.dnp_outstation.proofs.Carried.{lane_rises}
 use Rattle.dnp_outstation.proofs.HeldItems.{held_whole}
+use Rattle.dnp_outstation.proofs.NoRows.{first_none, second_none, none_mapped}
 use Rattle.dnp_outstation.proofs.Rising.{Rising, upto, upto_none}
 use Rattle.dnp_outstation.specs.Polled.{are_all_polled, polled_ids, polled_items, polled_rows}
 use Rattle.dnp_outstation.proofs.PolledOrder.{events_of_lane, released_is}
@@ -45,18 +46,6 @@ no_rows_polled s sound none =
     ∙ none_up_to s.lanes (polled_ids s) (λ k low. lane_rises s k sound (omega (arith, low, sound.nine))) none
 
 -- ---- no rows at all
-
-first_none : {A : Type 0} (xs ys : List A) → xs ++ ys ≡ [] → xs ≡ []
-first_none [] ys none = refl
-first_none (x ∷ xs) ys none = absurd (cc)
-
-second_none : {A : Type 0} (xs ys : List A) → xs ++ ys ≡ [] → ys ≡ []
-second_none [] ys none = none
-second_none (x ∷ xs) ys none = absurd (cc)
-
-none_mapped : (xs : List Numbered) → map row_of xs ≡ [] → xs ≡ []
-none_mapped [] none = refl
-none_mapped (x ∷ xs) none = absurd (cc)
 
 abbrev AreEmpty : Stock → List ℕ → Type 0
 AreEmpty s [] = Unit {0}

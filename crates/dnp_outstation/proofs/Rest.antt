@@ -11,7 +11,7 @@ use Rattle.dnp_outstation.proofs.Rising.{Rising}
 
 -- ---- the first of a beginning
 
--- the first row was given: of so many at most one less
+-- the first row was given: one less at most is left
 record Cut (most : Option ℕ) (rows : List Numbered) (r : Numbered) (rs : List Numbered) : Type 0 where
   pub others : List Numbered
   pub is : rows ≡ r ∷ others

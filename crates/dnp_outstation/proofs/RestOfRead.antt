@@ -11,7 +11,7 @@ use Rattle.dnp_appfragment.specs.Headers.{Head, NumbersFit, AreHeaders, begin}
 use Rattle.dnp_eventbuf.specs.Sound.{IsSound}
 use Rattle.dnp_objects.specs.declared.limits.TheConstants.{LANES}
 use Rattle.dnp_outstation.specs.declared.offer.place.Place.{Place}
-use Rattle.dnp_outstation.specs.Items.{Source, Static, Item, Part, class_lanes, kind_lanes, statics_of, in_range, is_within, limit_of, less, event_items, part_of, present_of, given_after, place_after, part_items, items_of, part_after, parts_left, items_left}
+use Rattle.dnp_outstation.specs.Items.{Source, Static, Item, Part, class_lanes, kind_lanes, statics_of, each_static, in_range, is_within, limit_of, less, event_items, part_of, present_of, given_after, place_after, part_items, items_of, part_after, parts_left, items_left}
 use Rattle.dnp_outstation.specs.Items.Part.{RowsOf, StaticsOf}
 use Rattle.dnp_outstation.specs.Laws.{AreFewPresent, AreHeldFrom}
 use Rattle.dnp_outstation.specs.Offer.{held_of, offered_of, offered}
@@ -62,17 +62,17 @@ part_few s h few fit =
     (either (h.group == 2) _ _ (few_rows (kind_lanes 0) h.range fit)
     (either (h.group == 22) _ _ (few_rows (kind_lanes 1) h.range fit)
     (either (h.group == 32) _ _ (few_rows (kind_lanes 2) h.range fit)
-    (either (h.group == 60) _ _ all_few (in_range_few h.range (statics_of s h.group) (few h.group))))))))
+    (either (h.group == 60) _ _ all_few (in_range_few h.range (statics_of s h.variation h.group) (few h.variation h.group))))))))
   where
-    all_few : length (statics_of s 1 ++ statics_of s 10 ++ statics_of s 20 ++ statics_of s 30) ≤ MOST
+    all_few : length (each_static s) ≤ MOST
     all_few =
-        let a = length-append (statics_of s 1) (statics_of s 10) in
-        let b = length-append (statics_of s 1 ++ statics_of s 10) (statics_of s 20) in
-        let c = length-append (statics_of s 1 ++ statics_of s 10 ++ statics_of s 20) (statics_of s 30) in
-        let one = few 1 in
-        let ten = few 10 in
-        let twenty = few 20 in
-        let thirty = few 30 in
+        let a = length-append (statics_of s 0 1) (statics_of s 0 10) in
+        let b = length-append (statics_of s 0 1 ++ statics_of s 0 10) (statics_of s 0 20) in
+        let c = length-append (statics_of s 0 1 ++ statics_of s 0 10 ++ statics_of s 0 20) (statics_of s 0 30) in
+        let one = few 0 1 in
+        let ten = few 0 10 in
+        let twenty = few 0 20 in
+        let thirty = few 0 30 in
         omega arith
 
     in_range_few : (r : Range) (statics : List Static) → length statics ≤ 2 ^ 16 → length (in_range r statics) ≤ MOST

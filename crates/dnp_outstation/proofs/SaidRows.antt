@@ -12,11 +12,12 @@ use Rattle.dnp_appfragment.specs.EventRows.{header_rows, is_event_group, is_even
 use Rattle.dnp_appfragment.specs.Headers.{Head, count_of}
 use Rattle.dnp_appfragment.specs.Items.{Item as Object, IsOf, Holds, HoldAll, event_item}
 use Rattle.dnp_appfragment.specs.Meaning.{row_in}
-use Rattle.dnp_appfragment.specs.Written.{is_point_group}
+use Rattle.dnp_appfragment.specs.Written.{is_point_object}
 use Rattle.dnp_outstation.specs.Items.{Thing}
 use Rattle.dnp_outstation.specs.Items.Thing.{Event, Present}
 use Rattle.dnp_outstation.specs.Layout.{Laid, item_of, object_of}
 use Rattle.dnp_outstation.specs.Said.{event_in, events_in, CanGo}
+use Rattle.dnp_outstation.proofs.PointObjects.{point_passes}
 use Rattle.dnp_outstation.proofs.Stretches.{laid_as}
 
 -- by the laws of what is held and read: an event that a header holds is the row that is said at its place
@@ -44,24 +45,12 @@ event_in_group Counter None = refl
 event_in_group Analog (Some time) = refl
 event_in_group Analog None = refl
 
-not_event_group : (g : ℕ) → IsTrue (is_point_group g) → is_event_group g ≡ false
-not_event_group g is =
-    one 1 (1 == g) refl refl (λ a.
-    one 10 (10 == g) refl refl (λ b.
-    one 20 (20 == g) refl refl (λ c.
-    one 30 (30 == g) refl refl (λ d.
-    absurd (none (1 == g) (10 == g) (20 == g) (30 == g) a b c d is)))))
+not_event_group : (g v : ℕ) → IsTrue (is_point_object g v) → is_event_group g ≡ false
+not_event_group g v is = not_so (is_event_group g) (point_passes (λ g v. if is_event_group g then false else true) refl g v is)
   where
-    one : (n : ℕ) (b : Bool) → (n == g) ≡ b → is_event_group n ≡ false → (b ≡ false → is_event_group g ≡ false) → is_event_group g ≡ false
-    one n true same here rest = subst (λ (m : ℕ). is_event_group m ≡ false) (eqb-true n g same) here
-    one n false same here rest = rest refl
-
-    none : (a b c d : Bool) → a ≡ false → b ≡ false → c ≡ false → d ≡ false → (a || (b || (c || (d || false)))) ≡ true → ⊥
-    none true b c d e e' e'' e''' is = cc
-    none false true c d e e' e'' e''' is = cc
-    none false false true d e e' e'' e''' is = cc
-    none false false false true e e' e'' e''' is = cc
-    none false false false false e e' e'' e''' is = cc
+    not_so : (b : Bool) → (if b then false else true) ≡ true → b ≡ false
+    not_so true is = cc
+    not_so false is = refl
 
 -- an item of a header of event objects is an event, and one of another isn't
 abbrev IsOne : Bool → Laid → Type 0
@@ -83,7 +72,7 @@ one_of h x b is can of = go x.item.header x.item.thing b is can of
         ∙ event_in_group row.row.kind row.row.time in let f : true ≡ false = sym t ∙ is in cc)
     go header (Present static) true is can of =
         absurd (let t : is_event_header h ≡ false = ap is_event_group (sym of.group ∙ ap (λ (o : Object). o.group) can.says)
-        ∙ not_event_group static.group can.stands.0.group_is in let f : false ≡ true = sym t ∙ is in cc)
+        ∙ not_event_group static.object.0 static.object.1 can.stands.0.object_is in let f : false ≡ true = sym t ∙ is in cc)
     go header (Present static) false is can of = refl
 
 all_one_of : (h : Head) (xs : List Laid) (b : Bool) → is_event_header h ≡ b → AllByRecursion CanGo xs → AllByRecursion (IsOf h) (map object_of xs)

@@ -25,12 +25,13 @@ use Rattle.dnp_outstation.proofs.Taken.{Holds, heads_are, empty_holds, put_is, p
 -- what the laws of dnp_appfragment say of rows that are put
 pub record PutLaws : Type 0 where
   pub event_stands : (row : Row) → IsEvent row → IsHeader form.Response (event row) × IsSome (object_size (event row).group (event row).variation)
-  pub point_stands : (group : ℕ) (row : Row) → FitsPoint group row → row.index < 2 ^ 16
-      → IsHeader form.Response (point group row) × IsSome (object_size (point group row).group (point group row).variation)
+  pub point_stands : (group variation : ℕ) (row : Row) → FitsPoint group variation row → row.index < 2 ^ 16
+      → IsHeader form.Response (point group variation row) × IsSome (object_size group variation)
   pub object_stands : (built : Built) (object : Head) → IsHeader form.Response object → IsSome (object_size object.group object.variation)
       → AreHeaders form.Response begin (heads built) → AreHeaders form.Response begin (heads (with_object built object))
   pub event_holds : (row : Row) → IsEvent row → row.index < 2 ^ 16 → HoldsObjects (event row) (event_item row ∷ [])
-  pub point_holds : (group : ℕ) (row : Row) → FitsPoint group row → HoldsObjects (point group row) (point_item group row ∷ [])
+  pub point_holds : (group variation : ℕ) (row : Row) → FitsPoint group variation row
+      → HoldsObjects (point group variation row) (point_item group variation row ∷ [])
   pub object_held : (built : Built) (header : Head) (object : Object) (objects : List Object) → HoldsObjects header (object ∷ [])
       → HoldAll (heads built) objects → HoldAll (heads (with_object built header)) (objects ++ object ∷ [])
 
@@ -50,8 +51,8 @@ stands_alone law x can =
         let stands = law.event_stands row.row fits.0 in
         record { header = stands.0; sized = stands.1; holds = law.event_holds row.row fits.0 fits.1 }
     go h (Present static) fits =
-        let stands = law.point_stands static.group static.row fits.0 fits.1 in
-        record { header = stands.0; sized = stands.1; holds = law.point_holds static.group static.row fits.0 }
+        let stands = law.point_stands static.object.0 static.object.1 static.row fits.0 fits.1 in
+        record { header = stands.0; sized = stands.1; holds = law.point_holds static.object.0 static.object.1 static.row fits.0 }
 
 -- ---- all items
 

@@ -12,6 +12,7 @@ use Rattle.dnp_pointdb.specs.declared.state.PointState.{PointState}
 use Rattle.dnp_pointdb.specs.declared.state.BlockState.{BlockState}
 use Rattle.dnp_pointdb.specs.Database.{Database, blocks_of, state_at}
 use Rattle.dnp_pointdb.specs.Events.{row_of}
+use Rattle.dnp_pointdb.specs.Sound.{static_object}
 use Rattle.dnp_eventbuf.specs.declared.numbered.Numbered.{Numbered}
 use Rattle.dnp_eventbuf.specs.Stock.{Stock, lane_at, last_of}
 use Rattle.dnp_controls.specs.Panel.{Panel}
@@ -25,24 +26,25 @@ pub record Source : Type 0 where
 
 -- ---- present values
 
--- a present value: its group and block, and its row
+-- a present value: the object as which it goes, by group and variation, its block, and its row
 pub record Static : Type 0 where
-  pub group : ℕ
+  pub object : ℕ × ℕ
   pub block : ℕ
   pub row : Row
 
+-- of a point, where this variation was asked for, 0 for any
 abbrev pub static_at : ℕ → ℕ → Kind → ℕ → PointState → Static
-static_at group block kind index p = record { group = group; block = block; row = row_of kind index p.reading }
+static_at asked block kind index p = record { object = static_object kind asked; block = block; row = row_of kind index p.reading }
 
 -- the points of a block, of which the first has this index
 abbrev pub statics_from : ℕ → ℕ → Kind → ℕ → List PointState → List Static
-statics_from group block kind index [] = []
-statics_from group block kind index (p ∷ ps) = static_at group block kind index p ∷ statics_from group block kind (index + 1) ps
+statics_from asked block kind index [] = []
+statics_from asked block kind index (p ∷ ps) = static_at asked block kind index p ∷ statics_from asked block kind (index + 1) ps
 
 -- the points of blocks, of which the first has this number
 abbrev pub statics_in : ℕ → Kind → ℕ → List BlockState → List Static
-statics_in group kind block [] = []
-statics_in group kind block (b ∷ bs) = statics_from group block kind b.base b.points ++ statics_in group kind (block + 1) bs
+statics_in asked kind block [] = []
+statics_in asked kind block (b ∷ bs) = statics_from asked block kind b.base b.points ++ statics_in asked kind (block + 1) bs
 
 -- an output's status: its value is bit 7 of the flags
 abbrev pub output_row : (ℕ → ℕ) → ℕ → Row
@@ -50,16 +52,20 @@ output_row status index = record { kind = Binary; index = index; flags = status 
 
 abbrev pub outputs_from : (ℕ → ℕ) → ℕ → ℕ → List Static
 outputs_from status index zero = []
-outputs_from status index (suc more) = (record { group = 10; block = 0; row = output_row status index }) ∷ outputs_from status (index + 1) more
+outputs_from status index (suc more) = (record { object = (10, 2); block = 0; row = output_row status index }) ∷ outputs_from status (index + 1) more
 
--- the present values of a group in the plan's order
-abbrev pub statics_of : Source → ℕ → List Static
-statics_of s group =
-    if group == 1 then statics_in 1 Binary 0 (blocks_of s.points Binary)
+-- the present values of a group in the plan's order, where this variation of it was asked for, 0 for any
+abbrev pub statics_of : Source → ℕ → ℕ → List Static
+statics_of s asked group =
+    if group == 1 then statics_in asked Binary 0 (blocks_of s.points Binary)
     else if group == 10 then outputs_from s.panel.status 0 s.panel.outputs
-    else if group == 20 then statics_in 20 Counter 0 (blocks_of s.points Counter)
-    else if group == 30 then statics_in 30 Analog 0 (blocks_of s.points Analog)
+    else if group == 20 then statics_in asked Counter 0 (blocks_of s.points Counter)
+    else if group == 30 then statics_in asked Analog 0 (blocks_of s.points Analog)
     else []
+
+-- those of all groups, of which no variation was asked for
+abbrev pub each_static : Source → List Static
+each_static s = statics_of s 0 1 ++ statics_of s 0 10 ++ statics_of s 0 20 ++ statics_of s 0 30
 
 abbrev pub is_within : Range → ℕ → Bool
 is_within range.All index = true
@@ -121,8 +127,8 @@ part_of s h =
     else if h.group == 2 then RowsOf (kind_lanes 0) (limit_of h.range)
     else if h.group == 22 then RowsOf (kind_lanes 1) (limit_of h.range)
     else if h.group == 32 then RowsOf (kind_lanes 2) (limit_of h.range)
-    else if h.group == 60 then StaticsOf (statics_of s 1 ++ statics_of s 10 ++ statics_of s 20 ++ statics_of s 30)
-    else StaticsOf (in_range h.range (statics_of s h.group))
+    else if h.group == 60 then StaticsOf (each_static s)
+    else StaticsOf (in_range h.range (statics_of s h.variation h.group))
 
 -- ---- how far a READ has come
 

@@ -71,7 +71,7 @@ AreBefore items others = (lane : ℕ) → lane < LANES
 
 -- of each group there are few present values: its indexes are numbers of two octets
 abbrev pub AreFewPresent : Source → Type 0
-AreFewPresent s = (group : ℕ) → length (statics_of s group) ≤ 2 ^ 16
+AreFewPresent s = (asked group : ℕ) → length (statics_of s asked group) ≤ 2 ^ 16
 
 -- these are what the fragments of a response hold, one after the other, from a place on
 abbrev pub AreHeldFrom : Source → ℕ → List Head → Option Place → List (List Item) → Type 0

@@ -23,12 +23,13 @@ item_of x = x.item
 abbrev pub object_of : Laid → Object
 object_of x = x.object
 
--- an event as 2.2, 22.5 or 32.3, without a time as 2.1, 22.1 or 32.1, and a present value as 1.2, 10.2, 20.1 or 30.1
+-- an event as 2.2, 22.5 or 32.3, without a time as 2.1, 22.1 or 32.1, and a present value as the object that it goes as
+-- where its variation was asked for
 abbrev pub own_object : Thing → Object
 own_object (Event lane row) = event_item row.row
-own_object (Present static) = point_item static.group static.row
+own_object (Present static) = point_item static.object.0 static.object.1 static.row
 
--- each goes as its own, whatever the READ asked for and whatever stands beside it
+-- each goes as its own, whatever stands beside it
 abbrev pub lay : Item → Laid
 lay x = record { item = x; object = own_object x.thing }
 

@@ -21,14 +21,14 @@ event_in x = of x.thing
 abbrev pub events_in : List Item → List Row
 events_in items = filter_map event_in items
 
--- the item can be written: an event that its object carries, or a row that fits a present value of its group; its
+-- the item can be written: an event that its object carries, or a row that fits a present value as its object; its
 -- index has 16 bits
 abbrev pub CanStand : Item → Type 0
 CanStand x = of x.thing
   where
     of : Thing → Type 0
     of (Event lane row) = IsEvent row.row × (row.row.index < 2 ^ 16)
-    of (Present static) = FitsPoint static.group static.row × (static.row.index < 2 ^ 16)
+    of (Present static) = FitsPoint static.object.0 static.object.1 static.row × (static.row.index < 2 ^ 16)
 
 -- with the object as which it goes: that says it
 pub record CanGo (x : Laid) : Type 0 where
@@ -37,4 +37,4 @@ pub record CanGo (x : Laid) : Type 0 where
 
 -- the present values that a READ may give can be written
 abbrev pub AreWritable : Source → Type 0
-AreWritable s = (group : ℕ) → All (λ x. FitsPoint x.group x.row × (x.row.index < 2 ^ 16)) (statics_of s group)
+AreWritable s = (asked group : ℕ) → All (λ x. FitsPoint x.object.0 x.object.1 x.row × (x.row.index < 2 ^ 16)) (statics_of s asked group)

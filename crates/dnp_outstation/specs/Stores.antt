@@ -18,7 +18,7 @@ pub record KeepsLanes {Store Place Answer Fault : Type 0} (honest : Store → Ty
 
 -- of lanes that the call only looks at, whatever it answers
 pub record IsLook {Store Place Answer : Type 0} (honest : Store → Type 0) (is_stopped : Store → Bool) (contents : Store → Stock)
-    (others : Store → List Stock) (kept : Store → Place) (asks_memory : Bool) (old new : Store) (answer : Result Answer StoreFault) : Type 0 where
+    (others : Store → List Stock) (kept : Store → Place) (asks_memory : Bool) (may_fault : StoreFault → Bool) (old new : Store) (answer : Result Answer StoreFault) : Type 0 where
   pub held : honest new → honest old
   pub same : honest new → contents new ≡ contents old
   pub place : kept new ≡ kept old
@@ -30,6 +30,8 @@ pub record IsLook {Store Place Answer : Type 0} (honest : Store → Type 0) (is_
   -- in memory it is out of memory only where there are rows
   pub memory : honest new → answer ≡ Err Memory → asks_memory ≡ false → rows_in (contents new) ≢ []
   pub named : IfErr answer (λ e. e ≢ Exhausted)
+  -- and it answers no fault that the lanes may not
+  pub faults : IfErr answer (λ e. IsTrue (may_fault e))
 
 -- of outputs: nothing was performed. They are what they were, or have come of that by performing no commands
 abbrev pub HaveDoneNothing : {Store : Type 0} → (Store → List Command → Store → Type 0) → Store → Store → Type 0

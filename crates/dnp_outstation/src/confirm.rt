@@ -1,22 +1,25 @@
-//! The confirm of a fragment: its rows leave, and the response goes on.
+//! Confirms. That of a fragment: its rows leave, and the response goes on. That of an unsolicited response: its rows
+//! leave, and a READ that waited for it is answered.
 
-ghost use Rattle.std.specs.Prelude.{All, ◌≤◌, length, ◌≡◌, ◌≢◌, ℕ, [], false, IfOk, IfSome, OnOk, OnErr, IsTrue, Err};
+ghost use Rattle.std.specs.Prelude.{All, ◌≤◌, length, ◌≡◌, ◌≢◌, ℕ, [], false, IfOk, IfErr, IfSome, OnOk, OnErr, IsTrue, Err, ◌<◌, true, None};
 ghost use Rattle.dnp_appfragment.specs.declared.function.Function.TheVariants as function;
 ghost use Rattle.dnp_controls.specs.Panel.{Panel};
 ghost use Rattle.dnp_controls.specs.Selecting.{deadline};
 ghost use Rattle.dnp_eventbuf.specs.Stock.{without, rows_in};
-ghost use Rattle.dnp_outstation.specs.steps.Answering.{goes_on_by, went_on, KeepsWhole};
+ghost use Rattle.dnp_outstation.specs.steps.Answering.{goes_on_by, went_on, KeepsWhole, answers_held_by, switched_by};
 ghost use Rattle.dnp_outstation.specs.Calls.{with_that};
-ghost use Rattle.dnp_outstation.specs.Connection.{goes_on, on_confirm, confirmed, at_end};
+ghost use Rattle.dnp_outstation.specs.Connection.{goes_on, on_confirm, confirmed, at_end, control_in, answers_held, on_unsolicited_confirm};
 ghost use Rattle.dnp_outstation.specs.State.{Core, State, nothing, with_session, is_free};
 ghost use Rattle.dnp_outstation.specs.Station.{state_of, actions_of, HasRoom};
 ghost use Rattle.dnp_outstation.specs.Stores.{IsLook, KeepsLanes};
+ghost use Rattle.dnp_outstation.specs.steps.Filling.{after_release};
+ghost use Rattle.dnp_outstation.specs.Items.{last_in};
 
 use crate::actions::Actions;
 use crate::answer::{Answer, Switches};
 use crate::connection::deadline;
 use crate::ending::write_ending;
-use crate::execute::{left, request_in};
+use crate::execute::{execute_after, left, request_in};
 use crate::offer::parts::put_parts;
 use crate::offer::writer::Writer;
 use crate::outstation_core::OutstationCore;
@@ -24,6 +27,7 @@ use crate::rows::Rows;
 use crate::sending::asks_confirm;
 use crate::sequence::SequenceNumber;
 use crate::session::Session;
+use dnp_appfragment::Control;
 use dnp_controls::Outputs;
 use dnp_eventbuf::{Lanes, StoreFault, Upto};
 use dnp_pointdb::PointDb;
@@ -40,7 +44,7 @@ fn write_next<L: Lanes, O: Outputs>(
     session: &Session,
     released: Upto,
 ) -> Result<Option<Answer>, StoreFault>
-    ensures look { IsLook L.honest L.is_stopped L.contents L.beside L.place L.asks_memory lanes.old lanes.new result }
+    ensures look { IsLook L.honest L.is_stopped L.contents L.beside L.place L.asks_memory L.may_fault lanes.old lanes.new result }
     ensures written { L.honest lanes.new → IfOk result (λ next. (s : State) (now seq : ℕ) → s.core.points ≡ points.now
         → s.core.session.request ≡ session.now.request → s.lanes ≡ without (L.contents lanes.old) released
         → goes_on s (O.panel outputs.now) now seq session.now.last ≡ goes_on_by s now seq writer.new next) }
@@ -145,6 +149,7 @@ impl OutstationCore {
         ensures device { result ≡ Err StoreFault.Device → IsTrue (L.is_stopped lanes.new) }
         ensures memory { L.honest lanes.new → result ≡ Err StoreFault.Memory → L.asks_memory ≡ false → rows_in (L.contents lanes.old) ≢ [] }
         ensures named { result ≢ Err StoreFault.Exhausted }
+        ensures faults { IfErr result (λ e. IsTrue (L.may_fault e)) }
     {
         let Some(awaited) = self.session.awaited else {
             return self.end_only(actions, alloc, lanes, now);
@@ -177,6 +182,160 @@ impl OutstationCore {
             awaited.seq.next(),
             ends,
         );
+        self.session.end_call(actions, &mut self.pushes, lanes, starts, self.restart, ends);
+        Ok(())
+    }
+}
+
+/// Writes the answer to the READ that waits, if one does, as the lanes are once these rows are released.
+fn write_held<L: Lanes, O: Outputs>(
+    writer: &mut Writer,
+    alloc: Global,
+    points: &PointDb,
+    lanes: &mut L,
+    outputs: &O,
+    switches: Switches,
+    session: &Session,
+    released: &Option<Upto>,
+) -> Result<Option<Answer>, StoreFault>
+    ensures look { IsLook L.honest L.is_stopped L.contents L.beside L.place L.asks_memory L.may_fault lanes.old lanes.new result }
+    ensures written { L.honest lanes.new → IfOk result (λ held. (s : State) (now : ℕ) → s.core.points ≡ points.now → s.core.restart ≡ switches.restart → s.core.enabled ≡ switches.enabled
+        → s.core.session.request ≡ session.now.request → s.lanes ≡ after_release (L.contents lanes.old) released.now
+        → answers_held s (O.panel outputs.now) now session.now.last ≡ answers_held_by s now writer.new held) }
+    ensures stood { L.honest lanes.new → IfOk result (λ held. IfSome held (λ a. a.stood ≡ last_in (after_release (L.contents lanes.old) released.now))) }
+    ensures small { IfOk result (λ held. IfSome held (λ a. a.bits < 8)) }
+    ensures response { IfOk result (λ held. IfSome held (λ a. writer.new.builder.function ≡ function.Response)) }
+{
+    if !session.holds_read() {
+        return Ok(None);
+    }
+    let octets = session.request.octets();
+    let answer = execute_after(
+        writer, alloc, points, lanes, outputs, switches, octets, released,
+    )?;
+    Ok(Some(answer))
+}
+
+impl Session {
+    /// The number of the last request.
+    fn number(&self) -> SequenceNumber
+        ensures { result ≡ (control_in self.now.request).seq }
+    {
+        match self.request.octets().first() {
+            Some(octet) => SequenceNumber::of(Control::read(*octet)),
+            None => SequenceNumber::ZERO,
+        }
+    }
+
+    /// The unsolicited response is confirmed: these rows leave, and the READ that waited, if one did, is
+    /// answered. Its confirm, if it asks for one, is awaited until `ends`.
+    fn answer_held<L: Lanes>(
+        &mut self,
+        actions: &mut Actions,
+        alloc: Global,
+        discarded: Rows,
+        writer: &mut Writer,
+        lanes: &mut L,
+        held: &Option<Answer>,
+        ends: u64,
+    )
+        requires response { IfSome held.now (λ a. writer.old.builder.function ≡ function.Response) }
+        requires small { IfSome held.now (λ a. a.bits < 8) }
+        ensures same { lanes.new ≡ lanes.old }
+        ensures answers { L.honest lanes.new → (s : State) (now : ℕ) → s.lanes ≡ L.contents lanes.new
+            → IfSome held.now (λ a. (s.core.restart ≡ a.switches.restart) × ((s.core.enabled ≡ a.switches.enabled) × (a.stood ≡ last_in s.lanes)))
+            → s.core.session ≡ record self.old { unsolicited = None } → ends ≡ deadline now s.core.times.confirm_ms
+            → answers_held_by s now writer.old held.now
+            ≡ record { state = with_session s self.new; does = record (actions_of actions.new) { discarded = [] } } }
+        ensures discarded { (actions_of actions.new).discarded ≡ discarded }
+        ensures room { HasRoom actions.new }
+        ensures whole { All (λ fragment. 4 ≤ length fragment) (actions_of actions.new).send }
+        ensures keeps { KeepsWhole self.old → KeepsWhole self.new }
+    {
+        self.unsolicited = None;
+        match held {
+            Some(answer) => {
+                let seq = self.number();
+                self.respond(writer, lanes, answer, seq, ends);
+                actions.set_going_on(alloc, discarded, self.response.octets());
+                actions.time = answer.time;
+            }
+            None => actions.set_discarding(alloc, discarded),
+        }
+    }
+
+    /// Whether no confirm is awaited and no READ is held once the unsolicited response was confirmed, and the
+    /// READ that waited, if one did, was answered.
+    fn is_free_without(&self, writer: &Writer, held: &Option<Answer>) -> bool
+        ensures { (s : State) (now : ℕ) → s.core.session ≡ record self.now { unsolicited = None }
+            → result ≡ is_free (answers_held_by s now writer.now held.now).state.core }
+    {
+        match held {
+            Some(answer) => !asks_confirm(writer, answer),
+            None => self.awaited.is_none() && !self.holds_read(),
+        }
+    }
+}
+
+/// What is switched once the READ that waited, if one did, was executed.
+fn switched_by(before: Switches, held: &Option<Answer>) -> Switches
+    ensures { result ≡ switched_by before held.now }
+{
+    match held {
+        Some(answer) => answer.switches,
+        None => before,
+    }
+}
+
+impl OutstationCore {
+    /// The unsolicited response is confirmed: its rows leave, and the READ that waited, if one did, is answered.
+    pub(crate) fn confirm_unsolicited<L: Lanes, O: Outputs>(
+        &mut self,
+        actions: &mut Actions,
+        alloc: Global,
+        lanes: &mut L,
+        outputs: &O,
+        now: u64,
+    ) -> Result<(), StoreFault>
+        ensures lanes { KeepsLanes L.honest L.is_stopped L.contents L.beside L.place StoreFault.Device lanes.old lanes.new result }
+        ensures confirmed { L.honest lanes.new → OnOk result ((p : Panel) → let s = state_of self.old (L.contents lanes.old) p in
+            at_end now (with_that s s.core.session.unsolicited (on_unsolicited_confirm s (O.panel outputs.now) now))
+            ≡ record { state = state_of self.new (L.contents lanes.new) p; does = actions_of actions.new }) }
+        ensures whole { OnOk result (All (λ fragment. 4 ≤ length fragment) (actions_of actions.new).send) }
+        ensures unchanged { OnErr result (self.new ≡ self.old) }
+        ensures actions_unchanged { OnErr result (actions.new ≡ actions.old) }
+        ensures device { result ≡ Err StoreFault.Device → IsTrue (L.is_stopped lanes.new) }
+        ensures memory { L.honest lanes.new → result ≡ Err StoreFault.Memory → L.asks_memory ≡ false → rows_in (L.contents lanes.old) ≢ [] }
+        ensures named { result ≢ Err StoreFault.Exhausted }
+        ensures faults { IfErr result (λ e. IsTrue (L.may_fault e)) }
+    {
+        let Some(response) = self.session.unsolicited else {
+            return self.end_only(actions, alloc, lanes, now);
+        };
+        let released = Some(response.upto);
+        let before = self.switches();
+        let held = write_held(
+            &mut self.writer,
+            alloc,
+            &self.points,
+            lanes,
+            outputs,
+            before,
+            &self.session,
+            &released,
+        )?;
+        let after = switched_by(before, &held);
+        let free = self.session.is_free_without(&self.writer, &held);
+        let is_due = self.is_due(true, self.is_open, free);
+        let enabled = after.enabled;
+        let starts = write_ending(&mut self.pushes, alloc, lanes, is_due, enabled, &released)?;
+        let rows = Rows::of(lanes.release(alloc, &response.upto)?);
+        self.announced = true;
+        self.restart = after.restart;
+        self.enabled = enabled;
+        let ends = deadline(now, self.times.confirm_ms);
+        self.session
+            .answer_held(actions, alloc, rows, &mut self.writer, lanes, &held, ends);
         self.session.end_call(actions, &mut self.pushes, lanes, starts, self.restart, ends);
         Ok(())
     }

@@ -1,6 +1,6 @@
 //! Control requests: the outputs carry them out.
 
-ghost use Rattle.std.specs.Prelude.{All, ◌⊎◌, ◌≡◌, ◌≢◌, ◌<◌, ◌≤◌, ℕ, [], true, false, IsErr, IfSome, OnOk, OnErr, IsTrue, None, Err, length, option_map};
+ghost use Rattle.std.specs.Prelude.{All, ◌⊎◌, ◌≡◌, ◌≢◌, ◌<◌, ◌≤◌, ℕ, [], true, false, IsErr, IfErr, IfSome, OnOk, OnErr, IsTrue, None, Err, length, option_map};
 ghost use Rattle.dnp_appfragment.specs.declared.function.Function.TheVariants as function;
 ghost use Rattle.dnp_controls.specs.Selecting.{deadline};
 ghost use Rattle.dnp_eventbuf.specs.Stock.{rows_in};
@@ -96,6 +96,7 @@ impl OutstationCore {
             → (rows_in (L.contents lanes.old) ≢ []) ⊎ (performed_at self.old (O.panel outputs.old) now octets.now ≢ []) }
         ensures memory_named { L.honest lanes.new → result ≡ Err StoreFault.Memory → L.asks_memory ≡ false
             → (rows_in (L.contents lanes.old) ≢ []) ⊎ IsTrue (O.may_fault StoreFault.Memory) }
+        ensures faults { IfErr result (λ e. IsTrue (L.may_fault e) ⊎ IsTrue (O.may_fault e)) }
         ensures exhausted_first { L.honest lanes.new → O.honest outputs.new → result ≡ Err StoreFault.Memory → L.asks_memory ≡ false
             → (rows_in (L.contents lanes.old) ≢ []) ⊎ (O.exhausts outputs.old (performed_at self.old (O.panel outputs.old) now octets.now) → ⊥) }
         ensures asks { IsErr result → (self.old.times.unsolicited ≡ true) ⊎ (performed_at self.old (O.panel outputs.old) now octets.now ≢ []) }

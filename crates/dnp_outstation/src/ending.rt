@@ -37,7 +37,7 @@ pub(crate) fn write_ending<L: Lanes>(
     ensures ends { L.honest lanes.new → IfOk result (λ starts. (now : ℕ) (step : Step) → step.state.lanes ≡ after_release (L.contents lanes.old) released.now
         → step.state.core.enabled ≡ enabled → is_due ≡ is_ready step.state.core → at_end now step ≡ ended_by writer.new starts now step) }
     ensures response { IfOk result (λ starts. IsTrue starts → writer.new.builder.function ≡ function.UnsolicitedResponse) }
-    ensures look { IsLook L.honest L.is_stopped L.contents L.beside L.place L.asks_memory lanes.old lanes.new result }
+    ensures look { IsLook L.honest L.is_stopped L.contents L.beside L.place L.asks_memory L.may_fault lanes.old lanes.new result }
     ensures asks { IsErr result → IsTrue is_due }
     ensures asks_rows { L.honest lanes.new → IsErr result → has_rows_in (after_release (L.contents lanes.old) released.now) (enabled_lanes 0 enabled) ≡ true }
 {
@@ -150,7 +150,7 @@ impl OutstationCore {
         lanes: &mut L,
         now: u64,
     ) -> Result<(), StoreFault>
-        ensures look { IsLook L.honest L.is_stopped L.contents L.beside L.place L.asks_memory lanes.old lanes.new result }
+        ensures look { IsLook L.honest L.is_stopped L.contents L.beside L.place L.asks_memory L.may_fault lanes.old lanes.new result }
         ensures ended { L.honest lanes.new → OnOk result ((p : Panel) → at_end now (still (state_of self.old (L.contents lanes.old) p))
             ≡ record { state = state_of self.new (L.contents lanes.new) p; does = actions_of actions.new }) }
         ensures whole { OnOk result (All (λ fragment. 4 ≤ length fragment) (actions_of actions.new).send) }

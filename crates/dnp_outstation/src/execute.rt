@@ -195,7 +195,7 @@ fn read<L: Lanes, O: Outputs>(
     requires empty { writer.old ≡ empty_from first_place }
     requires few { length headers.now.headers < 2 ^ 64 }
     requires stood { L.honest lanes.old → stood ≡ last_in_stock (after_release (L.contents lanes.old) released.now) }
-    ensures look { IsLook L.honest L.is_stopped L.contents L.beside L.place L.asks_memory lanes.old lanes.new result }
+    ensures look { IsLook L.honest L.is_stopped L.contents L.beside L.place L.asks_memory L.may_fault lanes.old lanes.new result }
     ensures executed { L.honest lanes.new → IfOk result (λ a. (s : State) → s.core.points ≡ points.now → s.core.restart ≡ switches.restart → s.core.enabled ≡ switches.enabled
         → s.lanes ≡ after_release (L.contents lanes.old) released.now → read_executed s (O.panel outputs.now) headers.now.headers ≡ executed_by s writer.new a) }
     ensures stood { IfOk result (λ a. a.stood ≡ stood) }
@@ -301,7 +301,7 @@ pub(crate) fn execute_after<L: Lanes, O: Outputs>(
     octets: &[u8],
     released: &Option<Upto>,
 ) -> Result<Answer, StoreFault>
-    ensures look { IsLook L.honest L.is_stopped L.contents L.beside L.place L.asks_memory lanes.old lanes.new result }
+    ensures look { IsLook L.honest L.is_stopped L.contents L.beside L.place L.asks_memory L.may_fault lanes.old lanes.new result }
     ensures executed { L.honest lanes.new → IfOk result (λ a. (s : State) → s.core.points ≡ points.now → s.core.restart ≡ switches.restart → s.core.enabled ≡ switches.enabled
         → s.lanes ≡ after_release (L.contents lanes.old) released.now → content_of s (O.panel outputs.now) octets.now ≡ executed_by s writer.new a) }
     ensures stood { L.honest lanes.new → IfOk result (λ a. a.stood ≡ last_in_stock (after_release (L.contents lanes.old) released.now)) }
@@ -346,7 +346,7 @@ pub(crate) fn execute<L: Lanes, O: Outputs>(
     switches: Switches,
     octets: &[u8],
 ) -> Result<Answer, StoreFault>
-    ensures look { IsLook L.honest L.is_stopped L.contents L.beside L.place L.asks_memory lanes.old lanes.new result }
+    ensures look { IsLook L.honest L.is_stopped L.contents L.beside L.place L.asks_memory L.may_fault lanes.old lanes.new result }
     ensures executed { L.honest lanes.new → IfOk result (λ a. (s : State) → s.core.points ≡ points.now → s.core.restart ≡ switches.restart → s.core.enabled ≡ switches.enabled
         → s.lanes ≡ L.contents lanes.old → content_of s (O.panel outputs.now) octets.now ≡ executed_by s writer.new a) }
     ensures stood { L.honest lanes.new → IfOk result (λ a. a.stood ≡ last_in_stock (L.contents lanes.old)) }

@@ -62,7 +62,7 @@ fn held_lane<L: Lanes>(
     ensures rows { L.honest lanes.new → IfOk result (λ rows. IsLaneHeld (L.contents lanes.old) number rows.items) }
     ensures events { IfOk result (λ rows. All (λ x. IsEvent x.row) rows.items) }
     ensures memory_held { L.honest lanes.new → result ≡ Err StoreFault.Memory → L.asks_memory ≡ false → (lane_at (L.contents lanes.old) number).rows ≢ [] }
-    ensures look { IsLook L.honest L.is_stopped L.contents L.beside L.place L.asks_memory lanes.old lanes.new result }
+    ensures look { IsLook L.honest L.is_stopped L.contents L.beside L.place L.asks_memory L.may_fault lanes.old lanes.new result }
 {
     let lane = match Lane::numbered(number) {
         Some(lane) => lane,
@@ -85,7 +85,7 @@ fn held_class<L: Lanes>(
     ensures events { IfOk result AreClassEvents }
     ensures memory_enabled { L.honest lanes.new → result ≡ Err StoreFault.Memory → L.asks_memory ≡ false
         → has_rows_in (L.contents lanes.old) (if is_enabled then class_lanes class else []) ≡ true }
-    ensures look { IsLook L.honest L.is_stopped L.contents L.beside L.place L.asks_memory lanes.old lanes.new result }
+    ensures look { IsLook L.honest L.is_stopped L.contents L.beside L.place L.asks_memory L.may_fault lanes.old lanes.new result }
 {
     if !is_enabled {
         return Ok(HeldClass {
@@ -115,7 +115,7 @@ pub(crate) fn held_rows<L: Lanes>(
     ensures events { IfOk result AreEvents }
     ensures memory_enabled { L.honest lanes.new → result ≡ Err StoreFault.Memory → L.asks_memory ≡ false
         → has_rows_in (L.contents lanes.old) (enabled_lanes 0 enabled) ≡ true }
-    ensures look { IsLook L.honest L.is_stopped L.contents L.beside L.place L.asks_memory lanes.old lanes.new result }
+    ensures look { IsLook L.honest L.is_stopped L.contents L.beside L.place L.asks_memory L.may_fault lanes.old lanes.new result }
 {
     // Whatever the lanes say without a refusal says that ids rise from 1 on.
     let _raised = lanes.raised();

@@ -34,7 +34,6 @@ mod sending;
 mod sequence;
 mod session;
 mod unsolicited;
-mod unsolicited_confirm;
 
 pub use actions::Actions;
 pub use fault::Fault;

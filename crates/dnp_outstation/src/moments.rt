@@ -38,7 +38,7 @@ fn write_opening<L: Lanes>(
     ensures opens { L.honest lanes.new → IfOk result (λ starts. (s : State) (now : ℕ) → s.lanes ≡ L.contents lanes.old → s.core.times.unsolicited ≡ is_on
         → s.core.announced ≡ announced → s.core.enabled ≡ enabled → opened_of s now ≡ ended_by writer.new starts now (still (begun s))) }
     ensures response { IfOk result (λ starts. IsTrue starts → writer.new.builder.function ≡ function.UnsolicitedResponse) }
-    ensures look { IsLook L.honest L.is_stopped L.contents L.beside L.place L.asks_memory lanes.old lanes.new result }
+    ensures look { IsLook L.honest L.is_stopped L.contents L.beside L.place L.asks_memory L.may_fault lanes.old lanes.new result }
     ensures asks { IsErr result → IsTrue is_on }
     ensures asks_announced { IsErr result → IsTrue announced }
     ensures asks_rows { L.honest lanes.new → IsErr result → has_rows_in (L.contents lanes.old) (enabled_lanes 0 enabled) ≡ true }
@@ -128,7 +128,7 @@ impl OutstationCore {
         outputs: &mut O,
         now: u64,
     ) -> Result<(), StoreFault>
-        ensures look { IsLook L.honest L.is_stopped L.contents L.beside L.place L.asks_memory lanes.old lanes.new result }
+        ensures look { IsLook L.honest L.is_stopped L.contents L.beside L.place L.asks_memory L.may_fault lanes.old lanes.new result }
         ensures outputs { outputs.new ≡ outputs.old }
         ensures opened { L.honest lanes.new → OnOk result (opened_of (state_of self.old (L.contents lanes.old) (O.panel outputs.old)) now
             ≡ record { state = state_of self.new (L.contents lanes.new) (O.panel outputs.new); does = actions_of actions.new }) }
@@ -180,7 +180,7 @@ impl OutstationCore {
         outputs: &mut O,
         now: u64,
     ) -> Result<(), StoreFault>
-        ensures look { IsLook L.honest L.is_stopped L.contents L.beside L.place L.asks_memory lanes.old lanes.new result }
+        ensures look { IsLook L.honest L.is_stopped L.contents L.beside L.place L.asks_memory L.may_fault lanes.old lanes.new result }
         ensures outputs { outputs.new ≡ outputs.old }
         ensures ticked { L.honest lanes.new → OnOk result (tick_of (state_of self.old (L.contents lanes.old) (O.panel outputs.old)) now
             ≡ record { state = state_of self.new (L.contents lanes.new) (O.panel outputs.new); does = actions_of actions.new }) }

@@ -1,6 +1,6 @@
 //! What comes from the master.
 
-ghost use Rattle.std.specs.Prelude.{All, ◌⊎◌, ◌≡◌, ◌≢◌, ◌≤◌, [], true, false, length, IsErr, OnOk, OnErr, IsTrue, Err};
+ghost use Rattle.std.specs.Prelude.{All, ◌⊎◌, ◌≡◌, ◌≢◌, ◌≤◌, [], true, false, length, IsErr, IfErr, OnOk, OnErr, IsTrue, Err};
 ghost use Rattle.dnp_appfragment.specs.declared.function.Function.TheVariants as function;
 ghost use Rattle.dnp_appfragment.specs.Table.{function_octet};
 ghost use Rattle.dnp_eventbuf.specs.Stock.{rows_in};
@@ -47,6 +47,7 @@ impl OutstationCore {
             → (rows_in (L.contents lanes.old) ≢ []) ⊎ (performed_in self.old (O.panel outputs.old) now octets.now ≢ []) }
         ensures memory_named { L.honest lanes.new → result ≡ Err StoreFault.Memory → L.asks_memory ≡ false
             → (rows_in (L.contents lanes.old) ≢ []) ⊎ IsTrue (O.may_fault StoreFault.Memory) }
+        ensures faults { IfErr result (λ e. IsTrue (L.may_fault e) ⊎ IsTrue (O.may_fault e)) }
         ensures exhausted_first { L.honest lanes.new → O.honest outputs.new → result ≡ Err StoreFault.Memory → L.asks_memory ≡ false
             → (rows_in (L.contents lanes.old) ≢ []) ⊎ (O.exhausts outputs.old (performed_in self.old (O.panel outputs.old) now octets.now) → ⊥) }
         ensures looked_at { IsErr result → is_looked_at self.old octets.now ≡ true }

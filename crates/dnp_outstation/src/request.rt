@@ -38,7 +38,7 @@ impl OutstationCore {
         requires some { 2 ≤ length octets.now }
         requires few { length octets.now ≤ MAX_FRAGMENT }
         requires other { is_control octets.now ≡ false }
-        ensures look { IsLook L.honest L.is_stopped L.contents L.beside L.place L.asks_memory lanes.old lanes.new result }
+        ensures look { IsLook L.honest L.is_stopped L.contents L.beside L.place L.asks_memory L.may_fault lanes.old lanes.new result }
         ensures answered { L.honest lanes.new → OnOk result ((p : Panel) →
             at_end now (on_request (state_of self.old (L.contents lanes.old) p) (O.panel outputs.now) now octets.now)
             ≡ record { state = state_of self.new (L.contents lanes.new) p; does = actions_of actions.new }) }
@@ -90,7 +90,7 @@ impl OutstationCore {
         octets: &[u8],
     ) -> Result<(), StoreFault>
         requires { 1 ≤ length octets.now }
-        ensures look { IsLook L.honest L.is_stopped L.contents L.beside L.place L.asks_memory lanes.old lanes.new result }
+        ensures look { IsLook L.honest L.is_stopped L.contents L.beside L.place L.asks_memory L.may_fault lanes.old lanes.new result }
         ensures answered { L.honest lanes.new → OnOk result ((p : Panel) → let s = state_of self.old (L.contents lanes.old) p in
             at_end now (with_that s s.core.session.last (on_again s now octets.now))
             ≡ record { state = state_of self.new (L.contents lanes.new) p; does = actions_of actions.new }) }

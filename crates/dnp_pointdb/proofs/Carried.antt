@@ -27,29 +27,29 @@ untimed : (b : Bool) → b ≡ true → IsTrue (b && true)
 untimed b is = to_true (b && true) (ap (λ (t : Bool). t && true) is)
 
 -- by the value's sign, and by whether there is a time
-static_by_parts : (kind : Kind) (index flags : ℕ) (value : ℤ) (time : Option ℕ)
+static_by_parts : (kind : Kind) (asked index flags : ℕ) (value : ℤ) (time : Option ℕ)
     → is_carried kind (record { value = value; flags = flags; time = time }) ≡ true
-    → Fits (static_object kind).0 (static_object kind).1 (row_of kind index (record { value = value; flags = flags; time = time }))
+    → Fits (static_object kind asked).0 (static_object kind asked).1 (row_of kind index (record { value = value; flags = flags; time = time }))
 unfolding content_of objects
-static_by_parts Binary index flags (pos n) time is = untimed (nat_lt n 2 && nat_lt flags 128) is
-static_by_parts Binary index flags (negsuc n) time is = to_true _ is
-static_by_parts Counter index flags value time is = untimed (value_fits Counter 4 value && true) is
-static_by_parts Analog index flags value time is = untimed (value_fits Analog 4 value && true) is
+static_by_parts Binary asked index flags (pos n) time is = untimed (nat_lt n 2 && nat_lt flags 128) is
+static_by_parts Binary asked index flags (negsuc n) time is = to_true _ is
+static_by_parts Counter asked index flags value time is = untimed (value_fits Counter 4 value && true) is
+static_by_parts Analog asked index flags value time is = untimed (value_fits Analog 4 value && true) is
 
-pub fits_static : (kind : Kind) (index : ℕ) (reading : Reading) → is_carried kind reading ≡ true
-    → Fits (static_object kind).0 (static_object kind).1 (row_of kind index reading)
-fits_static kind index reading is = static_by_parts kind index reading.flags reading.value reading.time is
+pub fits_static : (kind : Kind) (asked index : ℕ) (reading : Reading) → is_carried kind reading ≡ true
+    → Fits (static_object kind asked).0 (static_object kind asked).1 (row_of kind index reading)
+fits_static kind asked index reading is = static_by_parts kind asked index reading.flags reading.value reading.time is
 
 of_some : {A : Type 0} (P Q : A → Type 0) → ((x : A) → P x → Q x) → (found : Option A) → IfSome found P → IfSome found Q
 of_some P Q step None h = tt
 of_some P Q step (Some x) h = step x h
 
-pub kept_fits : (database : Database) (kind : Kind) (index : ℕ) → IsSound database
+pub kept_fits : (database : Database) (kind : Kind) (asked index : ℕ) → IsSound database
     → IfSome (state_at database kind index)
-    (λ state. Fits (static_object kind).0 (static_object kind).1 (row_of kind index state.reading))
-kept_fits database kind index sound =
-    of_some (IsSoundPoint kind) (λ (state : PointState). Fits (static_object kind).0 (static_object kind).1 (row_of kind index state.reading))
-    (λ state s. fits_static kind index state.reading s.carried) (state_at database kind index) (point_is_sound database kind index sound)
+    (λ state. Fits (static_object kind asked).0 (static_object kind asked).1 (row_of kind index state.reading))
+kept_fits database kind asked index sound =
+    of_some (IsSoundPoint kind) (λ (state : PointState). Fits (static_object kind asked).0 (static_object kind asked).1 (row_of kind index state.reading))
+    (λ state s. fits_static kind asked index state.reading s.carried) (state_at database kind index) (point_is_sound database kind index sound)
 
 -- ---- events
 

@@ -11,7 +11,7 @@ use Rattle.dnp_pointdb.specs.declared.fault.ChangeFault.TheVariants.{ValueRange,
 use Rattle.dnp_pointdb.specs.Ranges.{is_carried, is_in_time, is_in_range}
 use Rattle.dnp_pointdb.specs.Database.{state_in, updated_in, checked, made_from, answer_in, new_state}
 use Rattle.dnp_pointdb.specs.Events.{event_of}
-use Rattle.dnp_pointdb.specs.Order.{extents, place_in}
+use Rattle.dnp_pointdb.specs.steps.Order.{extents, place_in}
 use Rattle.dnp_pointdb.proofs.Lookups.{lookup_found, lookup_lacks}
 
 -- ---- the test

@@ -7,7 +7,7 @@ use Rattle.dnp_objects.specs.declared.row.Kind.{Kind}
 use Rattle.dnp_pointdb.specs.declared.state.PointState.{PointState}
 use Rattle.dnp_pointdb.specs.declared.state.BlockState.{BlockState}
 use Rattle.dnp_pointdb.specs.Database.{Database, blocks_of, has_index, state_in, state_at, updated, updated_in, restarted_state, restarted_block, restarted, lost_state, lost_block, lost_of}
-use Rattle.dnp_pointdb.specs.Order.{extent, covers}
+use Rattle.dnp_pointdb.specs.steps.Order.{extent, covers}
 use Rattle.dnp_pointdb.proofs.ByKind.{blocks_of-each}
 use Rattle.dnp_pointdb.proofs.Places.{covers_low}
 

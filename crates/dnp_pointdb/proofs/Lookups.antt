@@ -5,7 +5,7 @@ use Rattle.std.specs.List.{slice_get}
 use Rattle.dnp_pointdb.specs.declared.state.PointState.{PointState}
 use Rattle.dnp_pointdb.specs.declared.state.BlockState.{BlockState}
 use Rattle.dnp_pointdb.specs.Database.{has_index, state_in, updated, updated_in}
-use Rattle.dnp_pointdb.specs.Order.{extent, extents, place_in}
+use Rattle.dnp_pointdb.specs.steps.Order.{extent, extents, place_in}
 use Rattle.dnp_pointdb.proofs.Places.{covers_low, covers_high}
 
 -- ---- one member of a list

@@ -13,7 +13,7 @@ use Rattle.dnp_pointdb.specs.declared.state.PointState.{PointState}
 use Rattle.dnp_pointdb.specs.declared.state.BlockState.{BlockState}
 use Rattle.dnp_pointdb.specs.Database.{new_block, restarted_block, lost_block, new_state, restarted_state, lost_state}
 use Rattle.dnp_pointdb.specs.Blocks.{HasIndex, ShareIndex}
-use Rattle.dnp_pointdb.specs.Order.{Extent, extent_of, extent, extents, covers, IsPlaceOf, IsOrder, AreApart}
+use Rattle.dnp_pointdb.specs.steps.Order.{Extent, extent_of, extent, extents, covers, IsPlaceOf, IsOrder, AreApart}
 use Rattle.dnp_pointdb.proofs.Places.{covers_low, covers_high}
 
 -- ---- the places, block after block

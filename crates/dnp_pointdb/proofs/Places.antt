@@ -8,7 +8,7 @@ use Rattle.std.proofs.lemmas.Bool.{cases_lt, cases_order}
 use Rattle.std.proofs.lemmas.List.{get_or_default}
 use Rattle.std.proofs.lemmas.Bool.Decides.{nat_tests}
 use Rattle.dnp_pointdb.specs.declared.order.Place.{Place}
-use Rattle.dnp_pointdb.specs.Order.{Extent, covers, place_in, IsOrder, AreApart}
+use Rattle.dnp_pointdb.specs.steps.Order.{Extent, covers, place_in, IsOrder, AreApart}
 
 -- ---- the test
 

@@ -13,7 +13,7 @@ use Rattle.dnp_pointdb.specs.Plan as plans
 use Rattle.dnp_pointdb.specs.Plan.{Plan}
 use Rattle.dnp_objects.specs.declared.row.Kind.{Kind}
 use Rattle.dnp_pointdb.specs.Database.{has_index, state_in, state_at, new_state, new_block, new_database}
-use Rattle.dnp_pointdb.specs.Order.{Extent, extent_of, place_in}
+use Rattle.dnp_pointdb.specs.steps.Order.{Extent, extent_of, place_in}
 use Rattle.dnp_pointdb.proofs.Lookups.{Found, lookup_found, lookup_lacks}
 use Rattle.dnp_pointdb.proofs.Orders.{extents-new}
 use Rattle.dnp_pointdb.proofs.Plans.{blocks-new}

@@ -15,7 +15,7 @@ use Rattle.dnp_pointdb.specs.Blocks.{HasIndex, ShareIndex}
 use Rattle.dnp_pointdb.specs.Plan.{Plan, IsSound}
 use Rattle.dnp_pointdb.specs.Plan as plan_words
 use Rattle.dnp_pointdb.specs.Database.{new_state, new_block, new_database, has_index, state_in, state_at, blocks_of}
-use Rattle.dnp_pointdb.specs.Order.{extent}
+use Rattle.dnp_pointdb.specs.steps.Order.{extent}
 use Rattle.dnp_pointdb.proofs.Places.{covers_true, covers_low, covers_high, covers_cases}
 use Rattle.dnp_pointdb.proofs.Histories.{state_in-cons}
 

@@ -22,7 +22,7 @@ use Rattle.dnp_pointdb.specs.Plan.{Plan, IsWrong, HasWrongPoint, HasTooMany, IsT
 use Rattle.dnp_pointdb.specs.Plan as plan_words
 use Rattle.dnp_pointdb.specs.Ranges.{is_carried, is_in_time, is_in_range}
 use Rattle.dnp_pointdb.specs.Database.{Database, blocks_of, with_blocks, each_kind, has_index, state_in, state_at, updated, updated_in, new_state, new_block, new_database, changed_state, changed_in, changed_of, set_state, set_in, set_of, lost_flags, lost_reading, lost_state, lost_block, lost_of, restarted_state, restarted_block, restarted}
-use Rattle.dnp_pointdb.specs.Order.{Extent, extent, extents, covers, AreApart}
+use Rattle.dnp_pointdb.specs.steps.Order.{Extent, extent, extents, covers, AreApart}
 use Rattle.dnp_pointdb.specs.Sound.{IsSoundPoint, IsSoundBlock, ShareNoIndex, AreSound, IsSound}
 use Rattle.dnp_pointdb.proofs.Ranges.{both}
 use Rattle.dnp_pointdb.proofs.Places.{covers_true, covers_cases}

@@ -9,4 +9,4 @@ pub mod Ranges
 pub mod Runs
 pub mod Sound
 -- Words of private steps.
-pub mod Order
+pub mod steps

@@ -4,7 +4,7 @@ use Rattle.dnp_objects.specs.declared.row.Kind.{Kind}
 use Rattle.dnp_pointdb.specs.declared.place.PointPlace.{PointPlace}
 use Rattle.dnp_pointdb.specs.declared.state.BlockState.{BlockState}
 use Rattle.dnp_pointdb.specs.Database.{Database, blocks_of}
-use Rattle.dnp_pointdb.specs.Order.{extents, place_in}
+use Rattle.dnp_pointdb.specs.steps.Order.{extents, place_in}
 
 -- in these blocks
 abbrev pub IsPlaceIn : List BlockState → ℕ → PointPlace → Type 0

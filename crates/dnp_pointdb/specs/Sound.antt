@@ -38,9 +38,9 @@ pub record AreSound (kind : Kind) (blocks : List BlockState) : Type 0 where
 abbrev pub IsSound : Database → Type 0
 IsSound database = (kind : Kind) → AreSound kind (blocks_of database kind)
 
--- the object that a present value of this kind is written as, by group and variation: the one with
--- flags and the widest value
-abbrev pub static_object : Kind → ℕ × ℕ
-static_object Binary = (1, 2)
-static_object Counter = (20, 1)
-static_object Analog = (30, 1)
+-- the object that a present value of this kind is written as, by group and variation, where this variation was asked
+-- for, 0 for any: whatever was, the one with flags and the widest value
+abbrev pub static_object : Kind → ℕ → ℕ × ℕ
+static_object Binary asked = (1, 2)
+static_object Counter asked = (20, 1)
+static_object Analog asked = (30, 1)

@@ -30,7 +30,7 @@ impl Model for Bank {
 
     ghost Value = { List BlockState };
 
-    ghost use Rattle.dnp_pointdb.specs.Order.{IsOrder, extents};
+    ghost use Rattle.dnp_pointdb.specs.steps.Order.{IsOrder, extents};
 
     ghost view = { λ bank. bank.blocks.items };
 
@@ -57,7 +57,7 @@ fn checked(
 
 impl Bank {
     ghost use Rattle.dnp_pointdb.specs.Database as spec;
-    ghost use Rattle.dnp_pointdb.specs.Order.{extents, place_in};
+    ghost use Rattle.dnp_pointdb.specs.steps.Order.{extents, place_in};
     ghost use Rattle.dnp_pointdb.specs.Blocks.{ShareIndex};
     ghost use Rattle.dnp_pointdb.specs.Ranges.{is_in_range};
     ghost use Rattle.dnp_pointdb.specs.PointPlaces.{IsPlaceIn};

@@ -21,7 +21,7 @@ ghost use Rattle.dnp_pointdb.specs.Events.{event_of, row_of, distance};
 ghost use Rattle.dnp_pointdb.specs.declared.state.BlockState.{BlockState as BlockStateValue};
 ghost use Rattle.dnp_pointdb.specs.Database as database_words;
 ghost use Rattle.dnp_pointdb.specs.Database.{Database, state_at, answer_of, new_database, changed_of, set_of, restarted, changed_state, set_state, restarted_state, lost_flags, lost_of};
-ghost use Rattle.dnp_pointdb.specs.Order.{Extent, IsOrder, place_in};
+ghost use Rattle.dnp_pointdb.specs.steps.Order.{Extent, IsOrder, place_in};
 ghost use Rattle.dnp_pointdb.specs.declared.order.Place.{Place as PlaceValue};
 ghost use Rattle.dnp_pointdb.specs.Ranges.{is_carried, is_in_range};
 ghost use Rattle.dnp_pointdb.specs.Runs.{Move, rows_of, rows_at, happened_at, happenings_of};
@@ -138,14 +138,14 @@ pub fn a_point_has_its_index()
         → place < length block.points → state_at database kind (block.base + place) ≡ slice_get block.points place }
 {}
 
-/// A reading in range can be written as a present value of its kind: 1.2, 20.1 or 30.1. So can the
-/// reading of each point of a sound database.
+/// A reading in range can be written as a present value of its kind, whatever variation was asked for: 1.2,
+/// 20.1 or 30.1. So can the reading of each point of a sound database.
 pub fn readings_fit_their_static_objects()
-    ensures carried { (kind : KindValue) (index : ℕ) (reading : ReadingValue)
+    ensures carried { (kind : KindValue) (asked index : ℕ) (reading : ReadingValue)
         → is_carried kind reading ≡ true
-        → let object = sound.static_object kind in Fits object.0 object.1 (row_of kind index reading) }
-    ensures kept { (database : Database) (kind : KindValue) (index : ℕ) → sound.IsSound database
-        → let object = sound.static_object kind in IfSome (state_at database kind index)
+        → let object = sound.static_object kind asked in Fits object.0 object.1 (row_of kind index reading) }
+    ensures kept { (database : Database) (kind : KindValue) (asked index : ℕ) → sound.IsSound database
+        → let object = sound.static_object kind asked in IfSome (state_at database kind index)
         (λ state. Fits object.0 object.1 (row_of kind index state.reading)) }
 {}
 

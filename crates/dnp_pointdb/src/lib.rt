@@ -16,6 +16,7 @@ mod plan;
 mod point;
 mod reading;
 mod state;
+mod statics;
 mod taken;
 mod times;
 
@@ -28,4 +29,5 @@ pub use plan::PointPlan;
 pub use point::{Block, Point, Points};
 pub use reading::{Reading, Report};
 pub use state::{BlockState, PointState, PointStates};
+pub use statics::static_object;
 pub use times::Times;

@@ -3,7 +3,7 @@
 ghost use Rattle.std.specs.Prelude.{◌≡◌, List, IfOk, map};
 ghost use Rattle.std.specs.List.Sorted.{IsNonDecreasingBy};
 ghost use Rattle.dnp_pointdb.specs.Classes.{point_in};
-ghost use Rattle.dnp_pointdb.specs.Order.{Extent, IsOrder, AreApart, extent_of, order_in, place_in};
+ghost use Rattle.dnp_pointdb.specs.steps.Order.{Extent, IsOrder, AreApart, extent_of, order_in, place_in};
 
 use crate::point::{Block, Point};
 use dnp_objects::{KINDS, Kind};

@@ -5,7 +5,7 @@ ghost use Rattle.dnp_pointdb.specs.declared.point.Block.{Block as BlockValue};
 ghost use Rattle.dnp_pointdb.specs.declared.fault.PlanFault.{PlanFault as FaultValue};
 ghost use Rattle.dnp_pointdb.specs.Blocks.{ShareIndex};
 ghost use Rattle.dnp_pointdb.specs.Classes as classes;
-ghost use Rattle.dnp_pointdb.specs.Order.{AreOrders};
+ghost use Rattle.dnp_pointdb.specs.steps.Order.{AreOrders};
 ghost use Rattle.dnp_pointdb.specs.Plan.{plan_of, blocks_of, IsPlanFault, IsFirst, IsSound, HasWrongPoint, HasTooMany, IsTooWide, IsWrong};
 
 use crate::blocks::Blocks;
@@ -34,7 +34,7 @@ pub struct PointPlan {
 impl Model for PointPlan {
     ghost use Rattle.std.specs.Prelude.{IfSome};
     ghost use Rattle.dnp_pointdb.specs.Plan.{Plan, IsSound};
-    ghost use Rattle.dnp_pointdb.specs.Order.{AreOrders};
+    ghost use Rattle.dnp_pointdb.specs.steps.Order.{AreOrders};
 
     ghost Value = { Plan };
 

@@ -1,11 +1,12 @@
-//! Event lanes that overflow, step by step.
+//! Event lanes that overflow, step by step, in lists, in rings and in a database in memory.
 
 ghost use Rattle.std.specs.Prelude.{◌≡◌, true, All};
 ghost use Rattle.dnp_eventbuf.specs.Carried.{IsCarried};
 
 use Step::{Append, Counts, Empty, Offer, Release};
-use dnp_eventbuf::{Lane, LaneRow, Lanes, PlainLanes, StoreFault, Upto, is_carried};
+use dnp_eventbuf::{Lane, LaneRow, Lanes, PlainLanes, RingLanes, StoreFault, Upto, is_carried};
 use dnp_objects::Row;
+use dnp_store::Queue;
 use std::alloc::Global;
 use std::test::Fail;
 
@@ -143,12 +144,28 @@ const STEPS: [Step<'static>; 37] = [
     Offer(1, 0, 9, &[(23, 123)]),
 ];
 
+const CAPACITIES: [u32; 9] = [2, 4, 4, 4, 4, 4, 4, 4, 1];
+
+/// The first step that the lanes don't do as it says.
+fn first_wrong<L: Lanes>(lanes: &mut L, alloc: Global) -> Result<Option<usize>, StoreFault> {
+    for (number, step) in STEPS.iter().enumerate() {
+        if !does(lanes, alloc, *step)? {
+            return Ok(Some(number));
+        }
+    }
+    Ok(None)
+}
+
 #[test]
 fn lanes_step_by_step(rt: HostRuntime) -> Result<(), Fail> {
     let alloc = rt.alloc();
-    let mut lanes = PlainLanes::new(alloc, [2, 4, 4, 4, 4, 4, 4, 4, 1])?;
-    for (number, step) in STEPS.iter().enumerate() {
-        assert!(rt; does(&mut lanes, alloc, *step)?, "step {number}");
-    }
+    let mut lanes = PlainLanes::new(alloc, CAPACITIES)?;
+    assert_eq!(rt; first_wrong(&mut lanes, alloc)?, None, "lists");
+    let mut lanes = RingLanes::new(alloc, CAPACITIES)?;
+    assert_eq!(rt; first_wrong(&mut lanes, alloc)?, None, "rings");
+    let mut lanes = Queue::in_memory(alloc, CAPACITIES)
+        .ok()
+        .expect(&rt, "a queue");
+    assert_eq!(rt; first_wrong(&mut lanes, alloc)?, None, "a database");
     Ok(())
 }

@@ -10,6 +10,8 @@
 #[cfg(test)]
 mod above;
 #[cfg(test)]
+mod asked;
+#[cfg(test)]
 mod below;
 #[cfg(test)]
 mod books;

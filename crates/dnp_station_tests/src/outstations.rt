@@ -1,5 +1,7 @@
 //! What an outstation does, octet for octet: the tables of `polls`, `unsolicited` and `controls`, step
-//! by step.
+//! by step, with lanes in lists; the first two again in rings and in a database in memory.
+
+ghost use Rattle.std.specs.Prelude.{◌≤◌, All};
 
 use crate::controls::CONTROLS;
 use crate::plans::{Alike, plan_of};
@@ -7,11 +9,13 @@ use crate::polls::POLLS;
 use crate::unsolicited::UNSOLICITED;
 use arrayvec::ArrayVec;
 use dnp_controls::PlainOutputs;
-use dnp_eventbuf::{Lane, LaneRow, Lanes, PlainLanes, is_carried};
+use dnp_eventbuf::{Lane, LaneRow, Lanes, MAX_CAPACITY, PlainLanes, RingLanes, is_carried};
 use dnp_objects::{Command, Kind, Row};
 use dnp_outstation::{Actions, Fault, Fragment, Outstation};
 use dnp_pointdb::{PointDb, Reading, Times};
+use dnp_store::Queue;
 use std::alloc::Global;
+use std::test::Fail;
 
 /// What happens to an outstation.
 #[derive(Clone, Copy)]
@@ -156,7 +160,7 @@ fn did(actions: &Actions, does: Does<'_>) -> bool {
     }
 }
 
-type Station = Outstation<PlainLanes, PlainOutputs>;
+type Station<L> = Outstation<L, PlainOutputs>;
 
 /// A reading with flags 01.
 fn reading(value: i64, time: Option<u64>) -> Reading {
@@ -168,7 +172,7 @@ fn reading(value: i64, time: Option<u64>) -> Reading {
 }
 
 /// Appends the binary 0 of class 1 with this value at this time to its lane; answers whether it was.
-fn append(lanes: &mut PlainLanes, alloc: Global, value: i64, time: u64) -> bool {
+fn append<L: Lanes>(lanes: &mut L, alloc: Global, value: i64, time: u64) -> bool {
     let row = Row {
         kind: Kind::Binary,
         index: 0,
@@ -185,8 +189,8 @@ fn append(lanes: &mut PlainLanes, alloc: Global, value: i64, time: u64) -> bool 
 
 /// The analog 0 reads the values from the first up to the second; answers what the last one does, and
 /// nothing where one before it does more than nothing.
-fn read_all(
-    station: &mut Station,
+fn read_all<L: Lanes>(
+    station: &mut Station<L>,
     alloc: Global,
     now: u64,
     from: i64,
@@ -203,8 +207,8 @@ fn read_all(
 }
 
 /// Two octets and these objects, of at most 2,046 octets, come.
-fn ask(
-    station: &mut Station,
+fn ask<L: Lanes>(
+    station: &mut Station<L>,
     alloc: Global,
     now: u64,
     front: [u8; 2],
@@ -220,7 +224,12 @@ fn ask(
 }
 
 /// Makes a call at this moment.
-fn make(station: &mut Station, alloc: Global, now: u64, call: Call<'_>) -> Result<Actions, Fault> {
+fn make<L: Lanes>(
+    station: &mut Station<L>,
+    alloc: Global,
+    now: u64,
+    call: Call<'_>,
+) -> Result<Actions, Fault> {
     match call {
         Call::Opens => station.opened(alloc, now),
         Call::HangsUp => {
@@ -253,7 +262,7 @@ fn has_performed(outputs: &PlainOutputs, does: Does<'_>) -> bool {
 }
 
 /// Whether the outstation does the step as it says, at this moment or another, which it leaves.
-fn goes(station: &mut Station, alloc: Global, now: &mut u64, step: Step) -> bool {
+fn goes<L: Lanes>(station: &mut Station<L>, alloc: Global, now: &mut u64, step: Step) -> bool {
     if let Call::Ticks(moment) = step.0 {
         *now = moment;
     }
@@ -278,22 +287,58 @@ fn times_of(setup: Setup) -> Times {
     times
 }
 
-/// A closed outstation with these points, made so, with lanes of two rows each, or of 200.
-fn station_of(alloc: Global, blocks: &[Alike], setup: Setup) -> Option<Station> {
+/// How many rows each lane of an outstation that is made so takes.
+fn capacities_of(setup: Setup) -> [u32; 9]
+    ensures { All (λ capacity. (1 ≤ capacity) × (capacity ≤ MAX_CAPACITY)) result }
+{
+    match setup {
+        Setup::PolledInTwo | Setup::UnsolicitedInTwo => [2; 9],
+        Setup::Polled | Setup::Unsolicited => [200; 9],
+    }
+}
+
+/// A closed outstation with these points and lanes, made so.
+fn station_of<L: Lanes + Drop>(
+    alloc: Global,
+    blocks: &[Alike],
+    setup: Setup,
+    lanes: L,
+) -> Option<Station<L>> {
     let Ok(Ok(plan)) = plan_of(alloc, blocks) else {
         return None;
     };
     let points = PointDb::new(alloc, plan).ok()?;
-    let lanes = match setup {
-        Setup::PolledInTwo | Setup::UnsolicitedInTwo => PlainLanes::new(alloc, [2; 9]),
-        Setup::Polled | Setup::Unsolicited => PlainLanes::new(alloc, [200; 9]),
-    };
     let outputs = PlainOutputs::new(alloc, 6, 3);
-    Some(Outstation::new(points, lanes.ok()?, outputs, times_of(setup)))
+    Some(Outstation::new(points, lanes, outputs, times_of(setup)))
+}
+
+/// The first step that the outstation doesn't do as it says.
+fn first_wrong<L: Lanes>(station: &mut Station<L>, alloc: Global, steps: &[Step]) -> Option<usize> {
+    let mut now = 0;
+    steps
+        .iter()
+        .position(|step| !goes(station, alloc, &mut now, *step))
+}
+
+/// Whether an outstation with these points and lanes, made so, does all these steps, or else the first that it doesn't.
+fn steps_over<L: Lanes + Drop>(
+    alloc: Global,
+    points: &[Alike],
+    setup: Setup,
+    steps: &[Step],
+    lanes: L,
+) -> Result<(), Option<usize>> {
+    let Some(mut station) = station_of(alloc, points, setup, lanes) else {
+        return Err(None);
+    };
+    match first_wrong(&mut station, alloc, steps) {
+        None => Ok(()),
+        wrong => Err(wrong),
+    }
 }
 
 #[test]
-fn outstations_step_by_step(rt: HostRuntime) {
+fn outstations_step_by_step(rt: HostRuntime) -> Result<(), Fail> {
     let alloc = rt.alloc();
     let tables = [
         ("polls", POLLS.as_slice()),
@@ -302,14 +347,31 @@ fn outstations_step_by_step(rt: HostRuntime) {
     ];
     for (table, cases) in tables {
         for (case, (points, setup, steps)) in cases.iter().enumerate() {
-            let mut station = station_of(alloc, points, *setup).expect(&rt, "a station");
-            let mut now = 0;
-            for (number, step) in steps.iter().enumerate() {
-                assert!(rt;
-                    goes(&mut station, alloc, &mut now, *step),
-                    "{table}, case {case}, step {number}"
-                );
-            }
+            let lanes = PlainLanes::new(alloc, capacities_of(*setup))?;
+            let ran = steps_over(alloc, points, *setup, steps, lanes);
+            assert!(rt; ran.is_ok(), "{table}, case {case}: {ran:?}");
         }
     }
+    Ok(())
+}
+
+#[test]
+fn outstations_over_other_lanes(rt: HostRuntime) -> Result<(), Fail> {
+    let alloc = rt.alloc();
+    let tables = [
+        ("polls", POLLS.as_slice()),
+        ("unsolicited", UNSOLICITED.as_slice()),
+    ];
+    for (table, cases) in tables {
+        for (case, (points, setup, steps)) in cases.iter().enumerate() {
+            let rings = RingLanes::new(alloc, capacities_of(*setup))?;
+            let ran = steps_over(alloc, points, *setup, steps, rings);
+            assert!(rt; ran.is_ok(), "rings, {table}, case {case}: {ran:?}");
+            let queue = Queue::in_memory(alloc, capacities_of(*setup));
+            let queue = queue.ok().expect(&rt, "a queue");
+            let ran = steps_over(alloc, points, *setup, steps, queue);
+            assert!(rt; ran.is_ok(), "a queue, {table}, case {case}: {ran:?}");
+        }
+    }
+    Ok(())
 }

@@ -32,6 +32,10 @@ pub added-push : (s : Stock) (xs : List LaneRow) (x : LaneRow) → all_added s (
 added-push s [] x = refl
 added-push s (y ∷ xs) x = added-push (added s y) xs x
 
+pub added-append : (s : Stock) (xs ys : List LaneRow) → all_added s (xs ++ ys) ≡ all_added (all_added s xs) ys
+added-append s [] ys = refl
+added-append s (x ∷ xs) ys = added-append (added s x) xs ys
+
 -- a lane with rows behind its own
 abbrev pub behind : LaneState → List Numbered → LaneState
 behind lane came = record { capacity = lane.capacity; rows = lane.rows ++ came; lost = lane.lost }

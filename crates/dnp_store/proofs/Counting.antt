@@ -1,6 +1,7 @@
 -- The count that AUTOINCREMENT keeps, and the id that follows it.
-use Rattle.std.proofs.Common.{◌≡◌, ◌≢◌, ◌⊎◌, inl, inr, ℕ, ◌+◌, ◌≤◌, ℤ, pos, List, [], ◌∷◌, Bool, true, false, Option, Some, None, Ok, refl, sym, ap, subst, subst₂, ◌∙◌, arith, int_cmp}
+use Rattle.std.proofs.Common.{◌≡◌, ◌≢◌, ◌⊎◌, inl, inr, ℕ, ◌+◌, ◌<◌, ◌≤◌, ℤ, pos, List, length, map, drop, [], ◌∷◌, Bool, true, false, Option, Some, None, Ok, refl, sym, ap, subst, ◌∙◌, arith, int_cmp}
 use Rattle.std.specs.Prelude.{fold}
+use Rattle.std.specs.List.{AllByRecursion}
 use Rattle.std.specs.Ordering.{is_eq, is_lt}
 use Rattle.std.proofs.lemmas.Cmp.{tied_itself, int_cmp_total, nat_list_cmp_total}
 use Rattle.std.proofs.lemmas.Int.{ints}
@@ -16,7 +17,7 @@ use Rattle.sqlite.specs.Term.{Term}
 use Rattle.sqlite.specs.Schema.{Schema}
 use Rattle.sqlite.specs.Order.{Row}
 use Rattle.sqlite.specs.Tree.{Trees, put_row}
-use Rattle.sqlite.specs.Edit.{Edit, next_rowid, at_least, edit_of, put_all, with_rowid, taken_by}
+use Rattle.sqlite.specs.Edit.{Edit, next_rowid, at_least, edit_of, put_all, with_rowid, taken_by, numbered}
 use Rattle.sqlite.specs.Rowids.TheVariants.{Above, Chosen}
 use Rattle.sqlite.specs.Source.{Source}
 use Rattle.sqlite.specs.Cast.{cast, cast_row}
@@ -26,6 +27,8 @@ use Rattle.sqlite.specs.Rows.{Task, Written, Sourced, CounterIn, CountsIn, Count
 use Rattle.sqlite_rules.specs.Action.{works}
 use Rattle.sqlite.proofs.Callers.{one_step}
 use Rattle.dnp_store.specs.Tables.{sequence, schema_of, table_of, count_row, IsCounted}
+use Rattle.dnp_store.proofs.IdRows.{IsUnder}
+use Rattle.dnp_store.proofs.CountingMany.{ids_from, rises_to, higher_is, highest, numbered_on}
 use Rattle.dnp_store.proofs.Statements.{went, same_value, picked}
 use Rattle.std.proofs.Common.{cond}
 
@@ -53,12 +56,6 @@ same_name name = ap is_eq (value_cmp-Text name name ∙ tied_itself nat_list_cmp
 pub next_id : (rows : List Row) (n m : ℕ) → next_rowid rows ≡ pos m → m ≤ n + 1 → at_least (Above (pos n)) (next_rowid rows) ≡ pos (n + 1)
 next_id rows n m is low = grind (is, low, arith, ints)
 
-rises : (n : ℕ) → is_lt (int_cmp (pos n) (pos (n + 1))) ≡ true
-rises n = grind (arith, ints)
-
-higher_is : (n : ℕ) (rest : Row) → higher (pos n) (Int (pos (n + 1)) ∷ rest) ≡ pos (n + 1)
-higher_is n rest = rw (rises n)
-
 -- ---- the row of `sqlite_sequence`
 
 cast_count : (name : List ℕ) (id : ℤ) (n : ℕ) → cast_row sequence (count_row name id n) ≡ count_row name id n
@@ -79,6 +76,12 @@ none_is = refl
 pub record PutsAt (name : List ℕ) (db : Trees) (rest : Row) (n : ℕ) (now : Trees) : Type 0 where
   pub table : now 1 ≡ put_row (Int (pos (n + 1)) ∷ rest) (db 1)
   pub count : IsCounted name (now 2) (n + 1)
+  pub others : (t : ℕ) → t ≢ 1 → t ≢ 2 → now t ≡ db t
+
+-- several rows more, under the ids that follow the count, which rises with them
+pub record PutsAll (name : List ℕ) (db : Trees) (rests : List Row) (n : ℕ) (now : Trees) : Type 0 where
+  pub table : now 1 ≡ put_all (db 1) (ids_from n rests)
+  pub count : IsCounted name (now 2) (n + length rests)
   pub others : (t : ℕ) → t ≢ 1 → t ≢ 2 → now t ≡ db t
 
 2_apart : (t : ℕ) → t ≡ 2 → t ≢ 1
@@ -103,30 +106,30 @@ module _ (name : List ℕ) (columns : List Column) (form checks : List Term) (mo
         → counter ≡ counter_in db table sequence
     counter_is db counter h = same_value (subst (λ s. CounterIn (task limit params) db s (Ok counter)) listed h)
 
-    -- the count rises
+    -- the count rises to a greater number
     abbrev pub Raised : ℕ → Trees → Trees → Type 0
-    Raised n mid next = IsCounted name (next 2) (n + 1) × ((t : ℕ) → t ≢ 2 → next t ≡ mid t)
+    Raised top mid next = IsCounted name (next 2) top × ((t : ℕ) → t ≢ 2 → next t ≡ mid t)
 
-    counts_some : (mid next : Trees) (id : ℤ) (n : ℕ) → mid 2 ≡ count_row name id n ∷ []
-        → Counts (task limit params) mid (Some (count_row name id n)) (pos (n + 1)) (Ok next) → Raised n mid next
+    counts_some : (mid next : Trees) (id : ℤ) (n top : ℕ) → n < top → mid 2 ≡ count_row name id n ∷ []
+        → Counts (task limit params) mid (Some (count_row name id n)) (pos top) (Ok next) → Raised top mid next
     unfolding everything
-    counts_some mid next id n is h =
+    counts_some mid next id n top low is h =
         let counter = Some (count_row name id n) in
-        let in_table = picked _ (is_lt (int_cmp (count_of counter) (pos (n + 1)))) (ap (λ c. is_lt (int_cmp c (pos (n + 1)))) (count_is name id n) ∙ rises n)
+        let in_table = picked _ (is_lt (int_cmp (count_of counter) (pos top))) (ap (λ c. is_lt (int_cmp c (pos top))) (count_is name id n) ∙ rises_to n top low)
         h in
-        let edits = subst (λ s. CountsIn (task limit params) mid counter (pos (n + 1)) s (Ok next)) listed in_table in
-        let edit = counting mid table sequence (pos (n + 1)) counter in
+        let edits = subst (λ s. CountsIn (task limit params) mid counter (pos top) s (Ok next)) listed in_table in
+        let edit = counting mid table sequence (pos top) counter in
         let step = one_step schema Enforced mid next edit (quiet mid edit) edits in
-        (inr (id, step.rows ∙ rw (is, same_id id) (ap (λ (r : Row). r ∷ []) (cast_count name id (n + 1)))), λ t other. step.others t other tt)
+        (inr (id, step.rows ∙ rw (is, same_id id) (ap (λ (r : Row). r ∷ []) (cast_count name id top))), λ t other. step.others t other tt)
 
-    counts_first : (mid next : Trees) → mid 2 ≡ [] → Counts (task limit params) mid None (pos 1) (Ok next) → Raised 0 mid next
+    counts_first : (mid next : Trees) (top : ℕ) → 0 < top → mid 2 ≡ [] → Counts (task limit params) mid None (pos top) (Ok next) → Raised top mid next
     unfolding everything
-    counts_first mid next is h =
-        let in_table = picked _ (is_lt (int_cmp (count_of None) (pos 1))) (ap (λ c. is_lt (int_cmp c (pos 1))) none_is ∙ rises 0) h in
-        let edits = subst (λ s. CountsIn (task limit params) mid None (pos 1) s (Ok next)) listed in_table in
-        let edit = counting mid table sequence (pos 1) None in
+    counts_first mid next top low is h =
+        let in_table = picked _ (is_lt (int_cmp (count_of None) (pos top))) (ap (λ c. is_lt (int_cmp c (pos top))) none_is ∙ rises_to 0 top low) h in
+        let edits = subst (λ s. CountsIn (task limit params) mid None (pos top) s (Ok next)) listed in_table in
+        let edit = counting mid table sequence (pos top) None in
         let step = one_step schema Enforced mid next edit (quiet mid edit) edits in
-        (inr (pos 1, step.rows ∙ rw is (ap (λ (r : Row). put_row (with_rowid Chosen [] r) []) (cast_first name 1))), λ t other. step.others t other tt)
+        (inr (pos 1, step.rows ∙ rw is (ap (λ (r : Row). put_row (with_rowid Chosen [] r) []) (cast_first name top))), λ t other. step.others t other tt)
 
     -- the row is found that counts, or there is none
     abbrev Found : Trees → Option Row → ℕ → Type 0
@@ -140,13 +143,12 @@ module _ (name : List ℕ) (columns : List Column) (form checks : List Term) (mo
     top_is db counter n (inl none) = ap count_of none.0 ∙ none_is ∙ ap pos (sym none.2)
     top_is db counter n (inr one) = ap count_of one.1 ∙ count_is name one.0 n
 
-    counted_to : (db mid next : Trees) (counter : Option Row) (n : ℕ) → Found db counter n → mid 2 ≡ db 2
-        → Counts (task limit params) mid counter (pos (n + 1)) (Ok next) → Raised n mid next
-    counted_to db mid next counter n (inl none) same h =
-        subst (λ (k : ℕ). Raised k mid next) (sym none.2) (counts_first mid next (same ∙ none.1)
-        (subst₂ (λ c (k : ℕ). Counts (task limit params) mid c (pos (k + 1)) (Ok next)) none.0 none.2 h))
-    counted_to db mid next counter n (inr one) same h =
-        counts_some mid next one.0 n (same ∙ one.2) (subst (λ c. Counts (task limit params) mid c (pos (n + 1)) (Ok next)) one.1 h)
+    counted_to : (db mid next : Trees) (counter : Option Row) (n top : ℕ) → n < top → Found db counter n → mid 2 ≡ db 2
+        → Counts (task limit params) mid counter (pos top) (Ok next) → Raised top mid next
+    counted_to db mid next counter n top low (inl none) same h =
+        counts_first mid next top (omega (arith, none.2)) (same ∙ none.1) (subst (λ c. Counts (task limit params) mid c (pos top) (Ok next)) none.0 h)
+    counted_to db mid next counter n top low (inr one) same h =
+        counts_some mid next one.0 n top low (same ∙ one.2) (subst (λ c. Counts (task limit params) mid c (pos top) (Ok next)) one.1 h)
 
     news_are : (db : Trees) (source rest : Row) (t : ℤ) (n m : ℕ) → t ≡ pos n → next_rowid (db 1) ≡ pos m → m ≤ n + 1 → cast_row table source ≡ Null ∷ rest
         → (edit_of db table [] (Above t) 0 (source ∷ [])).news ≡ (Int (pos (n + 1)) ∷ rest) ∷ []
@@ -173,10 +175,40 @@ module _ (name : List ℕ) (columns : List Column) (form checks : List Term) (mo
         let step = one_step schema Enforced db edited_to.0 (edit sourced.0) (quiet db (edit sourced.0)) edited_to.1 in
         let risen : fold higher top (edit sourced.0).news ≡ pos (n + 1) =
         ap (λ rows. fold higher top rows) news ∙ ap (λ t. higher t (Int (pos (n + 1)) ∷ rest)) (top_is db counter.0 n at) ∙ higher_is n rest in
-        let last = counted_to db edited_to.0 next.0 counter.0 n at (step.others 2 (2_apart 2 refl) tt)
+        let last = counted_to db edited_to.0 next.0 counter.0 n (n + 1) (omega arith) at (step.others 2 (2_apart 2 refl) tt)
         (subst (λ t. Counts (task limit params) edited_to.0 counter.0 t (Ok next.0)) risen next.1) in
         record {
           table = ap (λ (w : Written). w.trees 1) out ∙ last.1 1 (1_apart 1 refl) ∙ step.rows ∙ ap (put_all (db 1)) news;
           count = subst (λ (w : Written). IsCounted name (w.trees 2) (n + 1)) (sym out) last.0;
+          others = λ t not_1 not_2. ap (λ (w : Written). w.trees t) out ∙ last.1 t not_2 ∙ step.others t not_1 tt;
+        }
+
+    pub inserted_all : (db : Trees) (a : Written) (rests : List Row) (from : Source) (n : ℕ) → IsCounted name (db 2) n → AllByRecursion (IsUnder n) (db 1)
+        → at_least (Above (pos n)) (next_rowid (db 1)) ≡ pos (n + 1) → 0 < length rests
+        → ((rows : List Row) → Sourced limit (record { schema = schema; trees = db }) (stamped table params) from (Ok rows)
+        → map (λ s. cast_row table (drop 0 s)) rows ≡ map (λ r. Null ∷ r) rests)
+        → Inserts (task limit params) from db (Ok a) → PutsAll name db rests n a.trees
+    unfolding everything
+    inserted_all db a rests from n counted under next_is some sources h =
+        let sourced = went h in
+        let counter = went sourced.2 in
+        let edited_to = went counter.2 in
+        let next = went edited_to.2 in
+        let out = same_value next.2 in
+        let at : Found db counter.0 n = found db counter.0 n (counter_is db counter.0 counter.1) counted in
+        let top = count_of counter.0 in
+        let top_same : top ≡ pos n = top_is db counter.0 n at in
+        let edit = λ (rows : List Row). edit_of db table [] (Above top) 0 rows in
+        let news : (edit sourced.0).news ≡ ids_from n rests =
+        ap (λ (cs : List Row). numbered (Above top) (db 1) cs) (sources sourced.0 sourced.1)
+        ∙ ap (λ (t : ℤ). numbered (Above t) (db 1) (map (λ r. Null ∷ r) rests)) top_same ∙ numbered_on n n (db 1) rests under next_is (omega arith) in
+        let step = one_step schema Enforced db edited_to.0 (edit sourced.0) (quiet db (edit sourced.0)) edited_to.1 in
+        let risen : fold higher top (edit sourced.0).news ≡ pos (n + length rests) =
+        ap (λ rows. fold higher top rows) news ∙ ap (λ (t : ℤ). fold higher t (ids_from n rests)) top_same ∙ highest n rests in
+        let last = counted_to db edited_to.0 next.0 counter.0 n (n + length rests) (omega arith) at (step.others 2 (2_apart 2 refl) tt)
+        (subst (λ t. Counts (task limit params) edited_to.0 counter.0 t (Ok next.0)) risen next.1) in
+        record {
+          table = ap (λ (w : Written). w.trees 1) out ∙ last.1 1 (1_apart 1 refl) ∙ step.rows ∙ ap (put_all (db 1)) news;
+          count = subst (λ (w : Written). IsCounted name (w.trees 2) (n + length rests)) (sym out) last.0;
           others = λ t not_1 not_2. ap (λ (w : Written). w.trees t) out ∙ last.1 t not_2 ∙ step.others t not_1 tt;
         }

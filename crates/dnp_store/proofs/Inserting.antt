@@ -1,5 +1,6 @@
 -- What an INSERT of a row under the next id makes of a store's tables.
-use Rattle.std.proofs.Common.{◌≡◌, ℕ, ◌+◌, ◌≤◌, pos, List, [], ◌∷◌, Some, None, Ok, refl, sym, ap, subst}
+use Rattle.std.proofs.Common.{◌≡◌, ℕ, ◌+◌, ◌<◌, ◌≤◌, pos, List, [], ◌∷◌, length, map, drop, Some, None, Ok, refl, sym, ap, subst}
+use Rattle.std.specs.List.{AllByRecursion}
 use Rattle.sqlite_tied.specs.Compute.{everything}
 use Rattle.sqlite_schema.specs.declared.schema.Keys.TheVariants.{Enforced}
 use Rattle.sqlite.specs.declared.types.Value.TheVariants.{Null}
@@ -24,7 +25,8 @@ use Rattle.dnp_store.specs.declared.store_kind.StoreKind.TheVariants.{Queue, Jou
 use Rattle.dnp_store.specs.steps.Stores.{name_of, columns_of, rows_with, more_with, schema_for}
 use Rattle.dnp_store.proofs.Statements.{written}
 use Rattle.dnp_store.proofs.Counting as counting
-use Rattle.dnp_store.proofs.Counting.{PutsAt}
+use Rattle.dnp_store.proofs.Counting.{PutsAt, PutsAll, next_id}
+use Rattle.dnp_store.proofs.IdRows.{IsUnder}
 
 -- no table refers to another
 pub quiet : (kind : StoreKind) (f r m : List Term) (db : Trees) (e : Edit) → works (schema_for kind f r m) Enforced 0 e.table.tree (taken_by db e) e.news ≡ []
@@ -56,3 +58,21 @@ inserts kind f r m old new text params source rest from n next count is plain so
     let put = counting.inserted (name_of kind) (columns_of kind) f r (more_with kind m) (listed kind f r m) (quiet kind f r m) old.step_limit params
     old.now.trees done.0 source rest from n next counted next_is low sources casts done.1 in
     (ap (λ (d : Database). d.schema) done.2, subst (λ (d : Database). PutsAt (name_of kind) old.now.trees rest n d.trees) (sym done.2) put)
+
+pub inserts_all : (kind : StoreKind) (f r m : List Term) (old new : State) (text : List ℕ) (params : Row) (rests : List Row) (from : Source) (n next count : ℕ)
+    → command_of (understood (schema_for kind f r m) text) ≡ Insert 1 from → IsPlain (understood (schema_for kind f r m) text)
+    → ((rows : List Row) → Sourced old.step_limit (record { schema = schema_for kind f r m; trees = old.now.trees })
+    (stamped (rows_with kind r) params) from (Ok rows)
+    → map (λ s. cast_row (rows_with kind r) (drop 0 s)) rows ≡ map (λ r. Null ∷ r) rests)
+    → 0 < length rests → old.now.schema ≡ schema_for kind f r m → IsCounted (name_of kind) (old.now.trees 2) n
+    → AllByRecursion (IsUnder n) (old.now.trees 1) → next_rowid (old.now.trees 1) ≡ pos next → next ≤ n + 1 → Executes text params old new (Ok count)
+    → (new.now.schema ≡ schema_for kind f r m) × PutsAll (name_of kind) old.now.trees rests n new.now.trees
+inserts_all kind f r m old new text params rests from n next count is plain sources some has counted under next_is low h =
+    let w = runs_as text params old new (schema_for kind f r m) has (Insert 1 from) is plain count h in
+    let task = counting.task (name_of kind) (columns_of kind) f r (more_with kind m) old.step_limit params in
+    let does = subst (λ s. Does old.step_limit (mode_of old) params (record old.now { schema = s })
+    (statement_of text (understood (schema_for kind f r m) text)) None (Insert 1 from) (Ok (w.tally, new.now))) has w.changed in
+    let done = written task (mode_of old) (Insert 1 from) old.now.trees w.tally new.now does in
+    let put = counting.inserted_all (name_of kind) (columns_of kind) f r (more_with kind m) (listed kind f r m) (quiet kind f r m) old.step_limit params
+    old.now.trees done.0 rests from n counted under (next_id (old.now.trees 1) n next next_is low) some sources done.1 in
+    (ap (λ (d : Database). d.schema) done.2, subst (λ (d : Database). PutsAll (name_of kind) old.now.trees rests n d.trees) (sym done.2) put)

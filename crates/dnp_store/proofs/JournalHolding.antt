@@ -1,5 +1,5 @@
 -- The events that a journal's tables hold after a statement.
-use Rattle.std.proofs.Common.{◌≡◌, ℕ, zero, suc, ◌+◌, ◌<◌, ◌≤◌, ◌^◌, pos, Bool, true, false, List, [], ◌∷◌, ◌++◌, map, length, codes, Option, Some, None, Ok, refl, sym, ap, ap₂, subst, subst₂, ◌∙◌, arith, nat_cmp, Ordering, IsPermutation, append_assoc, length-append, add-one}
+use Rattle.std.proofs.Common.{◌≡◌, ℕ, zero, suc, ◌+◌, ◌<◌, ◌≤◌, ◌^◌, pos, Bool, true, false, List, [], ◌∷◌, ◌++◌, map, length, codes, Option, Some, None, Ok, refl, sym, ap, ap₂, subst, subst₂, ◌∙◌, arith, nat_cmp, Ordering, IsPermutation, append_assoc, length-append, append-nil, add-one}
 use Rattle.std.specs.List.{AllByRecursion, IsDistinct}
 use Rattle.std.specs.Ordering.{is_lt, is_eq}
 use Rattle.std.specs.List.Sorted.{IsSorted}
@@ -65,7 +65,7 @@ pushed : (last : ℕ) (xs : List Queued) (y : Queued) → AllByRecursion (IsLogg
 pushed last [] y all h = (h, tt)
 pushed last (x ∷ xs) y all h = (later last x all.0, pushed last xs y all.1 h)
 
-put : (db now : Trees) (a : Archive) (row : Event) → HoldsArchive db a
+pub put : (db now : Trees) (a : Archive) (row : Event) → HoldsArchive db a
     → PutsAt (codes "journal") db (queued_cells (logged_for (a.last_id + 1) row)) a.last_id now → HoldsArchive now (with_events a (row ∷ []))
 put db now a row h puts =
     let new = logged_for (a.last_id + 1) row in
@@ -107,25 +107,22 @@ insert_bound x a b c d t p q r s u = rw (p, q, r, s, u, bound_time x.time) refl
 
 -- ---- events one after another
 
-numbered-push : (last : ℕ) (rows : List Event) (row : Event) → numbered last (rows ++ row ∷ []) ≡ numbered last rows ++ (record { id = last + length rows + 1; row = row }) ∷ []
-numbered-push last [] row = ap (λ (n : ℕ). (record { id = n; row = row }) ∷ []) (plus_none last)
-  where
-    plus_none : (n : ℕ) → n + 1 ≡ n + 0 + 1
-    plus_none n = omega arith
-numbered-push last (r ∷ rows) row =
-    ap (λ (xs : List Numbered). (record { id = last + 1; row = r }) ∷ xs) (numbered-push (last + 1) rows row
-    ∙ ap (λ (n : ℕ). numbered (last + 1) rows ++ (record { id = n; row = row }) ∷ []) (plus_one last (length rows)))
-  where
-    plus_one : (n k : ℕ) → n + 1 + k + 1 ≡ n + suc k + 1
-    plus_one n k = omega arith
+numbered-append : (last : ℕ) (xs ys : List Event) → numbered last (xs ++ ys) ≡ numbered last xs ++ numbered (last + length xs) ys
+numbered-append last [] ys = ap (λ (n : ℕ). numbered n ys) (let same : last ≡ last + 0 = omega arith in same)
+numbered-append last (x ∷ xs) ys =
+    ap (λ (es : List Numbered). (record { id = last + 1; row = x }) ∷ es) (numbered-append (last + 1) xs ys
+    ∙ ap (λ (n : ℕ). numbered (last + 1) xs ++ numbered n ys) (let same : last + 1 + length xs ≡ last + suc (length xs) = omega arith in same))
 
-pub with-push : (a : Archive) (rows : List Event) (row : Event) → with_events (with_events a rows) (row ∷ []) ≡ with_events a (rows ++ row ∷ [])
-with-push a rows row =
-    ap₂ (λ (xs : List Numbered) (n : ℕ). record { rows = xs; last_id = n })
-    (append_assoc a.rows (numbered a.last_id rows) _ ∙ ap (λ xs. a.rows ++ xs) (sym (numbered-push a.last_id rows row))) (more rows)
-  where
-    more : (rows : List Event) → a.last_id + length rows + 1 ≡ a.last_id + length (rows ++ row ∷ [])
-    more rows = let longer = length-append rows (row ∷ []) in omega (arith, longer)
+pub with-append : (a : Archive) (xs ys : List Event) → with_events (with_events a xs) ys ≡ with_events a (xs ++ ys)
+with-append a xs ys =
+    ap₂ (λ (es : List Numbered) (n : ℕ). record { rows = es; last_id = n })
+    (append_assoc a.rows (numbered a.last_id xs) _ ∙ ap (λ es. a.rows ++ es) (sym (numbered-append a.last_id xs ys)))
+    (let longer = length-append xs ys in let same : a.last_id + length xs + length ys ≡ a.last_id + length (xs ++ ys) = omega (arith, longer) in same)
+
+pub with-none : (a : Archive) → with_events a [] ≡ a
+with-none a =
+    ap₂ (λ (es : List Numbered) (n : ℕ). record { rows = es; last_id = n }) (append-nil a.rows)
+    (let same : a.last_id + 0 ≡ a.last_id = omega arith in same)
 
 -- ---- the archive that the trees hold is the one that they tell
 

@@ -1,22 +1,12 @@
--- What the queries of an open show of a journal's tables.
-use Rattle.std.proofs.Common.{◌≡◌, ℕ, suc, ◌+◌, ◌<◌, ◌≤◌, Bool, false, List, [], ◌∷◌, map, length, codes, Option, Some, None, Ok, Err, Result, IfOk, refl, sym, ap₂, subst, arith, IsPermutation}
-use Rattle.std.specs.Prelude.{Vec, if◌then◌else◌}
-use Rattle.std.specs.declared.alloc.Global.{Global}
+-- What the rows of a journal's table say, as an open reads them.
+use Rattle.std.proofs.Common.{◌≡◌, ℕ, suc, ◌+◌, ◌<◌, ◌≤◌, Bool, List, [], ◌∷◌, map, length, codes, Option, Some, None, refl, sym, ap₂, arith}
+use Rattle.std.specs.Prelude.{if◌then◌else◌}
 use Rattle.std.specs.List.{AllByRecursion}
-use Rattle.std.proofs.lemmas.List.Sorted.{IsPermutation-sym}
-use Rattle.sqlite_tied.specs.Compute.{everything}
-use Rattle.sqlite_trees.proofs.ListLemmas.{all-permutation, all_weaker}
-use Rattle.sqlite.specs.Command.TheVariants.{Select}
-use Rattle.sqlite.specs.declared.types.Value.{Value}
-use Rattle.sqlite.specs.declared.types.Value.TheVariants.{Null}
+use Rattle.sqlite_trees.proofs.ListLemmas.{all_weaker}
 use Rattle.sqlite.specs.Order.{Row}
 use Rattle.sqlite.specs.Term.{Term}
 use Rattle.sqlite.specs.Tree.{IsAscending}
 use Rattle.sqlite.specs.Effect.{Database, IsDatabase}
-use Rattle.sqlite.specs.Given.{IsPlain}
-use Rattle.sqlite.specs.Listing.{understood, reads_listing}
-use Rattle.sqlite.specs.State.{State, Shown}
-use Rattle.sqlite.proofs.Callers.{command_of, reads_as}
 use Rattle.dnp_objects.specs.declared.row.Kind.{Kind}
 use Rattle.dnp_objects.specs.Lanes.{kind_number}
 use Rattle.dnp_eventbuf.specs.declared.numbered.Numbered.{Numbered}
@@ -25,24 +15,9 @@ use Rattle.dnp_store.specs.QueueTables.{queue_columns, Queued, queued_row, event
 use Rattle.dnp_store.specs.JournalTables.{journal_schema, journal_columns, IsLogged}
 use Rattle.dnp_store.specs.steps.JournalShown.{ShowsEvent, ShowEvents, AreInOrder, Logs, Finds}
 use Rattle.dnp_store.specs.declared.store_kind.StoreKind.TheVariants.{Journal}
-use Rattle.dnp_store.specs.steps.Stores.{Reads}
 use Rattle.dnp_store.proofs.Rows.{IsTyped, typed_rows, queue_row, queued_of}
-use Rattle.dnp_store.proofs.Opening.{query, listed, shown_by, unchanged, queue_terms}
+use Rattle.dnp_store.proofs.Opening.{shown_by, queue_terms}
 use Rattle.dnp_store.proofs.JournalHolding.{kind_is, kind_low}
-
--- ---- what the texts are
-
-abbrev pub journal_query : List ℕ
-journal_query = codes "SELECT id, kind, point, flags, value, time FROM journal ORDER BY id"
-
-journal_is : (f j : List Term) → (command_of (understood (journal_schema f j) journal_query) ≡ Select (record { lets = []; body = query 1 queue_terms })
-    (codes "id" ∷ codes "kind" ∷ codes "point" ∷ codes "flags" ∷ codes "value" ∷ codes "time" ∷ [])) × (reads_listing (journal_schema f j) journal_query ≡ false)
-unfolding understood everything
-journal_is f j = (refl, refl)
-
-journal_plain : (f j : List Term) → IsPlain (understood (journal_schema f j) journal_query)
-unfolding understood everything
-journal_plain f j = (refl, refl)
 
 -- ---- rows have their tables' columns
 
@@ -58,14 +33,14 @@ retyped (a ∷ b ∷ c ∷ d ∷ e ∷ g ∷ []) h = h
 retyped (a ∷ b ∷ c ∷ d ∷ e ∷ g ∷ i ∷ []) h = h
 retyped (a ∷ b ∷ c ∷ d ∷ e ∷ g ∷ i ∷ k ∷ more) h = h
 
-typed_journal : (db : Database) (f j m : List Term) → db.schema ≡ journal_schema f j → IsDatabase db
+pub typed_journal : (db : Database) (f j m : List Term) → db.schema ≡ journal_schema f j → IsDatabase db
     → AllByRecursion (IsTyped (Some 0) queue_columns) (db.trees 1)
 typed_journal db f j m has sound =
     all_weaker (IsTyped (Some 0) journal_columns) (IsTyped (Some 0) queue_columns) retyped (db.trees 1) (typed_rows Journal db f j m has sound)
 
 -- ---- events of rows
 
-record Logged (rs : List Row) (es : List Numbered) : Type 0 where
+pub record Logged (rs : List Row) (es : List Numbered) : Type 0 where
   pub queued : List Queued
   pub rows_are : rs ≡ map queued_row queued
   pub events_are : es ≡ map event_of queued
@@ -80,7 +55,7 @@ event_is e short time =
     ap₂ (λ (kind : Kind) (t : Option ℕ). record { id = e.id; row = record { kind = kind; index = e.row.index; flags = e.row.flags; value = e.row.value; time = t } })
     (kind_is e.row.kind) time
 
-logged : (rs : List Row) (es : List Numbered) → AllByRecursion (IsTyped (Some 0) queue_columns) rs → ShowEvents (map shown rs) es → Logged rs es
+pub logged : (rs : List Row) (es : List Numbered) → AllByRecursion (IsTyped (Some 0) queue_columns) rs → ShowEvents (map shown rs) es → Logged rs es
 logged [] [] types h = record { queued = []; rows_are = refl; events_are = refl; kinds = tt }
 logged [] (e ∷ es) types h = absurd (let long = h.long in omega arith)
 logged (r ∷ rs) [] types h = absurd (let long = h.long in omega arith)
@@ -97,12 +72,12 @@ logged (r ∷ rs) (e ∷ es) types h =
       kinds = (kind_low e.row.kind, rest.kinds);
     }
 
-record Ordered (before last : ℕ) (xs : List Queued) : Type 0 where
+pub record Ordered (before last : ℕ) (xs : List Queued) : Type 0 where
   pub rise : IsAscending (λ x y. x.id < y.id) xs
   pub over : AllByRecursion (λ (x : Queued). before < x.id) xs
   pub in_range : AllByRecursion (IsLogged last) xs
 
-ordered : (before last : ℕ) (xs : List Queued) → AreInOrder before last (map event_of xs) → AllByRecursion (λ (x : Queued). x.lane < 3) xs → Ordered before last xs
+pub ordered : (before last : ℕ) (xs : List Queued) → AreInOrder before last (map event_of xs) → AllByRecursion (λ (x : Queued). x.lane < 3) xs → Ordered before last xs
 ordered before last [] h kinds = record { rise = tt; over = tt; in_range = tt }
 ordered before last (x ∷ xs) h kinds =
     let rest = ordered x.id last xs h.2 kinds.1 in
@@ -120,35 +95,6 @@ few_in_order before last (e ∷ es) h low =
     let most = h.1 in
     let rest = few_in_order e.id last es h.2 most in
     omega arith
-
--- ---- what the queries say of the trees
-
-module _ (old new : State) (rows : List Row) where
-  pub reads_logged : Shown journal_query [] old new rows
-      → Reads Journal old new (λ db. (events : List Numbered) (last : ℕ) → ShowEvents rows events → AreInOrder 0 last events → Logs db events last)
-  reads_logged shows f j m sound has =
-      let read = reads_as journal_query [] old new (journal_schema f j) has _ (journal_is f j).0 (journal_plain f j) (journal_is f j).1 rows shows in
-      let got = listed 1 queue_terms old.now.trees rows refl (read.answer Null) in
-      let types = all-permutation (IsTyped (Some 0) queue_columns) (old.now.trees 1) got.0 got.1 (typed_journal old.now f j m has sound) in (
-        unchanged journal_query old new (journal_schema f j) rows has (journal_plain f j) shows,
-        λ events last each rises.
-            let did = logged got.0 events types (subst (λ (xs : List Row). ShowEvents xs events) got.2 each) in
-            let order = ordered 0 last did.queued (subst (AreInOrder 0 last) did.events_are rises) did.kinds in
-            record {
-              logged = did.queued;
-              logged_is = subst (λ xs. IsPermutation xs (old.now.trees 1)) did.rows_are (IsPermutation-sym (old.now.trees 1) got.0 got.1);
-              rise = order.rise;
-              in_range = order.in_range;
-              rows = did.events_are;
-            },
-      )
-
-module _ {E : Type 0} (old new : State) where
-  pub logged_if : (r : Result (Vec (List Value) Global) E) → IfOk r (λ rows. Shown journal_query [] old new rows.items)
-      → IfOk r (λ rows. Reads Journal old new (λ db. (events : List Numbered) (last : ℕ) → ShowEvents rows.items events
-      → AreInOrder 0 last events → Logs db events last))
-  logged_if (Ok rows) shows = reads_logged old new rows.items shows
-  logged_if (Err e) shows = tt
 
 -- the events that were read are those of the database
 pub opened : (db : Database) (f j : List Term) (events : List Numbered) (last : ℕ) → db.schema ≡ journal_schema f j → IsForm1 (db.trees 0)

@@ -8,6 +8,7 @@ use Rattle.std.proofs.lemmas.List.{take-map}
 use Rattle.std.proofs.lemmas.List.Sorted.{IsPermutation-trans, IsPermutation-map}
 use Rattle.sqlite_tied.specs.Compute.{everything}
 use Rattle.sqlite_keyed.proofs.SortLemmas.{sorted_unique}
+use Rattle.sqlite_trees.proofs.ListLemmas.{pull_back}
 use Rattle.sqlite_keyed.proofs.ListLemmas.{map-map, filter-map, ascending-filter, ascending-map, ascending_weaker, IsPermutation-filter}
 use Rattle.sqlite.specs.Command.TheVariants.{Select}
 use Rattle.sqlite.specs.Program.{overlay}
@@ -99,7 +100,7 @@ unfolding understood everything
 over_plain f j = (refl, refl)
 
 -- the row's id is over this one, as SQL compares them
-abbrev is_over : ℕ → Row → Bool
+abbrev pub is_over : ℕ → Row → Bool
 is_over from row = list_all (holds ((Int (pos from) ∷ []) ∷ row ∷ [])) (op2 (Compare Gt Binary) (col 1 0) (col 0 0) ∷ [])
 
 gt_is : (a b : ℕ) → is_gt (int_cmp (pos a) (pos b)) ≡ nat_lt b a
@@ -109,7 +110,7 @@ gt_holds : (a b : ℕ) → is_true (binary (Compare Gt Binary) (Int (pos a)) (In
 unfolding binary
 gt_holds a b = truth_of (is_gt (value_cmp (Int (pos a)) (Int (pos b)))) ∙ ap is_gt (value_cmp-Int (pos a) (pos b)) ∙ gt_is a b
 
-over_holds : (from : ℕ) (x : Queued) → is_over from (queued_row x) ≡ nat_lt from x.id
+pub over_holds : (from : ℕ) (x : Queued) → is_over from (queued_row x) ≡ nat_lt from x.id
 over_holds from x = go (is_true (binary (Compare Gt Binary) (Int (pos x.id)) (Int (pos from)))) (gt_holds x.id from)
   where
     go : (b : Bool) → b ≡ nat_lt from x.id → list_all (λ (c : Bool). c) (b ∷ []) ≡ nat_lt from x.id
@@ -127,7 +128,7 @@ overs from (x ∷ xs) = rw (over_holds from x) (go (nat_lt from x.id) (overs fro
     go false rest = rest
 
 -- a loop over one table passes on the rows that the test lets through
-passes_on : {X Y : Type 0} (p : X → Bool) (f : X → Y) (xs : List X) → flat_map (λ x. cond (p x) (f x ∷ []) []) xs ≡ map f (filter p xs)
+pub passes_on : {X Y : Type 0} (p : X → Bool) (f : X → Y) (xs : List X) → flat_map (λ x. cond (p x) (f x ∷ []) []) xs ≡ map f (filter p xs)
 passes_on p f [] = refl
 passes_on p f (x ∷ xs) = elim (p x) as (λ b. cond b (f x ∷ []) [] ++ flat_map (λ y. cond (p y) (f y ∷ []) []) xs ≡ map f (cond b (x ∷ filter p xs) (filter p xs))) [
   | true ↦ ap (λ l. f x ∷ l) (passes_on p f xs)
@@ -139,6 +140,25 @@ over_params from most = Int (pos from) ∷ Int (pos most) ∷ []
 
 made : Row → Output
 made r = (rowid r ∷ [], shown_row r)
+
+-- the first of the rows over the id, in some order
+pub over_listed : (old new : State) (f j : List Term) (from most : ℕ) (rows : List Row) → old.now.schema ≡ journal_schema f j
+    → Shown over_text (over_params from most) old new rows
+    → (rs : List Row) × IsPermutation (filter (is_over from) (old.now.trees 1)) rs × (rows ≡ map shown_row (take most rs))
+unfolding made
+over_listed old new f j from most rows has h =
+    let params = over_params from most in
+    let got = reads_as over_text params old new (journal_schema f j) has _ (over_is f j).0 (over_plain f j) (over_is f j).1 rows h in
+    let a : IsAnswer over_query (overlay old.now.trees []) params rows = got.answer Null in
+    let left = filter (is_over from) (old.now.trees 1) in
+    let staged : a.staged ≡ map (λ r. params ∷ r ∷ []) left = a.grouped ∙ passes_on (is_over from) (λ r. params ∷ r ∷ []) (old.now.trees 1) in
+    let kept : a.kept ≡ map made left = a.distinct ∙ ap (map (output over_query)) staged ∙ map-map (output over_query) (λ r. params ∷ r ∷ []) left in
+    let back = pull_back made a.kept a.ordered a.same left kept in (
+      back.0,
+      back.1,
+      a.shown ∙ ap (λ all. page over_query params (map (λ (o : Output). o.1) all)) back.2 ∙ ap (take most) (map-map (λ (o : Output). o.1) made back.0)
+          ∙ take-map shown_row most back.0,
+    )
 
 pub over_shows : (old new : State) (f j : List Term) (xs : List Queued) (from most : ℕ) (rows : List Row) → old.now.schema ≡ journal_schema f j
     → IsPermutation (map queued_row xs) (old.now.trees 1) → IsAscending (λ x y. x.id < y.id) xs → Shown over_text (over_params from most) old new rows

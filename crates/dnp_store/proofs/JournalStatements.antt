@@ -41,7 +41,7 @@ insert_sources : (f j : List Term) (limit : Option ℕ) (db : Trees) (x : Queued
 unfolding everything
 insert_sources f j limit db x rows h = h.1
 
-insert_casts : (j : List Term) (x : Queued) → cast_row (journal_with j) (Null ∷ whole_cells x) ≡ Null ∷ whole_cells x
+pub insert_casts : (j : List Term) (x : Queued) → cast_row (journal_with j) (Null ∷ whole_cells x) ≡ Null ∷ whole_cells x
 insert_casts j x = rw (cast_null, cast_int (pos x.lane), cast_int (pos x.index), cast_int (pos x.flags), cast_int x.value, cast_time x.time)
 
 pub inserts : (old new : State) (f j : List Term) (x : Queued) (n m count : ℕ) → old.now.schema ≡ journal_schema f j

@@ -27,6 +27,7 @@ pub mod JournalHolding
 pub mod JournalReading
 pub mod JournalStanding
 pub mod JournalOpening
+pub mod JournalPaging
 pub mod BookStatements
 pub mod BookUpdates
 pub mod BookHolding
@@ -35,3 +36,8 @@ pub mod BookPlaces
 pub mod BookTurning
 pub mod BookOpening
 pub mod InMemory
+pub mod CountingMany
+pub mod Sixteen
+pub mod QueueMany
+pub mod JournalMany
+pub mod Blocks

@@ -46,7 +46,7 @@ query tree project = record {
   offset = lit (Int (pos 0));
 }
 
-each_one : {X Y : Type 0} (f : X → Y) (xs : List X) → flat_map (λ x. f x ∷ []) xs ≡ map f xs
+pub each_one : {X Y : Type 0} (f : X → Y) (xs : List X) → flat_map (λ x. f x ∷ []) xs ≡ map f xs
 each_one f [] = refl
 each_one f (x ∷ xs) = ap (λ ys. f x ∷ ys) (each_one f xs)
 

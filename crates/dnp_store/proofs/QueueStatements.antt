@@ -52,7 +52,7 @@ insert_sources : (f q l : List Term) (limit : Option ℕ) (db : Trees) (x : Queu
 unfolding everything
 insert_sources f q l limit db x rows h = h.1
 
-insert_casts : (q : List Term) (x : Queued) → cast_row (queue_with q) (Null ∷ whole_cells x) ≡ Null ∷ whole_cells x
+pub insert_casts : (q : List Term) (x : Queued) → cast_row (queue_with q) (Null ∷ whole_cells x) ≡ Null ∷ whole_cells x
 insert_casts q x = rw (cast_null, cast_int (pos x.lane), cast_int (pos x.index), cast_int (pos x.flags), cast_int x.value, cast_time x.time)
 
 pub inserts : (old new : State) (f q l : List Term) (x : Queued) (n m count : ℕ) → old.now.schema ≡ queue_schema f q l

@@ -5,7 +5,7 @@ use Rattle.std.specs.Prelude.{OnOk}
 use Rattle.sqlite.specs.Order.{Row}
 use Rattle.sqlite.specs.Tree.{Trees}
 use Rattle.sqlite.specs.declared.error.Error.{Error}
-use Rattle.sqlite.specs.State.{State, HasCleanDisk, IsNotRun, Survives}
+use Rattle.sqlite.specs.State.{State, HasCleanDisk, IsNotRun, KeepsCommit, Survives}
 use Rattle.sqlite.proofs.InsideLemmas.{unchanged_keeps}
 use Rattle.dnp_eventbuf.specs.Stock.{Stock}
 use Rattle.dnp_store.specs.QueueTables.{queue_schema, IsQueue, HoldsStock}
@@ -41,11 +41,14 @@ either_of old mid new stock next clean early settled stands =
     leaves_either old mid new (λ db. HoldsStock db stock) (λ db. HoldsStock db next) (λ db. Stands old stock → HoldsStock db next) (λ db made. made stands)
     clean early settled stands.is_open stands.holds.holds
 
+pub keeps_commit : (old new : State) (sql : List ℕ) (params : Row) (e : Error) → IsNotRun old new sql params e → KeepsCommit old new
+unfolding IsNotRun
+keeps_commit old new sql params e (inl refused) = unchanged_keeps old new (inl refused.1)
+keeps_commit old new sql params e (inr fails) = unchanged_keeps old new (inr fails.3)
+
 pub keeps_open : (old new : State) (sql : List ℕ) (params : Row) (e : Error) → IsNotRun old new sql params e → IsTrue new.is_open → IsTrue old.is_open
     × (new.committed ≡ old.committed)
-unfolding IsNotRun
-keeps_open old new sql params e (inl refused) is_open = let k = unchanged_keeps old new (inl refused.1) in (k.was_open is_open, k.committed is_open)
-keeps_open old new sql params e (inr fails) is_open = let k = unchanged_keeps old new (inr fails.3) in (k.was_open is_open, k.committed is_open)
+keeps_open old new sql params e refused is_open = let k = keeps_commit old new sql params e refused in (k.was_open is_open, k.committed is_open)
 
 -- what is so of a queue's database is so of its trees
 pub on_trees : (a b : Stock) → ((db : Database) → IsQueue db a → IsQueue db b) → (trees : Trees) → HoldsStock trees a → HoldsStock trees b

@@ -1,14 +1,11 @@
-//! Whether a database has the tables of a book.
+//! Whether a table is that of a book's entries.
 
 ghost use Rattle.std.specs.Prelude.{◌≡◌, IsTrue, true, false, [], ◌∷◌, codes, length, take, drop};
-ghost use Rattle.sqlite.specs.Held.{state};
 ghost use Rattle.sqlite.specs.Kind.TheVariants.{Integer};
-ghost use Rattle.sqlite.specs.State.{IsLive};
-ghost use Rattle.dnp_store.specs.BookTables.{book_schema, book_with};
-ghost use Rattle.dnp_store.specs.Tables.{column_of, form_with, sequence, checks_at};
+ghost use Rattle.dnp_store.specs.BookTables.{book_with};
+ghost use Rattle.dnp_store.specs.Tables.{column_of};
 
-use crate::queue_form::{is_column, is_form, is_plain, is_sequence};
-use sqlite::{Alter, Connection};
+use crate::queue_form::{is_column, is_plain};
 use sqlite_schema::schema::{Column, Kind, Table};
 
 /// Whether the first five of eleven columns are those of `control`.
@@ -57,7 +54,7 @@ fn are_last(columns: &[Column]) -> bool
 }
 
 /// Whether the table is `control`.
-fn is_control(table: &Table) -> bool
+pub(crate) fn is_control(table: &Table) -> bool
     ensures form { IsTrue result → table.now ≡ book_with table.now.checks }
     ensures found { table.now ≡ book_with table.now.checks → IsTrue result }
 {
@@ -66,24 +63,4 @@ fn is_control(table: &Table) -> bool
         && are_first(columns)
         && are_last(columns)
         && is_plain(table, "control", 1, true, true)
-}
-
-/// Whether the tables are those of a book.
-fn are_tables(tables: &[Table]) -> bool
-    ensures form { IsTrue result → tables.now ≡ form_with (checks_at tables.now 0) ∷ book_with (checks_at tables.now 1) ∷ sequence ∷ [] }
-    ensures found { tables.now ≡ form_with (checks_at tables.now 0) ∷ book_with (checks_at tables.now 1) ∷ sequence ∷ [] → IsTrue result }
-{
-    tables.len() == 3 && is_form(&tables[0]) && is_control(&tables[1]) && is_sequence(&tables[2])
-}
-
-/// Whether the database has the tables of a book, and no others.
-pub(crate) fn is_of_book<S: Alter>(conn: &Connection<S>) -> bool
-    ensures live { IsLive (state S.Store conn.now) }
-    ensures schema { IsTrue result → (state S.Store conn.now).now.schema ≡ book_schema (checks_at (state S.Store conn.now).now.schema.tables 0)
-        (checks_at (state S.Store conn.now).now.schema.tables 1) }
-    ensures found { (state S.Store conn.now).now.schema ≡ book_schema (checks_at (state S.Store conn.now).now.schema.tables 0)
-        (checks_at (state S.Store conn.now).now.schema.tables 1) → IsTrue result }
-{
-    let schema = conn.schema();
-    are_tables(schema.tables.as_slice()) && schema.indexes.is_empty() && schema.views.is_empty()
 }

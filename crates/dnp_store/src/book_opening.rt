@@ -14,10 +14,10 @@ ghost use Rattle.dnp_store.specs.BookTables.{book_schema};
 ghost use Rattle.dnp_store.specs.steps.Stores.{Reads};
 
 use crate::book_decoding::{are_in_order, put_entries};
-use crate::book_form::is_of_book;
 use crate::decoding::last_used;
 use crate::fault::Unread;
 use crate::queue_opening::both;
+use crate::store_form::is_of_three;
 use crate::store_kind::StoreKind;
 use crate::stores::{list, read_counts, read_form};
 use dnp_controls::Entry;
@@ -90,7 +90,7 @@ pub(crate) fn read_book<S: Alter>(
     ensures survives { Survives (state S.Store conn.old) (state S.Store conn.new) (λ _. ⊥) }
 {
     prove!(conn.is_autocommit());
-    let ours = is_of_book(conn);
+    let ours = is_of_three(conn, StoreKind::Book);
     let mut tx = conn.transaction();
     let found = read_all(&mut tx, entries)?;
     tx.rollback();

@@ -1,12 +1,13 @@
 //! What rows that queries show of a queue's tables say.
 
-ghost use Rattle.std.specs.Prelude.{◌≡◌, ◌<◌, ◌≤◌, ◌^◌, ℕ, ℤ, Bool, nat_le, false, IsTrue, IfOk, IfSome, [], ◌∷◌, List, codes, length, pos, All, slice_index_or, if◌then◌else◌};
+ghost use Rattle.std.specs.Prelude.{◌≡◌, ◌<◌, ◌≤◌, ◌^◌, ℕ, ℤ, Bool, Option, nat_le, false, IsTrue, IfOk, IfSome, [], ◌∷◌, List, codes, length, pos, All, slice_index_or, if◌then◌else◌};
 ghost use Rattle.sqlite.specs.declared.types.Value.TheVariants.{Int, Text};
 ghost use Rattle.sqlite.specs.Order.{column};
 ghost use Rattle.dnp_objects.specs.declared.limits.TheConstants as limits;
 ghost use Rattle.dnp_eventbuf.specs.Carried.{IsCarried};
 ghost use Rattle.dnp_eventbuf.specs.Stock.{lane_at};
 ghost use Rattle.dnp_store.specs.QueueTables.{is_raised, no_figures};
+ghost use Rattle.dnp_store.specs.Tables.{or_null};
 ghost use Rattle.dnp_store.specs.steps.Shown.{AreInRange, AreNine, IsBegun, Restores, ShowNine, IsMost, ShowsCount, ShowsCountOf, ShowsFigures, ShowsForm1, ShowsQueued};
 ghost use Rattle.dnp_store.specs.declared.figures.Figures.{Figures as FiguresValue};
 
@@ -46,6 +47,18 @@ pub(crate) fn small(row: &Shown, at: usize) -> Option<u32>
     ensures found { (n : ℕ) → n < 2 ^ 32 → column row.now at ≡ Int (pos n) → result ≡ Some n }
 {
     u32::try_from(whole(row, at)?).ok()
+}
+
+/// The time in this column, or that there is none, if the column says so.
+pub(crate) fn time_in(row: &Shown, at: usize) -> Option<Option<u64>>
+    ensures value { IfSome result (λ time. column row.now at ≡ or_null time) }
+    ensures found { (time : Option ℕ) → at < length row.now → column row.now at ≡ or_null time → result ≡ Some time }
+{
+    match row.get_ref(at).ok()? {
+        ValueRef::Null => Some(None),
+        ValueRef::Int(n) => Some(Some(u64::try_from(n).ok()?)),
+        _ => None,
+    }
 }
 
 /// The rowid of the only row, if its number is 1.
@@ -162,6 +175,22 @@ fn is_id(id: u64) -> bool
     id <= MAX_ID
 }
 
+/// The last id used in this table, at most `MAX_ID`, and whether that alone is noted, where this is the
+/// greatest id that stands there.
+pub(crate) fn last_noted(counts: &[Shown], top: u64, table: &str) -> Option<(u64, bool)>
+    ensures counted { IfSome result (λ last. (last.0 ≤ limits.MAX_ID) × (IsTrue last.1 → ShowsCount table.now counts.now last.0)) }
+    ensures most { IfSome result (λ last. IsMost table.now counts.now last.0) }
+    ensures over { IfSome result (λ last. top ≤ last.0) }
+{
+    let noted = counted(counts, table);
+    let last = greatest(counts, table).max(top);
+    if is_id(last) {
+        Some((last, noted == Some(last)))
+    } else {
+        None
+    }
+}
+
 /// The last id used in this table, at most `MAX_ID`, and whether that alone is noted.
 pub(crate) fn last_used(counts: &[Shown], rows: &[Shown], table: &str) -> Option<(u64, bool)>
     ensures counted { IfSome result (λ last. (last.0 ≤ limits.MAX_ID) × (IsTrue last.1 → ShowsCount table.now counts.now last.0)) }
@@ -171,13 +200,7 @@ pub(crate) fn last_used(counts: &[Shown], rows: &[Shown], table: &str) -> Option
         Some(row) => whole(row, 0)?,
         None => 0,
     };
-    let noted = counted(counts, table);
-    let last = greatest(counts, table).max(top);
-    if is_id(last) {
-        Some((last, noted == Some(last)))
-    } else {
-        None
-    }
+    last_noted(counts, top, table)
 }
 
 /// The lanes' capacities.
@@ -238,7 +261,7 @@ fn queued_in(row: &Shown) -> Option<(u64, LaneRow)>
     let index = u16::try_from(small(row, 2)?).ok()?;
     let flags = u8::try_from(small(row, 3)?).ok()?;
     let value = signed(row, 4)?;
-    let time = row.get::<Option<u64>>(5).ok()?;
+    let time = time_in(row, 5)?;
     let kind = lane.kind;
     let row = Row {
         kind,

@@ -1,12 +1,14 @@
 //! What rows that queries show of a journal's table say.
 
-ghost use Rattle.std.specs.Prelude.{◌<◌, IsTrue, IfOk, IfSome};
+ghost use Rattle.std.specs.Prelude.{◌≡◌, ◌<◌, ◌≤◌, ◌^◌, IfOk, IfSome, length};
+ghost use Rattle.dnp_eventbuf.specs.declared.numbered.Numbered.{Numbered as NumberedValue};
+ghost use Rattle.dnp_objects.specs.declared.limits.TheConstants as limits;
 ghost use Rattle.dnp_store.specs.steps.JournalShown.{AreInOrder, ShowEvents, ShowsEvent};
 
-use crate::decoding::{signed, small, whole};
+use crate::decoding::{signed, small, time_in, whole};
 use crate::fault::Unread;
 use dnp_eventbuf::Numbered;
-use dnp_objects::{Kind, MAX_TIME, Row};
+use dnp_objects::{Kind, MAX_ID, MAX_TIME, Row};
 use sqlite::Row as Shown;
 use std::alloc::Global;
 
@@ -14,13 +16,14 @@ use std::alloc::Global;
 fn event_in(row: &Shown) -> Option<Numbered>
     ensures value { IfSome result (λ e. ShowsEvent row.now e) }
     ensures timed { IfSome result (λ e. IfSome e.row.time (λ time. time < MAX_TIME)) }
+    ensures found { (e : NumberedValue) → 5 < length row.now → (e.row.index < 2 ^ 16) × (e.row.flags < 2 ^ 8) → IfSome e.row.time (λ time. time < MAX_TIME) → ShowsEvent row.now e → result ≡ Some e }
 {
     let id = whole(row, 0)?;
     let kind = Kind::numbered(small(row, 1)? as usize)?;
     let index = u16::try_from(small(row, 2)?).ok()?;
     let flags = u8::try_from(small(row, 3)?).ok()?;
     let value = signed(row, 4)?;
-    let time = row.get::<Option<u64>>(5).ok()?;
+    let time = time_in(row, 5)?;
     if time.unwrap_or(0) >= MAX_TIME {
         return None;
     }
@@ -46,16 +49,19 @@ pub(crate) fn events_in(alloc: Global, rows: &[Shown]) -> Result<Vec<Numbered>, 
     Ok(events)
 }
 
-/// Whether the ids rise from 1 on, up to the last.
-pub(crate) fn are_in_order(events: &[Numbered], last: u64) -> bool
-    ensures { IsTrue result → AreInOrder 0 last events.now }
+/// The last of the ids, if they rise from the one before them on, and are not over `MAX_ID`: the one before
+/// them where there are none.
+pub(crate) fn last_in_order(events: &[Numbered], before: u64) -> Option<u64>
+    requires { before ≤ limits.MAX_ID }
+    ensures range { IfSome result (λ last. (before ≤ last) × (last ≤ limits.MAX_ID)) }
+    ensures order { IfSome result (λ last. AreInOrder before last events.now) }
 {
-    let mut before = 0;
+    let mut last = before;
     for x in events {
-        if x.id <= before || x.id > last {
-            return false;
+        if x.id <= last || x.id > MAX_ID {
+            return None;
         }
-        before = x.id;
+        last = x.id;
     }
-    true
+    Some(last)
 }

@@ -1,17 +1,19 @@
 //! What an append writes of a journal, in one transaction.
 
-ghost use Rattle.std.specs.Prelude.{◌≡◌, false, IsTrue, OnOk, OnErr, All, [], ◌∷◌};
+ghost use Rattle.std.specs.Prelude.{◌≡◌, false, IsTrue, OnOk, OnErr, All, [], ◌∷◌, length};
 ghost use Rattle.sqlite.specs.Held.{state};
 ghost use Rattle.sqlite.specs.State.{HasCleanDisk, Survives};
 ghost use Rattle.dnp_objects.specs.Events.{IsEvent};
 ghost use Rattle.dnp_eventbuf.specs.Archive.{Archive, with_events};
+ghost use Rattle.dnp_store.specs.declared.cells.TheConstants.{MANY};
 ghost use Rattle.dnp_store.specs.steps.Inside.{IsInside, IsStep};
 ghost use Rattle.dnp_store.specs.JournalKept.{Stands};
 ghost use Rattle.dnp_store.specs.JournalTables.{HoldsArchive, IsJournal};
 
-use crate::queue_statements::whole_time;
+use crate::cells::{CELLS, MANY, cells, whole_time};
 use dnp_objects::Row;
 use sqlite::{Alter, Connection, Error, Transaction, params};
+use sqlite_value::value::ValueRef;
 
 /// Puts an event into the table, under the next id.
 fn insert<S: Alter>(tx: &mut Transaction<'_, S>, event: &Row) -> Result<(), Error>
@@ -33,8 +35,35 @@ fn insert<S: Alter>(tx: &mut Transaction<'_, S>, event: &Row) -> Result<(), Erro
     Ok(())
 }
 
-/// Puts the events into the table, under the ids that follow the last one used.
-fn insert_all<S: Alter>(tx: &mut Transaction<'_, S>, events: &[Row]) -> Result<(), Error>
+/// Puts sixteen events into the table, under the next ids, by one statement (as `insert_many` of a queue).
+fn insert_many<S: Alter>(tx: &mut Transaction<'_, S>, events: &[Row]) -> Result<(), Error>
+    requires inside { IsInside S.Store tx.old.conn }
+    requires events { All IsEvent events.now }
+    requires sixteen { length events.now ≡ MANY }
+    ensures step { IsStep S.Store tx.old.conn tx.new.conn result }
+    ensures added { HasCleanDisk (state S.Store tx.new.conn.now) → OnOk result ((a : Archive) → IsJournal (state S.Store tx.old.conn.now).now a
+        → IsJournal (state S.Store tx.new.conn.now).now (with_events a events.now)) }
+{
+    let mut given = [[ValueRef::Null; CELLS]; MANY];
+    for number in 0..MANY {
+        let event = &events[number];
+        given[number] = cells(event.kind.number(), event);
+    }
+    tx.execute(
+        "INSERT INTO journal (kind, point, flags, value, time) VALUES \
+         (?1, ?2, ?3, ?4, ?5), (?6, ?7, ?8, ?9, ?10), (?11, ?12, ?13, ?14, ?15), \
+         (?16, ?17, ?18, ?19, ?20), (?21, ?22, ?23, ?24, ?25), (?26, ?27, ?28, ?29, ?30), \
+         (?31, ?32, ?33, ?34, ?35), (?36, ?37, ?38, ?39, ?40), (?41, ?42, ?43, ?44, ?45), \
+         (?46, ?47, ?48, ?49, ?50), (?51, ?52, ?53, ?54, ?55), (?56, ?57, ?58, ?59, ?60), \
+         (?61, ?62, ?63, ?64, ?65), (?66, ?67, ?68, ?69, ?70), (?71, ?72, ?73, ?74, ?75), \
+         (?76, ?77, ?78, ?79, ?80)",
+        given.as_flattened(),
+    )?;
+    Ok(())
+}
+
+/// Puts the events into the table one by one, under the ids that follow the last one used.
+fn insert_each<S: Alter>(tx: &mut Transaction<'_, S>, events: &[Row]) -> Result<(), Error>
     requires inside { IsInside S.Store tx.old.conn }
     requires events { All IsEvent events.now }
     ensures step { IsStep S.Store tx.old.conn tx.new.conn result }
@@ -43,6 +72,35 @@ fn insert_all<S: Alter>(tx: &mut Transaction<'_, S>, events: &[Row]) -> Result<(
 {
     for row in events {
         insert(tx, row)?;
+    }
+    Ok(())
+}
+
+/// Puts some events into the table: sixteen by one statement, any others one by one.
+fn insert_block<S: Alter>(tx: &mut Transaction<'_, S>, events: &[Row]) -> Result<(), Error>
+    requires inside { IsInside S.Store tx.old.conn }
+    requires events { All IsEvent events.now }
+    ensures step { IsStep S.Store tx.old.conn tx.new.conn result }
+    ensures added { HasCleanDisk (state S.Store tx.new.conn.now) → OnOk result ((a : Archive) → IsJournal (state S.Store tx.old.conn.now).now a
+        → IsJournal (state S.Store tx.new.conn.now).now (with_events a events.now)) }
+{
+    if events.len() == MANY {
+        insert_many(tx, events)
+    } else {
+        insert_each(tx, events)
+    }
+}
+
+/// Puts the events into the table, under the ids that follow the last one used.
+fn insert_all<S: Alter>(tx: &mut Transaction<'_, S>, events: &[Row]) -> Result<(), Error>
+    requires inside { IsInside S.Store tx.old.conn }
+    requires events { All IsEvent events.now }
+    ensures step { IsStep S.Store tx.old.conn tx.new.conn result }
+    ensures added { HasCleanDisk (state S.Store tx.new.conn.now) → OnOk result ((a : Archive) → IsJournal (state S.Store tx.old.conn.now).now a
+        → IsJournal (state S.Store tx.new.conn.now).now (with_events a events.now)) }
+{
+    for block in events.chunks(MANY) {
+        insert_block(tx, block)?;
     }
     Ok(())
 }

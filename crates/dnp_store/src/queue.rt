@@ -89,6 +89,8 @@ impl<S: Alter> Lanes for Queue<S> {
 
     ghost asks_memory = { true };
 
+    ghost may_fault = { λ _. true };
+
     /// What a crash leaves at any exit holds the lanes before or after, and after Ok those after.
     fn append(&mut self, alloc: Global, rows: &[LaneRow]) -> Result<Vec<Row>, StoreFault>
         requires { All IsCarried rows.now }

@@ -97,7 +97,7 @@ pub(crate) fn are_last(columns: &[Column]) -> bool
 }
 
 /// Whether the table is `queue`.
-fn is_queue(table: &Table) -> bool
+pub(crate) fn is_queue(table: &Table) -> bool
     ensures form { IsTrue result → table.now ≡ queue_with table.now.checks }
     ensures found { table.now ≡ queue_with table.now.checks → IsTrue result }
 {

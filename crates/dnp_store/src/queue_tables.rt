@@ -13,7 +13,7 @@ ghost use Rattle.dnp_store.specs.steps.Stores.{HasNumber};
 ghost use Rattle.dnp_store.specs.Tables.{no_schema};
 
 use crate::store_kind::StoreKind;
-use crate::stores::make_tables;
+use crate::stores::{keep_probe, make_tables};
 use dnp_objects::LANES;
 use sqlite::{Alter, Connection, Error, Transaction, params};
 
@@ -55,7 +55,7 @@ fn put_lanes<S: Alter>(tx: &mut Transaction<'_, S>, capacities: &[u32; LANES]) -
     Ok(())
 }
 
-/// Makes the tables and what stands in them at first.
+/// Makes the tables and what stands in them at first, and has the connection ready to be asked.
 fn make_all<S: Alter>(tx: &mut Transaction<'_, S>, capacities: &[u32; LANES]) -> Result<(), Error>
     requires inside { IsInside S.Store tx.old.conn }
     ensures step { IsStep S.Store tx.old.conn tx.new.conn result }
@@ -63,7 +63,9 @@ fn make_all<S: Alter>(tx: &mut Transaction<'_, S>, capacities: &[u32; LANES]) ->
 {
     make_tables(tx, StoreKind::Queue)?;
     make_lanes(tx)?;
-    put_lanes(tx, capacities)
+    put_lanes(tx, capacities)?;
+    keep_probe(tx)?;
+    Ok(())
 }
 
 /// Makes the tables of empty lanes, in one transaction.

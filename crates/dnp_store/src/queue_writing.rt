@@ -12,11 +12,41 @@ ghost use Rattle.dnp_store.specs.Kept.{Stands};
 ghost use Rattle.dnp_store.specs.QueueTables.{Figures, HoldsQueue, HoldsStock};
 ghost use Rattle.dnp_store.specs.steps.Steps.{IsTrimmed, all_added};
 
-use crate::queue_statements::{insert, note, take};
+use crate::cells::MANY;
+use crate::queue_statements::{insert, insert_many, note, take};
 use dnp_eventbuf::laws::a_lane_keeps_its_latest_rows;
 use dnp_eventbuf::{LaneRow, PlainLanes};
 use dnp_objects::LANES;
 use sqlite::{Alter, Connection, Error, Transaction};
+
+/// Puts the rows into the table one by one, under the ids that follow the last one used.
+fn insert_each<S: Alter>(tx: &mut Transaction<'_, S>, rows: &[LaneRow]) -> Result<(), Error>
+    requires inside { IsInside S.Store tx.old.conn }
+    requires carried { All IsCarried rows.now }
+    ensures step { IsStep S.Store tx.old.conn tx.new.conn result }
+    ensures added { HasCleanDisk (state S.Store tx.new.conn.now) → OnOk result ((s : Stock) (figures : List Figures) → length s.lanes ≡ limits.LANES
+        → HoldsQueue (state S.Store tx.old.conn.now).now s figures → HoldsQueue (state S.Store tx.new.conn.now).now (all_added s rows.now) figures) }
+{
+    for x in rows {
+        insert(tx, x)?;
+    }
+    Ok(())
+}
+
+/// Puts some rows into the table: sixteen by one statement, any others one by one.
+fn insert_block<S: Alter>(tx: &mut Transaction<'_, S>, rows: &[LaneRow]) -> Result<(), Error>
+    requires inside { IsInside S.Store tx.old.conn }
+    requires carried { All IsCarried rows.now }
+    ensures step { IsStep S.Store tx.old.conn tx.new.conn result }
+    ensures added { HasCleanDisk (state S.Store tx.new.conn.now) → OnOk result ((s : Stock) (figures : List Figures) → length s.lanes ≡ limits.LANES
+        → HoldsQueue (state S.Store tx.old.conn.now).now s figures → HoldsQueue (state S.Store tx.new.conn.now).now (all_added s rows.now) figures) }
+{
+    if rows.len() == MANY {
+        insert_many(tx, rows)
+    } else {
+        insert_each(tx, rows)
+    }
+}
 
 /// Puts the rows into the table, under the ids that follow the last one used.
 fn insert_all<S: Alter>(tx: &mut Transaction<'_, S>, rows: &[LaneRow]) -> Result<(), Error>
@@ -26,8 +56,8 @@ fn insert_all<S: Alter>(tx: &mut Transaction<'_, S>, rows: &[LaneRow]) -> Result
     ensures added { HasCleanDisk (state S.Store tx.new.conn.now) → OnOk result ((s : Stock) (figures : List Figures) → length s.lanes ≡ limits.LANES
         → HoldsQueue (state S.Store tx.old.conn.now).now s figures → HoldsQueue (state S.Store tx.new.conn.now).now (all_added s rows.now) figures) }
 {
-    for x in rows {
-        insert(tx, x)?;
+    for block in rows.chunks(MANY) {
+        insert_block(tx, block)?;
     }
     Ok(())
 }

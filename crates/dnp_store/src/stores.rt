@@ -100,6 +100,28 @@ pub(crate) fn make_tables<S: Alter>(
     put_number(tx)
 }
 
+/// Has the connection keep what the empty text means, so that it needs no memory when it is asked whether it
+/// still serves. A table that is made after it has the connection forget.
+pub(crate) fn keep_probe<S: Alter>(tx: &mut Transaction<'_, S>) -> Result<(), Error>
+    requires inside { IsInside S.Store tx.old.conn }
+    ensures step { IsStep S.Store tx.old.conn tx.new.conn result }
+    ensures same { HasCleanDisk (state S.Store tx.new.conn.now) → OnOk result ((state S.Store tx.new.conn.now).now ≡ (state S.Store tx.old.conn.now).now) }
+{
+    let _nothing = tx.prepare("")?;
+    Ok(())
+}
+
+/// Makes what a journal or a book begins with, and has the connection ready to be asked.
+fn make_store<S: Alter>(tx: &mut Transaction<'_, S>, kind: StoreKind) -> Result<(), Error>
+    requires inside { IsInside S.Store tx.old.conn }
+    ensures step { IsStep S.Store tx.old.conn tx.new.conn result }
+    ensures made { HasCleanDisk (state S.Store tx.new.conn.now) → OnOk result ((state S.Store tx.old.conn.now).now.schema ≡ no_schema → HasNumber kind (state S.Store tx.new.conn.now).now) }
+{
+    make_tables(tx, kind)?;
+    keep_probe(tx)?;
+    Ok(())
+}
+
 /// Makes the tables of a journal or a book without rows, in one transaction.
 pub(crate) fn write_tables<S: Alter>(conn: &mut Connection<S>, kind: StoreKind) -> Result<(), Error>
     requires idle { conn.old.in_transaction ≡ false }
@@ -110,6 +132,6 @@ pub(crate) fn write_tables<S: Alter>(conn: &mut Connection<S>, kind: StoreKind) 
     ensures survives { Survives (state S.Store conn.old) (state S.Store conn.new) (λ db. (state S.Store conn.old).now.schema ≡ no_schema → IsFresh db) }
 {
     let mut tx = conn.transaction();
-    make_tables(&mut tx, kind)?;
+    make_store(&mut tx, kind)?;
     tx.commit()
 }

@@ -93,8 +93,15 @@ impl<S: Alter> Stored<Connection<S>> for ControlBook<S> {
             && matches!(steps(self, alloc, 15, &WIDE, [7, 8, 9]), Ok(true))
     }
 
-    fn is_walked(&mut self, _alloc: Global) -> bool {
-        self.serves() && self.owns_database()
+    /// The first control of each of the three targets is finished, and no other.
+    fn is_walked(&mut self, alloc: Global) -> bool {
+        let Ok(entries) = self.rows(alloc, 0, 99) else {
+            return false;
+        };
+        let are_walked = entries.iter().all(|entry| {
+            (entry.state == State::Finished(Status::SUCCESS)) == (entry.id % 3 == 1)
+        });
+        entries.len() == 9 && are_walked && self.serves() && self.owns_database()
     }
 
     fn show(&mut self, rt: &HostRuntime) -> Result<(), Fault> {

@@ -82,8 +82,15 @@ impl<S: Alter> Stored<Connection<S>> for Journal<S> {
             && matches!(steps(self, alloc, Kind::Analog, 6), Ok(true))
     }
 
-    fn is_walked(&mut self, _alloc: Global) -> bool {
-        self.count() == 9 && self.owns_database()
+    /// The rows are those of the walk.
+    fn is_walked(&mut self, alloc: Global) -> bool {
+        let Ok(rows) = self.rows(alloc, 0, 99) else {
+            return false;
+        };
+        let are_walked = rows.iter().all(|x| {
+            x.row.index as u64 + 3 * x.row.kind.number() as u64 + 1 == x.id
+        });
+        rows.len() == 9 && are_walked && self.count() == 9 && self.owns_database()
     }
 
     fn show(&mut self, rt: &HostRuntime) -> Result<(), Fault> {

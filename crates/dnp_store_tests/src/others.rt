@@ -54,11 +54,21 @@ fn put<L: Lanes>(lanes: &mut L, alloc: Global) -> Option<StoreFault> {
     lanes.append(alloc, &[event]).err()
 }
 
-/// Whether a queue owns this database, what it answers to an event, and whether it owns it still.
+/// Whether the first lane has the row of the tables, and no other.
+fn has_its_row<L: Lanes>(lanes: &mut L, alloc: Global) -> Option<bool> {
+    let rows = lanes.offer(alloc, Lane::numbered(0)?, 0, 9).ok()?;
+    Some(rows.len() == 1 && rows[0].id == 4611686018427387904 && rows[0].row.index == 7)
+}
+
+/// Whether a queue owns this database, what it answers to an event, and whether it owns it still and has its
+/// row.
 fn of_queue(alloc: Global, more: &str) -> Option<(bool, Option<StoreFault>, bool)> {
     let mut queue = Queue::open(alloc, database(alloc, QUEUE, more)?).ok()?;
     let owned = queue.owns_database();
     let fault = put(&mut queue, alloc);
+    if !has_its_row(&mut queue, alloc)? {
+        return None;
+    }
     Some((owned, fault, queue.owns_database()))
 }
 

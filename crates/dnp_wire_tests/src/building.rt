@@ -9,7 +9,7 @@ use std::process::Abort;
 #[derive(Clone, Copy)]
 enum Part {
     Event(Row),
-    Point(u8, Row),
+    Point(u8, u8, Row),
     Whole(Header<'static>),
     /// The next object begins a header.
     Break,
@@ -116,7 +116,7 @@ const BUILT: [(Function, u8, Iin, &[Part], &[u8]); 28] = [
         &[0xF1, 0x82, 0x80, 0, 2, 2, 0x28, 1, 0, 3, 0, 0x81, 0xE8, 3, 0, 0, 0, 0]),
     // Points of following indexes.
     (Response, 0xC0, Iin::DEVICE_RESTART,
-        &[Point(1, row!(Binary, 1, 2, 0, None)), Point(1, row!(Binary, 2, 2, 0, None))],
+        &[Point(1, 2, row!(Binary, 1, 2, 0, None)), Point(1, 2, row!(Binary, 2, 2, 0, None))],
         &[0xC0, 0x81, 0x80, 0, 1, 2, 1, 1, 0, 2, 0, 2, 2]),
     // Indications alone: what answers a request without objects, or tells of a fault.
     (UnsolicitedResponse, 0xF0, Iin::DEVICE_RESTART, &[], &[0xF0, 0x82, 0x80, 0]),
@@ -155,9 +155,9 @@ fn put(rt: &impl Abort, builder: &mut Builder, function: Function, part: Part) -
             assert!(rt; function.is_response() && is_event(&row));
             builder.event(&row)
         }
-        Point(group, row) => {
-            assert!(rt; function.is_response() && fits_point(group, &row));
-            builder.point(group, &row)
+        Point(group, variation, row) => {
+            assert!(rt; function.is_response() && fits_point(group, variation, &row));
+            builder.point(group, variation, &row)
         }
         Whole(header) => {
             assert!(rt; header.fits(function));
@@ -261,7 +261,7 @@ fn a_full_fragment(rt: HostRuntime) {
         let event = Event(row!(Analog, 156, 1, 0, Some(1)));
         assert!(rt; put(&rt, &mut builder, Response, event) == Err(Full));
         if with_point {
-            let point = Point(1, row!(Binary, 0, 1, 1, None));
+            let point = Point(1, 2, row!(Binary, 0, 1, 1, None));
             assert!(rt; put(&rt, &mut builder, Response, point) == Ok(()));
         }
         let octets = builder.finish(Control::read(0xA0), Iin::CLASS_1_EVENTS);

@@ -15,7 +15,7 @@ use Rattle.dnp_outstation.specs.State.{State, Step, nothing, still}
 use Rattle.dnp_master.specs.declared.task.Task.{Task}
 use Rattle.dnp_master.specs.Calls.{ask_answer, asked, receive_of, unheeded}
 use Rattle.dnp_master.specs.State as master
-use Rattle.dnp_master.specs.Steps.{Asks as MasterAsks, PassesOver, TakesReport, TakesResponse}
+use Rattle.dnp_master.specs.LinkCalls.{Asks as MasterAsks, PassesOver, TakesReport, TakesResponse}
 use Rattle.dnp_world.specs.Link.{Down, Asks, Link}
 use Rattle.dnp_world.specs.MasterSeen.{master_of, MasterTakes, master_hung_up, with_master_of}
 use Rattle.dnp_world.specs.Moves.{Move, Moves, asking, lost_up, opened}

@@ -18,7 +18,7 @@ use Rattle.dnp_master.specs.declared.task.Task.{Task}
 use Rattle.dnp_master.specs.Calls.{Taking, ask_answer, asked, receive_of, unheeded, confirm_for}
 use Rattle.dnp_master.specs.Requests.{request_for}
 use Rattle.dnp_master.specs.State as master
-use Rattle.dnp_master.specs.Steps.{Asks as MasterAsks, PassesOver, TakesReport, TakesResponse, control_in}
+use Rattle.dnp_master.specs.LinkCalls.{Asks as MasterAsks, PassesOver, TakesReport, TakesResponse, control_in}
 use Rattle.dnp_world.specs.Channels.{ChannelState}
 use Rattle.dnp_world.specs.Joined.{Carries, Joined, Follows}
 use Rattle.dnp_world.specs.Link.{Down, Asks, Link}

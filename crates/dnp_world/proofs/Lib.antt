@@ -54,6 +54,7 @@ mod SystemArrivals
 mod SystemTasks
 mod SystemComing
 mod SystemRuns
+mod CarriedRuns
 mod SystemSteps
 mod SystemReadings
 mod SystemCounts

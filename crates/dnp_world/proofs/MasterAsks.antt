@@ -9,7 +9,7 @@ use Rattle.dnp_master.specs.declared.task.Task.TheVariants.{Poll, ClearRestart, 
 use Rattle.dnp_master.specs.Calls.{ask_answer, asked}
 use Rattle.dnp_master.specs.Requests.{request_for}
 use Rattle.dnp_master.specs.State.{State, closed, is_timed_out, ticked}
-use Rattle.dnp_master.specs.Steps as seen
+use Rattle.dnp_master.specs.LinkCalls as seen
 use Rattle.dnp_world.specs.Octets.{seq_in}
 use Rattle.dnp_world.specs.Link.{Asks, Master, Link, Up}
 use Rattle.dnp_world.specs.Moves.{asking, Move, Moves, Done, Then, Ask, CloseMaster, LoseUp}

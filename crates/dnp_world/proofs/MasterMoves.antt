@@ -15,7 +15,7 @@ use Rattle.dnp_eventbuf.specs.Buffered.{Buffered, buffered_row}
 use Rattle.dnp_master.specs.declared.fault.MasterFault.{MasterFault}
 use Rattle.dnp_master.specs.Calls.{Taking, confirm_for, receive_of, unheeded}
 use Rattle.dnp_master.specs.State.{State}
-use Rattle.dnp_master.specs.Steps.{events_at, PassesOver, TakesResponse, TakesReport}
+use Rattle.dnp_master.specs.LinkCalls.{events_at, PassesOver, TakesResponse, TakesReport}
 use Rattle.dnp_world.specs.Lists.{Each}
 use Rattle.dnp_world.specs.Octets.{after, control_in, seq_in, uns_in, con_in, fin_in, rows_in}
 use Rattle.dnp_world.specs.Link.{Fragment, seq_of, fin_of, Down, Confirms, ConfirmsReport, Up, Responds, Reports, Master, Link}

@@ -17,7 +17,7 @@ use Rattle.dnp_master.specs.declared.fault.MasterFault.{MasterFault}
 use Rattle.dnp_master.specs.Calls.{Taking, actions_of, receive_of}
 use Rattle.dnp_master.specs.Sinks.{IsSinkFault}
 use Rattle.dnp_master.specs.State as master
-use Rattle.dnp_master.specs.Steps.{PassesOver, TakesResponse, TakesReport}
+use Rattle.dnp_master.specs.LinkCalls.{PassesOver, TakesResponse, TakesReport}
 use Rattle.dnp_outstation.specs.State.{Core}
 use Rattle.dnp_pointdb.specs.Plan as points
 use Rattle.dnp_concentrator.specs.BookOutputs.{IsWell, book_in, map_in}

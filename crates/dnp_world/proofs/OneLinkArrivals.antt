@@ -9,7 +9,7 @@ use Rattle.dnp_line.specs.Ways.{Hears, HearsIfAny}
 use Rattle.dnp_master.specs.declared.fault.MasterFault.{MasterFault}
 use Rattle.dnp_master.specs.Calls.{Taking, receive_of}
 use Rattle.dnp_master.specs.State as master
-use Rattle.dnp_master.specs.Steps.{PassesOver, TakesResponse, TakesReport}
+use Rattle.dnp_master.specs.LinkCalls.{PassesOver, TakesResponse, TakesReport}
 use Rattle.dnp_world.specs.Channels.{ChannelState}
 use Rattle.dnp_world.specs.MasterEnds.{ComesToMaster, TakesBy, TakesGiven}
 use Rattle.dnp_world.specs.Octets.{rows_in}

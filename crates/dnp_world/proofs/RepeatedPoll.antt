@@ -18,7 +18,6 @@ use Rattle.dnp_master.specs.Rows.{is_reported}
 use Rattle.dnp_master.specs.State as master
 use Rattle.dnp_master.specs.declared.fault.MasterFault.TheVariants.{Stranger}
 use Rattle.dnp_objects.specs.declared.command.Command.{Command}
-use Rattle.dnp_objects.specs.declared.limits.TheConstants.{MAX_FRAGMENT}
 use Rattle.dnp_outstation.specs.Calls.{connection_after, received, with_that}
 use Rattle.dnp_outstation.specs.Connection.{at_end, awaited_number, case_of, control_in, function_in, has_enabled_rows, is_last_request, is_number, on_again, starts, unsolicited_of}
 use Rattle.dnp_outstation.specs.Content.{Content, content_from, indications}
@@ -30,7 +29,6 @@ use Rattle.dnp_outstation.specs.Links as links
 use Rattle.dnp_outstation.specs.Offer.{held_laid, offered_of, pushed}
 use Rattle.dnp_outstation.specs.Polled.{Portion, no_rows, poll_octets, reported}
 use Rattle.dnp_outstation.specs.State.{Core, State, Step, is_free, still}
-use Rattle.dnp_outstation.specs.declared.case.Case.{Case}
 use Rattle.dnp_outstation.specs.declared.case.Case.TheVariants.{Again, Asks, Confirms, ConfirmsUnsolicited, PassedOver, Stray, Waits}
 use Rattle.dnp_outstation.specs.declared.session.LastRequest.{LastRequest}
 use Rattle.dnp_outstation.specs.declared.session.Reply.{Reply}

@@ -1,5 +1,5 @@
 -- What a report reads, lane by lane and row by row.
-use Rattle.std.proofs.Common.{◌≡◌, ℕ, ◌-◌, ◌^◌, ◌<◌, ◌≤◌, List, [], ◌∷◌, ◌++◌, length, take, refl, ap, ◌∙◌, arith}
+use Rattle.std.proofs.Common.{◌≡◌, Bool, ℕ, ◌-◌, ◌^◌, ◌<◌, ◌≤◌, List, [], ◌∷◌, ◌++◌, length, take, refl, ap, ◌∙◌, arith}
 use Rattle.std.specs.Prelude.{All, filter, map, min, nat_lt}
 use Rattle.std.specs.List.{flat_map, sum_by}
 use Rattle.std.proofs.lemmas.List.{map-append, take_all}
@@ -28,11 +28,12 @@ all_over_0 rows count from_1 counted =
     ap (λ (xs : List Numbered). take count xs) (all_from_0 rows from_1) ∙ take_all count rows (omega (arith, counted))
 
 -- the rows of the first lanes were gathered
-pub record IsGathering {L : Type 0} (honest : L → Type 0) (contents : L → Stock) (start lanes : L) (rows : List Numbered) (number : ℕ) : Type 0 where
+pub record IsGathering {L : Type 0} (honest : L → Type 0) (is_stopped : L → Bool) (contents : L → Stock) (start lanes : L) (rows : List Numbered) (number : ℕ) : Type 0 where
   pub held : honest lanes → honest start
   pub same : honest lanes → contents lanes ≡ contents start
   pub sound : honest lanes → 0 < number → IsSound (contents lanes)
   pub gathered : honest lanes → rows ≡ flat_map (λ lane. lane.rows) (take number (contents lanes).lanes)
+  pub runs_on : is_stopped lanes ≡ is_stopped start
 
 -- what the first lanes lost was counted
 pub record IsLosing {L : Type 0} (honest : L → Type 0) (contents : L → Stock) (start lanes : L) (lost number : ℕ) : Type 0 where

@@ -1,10 +1,11 @@
 -- Controls: what was done on their way, and where they stop.
-use Rattle.std.proofs.Common.{◌≡◌, ℕ, [], ◌∷◌, Option, Some, None, Result, Ok, Err, inl, inr, refl, subst}
-use Rattle.std.specs.Prelude.{◌⊎◌, IfErr, OnOk, ⊤}
+use Rattle.std.proofs.Common.{◌≡◌, ℕ, Bool, true, false, ◌&&◌, ap, [], ◌∷◌, Option, Some, None, Result, Ok, Err, inl, inr, refl, subst}
+use Rattle.std.proofs.lemmas.Bool.{and_parts}
+use Rattle.std.specs.Prelude.{◌⊎◌, IfErr, IfSome, OnOk, ⊤}
 use Rattle.dnp_world.specs.steps.ControlSteps.{EndsBy}
-use Rattle.dnp_world.specs.Controls.{CanGo, ControlEnds, IsAccepted, IsControlFor, IsRefusedFor, IsRefusedOn, Passes, PassesBack, StopsBack, StopsFor, StopsOn, StopsRelaying, next_below, station_in}
-use Rattle.dnp_world.specs.Rounds.{Flushes, StopsFlushingAll, StopsInTurn}
-use Rattle.dnp_world.specs.Systems.{System}
+use Rattle.dnp_world.specs.Controls.{CanGo, ControlEnds, IsAccepted, IsControlFor, IsRefusedFor, IsRefusedOn, Passes, PassesBack, StopsBack, StopsFor, StopsOn, StopsRelaying, are_quiet_for, next_below, station_in}
+use Rattle.dnp_world.specs.Rounds.{Flushes, StopsFlushingAll, StopsInTurn, is_quiet_on}
+use Rattle.dnp_world.specs.Systems.{System, has_station}
 use Rattle.dnp_world.specs.declared.event.Event.{Event}
 use Rattle.dnp_world.specs.declared.event.Event.TheVariants.{Deliver, Relay}
 use Rattle.dnp_world.specs.declared.event.Link.{Link}
@@ -14,6 +15,16 @@ use Rattle.dnp_world.specs.declared.link_event.Way.TheVariants.{Down, Up}
 use Rattle.dnp_world.specs.declared.round_fault.ControlFault.{ControlFault}
 use Rattle.dnp_world.specs.declared.round_fault.ControlFault.TheVariants.{NotQuiet, NotNext, Refused, Fault}
 use Rattle.dnp_world.proofs.SystemRounds.{Ran, StopsIn, ran_both, ran_flush, ran_one, stops_after, stops_at, stops_flushing_all, stops_in_turn}
+
+-- a control goes over the link above first
+pub not_quiet : (s : System) (station : Option ℕ) → is_quiet_on s Above ≡ false → are_quiet_for s station ≡ false
+not_quiet s None is = is
+not_quiet s (Some station) is = ap (λ (quiet : Bool). quiet && is_quiet_on s (Below station)) is
+
+-- its substation is one of the plan
+pub planned : (s : System) (station : Option ℕ) → are_quiet_for s station ≡ true → IfSome station (λ n. has_station s n ≡ true)
+planned s None quiet = tt
+planned s (Some n) quiet = (and_parts (has_station s n) _ (and_parts (is_quiet_on s Above) (is_quiet_on s (Below n)) quiet).1).0
 
 -- ---- what was done
 

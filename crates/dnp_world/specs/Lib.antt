@@ -7,6 +7,8 @@ pub mod Lanes
 pub mod Round
 pub mod OutstationSeen
 pub mod MasterSeen
+pub mod Carriers
+pub mod Causes
 pub mod Channels
 pub mod OneLinkEvents
 pub mod OneLinkParts

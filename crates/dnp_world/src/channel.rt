@@ -1,12 +1,13 @@
 //! The lines between the two stations of a link.
 
-ghost use Rattle.std.specs.Prelude.{option_copied, ◌≡◌, ◌<◌, ◌≤◌, ℕ, true, false, if◌then◌else◌, IfOk, OnErr, OnOk, List, [], ◌∷◌, ◌++◌, length, option_to_list};
+ghost use Rattle.std.specs.Prelude.{option_copied, ◌≡◌, ◌<◌, ◌≤◌, ℕ, true, false, if◌then◌else◌, Err, IfErr, IfOk, OnErr, OnOk, List, [], ◌∷◌, ◌++◌, length, option_to_list};
 ghost use Rattle.dnp_line.specs.Lines.{front_of, quiet_line, room_of};
 ghost use Rattle.dnp_line.specs.Ports.{IsShown, reset_of};
 ghost use Rattle.dnp_line.specs.Ways.{HearsIfAny};
 ghost use Rattle.dnp_master.specs.Calls.{receive_of};
 ghost use Rattle.dnp_outstation.specs.Calls.{connection_after, opened_of, performed_in, tick_of};
 ghost use Rattle.dnp_outstation.specs.Station.{actions_of};
+ghost use Rattle.dnp_world.specs.Causes.{TellsDevice};
 ghost use Rattle.dnp_world.specs.Channels.{state_of, are_quiet, cleared, fresh_channel, hung_up_at, left_at, left_by, line_of, lost_at, DamagesAt, GoDown, GoUp, ComesToOutstation};
 ghost use Rattle.dnp_world.specs.MasterEnds.{ComesToMaster, TakesBy};
 
@@ -165,6 +166,7 @@ impl Channel {
     pub fn reserve_down(&mut self) -> Result<(), Cause>
         ensures same { state_of self.new ≡ state_of self.old }
         ensures room { OnOk result (FRAGMENT_UNITS ≤ room_of self.new.down) }
+        ensures named { IfErr result (λ cause. cause ≡ Cause.Memory) }
     {
         self.down.reserve(FRAGMENT_UNITS)?;
         Ok(())
@@ -205,6 +207,7 @@ impl Channel {
         ensures beside { E.follows end.old [] end.new }
         ensures unchanged { E.honest end.new → OnErr result (E.state end.new ≡ E.state end.old) }
         ensures lines { OnErr result (state_of self.new ≡ state_of self.old) }
+        ensures device { TellsDevice (E.is_stopped end.old) (E.is_stopped end.new) (result ≡ Err Cause.Device) }
     {
         self.up.reserve(2 * FRAGMENT_UNITS)?;
         end.opened(actions, alloc, now)?;
@@ -229,6 +232,7 @@ impl Channel {
         ensures beside { E.follows end.old [] end.new }
         ensures unchanged { E.honest end.new → OnErr result (E.state end.new ≡ E.state end.old) }
         ensures lines { OnErr result (state_of self.new ≡ state_of self.old) }
+        ensures device { TellsDevice (E.is_stopped end.old) (E.is_stopped end.new) (result ≡ Err Cause.Device) }
     {
         self.up.reserve(2 * FRAGMENT_UNITS)?;
         end.tick(actions, alloc, now)?;
@@ -253,6 +257,7 @@ impl Channel {
         ensures unchanged { E.honest end.new → OnErr result (E.state end.new ≡ E.state end.old) }
         ensures kept { E.honest end.new → OnErr result (E.keeps end.old end.new) }
         ensures lines { OnErr result (state_of self.new ≡ state_of self.old) }
+        ensures device { TellsDevice (E.is_stopped end.old) (E.is_stopped end.new) (result ≡ Err Cause.Device) }
     {
         self.up.reserve(2 * FRAGMENT_UNITS)?;
         end.receive(actions, alloc, now, self.outstation_port.fragment())?;
@@ -276,6 +281,7 @@ impl Channel {
         ensures unchanged { E.honest end.new → OnErr result (E.state end.new ≡ E.state end.old) }
         ensures kept { E.honest end.new → OnErr result (E.keeps end.old end.new) }
         ensures lines { OnErr result (state_of self.new ≡ state_of self.old) }
+        ensures device { TellsDevice (E.is_stopped end.old) (E.is_stopped end.new) (result ≡ Err Cause.Device) }
     {
         let kept = self.outstation_port.copy();
         let Some(unit) = self.down.front() else {
@@ -326,6 +332,7 @@ impl Channel {
             (E.stays end.old end.new × (dropped.new.items ≡ dropped.old.items)) (state_of self.old) (state_of self.new)) }
         ensures kept { E.honest end.new → OnErr result (E.keeps end.old end.new) }
         ensures lines { OnErr result (state_of self.new ≡ state_of self.old) }
+        ensures device { TellsDevice (E.is_stopped end.old) (E.is_stopped end.new) (result ≡ Err Cause.Device) }
         ensures unlisted { OnErr result (dropped.new.items ≡ dropped.old.items) }
     {
         what_comes_is_taken_or_passed_over();
@@ -363,6 +370,7 @@ impl Channel {
             (E.stays end.old end.new × (dropped.new.items ≡ dropped.old.items)) (state_of self.old) (state_of self.new)) }
         ensures kept { E.honest end.new → OnErr result (E.keeps end.old end.new) }
         ensures lines { OnErr result (state_of self.new ≡ state_of self.old) }
+        ensures device { TellsDevice (E.is_stopped end.old) (E.is_stopped end.new) (result ≡ Err Cause.Device) }
         ensures unlisted { OnErr result (dropped.new.items ≡ dropped.old.items) }
     {
         let kept = self.master_port.copy();

@@ -1,6 +1,6 @@
 //! The stations at the ends of a link.
 
-ghost use Rattle.std.specs.Prelude.{◌≡◌, ◌≢◌, ◌<◌, ◌≤◌, All, List, [], OnOk, OnErr, false, length, refl, ⊤};
+ghost use Rattle.std.specs.Prelude.{◌≡◌, ◌≢◌, ◌<◌, ◌≤◌, ◌||◌, All, Err, List, [], OnOk, OnErr, false, length, refl, ⊤};
 ghost use Rattle.dnp_controls.specs.Panel.{Panel};
 ghost use Rattle.dnp_outstation.specs.Calls.{opened_of, connection_after, performed_in, tick_of};
 ghost use Rattle.dnp_outstation.specs.Parts.{lanes_of, outputs_of, whole_of};
@@ -11,6 +11,7 @@ ghost use Rattle.dnp_concentrator.specs.Centre as centre;
 ghost use Rattle.dnp_concentrator.specs.Concentrator as concentrator;
 ghost use Rattle.dnp_concentrator.specs.Concentrator.{above_of, book_of, indices_of, links_of, plan_above, queue_of, IsBookWell};
 ghost use Rattle.dnp_master.specs.Calls.{receive_of};
+ghost use Rattle.dnp_world.specs.Causes.{TellsDevice};
 ghost use Rattle.dnp_world.specs.Channels.{HavePerformed, TakesStep};
 ghost use Rattle.dnp_world.specs.MasterEnds.{TakesIn};
 ghost use Rattle.dnp_world.specs.SystemEvents.{HasNumbers, centre_taken, concentrator_taken, dropped_for};
@@ -29,7 +30,7 @@ use std::alloc::Global;
 /// What a call promises of the outstation's state holds where the stores under it are honest as the call ends. What it
 /// does is put into the actions, in place of what was there.
 pub trait OutstationEnd {
-    ghost use Rattle.std.specs.Prelude.{List, []};
+    ghost use Rattle.std.specs.Prelude.{Bool, List, []};
     ghost use Rattle.dnp_objects.specs.declared.command.Command.{Command};
     ghost use Rattle.dnp_outstation.specs.State.{State};
     ghost use Rattle.dnp_controls.specs.Panel.{Panel};
@@ -43,6 +44,9 @@ pub trait OutstationEnd {
     /// The stores under it are honest.
     ghost honest: { Self → Type 0 };
 
+    /// One of these has answered Device.
+    ghost is_stopped: { Self → Bool };
+
     /// It comes of another by performing these commands, whatever its state became: what is no part of the state has
     /// not changed otherwise.
     ghost follows: { Self → List Command → Self → Type 0 };
@@ -53,7 +57,8 @@ pub trait OutstationEnd {
     /// A connection begins, at this moment, in milliseconds.
     fn opened(&mut self, actions: &mut Actions, alloc: Global, now: u64) -> Result<(), Cause>
         ensures beside { follows self.old [] self.new }
-        ensures step { TakesStep honest state follows keeps (opened_of (state self.old) now) [] self.old self.new (actions_of actions.new) result };
+        ensures step { TakesStep honest state follows keeps (opened_of (state self.old) now) [] self.old self.new (actions_of actions.new) result }
+        ensures device { TellsDevice (is_stopped self.old) (is_stopped self.new) (result ≡ Err Cause.Device) };
 
     /// A fragment came from the master.
     fn receive(
@@ -63,12 +68,14 @@ pub trait OutstationEnd {
         now: u64,
         octets: &[u8],
     ) -> Result<(), Cause>
-        ensures { TakesStep honest state follows keeps (connection_after (state self.old) (panel self.old) now octets.now) (performed_in (state self.old).core (panel self.old) now octets.now) self.old self.new (actions_of actions.new) result };
+        ensures step { TakesStep honest state follows keeps (connection_after (state self.old) (panel self.old) now octets.now) (performed_in (state self.old).core (panel self.old) now octets.now) self.old self.new (actions_of actions.new) result }
+        ensures device { TellsDevice (is_stopped self.old) (is_stopped self.new) (result ≡ Err Cause.Device) };
 
     /// Time has passed.
     fn tick(&mut self, actions: &mut Actions, alloc: Global, now: u64) -> Result<(), Cause>
         ensures beside { follows self.old [] self.new }
-        ensures step { TakesStep honest state follows keeps (tick_of (state self.old) now) [] self.old self.new (actions_of actions.new) result };
+        ensures step { TakesStep honest state follows keeps (tick_of (state self.old) now) [] self.old self.new (actions_of actions.new) result }
+        ensures device { TellsDevice (is_stopped self.old) (is_stopped self.new) (result ≡ Err Cause.Device) };
 
     /// Where nothing was performed it follows itself.
     ghost follows_itself: { (s : Self) → follows s [] s };
@@ -83,6 +90,8 @@ impl<L: Lanes, O: Outputs> OutstationEnd for Outstation<L, O> {
     ghost panel = { λ o. O.panel (outputs_of o) };
 
     ghost honest = { λ o. L.honest (lanes_of o) × O.honest (outputs_of o) };
+
+    ghost is_stopped = { λ o. L.is_stopped (lanes_of o) || O.is_stopped (outputs_of o) };
 
     ghost follows = { λ old commands new. HavePerformed O.performs commands (outputs_of old) (outputs_of new) };
 
@@ -121,6 +130,8 @@ impl<Q: Lanes, B: Book> OutstationEnd for Concentrator<Q, B> {
 
     ghost honest = { λ c. Q.honest (queue_of c) × IsBookWell B.honest B.is_stopped c };
 
+    ghost is_stopped = { λ c. Q.is_stopped (queue_of c) || B.is_stopped (book_of c) };
+
     ghost follows = { λ old commands new. HavePerformed (Performs B.contents) commands (concentrator.outputs_of old) (concentrator.outputs_of new) × (links_of new ≡ links_of old) × (plan_above new ≡ plan_above old) };
 
     ghost keeps = { λ old new. (indices_of new ≡ indices_of old) × (B.contents (book_of new) ≡ B.contents (book_of old)) × (links_of new ≡ links_of old) × (plan_above new ≡ plan_above old) };
@@ -156,7 +167,7 @@ impl<Q: Lanes, B: Book> OutstationEnd for Concentrator<Q, B> {
 ///
 /// What a call promises holds where the stores under the station are honest as the call ends.
 pub trait MasterEnd {
-    ghost use Rattle.std.specs.Prelude.{ℕ, List};
+    ghost use Rattle.std.specs.Prelude.{Bool, ℕ, List};
     ghost use Rattle.dnp_objects.specs.declared.row.Row.{Row};
     ghost use Rattle.dnp_master.specs.Calls.{Taking};
     ghost use Rattle.dnp_master.specs.State.{State as MasterState};
@@ -169,6 +180,9 @@ pub trait MasterEnd {
 
     /// The stores under it are honest.
     ghost honest: { Self → Type 0 };
+
+    /// One of these has answered Device.
+    ghost is_stopped: { Self → Bool };
 
     /// It comes of another that took this on the link.
     ghost takes: { Self → ℕ → Taking → Self → Type 0 };
@@ -191,7 +205,8 @@ pub trait MasterEnd {
         octets: &[u8],
     ) -> Result<MasterActions, MasterFault>
         requires { has self.old link }
-        ensures { TakesIn honest (λ t. takes self.old link t self.new) (drops self.old link) (keeps self.old self.new) (stays self.old self.new) (receive_of (master self.old link) now octets.now) self.old self.new result };
+        ensures takes { TakesIn honest (λ t. takes self.old link t self.new) (drops self.old link) (keeps self.old self.new) (stays self.old self.new) (receive_of (master self.old link) now octets.now) self.old self.new result }
+        ensures device { TellsDevice (is_stopped self.old) (is_stopped self.new) (result ≡ Err MasterFault.Device) };
 
     /// It keeps what it is.
     ghost keeps_itself: { (s : Self) → keeps s s };
@@ -206,6 +221,8 @@ impl<Q: Lanes, B: Book> MasterEnd for Concentrator<Q, B> {
     ghost master = { λ c link. (concentrator.link_at c link).master };
 
     ghost honest = { λ c. Q.honest (queue_of c) × IsBookWell B.honest B.is_stopped c };
+
+    ghost is_stopped = { λ c. Q.is_stopped (queue_of c) || B.is_stopped (book_of c) };
 
     ghost takes = { λ old link t new. HasNumbers (concentrator_of Q.contents B.contents old) link t × (concentrator_of Q.contents B.contents new ≡ concentrator_taken (concentrator_of Q.contents B.contents old) link t) };
 
@@ -236,6 +253,8 @@ impl<J: JournalStore, B: Book> MasterEnd for Centre<J, B> {
     ghost master = { λ c link. (centre.link_of c).master };
 
     ghost honest = { λ c. J.honest (centre.journal_of c) × B.honest (centre.book_of c) × (B.is_stopped (centre.book_of c) ≡ false) };
+
+    ghost is_stopped = { λ c. J.is_stopped (centre.journal_of c) || B.is_stopped (centre.book_of c) };
 
     ghost takes = { λ old link t new. centre_of J.archive B.contents new ≡ centre_taken (centre_of J.archive B.contents old) t };
 

@@ -3,7 +3,7 @@
 ghost use Rattle.std.specs.Prelude.{option_copied, ◌≡◌, ◌+◌, ◌-◌, ◌^◌, true, min};
 ghost use Rattle.dnp_world.specs.Channels.{DamagesAt};
 ghost use Rattle.dnp_world.specs.SystemEvents.{HangsUpOn, LinesChange, LosesOn, MasterTicks, concentrator_restarted};
-ghost use Rattle.dnp_world.specs.Shown.{StoresAreWell};
+ghost use Rattle.dnp_world.specs.Shown.{StoresAreWell, is_one_stopped};
 ghost use Rattle.dnp_world.specs.Systems.{front_on, has_link, standing_on};
 ghost use Rattle.dnp_world.specs.declared.event.Link.TheVariants as link;
 ghost use Rattle.dnp_world.specs.declared.link_event.End.TheVariants as end;
@@ -59,6 +59,8 @@ impl<Q: Lanes, J: JournalStore, A: Book, B: Book> Model for Parts<Q, J, A, B> {
 
 impl<Q: Lanes, J: JournalStore, A: Book, B: Book> Stored for Parts<Q, J, A, B> {
     ghost well = { λ p. StoresAreWell Q.honest J.honest A.honest A.is_stopped B.honest B.is_stopped p.stores };
+
+    ghost is_stopped = { λ p. is_one_stopped Q.is_stopped J.is_stopped A.is_stopped B.is_stopped p.stores };
 }
 
 impl<Q: Lanes, J: JournalStore, A: Book, B: Book> Parts<Q, J, A, B> {

@@ -1,10 +1,11 @@
 //! What lanes hold, as a report reads it.
 
-ghost use Rattle.std.specs.Prelude.{◌≡◌, ◌++◌, ◌^◌, ◌-◌, IfOk, OnOk, map as all_of, min, option_to_list};
+ghost use Rattle.std.specs.Prelude.{◌≡◌, ◌≢◌, Err, ◌++◌, ◌^◌, ◌-◌, IfOk, OnOk, map as all_of, min, option_to_list};
 ghost use Rattle.dnp_concentrator.specs.Mapped as mapped;
 ghost use Rattle.dnp_eventbuf.specs.Sound.{IsSound};
 ghost use Rattle.dnp_eventbuf.specs.Stock.{lane_at, lost_in, row_of};
 ghost use Rattle.dnp_objects.specs.Lanes.{lane_number};
+ghost use Rattle.dnp_world.specs.Causes.{TellsDevice};
 ghost use Rattle.dnp_world.specs.Kept as kept;
 ghost use Rattle.dnp_world.specs.ReportShown.{AreById, all_in};
 ghost use Rattle.dnp_world.specs.Systems.{at_station};
@@ -20,6 +21,8 @@ fn lane_rows<L: Lanes>(alloc: Global, lanes: &mut L, lane: Lane) -> Result<Vec<N
     ensures same { L.honest lanes.new → L.contents lanes.new ≡ L.contents lanes.old }
     ensures sound { L.honest lanes.new → IsSound (L.contents lanes.new) }
     ensures rows { L.honest lanes.new → IfOk result (λ rows. rows.items ≡ (lane_at (L.contents lanes.new) (lane_number lane)).rows) }
+    ensures device { TellsDevice (L.is_stopped lanes.old) (L.is_stopped lanes.new) (result ≡ Err Cause.Device) }
+    ensures named { result ≢ Err Cause.Exhausted }
 {
     let count = lanes.len(lane) as usize;
     let rows = lanes.offer(alloc, lane, 0, count)?;
@@ -31,6 +34,8 @@ pub(crate) fn all_rows<L: Lanes>(alloc: Global, lanes: &mut L) -> Result<Vec<Num
     ensures held { L.honest lanes.new → L.honest lanes.old }
     ensures same { L.honest lanes.new → L.contents lanes.new ≡ L.contents lanes.old }
     ensures rows { L.honest lanes.new → IfOk result (λ rows. rows.items ≡ all_in (L.contents lanes.new)) }
+    ensures device { TellsDevice (L.is_stopped lanes.old) (L.is_stopped lanes.new) (result ≡ Err Cause.Device) }
+    ensures named { result ≢ Err Cause.Exhausted }
 {
     let mut rows = Vec::new(alloc);
     for number in 0..LANES {
@@ -46,6 +51,8 @@ pub(crate) fn rows_by_id<L: Lanes>(alloc: Global, lanes: &mut L) -> Result<Vec<N
     ensures held { L.honest lanes.new → L.honest lanes.old }
     ensures same { L.honest lanes.new → L.contents lanes.new ≡ L.contents lanes.old }
     ensures rows { L.honest lanes.new → IfOk result (λ rows. AreById (all_in (L.contents lanes.new)) rows.items) }
+    ensures device { TellsDevice (L.is_stopped lanes.old) (L.is_stopped lanes.new) (result ≡ Err Cause.Device) }
+    ensures named { result ≢ Err Cause.Exhausted }
 {
     let mut rows = all_rows(alloc, lanes)?;
     rows.sort_unstable_by_key(|row| row.id);
@@ -60,6 +67,8 @@ pub(crate) fn journal_rows<J: JournalStore>(
     ensures held { J.honest journal.new → J.honest journal.old }
     ensures same { J.honest journal.new → J.archive journal.new ≡ J.archive journal.old }
     ensures rows { J.honest journal.new → IfOk result (λ rows. rows.items ≡ (J.archive journal.new).rows) }
+    ensures device { TellsDevice (J.is_stopped journal.old) (J.is_stopped journal.new) (result ≡ Err Cause.Device) }
+    ensures named { result ≢ Err Cause.Exhausted }
 {
     let count = journal.count() as usize;
     let rows = journal.rows(alloc, 0, count)?;

@@ -1,6 +1,6 @@
 //! Lists of what became of the rows and commands of substations.
 
-ghost use Rattle.std.specs.Prelude.{◌≡◌, ◌+◌, ◌<◌, ◌≤◌, [], ◌∷◌, ◌++◌, OnOk, length};
+ghost use Rattle.std.specs.Prelude.{◌≡◌, ◌+◌, ◌<◌, ◌≤◌, [], ◌∷◌, ◌++◌, IsOk, OnOk, length};
 ghost use Rattle.dnp_world.specs.Systems.{at_station};
 
 use std::alloc::{AllocError, Global};
@@ -43,6 +43,7 @@ impl<T: Copy> StationList<T> {
     pub fn reserve(&mut self, count: usize) -> Result<(), AllocError>
         ensures same { self.new.items ≡ self.old.items }
         ensures room { OnOk result (count ≤ self.new.room) }
+        ensures enough { count ≤ self.old.room → IsOk result }
     {
         self.items.reserve(count)
     }

@@ -1,7 +1,8 @@
 //! Why a list of events is not done to its end.
 
-ghost use Rattle.std.specs.Prelude.{IfNone};
+ghost use Rattle.std.specs.Prelude.{◌≡◌, IfNone};
 ghost use Rattle.dnp_master.specs.Sinks.{IsSinkFault};
+ghost use Rattle.dnp_world.specs.Causes.{cause_of_master};
 
 use dnp_concentrator::Cause;
 use dnp_master::MasterFault;
@@ -20,7 +21,8 @@ pub struct Stopped {
 /// The cause at which a list of events stops, where a store refused what a master took or memory ran out. What the master
 /// refuses for itself is none: the message is lost.
 pub(crate) fn cause_of(fault: MasterFault) -> Option<Cause>
-    ensures { IfNone result (IsSinkFault fault → ⊥) }
+    ensures cause { result ≡ cause_of_master fault }
+    ensures none { IfNone result (IsSinkFault fault → ⊥) }
 {
     match fault {
         MasterFault::Malformed | MasterFault::Stranger => None,

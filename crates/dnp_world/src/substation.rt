@@ -1,11 +1,12 @@
 //! A substation and its link.
 
-ghost use Rattle.std.specs.Prelude.{◌≡◌, ◌&&◌, ◌++◌, ◌∷◌, [], false, List, IfErr, IfOk, IfSome, OnErr, OnOk, drop, is_ok, length, map, true};
-ghost use Rattle.dnp_eventbuf.specs.Stock.{exhausts, rows_in, without_all};
+ghost use Rattle.std.specs.Prelude.{◌≡◌, ◌≢◌, ◌⊎◌, ◌≤◌, ◌*◌, ◌&&◌, ◌++◌, ◌∷◌, [], false, Err, List, IfErr, IfOk, IfSome, OnErr, OnOk, drop, is_ok, length, map, option_to_list, true};
+ghost use Rattle.dnp_eventbuf.specs.Stock.{dropped_by, exhausts, rows_in, without_all};
 ghost use Rattle.dnp_objects.specs.declared.row.Row.{Row as RowValue};
 ghost use Rattle.dnp_pointdb.specs.Database.{answer_of};
 ghost use Rattle.dnp_outstation.specs.Calls.{change_of, opened_of, restarted_core, tick_of};
-ghost use Rattle.dnp_outstation.specs.Connection.{closed};
+ghost use Rattle.dnp_line.specs.Lines.{room_of};
+ghost use Rattle.dnp_outstation.specs.Connection.{closed, has_enabled_rows};
 ghost use Rattle.dnp_outstation.specs.State.{is_quiet};
 ghost use Rattle.dnp_world.specs.Channels.{are_quiet, cleared, hung_up_at, left_by};
 ghost use Rattle.dnp_world.specs.SystemEvents.{ComesToSubstation, SubstationSteps, master_gone};
@@ -71,6 +72,7 @@ impl Substation {
         ensures done { OnOk result (SubstationSteps (opened_of (station_of (substation_of self.old)) now) (cleared (substation_of self.old).channel)
             (substation_of self.old) (substation_of self.new)) }
         ensures stopped { OnErr result (substation_of self.new ≡ substation_of self.old) }
+        ensures device { result ≢ Err Cause.Device }
     {
         self.channel.open(actions, alloc, now, &mut self.outstation)
     }
@@ -80,6 +82,7 @@ impl Substation {
         ensures done { OnOk result (SubstationSteps (tick_of (station_of (substation_of self.old)) now) (substation_of self.old).channel
             (substation_of self.old) (substation_of self.new)) }
         ensures stopped { OnErr result (substation_of self.new ≡ substation_of self.old) }
+        ensures device { result ≢ Err Cause.Device }
     {
         self.channel.tick(actions, alloc, now, &mut self.outstation)
     }
@@ -110,6 +113,10 @@ impl Substation {
         ensures stopped { OnErr result (substation_of self.new ≡ substation_of self.old) }
         ensures unlisted { OnErr result (overwritten.new.items ≡ overwritten.old.items) }
         ensures named { OnErr result (is_ok (answer_of (substation_of self.old).core.points kind index reading) ≡ true) }
+        ensures device { result ≢ Err Cause.Device }
+        ensures enough { 1 ≤ overwritten.old.room → 2 * FRAGMENT_UNITS ≤ room_of self.old.channel.up → result ≡ Err Cause.Memory
+            → IfOk (answer_of (substation_of self.old).core.points kind index reading) (λ made.
+            (has_enabled_rows (station_of (substation_of self.old)) ≡ true) ⊎ (dropped_by (substation_of self.old).lanes (option_to_list made) ≢ [])) }
     {
         let made = self.outstation.points().would(kind, index, reading);
         if made.is_err() {
@@ -151,6 +158,10 @@ impl Substation {
             ++ at_station station (change_of (station_of (substation_of self.old)) now kind index reading made).does.overwritten)) }
         ensures stopped { OnErr result (substation_of self.new ≡ substation_of self.old) }
         ensures unlisted { OnErr result (overwritten.new.items ≡ overwritten.old.items) }
+        ensures device { result ≢ Err Cause.Device }
+        ensures enough { 1 ≤ overwritten.old.room → 2 * FRAGMENT_UNITS ≤ room_of self.old.channel.up → result ≡ Err Cause.Memory
+            → IfOk (answer_of (substation_of self.old).core.points kind index reading) (λ made.
+            (has_enabled_rows (station_of (substation_of self.old)) ≡ true) ⊎ (dropped_by (substation_of self.old).lanes (option_to_list made) ≢ [])) }
     {
         overwritten.reserve(1)?;
         self.channel.up.reserve(2 * FRAGMENT_UNITS)?;
@@ -192,6 +203,7 @@ impl Substation {
             })) }
         ensures stopped { OnErr result (substation_of self.new ≡ substation_of self.old) }
         ensures unlisted { OnErr result (history_of history.new ≡ history_of history.old) }
+        ensures device { result ≢ Err Cause.Device }
     {
         each_case_says_what_came();
         a_confirm_releases_what_its_fragment_reported();
@@ -230,6 +242,7 @@ impl Substation {
         ensures listed { OnOk result (gone.new.items ≡ gone.old.items ++ at_station station (rows_in (substation_of self.old).lanes)) }
         ensures stopped { OnErr result (substation_of self.new ≡ substation_of self.old) }
         ensures unlisted { OnErr result (gone.new.items ≡ gone.old.items) }
+        ensures device { result ≢ Err Cause.Device }
     {
         let waiting = rows_waiting(self.outstation.lanes());
         gone.reserve(waiting)?;

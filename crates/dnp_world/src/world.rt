@@ -3,6 +3,7 @@
 ghost use Rattle.std.specs.Prelude.{option_copied, ℕ, ◌≡◌, ◌≢◌, ◌↔◌, [], false, take, Err, IfErr, IfOk, OnOk};
 ghost use Rattle.dnp_concentrator.specs.IndexMap.{IsTooWide, Overlaps};
 ghost use Rattle.dnp_concentrator.specs.Plan.{KeepsLimits, map_of};
+ghost use Rattle.dnp_world.specs.Causes.{IsStoppedBy, TellsDevice};
 ghost use Rattle.dnp_world.specs.FreshSystems.{fresh_system};
 ghost use Rattle.dnp_world.specs.Kept.{report_of};
 ghost use Rattle.dnp_world.specs.Movement.{RoundMoves};
@@ -13,10 +14,11 @@ ghost use Rattle.dnp_world.specs.Reports.{Holds, IsFate};
 ghost use Rattle.dnp_world.specs.ControlMoves.{ControlMoves};
 ghost use Rattle.dnp_world.specs.Controls.{ControlEnds};
 ghost use Rattle.dnp_world.specs.Rounds.{IsRound, StopsInRound, is_quiet_on};
-ghost use Rattle.dnp_world.specs.Shown.{StoresAreWell};
+ghost use Rattle.dnp_world.specs.Shown.{StoresAreWell, is_one_stopped};
 ghost use Rattle.dnp_world.specs.Steady.{Issues, Lasts};
 ghost use Rattle.dnp_world.specs.SystemRuns.{RunsTo, StopsAfter};
 ghost use Rattle.dnp_world.specs.Systems.{front_on, standing_on};
+ghost use Rattle.dnp_world.specs.declared.event.Link.TheVariants as link;
 
 use crate::carrier::InMemory;
 use crate::channel::Channel;
@@ -68,6 +70,8 @@ impl<Q: Lanes, J: JournalStore, A: Book, B: Book> Model for World<Q, J, A, B> {
 
 impl<Q: Lanes, J: JournalStore, A: Book, B: Book> Stored for World<Q, J, A, B> {
     ghost well = { λ w. StoresAreWell Q.honest J.honest A.honest A.is_stopped B.honest B.is_stopped w.stores };
+
+    ghost is_stopped = { λ w. is_one_stopped Q.is_stopped J.is_stopped A.is_stopped B.is_stopped w.stores };
 }
 
 impl<Q: Lanes + Drop, J: JournalStore + Drop, A: Book + Drop, B: Book + Drop> Drop
@@ -163,6 +167,7 @@ impl<Q: Lanes, J: JournalStore, A: Book, B: Book> World<Q, J, A, B> {
         ensures issued_so_far { ⟦<Self as Stored>⟧.well self.new → IfErr result (λ stopped. Issues (take stopped.done events.now) self.old.system self.new.system) }
         ensures holds { ⟦<Self as Stored>⟧.well self.new → Holds (report_of self.new.system) }
         ensures opens { ⟦<Self as Stored>⟧.well self.new → OnOk result (OpensQuiet events.now self.new.system) }
+        ensures device { TellsDevice (⟦<Self as Stored>⟧.is_stopped self.old) (⟦<Self as Stored>⟧.is_stopped self.new) (IsStoppedBy Cause.Device result) }
     {
         self.run_by(alloc, events, &mut InMemory)
     }
@@ -186,6 +191,7 @@ impl<Q: Lanes, J: JournalStore, A: Book, B: Book> World<Q, J, A, B> {
         ensures fate { ⟦<Self as Stored>⟧.well self.new → IsFate (λ i. []) (report_of self.old.system) (report_of self.new.system) }
         ensures none_issued { ⟦<Self as Stored>⟧.well self.new → self.new.system.history.issued ≡ self.old.system.history.issued }
         ensures holds { ⟦<Self as Stored>⟧.well self.new → Holds (report_of self.new.system) }
+        ensures device { TellsDevice (⟦<Self as Stored>⟧.is_stopped self.old) (⟦<Self as Stored>⟧.is_stopped self.new) (result ≡ Err (RoundFault.Fault Cause.Device)) }
     {
         self.clean_round_by(alloc, on, &mut InMemory)
     }
@@ -207,6 +213,8 @@ impl<Q: Lanes, J: JournalStore, A: Book, B: Book> World<Q, J, A, B> {
         ensures fate { ⟦<Self as Stored>⟧.well self.new → IsFate (λ i. []) (report_of self.old.system) (report_of self.new.system) }
         ensures none_issued { ⟦<Self as Stored>⟧.well self.new → self.new.system.history.issued ≡ self.old.system.history.issued }
         ensures holds { ⟦<Self as Stored>⟧.well self.new → Holds (report_of self.new.system) }
+        ensures device { TellsDevice (⟦<Self as Stored>⟧.is_stopped self.old) (⟦<Self as Stored>⟧.is_stopped self.new) (result ≡ Err (ControlFault.Fault Cause.Device)) }
+        ensures not_quiet_above { is_quiet_on self.old.system link.Above ≡ false → result ≡ Err ControlFault.NotQuiet }
     {
         self.clean_control_by(alloc, id, &mut InMemory)
     }
@@ -242,6 +250,8 @@ impl<Q: Lanes, J: JournalStore, A: Book, B: Book> World<Q, J, A, B> {
         ensures shows { ⟦<Self as Stored>⟧.well self.new → IfOk result (Shows self.old.system) }
         ensures holds { ⟦<Self as Stored>⟧.well self.new → IfOk result (λ report. Holds (lists_of report)) }
         ensures all { ⟦<Self as Stored>⟧.well self.new → IfOk result (λ report. ListsAll self.old.system (lists_of report)) }
+        ensures device { TellsDevice (⟦<Self as Stored>⟧.is_stopped self.old) (⟦<Self as Stored>⟧.is_stopped self.new) (result ≡ Err Cause.Device) }
+        ensures named { result ≢ Err Cause.Exhausted }
     {
         what_a_report_shows_is_kept();
         self.parts.report(alloc)

@@ -17,7 +17,8 @@ use dnp_objects::laws::{a_written_command_is_read, a_written_row_fills_its_objec
 /// A row or a command that is put is one object, as a header of its own.
 pub fn a_header_holds_what_was_put()
     ensures event { (row : Row) → IsEvent row → row.index < 2 ^ 16 → Holds (event row) (event_item row ∷ []) }
-    ensures point { (group : ℕ) (row : Row) → FitsPoint group row → Holds (point group row) (point_item group row ∷ []) }
+    ensures point { (group variation : ℕ) (row : Row) → FitsPoint group variation row
+        → Holds (point group variation row) (point_item group variation row ∷ []) }
     ensures order { (command : Command) (status : ℕ) → index_of command < 2 ^ 16
         → Holds (order command status) (command_item command status ∷ []) }
 {
@@ -39,8 +40,8 @@ pub fn what_is_put_is_held()
 pub fn what_is_put_stands_in_a_response()
     ensures event { (row : Row) → IsEvent row
         → IsHeader form.Response (event row) × IsSome (object_size (event row).group (event row).variation) }
-    ensures point { (group : ℕ) (row : Row) → FitsPoint group row → row.index < 2 ^ 16
-        → IsHeader form.Response (point group row) × IsSome (object_size (point group row).group (point group row).variation) }
+    ensures point { (group variation : ℕ) (row : Row) → FitsPoint group variation row → row.index < 2 ^ 16
+        → IsHeader form.Response (point group variation row) × IsSome (object_size group variation) }
     ensures object { (built : Built) (object : Head) → IsHeader form.Response object
         → IsSome (object_size object.group object.variation) → AreHeaders form.Response begin (heads built)
         → AreHeaders form.Response begin (heads (with_object built object)) }
@@ -54,8 +55,8 @@ pub fn what_is_put_stands_in_a_response()
 pub fn what_is_held_is_read()
     ensures event { (header : Head) (items : List Item) (k : ℕ) (row : Row) → Holds header items → IsEvent row
         → slice_get items k ≡ Some (event_item row) → IsRow header k row }
-    ensures point { (header : Head) (items : List Item) (k group : ℕ) (row : Row) → Holds header items → FitsPoint group row
-        → group ≢ 10 → slice_get items k ≡ Some (point_item group row) → IsRow header k (record row { time = None }) }
+    ensures point { (header : Head) (items : List Item) (k group variation : ℕ) (row : Row) → Holds header items
+        → FitsPoint group variation row → group ≢ 10 → slice_get items k ≡ Some (point_item group variation row) → IsRow header k (record row { time = None }) }
     ensures command { (header : Head) (items : List Item) (k : ℕ) (command : Command) (status : ℕ) → Holds header items
         → IsInRange command → status < 128 → slice_get items k ≡ Some (command_item command status)
         → IsCommand header k (command, status) }

@@ -2,7 +2,7 @@
 -- base, as the blocks of a plan of points are. What a look-up has to find is said in IndexMap.antt.
 use Rattle.std.specs.Prelude.{List, map, slice_index_or, []}
 use Rattle.dnp_pointdb.specs.declared.order.Place.{Place as BlockPlace}
-use Rattle.dnp_pointdb.specs.Order as blocks
+use Rattle.dnp_pointdb.specs.steps.Order as blocks
 use Rattle.dnp_concentrator.specs.declared.index_kind.IndexKind.{IndexKind}
 use Rattle.dnp_concentrator.specs.declared.order.Orders.{Orders}
 use Rattle.dnp_concentrator.specs.declared.order.Place.{Place}
@@ -16,7 +16,7 @@ extent kind spans = record { first = (span_of spans kind).base; count = (span_of
 
 -- a place, as that of a block, whose number is the substation's
 abbrev pub as_block : Place → BlockPlace
-as_block place = record { first = place.first; count = place.count; block = place.station }
+as_block place = record { first = place.first; count = place.count; block = place.substation }
 
 -- the substations that have indices of this kind, by rising base
 abbrev pub IsOrder : IndexKind → List Spans → List Place → Type 0

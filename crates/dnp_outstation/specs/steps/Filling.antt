@@ -18,7 +18,7 @@ use Rattle.dnp_outstation.specs.declared.offer.place.Wanted.TheVariants.{Rows, E
 use Rattle.dnp_outstation.specs.declared.offer.writer.Run.{Run}
 use Rattle.dnp_outstation.specs.declared.offer.writer.Run.TheVariants.{NoRun, OfLane, OfBlock}
 use Rattle.dnp_outstation.specs.declared.offer.writer.Writer.{Writer}
-use Rattle.dnp_outstation.specs.Items.{Source, Part, Thing, Item, statics_of, in_range, no_ids, place_after}
+use Rattle.dnp_outstation.specs.Items.{Source, Part, Thing, Item, statics_of, each_static, in_range, no_ids, place_after}
 use Rattle.dnp_outstation.specs.Items.Part.{RowsOf, StaticsOf}
 use Rattle.dnp_outstation.specs.Items.Thing.{Event, Present}
 use Rattle.dnp_outstation.specs.Layout.{Laid, lay, laid}
@@ -33,8 +33,8 @@ part_of_rows p = RowsOf (map lane_number p.lanes) p.most
 -- the part that a header asks for, by what is wanted
 abbrev pub part_by : Source → Wanted → Part
 part_by s (Rows part) = part_of_rows part
-part_by s EachGroup = StaticsOf (statics_of s 1 ++ statics_of s 10 ++ statics_of s 20 ++ statics_of s 30)
-part_by s (OneGroup group r) = StaticsOf (in_range r (statics_of s group))
+part_by s EachGroup = StaticsOf (each_static s)
+part_by s (OneGroup group asked r) = StaticsOf (in_range r (statics_of s asked group))
 
 -- the lanes as they are after a release, if there is one
 abbrev pub after_release : Stock → Option (List ℕ) → Stock

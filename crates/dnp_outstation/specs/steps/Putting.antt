@@ -6,6 +6,7 @@ use Rattle.dnp_eventbuf.specs.declared.numbered.Numbered.{Numbered}
 use Rattle.dnp_objects.specs.declared.row.Kind.TheVariants.{Binary, Counter, Analog}
 use Rattle.dnp_pointdb.specs.declared.state.PointState.{PointState}
 use Rattle.dnp_pointdb.specs.Events.{row_of}
+use Rattle.dnp_pointdb.specs.Sound.{static_object}
 use Rattle.dnp_outstation.specs.declared.offer.place.Place.{Place}
 use Rattle.dnp_outstation.specs.declared.offer.writer.Writer.{Writer}
 use Rattle.dnp_outstation.specs.Items.{Item, Static, present_of}
@@ -44,8 +45,6 @@ passed_by place header count = record {
   given = place.given;
 }
 
--- the group of the present values of a kind
-abbrev pub group_of : Kind → ℕ
-group_of Binary = 1
-group_of Counter = 20
-group_of Analog = 30
+-- the group of the object that a present value of a kind goes as, where this variation was asked for
+abbrev pub group_of : Kind → ℕ → ℕ
+group_of kind asked = (static_object kind asked).0

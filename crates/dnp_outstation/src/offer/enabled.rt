@@ -46,7 +46,7 @@ impl Writer {
         ensures written { L.honest lanes.new → IfOk result (λ fit. Puts self.old
             (lane_items (after_release (L.contents lanes.old) released.now) (if is_enabled then class_lanes class else [])) fit self.new) }
         ensures response { self.new.builder.function ≡ self.old.builder.function }
-        ensures look { IsLook L.honest L.is_stopped L.contents L.beside L.place L.asks_memory lanes.old lanes.new result }
+        ensures look { IsLook L.honest L.is_stopped L.contents L.beside L.place L.asks_memory L.may_fault lanes.old lanes.new result }
     {
         if !is_enabled {
             return Ok(true);
@@ -79,7 +79,7 @@ impl Writer {
         ensures written { L.honest lanes.new → IfOk result (λ fit. Puts self.old
             (lane_items (after_release (L.contents lanes.old) released.now) (enabled_lanes 0 enabled)) fit self.new) }
         ensures response { self.new.builder.function ≡ self.old.builder.function }
-        ensures look { IsLook L.honest L.is_stopped L.contents L.beside L.place L.asks_memory lanes.old lanes.new result }
+        ensures look { IsLook L.honest L.is_stopped L.contents L.beside L.place L.asks_memory L.may_fault lanes.old lanes.new result }
     {
         for class in 0..3_u8 {
             let is_enabled = enabled[usize::from(class)];
@@ -105,7 +105,7 @@ pub(crate) fn put_enabled<L: Lanes>(
     ensures pushed { L.honest lanes.new → IfOk result (λ is_last. writer.old ≡ empty_for function.UnsolicitedResponse first_place
         → ended is_last writer.new ≡ pushed (after_release (L.contents lanes.old) released.now) enabled) }
     ensures response { writer.new.builder.function ≡ writer.old.builder.function }
-    ensures look { IsLook L.honest L.is_stopped L.contents L.beside L.place L.asks_memory lanes.old lanes.new result }
+    ensures look { IsLook L.honest L.is_stopped L.contents L.beside L.place L.asks_memory L.may_fault lanes.old lanes.new result }
 {
     // Whatever the lanes say without a refusal says that ids rise from 1 on.
     let _raised = lanes.raised();

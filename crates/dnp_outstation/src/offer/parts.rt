@@ -53,7 +53,7 @@ impl Writer {
             → IsTrue fit → self.new.place.given ≡ fold given_after self.old.place.given (part_items s from.now.stood self.old.place.given at (part_after count (part_of s (head header.now))))) }
         ensures response { self.new.builder.function ≡ self.old.builder.function }
 
-        ensures look { IsLook L.honest L.is_stopped L.contents L.beside L.place L.asks_memory lanes.old lanes.new result }
+        ensures look { IsLook L.honest L.is_stopped L.contents L.beside L.place L.asks_memory L.may_fault lanes.old lanes.new result }
     {
         match wanted(header) {
             Wanted::Rows(mut part) => {
@@ -67,8 +67,12 @@ impl Writer {
                 self.put_lanes(alloc, lanes, at, &part, &bounds)
             }
             Wanted::EachGroup => Ok(self.put_each_group(at, from.points, from.outputs, count)),
-            Wanted::OneGroup(group, range) => {
-                let ask = Ask { header: at, range };
+            Wanted::OneGroup(group, variation, range) => {
+                let ask = Ask {
+                    header: at,
+                    variation,
+                    range,
+                };
                 Ok(self.put_one_group(ask, group, from.points, from.outputs, count))
             }
         }
@@ -92,7 +96,7 @@ impl Writer {
             → Puts self.old (items_of s from.now.stood self.old.place.given first (parts_left given (map (part_of s) headers.entry.headers))) fit self.new) }
         ensures response { self.new.builder.function ≡ self.old.builder.function }
 
-        ensures look { IsLook L.honest L.is_stopped L.contents L.beside L.place L.asks_memory lanes.old lanes.new result }
+        ensures look { IsLook L.honest L.is_stopped L.contents L.beside L.place L.asks_memory L.may_fault lanes.old lanes.new result }
     {
         let mut at = first;
         let mut count = given;
@@ -125,7 +129,7 @@ pub(crate) fn put_parts<L: Lanes, O: Outputs>(
     ensures offered { L.honest lanes.new → IfOk result (λ is_last. (place : PlaceValue) → writer.old ≡ empty_from place → ended is_last writer.new
         ≡ offered (record { points = points.now; panel = O.panel outputs.now; lanes = after_release (L.contents lanes.old) released.now }) stood place headers.entry.headers) }
     ensures response { writer.new.builder.function ≡ writer.old.builder.function }
-    ensures look { IsLook L.honest L.is_stopped L.contents L.beside L.place L.asks_memory lanes.old lanes.new result }
+    ensures look { IsLook L.honest L.is_stopped L.contents L.beside L.place L.asks_memory L.may_fault lanes.old lanes.new result }
 {
     let from = Stand {
         points,

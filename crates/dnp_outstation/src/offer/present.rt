@@ -6,9 +6,9 @@ ghost use Rattle.dnp_appfragment.specs.Table.{is_response};
 ghost use Rattle.dnp_appfragment.specs.Written.{FitsPoint};
 ghost use Rattle.dnp_pointdb.specs.Events.{row_of};
 ghost use Rattle.dnp_pointdb.specs.Sound.{IsSoundPoint, IsSoundBlock, AreSound};
-ghost use Rattle.dnp_outstation.specs.Items.{present_of, static_at, is_within, in_range, statics_from, statics_in, output_row, outputs_from, statics_of, Source, Static, given_after};
+ghost use Rattle.dnp_outstation.specs.Items.{present_of, static_at, is_within, in_range, statics_from, statics_in, output_row, outputs_from, statics_of, each_static, Source, Static, given_after};
 ghost use Rattle.dnp_outstation.specs.steps.Filling.{built_for};
-ghost use Rattle.dnp_outstation.specs.steps.Putting.{Puts, presents, group_of, rows_from, passed_by};
+ghost use Rattle.dnp_outstation.specs.steps.Putting.{Puts, presents, rows_from, passed_by};
 
 use crate::offer::place::Place;
 use crate::offer::writer::{Run, Writer};
@@ -16,24 +16,15 @@ use dnp_appfragment::{PointRows, Range};
 use dnp_controls::Outputs;
 use dnp_objects::{Kind, Row};
 use dnp_pointdb::laws::readings_fit_their_static_objects;
-use dnp_pointdb::{BlockState, PointDb, PointState};
+use dnp_pointdb::{BlockState, PointDb, PointState, static_object};
 
-/// What a header of a READ asks for of present values: the header's place in the READ, and its range.
+/// What a header of a READ asks for of present values: the header's place in the READ, the variation of its
+/// group, 0 for any, and its range.
 #[derive(Clone, Copy, Debug)]
 pub struct Ask {
     pub header: usize,
+    pub variation: u8,
     pub range: Range,
-}
-
-/// The group of the present values of a kind.
-fn group_of(kind: Kind) -> u8
-    ensures { result ≡ group_of kind }
-{
-    match kind {
-        Kind::Binary => 1,
-        Kind::Counter => 20,
-        Kind::Analog => 30,
-    }
 }
 
 /// Which of so many points in a row, the first with this index, a range names: those from the first
@@ -95,7 +86,7 @@ impl<'a> PointRows for PointValues<'a> {
 /// The row of an output's status: its value is bit 7 of the flags octet.
 fn output_row(index: u16, status: u8) -> Row
     ensures value { (shown : ℕ → ℕ) → shown index ≡ status → result ≡ output_row shown index }
-    ensures fits { FitsPoint 10 result }
+    ensures fits { FitsPoint 10 2 result }
 {
     let value = if 128 <= status { 1 } else { 0 };
     Row {
@@ -133,7 +124,7 @@ impl Writer {
     /// fit; answers whether all do.
     fn put_points(
         &mut self,
-        header: usize,
+        ask: Ask,
         kind: Kind,
         block: usize,
         first: usize,
@@ -142,7 +133,7 @@ impl Writer {
         requires response { IsTrue (is_response self.old.builder.function) }
         requires narrow { first + length points.now ≤ 2 ^ 16 }
         requires sound { All (IsSoundPoint kind) points.now }
-        ensures written { Puts self.old (map (present_of header) (statics_from (group_of kind) block kind first points.now)) result self.new }
+        ensures written { Puts self.old (map (present_of ask.header) (statics_from ask.variation block kind first points.now)) result self.new }
         ensures response { self.new.builder.function ≡ self.old.builder.function }
         ensures given { self.new.place.given ≡ self.old.place.given }
     {
@@ -152,19 +143,19 @@ impl Writer {
         }
         // (laws, for the proof: they do nothing)
         readings_fit_their_static_objects();
-        let group = group_of(kind);
-        self.end_other_block(header, group, block);
+        let (group, variation) = static_object(kind, ask.variation);
+        self.end_other_block(ask.header, group, block);
         let values = PointValues {
             kind,
             first,
             points,
         };
-        let count = self.builder.points(group, first as u16, values);
+        let count = self.builder.points(group, variation, first as u16, values);
         if count == 0 {
             return false;
         }
-        self.run = Run::OfBlock(header, group, block);
-        self.place.pass_by(header, count as u32);
+        self.run = Run::OfBlock(ask.header, group, block);
+        self.place.pass_by(ask.header, count as u32);
         count == len
     }
 
@@ -180,8 +171,8 @@ impl Writer {
     ) -> bool
         requires response { IsTrue (is_response self.old.builder.function) }
         requires sound { IsSoundBlock kind block.now }
-        ensures written { Puts self.old (presents ask.header skip.old (in_range ask.range (statics_from (group_of kind) number kind block.now.base block.now.points))) result self.new }
-        ensures skipped { skip.new ≡ skip.old - length (in_range ask.range (statics_from (group_of kind) number kind block.now.base block.now.points)) }
+        ensures written { Puts self.old (presents ask.header skip.old (in_range ask.range (statics_from ask.variation number kind block.now.base block.now.points))) result self.new }
+        ensures skipped { skip.new ≡ skip.old - length (in_range ask.range (statics_from ask.variation number kind block.now.base block.now.points)) }
         ensures response { self.new.builder.function ≡ self.old.builder.function }
         ensures given { self.new.place.given ≡ self.old.place.given }
     {
@@ -191,7 +182,7 @@ impl Writer {
         let passed = (*skip).min(named.len());
         *skip -= passed;
         let first = usize::from(block.base) + from + passed;
-        self.put_points(ask.header, kind, number, first, &named[passed..])
+        self.put_points(ask, kind, number, first, &named[passed..])
     }
 
     /// Puts the points of blocks of a kind that the header asks for but for the first `skip`, as far as
@@ -199,8 +190,8 @@ impl Writer {
     fn put_blocks(&mut self, ask: Ask, kind: Kind, blocks: &[BlockState], skip: &mut usize) -> bool
         requires response { IsTrue (is_response self.old.builder.function) }
         requires sound { AreSound kind blocks.now }
-        ensures written { Puts self.old (presents ask.header skip.old (in_range ask.range (statics_in (group_of kind) kind 0 blocks.now))) result self.new }
-        ensures skipped { IsTrue result → skip.new ≡ skip.old - length (in_range ask.range (statics_in (group_of kind) kind 0 blocks.now)) }
+        ensures written { Puts self.old (presents ask.header skip.old (in_range ask.range (statics_in ask.variation kind 0 blocks.now))) result self.new }
+        ensures skipped { IsTrue result → skip.new ≡ skip.old - length (in_range ask.range (statics_in ask.variation kind 0 blocks.now)) }
         ensures response { self.new.builder.function ≡ self.old.builder.function }
         ensures given { self.new.place.given ≡ self.old.place.given }
     {
@@ -231,7 +222,7 @@ impl Writer {
         for index in first..end {
             let index = index as u16;
             let row = output_row(index, outputs.status(index));
-            if !self.put_present(header, 10, 0, &row) {
+            if !self.put_present(header, (10, 2), 0, &row) {
                 return false;
             }
         }
@@ -265,9 +256,9 @@ impl Writer {
     ) -> bool
         requires response { IsTrue (is_response self.old.builder.function) }
         ensures written { (s : Source) → s.points ≡ points.now → s.panel ≡ O.panel outputs.now
-            → Puts self.old (presents ask.header skip.old (in_range ask.range (statics_of s group))) result self.new }
+            → Puts self.old (presents ask.header skip.old (in_range ask.range (statics_of s ask.variation group))) result self.new }
         ensures skipped { (s : Source) → s.points ≡ points.now → s.panel ≡ O.panel outputs.now
-            → IsTrue result → skip.new ≡ skip.old - length (in_range ask.range (statics_of s group)) }
+            → IsTrue result → skip.new ≡ skip.old - length (in_range ask.range (statics_of s ask.variation group)) }
         ensures response { self.new.builder.function ≡ self.old.builder.function }
         ensures given { self.new.place.given ≡ self.old.place.given }
     {
@@ -292,7 +283,7 @@ impl Writer {
     ) -> bool
         requires response { IsTrue (is_response self.old.builder.function) }
         ensures written { (s : Source) → s.points ≡ points.now → s.panel ≡ O.panel outputs.now
-            → Puts self.old (presents ask.header skip.old (in_range ask.range (flat_map (statics_of s) groups.now))) result self.new }
+            → Puts self.old (presents ask.header skip.old (in_range ask.range (flat_map (statics_of s ask.variation) groups.now))) result self.new }
         ensures response { self.new.builder.function ≡ self.old.builder.function }
         ensures given { self.new.place.given ≡ self.old.place.given }
     {
@@ -317,7 +308,7 @@ impl Writer {
     ) -> bool
         requires { IsTrue (is_response self.old.builder.function) }
         ensures written { (s : Source) → s.points ≡ points.now → s.panel ≡ O.panel outputs.now
-            → Puts self.old (presents ask.header given (in_range ask.range (statics_of s group))) result self.new }
+            → Puts self.old (presents ask.header given (in_range ask.range (statics_of s ask.variation group))) result self.new }
         ensures response { self.new.builder.function ≡ self.old.builder.function }
         ensures given { (statics : List Static) → self.new.place.given ≡ fold given_after self.old.place.given (presents ask.header given statics) }
     {
@@ -337,12 +328,13 @@ impl Writer {
     ) -> bool
         requires { IsTrue (is_response self.old.builder.function) }
         ensures written { (s : Source) → s.points ≡ points.now → s.panel ≡ O.panel outputs.now
-            → Puts self.old (presents header given (statics_of s 1 ++ statics_of s 10 ++ statics_of s 20 ++ statics_of s 30)) result self.new }
+            → Puts self.old (presents header given (each_static s)) result self.new }
         ensures response { self.new.builder.function ≡ self.old.builder.function }
         ensures given { (statics : List Static) → self.new.place.given ≡ fold given_after self.old.place.given (presents header given statics) }
     {
         let ask = Ask {
             header,
+            variation: 0,
             range: Range::All,
         };
         let mut skip = given as usize;

@@ -89,7 +89,7 @@ fn rows_to_give<L: Lanes>(
         ≡ take few (at_most most (rows_left (after_release (L.contents lanes.new) bounds.now.released.now) bounds.now.stood bounds.now.given.now (lane_number lane)))) }
     ensures events { IfOk result (λ rows. All (λ x. IsEvent x.row) rows.items) }
     ensures kinds { L.honest lanes.new → IfOk result (λ rows. All (λ x. x.row.kind ≡ lane.kind) rows.items) }
-    ensures look { IsLook L.honest L.is_stopped L.contents L.beside L.place L.asks_memory lanes.old lanes.new result }
+    ensures look { IsLook L.honest L.is_stopped L.contents L.beside L.place L.asks_memory L.may_fault lanes.old lanes.new result }
 {
     an_offer_after_a_release();
     let over = bounds.over(lane.number());
@@ -161,7 +161,7 @@ impl Writer {
         ensures counted { L.honest lanes.new → IfOk result (λ given. IfSome given (λ n.
             n ≡ length (at_most most (rows_left (after_release (L.contents lanes.new) bounds.now.released.now) bounds.now.stood bounds.now.given.now (lane_number lane))))) }
         ensures response { self.new.builder.function ≡ self.old.builder.function }
-        ensures look { IsLook L.honest L.is_stopped L.contents L.beside L.place L.asks_memory lanes.old lanes.new result }
+        ensures look { IsLook L.honest L.is_stopped L.contents L.beside L.place L.asks_memory L.may_fault lanes.old lanes.new result }
     {
         let few = enough(lane.kind, self.builder.left());
         let rows = rows_to_give(lanes, alloc, lane, bounds, most, few)?;
@@ -188,7 +188,7 @@ impl Writer {
             (event_items (after_release (L.contents lanes.old) bounds.now.released.now) bounds.now.stood bounds.now.given.now header part.now.most (map lane_number part.now.lanes))) }
         ensures response { self.new.builder.function ≡ self.old.builder.function }
 
-        ensures look { IsLook L.honest L.is_stopped L.contents L.beside L.place L.asks_memory lanes.old lanes.new result }
+        ensures look { IsLook L.honest L.is_stopped L.contents L.beside L.place L.asks_memory L.may_fault lanes.old lanes.new result }
     {
         let mut left = part.most;
         for lane in &part.lanes {

@@ -69,7 +69,7 @@ pub(crate) fn wanted(header: &Header<'_>) -> Wanted
         (22, _) => of_kind(Kind::Counter),
         (32, _) => of_kind(Kind::Analog),
         (60, _) => return Wanted::EachGroup,
-        (group, _) => return Wanted::OneGroup(group, header.range),
+        (group, variation) => return Wanted::OneGroup(group, variation, header.range),
     };
     Wanted::Rows(RowPart { lanes, most })
 }

@@ -157,22 +157,29 @@ impl Writer {
         true
     }
 
-    /// Puts a present value, if it fits; answers whether it does.
+    /// Puts a present value as this object, by group and variation, if it fits; answers whether it does.
     #[tactic(auto, using(crate::proofs::OfferLemmas::heads_broken))]
-    pub(crate) fn put_present(&mut self, header: usize, group: u8, block: usize, row: &Row) -> bool
+    pub(crate) fn put_present(
+        &mut self,
+        header: usize,
+        object: (u8, u8),
+        block: usize,
+        row: &Row,
+    ) -> bool
         requires response { IsTrue (is_response self.old.builder.function) }
-        requires fits { FitsPoint group row.now }
-        ensures fits { IsTrue result → self.new ≡ put self.old (present_of header (record { group = group; block = block; row = row.now })) }
-        ensures room { result ≡ fits (put self.old (present_of header (record { group = group; block = block; row = row.now }))) }
+        requires fits { FitsPoint object.0 object.1 row.now }
+        ensures fits { IsTrue result → self.new ≡ put self.old (present_of header (record { object = object; block = block; row = row.now })) }
+        ensures room { result ≡ fits (put self.old (present_of header (record { object = object; block = block; row = row.now }))) }
         ensures full { result ≡ false → ended false self.new ≡ ended false self.old }
         ensures response { self.new.builder.function ≡ self.old.builder.function }
         ensures given { self.new.place.given ≡ self.old.place.given }
     {
+        let (group, variation) = object;
         let joins = self.run.is_block(header, group, block);
         if !joins {
             self.builder.break_run();
         }
-        if self.builder.point(group, row).is_err() {
+        if self.builder.point(group, variation, row).is_err() {
             return false;
         }
         if !joins {

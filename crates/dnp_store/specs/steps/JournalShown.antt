@@ -1,5 +1,5 @@
 -- Words of private steps: what queries show of a journal's tables.
-use Rattle.std.specs.Prelude.{◌≡◌, ℕ, ◌<◌, ◌≤◌, pos, List, [], ◌∷◌, map, length, slice_index_or, None}
+use Rattle.std.specs.Prelude.{◌≡◌, ℕ, ◌<◌, ◌≤◌, pos, List, [], ◌∷◌, ◌++◌, map, length, slice_index_or, None}
 use Rattle.std.specs.List.{AllByRecursion}
 use Rattle.std.specs.List.Sorted.{IsPermutation}
 use Rattle.sqlite.specs.declared.types.Value.TheVariants.{Int}
@@ -8,6 +8,7 @@ use Rattle.sqlite.specs.Tree.{Trees, IsAscending}
 use Rattle.sqlite.specs.Effect.{Database}
 use Rattle.dnp_objects.specs.declared.row.Kind.TheVariants.{Binary}
 use Rattle.dnp_objects.specs.Lanes.{kind_number}
+use Rattle.dnp_objects.specs.declared.limits.TheConstants.{MAX_ID}
 use Rattle.dnp_eventbuf.specs.declared.numbered.Numbered.{Numbered}
 use Rattle.dnp_eventbuf.specs.Archive.{Archive, rows_over}
 use Rattle.dnp_store.specs.Tables.{or_null}
@@ -54,3 +55,22 @@ pub record Logs (db : Trees) (events : List Numbered) (last : ℕ) : Type 0 wher
   pub rise : IsAscending (λ x y. x.id < y.id) logged
   pub in_range : AllByRecursion (IsLogged last) logged
   pub rows : events ≡ map event_of logged
+
+-- so many rows of `journal` were looked at, whose ids rise up to the last of them; the others are left
+pub record Gathers (table : List SqlRow) (last count : ℕ) : Type 0 where
+  pub logged : List Queued
+  pub others : List SqlRow
+  pub all : IsPermutation (map queued_row logged ++ others) table
+  pub rise : IsAscending (λ x y. x.id < y.id) logged
+  pub in_range : AllByRecursion (IsLogged last) logged
+  pub many : length logged ≡ count
+
+-- the table has so many rows, if they are not more than ids
+abbrev pub HasCount : List SqlRow → ℕ → Type 0
+HasCount table n = n ≤ MAX_ID → length table ≡ n
+
+-- `journal` holds so many events, under ids up to the last
+pub record LogsMany (db : Trees) (count last : ℕ) : Type 0 where
+  pub events : List Numbered
+  pub many : length events ≡ count
+  pub logs : Logs db events last

@@ -1,11 +1,19 @@
--- Words of private steps: the lanes after one statement of a queue.
-use Rattle.std.specs.Prelude.{◌≡◌, ℕ, zero, suc, ◌+◌, ◌-◌, ◌||◌, ◌&&◌, not, nat_lt, Bool, false, List, [], ◌∷◌, ◌++◌, length, take, drop, slice_set, slice_index_or}
+-- Words of private steps: what a statement is given, and the lanes after one statement of a queue.
+use Rattle.std.specs.Prelude.{◌≡◌, ℕ, zero, suc, ◌+◌, ◌-◌, pos, ◌||◌, ◌&&◌, not, nat_lt, Bool, false, List, [], ◌∷◌, ◌++◌, length, take, drop, slice_set, slice_index_or}
+use Rattle.sqlite.specs.declared.types.Value.TheVariants.{Int}
+use Rattle.sqlite.specs.Order.{Row as SqlRow}
+use Rattle.dnp_objects.specs.declared.row.Row.{Row as Event}
 use Rattle.dnp_objects.specs.Lanes.{lane_number}
 use Rattle.dnp_objects.specs.declared.lane.LaneRow.{LaneRow}
 use Rattle.dnp_eventbuf.specs.Stock.{LaneState, Stock, lane_at, added_in, above, with_rows, lanes_above}
 use Rattle.sqlite.specs.Effect.{Database}
 use Rattle.dnp_eventbuf.specs.Latest.{numbered_for}
+use Rattle.dnp_store.specs.Tables.{or_null}
 use Rattle.dnp_store.specs.QueueTables.{Figures, no_figures, HoldsQueue, is_raised}
+
+-- a row's cells but its id, after the number of its lane or of its kind, as a statement is given them
+abbrev pub cells_of : ℕ → Event → SqlRow
+cells_of number r = Int (pos number) ∷ Int (pos r.index) ∷ Int (pos r.flags) ∷ Int r.value ∷ or_null r.time ∷ []
 
 abbrev pub with_lane : Stock → ℕ → LaneState → Stock
 with_lane s number lane = record { lanes = slice_set s.lanes number lane; overflow = s.overflow; last_id = s.last_id }

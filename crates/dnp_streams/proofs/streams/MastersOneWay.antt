@@ -38,13 +38,13 @@ below_opens_one_way old new other now a b first second = (first.answered ∙ sym
 abbrev taken_below : BelowSeen → Taking → BelowSeen
 taken_below old t = record old {
   links = with_link old (λ (link : Relaying). received link t);
-  core = with_points old.core (readings_set old.indices old.link (readings_set old.indices old.link old.core.points t.events) t.statics);
-  queue = with_rows old.queue (queued_rows old.indices old.points old.link t.events);
+  core = with_points old.core (readings_set old.indices old.substation (readings_set old.indices old.substation old.core.points t.events) t.statics);
+  queue = with_rows old.queue (queued_rows old.indices old.points old.substation t.events);
 }
 
 pub below_receives_one_way : ReceivesOneWay below_receives
 below_receives_one_way old new other now octets a b (Taken there t taken is became) (Taken there' u taken' is' became') =
-    let same = one_taking (receive_of (link_in old.links old.link).master now octets) t u taken taken' in
+    let same = one_taking (receive_of (link_in old.links old.substation).master now octets) t u taken taken' in
     (is ∙ ap answer_taking same ∙ sym is', became ∙ ap (taken_below old) same ∙ sym became')
 below_receives_one_way old new other now octets a b (Taken there t taken is became) (Missing gone is' became') = absurd (omega (arith, there, gone))
 below_receives_one_way old new other now octets a b (Missing gone is became) (Taken there u taken is' became') = absurd (omega (arith, there, gone))

@@ -32,31 +32,31 @@ answered answer actions t dropped is by =
     is ∙ ap (λ (a : MasterActions). record { send = option_to_list a.send; close = false; taken = a.taken; outcome = a.outcome }) by
 
 -- a link of a concentrator is seen as its parts are
-pub seen : (link : ℕ) (links links' : List Relaying) (core core' : Core) (indices indices' : List Spans) (plan plan' : points.Plan)
+pub seen : (at : ℕ) (links links' : List Relaying) (core core' : Core) (indices indices' : List Spans) (plan plan' : points.Plan)
     (queue queue' : Stock) (book book' : Ledger)
     → links ≡ links' → core ≡ core' → indices ≡ indices' → plan ≡ plan' → queue ≡ queue' → book ≡ book'
-    → ◌≡◌ {A = BelowSeen} record { link = link; links = links; core = core; indices = indices; points = plan; queue = queue; controls = book }
-    record { link = link; links = links'; core = core'; indices = indices'; points = plan'; queue = queue'; controls = book' }
-seen link links links' core core' indices indices' plan plan' queue queue' book book' links_are core_is indices_are plan_is queue_is book_is =
-    ap (λ (ls : List Relaying). record { link = link; links = ls; core = core; indices = indices; points = plan; queue = queue; controls = book }) links_are
-    ∙ ap (λ (k : Core). record { link = link; links = links'; core = k; indices = indices; points = plan; queue = queue; controls = book }) core_is
-    ∙ ap (λ (s : List Spans). record { link = link; links = links'; core = core'; indices = s; points = plan; queue = queue; controls = book }) indices_are
-    ∙ ap (λ (p : points.Plan). record { link = link; links = links'; core = core'; indices = indices'; points = p; queue = queue; controls = book }) plan_is
-    ∙ ap (λ (q : Stock). record { link = link; links = links'; core = core'; indices = indices'; points = plan'; queue = q; controls = book }) queue_is
-    ∙ ap (λ (b : Ledger). record { link = link; links = links'; core = core'; indices = indices'; points = plan'; queue = queue'; controls = b }) book_is
+    → ◌≡◌ {A = BelowSeen} record { substation = at; links = links; core = core; indices = indices; points = plan; queue = queue; controls = book }
+    record { substation = at; links = links'; core = core'; indices = indices'; points = plan'; queue = queue'; controls = book' }
+seen at links links' core core' indices indices' plan plan' queue queue' book book' links_are core_is indices_are plan_is queue_is book_is =
+    ap (λ (ls : List Relaying). record { substation = at; links = ls; core = core; indices = indices; points = plan; queue = queue; controls = book }) links_are
+    ∙ ap (λ (k : Core). record { substation = at; links = links'; core = k; indices = indices; points = plan; queue = queue; controls = book }) core_is
+    ∙ ap (λ (s : List Spans). record { substation = at; links = links'; core = core'; indices = s; points = plan; queue = queue; controls = book }) indices_are
+    ∙ ap (λ (p : points.Plan). record { substation = at; links = links'; core = core'; indices = indices'; points = p; queue = queue; controls = book }) plan_is
+    ∙ ap (λ (q : Stock). record { substation = at; links = links'; core = core'; indices = indices'; points = plan'; queue = q; controls = book }) queue_is
+    ∙ ap (λ (b : Ledger). record { substation = at; links = links'; core = core'; indices = indices'; points = plan'; queue = queue'; controls = b }) book_is
 
 -- a step of relaying below is seen as its parts are
-pub relayed_below : (result : Result Relayed BookFault) (now link : ℕ) (links links' : List Relaying) (core core' : Core)
+pub relayed_below : (result : Result Relayed BookFault) (now at : ℕ) (links links' : List Relaying) (core core' : Core)
     (indices indices' : List Spans) (plan plan' : points.Plan) (queue queue' : Stock) (book book' : Ledger)
-    → link < length links → IfOk result (λ relayed. Tells (link_in links link).master.seq (step_of (link_in links link) book.entries link) relayed)
-    → OnOk result (links' ≡ slice_set links link (relaying_after (link_in links link) now (step_of (link_in links link) book.entries link)))
-    → OnOk result (book' ≡ ledger_after book (step_of (link_in links link) book.entries link))
+    → at < length links → IfOk result (λ relayed. Tells (link_in links at).master.seq (step_of (link_in links at) book.entries at) relayed)
+    → OnOk result (links' ≡ slice_set links at (relaying_after (link_in links at) now (step_of (link_in links at) book.entries at)))
+    → OnOk result (book' ≡ ledger_after book (step_of (link_in links at) book.entries at))
     → IfOk result (λ relayed. IfSent relayed (IsSpentBy book book')) → core' ≡ core → indices' ≡ indices → plan' ≡ plan → queue' ≡ queue
-    → IfOk result (λ relayed. RelaysBelow (record { link = link; links = links; core = core; indices = indices; points = plan; queue = queue; controls = book })
-    now relayed (record { link = link; links = links'; core = core'; indices = indices'; points = plan'; queue = queue'; controls = book' }))
-relayed_below (Ok relayed) now link links links' core core' indices indices' plan plan' queue queue' book book' there told set moved spent core_is indices_are
+    → IfOk result (λ relayed. RelaysBelow (record { substation = at; links = links; core = core; indices = indices; points = plan; queue = queue; controls = book })
+    now relayed (record { substation = at; links = links'; core = core'; indices = indices'; points = plan'; queue = queue'; controls = book' }))
+relayed_below (Ok relayed) now at links links' core core' indices indices' plan plan' queue queue' book book' there told set moved spent core_is indices_are
     plans queues =
-    Stepped there told (seen link links' _ core' core indices' indices plan' plan queue' queue book' _ set core_is indices_are plans queues moved) spent
-relayed_below (Err fault) now link links links' core core' indices indices' plan plan' queue queue' book book' there told set moved spent core_is indices_are
+    Stepped there told (seen at links' _ core' core indices' indices plan' plan queue' queue book' _ set core_is indices_are plans queues moved) spent
+relayed_below (Err fault) now at links links' core core' indices indices' plan plan' queue queue' book book' there told set moved spent core_is indices_are
     plans queues =
     told

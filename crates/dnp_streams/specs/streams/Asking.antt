@@ -24,39 +24,39 @@ IsRefusedByBook link fault = (asks_book link ≡ true) × (fault ≢ Exhausted)
 
 -- a task is asked, where there is such a substation
 pub record AsksBelow (old : BelowSeen) (now : ℕ) (task : Task) (request : List ℕ) (new : BelowSeen) : Type 0 where
-  pub there : old.link < length old.links
-  pub asked : ask_answer (link_in old.links old.link).master task ≡ Ok request
+  pub there : old.substation < length old.links
+  pub asked : ask_answer (link_in old.links old.substation).master task ≡ Ok request
   pub after : new ≡ record old { links = with_link old (λ link. asking link now task) }
 
 -- it is refused: for the master's own reason, or because there is no such substation
 pub data RefusesBelow (old : BelowSeen) (task : Task) (fault : AskFault) : Type 0 where
-  Declined : old.link < length old.links → ask_answer (link_in old.links old.link).master task ≡ Err fault → RefusesBelow old task fault
-  Missing : length old.links ≤ old.link → fault ≡ Closed → RefusesBelow old task fault
+  Declined : old.substation < length old.links → ask_answer (link_in old.links old.substation).master task ≡ Err fault → RefusesBelow old task fault
+  Missing : length old.links ≤ old.substation → fault ≡ Closed → RefusesBelow old task fault
 
 -- the step of relaying by the concentrator's book
 abbrev pub step_below : BelowSeen → RelayStep
-step_below s = step_of (link_in s.links s.link) s.controls.entries s.link
+step_below s = step_of (link_in s.links s.substation) s.controls.entries s.substation
 
 -- The book becomes what the step makes of it: a control whose OPERATE is sent was pending there, and is spent by this very call. Where
 -- there is no such substation, nothing happens.
 pub data RelaysBelow (old : BelowSeen) (now : ℕ) (relayed : Relayed) (new : BelowSeen) : Type 0 where
-  Stepped : old.link < length old.links → Tells (link_in old.links old.link).master.seq (step_below old) relayed
+  Stepped : old.substation < length old.links → Tells (link_in old.links old.substation).master.seq (step_below old) relayed
       → new ≡ record old {
         links = with_link old (λ link. relaying_after link now (step_below old));
         controls = ledger_after old.controls (step_below old);
       }
       → IfSent relayed (IsSpentBy old.controls new.controls)
       → RelaysBelow old now relayed new
-  Absent : length old.links ≤ old.link → relayed ≡ Nothing → new ≡ old → RelaysBelow old now relayed new
+  Absent : length old.links ≤ old.substation → relayed ≡ Nothing → new ≡ old → RelaysBelow old now relayed new
 
 -- the step is refused, where there is such a substation
 pub record RefusesRelayBelow (old : BelowSeen) (fault : BookFault) : Type 0 where
-  pub there : old.link < length old.links
-  pub by_book : IsRefusedByBook (link_in old.links old.link) fault
+  pub there : old.substation < length old.links
+  pub by_book : IsRefusedByBook (link_in old.links old.substation) fault
 
 -- it is open and awaits no response; a substation that is not there never is
 abbrev pub is_below_idle : BelowSeen → Bool
-is_below_idle s = nat_lt s.link (length s.links) && is_idle (link_in s.links s.link).master
+is_below_idle s = nat_lt s.substation (length s.links) && is_idle (link_in s.links s.substation).master
 
 abbrev pub below_asking : Asking BelowSeen
 below_asking = record { asks = AsksBelow; refuses = RefusesBelow; relays = RelaysBelow; refuses_relay = RefusesRelayBelow; is_idle = is_below_idle }
@@ -74,13 +74,13 @@ CentreRefuses old task fault = ask_answer old.link.master task ≡ Err fault
 
 -- the step of relaying by the centre's book, whose one target is the station below
 abbrev pub centre_step : CentreSeen → RelayStep
-centre_step s = step_of s.link s.orders.entries 0
+centre_step s = step_of s.link s.controls.entries 0
 
 -- the book becomes what the step makes of it: a control whose OPERATE is sent was pending there, and is spent by this very call
 pub record CentreRelays (old : CentreSeen) (now : ℕ) (relayed : Relayed) (new : CentreSeen) : Type 0 where
   pub told : Tells old.link.master.seq (centre_step old) relayed
-  pub after : new ≡ record old { link = relaying_after old.link now (centre_step old); orders = ledger_after old.orders (centre_step old) }
-  pub spent : IfSent relayed (IsSpentBy old.orders new.orders)
+  pub after : new ≡ record old { link = relaying_after old.link now (centre_step old); controls = ledger_after old.controls (centre_step old) }
+  pub spent : IfSent relayed (IsSpentBy old.controls new.controls)
 
 -- the step is refused
 abbrev pub CentreRefusesRelay : CentreSeen → BookFault → Type 0

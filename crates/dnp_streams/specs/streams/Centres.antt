@@ -13,10 +13,10 @@ use Rattle.dnp_streams.specs.streams.Masters.{RefusesRows, nothing_answered, ans
 pub record CentreSeen : Type 0 where
   pub link : Relaying
   pub archive : Archive
-  pub orders : Ledger
+  pub controls : Ledger
 
 abbrev pub centre_seen : {J B : Type 0} → (J → Archive) → (B → Ledger) → Centre J B → CentreSeen
-centre_seen archive ledger c = record { link = link_of c; archive = archive (journal_of c); orders = ledger (book_of c) }
+centre_seen archive ledger c = record { link = link_of c; archive = archive (journal_of c); controls = ledger (book_of c) }
 
 -- an opening
 pub record OpensCentre (old : CentreSeen) (now : ℕ) (answer : Answer) (new : CentreSeen) : Type 0 where

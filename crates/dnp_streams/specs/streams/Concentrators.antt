@@ -23,7 +23,7 @@ use Rattle.dnp_streams.specs.streams.Stations.{Answer, Opening, Receiving}
 -- the substation's number; the links, the outstation above, the index map, the plan of the points above, what the queue holds, and
 -- what the book of controls does
 pub record BelowSeen : Type 0 where
-  pub link : ℕ
+  pub substation : ℕ
   pub links : List Relaying
   pub core : Core
   pub indices : List Spans
@@ -32,8 +32,8 @@ pub record BelowSeen : Type 0 where
   pub controls : Ledger
 
 abbrev pub below_seen : {Q B : Type 0} → (Q → Stock) → (B → Ledger) → Concentrator Q B → ℕ → BelowSeen
-below_seen contents ledger c link = record {
-  link = link;
+below_seen contents ledger c substation = record {
+  substation = substation;
   links = links_of c;
   core = core_of c;
   indices = indices_of c;
@@ -44,11 +44,11 @@ below_seen contents ledger c link = record {
 
 -- the substation's link becomes this one
 abbrev pub with_link : BelowSeen → (Relaying → Relaying) → List Relaying
-with_link s change = slice_set s.links s.link (change (link_in s.links s.link))
+with_link s change = slice_set s.links s.substation (change (link_in s.links s.substation))
 
 -- what a station becomes, which stays as it is where there is no such substation
 abbrev pub where_there : BelowSeen → BelowSeen → BelowSeen
-where_there s changed = if nat_lt s.link (length s.links) then changed else s
+where_there s changed = if nat_lt s.substation (length s.links) then changed else s
 
 -- an opening
 pub record OpensBelow (old : BelowSeen) (now : ℕ) (answer : Answer) (new : BelowSeen) : Type 0 where
@@ -58,16 +58,16 @@ pub record OpensBelow (old : BelowSeen) (now : ℕ) (answer : Answer) (new : Bel
 -- A fragment that came: its events are queued above, and readings above are set by these and by its present values.
 -- Where there is no such substation, nothing happens.
 pub data BelowReceives (old : BelowSeen) (now : ℕ) (octets : List ℕ) (answer : Answer) (new : BelowSeen) : Type 0 where
-  Taken : old.link < length old.links
-      → (taking : Taking) → receive_of (link_in old.links old.link).master now octets ≡ Ok taking → answer ≡ answer_taking taking
+  Taken : old.substation < length old.links
+      → (taking : Taking) → receive_of (link_in old.links old.substation).master now octets ≡ Ok taking → answer ≡ answer_taking taking
       → new ≡ record old {
         links = with_link old (λ link. received link taking);
-        core = with_points old.core (readings_set old.indices old.link
-            (readings_set old.indices old.link old.core.points taking.events) taking.statics);
-        queue = with_rows old.queue (queued_rows old.indices old.points old.link taking.events);
+        core = with_points old.core (readings_set old.indices old.substation
+            (readings_set old.indices old.substation old.core.points taking.events) taking.statics);
+        queue = with_rows old.queue (queued_rows old.indices old.points old.substation taking.events);
       }
       → BelowReceives old now octets answer new
-  Missing : length old.links ≤ old.link → answer ≡ nothing_answered → new ≡ old → BelowReceives old now octets answer new
+  Missing : length old.links ≤ old.substation → answer ≡ nothing_answered → new ≡ old → BelowReceives old now octets answer new
 
 -- an opening is never refused
 abbrev pub below_opens : Opening BelowSeen
@@ -75,16 +75,16 @@ below_opens = record { answers = OpensBelow; refuses = λ old now fault. ⊥ }
 
 -- a fragment is, by the master or by the queue, where there is such a substation
 pub record BelowRefuses (old : BelowSeen) (now : ℕ) (octets : List ℕ) (fault : StationFault) : Type 0 where
-  pub there : old.link < length old.links
-  pub by_rows : RefusesRows (receive_of (link_in old.links old.link).master now octets)
-      (λ t. exhausts old.queue (queued_rows old.indices old.points old.link t.events)) fault
+  pub there : old.substation < length old.links
+  pub by_rows : RefusesRows (receive_of (link_in old.links old.substation).master now octets)
+      (λ t. exhausts old.queue (queued_rows old.indices old.points old.substation t.events)) fault
 
 abbrev pub below_receives : Receiving BelowSeen
 below_receives = record { answers = BelowReceives; refuses = BelowRefuses }
 
 -- a hang-up, after which the readings above are marked lost
 abbrev pub below_hung_up : BelowSeen → BelowSeen
-below_hung_up s = where_there s (record s { links = with_link s hung_up; core = without_link s.core s.link })
+below_hung_up s = where_there s (record s { links = with_link s hung_up; core = without_link s.core s.substation })
 
 -- ---- the outstation above
 

@@ -27,7 +27,7 @@ abbrev pub lent_below : {Q B : Type 0} → Below Q B → MutBor (Concentrator Q 
 lent_below s = s.concentrator
 
 abbrev pub substation_of : {Q B : Type 0} → Below Q B → ℕ
-substation_of s = s.link
+substation_of s = s.substation
 
 -- the reference by which it holds the concentrator, and that number
 pub record KeptBelow : Type 0 where
@@ -35,7 +35,7 @@ pub record KeptBelow : Type 0 where
   pub substation : ℕ
 
 abbrev pub kept_below : {Q B : Type 0} → Below Q B → KeptBelow
-kept_below s = record { reference = s.concentrator.ghost_name; substation = s.link }
+kept_below s = record { reference = s.concentrator.ghost_name; substation = s.substation }
 
 -- the station and the clock; the moment of the station's last step, and how many fragments it was given
 abbrev pub lent_station : {S C : Type 0} → Clocked S C → MutBor S

@@ -1,15 +1,19 @@
 -- Definition: an outstation as a stream sees it.
-use Rattle.std.specs.Prelude.{◌≡◌, ◌≢◌, ℕ, true, List, [], None}
+use Rattle.std.specs.Prelude.{◌≡◌, ◌≢◌, ℕ, true, false, List, [], None}
+use Rattle.dnp_appfragment.specs.Table.{function_octet}
+use Rattle.dnp_appfragment.specs.declared.function.Function.TheVariants as function
 use Rattle.dnp_controls.specs.Panel.{Panel}
 use Rattle.dnp_eventbuf.specs.Stock.{Stock}
 use Rattle.dnp_objects.specs.declared.command.Command.{Command}
 use Rattle.dnp_outstation.specs.Calls.{opened_of, connection_after, performed_in}
-use Rattle.dnp_outstation.specs.Connection.{closed, is_looked_at}
+use Rattle.dnp_outstation.specs.Connection.{case_of, closed, function_in, has_enabled_rows, is_looked_at}
 use Rattle.dnp_outstation.specs.Parts.{outputs_of, whole_of}
 use Rattle.dnp_outstation.specs.State.{State, Actions}
+use Rattle.dnp_outstation.specs.Station.{reads_inside}
+use Rattle.dnp_outstation.specs.declared.case.Case.TheVariants as case
 use Rattle.dnp_outstation.specs.declared.fault.Fault.{Fault}
-use Rattle.dnp_outstation.specs.declared.fault.Fault.TheVariants as store
 use Rattle.dnp_outstation.specs.declared.outstation.Outstation.{Outstation}
+use Rattle.dnp_concentrator.specs.Causes.{outstation_cause}
 use Rattle.dnp_concentrator.specs.declared.cause.Cause.TheVariants as cause
 use Rattle.dnp_streams.specs.declared.stream.station.StationFault.{StationFault}
 use Rattle.dnp_streams.specs.declared.stream.station.StationFault.TheVariants.{Message, Cause}
@@ -55,19 +59,24 @@ pub record Receives {O : Type 0} (panel : O → Panel) (performs : O → List Co
 
 -- the fault of a store under it, as its station says it; a reading that its points refuse is none of a stream
 abbrev pub cause_told : Fault → StationFault
-cause_told store.Exhausted = Cause cause.Exhausted
-cause_told store.Device = Cause cause.Device
-cause_told _ = Cause cause.Memory
+cause_told fault = Cause (outstation_cause fault)
 
--- an opening is refused for the lanes' sake, and only where unsolicited responses are on
+-- an opening is refused for the sake of lanes that hold rows of an enabled class, and only where unsolicited responses are on and the
+-- first one was confirmed
 pub record RefusesOpening (old : Seen) (now : ℕ) (fault : StationFault) : Type 0 where
   pub unsolicited : old.whole.core.times.unsolicited ≡ true
+  pub announced : old.whole.core.announced ≡ true
+  pub rows : has_enabled_rows old.whole ≡ true
   pub message : fault ≢ Message
   pub exhausted : fault ≢ Cause cause.Exhausted
 
--- a fragment that is looked at may be refused for the sake of lanes or outputs, and none as a message that can't be taken
+-- a fragment that is looked at may be refused for the sake of lanes or outputs, unless it is a READ that is only held, or one of a
+-- point that isn't there, which is answered; and none is refused as a message that can't be taken
 pub record RefusesFragment (old : Seen) (now : ℕ) (octets : List ℕ) (fault : StationFault) : Type 0 where
   pub looked_at : is_looked_at old.whole.core octets ≡ true
+  pub held : case_of old.whole.core octets ≡ case.Waits → ⊥
+  pub inside : old.whole.core.times.unsolicited ≡ false → function_in octets ≡ function_octet function.Read
+      → reads_inside old.whole old.panel octets ≡ true
   pub message : fault ≢ Message
 
 abbrev pub outstation_opens : Opening Seen

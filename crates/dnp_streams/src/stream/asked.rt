@@ -1,6 +1,6 @@
 //! What became of tasks that were asked on a stream.
 
-ghost use Rattle.std.specs.Prelude.{◌≡◌, ◌+◌, [], ◌++◌, min, OnOk, option_to_list};
+ghost use Rattle.std.specs.Prelude.{◌≡◌, ◌<◌, ◌+◌, [], ◌++◌, min, OnErr, OnOk, option_to_list, vec_capacity, vec_len};
 ghost use Rattle.dnp_streams.specs.streams.Counts.{most};
 ghost use Rattle.dnp_streams.specs.streams.Stations.{answer_of};
 ghost use Rattle.dnp_streams.specs.steps.Talking.{HasRoom};
@@ -35,9 +35,10 @@ impl Asked {
         }
     }
 
-    /// Makes room for one outcome more.
+    /// Makes room for one outcome more. Room that is there is asked for of nobody.
     pub(super) fn make_room(&mut self) -> Result<(), AllocError>
         ensures room { OnOk result (HasRoom self.new) }
+        ensures full { OnErr result (vec_capacity self.old.outcomes < vec_len self.old.outcomes + 1) }
         ensures rows { self.new.rows ≡ self.old.rows }
         ensures outcomes { self.new.outcomes.items ≡ self.old.outcomes.items }
         ensures faults { self.new.faults ≡ self.old.faults }

@@ -20,24 +20,27 @@ pub struct Below<'a, Q, B> {
     /// The concentrator.
     concentrator: &'a mut Concentrator<Q, B>,
     /// The substation's number.
-    link: u8,
+    substation: u8,
 }
 
 impl<'a, Q: Lanes, B: Book> Below<'a, Q, B> {
     /// The link of the concentrator to the substation with this number.
-    pub fn new(concentrator: &'a mut Concentrator<Q, B>, link: u8) -> Self
+    pub fn new(concentrator: &'a mut Concentrator<Q, B>, substation: u8) -> Self
         ensures lent { (lent_below result).now ≡ concentrator.old }
         ensures same_reference { (lent_below result).ghost_name ≡ concentrator.entry.ghost_name }
-        ensures substation { substation_of result ≡ link }
+        ensures substation { substation_of result ≡ substation }
     {
-        Below { concentrator, link }
+        Below {
+            concentrator,
+            substation,
+        }
     }
 
     /// Whether the concentrator's plan has the substation.
     fn is_there(&self) -> bool
         ensures { result ≡ nat_lt (substation_of self.now) (length (links_of (lent_below self.now).now)) }
     {
-        usize::from(self.link) < self.concentrator.substations()
+        usize::from(self.substation) < self.concentrator.substations()
     }
 }
 
@@ -67,7 +70,7 @@ impl<'a, Q: Lanes, B: Book> Station for Below<'a, Q, B> {
 
     fn opened(&mut self, _alloc: Global, _now: u64) -> Result<Answer, StationFault> {
         if self.is_there() {
-            self.concentrator.opened_below(self.link);
+            self.concentrator.opened_below(self.substation);
         }
         Ok(nothing())
     }
@@ -78,7 +81,7 @@ impl<'a, Q: Lanes, B: Book> Station for Below<'a, Q, B> {
         }
         match self
             .concentrator
-            .receive_below(alloc, self.link, now, octets)
+            .receive_below(alloc, self.substation, now, octets)
         {
             Ok(actions) => Ok(answer_taking(actions)),
             Err(fault) => Err(fault_of(fault)),
@@ -87,7 +90,7 @@ impl<'a, Q: Lanes, B: Book> Station for Below<'a, Q, B> {
 
     fn hung_up(&mut self) {
         if self.is_there() {
-            self.concentrator.hung_up_below(self.link);
+            self.concentrator.hung_up_below(self.substation);
         }
     }
 }
@@ -97,17 +100,17 @@ impl<'a, Q: Lanes, B: Book> Asker for Below<'a, Q, B> {
         if !self.is_there() {
             return Err(AskFault::Closed);
         }
-        self.concentrator.ask_below(self.link, now, task)
+        self.concentrator.ask_below(self.substation, now, task)
     }
 
     fn relay(&mut self, alloc: Global, now: u64) -> Result<Relayed, BookFault> {
         if !self.is_there() {
             return Ok(Relayed::Nothing);
         }
-        self.concentrator.relay(alloc, self.link, now)
+        self.concentrator.relay(alloc, self.substation, now)
     }
 
     fn idle(&self) -> bool {
-        self.is_there() && self.concentrator.idle_below(self.link)
+        self.is_there() && self.concentrator.idle_below(self.substation)
     }
 }

@@ -32,13 +32,7 @@ pub(super) fn answer_with(mut actions: Actions) -> Answer
 pub(super) fn cause_of(fault: Fault) -> StationFault
     ensures { result ≡ cause_told fault }
 {
-    match fault {
-        Fault::Exhausted => StationFault::Cause(Cause::Exhausted),
-        Fault::Device => StationFault::Cause(Cause::Device),
-        Fault::NoPoint | Fault::ValueRange | Fault::TimeRange | Fault::Memory => {
-            StationFault::Cause(Cause::Memory)
-        }
-    }
+    StationFault::Cause(Cause::from(fault))
 }
 
 impl<L: Lanes, O: Outputs> Station for Outstation<L, O> {

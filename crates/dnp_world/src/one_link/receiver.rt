@@ -1,11 +1,12 @@
 //! The master of a link by itself, and the sink of its rows.
 
-ghost use Rattle.std.specs.Prelude.{◌≡◌, ◌+◌, ◌<◌, ◌++◌, All, List, [], IfErr, OnErr, OnOk, length, refl, ⊤};
+ghost use Rattle.std.specs.Prelude.{◌≡◌, ◌+◌, ◌<◌, ◌++◌, All, List, [], Err, IfErr, OnErr, OnOk, length, refl, ⊤};
 ghost use Rattle.std.specs.Borrow.{Lends, sem};
 ghost use Rattle.dnp_objects.specs.Events.{IsEvent};
 ghost use Rattle.dnp_objects.specs.declared.row.Row.{Row as RowValue};
 ghost use Rattle.dnp_master.specs.Sinks.{IsSinkFault};
 ghost use Rattle.dnp_world.specs.contracts.one_link.receiver.Receiver.{the_row};
+ghost use Rattle.dnp_world.specs.Causes.{TellsDevice};
 ghost use Rattle.dnp_world.specs.OneLinkParts.{KeepsBeside, ReceiverTakes, receiver_with};
 
 use crate::ends::MasterEnd;
@@ -54,6 +55,7 @@ impl<S: Sink> Receiver<S> {
         ensures kept { S.honest self.new.sink → OnErr result (S.keeps self.old.sink self.new.sink) }
         ensures unlisted { OnErr result (self.new.taken.items ≡ self.old.taken.items) }
         ensures named { IfErr result IsSinkFault }
+        ensures device { TellsDevice (S.is_stopped self.old.sink) (S.is_stopped self.new.sink) (result ≡ Err MasterFault.Device) }
     {
         if events.is_empty() && statics.is_empty() {
             return Ok(());
@@ -73,6 +75,8 @@ impl<S: Sink> MasterEnd for Receiver<S> {
     ghost master = { λ r link. r.master };
 
     ghost honest = { λ r. S.honest r.sink };
+
+    ghost is_stopped = { λ r. S.is_stopped r.sink };
 
     ghost takes = { λ old link t new. ReceiverTakes S.takes t old new };
 

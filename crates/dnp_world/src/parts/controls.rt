@@ -1,8 +1,12 @@
 //! A control on its way from the centre to its substation, over quiet links.
 
-ghost use Rattle.std.specs.Prelude.{◌≡◌, true, false, IfErr, IfOk, IfSome, OnOk, ℕ};
+ghost use Rattle.std.specs.Prelude.{◌≡◌, ◌≢◌, ◌⊎◌, ◌-◌, [], true, false, Err, IfErr, IfOk, IfSome, IsTrue, OnOk, ℕ};
 ghost use Rattle.std.specs.Option.{option_and_then, option_map};
-ghost use Rattle.dnp_controls.specs.Book.{next_of};
+ghost use Rattle.dnp_controls.specs.Book.{next_of, rows_of};
+ghost use Rattle.dnp_world.specs.Carriers.{TellsDeviceOver};
+ghost use Rattle.dnp_world.specs.Causes.{TellsDevice};
+ghost use Rattle.dnp_world.specs.Rounds.{is_quiet_on};
+ghost use Rattle.dnp_world.specs.declared.event.Link.TheVariants as link;
 ghost use Rattle.dnp_world.specs.steps.ControlSteps.{EndsBy};
 ghost use Rattle.dnp_world.specs.Controls.{ControlEnds, IsAccepted, IsControlFor, IsRefusedFor, IsRefusedOn, IsTold, Passes, PassesBack, StopsBack, StopsFor, StopsOn, StopsRelaying, are_quiet_for, first_with, found_in, is_free_below, is_next_for, next_below, station_in, status_in, status_on};
 ghost use Rattle.dnp_world.specs.Systems.{has_station};
@@ -36,6 +40,10 @@ fn entry_with<B: Book>(alloc: Global, book: &mut B, id: u64) -> Result<Option<En
     ensures runs { B.honest book.new → B.is_stopped book.old ≡ false }
     ensures same { B.honest book.new → B.contents book.new ≡ B.contents book.old }
     ensures value { B.honest book.new → IfOk result (λ entry. entry ≡ found_in (B.contents book.old).entries id) }
+    ensures device { TellsDevice (B.is_stopped book.old) (B.is_stopped book.new) (result ≡ Err Cause.Device) }
+    ensures stopped { IsTrue (B.is_stopped book.old) → result ≡ Err Cause.Device }
+    ensures memory { result ≡ Err Cause.Memory → B.asks_memory ≡ false → rows_of (B.contents book.old).entries (id - 1) 1 ≢ [] }
+    ensures named { result ≢ Err Cause.Exhausted }
 {
     let rows = book.rows(alloc, id.saturating_sub(1), 1)?;
     Ok(first_with(&rows, id))
@@ -47,6 +55,10 @@ fn next_for<B: Book>(alloc: Global, book: &mut B, target: u8) -> Result<Option<E
     ensures runs { B.honest book.new → B.is_stopped book.old ≡ false }
     ensures same { B.honest book.new → B.contents book.new ≡ B.contents book.old }
     ensures value { B.honest book.new → IfOk result (λ entry. entry ≡ next_of (B.contents book.old).entries target) }
+    ensures device { TellsDevice (B.is_stopped book.old) (B.is_stopped book.new) (result ≡ Err Cause.Device) }
+    ensures stopped { IsTrue (B.is_stopped book.old) → result ≡ Err Cause.Device }
+    ensures memory { result ≡ Err Cause.Memory → IsTrue B.asks_memory }
+    ensures named { result ≢ Err Cause.Exhausted }
 {
     Ok(book.next(alloc, target)?)
 }
@@ -87,6 +99,7 @@ impl<Q: Lanes, J: JournalStore, A: Book, B: Book> Parts<Q, J, A, B> {
         ensures held { ⟦<Self as Stored>⟧.well self.new → ⟦<Self as Stored>⟧.well self.old }
         ensures same { ⟦<Self as Stored>⟧.well self.new → self.new.system ≡ self.old.system }
         ensures value { ⟦<Self as Stored>⟧.well self.new → IfOk result (λ entry. entry ≡ found_in self.old.system.centre.orders.entries id) }
+        ensures device { TellsDevice (⟦<Self as Stored>⟧.is_stopped self.old) (⟦<Self as Stored>⟧.is_stopped self.new) (result ≡ Err Cause.Device) }
     {
         let book = self.centre.book();
         entry_with(alloc, book, id)
@@ -97,6 +110,7 @@ impl<Q: Lanes, J: JournalStore, A: Book, B: Book> Parts<Q, J, A, B> {
         ensures held { ⟦<Self as Stored>⟧.well self.new → ⟦<Self as Stored>⟧.well self.old }
         ensures same { ⟦<Self as Stored>⟧.well self.new → self.new.system ≡ self.old.system }
         ensures value { ⟦<Self as Stored>⟧.well self.new → IfOk result (λ entry. entry ≡ found_in self.old.system.concentrator.controls.entries id) }
+        ensures device { TellsDevice (⟦<Self as Stored>⟧.is_stopped self.old) (⟦<Self as Stored>⟧.is_stopped self.new) (result ≡ Err Cause.Device) }
     {
         let book = self.concentrator.book();
         entry_with(alloc, book, id)
@@ -107,6 +121,8 @@ impl<Q: Lanes, J: JournalStore, A: Book, B: Book> Parts<Q, J, A, B> {
         ensures held { ⟦<Self as Stored>⟧.well self.new → ⟦<Self as Stored>⟧.well self.old }
         ensures same { ⟦<Self as Stored>⟧.well self.new → self.new.system ≡ self.old.system }
         ensures value { ⟦<Self as Stored>⟧.well self.new → IfOk result (λ entry. entry ≡ next_of self.old.system.centre.orders.entries 0) }
+        ensures device { TellsDevice (⟦<Self as Stored>⟧.is_stopped self.old) (⟦<Self as Stored>⟧.is_stopped self.new) (result ≡ Err Cause.Device) }
+        ensures memory { result ≡ Err Cause.Memory → IsTrue B.asks_memory }
     {
         let book = self.centre.book();
         next_for(alloc, book, STATION_BELOW)
@@ -117,6 +133,8 @@ impl<Q: Lanes, J: JournalStore, A: Book, B: Book> Parts<Q, J, A, B> {
         ensures held { ⟦<Self as Stored>⟧.well self.new → ⟦<Self as Stored>⟧.well self.old }
         ensures same { ⟦<Self as Stored>⟧.well self.new → self.new.system ≡ self.old.system }
         ensures value { ⟦<Self as Stored>⟧.well self.new → IfOk result (λ id. id ≡ next_below self.old.system station) }
+        ensures device { TellsDevice (⟦<Self as Stored>⟧.is_stopped self.old) (⟦<Self as Stored>⟧.is_stopped self.new) (result ≡ Err Cause.Device) }
+        ensures memory { result ≡ Err Cause.Memory → IsTrue A.asks_memory }
     {
         let book = self.concentrator.book();
         Ok(id_of(next_for(alloc, book, station)?))
@@ -127,6 +145,7 @@ impl<Q: Lanes, J: JournalStore, A: Book, B: Book> Parts<Q, J, A, B> {
         ensures held { ⟦<Self as Stored>⟧.well self.new → ⟦<Self as Stored>⟧.well self.old }
         ensures same { ⟦<Self as Stored>⟧.well self.new → self.new.system ≡ self.old.system }
         ensures value { ⟦<Self as Stored>⟧.well self.new → IfOk result (λ station. station ≡ station_in self.old.system id) }
+        ensures device { TellsDevice (⟦<Self as Stored>⟧.is_stopped self.old) (⟦<Self as Stored>⟧.is_stopped self.new) (result ≡ Err Cause.Device) }
     {
         let Some(entry) = self.entry_above(alloc, id)? else {
             return Ok(None);
@@ -153,6 +172,8 @@ impl<Q: Lanes, J: JournalStore, A: Book, B: Book> Parts<Q, J, A, B> {
         ensures held { ⟦<Self as Stored>⟧.well self.new → ⟦<Self as Stored>⟧.well self.old }
         ensures same { ⟦<Self as Stored>⟧.well self.new → self.new.system ≡ self.old.system }
         ensures value { ⟦<Self as Stored>⟧.well self.new → IfOk result (λ free. free ≡ is_free_below self.old.system (Some station)) }
+        ensures device { TellsDevice (⟦<Self as Stored>⟧.is_stopped self.old) (⟦<Self as Stored>⟧.is_stopped self.new) (result ≡ Err Cause.Device) }
+        ensures memory { result ≡ Err Cause.Memory → IsTrue A.asks_memory }
     {
         let idle = self.concentrator.in_progress(station).is_none();
         let next = self.next_below(alloc, station)?;
@@ -166,6 +187,8 @@ impl<Q: Lanes, J: JournalStore, A: Book, B: Book> Parts<Q, J, A, B> {
         ensures held { ⟦<Self as Stored>⟧.well self.new → ⟦<Self as Stored>⟧.well self.old }
         ensures same { ⟦<Self as Stored>⟧.well self.new → self.new.system ≡ self.old.system }
         ensures value { ⟦<Self as Stored>⟧.well self.new → IfOk result (λ next. next ≡ is_next_for self.old.system id station) }
+        ensures device { TellsDevice (⟦<Self as Stored>⟧.is_stopped self.old) (⟦<Self as Stored>⟧.is_stopped self.new) (result ≡ Err Cause.Device) }
+        ensures memory { result ≡ Err Cause.Memory → IsTrue A.asks_memory ⊎ IsTrue B.asks_memory }
     {
         let free = match station {
             Some(station) => self.is_free(alloc, station)?,
@@ -186,6 +209,7 @@ impl<Q: Lanes, J: JournalStore, A: Book, B: Book> Parts<Q, J, A, B> {
         ensures held { ⟦<Self as Stored>⟧.well self.new → ⟦<Self as Stored>⟧.well self.old }
         ensures same { ⟦<Self as Stored>⟧.well self.new → self.new.system ≡ self.old.system }
         ensures value { ⟦<Self as Stored>⟧.well self.new → IfOk result (λ status. status ≡ status_on self.old.system on id) }
+        ensures device { TellsDevice (⟦<Self as Stored>⟧.is_stopped self.old) (⟦<Self as Stored>⟧.is_stopped self.new) (result ≡ Err Cause.Device) }
     {
         let Some(id) = id else {
             return Ok(None);
@@ -203,6 +227,7 @@ impl<Q: Lanes, J: JournalStore, A: Book, B: Book> Parts<Q, J, A, B> {
         ensures held { ⟦<Self as Stored>⟧.well self.new → ⟦<Self as Stored>⟧.well self.old }
         ensures done { ⟦<Self as Stored>⟧.well self.new → OnOk result (Passes on id self.old.system self.new.system) }
         ensures ended { ⟦<Self as Stored>⟧.well self.new → IfErr result (EndsBy (λ status. IsTold on id status self.old.system self.new.system) (StopsRelaying on self.old.system self.new.system)) }
+        ensures device { TellsDevice (⟦<Self as Stored>⟧.is_stopped self.old) (⟦<Self as Stored>⟧.is_stopped self.new) (result ≡ Err (ControlFault.Fault Cause.Device)) }
     {
         self.happen(alloc, &Event::Relay(on))?;
         match self.status_on(alloc, on, id)? {
@@ -222,6 +247,7 @@ impl<Q: Lanes, J: JournalStore, A: Book, B: Book> Parts<Q, J, A, B> {
         ensures held { ⟦<Self as Stored>⟧.well self.new → ⟦<Self as Stored>⟧.well self.old }
         ensures done { ⟦<Self as Stored>⟧.well self.new → OnOk result (PassesBack on id self.old.system self.new.system) }
         ensures ended { ⟦<Self as Stored>⟧.well self.new → IfErr result (EndsBy (λ status. IsTold on id status self.old.system self.new.system) (StopsBack on id self.old.system self.new.system)) }
+        ensures device { TellsDeviceOver C.refuses (⟦<Self as Stored>⟧.is_stopped self.old) (⟦<Self as Stored>⟧.is_stopped self.new) (result ≡ Err (ControlFault.Fault Cause.Device)) }
     {
         self.relay_one(alloc, on, id)?;
         self.flush(alloc, on, Way::Down, carrier)?;
@@ -240,6 +266,7 @@ impl<Q: Lanes, J: JournalStore, A: Book, B: Book> Parts<Q, J, A, B> {
         ensures held { ⟦<Self as Stored>⟧.well self.new → ⟦<Self as Stored>⟧.well self.old }
         ensures done { ⟦<Self as Stored>⟧.well self.new → OnOk result (IsAccepted on id self.old.system self.new.system) }
         ensures ended { ⟦<Self as Stored>⟧.well self.new → IfErr result (EndsBy (λ status. IsRefusedOn on id status self.old.system self.new.system) (StopsOn on id self.old.system self.new.system)) }
+        ensures device { TellsDeviceOver C.refuses (⟦<Self as Stored>⟧.is_stopped self.old) (⟦<Self as Stored>⟧.is_stopped self.new) (result ≡ Err (ControlFault.Fault Cause.Device)) }
     {
         self.exchange(alloc, on, id, carrier)?;
         self.exchange(alloc, on, id, carrier)?;
@@ -258,6 +285,7 @@ impl<Q: Lanes, J: JournalStore, A: Book, B: Book> Parts<Q, J, A, B> {
         ensures held { ⟦<Self as Stored>⟧.well self.new → ⟦<Self as Stored>⟧.well self.old }
         ensures done { ⟦<Self as Stored>⟧.well self.new → OnOk result (IsControlFor station id self.old.system self.new.system) }
         ensures ended { ⟦<Self as Stored>⟧.well self.new → IfErr result (EndsBy (λ status. IsRefusedFor station id status self.old.system self.new.system) (StopsFor station id self.old.system self.new.system)) }
+        ensures device { TellsDeviceOver C.refuses (⟦<Self as Stored>⟧.is_stopped self.old) (⟦<Self as Stored>⟧.is_stopped self.new) (result ≡ Err (ControlFault.Fault Cause.Device)) }
     {
         self.relay_through(alloc, Link::Above, Some(id), carrier)?;
         let Some(station) = station else {
@@ -279,7 +307,12 @@ impl<Q: Lanes, J: JournalStore, A: Book, B: Book> Parts<Q, J, A, B> {
     ) -> Result<(), ControlFault>
         ensures held { ⟦<Self as Stored>⟧.well self.new → ⟦<Self as Stored>⟧.well self.old }
         ensures ends { ⟦<Self as Stored>⟧.well self.new → ControlEnds id self.old.system result self.new.system }
+        ensures device { TellsDeviceOver C.refuses (⟦<Self as Stored>⟧.is_stopped self.old) (⟦<Self as Stored>⟧.is_stopped self.new) (result ≡ Err (ControlFault.Fault Cause.Device)) }
+        ensures not_quiet_above { is_quiet_on self.old.system link.Above ≡ false → result ≡ Err ControlFault.NotQuiet }
     {
+        if !self.quiet(Link::Above) {
+            return Err(ControlFault::NotQuiet);
+        }
         let station = self.station_of(alloc, id)?;
         if !self.are_quiet(station) {
             return Err(ControlFault::NotQuiet);

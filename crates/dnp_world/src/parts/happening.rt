@@ -1,6 +1,8 @@
 //! One event of a system after the other.
 
-ghost use Rattle.std.specs.Prelude.{◌≡◌, true, is_some, IfErr, OnErr, OnOk};
+ghost use Rattle.std.specs.Prelude.{◌≡◌, ◌⊎◌, true, is_some, Err, IfErr, OnErr, OnOk};
+ghost use Rattle.dnp_world.specs.Carriers.{Crosses, FrontCrosses, RunsOver, TellsDeviceOver};
+ghost use Rattle.dnp_world.specs.Causes.{IsStoppedBy, TellsDevice};
 ghost use Rattle.dnp_world.specs.SystemEvents.{ComesOn};
 ghost use Rattle.dnp_world.specs.SystemRuns.{CountsFor, Happens, RunsTo, StopsAfter, may_stop};
 ghost use Rattle.dnp_world.specs.Systems.{front_on, has_link};
@@ -26,6 +28,7 @@ impl<Q: Lanes, J: JournalStore, A: Book, B: Book> Parts<Q, J, A, B> {
         ensures done { ⟦<Self as Stored>⟧.well self.new → OnOk result (ComesOn delivered_on on way self.old.system self.new.system) }
         ensures stopped { ⟦<Self as Stored>⟧.well self.new → OnErr result (CountsFor self.old.system (event.Deliver on way) self.new.system) }
         ensures there { OnErr result (is_some (front_on self.old.system on way) ≡ true) }
+        ensures device { TellsDevice (⟦<Self as Stored>⟧.is_stopped self.old) (⟦<Self as Stored>⟧.is_stopped self.new) (result ≡ Err Cause.Device) }
     {
         let Err(cause) = self.come(alloc, on, way, false) else {
             return Ok(());
@@ -42,6 +45,7 @@ impl<Q: Lanes, J: JournalStore, A: Book, B: Book> Parts<Q, J, A, B> {
         ensures done { ⟦<Self as Stored>⟧.well self.new → OnOk result (Happens self.old.system event.now self.new.system) }
         ensures stopped { ⟦<Self as Stored>⟧.well self.new → OnErr result (CountsFor self.old.system event.now self.new.system) }
         ensures named { OnErr result (may_stop self.old.system event.now ≡ true) }
+        ensures device { TellsDevice (⟦<Self as Stored>⟧.is_stopped self.old) (⟦<Self as Stored>⟧.is_stopped self.new) (result ≡ Err Cause.Device) }
     {
         match event {
             Event::Open(on) if self.has(*on) => self.open(alloc, *on)?,
@@ -79,11 +83,36 @@ impl<Q: Lanes, J: JournalStore, A: Book, B: Book> Parts<Q, J, A, B> {
 
     /// Carries the unit at the front of this way of the link, if there is one.
     fn carry<C: Carrier>(&self, on: Link, way: Way, carrier: &mut C) -> Result<(), Cause>
-        ensures { OnErr result (is_some (front_on self.now.system on way) ≡ true) }
+        ensures there { OnErr result (is_some (front_on self.now.system on way) ≡ true) }
+        ensures carried { OnOk result (FrontCrosses C.carries on way (front_on self.now.system on way) carrier.old carrier.new) }
+        ensures refused { IfErr result (λ cause. C.refuses carrier.old cause carrier.new) }
     {
         match self.front(on, way) {
             Some(unit) => carrier.carry(on, way, unit),
             None => Ok(()),
+        }
+    }
+
+    /// Carries the unit that the event brings to its end, if it brings one.
+    fn carry_for<C: Carrier>(&self, event: &Event, carrier: &mut C) -> Result<(), Cause>
+        ensures named { OnErr result (may_stop self.now.system event.now ≡ true) }
+        ensures carried { OnOk result (Crosses C.carries self.now.system event.now carrier.old carrier.new) }
+        ensures refused { IfErr result (λ cause. C.refuses carrier.old cause carrier.new) }
+    {
+        match event {
+            Event::Deliver(on, way) => self.carry(*on, *way, carrier),
+            _ => Ok(()),
+        }
+    }
+
+    /// The unit that the event brings to its end, if it brings one, is lost.
+    fn lose_for(&mut self, event: &Event)
+        ensures stores { self.new.stores ≡ self.old.stores }
+        ensures counts { CountsFor self.old.system event.now self.new.system }
+    {
+        match event {
+            Event::Deliver(on, way) if self.has(*on) => self.lose(*on, *way),
+            _ => {}
         }
     }
 
@@ -98,13 +127,12 @@ impl<Q: Lanes, J: JournalStore, A: Book, B: Book> Parts<Q, J, A, B> {
         ensures done { ⟦<Self as Stored>⟧.well self.new → OnOk result (Happens self.old.system event.now self.new.system) }
         ensures stopped { ⟦<Self as Stored>⟧.well self.new → OnErr result (CountsFor self.old.system event.now self.new.system) }
         ensures named { OnErr result (may_stop self.old.system event.now ≡ true) }
+        ensures carried { OnOk result (Crosses C.carries self.old.system event.now carrier.old carrier.new) }
+        ensures refused { IfErr result (λ cause. C.refuses carrier.old cause carrier.new ⊎ Crosses C.carries self.old.system event.now carrier.old carrier.new) }
+        ensures device { TellsDeviceOver C.refuses (⟦<Self as Stored>⟧.is_stopped self.old) (⟦<Self as Stored>⟧.is_stopped self.new) (result ≡ Err Cause.Device) }
     {
-        if let Event::Deliver(on, way) = event
-            && let Err(cause) = self.carry(*on, *way, carrier)
-        {
-            if self.has(*on) {
-                self.lose(*on, *way);
-            }
+        if let Err(cause) = self.carry_for(event, carrier) {
+            self.lose_for(event);
             return Err(cause);
         }
         self.happen(alloc, event)
@@ -121,6 +149,8 @@ impl<Q: Lanes, J: JournalStore, A: Book, B: Book> Parts<Q, J, A, B> {
         ensures held { ⟦<Self as Stored>⟧.well self.new → ⟦<Self as Stored>⟧.well self.old }
         ensures done { ⟦<Self as Stored>⟧.well self.new → OnOk result (RunsTo self.old.system events.now self.new.system) }
         ensures stopped { ⟦<Self as Stored>⟧.well self.new → IfErr result (λ stopped. StopsAfter self.old.system events.now stopped.done self.new.system) }
+        ensures carried { ⟦<Self as Stored>⟧.well self.new → OnOk result (RunsOver C.carries self.old.system events.now self.new.system carrier.old carrier.new) }
+        ensures device { TellsDeviceOver C.refuses (⟦<Self as Stored>⟧.is_stopped self.old) (⟦<Self as Stored>⟧.is_stopped self.new) (IsStoppedBy Cause.Device result) }
     {
         for (done, event) in events.iter().enumerate() {
             if let Err(cause) = self.happen_by(alloc, event, carrier) {

@@ -1,8 +1,9 @@
 //! What became of all rows and commands.
 
-ghost use Rattle.std.specs.Prelude.{◌≡◌, ◌++◌, ◌^◌, ◌<◌, List, IfOk, OnOk, length, map as all_of, take};
+ghost use Rattle.std.specs.Prelude.{◌≡◌, ◌≢◌, ◌++◌, ◌^◌, ◌<◌, List, Err, IfOk, OnOk, length, map as all_of, take};
 ghost use Rattle.dnp_eventbuf.specs.Stock.{row_of};
 ghost use Rattle.dnp_eventbuf.specs.declared.numbered.Numbered.{Numbered as NumberedValue};
+ghost use Rattle.dnp_world.specs.Causes.{TellsDevice};
 ghost use Rattle.dnp_world.specs.Kept.{lane_rows_of, rows_below as mapped_below};
 ghost use Rattle.dnp_world.specs.ReportShown.{AreById, Shows, all_in};
 ghost use Rattle.dnp_world.specs.Stations.{listed_from};
@@ -41,6 +42,8 @@ fn put_buffered(
 ) -> Result<(), Cause>
     ensures same { substation_of substation.new ≡ substation_of substation.old }
     ensures rows { OnOk result (list.new.items ≡ list.old.items ++ at_station station (lane_rows_of (substation_of substation.old))) }
+    ensures named { result ≢ Err Cause.Exhausted }
+    ensures device { result ≢ Err Cause.Device }
 {
     let rows = all_rows(alloc, substation.outstation.lanes())?;
     put_rows_of(list, station, rows.as_slice())?;
@@ -51,6 +54,8 @@ fn put_buffered(
 fn buffered_rows(alloc: Global, substations: &mut [Substation]) -> Result<Vec<(u8, Row)>, Cause>
     ensures same { all_of substation_of substations.new ≡ all_of substation_of substations.old }
     ensures rows { IfOk result (λ rows. rows.items ≡ listed_from lane_rows_of 0 (take NUMBERS (all_of substation_of substations.old))) }
+    ensures named { result ≢ Err Cause.Exhausted }
+    ensures device { result ≢ Err Cause.Device }
 {
     let mut list = Vec::new(alloc);
     let count = substations.len().min(NUMBERS);
@@ -66,6 +71,8 @@ impl<Q: Lanes, J: JournalStore, A: Book, B: Book> Parts<Q, J, A, B> {
         ensures held { ⟦<Self as Stored>⟧.well self.new → ⟦<Self as Stored>⟧.well self.old }
         ensures same { ⟦<Self as Stored>⟧.well self.new → self.new.system ≡ self.old.system }
         ensures rows { ⟦<Self as Stored>⟧.well self.new → IfOk result (λ rows. rows.items ≡ (let s = self.old.system in mapped_below s.indices (all_of row_of s.centre.journal.rows))) }
+        ensures device { TellsDevice (⟦<Self as Stored>⟧.is_stopped self.old) (⟦<Self as Stored>⟧.is_stopped self.new) (result ≡ Err Cause.Device) }
+        ensures named { result ≢ Err Cause.Exhausted }
     {
         let rows = journal_rows(alloc, self.centre.journal())?;
         Ok(numbered_below(alloc, &self.map, rows.as_slice())?)
@@ -77,6 +84,8 @@ impl<Q: Lanes, J: JournalStore, A: Book, B: Book> Parts<Q, J, A, B> {
         ensures same { ⟦<Self as Stored>⟧.well self.new → self.new.system ≡ self.old.system }
         ensures rows { ⟦<Self as Stored>⟧.well self.new → IfOk result (λ rows. let s = self.old.system in
             (queued : List NumberedValue) × AreById (all_in s.concentrator.queue) queued × (rows.items ≡ mapped_below s.indices (all_of row_of queued))) }
+        ensures device { TellsDevice (⟦<Self as Stored>⟧.is_stopped self.old) (⟦<Self as Stored>⟧.is_stopped self.new) (result ≡ Err Cause.Device) }
+        ensures named { result ≢ Err Cause.Exhausted }
     {
         let rows = rows_by_id(alloc, self.concentrator.queue())?;
         Ok(numbered_below(alloc, &self.map, rows.as_slice())?)
@@ -88,6 +97,8 @@ impl<Q: Lanes, J: JournalStore, A: Book, B: Book> Parts<Q, J, A, B> {
         ensures same { ⟦<Self as Stored>⟧.well self.new → self.new.system ≡ self.old.system }
         ensures shows { ⟦<Self as Stored>⟧.well self.new → IfOk result (Shows self.old.system) }
         ensures counted { IfOk result (λ report. length report.dropped < 2 ^ 64) }
+        ensures device { TellsDevice (⟦<Self as Stored>⟧.is_stopped self.old) (⟦<Self as Stored>⟧.is_stopped self.new) (result ≡ Err Cause.Device) }
+        ensures named { result ≢ Err Cause.Exhausted }
     {
         let journal = self.journal_below(alloc)?;
         let queue = self.queue_below(alloc)?;

@@ -1,6 +1,7 @@
 //! Polls over quiet links, with all that comes of them.
 
 ghost use Rattle.std.specs.Prelude.{◌≡◌, ◌≢◌, ◌↔◌, false, Err, IfErr, OnErr, OnOk};
+ghost use Rattle.dnp_world.specs.Carriers.{TellsDeviceOver};
 ghost use Rattle.dnp_world.specs.Rounds.{Flushes, IsRound, StopsFlushing, StopsInRound, is_quiet_on};
 
 use super::Parts;
@@ -46,6 +47,7 @@ impl<Q: Lanes, J: JournalStore, A: Book, B: Book> Parts<Q, J, A, B> {
         ensures held { ⟦<Self as Stored>⟧.well self.new → ⟦<Self as Stored>⟧.well self.old }
         ensures done { ⟦<Self as Stored>⟧.well self.new → OnOk result (Flushes on way self.old.system self.new.system) }
         ensures stopped { ⟦<Self as Stored>⟧.well self.new → OnErr result (StopsFlushing on way self.old.system self.new.system) }
+        ensures device { TellsDeviceOver C.refuses (⟦<Self as Stored>⟧.is_stopped self.old) (⟦<Self as Stored>⟧.is_stopped self.new) (result ≡ Err Cause.Device) }
     {
         for _ in 0..self.standing(on, way) {
             self.happen_by(alloc, &Event::Deliver(on, way), carrier)?;
@@ -64,6 +66,7 @@ impl<Q: Lanes, J: JournalStore, A: Book, B: Book> Parts<Q, J, A, B> {
         ensures held { ⟦<Self as Stored>⟧.well self.new → ⟦<Self as Stored>⟧.well self.old }
         ensures done { ⟦<Self as Stored>⟧.well self.new → OnOk result (IsRound on self.old.system self.new.system) }
         ensures stopped { ⟦<Self as Stored>⟧.well self.new → OnErr result (StopsInRound on self.old.system self.new.system) }
+        ensures device { TellsDeviceOver C.refuses (⟦<Self as Stored>⟧.is_stopped self.old) (⟦<Self as Stored>⟧.is_stopped self.new) (result ≡ Err Cause.Device) }
     {
         let classes = Classes([false, true, true, true]);
         self.happen(alloc, &Event::Ask(on, Task::Poll(classes)))?;
@@ -85,6 +88,7 @@ impl<Q: Lanes, J: JournalStore, A: Book, B: Book> Parts<Q, J, A, B> {
         ensures unchanged { result ≡ Err RoundFault.NotQuiet → self.new ≡ self.old }
         ensures done { ⟦<Self as Stored>⟧.well self.new → OnOk result (IsRound on self.old.system self.new.system) }
         ensures stopped { ⟦<Self as Stored>⟧.well self.new → IfErr result (λ fault. fault ≢ RoundFault.NotQuiet → StopsInRound on self.old.system self.new.system) }
+        ensures device { TellsDeviceOver C.refuses (⟦<Self as Stored>⟧.is_stopped self.old) (⟦<Self as Stored>⟧.is_stopped self.new) (result ≡ Err (RoundFault.Fault Cause.Device)) }
     {
         if !self.quiet(on) {
             return Err(RoundFault::NotQuiet);

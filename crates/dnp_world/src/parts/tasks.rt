@@ -1,12 +1,13 @@
 //! The events of a system that ask tasks, and the commands that are issued and relayed.
 
-ghost use Rattle.std.specs.Prelude.{◌≡◌, ◌⊎◌, ◌≤◌, ℕ, List, true, IfErr, IfNone, IfOk, IsErr, MatchResult, OnErr, OnOk, Result, Ok, Err, ◌&&◌, is_ok, is_some, slice_get};
+ghost use Rattle.std.specs.Prelude.{◌≡◌, ◌⊎◌, ◌≤◌, ℕ, List, true, IfErr, IfOk, IsErr, IsTrue, MatchResult, OnErr, OnOk, Result, Ok, Err, ◌&&◌, Some, is_ok, is_some, slice_get};
 ghost use Rattle.dnp_appfragment.specs.Fragments.{Asked, IsRequest};
 ghost use Rattle.dnp_concentrator.specs.Mapped.{command_above};
-ghost use Rattle.dnp_concentrator.specs.Relayed.{Tells};
+ghost use Rattle.dnp_concentrator.specs.Relayed.{Tells, asks_book};
 ghost use Rattle.dnp_concentrator.specs.Relaying.{Step};
 ghost use Rattle.dnp_line.specs.Lines.{room_of};
 ghost use Rattle.dnp_objects.specs.declared.command.Command.TheVariants.{Block, Set16, Set32};
+ghost use Rattle.dnp_world.specs.Causes.{TellsDevice, cause_of_relaying};
 ghost use Rattle.dnp_world.specs.Channels.{GoDown, state_of};
 ghost use Rattle.dnp_world.specs.CommandWidths.{HasWidths};
 ghost use Rattle.dnp_world.specs.OneLinkEvents.{is_own};
@@ -14,7 +15,7 @@ ghost use Rattle.dnp_world.specs.SystemEvents.{AsksOn, IssuesBy, Reads, RelaysOn
 ghost use Rattle.dnp_master.specs.Calls.{ask_answer};
 ghost use Rattle.dnp_master.specs.State.{is_idle};
 ghost use Rattle.dnp_world.specs.SystemRuns.{takes_reading};
-ghost use Rattle.dnp_world.specs.Systems.{has_link, has_station};
+ghost use Rattle.dnp_world.specs.Systems.{has_link, has_station, link_at};
 ghost use Rattle.dnp_world.specs.declared.event.Link.TheVariants as link;
 
 use super::Parts;
@@ -64,7 +65,7 @@ fn has_widths(command: &Command)
 
 /// The cause at which a list of events stops. What a book refuses of one entry is none.
 fn cause_of(fault: BookFault) -> Option<Cause>
-    ensures { IfNone result ((fault ≡ BookFault.NoControl) ⊎ (fault ≡ BookFault.NotPending)) }
+    ensures { result ≡ cause_of_relaying fault }
 {
     match fault {
         BookFault::NoControl | BookFault::NotPending => None,
@@ -109,6 +110,8 @@ fn send_relayed(channel: &mut Channel, relayed: &Result<Relayed, BookFault>) -> 
     ensures same { OnErr relayed.now (state_of channel.new ≡ state_of channel.old) }
     ensures passed { OnOk result (IfErr relayed.now (λ fault. (fault ≡ BookFault.NoControl) ⊎ (fault ≡ BookFault.NotPending))) }
     ensures stopped { OnErr result (IsErr relayed.now) }
+    ensures cause { IfErr result (λ cause. IfErr relayed.now (λ fault. cause_of_relaying fault ≡ Some cause)) }
+    ensures device { relayed.now ≡ Err BookFault.Device → result ≡ Err Cause.Device }
 {
     match relayed {
         Ok(told) => {
@@ -129,6 +132,7 @@ impl<Q: Lanes, J: JournalStore, A: Book, B: Book> Parts<Q, J, A, B> {
         ensures held { ⟦<Self as Stored>⟧.well self.new → ⟦<Self as Stored>⟧.well self.old }
         ensures done { ⟦<Self as Stored>⟧.well self.new → OnOk result (AsksOn true (link.Below station) task self.old.system self.new.system) }
         ensures stopped { ⟦<Self as Stored>⟧.well self.new → OnErr result (self.new.system ≡ self.old.system) }
+        ensures device { TellsDevice (⟦<Self as Stored>⟧.is_stopped self.old) (⟦<Self as Stored>⟧.is_stopped self.new) (result ≡ Err Cause.Device) }
     {
         let channel = &mut self.substations[usize::from(station)].channel;
         channel.reserve_down()?;
@@ -142,6 +146,7 @@ impl<Q: Lanes, J: JournalStore, A: Book, B: Book> Parts<Q, J, A, B> {
         ensures held { ⟦<Self as Stored>⟧.well self.new → ⟦<Self as Stored>⟧.well self.old }
         ensures done { ⟦<Self as Stored>⟧.well self.new → OnOk result (AsksOn true link.Above task self.old.system self.new.system) }
         ensures stopped { ⟦<Self as Stored>⟧.well self.new → OnErr result (self.new.system ≡ self.old.system) }
+        ensures device { TellsDevice (⟦<Self as Stored>⟧.is_stopped self.old) (⟦<Self as Stored>⟧.is_stopped self.new) (result ≡ Err Cause.Device) }
     {
         self.above.reserve_down()?;
         let asked = self.centre.ask(self.moment, task);
@@ -175,6 +180,7 @@ impl<Q: Lanes, J: JournalStore, A: Book, B: Book> Parts<Q, J, A, B> {
         ensures done { ⟦<Self as Stored>⟧.well self.new → OnOk result (AsksOn (is_own task) on task self.old.system self.new.system) }
         ensures stopped { ⟦<Self as Stored>⟧.well self.new → OnErr result (self.new.system ≡ self.old.system) }
         ensures named { OnErr result ((is_own task && is_ok (ask_answer (relaying_at self.old.system on).master task)) ≡ true) }
+        ensures device { TellsDevice (⟦<Self as Stored>⟧.is_stopped self.old) (⟦<Self as Stored>⟧.is_stopped self.new) (result ≡ Err Cause.Device) }
     {
         if matches!(task, Task::Select(_) | Task::Operate(_)) {
             return Ok(());
@@ -195,6 +201,8 @@ impl<Q: Lanes, J: JournalStore, A: Book, B: Book> Parts<Q, J, A, B> {
         ensures held { ⟦<Self as Stored>⟧.well self.new → ⟦<Self as Stored>⟧.well self.old }
         ensures done { ⟦<Self as Stored>⟧.well self.new → OnOk result (RelaysOn (link.Below station) self.old.system self.new.system) }
         ensures stopped { ⟦<Self as Stored>⟧.well self.new → OnErr result (self.new.system ≡ self.old.system) }
+        ensures device { TellsDevice (⟦<Self as Stored>⟧.is_stopped self.old) (⟦<Self as Stored>⟧.is_stopped self.new) (result ≡ Err Cause.Device) }
+        ensures dead { asks_book (link_at self.old.system.concentrator station) ≡ true → IsTrue (A.is_stopped self.old.stores.controls) → IsErr result }
     {
         let channel = &mut self.substations[usize::from(station)].channel;
         channel.reserve_down()?;
@@ -207,6 +215,8 @@ impl<Q: Lanes, J: JournalStore, A: Book, B: Book> Parts<Q, J, A, B> {
         ensures held { ⟦<Self as Stored>⟧.well self.new → ⟦<Self as Stored>⟧.well self.old }
         ensures done { ⟦<Self as Stored>⟧.well self.new → OnOk result (RelaysOn link.Above self.old.system self.new.system) }
         ensures stopped { ⟦<Self as Stored>⟧.well self.new → OnErr result (self.new.system ≡ self.old.system) }
+        ensures device { TellsDevice (⟦<Self as Stored>⟧.is_stopped self.old) (⟦<Self as Stored>⟧.is_stopped self.new) (result ≡ Err Cause.Device) }
+        ensures dead { asks_book self.old.system.centre.link ≡ true → IsTrue (B.is_stopped self.old.stores.orders) → IsErr result }
     {
         self.above.reserve_down()?;
         let relayed = self.centre.relay(alloc, self.moment);
@@ -220,6 +230,7 @@ impl<Q: Lanes, J: JournalStore, A: Book, B: Book> Parts<Q, J, A, B> {
         ensures done { ⟦<Self as Stored>⟧.well self.new → OnOk result (RelaysOn on self.old.system self.new.system) }
         ensures stopped { ⟦<Self as Stored>⟧.well self.new → OnErr result (self.new.system ≡ self.old.system) }
         ensures named { OnErr result (is_idle (relaying_at self.old.system on).master ≡ true) }
+        ensures device { TellsDevice (⟦<Self as Stored>⟧.is_stopped self.old) (⟦<Self as Stored>⟧.is_stopped self.new) (result ≡ Err Cause.Device) }
     {
         if !self.idle(on) {
             return Ok(());
@@ -245,6 +256,7 @@ impl<Q: Lanes, J: JournalStore, A: Book, B: Book> Parts<Q, J, A, B> {
         ensures done { ⟦<Self as Stored>⟧.well self.new → OnOk result (Reads station kind index reading self.old.system self.new.system) }
         ensures stopped { ⟦<Self as Stored>⟧.well self.new → OnErr result (self.new.system ≡ self.old.system) }
         ensures named { OnErr result (takes_reading (slice_get self.old.system.substations station) kind index reading ≡ true) }
+        ensures device { TellsDevice (⟦<Self as Stored>⟧.is_stopped self.old) (⟦<Self as Stored>⟧.is_stopped self.new) (result ≡ Err Cause.Device) }
     {
         let substation = &mut self.substations[usize::from(station)];
         substation.change(
@@ -271,6 +283,7 @@ impl<Q: Lanes, J: JournalStore, A: Book, B: Book> Parts<Q, J, A, B> {
         ensures done { ⟦<Self as Stored>⟧.well self.new → OnOk result (IssuesBy (command_above self.old.system.centre.indices station command.now) station command.now self.old.system self.new.system) }
         ensures stopped { ⟦<Self as Stored>⟧.well self.new → OnErr result (self.new.system ≡ self.old.system) }
         ensures named { OnErr result (is_some (command_above self.old.system.centre.indices station command.now) ≡ true) }
+        ensures device { TellsDevice (⟦<Self as Stored>⟧.is_stopped self.old) (⟦<Self as Stored>⟧.is_stopped self.new) (result ≡ Err Cause.Device) }
     {
         has_widths(command);
         if !self.centre.has_output(station, command) {

@@ -1,6 +1,8 @@
 //! The calls of a whole system whose units are carried from one station to another.
 
 ghost use Rattle.std.specs.Prelude.{ℕ, ◌≡◌, ◌≢◌, ◌↔◌, [], false, take, Err, IfErr, OnOk};
+ghost use Rattle.dnp_world.specs.Carriers.{RunsOver, TellsDeviceOver};
+ghost use Rattle.dnp_world.specs.Causes.{IsStoppedBy};
 ghost use Rattle.dnp_world.specs.ControlMoves.{ControlMoves};
 ghost use Rattle.dnp_world.specs.Controls.{ControlEnds};
 ghost use Rattle.dnp_world.specs.Kept.{report_of};
@@ -10,6 +12,7 @@ ghost use Rattle.dnp_world.specs.Reports.{Holds, IsFate};
 ghost use Rattle.dnp_world.specs.Rounds.{IsRound, StopsInRound, is_quiet_on};
 ghost use Rattle.dnp_world.specs.Steady.{Issues, Lasts};
 ghost use Rattle.dnp_world.specs.SystemRuns.{RunsTo, StopsAfter};
+ghost use Rattle.dnp_world.specs.declared.event.Link.TheVariants as link;
 
 use crate::carrier::Carrier;
 use crate::control_laws::a_clean_control_operates;
@@ -24,6 +27,7 @@ use crate::round_fault::{ControlFault, RoundFault};
 use crate::stopped::Stopped;
 use crate::stored::Stored;
 use crate::world::World;
+use dnp_concentrator::Cause;
 use dnp_controls::Book;
 use dnp_eventbuf::{JournalStore, Lanes};
 use std::alloc::Global;
@@ -46,6 +50,8 @@ impl<Q: Lanes, J: JournalStore, A: Book, B: Book> World<Q, J, A, B> {
         ensures issued_so_far { ⟦<Self as Stored>⟧.well self.new → IfErr result (λ stopped. Issues (take stopped.done events.now) self.old.system self.new.system) }
         ensures holds { ⟦<Self as Stored>⟧.well self.new → Holds (report_of self.new.system) }
         ensures opens { ⟦<Self as Stored>⟧.well self.new → OnOk result (OpensQuiet events.now self.new.system) }
+        ensures device { TellsDeviceOver C.refuses (⟦<Self as Stored>⟧.is_stopped self.old) (⟦<Self as Stored>⟧.is_stopped self.new) (IsStoppedBy Cause.Device result) }
+        ensures carried { ⟦<Self as Stored>⟧.well self.new → OnOk result (RunsOver C.carries self.old.system events.now self.new.system carrier.old carrier.new) }
     {
         steady_systems_stay_steady();
         commands_are_issued_by_events_alone();
@@ -70,6 +76,7 @@ impl<Q: Lanes, J: JournalStore, A: Book, B: Book> World<Q, J, A, B> {
         ensures fate { ⟦<Self as Stored>⟧.well self.new → IsFate (λ i. []) (report_of self.old.system) (report_of self.new.system) }
         ensures none_issued { ⟦<Self as Stored>⟧.well self.new → self.new.system.history.issued ≡ self.old.system.history.issued }
         ensures holds { ⟦<Self as Stored>⟧.well self.new → Holds (report_of self.new.system) }
+        ensures device { TellsDeviceOver C.refuses (⟦<Self as Stored>⟧.is_stopped self.old) (⟦<Self as Stored>⟧.is_stopped self.new) (result ≡ Err (RoundFault.Fault Cause.Device)) }
     {
         steady_systems_stay_steady();
         rounds_and_controls_keep_a_system_steady();
@@ -93,6 +100,8 @@ impl<Q: Lanes, J: JournalStore, A: Book, B: Book> World<Q, J, A, B> {
         ensures fate { ⟦<Self as Stored>⟧.well self.new → IsFate (λ i. []) (report_of self.old.system) (report_of self.new.system) }
         ensures none_issued { ⟦<Self as Stored>⟧.well self.new → self.new.system.history.issued ≡ self.old.system.history.issued }
         ensures holds { ⟦<Self as Stored>⟧.well self.new → Holds (report_of self.new.system) }
+        ensures device { TellsDeviceOver C.refuses (⟦<Self as Stored>⟧.is_stopped self.old) (⟦<Self as Stored>⟧.is_stopped self.new) (result ≡ Err (ControlFault.Fault Cause.Device)) }
+        ensures not_quiet_above { is_quiet_on self.old.system link.Above ≡ false → result ≡ Err ControlFault.NotQuiet }
     {
         steady_systems_stay_steady();
         rounds_and_controls_keep_a_system_steady();

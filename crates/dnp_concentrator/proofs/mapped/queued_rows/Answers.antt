@@ -8,8 +8,8 @@ use Rattle.dnp_concentrator.proofs.mapped.queued_rows.Goals as goal
 
 pub returns-clause-carried : goal.returns-clause-carried
 returns-clause-carried c = λ events.
-    let all : c.loop-event.rows.items ≡ queued_rows c.args.map.now c.args.points.now c.args.station c.args.events.now =
-    all_queued c.args.map.now c.args.points.now c.args.station c.args.events.now c.loop-event.event-index c.loop-event.rows.items c.loop-event.invariant
+    let all : c.loop-event.rows.items ≡ queued_rows c.args.map.now c.args.points.now c.args.substation c.args.events.now =
+    all_queued c.args.map.now c.args.points.now c.args.substation c.args.events.now c.loop-event.event-index c.loop-event.rows.items c.loop-event.invariant
     (omega (arith, c.loop-event-test.false)) in
     subst (λ (rows : List LaneRow). All IsCarried rows) (sym all)
-    (all_carried c.args.map.now c.args.points.now c.args.station c.args.events.now c.substations.ensures.map events)
+    (all_carried c.args.map.now c.args.points.now c.args.substation c.args.events.now c.substations.ensures.map events)

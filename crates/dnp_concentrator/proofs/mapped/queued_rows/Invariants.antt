@@ -5,4 +5,4 @@ use Rattle.dnp_concentrator.proofs.mapped.queued_rows.Given as goal
 
 abbrev pub invariant-loop-event : goal.invariant-loop-event
 invariant-loop-event l =
-    l.rows.items ++ queued_rows l.map l.points l.station (drop l.event-index l.events) ≡ queued_rows l.map l.points l.station l.events
+    l.rows.items ++ queued_rows l.map l.points l.substation (drop l.event-index l.events) ≡ queued_rows l.map l.points l.substation l.events

@@ -6,7 +6,7 @@ use Rattle.dnp_concentrator.proofs.order.find.Goals as goal
 
 -- a place, where one is wanted past the end of a list
 abbrev no_place : Place
-no_place = record { first = 0; count = 0; station = 0 }
+no_place = record { first = 0; count = 0; substation = 0 }
 
 pub overflow_sub-offset : goal.overflow_sub-offset
 overflow_sub-offset c =

@@ -5,4 +5,4 @@ use Rattle.dnp_concentrator.proofs.readings.set_readings.Given as goal
 
 abbrev pub invariant-loop-row : goal.invariant-loop-row
 invariant-loop-row l =
-    readings_set l.map l.station l.points (drop l.row-index l.rows) ≡ readings_set l.map l.station l.fn.points l.rows
+    readings_set l.map l.substation l.points (drop l.row-index l.rows) ≡ readings_set l.map l.substation l.fn.points l.rows

@@ -1,6 +1,6 @@
 use Rattle.std.proofs.Common.{◌-◌, List, arith, sym, subst}
 use Rattle.dnp_controls.specs.declared.book.Entry.{Entry}
-use Rattle.dnp_controls.specs.Places.{IsKept}
+use Rattle.dnp_controls.specs.steps.Places.{IsKept}
 use Rattle.dnp_controls.proofs.Numbered.{entry_of-within, in_state-at, IsKept-in_state}
 use Rattle.dnp_controls.proofs.plain_book.set_state.Goals as goal
 

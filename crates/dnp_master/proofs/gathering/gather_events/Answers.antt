@@ -5,7 +5,7 @@ use Rattle.dnp_objects.specs.declared.row.Row.{Row}
 use Rattle.dnp_appfragment.specs.EventRows.{header_rows, is_event_header}
 use Rattle.dnp_appfragment.specs.Headers.{Head}
 use Rattle.dnp_appfragment.specs.Seen.{head}
-use Rattle.dnp_master.specs.Gathering.{Gathers}
+use Rattle.dnp_master.specs.steps.Gathering.{Gathers}
 use Rattle.dnp_master.specs.Rows.{is_reported}
 use Rattle.dnp_master.proofs.Gatherings.{EventsLeft, event_header}
 use Rattle.dnp_master.proofs.gathering.gather_events.Goals as goal

@@ -3,7 +3,7 @@ use Rattle.std.specs.List.{All}
 use Rattle.dnp_objects.specs.Events.{IsEvent}
 use Rattle.dnp_appfragment.specs.EventRows.{events_in}
 use Rattle.dnp_master.specs.declared.gathering.Gathering.{Gathering}
-use Rattle.dnp_master.specs.Gathering.{Gathers}
+use Rattle.dnp_master.specs.steps.Gathering.{Gathers}
 use Rattle.dnp_master.specs.Rows.{is_from_plan}
 use Rattle.dnp_master.proofs.gathering.gather_events.Given as goal
 

@@ -1,6 +1,6 @@
 use Rattle.std.proofs.Common.{filter}
 use Rattle.dnp_master.specs.declared.gathering.Gathering.{Gathering}
-use Rattle.dnp_master.specs.Gathering.{Gathers, IsKnown}
+use Rattle.dnp_master.specs.steps.Gathering.{Gathers, IsKnown}
 use Rattle.dnp_master.specs.Rows.{is_planned}
 use Rattle.dnp_master.proofs.gathering.gather_planned.Given as goal
 

@@ -1,7 +1,7 @@
 use Rattle.std.proofs.Common.{◌≡◌}
 use Rattle.std.specs.List.{list_all}
 use Rattle.dnp_master.specs.declared.gathering.Gathering.{Gathering}
-use Rattle.dnp_master.specs.Gathering.{Gathers}
+use Rattle.dnp_master.specs.steps.Gathering.{Gathers}
 use Rattle.dnp_master.specs.Rows.{is_reported}
 use Rattle.dnp_master.proofs.gathering.gather_rows.Given as goal
 

@@ -1,5 +1,5 @@
 use Rattle.dnp_master.specs.declared.gathering.Gathering.{Gathering}
-use Rattle.dnp_master.specs.Gathering.{Gathers}
+use Rattle.dnp_master.specs.steps.Gathering.{Gathers}
 use Rattle.dnp_master.specs.Rows.{statics_in}
 use Rattle.dnp_master.proofs.gathering.gather_statics.Given as goal
 

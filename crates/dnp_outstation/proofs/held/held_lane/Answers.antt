@@ -53,4 +53,5 @@ returns-in_err-rows-clause-look g c = record {
       let memory : c.offer.result ≡ Err Memory = search rules in
       c.offer.ensures.memory memory asks (none_offered old (lane_number c.in-Some.lane) 0 (c.enough-held.result + 1) (ap rows_in (sym same) ∙ none));
   named = search rules;
+  faults = search rules;
 }

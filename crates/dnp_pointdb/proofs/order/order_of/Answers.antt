@@ -3,7 +3,7 @@ use Rattle.std.proofs.Common.{rules, ◌≡◌, ℕ, length, map, arith, ◌+◌
 use Rattle.std.proofs.lemmas.List.{length-map}
 use Rattle.dnp_pointdb.specs.declared.order.Place.{Place}
 use Rattle.dnp_pointdb.specs.declared.point.Point.{Point}
-use Rattle.dnp_pointdb.specs.Order.{Extent, extent_of}
+use Rattle.dnp_pointdb.specs.steps.Order.{Extent, extent_of}
 use Rattle.dnp_pointdb.proofs.Orders.{Placed, extent_at, placed_push, placed_skip, placed_sorted}
 use Rattle.dnp_pointdb.proofs.order.order_of.Goals as goal
 use Rattle.dnp_pointdb.proofs.order.order_of.Goals.{then-count-gt0+in_ok-push, else-count-gt0}

@@ -1,5 +1,5 @@
 use Rattle.std.proofs.Common.{map}
-use Rattle.dnp_pointdb.specs.Order.{extent_of}
+use Rattle.dnp_pointdb.specs.steps.Order.{extent_of}
 use Rattle.dnp_pointdb.proofs.Orders.{Placed}
 use Rattle.dnp_pointdb.proofs.order.order_of.Given as goal
 

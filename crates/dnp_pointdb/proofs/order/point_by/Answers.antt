@@ -2,7 +2,7 @@ use Rattle.std.proofs.Common.{rules, ◌<◌, ◌≡◌, List, length, map, get_
 use Rattle.std.proofs.lemmas.List.{get_or_default}
 use Rattle.dnp_pointdb.specs.declared.point.Point.{Point}
 use Rattle.dnp_pointdb.specs.declared.point.Block.{Block}
-use Rattle.dnp_pointdb.specs.Order.{extent_of, place_in}
+use Rattle.dnp_pointdb.specs.steps.Order.{extent_of, place_in}
 use Rattle.dnp_pointdb.proofs.PlanPoints.{in_blocks, in_points, point_there, point_lacks}
 use Rattle.dnp_pointdb.proofs.order.point_by.Goals as goal
 

@@ -4,7 +4,7 @@ use Rattle.dnp_objects.specs.declared.row.Kind.TheVariants.{Binary, Counter, Ana
 use Rattle.dnp_pointdb.specs.declared.point.Block.{Block}
 use Rattle.dnp_pointdb.specs.declared.fault.PlanFault.TheVariants.{Overlap}
 use Rattle.dnp_pointdb.specs.Plan.{Plan, IsSound, blocks_of}
-use Rattle.dnp_pointdb.specs.Order.{extent_of, AreApart}
+use Rattle.dnp_pointdb.specs.steps.Order.{extent_of, AreApart}
 use Rattle.dnp_pointdb.proofs.Orders.{apart_plan}
 use Rattle.dnp_pointdb.proofs.plan.orders_of.Goals as goal
 

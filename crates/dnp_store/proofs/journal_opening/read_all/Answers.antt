@@ -1,13 +1,12 @@
-use Rattle.std.proofs.Common.{rules, ◌≡◌, ◌≤◌, ℕ, [], codes, length, arith, sym, ap, subst, ◌∙◌}
+use Rattle.std.proofs.Common.{rules, ◌≡◌, ℕ, [], codes, arith, sym, ap, subst, ◌∙◌}
 use Rattle.sqlite.specs.State.{HasCleanDisk}
 use Rattle.sqlite.specs.Held.{state}
 use Rattle.sqlite.specs.Effect.{Database, IsDatabase}
-use Rattle.dnp_objects.specs.declared.limits.TheConstants.{MAX_ID}
 use Rattle.dnp_store.specs.Tables.{IsCounted}
 use Rattle.dnp_store.specs.steps.Shown.{ShowsCount}
-use Rattle.dnp_store.specs.steps.JournalShown.{AreInOrder, ShowEvents, Logs, Finds}
+use Rattle.dnp_store.specs.steps.JournalShown.{Finds, LogsMany}
 use Rattle.dnp_store.specs.declared.store_kind.StoreKind.TheVariants.{Journal}
-use Rattle.dnp_store.proofs.JournalOpening.{opened, few_in_order}
+use Rattle.dnp_store.proofs.JournalOpening.{opened}
 use Rattle.dnp_store.proofs.journal_opening.read_all.Goals as goal
 
 pub returns-clause-read : goal.returns-clause-read
@@ -18,28 +17,14 @@ returns-clause-read g c clean counted f j sound has =
     let clean_2 : HasCleanDisk two = omega (arith, clean, c.read_logged.ensures.step.survives.clean) in
     let clean_1 : HasCleanDisk one = omega (arith, clean_2, c.read_counts.ensures.step.survives.clean) in
     let counts = c.in_ok-counts.counts.items in
-    let rows = c.in_ok-rows.rows.items in
-    let events = c.in_ok-events.events.items in
+    let logged = c.in_ok-logged.logged in
     let last = c.in-Some.last_id in
     let shows : ShowsCount (codes "journal") counts last = search rules in
-    let each : ShowEvents rows events = search rules in
-    let rises : AreInOrder 0 last events = search rules in
     let r1 = c.in_ok-read_form.ensures.read clean_1 Journal f j [] sound has in
     let same_1 : one.now ≡ old.now = r1.0 in
     let r2 = c.in_ok-counts.ensures.read clean_2 Journal f j [] (subst IsDatabase (sym same_1) sound) (ap (λ (d : Database). d.schema) same_1 ∙ has) in
     let same_2 : two.now ≡ old.now = r2.0 ∙ same_1 in
-    let r3 = c.in_ok-rows.ensures.read clean f j [] (subst IsDatabase (sym same_2) sound) (ap (λ (d : Database). d.schema) same_2 ∙ has) in
-    let long : length events ≡ c.len.result = search rules in
-    subst (λ (n : ℕ). Finds old.now last n) long (opened old.now f j events last has r1.1
-    (subst (λ (d : Database). IsCounted (codes "journal") (d.trees 2) last) same_1 (r2.1 (codes "journal") last shows))
-    (subst (λ (d : Database). Logs d.trees events last) same_2 (r3.1 events last each rises)))
-
-pub returns-clause-range : goal.returns-clause-range
-returns-clause-range g c =
-    let events = c.in_ok-events.events.items in
-    let last = c.in-Some.last_id in
-    let rises : AreInOrder 0 last events = search rules in
-    let few = few_in_order 0 last events rises (omega arith) in
-    let long : length events ≡ c.len.result = search rules in
-    let low : last ≤ MAX_ID = c.in-Some.ensures.counted.0 in
-    (low, omega arith)
+    let r3 = c.in_ok-logged.ensures.read clean f j [] (subst IsDatabase (sym same_2) sound) (ap (λ (d : Database). d.schema) same_2 ∙ has) in
+    let found : LogsMany old.now.trees logged.count last = subst (λ (d : Database). LogsMany d.trees logged.count last) same_2 (r3.1 last c.in-Some.ensures.over) in
+    subst (λ (n : ℕ). Finds old.now last n) found.many (opened old.now f j found.events last has r1.1
+    (subst (λ (d : Database). IsCounted (codes "journal") (d.trees 2) last) same_1 (r2.1 (codes "journal") last shows)) found.logs)

@@ -20,6 +20,6 @@ returns-clause-read g c clean ours =
     let is_open : IsTrue old.is_open = subst IsTrue open_is (c.in_ok-found.ensures.open early) in
     let idle : IsTrue c.is_autocommit.result = c.is_autocommit.ensures.value ∙ ap not c.requires.idle in
     let settled : old.now ≡ old.committed = c.is_autocommit.ensures.settled idle is_open in
-    let sound : IsDatabase begun.now = subst IsDatabase (sym now_is) (c.is_of_journal-ours.ensures.live is_open).0 in
-    let schema = ap (λ (d : Database). d.schema) now_is ∙ c.is_of_journal-ours.ensures.schema parts.0 in
+    let sound : IsDatabase begun.now = subst IsDatabase (sym now_is) (c.is_of_three-ours.ensures.live is_open).0 in
+    let schema = ap (λ (d : Database). d.schema) now_is ∙ c.is_of_three-ours.ensures.schema parts.0 in
     subst (λ (d : Database). Finds d c.in_ok-found.found.last_id c.in_ok-found.found.count) (now_is ∙ settled) (c.in_ok-found.ensures.read early parts.1 _ _ sound schema)

@@ -1,24 +1,61 @@
-use Rattle.std.proofs.Common.{take, arith, sym, ap, subst, ◌∙◌}
-use Rattle.std.proofs.lemmas.List.{take_more}
+use Rattle.std.proofs.Common.{rules, ◌≡◌, ◌++◌, List, [], arith, sym, ap, subst, ◌∙◌, append_assoc}
+use Rattle.std.specs.List.{AllByRecursion}
+use Rattle.std.proofs.lemmas.List.Elements.{All-from_recursion, recursion_from_All}
 use Rattle.sqlite.specs.State.{HasCleanDisk}
 use Rattle.sqlite.specs.Held.{state}
+use Rattle.dnp_objects.specs.declared.row.Row.{Row}
+use Rattle.dnp_objects.specs.Events.{IsEvent}
 use Rattle.dnp_eventbuf.specs.Archive.{with_events}
 use Rattle.dnp_store.specs.JournalTables.{IsJournal}
-use Rattle.dnp_store.proofs.JournalHolding.{with-push}
+use Rattle.dnp_store.proofs.JournalHolding.{with-append, with-none}
+use Rattle.dnp_store.proofs.Blocks.{parted, all_done}
 use Rattle.dnp_store.proofs.Stepping.{step_then}
 use Rattle.dnp_store.proofs.journal_writing.insert_all.Goals as goal
 
-pub loop-row-preserved : goal.loop-row-preserved
-loop-row-preserved g c =
-    let mid = state g.S.Store c.loop-row.tx.conn.now in
-    let new = state g.S.Store c.insert.new.tx.conn.now in record {
-      step = step_then g.S.Store c.args.tx.now.conn c.loop-row.tx.conn c.insert.new.tx.conn _ _ c.loop-row.invariant.step c.in_ok-insert.ensures.step;
-      added = λ clean.
-          let early : HasCleanDisk mid = omega (arith, c.insert.ensures.step.survives.clean) in
-          let was = c.loop-row.invariant.added early in
-          λ a held.
-          let before = take c.loop-row.row-index c.args.events.now in
-          let did = c.in_ok-insert.ensures.added clean (with_events a before) (was a held) in
-          subst (λ t. IsJournal new.now t)
-          (with-push a before _ ∙ sym (ap (with_events a) (take_more c.args.events.now c.loop-row.row-index _ c.loop-row-test.true))) did;
+pub loop-block-init : goal.loop-block-init
+loop-block-init g c =
+    let events = c.args.events.now in
+    let start = state g.S.Store c.args.tx.now.conn.now in
+    let whole : c.into_iter-block-iterator.result.rest.now ≡ events =
+    ap (λ it. it.rest.now) c.into_iter-block-iterator.ensures.into_iter_gives ∙ c.chunks-block-items.ensures.rest in
+    record {
+      done = [];
+      parts = sym whole;
+      events = subst (AllByRecursion IsEvent) (sym whole) (recursion_from_All IsEvent events c.requires.events);
+      step = search rules;
+      added = λ clean a held. subst (IsJournal start.now) (sym (with-none a)) held;
     }
+
+pub insert_block-requires : goal.insert_block-requires
+insert_block-requires g c =
+    let block = c.in-Some.block.now in
+    let after = c.next.new.self.rest.now in
+    let all = subst (AllByRecursion IsEvent) (c.in-Some.ensures).steps.1.0 c.loop-block.invariant.events in
+    record { inside = c.loop-block.invariant.step.inside; events = All-from_recursion IsEvent block (parted IsEvent block after all).0 }
+
+pub loop-block-preserved : goal.loop-block-preserved
+loop-block-preserved g c =
+    let mid = state g.S.Store c.loop-block.tx.conn.now in
+    let new = state g.S.Store c.insert_block.new.tx.conn.now in
+    let so_far = c.loop-block.invariant in
+    let block = c.in-Some.block.now in
+    let after = c.next.new.self.rest.now in
+    let parts = (c.in-Some.ensures).steps.1.0 in
+    record {
+      done = so_far.done ++ block;
+      parts = so_far.parts ∙ ap (λ (xs : List Row). so_far.done ++ xs) parts ∙ sym (append_assoc so_far.done block after);
+      events = (parted IsEvent block after (subst (AllByRecursion IsEvent) parts so_far.events)).1;
+      step = step_then g.S.Store c.args.tx.now.conn c.loop-block.tx.conn c.insert_block.new.tx.conn _ _ so_far.step c.in_ok-insert_block.ensures.step;
+      added = λ clean.
+          let early : HasCleanDisk mid = omega (arith, c.insert_block.ensures.step.survives.clean) in
+          λ a held.
+          let did = c.in_ok-insert_block.ensures.added clean (with_events a so_far.done) (so_far.added early a held) in
+          subst (IsJournal new.now) (with-append a so_far.done block) did;
+    }
+
+pub returns-clause-added : goal.returns-clause-added
+returns-clause-added g c clean a held =
+    let now = state g.S.Store c.loop-block.tx.conn.now in
+    let so_far = c.loop-block.invariant in
+    let all = all_done c.args.events.now so_far.done c.loop-block.block-iterator.rest.now so_far.parts (c.in-None.ensures).steps.1.0 in
+    subst (λ xs. IsJournal now.now (with_events a xs)) all (so_far.added clean a held)

@@ -1,24 +1,61 @@
-use Rattle.std.proofs.Common.{rules, ◌≡◌, ◌+◌, ◌++◌, [], ◌∷◌, take, arith, sym, ap, subst, ◌∙◌}
-use Rattle.std.proofs.lemmas.List.{take_more}
+use Rattle.std.proofs.Common.{rules, ◌≡◌, ◌++◌, List, [], arith, sym, ap, subst, ◌∙◌, append_assoc}
+use Rattle.std.specs.List.{AllByRecursion}
+use Rattle.std.proofs.lemmas.List.Elements.{All-from_recursion, recursion_from_All}
 use Rattle.sqlite.specs.State.{HasCleanDisk}
 use Rattle.sqlite.specs.Held.{state}
+use Rattle.dnp_objects.specs.declared.lane.LaneRow.{LaneRow}
+use Rattle.dnp_eventbuf.specs.Carried.{IsCarried}
 use Rattle.dnp_store.specs.QueueTables.{HoldsQueue}
 use Rattle.dnp_store.specs.steps.Steps.{all_added}
-use Rattle.dnp_store.proofs.Appending.{added-push, nine_added}
+use Rattle.dnp_store.proofs.Appending.{added-append, nine_added}
+use Rattle.dnp_store.proofs.Blocks.{parted, all_done}
 use Rattle.dnp_store.proofs.Stepping.{step_then}
 use Rattle.dnp_store.proofs.queue_writing.insert_all.Goals as goal
 
-pub loop-x-preserved : goal.loop-x-preserved
-loop-x-preserved g c =
-    let mid = state g.S.Store c.loop-x.tx.conn.now in
-    let new = state g.S.Store c.insert.new.tx.conn.now in record {
-      step = step_then g.S.Store c.args.tx.now.conn c.loop-x.tx.conn c.insert.new.tx.conn _ _ c.loop-x.invariant.step c.in_ok-insert.ensures.step;
-      added = λ clean.
-          let early : HasCleanDisk mid = omega (arith, c.insert.ensures.step.survives.clean) in
-          let was = c.loop-x.invariant.added early in
-          λ s figures nine held.
-          let before = take c.loop-x.x-index c.args.rows.now in
-          let more : take (c.loop-x.x-index + 1) c.args.rows.now ≡ before ++ c.x-item.result ∷ [] = search (rules, take_more) in
-          let did = c.in_ok-insert.ensures.added clean (all_added s before) figures (nine_added s before ∙ nine) (was s figures nine held) in
-          subst (λ t. HoldsQueue new.now t figures) (sym (ap (all_added s) more ∙ added-push s before _)) did;
+pub loop-block-init : goal.loop-block-init
+loop-block-init g c =
+    let rows = c.args.rows.now in
+    let whole : c.into_iter-block-iterator.result.rest.now ≡ rows =
+    ap (λ it. it.rest.now) c.into_iter-block-iterator.ensures.into_iter_gives ∙ c.chunks-block-items.ensures.rest in
+    record {
+      done = [];
+      parts = sym whole;
+      carried = subst (AllByRecursion IsCarried) (sym whole) (recursion_from_All IsCarried rows c.requires.carried);
+      step = search rules;
+      added = λ clean s figures nine held. held;
     }
+
+pub insert_block-requires : goal.insert_block-requires
+insert_block-requires g c =
+    let block = c.in-Some.block.now in
+    let after = c.next.new.self.rest.now in
+    let all = subst (AllByRecursion IsCarried) (c.in-Some.ensures).steps.1.0 c.loop-block.invariant.carried in
+    record { inside = c.loop-block.invariant.step.inside; carried = All-from_recursion IsCarried block (parted IsCarried block after all).0 }
+
+pub loop-block-preserved : goal.loop-block-preserved
+loop-block-preserved g c =
+    let mid = state g.S.Store c.loop-block.tx.conn.now in
+    let new = state g.S.Store c.insert_block.new.tx.conn.now in
+    let so_far = c.loop-block.invariant in
+    let block = c.in-Some.block.now in
+    let after = c.next.new.self.rest.now in
+    let parts = (c.in-Some.ensures).steps.1.0 in
+    record {
+      done = so_far.done ++ block;
+      parts = so_far.parts ∙ ap (λ (xs : List LaneRow). so_far.done ++ xs) parts ∙ sym (append_assoc so_far.done block after);
+      carried = (parted IsCarried block after (subst (AllByRecursion IsCarried) parts so_far.carried)).1;
+      step = step_then g.S.Store c.args.tx.now.conn c.loop-block.tx.conn c.insert_block.new.tx.conn _ _ so_far.step c.in_ok-insert_block.ensures.step;
+      added = λ clean.
+          let early : HasCleanDisk mid = omega (arith, c.insert_block.ensures.step.survives.clean) in
+          λ s figures nine held.
+          let did = c.in_ok-insert_block.ensures.added clean (all_added s so_far.done) figures (nine_added s so_far.done ∙ nine)
+          (so_far.added early s figures nine held) in
+          subst (λ t. HoldsQueue new.now t figures) (sym (added-append s so_far.done block)) did;
+    }
+
+pub returns-clause-added : goal.returns-clause-added
+returns-clause-added g c clean s figures nine held =
+    let now = state g.S.Store c.loop-block.tx.conn.now in
+    let so_far = c.loop-block.invariant in
+    let all = all_done c.args.rows.now so_far.done c.loop-block.block-iterator.rest.now so_far.parts (c.in-None.ensures).steps.1.0 in
+    subst (λ xs. HoldsQueue now.now (all_added s xs) figures) all (so_far.added clean s figures nine held)

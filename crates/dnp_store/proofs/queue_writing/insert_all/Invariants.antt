@@ -1,20 +1,27 @@
-use Rattle.std.proofs.Common.{◌≡◌, take, length, List}
+use Rattle.std.proofs.Common.{◌≡◌, ◌++◌, length, List}
+use Rattle.std.specs.List.{AllByRecursion}
 use Rattle.sqlite.specs.State.{HasCleanDisk}
 use Rattle.sqlite.specs.Held.{state}
 use Rattle.dnp_objects.specs.declared.limits.TheConstants.{LANES}
+use Rattle.dnp_objects.specs.declared.lane.LaneRow.{LaneRow}
+use Rattle.dnp_eventbuf.specs.Carried.{IsCarried}
 use Rattle.dnp_eventbuf.specs.Stock.{Stock}
 use Rattle.dnp_store.specs.QueueTables.{Figures, HoldsQueue}
 use Rattle.dnp_store.specs.steps.Steps.{all_added}
 use Rattle.dnp_store.proofs.Stepping.{AreSteps}
 use Rattle.dnp_store.proofs.queue_writing.insert_all.Given as goal
 
--- the rows so far are in
-abbrev pub invariant-loop-x : goal.invariant-loop-x
-invariant-loop-x g l =
+-- some rows are in, and the others are still to come
+abbrev pub invariant-loop-block : goal.invariant-loop-block
+invariant-loop-block g l =
     let old = state g.S.Store l.fn.tx.conn.now in
     let now = state g.S.Store l.tx.conn.now in
+    let rest = l.block-iterator.rest.now in
     record {
+      done : List LaneRow;
+      parts : l.rows ≡ done ++ rest;
+      carried : AllByRecursion IsCarried rest;
       step : AreSteps g.S.Store l.fn.tx.conn l.tx.conn;
       added : HasCleanDisk now → (s : Stock) (figures : List Figures) → length s.lanes ≡ LANES → HoldsQueue old.now s figures
-          → HoldsQueue now.now (all_added s (take l.x-index l.rows)) figures;
+          → HoldsQueue now.now (all_added s done) figures;
     }

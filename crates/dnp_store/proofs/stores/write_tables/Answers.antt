@@ -8,14 +8,14 @@ use Rattle.dnp_store.specs.steps.Stores.{HasNumber, IsFresh}
 use Rattle.dnp_store.proofs.Statements.{finished, survives_commit}
 use Rattle.dnp_store.proofs.stores.write_tables.Goals as goal
 
-done : (g : _) (c : goal.After-conn-2-1 g) → HasCleanDisk (state g.S.Store c.make_tables.new.tx.conn.now) → c.args.conn.now.schema ≡ no_schema
-    → HasNumber c.args.kind (state g.S.Store c.make_tables.new.tx.conn.now).now
+done : (g : _) (c : goal.After-conn-2-1 g) → HasCleanDisk (state g.S.Store c.make_store.new.tx.conn.now) → c.args.conn.now.schema ≡ no_schema
+    → HasNumber c.args.kind (state g.S.Store c.make_store.new.tx.conn.now).now
 done g c clean none =
-    c.in_ok-make_tables.ensures.made clean (ap (λ h. (state g.S.Store h).now.schema) c.transaction-tx.ensures.begun ∙ none)
+    c.in_ok-make_store.ensures.made clean (ap (λ h. (state g.S.Store h).now.schema) c.transaction-tx.ensures.begun ∙ none)
 
 pub returns-clause-ok : goal.returns-clause-ok
 returns-clause-ok g c clean none =
-    let mid = state g.S.Store c.make_tables.new.tx.conn.now in
+    let mid = state g.S.Store c.make_store.new.tx.conn.now in
     let end = state g.S.Store c.commit.new.self.0 in
     let same : c.commit.new.self.0 ≡ c.conn-2-1.given.0 = search rules in
     let late : HasCleanDisk end = subst (λ h. HasCleanDisk (state g.S.Store h)) (sym same) clean in
@@ -25,12 +25,12 @@ returns-clause-ok g c clean none =
 
 pub returns-clause-survives : goal.returns-clause-survives
 returns-clause-survives g c =
-    let mid = state g.S.Store c.make_tables.new.tx.conn.now in
+    let mid = state g.S.Store c.make_store.new.tx.conn.now in
     let end = state g.S.Store c.commit.new.self.0 in
     let old = c.args.conn.now in
     let P = λ (db : Trees). c.args.conn.now.schema ≡ no_schema → IsFresh db in
     let same : c.commit.new.self.0 ≡ c.conn-2-1.given.0 = search rules in
     subst (λ h. Survives (state g.S.Store old) (state g.S.Store h) P) same
     (survives_commit g.S.Store old c.transaction-tx.result.conn.now mid end P c.transaction-tx.ensures.begun
-    c.make_tables.ensures.step.survives c.commit.ensures.survives
+    c.make_store.ensures.step.survives c.commit.ensures.survives
     (λ clean none. (let early : HasCleanDisk mid = omega (arith, clean, c.commit.ensures.survives.clean) in (done g c early none).holds)))

@@ -3,7 +3,7 @@ use Rattle.dnp_objects.specs.declared.limits.TheConstants.{MAX_FRAGMENT}
 use Rattle.dnp_appfragment.specs.Headers.{Head, NumbersFit, IsHeader, header_octets}
 use Rattle.dnp_appfragment.specs.Table.{form_of}
 use Rattle.dnp_appfragment.specs.Built.{size, with_run}
-use Rattle.dnp_appfragment.specs.Building.{IsLaid, built_in}
+use Rattle.dnp_appfragment.specs.steps.Building.{IsLaid, built_in}
 use Rattle.dnp_appfragment.proofs.Laid.{object_laid, header_behind, size-header}
 use Rattle.dnp_appfragment.proofs.builder.Builder.begin.Given.{Over}
 use Rattle.dnp_appfragment.proofs.builder.Builder.begin.Goals.{After-append}

@@ -1,9 +1,9 @@
 use Rattle.std.proofs.Common.{rules, ◌≡◌, ◌∙◌, ap, subst, refl, sym, true, ℕ, ◌+◌, length, Some, None, arith}
 use Rattle.dnp_appfragment.specs.Headers.{Head, NumbersFit, IsHeader, number}
 use Rattle.dnp_appfragment.specs.Table.{form_of}
-use Rattle.dnp_appfragment.specs.Overwriting.{written_over}
+use Rattle.dnp_appfragment.specs.steps.Overwriting.{written_over}
 use Rattle.dnp_appfragment.specs.Built.{size, with_object}
-use Rattle.dnp_appfragment.specs.Building.{IsLaid, built_in, ended_in, objects_in, range_end, longer}
+use Rattle.dnp_appfragment.specs.steps.Building.{IsLaid, built_in, ended_in, objects_in, range_end, longer}
 use Rattle.dnp_appfragment.proofs.Joins.{joined_size, begun_with, begun_size}
 use Rattle.dnp_appfragment.proofs.Laid.{joined_laid}
 use Rattle.dnp_appfragment.proofs.builder.Builder.put.Given.{Over}

@@ -7,7 +7,7 @@ use Rattle.dnp_objects.specs.Objects.{object_size}
 use Rattle.dnp_appfragment.specs.declared.header.Range.{Range}
 use Rattle.dnp_appfragment.specs.Built.{size, with_object}
 use Rattle.dnp_appfragment.specs.Headers.{head_of}
-use Rattle.dnp_appfragment.specs.Spans.{row_head, all_written, span}
+use Rattle.dnp_appfragment.specs.steps.Spans.{row_head, all_written, span}
 use Rattle.dnp_appfragment.proofs.ObjectHeaders.{response_form}
 use Rattle.dnp_appfragment.proofs.Spans.{AreSized, each_size, taken_size, many_fit, size_behind, size_with, span_header, ArePut, no_rows_put, rows_put}
 use Rattle.dnp_appfragment.proofs.builder.Builder.put_points.Given.{Over}

@@ -1,6 +1,6 @@
 use Rattle.std.proofs.Common.{◌∙◌, ap, sym}
 use Rattle.dnp_appfragment.specs.Built.{Built}
-use Rattle.dnp_appfragment.specs.Building.{objects_in}
+use Rattle.dnp_appfragment.specs.steps.Building.{objects_in}
 use Rattle.dnp_appfragment.proofs.Laid.{fresh}
 use Rattle.dnp_appfragment.proofs.builder.Builder.restart.Goals as goal
 

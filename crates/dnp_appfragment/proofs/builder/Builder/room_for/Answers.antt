@@ -1,6 +1,6 @@
 use Rattle.std.proofs.Common.{◌∙◌, sym, refl, [], arith, length-append}
 use Rattle.dnp_appfragment.specs.Headers.{range_octets}
-use Rattle.dnp_appfragment.specs.Building.{run_head, ended_in, objects_in}
+use Rattle.dnp_appfragment.specs.steps.Building.{run_head, ended_in, objects_in}
 use Rattle.dnp_appfragment.proofs.Joins.{begun_size}
 use Rattle.dnp_appfragment.proofs.Spans.{joined_empty}
 use Rattle.dnp_appfragment.proofs.builder.Builder.room_for.Goals as goal

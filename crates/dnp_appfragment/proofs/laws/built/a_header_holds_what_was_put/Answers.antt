@@ -1,7 +1,6 @@
 use Rattle.dnp_objects.specs.Commands.{object_of, index_of, command_octets}
 use Rattle.dnp_objects.specs.Events.{event_object}
 use Rattle.dnp_objects.specs.Rows.{written}
-use Rattle.dnp_appfragment.specs.Written.{point_variation}
 use Rattle.dnp_appfragment.proofs.ObjectHeaders.{row_sized, command_sized}
 use Rattle.dnp_appfragment.proofs.Held.{indexed_holds, spanned_holds}
 use Rattle.dnp_appfragment.proofs.laws.built.a_header_holds_what_was_put.Goals as goal
@@ -12,9 +11,9 @@ returns-clause-event c = λ row fits index.
     indexed_holds object.0 object.1 row.index (written object.0 object.1 row) (row_sized c.a_written_row_fills_its_object.ensures object.0 object.1 row fits) index
 
 pub returns-clause-point : goal.returns-clause-point
-returns-clause-point c = λ group row fits.
-    spanned_holds group (point_variation group) row.index (written group (point_variation group) row)
-    (row_sized c.a_written_row_fills_its_object.ensures group (point_variation group) row fits.row_fits)
+returns-clause-point c = λ group variation row fits.
+    spanned_holds group variation row.index (written group variation row)
+    (row_sized c.a_written_row_fills_its_object.ensures group variation row fits.row_fits)
 
 pub returns-clause-order : goal.returns-clause-order
 returns-clause-order c = λ command status index.

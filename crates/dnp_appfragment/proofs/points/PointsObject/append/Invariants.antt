@@ -1,5 +1,5 @@
 use Rattle.std.proofs.Common.{◌≡◌, take, drop, ◌++◌, ◌-◌}
-use Rattle.dnp_appfragment.specs.Spans.{all_written}
+use Rattle.dnp_appfragment.specs.steps.Spans.{all_written}
 use Rattle.dnp_appfragment.proofs.points.PointsObject.append.Given as goal
 
 -- what is written and what is left to write are the whole

@@ -3,7 +3,7 @@ use Rattle.std.specs.Prelude.{slice_get}
 use Rattle.dnp_appfragment.specs.declared.row_walk.Carried.{Carried}
 use Rattle.dnp_appfragment.specs.Meaning.{row_in}
 use Rattle.dnp_appfragment.specs.Headers.{head_of}
-use Rattle.dnp_appfragment.specs.Walking.{rows_left}
+use Rattle.dnp_appfragment.specs.steps.Walking.{rows_left}
 use Rattle.dnp_appfragment.proofs.Walked.{walk_is, no_walk_is}
 use Rattle.dnp_appfragment.proofs.row_walk.RowWalk.new.Goals as goal
 use Rattle.dnp_appfragment.proofs.row_walk.RowWalk.new.Goals.{then-left-eq0, else-left-eq0}

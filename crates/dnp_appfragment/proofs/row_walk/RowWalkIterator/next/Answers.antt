@@ -1,6 +1,6 @@
 use Rattle.std.proofs.Common.{rules, length, sym, ◌∙◌, ap, ◌+◌, ◌-◌, List, ◌∷◌}
 use Rattle.dnp_objects.specs.declared.row.Row.{Row}
-use Rattle.dnp_appfragment.specs.Walking.{Cut, rows_left}
+use Rattle.dnp_appfragment.specs.steps.Walking.{Cut, rows_left}
 use Rattle.dnp_appfragment.proofs.Walked.{none_left, row_given, no_row_given, bit_given, no_bit_given}
 use Rattle.dnp_appfragment.proofs.row_walk.RowWalkIterator.next.Goals as goal
 use Rattle.dnp_appfragment.proofs.row_walk.RowWalkIterator.next.Goals.{in-Rows+in_ok-index-in-Rows, in-Bits+in_ok-row-in-Bits}

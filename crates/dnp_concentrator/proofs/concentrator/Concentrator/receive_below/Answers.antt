@@ -18,13 +18,13 @@ pub returns-clause-not_exhausted : goal.returns-clause-not_exhausted
 returns-clause-not_exhausted g c = λ honest.
     let old = c.args.self.now in
     let inside : c.from.result < length (links_of old) = omega (arith, c.requires) in
-    let is : c.index_mut.result.now ≡ link_at old c.args.link =
+    let is : c.index_mut.result.now ≡ link_at old c.args.substation =
     c.index_mut.ensures.value ∙ get_or_default (links_of old) c.from.result c.index_mut.result.now no_link inside
     ∙ ap (λ (n : ℕ). get_or (links_of old) n no_link) c.from.ensures in
     let fits : List Row → Type 0 = λ rows. rows ≢ []
-    → exhausts (g.Q.Lanes.contents (queue_of old)) (queued_rows (indices_of old) (plan_above old) c.args.link rows) ≡ false in
-    if_ok (λ t. fits t.events) (receive_of (link_at old c.args.link).master c.args.now c.args.octets.now)
-    (taking_of (link_at old c.args.link).master c.in_ok-taken.taken)
+    → exhausts (g.Q.Lanes.contents (queue_of old)) (queued_rows (indices_of old) (plan_above old) c.args.substation rows) ≡ false in
+    if_ok (λ t. fits t.events) (receive_of (link_at old c.args.substation).master c.args.now c.args.octets.now)
+    (taking_of (link_at old c.args.substation).master c.in_ok-taken.taken)
     (subst (λ (r : Relaying). receive_of r.master c.args.now c.args.octets.now ≡ Ok (taking_of r.master c.in_ok-taken.taken)) is
     c.in_ok-taken.ensures.looked.taken)
     (subst fits c.events.ensures.value (c.in_ok-dropped.ensures.not_exhausted (subst (λ q. g.Q.Lanes.honest q) c.set_above.ensures.queue honest)))

@@ -19,8 +19,8 @@ returns-clause-value c =
     subst (λ (order : List Place). IsOrder c.args.kind c.self.inside.spans.items order) (sym c.of.ensures) (c.self.invariant.2 c.args.kind) in
     c.find.ensures c.args.kind c.self.inside.spans.items o ∙ ap (λ (s : List Spans). index_below s c.args.kind c.args.index) c.self.view_is
 
-pub returns-clause-station : goal.returns-clause-station
-returns-clause-station c =
+pub returns-clause-substation : goal.returns-clause-substation
+returns-clause-substation c =
     let o : IsOrder c.args.kind c.self.inside.spans.items c.of.result.now =
     subst (λ (order : List Place). IsOrder c.args.kind c.self.inside.spans.items order) (sym c.of.ensures) (c.self.invariant.2 c.args.kind) in
     station_below c.self.inside.spans.items c.args.kind c.args.index c.find.result MAX_SUBSTATIONS

@@ -1,7 +1,7 @@
 use Rattle.std.proofs.Common.{◌≡◌, ◌+◌, ◌++◌, ◌∷◌, [], List, rules, arith, refl, sym, subst}
 use Rattle.dnp_controls.specs.declared.book.Entry.{Entry}
 use Rattle.dnp_controls.specs.declared.book.State.TheVariants.{Pending}
-use Rattle.dnp_controls.specs.Places.{IsKept}
+use Rattle.dnp_controls.specs.steps.Places.{IsKept}
 use Rattle.dnp_controls.proofs.Numbered.{IsKept-push}
 use Rattle.dnp_controls.proofs.Moving.{granted_call, sound_numbered}
 use Rattle.dnp_controls.proofs.plain_book.PlainBookBook.add.Goals as goal

@@ -1,6 +1,6 @@
 use Rattle.std.proofs.Common.{◌≡◌, List, length, arith, refl, sym, subst}
 use Rattle.dnp_controls.specs.declared.book.Entry.{Entry}
-use Rattle.dnp_controls.specs.Places.{IsKept}
+use Rattle.dnp_controls.specs.steps.Places.{IsKept}
 use Rattle.dnp_controls.proofs.Numbered.{refilled}
 use Rattle.dnp_controls.proofs.Moving.{granted_call, sound_numbered}
 use Rattle.dnp_controls.proofs.plain_book.PlainBookBook.spend.Goals as goal

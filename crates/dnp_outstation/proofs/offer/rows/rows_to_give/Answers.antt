@@ -28,6 +28,7 @@ returns-in_err-rows-clause-look g c = record {
       let memory : c.offer.result ≡ Err Memory = search rules in
       c.offer.ensures.memory memory asks (none_offered old (lane_number c.args.lane) c.over-over.result c.asked.result (ap rows_in (sym same) ∙ none));
   named = search rules;
+  faults = search rules;
 }
 
 pub returns-clause-rows : goal.returns-clause-rows

@@ -2,7 +2,7 @@ use Rattle.std.proofs.Common.{◌≡◌, length, get_or, sym, ◌∙◌, ap, Som
 use Rattle.dnp_pointdb.specs.declared.state.PointState.{PointState}
 use Rattle.dnp_pointdb.specs.declared.state.BlockState.{BlockState}
 use Rattle.dnp_pointdb.specs.Database.{state_in, checked}
-use Rattle.dnp_pointdb.specs.Order.{extents, place_in}
+use Rattle.dnp_pointdb.specs.steps.Order.{extents, place_in}
 use Rattle.dnp_pointdb.proofs.Lookups.{lookup_lacks}
 use Rattle.dnp_pointdb.proofs.Changes.{in_blocks, in_points_of, state_in-place}
 use Rattle.dnp_pointdb.proofs.bank.Bank.check.Goals as goal

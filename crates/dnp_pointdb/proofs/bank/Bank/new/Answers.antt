@@ -3,7 +3,7 @@ use Rattle.std.proofs.lemmas.List.{take_all}
 use Rattle.dnp_pointdb.specs.declared.point.Block.{Block}
 use Rattle.dnp_pointdb.specs.declared.state.BlockState.{BlockState}
 use Rattle.dnp_pointdb.specs.Database.{new_block}
-use Rattle.dnp_pointdb.specs.Order.{Extent, extent_of, extents, IsOrder}
+use Rattle.dnp_pointdb.specs.steps.Order.{Extent, extent_of, extents, IsOrder}
 use Rattle.dnp_pointdb.proofs.Orders.{apart_plan, extents-new}
 use Rattle.dnp_pointdb.proofs.bank.Bank.new.Goals as goal
 

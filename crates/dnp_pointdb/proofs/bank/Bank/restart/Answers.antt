@@ -1,7 +1,7 @@
 use Rattle.std.proofs.Common.{◌≡◌, List, map, ◌∙◌, ap, arith, length, take, drop, ◌++◌}
 use Rattle.std.proofs.lemmas.List.{take_at}
 use Rattle.dnp_pointdb.specs.declared.state.BlockState.{BlockState}
-use Rattle.dnp_pointdb.specs.Order.{extents}
+use Rattle.dnp_pointdb.specs.steps.Order.{extents}
 use Rattle.dnp_pointdb.specs.Database.{restarted_block}
 use Rattle.dnp_pointdb.proofs.Orders.{order_kept, extents-restarted}
 use Rattle.dnp_pointdb.proofs.bank.Bank.restart.Goals as goal

@@ -1,6 +1,6 @@
 use Rattle.std.proofs.Common.{◌≡◌, length, get_or, sym, ◌∙◌, ap, Some, None, List, arith}
 use Rattle.dnp_pointdb.specs.declared.state.BlockState.{BlockState}
-use Rattle.dnp_pointdb.specs.Order.{extents, place_in}
+use Rattle.dnp_pointdb.specs.steps.Order.{extents, place_in}
 use Rattle.dnp_pointdb.proofs.Lookups.{lookup_lacks}
 use Rattle.dnp_pointdb.proofs.Changes.{in_blocks, in_points_of, state_in-place}
 use Rattle.dnp_pointdb.proofs.bank.Bank.state.Goals as goal

@@ -3,7 +3,7 @@ use Rattle.dnp_pointdb.specs.declared.point.Block.{Block}
 use Rattle.dnp_pointdb.specs.declared.order.Orders.{Orders}
 use Rattle.dnp_pointdb.specs.declared.order.Place.{Place}
 use Rattle.dnp_pointdb.specs.Plan.{blocks_of}
-use Rattle.dnp_pointdb.specs.Order.{extent_of, IsOrder, AreOrders}
+use Rattle.dnp_pointdb.specs.steps.Order.{extent_of, IsOrder, AreOrders}
 use Rattle.dnp_pointdb.proofs.plan.PointPlan.point.Goals as goal
 
 pub point_by-requires : goal.point_by-requires

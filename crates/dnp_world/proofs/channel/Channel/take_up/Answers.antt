@@ -19,7 +19,7 @@ returns-in-Ok-clause-took g c = λ well.
     let made = receive_of master c.args.now fragment in
     let few : length a.dropped ≤ length (rows_in fragment) =
     few_dropped _ _ _ _ _ master fragment made _ _ c.take_in.result a (c.what_comes_is_taken_or_passed_over.ensures master c.args.now fragment)
-    c.take_in.ensures c.in-Ok.is well in
+    c.take_in.ensures.takes c.in-Ok.is well in
     let rows : List Row = c.as_slice.result.now in
     let same_rows : rows ≡ a.dropped = c.as_slice.ensures in
     let room : length rows ≤ c.count_events.result = omega (arith, few, c.count_events.ensures, ap (λ (xs : List Row). length xs) same_rows) in
@@ -30,7 +30,7 @@ returns-in-Ok-clause-took g c = λ well.
       fragment,
       c.fragment-fragment.ensures.shown,
       taken_up _ _ _ _ _ made _ _ c.take_in.result a old _ (state_of c.confirm.new.self) c.args.dropped.now.items c.extend_from_slice.new.self.items
-          c.take_in.ensures c.in-Ok.is well
+          c.take_in.ensures.takes c.in-Ok.is well
           (ap (λ (line : HeldLine). record old { down = line.state }) c.in_ok-reserve-2.ensures.ok) c.confirm.ensures listed,
     )
 
@@ -42,6 +42,6 @@ returns-in-None-clause-took g c = λ well.
       fragment,
       c.fragment-fragment.ensures.shown,
       refused_up _ _ _ _ _ made _ _ c.take_in.result c.in-Err.fault old _ c.args.dropped.now.items c.reserve.new.self.items
-          c.take_in.ensures c.in-Err.is c.in-None.ensures well
+          c.take_in.ensures.takes c.in-Err.is c.in-None.ensures.none well
           (ap (λ (line : HeldLine). record old { down = line.state }) c.in_ok-reserve-2.ensures.ok) c.in_ok-reserve.ensures.items,
     )

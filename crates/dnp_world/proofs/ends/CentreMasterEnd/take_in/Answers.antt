@@ -5,8 +5,8 @@ use Rattle.dnp_master.specs.Calls.{receive_of}
 use Rattle.dnp_world.proofs.MasterTakes.{any_ok, book_before, kept_above, named_by, taken_above, unasked_by}
 use Rattle.dnp_world.proofs.ends.CentreMasterEnd.take_in.Goals as goal
 
-pub returns : goal.returns
-returns g c =
+pub returns-clause-takes : goal.returns-clause-takes
+returns-clause-takes g c =
     let archive = g.J.JournalStore.archive in
     let ledger = g.B.Book.contents in
     let old = c.args.self.now in

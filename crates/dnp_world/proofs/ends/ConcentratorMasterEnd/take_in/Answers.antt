@@ -4,8 +4,8 @@ use Rattle.dnp_world.specs.SystemParts.{concentrator_of}
 use Rattle.dnp_world.proofs.MasterTakes.{any_ok, few_below, kept_below, named_by, taken_below, unasked_by, well_before}
 use Rattle.dnp_world.proofs.ends.ConcentratorMasterEnd.take_in.Goals as goal
 
-pub returns : goal.returns
-returns g c =
+pub returns-clause-takes : goal.returns-clause-takes
+returns-clause-takes g c =
     let stock = g.Q.Lanes.contents in
     let ledger = g.B.Book.contents in
     let old = c.args.self.now in

@@ -1,11 +1,18 @@
 -- The control goes, or a book can't be read before it does.
-use Rattle.std.proofs.Common.{◌≡◌, true, inl, rules, sym, ◌∙◌, subst}
+use Rattle.std.proofs.Common.{◌≡◌, true, inl, refl, rules, sym, ◌∙◌, subst}
 use Rattle.std.specs.Prelude.{Option, ℕ}
 use Rattle.std.proofs.lemmas.Result.{err_from_is_err_and}
 use Rattle.dnp_world.specs.Controls.{CanGo, ControlEnds, are_quiet_for, is_next_for, station_in}
 use Rattle.dnp_world.specs.Systems.{System}
-use Rattle.dnp_world.proofs.SystemControls.{control_of}
+use Rattle.dnp_world.proofs.SystemControls.{control_of, not_quiet, planned}
 use Rattle.dnp_world.proofs.parts.Parts.clean_control.Goals as goal
+
+pub returns-then-not-quiet-clause-ends : goal.returns-then-not-quiet-clause-ends
+returns-then-not-quiet-clause-ends g c = λ well.
+    let old = c.args.self.now.system in (not_quiet old (station_in old c.args.id) (sym c.quiet.ensures ∙ c.if-not-quiet.true), refl)
+
+pub is_next-requires : goal.is_next-requires
+is_next-requires g c = planned c.station_of.new.self.system c.in_ok-station.station (sym c.are_quiet.ensures ∙ search rules)
 
 pub returns-in_err-station-clause-ends : goal.returns-in_err-station-clause-ends
 returns-in_err-station-clause-ends g c = λ well.

@@ -1,5 +1,7 @@
 -- One unit more is delivered, or the list stops at it.
-use Rattle.std.proofs.Common.{◌≡◌, ◌<◌, ℕ, subst, arith}
+use Rattle.std.proofs.Common.{◌≡◌, ◌<◌, ◌∙◌, ℕ, subst, arith}
+use Rattle.std.specs.Prelude.{OnErr, Result, ⊤}
+use Rattle.dnp_concentrator.specs.declared.cause.Cause.{Cause}
 use Rattle.dnp_world.specs.Rounds.{StopsFlushing, deliveries}
 use Rattle.dnp_world.specs.SystemRuns.{RunsTo}
 use Rattle.dnp_world.specs.Systems.{standing_on}
@@ -14,6 +16,7 @@ loop-preserved g c =
       ran = λ well.
           one_delivered c.args.self.now.system c.loop.self.system c.happen_by.new.self.system c.loop.counter c.args.on c.args.way
           (c.loop.invariant.ran (c.happen_by.ensures.held well)) (c.in_ok-happen_by.ensures.done well);
+      runs_on = c.in_ok-happen_by.ensures.device.runs_on (λ says. subst (λ (r : Result ⊤ Cause). OnErr r ⊥) says tt) ∙ c.loop.invariant.runs_on;
     }
 
 pub returns-in_err-happen_by-clause-stopped : goal.returns-in_err-happen_by-clause-stopped

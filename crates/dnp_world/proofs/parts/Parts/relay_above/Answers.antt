@@ -1,7 +1,6 @@
 -- What is asked of the link goes down to the concentrator, as the step of the centre's controls says.
 use Rattle.std.proofs.Common.{◌∙◌}
 use Rattle.std.proofs.lemmas.Result.{on_err_weaker}
-use Rattle.dnp_concentrator.specs.Centre.{book_of}
 use Rattle.dnp_concentrator.specs.Relaying.{step_of}
 use Rattle.dnp_world.specs.Channels.{state_of}
 use Rattle.dnp_world.specs.SystemParts.{system_of}

@@ -1,7 +1,6 @@
 -- What is asked of the link goes down to the substation, as the step of its controls says.
 use Rattle.std.proofs.Common.{refl, ap, ◌∙◌}
 use Rattle.std.proofs.lemmas.Result.{on_err_weaker}
-use Rattle.dnp_concentrator.specs.Concentrator.{book_of}
 use Rattle.dnp_concentrator.specs.Relaying.{step_of}
 use Rattle.dnp_world.specs.Channels.{ChannelState, state_of}
 use Rattle.dnp_world.specs.SystemParts.{system_of, substation_of}

@@ -3,7 +3,6 @@ use Rattle.std.proofs.lemmas.List.{take_all, length-drop}
 use Rattle.dnp_pointdb.specs.declared.state.PointState.{PointState}
 use Rattle.dnp_outstation.specs.Items.{Static, present_of, in_range, statics_from}
 use Rattle.dnp_outstation.specs.steps.Filling.{fill}
-use Rattle.dnp_outstation.specs.steps.Putting.{group_of}
 use Rattle.dnp_outstation.proofs.OfferPresent.{named_left, length_named}
 use Rattle.dnp_outstation.proofs.offer.writer.Writer.put_block.Goals as goal
 
@@ -15,11 +14,11 @@ returns-clause-written c = λ more.
     let named : List PointState = take (hi - lo) (drop lo points) in
     let passed = c.min-passed.result in
     let at = c.from.result + lo + passed in
-    let group = group_of c.args.kind in
-    let statics = λ (index : ℕ) (ps : List PointState). statics_from group c.args.number c.args.kind index ps in
+    let asked = c.args.ask.variation in
+    let statics = λ (index : ℕ) (ps : List PointState). statics_from asked c.args.number c.args.kind index ps in
     let filled = λ (xs : List Static). fill c.args.self.now (map (present_of c.args.ask.header) xs ++ more) in
     ap (λ (ps : List PointState). filled (drop c.args.skip.now (in_range c.args.ask.range (statics c.args.block.now.base ps)))) (sym c.as_slice-points.ensures)
-    ∙ ap filled (named_left c.args.ask.range group c.args.number c.args.kind c.args.block.now.base lo hi (hi - lo) c.args.skip.now passed at points
+    ∙ ap filled (named_left c.args.ask.range asked c.args.number c.args.kind c.args.block.now.base lo hi (hi - lo) c.args.skip.now passed at points
     (omega (arith, c.places-from.ensures.ordered)) c.places-from.ensures.named c.min-passed.ensures (omega (arith, c.from.ensures)))
     ∙ ap (λ (ps : List PointState). filled (statics at ps))
     (sym (take_all (length named - passed) (drop passed named) (omega (arith, length-drop passed named))))
@@ -31,11 +30,11 @@ returns-clause-skipped c =
     let hi = c.places-from.result.1 in
     let points = c.as_slice-points.result.now in
     let long : length (in_range c.args.ask.range
-    (statics_from (group_of c.args.kind) c.args.number c.args.kind c.args.block.now.base c.args.block.now.points))
+    (statics_from c.args.ask.variation c.args.number c.args.kind c.args.block.now.base c.args.block.now.points))
     ≡ length (take (hi - lo) (drop lo points)) =
     ap (λ (ps : List PointState). length (in_range c.args.ask.range
-    (statics_from (group_of c.args.kind) c.args.number c.args.kind c.args.block.now.base ps))) (sym c.as_slice-points.ensures)
-    ∙ length_named c.args.ask.range (group_of c.args.kind) c.args.number c.args.kind c.args.block.now.base lo hi (hi - lo) points
+    (statics_from c.args.ask.variation c.args.number c.args.kind c.args.block.now.base ps))) (sym c.as_slice-points.ensures)
+    ∙ length_named c.args.ask.range c.args.ask.variation c.args.number c.args.kind c.args.block.now.base lo hi (hi - lo) points
     (omega (arith, c.places-from.ensures.ordered)) c.places-from.ensures.named in
     let passed_is = c.min-passed.ensures in
     omega arith

@@ -15,13 +15,13 @@ returns-then-not-put_group-clause-written g c = λ s points panel more.
     let groups = c.args.groups.now in
     let group = get_or groups l.group-index 0 in
     let rest = drop (l.group-index + 1) groups in
-    let skip' = l.skip - length (in_range r (statics_of s group)) in
+    let skip' = l.skip - length (in_range r (statics_of s c.args.ask.variation group)) in
     sym (l.invariant.written s points panel more)
-    ∙ ap (λ (gs : List ℕ). fill l.self (presents header l.skip (in_range r (flat_map (statics_of s) gs)) ++ more))
+    ∙ ap (λ (gs : List ℕ). fill l.self (presents header l.skip (in_range r (flat_map (statics_of s c.args.ask.variation) gs)) ++ more))
     (drop_more groups l.group-index 0 (search rules))
-    ∙ ap (λ (items : List Item). fill l.self (items ++ more)) (group_first header l.skip skip' r s group rest refl)
+    ∙ ap (λ (items : List Item). fill l.self (items ++ more)) (group_first header l.skip skip' r s c.args.ask.variation group rest refl)
     ∙ puts_full l.self c.put_group.new.self c.put_group.result
-    (presents header l.skip (in_range r (statics_of s group))) (presents header skip' (in_range r (flat_map (statics_of s) rest))) more
+    (presents header l.skip (in_range r (statics_of s c.args.ask.variation group))) (presents header skip' (in_range r (flat_map (statics_of s c.args.ask.variation) rest))) more
     (c.put_group.ensures.written s points panel) (search rules)
 
 pub loop-group-preserved : goal.loop-group-preserved
@@ -36,11 +36,11 @@ loop-group-preserved g c =
     record {
       written = λ s points panel more.
           sym (puts_more l.self c.put_group.new.self c.put_group.result
-          (presents header l.skip (in_range r (statics_of s group))) (presents header skip' (in_range r (flat_map (statics_of s) rest))) more
+          (presents header l.skip (in_range r (statics_of s c.args.ask.variation group))) (presents header skip' (in_range r (flat_map (statics_of s c.args.ask.variation) rest))) more
           (c.put_group.ensures.written s points panel) (search rules))
           ∙ ap (λ (items : List Item). fill l.self (items ++ more))
-          (sym (group_first header l.skip skip' r s group rest (c.put_group.ensures.skipped s points panel (search rules))))
-          ∙ ap (λ (gs : List ℕ). fill l.self (presents header l.skip (in_range r (flat_map (statics_of s) gs)) ++ more))
+          (sym (group_first header l.skip skip' r s c.args.ask.variation group rest (c.put_group.ensures.skipped s points panel (search rules))))
+          ∙ ap (λ (gs : List ℕ). fill l.self (presents header l.skip (in_range r (flat_map (statics_of s c.args.ask.variation) gs)) ++ more))
           (sym (drop_more groups l.group-index 0 (search rules)))
           ∙ l.invariant.written s points panel more;
       response = c.put_group.ensures.response ∙ l.invariant.response;

@@ -9,8 +9,8 @@ use Rattle.dnp_outstation.proofs.offer.writer.Writer.put_groups.Given as goal
 abbrev pub invariant-loop-group : goal.invariant-loop-group
 invariant-loop-group g l = record {
   written : (s : Source) → s.points ≡ l.points → s.panel ≡ g.O.Outputs.panel l.outputs → (more : List Item)
-      → fill l.self (presents l.ask.header l.skip (in_range l.ask.range (flat_map (statics_of s) (drop l.group-index l.groups))) ++ more)
-      ≡ fill l.fn.self (presents l.ask.header l.fn.skip (in_range l.ask.range (flat_map (statics_of s) l.groups)) ++ more);
+      → fill l.self (presents l.ask.header l.skip (in_range l.ask.range (flat_map (statics_of s l.ask.variation) (drop l.group-index l.groups))) ++ more)
+      ≡ fill l.fn.self (presents l.ask.header l.fn.skip (in_range l.ask.range (flat_map (statics_of s l.ask.variation) l.groups)) ++ more);
   response : l.self.builder.function ≡ l.fn.self.builder.function;
   given : l.self.place.given ≡ l.fn.self.place.given;
 }

@@ -4,9 +4,11 @@ use Rattle.dnp_streams.proofs.stream.above.AboveStation.opened.Goals as goal
 
 pub returns-in-Err-clause-refused : goal.returns-in-Err-clause-refused
 returns-in-Err-clause-refused g c honest = record {
-  unsolicited = c.in-Err.ensures.asks refl;
+  unsolicited = c.in-Err.ensures.leaves.asks refl;
+  announced = c.in-Err.ensures.asks_announced refl;
+  rows = c.in-Err.ensures.asks_rows honest.0 refl;
   message = no_message_above c.cause_of.result c.from.result c.cause_of.ensures;
   exhausted =
       no_number_above c.cause_of.result c.from.result c.cause_of.ensures
-      (passed_on c.in-Err.fault c.from.result c.from.ensures c.in-Err.ensures.look.named);
+      (passed_on c.in-Err.fault c.from.result c.from.ensures c.in-Err.ensures.leaves.look.named);
 }

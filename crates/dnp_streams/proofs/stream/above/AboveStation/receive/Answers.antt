@@ -11,16 +11,21 @@ returns-in-Ok-clause-answered g c honest =
       does = actions_of c.receive_above.new.actions;
       step = c.in-Ok.ensures.received honest.0 honest.1;
       answered = c.answer_with.ensures;
-      idle = λ none. ap (λ outputs. panel_of g.B.Book.contents outputs) (c.in-Ok.ensures.idle none);
+      idle = λ none. ap (λ outputs. panel_of g.B.Book.contents outputs) (c.in-Ok.ensures.outputs.idle none);
       performed = λ some. record {
         before = outputs_of c.args.self.now.concentrator.now;
         after = outputs_of c.receive_above.new.self;
         shown = refl;
         shows = refl;
-        performed = c.in-Ok.ensures.performed honest.1 some;
+        performed = c.in-Ok.ensures.outputs.performed honest.1 some;
       };
     }
 
 pub returns-in-Err-clause-refused : goal.returns-in-Err-clause-refused
 returns-in-Err-clause-refused g c honest =
-    record { looked_at = c.in-Err.ensures.looked_at refl; message = no_message_above c.cause_of.result c.from.result c.cause_of.ensures }
+    record {
+      looked_at = c.in-Err.ensures.looked_at refl;
+      held = c.in-Err.ensures.asks_held refl;
+      inside = c.in-Err.ensures.asks_inside refl;
+      message = no_message_above c.cause_of.result c.from.result c.cause_of.ensures;
+    }

@@ -11,7 +11,7 @@ pub returns-clause-relayed : goal.returns-clause-relayed
 returns-clause-relayed g c honest =
     let old = c.args.self.now.concentrator.now in
     let new = c.relay.new.self in
-    let at = c.args.self.now.link in
+    let at = c.args.self.now.substation in
     let there : at < length (links_of old) = search rules in
     relayed_below c.relay.result c.args.now at (links_of old) (links_of new) (core_of old) (core_of new) (indices_of old) (indices_of new)
     (plan_above old) (plan_above new) (g.Q.Lanes.contents (queue_of old)) (g.Q.Lanes.contents (queue_of new))
@@ -22,7 +22,7 @@ returns-clause-relayed g c honest =
 pub returns-clause-refused : goal.returns-clause-refused
 returns-clause-refused g c honest =
     let old = c.args.self.now.concentrator.now in
-    let at = c.args.self.now.link in
+    let at = c.args.self.now.substation in
     let there : at < length (links_of old) = search rules in
     IfErr-weaker c.relay.result _ _ (λ fault by. record { there = there; by_book = by })
     (refused_relay (asks_book (link_at old at)) c.relay.result c.relay.ensures.unasked c.relay.ensures.named)

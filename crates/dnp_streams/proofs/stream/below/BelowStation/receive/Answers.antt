@@ -12,7 +12,7 @@ use Rattle.dnp_streams.proofs.stream.below.BelowStation.receive.Goals as goal
 pub returns-in-Ok-clause-answered : goal.returns-in-Ok-clause-answered
 returns-in-Ok-clause-answered g c honest =
     let old = c.args.self.now.concentrator.now in
-    let at = c.args.self.now.link in
+    let at = c.args.self.now.substation in
     let told = c.in-Ok.ensures in
     let there : at < length (links_of old) = search rules in
     let found = taken (taking_at old at c.args.now c.args.octets.now) c.in-Ok.actions told.refused in
@@ -27,7 +27,7 @@ returns-in-Ok-clause-answered g c honest =
 pub returns-in-Err-clause-refused : goal.returns-in-Err-clause-refused
 returns-in-Err-clause-refused g c honest =
     let old = c.args.self.now.concentrator.now in
-    let at = c.args.self.now.link in
+    let at = c.args.self.now.substation in
     let there : at < length (links_of old) = search rules in
     record {
       there = there;

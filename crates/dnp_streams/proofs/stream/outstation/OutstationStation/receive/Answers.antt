@@ -4,4 +4,9 @@ use Rattle.dnp_streams.proofs.stream.outstation.OutstationStation.receive.Goals 
 
 pub returns-in-Err-clause-refused : goal.returns-in-Err-clause-refused
 returns-in-Err-clause-refused g c honest =
-    record { looked_at = c.in-Err.ensures.looked_at refl; message = no_message_above c.cause_of.result c.in-Err.fault c.cause_of.ensures }
+    record {
+      looked_at = c.in-Err.ensures.looked_at refl;
+      held = c.in-Err.ensures.asks_held refl;
+      inside = c.in-Err.ensures.asks_inside refl;
+      message = no_message_above c.cause_of.result c.in-Err.fault c.cause_of.ensures;
+    }

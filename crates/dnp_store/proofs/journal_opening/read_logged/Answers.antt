@@ -1,7 +1,0 @@
-use Rattle.sqlite.specs.Held.{state}
-use Rattle.dnp_store.proofs.JournalOpening.{logged_if}
-use Rattle.dnp_store.proofs.journal_opening.read_logged.Goals as goal
-
-pub returns-clause-read : goal.returns-clause-read
-returns-clause-read g c clean =
-    logged_if (state g.S.Store c.args.tx.now.conn.now) (state g.S.Store c.list.new.tx.conn.now) c.list.result (c.list.ensures.shown clean)

@@ -1,0 +1,43 @@
+use Rattle.std.proofs.Common.{rules, Ok, arith, refl, sym, ap, subst, ◌∙◌}
+use Rattle.sqlite.specs.State.{HasCleanDisk}
+use Rattle.sqlite.specs.Held.{state}
+use Rattle.sqlite.specs.Effect.{Database, IsDatabase}
+use Rattle.dnp_store.specs.steps.JournalShown.{Gathers}
+use Rattle.dnp_store.proofs.Stepping.{step_then, step_as}
+use Rattle.dnp_store.proofs.JournalPaging.{none_yet}
+use Rattle.dnp_store.proofs.journal_paging.gather.Goals as goal
+
+pub loop-init : goal.loop-init
+loop-init g c = record {
+  step = search rules;
+  low = omega arith;
+  few = omega arith;
+  read = λ clean f j m sound has. (refl, none_yet _);
+}
+
+pub loop-preserved : goal.loop-preserved
+loop-preserved g c =
+    let old = state g.S.Store c.args.tx.now.conn.now in
+    let mid = state g.S.Store c.loop.tx.conn.now in
+    let new = state g.S.Store c.read_more.new.tx.conn.now in
+    let before = c.loop.so_far in
+    let more = c.in_ok-more.more in
+    record {
+      step = step_as g.S.Store c.args.tx.now.conn c.read_more.new.tx.conn more (Ok tt)
+          (step_then g.S.Store c.args.tx.now.conn c.loop.tx.conn c.read_more.new.tx.conn _ _ c.loop.invariant.step c.in_ok-more.ensures.step);
+      low = c.in_ok-more.ensures.range.0;
+      few = c.in_ok-more.ensures.range.1;
+      read = λ clean f j m sound has.
+          let early : HasCleanDisk mid = omega (arith, clean, c.read_more.ensures.step.survives.clean) in
+          let was = c.loop.invariant.read early f j m sound has in
+          let did = c.in_ok-more.ensures.read clean f j m (subst IsDatabase (sym was.0) sound) (ap (λ (d : Database). d.schema) was.0 ∙ has) in
+          (did.0 ∙ was.0, subst (λ (d : Database). Gathers (d.trees 1) before.last before.count → Gathers (d.trees 1) more.last more.count) was.0 did.1 was.1);
+    }
+
+pub returns-then-more-so_far-clause-read : goal.returns-then-more-so_far-clause-read
+returns-then-more-so_far-clause-read g c clean f j m sound has =
+    let mid = state g.S.Store c.loop.tx.conn.now in
+    let early : HasCleanDisk mid = omega (arith, clean, c.read_more.ensures.step.survives.clean) in
+    let was = c.loop.invariant.read early f j m sound has in
+    let did = c.in_ok-more.ensures.read clean f j m (subst IsDatabase (sym was.0) sound) (ap (λ (d : Database). d.schema) was.0 ∙ has) in
+    (did.0 ∙ was.0, was.1)

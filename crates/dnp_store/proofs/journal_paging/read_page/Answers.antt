@@ -1,0 +1,35 @@
+use Rattle.std.proofs.Common.{ap, ◌∙◌, arith}
+use mir.Syntax.{w64}
+use Rattle.std.proofs.lemmas.Int.{to_z_pos}
+use Rattle.sqlite.specs.declared.types.Value.TheVariants.{Int}
+use Rattle.sqlite.specs.State.{HasCleanDisk}
+use Rattle.sqlite.specs.Held.{state}
+use Rattle.dnp_store.proofs.Reading.{was_open, is_inside, keeps}
+use Rattle.dnp_store.proofs.QueueSteps.{delete_bound}
+use Rattle.dnp_store.proofs.JournalPaging.{page_if}
+use Rattle.dnp_store.proofs.journal_paging.read_page.Goals as goal
+
+pub returns-clause-step : goal.returns-clause-step
+returns-clause-step g c =
+    let old = state g.S.Store c.args.tx.now.conn.now in
+    let new = state g.S.Store c.query_all.new.self.conn.now in
+    let early = λ (clean : HasCleanDisk new).
+    (let was : HasCleanDisk old = omega (arith, clean, c.query_all.ensures.survives.clean) in c.requires.inside was) in
+    record {
+      same_reference = c.query_all.ensures.same_reference;
+      inside = λ clean. is_inside old new _ _ (early clean) c.query_all.result (c.query_all.ensures.ok clean);
+      kept = λ clean. keeps old new _ _ (early clean) c.query_all.result (c.query_all.ensures.ok clean) (c.query_all.ensures.err clean);
+      survives = c.query_all.ensures.survives;
+    }
+
+pub returns-clause-open : goal.returns-clause-open
+returns-clause-open g c clean =
+    let old = state g.S.Store c.args.tx.now.conn.now in
+    let early : HasCleanDisk old = omega (arith, clean, c.query_all.ensures.survives.clean) in
+    was_open old (state g.S.Store c.query_all.new.self.conn.now) _ _ (c.requires.inside early) c.query_all.result (c.query_all.ensures.ok clean)
+
+pub returns-clause-read : goal.returns-clause-read
+returns-clause-read g c clean =
+    page_if (state g.S.Store c.args.tx.now.conn.now) (state g.S.Store c.query_all.new.self.conn.now) c.args.from 1000 _
+    (delete_bound _ _ c.args.from 1000 (c.params-to_sql.ensures ∙ ap Int (to_z_pos w64 c.args.from (omega (arith, c.requires.from)))) c.params-to_sql-2.ensures)
+    c.query_all.result (c.query_all.ensures.ok clean)

@@ -1,0 +1,24 @@
+use Rattle.std.proofs.Common.{take, arith, sym, ap, subst, ◌∙◌}
+use Rattle.std.proofs.lemmas.List.{take_more}
+use Rattle.sqlite.specs.State.{HasCleanDisk}
+use Rattle.sqlite.specs.Held.{state}
+use Rattle.dnp_eventbuf.specs.Archive.{with_events}
+use Rattle.dnp_store.specs.JournalTables.{IsJournal}
+use Rattle.dnp_store.proofs.JournalHolding.{with-append}
+use Rattle.dnp_store.proofs.Stepping.{step_then}
+use Rattle.dnp_store.proofs.journal_writing.insert_each.Goals as goal
+
+pub loop-row-preserved : goal.loop-row-preserved
+loop-row-preserved g c =
+    let mid = state g.S.Store c.loop-row.tx.conn.now in
+    let new = state g.S.Store c.insert.new.tx.conn.now in record {
+      step = step_then g.S.Store c.args.tx.now.conn c.loop-row.tx.conn c.insert.new.tx.conn _ _ c.loop-row.invariant.step c.in_ok-insert.ensures.step;
+      added = λ clean.
+          let early : HasCleanDisk mid = omega (arith, c.insert.ensures.step.survives.clean) in
+          let was = c.loop-row.invariant.added early in
+          λ a held.
+          let before = take c.loop-row.row-index c.args.events.now in
+          let did = c.in_ok-insert.ensures.added clean (with_events a before) (was a held) in
+          subst (λ t. IsJournal new.now t)
+          (with-append a before _ ∙ sym (ap (with_events a) (take_more c.args.events.now c.loop-row.row-index _ c.loop-row-test.true))) did;
+    }

@@ -1,0 +1,42 @@
+use Rattle.std.proofs.Common.{Ok, length-set, map, ap, sym, subst, ◌∙◌, arith}
+use Rattle.std.proofs.lemmas.List.{take_all}
+use Rattle.std.proofs.lemmas.List.Elements.{recursion_from_All}
+use Rattle.sqlite.specs.Values.{bound}
+use Rattle.sqlite.specs.Held.{state}
+use Rattle.sqlite.specs.State.{HasCleanDisk, Executes}
+use Rattle.dnp_eventbuf.specs.Carried.{IsCarried}
+use Rattle.dnp_store.specs.steps.Steps.{cells_of}
+use Rattle.dnp_store.proofs.QueueStatements.{insert_params}
+use Rattle.dnp_store.proofs.Holding.{queued_for}
+use Rattle.dnp_store.proofs.Sixteen.{given_all, given_more}
+use Rattle.dnp_store.proofs.QueueMany.{insert_text_16, holds_16}
+use Rattle.dnp_store.proofs.queue_statements.insert_many.Goals as goal
+
+pub loop-number-preserved : goal.loop-number-preserved
+loop-number-preserved g c =
+    let k = c.loop-number.number in
+    let x = c.index-rows-number.result in
+    let so_far = c.loop-number.invariant in
+    let rows = c.args.rows.now in
+    let here = c.cells.ensures ∙ ap (λ n. cells_of n x.row) c.number.ensures.value ∙ ap (λ y. insert_params (queued_for 0 y)) c.index-rows-number.is in
+    record {
+      long = length-set c.loop-number.given k c.cells.result ∙ so_far.long;
+      given = given_more (queued_for 0) rows c.loop-number.given k x c.cells.result (omega (arith, so_far.long))
+          (omega (arith, c.requires.sixteen)) here so_far.given;
+    }
+
+pub returns-clause-added : goal.returns-clause-added
+returns-clause-added g c clean s figures nine holds =
+    let old = state g.S.Store c.args.tx.now.conn.now in
+    let new = state g.S.Store c.execute.new.self.conn.now in
+    let early : HasCleanDisk old = omega (arith, c.execute.ensures.survives.clean) in
+    let xs = c.args.rows.now in
+    let n = c.loop-number.number in
+    let all = c.loop-number.invariant in
+    let cells = take_all n c.loop-number.given (omega (arith, all.long)) in
+    let rows = take_all n xs (omega (arith, c.requires.sixteen)) in
+    let given = given_all (queued_for 0) xs c.loop-number.given
+    (ap (map bound) (sym cells) ∙ all.given ∙ ap (map (λ x. insert_params (queued_for 0 x))) rows) in
+    let ran = c.in_ok-execute.ensures.runs clean (c.requires.inside early) in
+    holds_16 old new s figures xs c.in_ok-execute.field-0 nine c.requires.sixteen (recursion_from_All IsCarried xs c.requires.carried)
+    (subst (λ ps. Executes insert_text_16 ps old new (Ok c.in_ok-execute.field-0)) (ap bound c.as_flattened.ensures.value ∙ given) ran.0) holds

@@ -1,0 +1,24 @@
+use Rattle.std.proofs.Common.{rules, ◌≡◌, ◌+◌, ◌++◌, [], ◌∷◌, take, arith, sym, ap, subst, ◌∙◌}
+use Rattle.std.proofs.lemmas.List.{take_more}
+use Rattle.sqlite.specs.State.{HasCleanDisk}
+use Rattle.sqlite.specs.Held.{state}
+use Rattle.dnp_store.specs.QueueTables.{HoldsQueue}
+use Rattle.dnp_store.specs.steps.Steps.{all_added}
+use Rattle.dnp_store.proofs.Appending.{added-push, nine_added}
+use Rattle.dnp_store.proofs.Stepping.{step_then}
+use Rattle.dnp_store.proofs.queue_writing.insert_each.Goals as goal
+
+pub loop-x-preserved : goal.loop-x-preserved
+loop-x-preserved g c =
+    let mid = state g.S.Store c.loop-x.tx.conn.now in
+    let new = state g.S.Store c.insert.new.tx.conn.now in record {
+      step = step_then g.S.Store c.args.tx.now.conn c.loop-x.tx.conn c.insert.new.tx.conn _ _ c.loop-x.invariant.step c.in_ok-insert.ensures.step;
+      added = λ clean.
+          let early : HasCleanDisk mid = omega (arith, c.insert.ensures.step.survives.clean) in
+          let was = c.loop-x.invariant.added early in
+          λ s figures nine held.
+          let before = take c.loop-x.x-index c.args.rows.now in
+          let more : take (c.loop-x.x-index + 1) c.args.rows.now ≡ before ++ c.x-item.result ∷ [] = search (rules, take_more) in
+          let did = c.in_ok-insert.ensures.added clean (all_added s before) figures (nine_added s before ∙ nine) (was s figures nine held) in
+          subst (λ t. HoldsQueue new.now t figures) (sym (ap (all_added s) more ∙ added-push s before _)) did;
+    }

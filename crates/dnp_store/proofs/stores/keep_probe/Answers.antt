@@ -1,0 +1,30 @@
+use Rattle.std.proofs.Common.{rules, [], inl, arith, ◌∙◌}
+use Rattle.sqlite.specs.State.{HasCleanDisk}
+use Rattle.sqlite.specs.Held.{state}
+use Rattle.sqlite.proofs.InsideLemmas.{unchanged_keeps}
+use Rattle.dnp_store.proofs.Standing.{keeps_commit}
+use Rattle.dnp_store.proofs.stores.keep_probe.Goals as goal
+
+pub returns-clause-step : goal.returns-clause-step
+returns-clause-step g c =
+    let old = state g.S.Store c.args.tx.now.conn.now in
+    let new = state g.S.Store c.prepare.new.self.conn.now in
+    record {
+      same_reference = c.prepare.ensures.same_reference;
+      inside = λ clean.
+          let was : HasCleanDisk old = omega (arith, clean, c.prepare.ensures.survives.clean) in
+          (c.in_ok-_nothing.ensures.ok clean).1.0.mode ∙ c.requires.inside was;
+      kept = λ clean. unchanged_keeps old new (inl (c.in_ok-_nothing.ensures.ok clean).1);
+      survives = c.prepare.ensures.survives;
+    }
+
+pub returns-in_err-_nothing-clause-step : goal.returns-in_err-_nothing-clause-step
+returns-in_err-_nothing-clause-step g c =
+    let old = state g.S.Store c.args.tx.now.conn.now in
+    let new = state g.S.Store c.prepare.new.self.conn.now in
+    record {
+      same_reference = c.prepare.ensures.same_reference;
+      inside = search rules;
+      kept = λ clean. keeps_commit old new _ [] _ (c.in_err-_nothing.ensures.err clean []);
+      survives = c.prepare.ensures.survives;
+    }

@@ -1,0 +1,11 @@
+use Rattle.std.proofs.Common.{arith, sym, subst}
+use Rattle.sqlite.specs.State.{HasCleanDisk}
+use Rattle.sqlite.specs.Held.{state}
+use Rattle.dnp_store.specs.steps.Stores.{HasNumber}
+use Rattle.dnp_store.proofs.stores.make_store.Goals as goal
+
+pub returns-clause-made : goal.returns-clause-made
+returns-clause-made g c clean none =
+    let mid = state g.S.Store c.make_tables.new.tx.conn.now in
+    let early : HasCleanDisk mid = omega (arith, clean, c.keep_probe.ensures.step.survives.clean) in
+    subst (HasNumber c.args.kind) (sym (c.in_ok-keep_probe.ensures.same clean)) (c.in_ok-make_tables.ensures.made early none)

@@ -1,0 +1,131 @@
+//! The rows of a journal's table, a page at a time, so that what an open needs of memory doesn't grow with the
+//! journal.
+
+ghost use Rattle.std.specs.Prelude.{◌≡◌, ◌≤◌, ◌+◌, ℕ, IsTrue, OnOk, IfOk, List, [], length, pos, slice_index_or};
+ghost use Rattle.sqlite.specs.declared.types.Value.TheVariants.{Int};
+ghost use Rattle.sqlite.specs.Held.{state};
+ghost use Rattle.sqlite.specs.Order.{column};
+ghost use Rattle.sqlite.specs.State.{HasCleanDisk};
+ghost use Rattle.dnp_objects.specs.declared.limits.TheConstants as limits;
+ghost use Rattle.dnp_eventbuf.specs.declared.numbered.Numbered.{Numbered};
+ghost use Rattle.dnp_store.specs.steps.Inside.{IsInside, IsStep};
+ghost use Rattle.dnp_store.specs.steps.JournalShown.{AreInOrder, Gathers, HasCount, LogsMany, ShowEvents};
+ghost use Rattle.dnp_store.specs.steps.Stores.{Reads};
+
+use crate::decoding::whole;
+use crate::fault::Unread;
+use crate::journal_decoding::{events_in, last_in_order};
+use crate::store_kind::StoreKind;
+use crate::stores::list;
+use sqlite::{Alter, Error, Row, Transaction, params};
+use std::alloc::Global;
+
+/// How many rows a page has at most.
+const PAGE: u32 = 1000;
+
+/// The rows that were looked at so far.
+#[derive(Clone, Copy)]
+pub(crate) struct Gathered {
+    /// The id of the last of them, or 0.
+    pub(crate) last: u64,
+    /// How many they are.
+    pub(crate) count: u64,
+}
+
+/// The first rows of `journal` with ids over a number, by their ids.
+fn read_page<S: Alter>(tx: &mut Transaction<'_, S>, from: u64) -> Result<Vec<Row>, Error>
+    requires inside { IsInside S.Store tx.old.conn }
+    requires from { from ≤ limits.MAX_ID }
+    ensures step { IsStep S.Store tx.old.conn tx.new.conn result }
+    ensures open { HasCleanDisk (state S.Store tx.new.conn.now) → OnOk result (IsTrue (state S.Store tx.old.conn.now).is_open) }
+    ensures read { HasCleanDisk (state S.Store tx.new.conn.now) → IfOk result (λ rows. Reads StoreKind.Journal (state S.Store tx.old.conn.now) (state S.Store tx.new.conn.now) (λ db. (events : List Numbered) (last count : ℕ)
+        → ShowEvents rows.items events → AreInOrder from last events → from ≤ last → Gathers (db 1) from count → Gathers (db 1) last (count + length events))) }
+{
+    let from = from as i64;
+    let most = PAGE;
+    tx.query_all(
+        "SELECT id, kind, point, flags, value, time FROM journal WHERE id > ?1 ORDER BY id LIMIT ?2",
+        params![from, most],
+    )
+}
+
+/// The rows that were looked at, with those of the next page, which is empty where none is left.
+fn read_more<S: Alter>(
+    tx: &mut Transaction<'_, S>,
+    alloc: Global,
+    so_far: Gathered,
+) -> Result<Gathered, Unread>
+    requires inside { IsInside S.Store tx.old.conn }
+    requires range { (so_far.last ≤ limits.MAX_ID) × (so_far.count ≤ so_far.last) }
+    ensures step { IsStep S.Store tx.old.conn tx.new.conn result }
+    ensures open { HasCleanDisk (state S.Store tx.new.conn.now) → OnOk result (IsTrue (state S.Store tx.old.conn.now).is_open) }
+    ensures range { IfOk result (λ more. (more.last ≤ limits.MAX_ID) × (more.count ≤ more.last)) }
+    ensures read { HasCleanDisk (state S.Store tx.new.conn.now) → IfOk result (λ more. Reads StoreKind.Journal (state S.Store tx.old.conn.now) (state S.Store tx.new.conn.now)
+        (λ db. Gathers (db 1) so_far.last so_far.count → Gathers (db 1) more.last more.count)) }
+{
+    let rows = read_page(tx, so_far.last)?;
+    let events = events_in(alloc, &rows)?;
+    let Some(last) = last_in_order(&events, so_far.last) else {
+        return Err(Unread::Form);
+    };
+    let count = so_far.count + events.len() as u64;
+    Ok(Gathered { last, count })
+}
+
+/// What `SELECT count(*)` shows of `journal`.
+fn read_count<S: Alter>(tx: &mut Transaction<'_, S>) -> Result<Vec<Row>, Error>
+    requires inside { IsInside S.Store tx.old.conn }
+    ensures step { IsStep S.Store tx.old.conn tx.new.conn result }
+    ensures open { HasCleanDisk (state S.Store tx.new.conn.now) → OnOk result (IsTrue (state S.Store tx.old.conn.now).is_open) }
+    ensures read { HasCleanDisk (state S.Store tx.new.conn.now) → IfOk result (λ rows. Reads StoreKind.Journal (state S.Store tx.old.conn.now) (state S.Store tx.new.conn.now)
+        (λ db. (n : ℕ) → column (slice_index_or rows.items 0 []) 0 ≡ Int (pos n) → HasCount (db 1) n)) }
+{
+    list(tx, "SELECT count(*) FROM journal")
+}
+
+/// Whether the only row shows this number.
+fn shows_count(rows: &[Row], n: u64) -> bool
+    ensures { IsTrue result → column (slice_index_or rows.now 0 []) 0 ≡ Int (pos n) }
+{
+    rows.len() == 1 && whole(&rows[0], 0) == Some(n)
+}
+
+/// Looks at all rows: how many they are, and the greatest id.
+fn gather<S: Alter>(tx: &mut Transaction<'_, S>, alloc: Global) -> Result<Gathered, Unread>
+    requires inside { IsInside S.Store tx.old.conn }
+    ensures step { IsStep S.Store tx.old.conn tx.new.conn result }
+    ensures range { IfOk result (λ found. (found.last ≤ limits.MAX_ID) × (found.count ≤ found.last)) }
+    ensures read { HasCleanDisk (state S.Store tx.new.conn.now) → IfOk result (λ found. Reads StoreKind.Journal (state S.Store tx.old.conn.now) (state S.Store tx.new.conn.now)
+        (λ db. Gathers (db 1) found.last found.count)) }
+{
+    let mut so_far = Gathered { last: 0, count: 0 };
+    for _ in 0..u64::MAX {
+        let more = read_more(tx, alloc, so_far)?;
+        if more.count == so_far.count {
+            break;
+        }
+        so_far = more;
+    }
+    Ok(so_far)
+}
+
+/// Looks at the rows of `journal`, each once: how many they are, and the greatest id.
+pub(crate) fn read_logged<S: Alter>(
+    tx: &mut Transaction<'_, S>,
+    alloc: Global,
+) -> Result<Gathered, Unread>
+    requires inside { IsInside S.Store tx.old.conn }
+    ensures step { IsStep S.Store tx.old.conn tx.new.conn result }
+    ensures open { HasCleanDisk (state S.Store tx.new.conn.now) → OnOk result (IsTrue (state S.Store tx.old.conn.now).is_open) }
+    ensures range { IfOk result (λ found. (found.last ≤ limits.MAX_ID) × (found.count ≤ found.last)) }
+    ensures read { HasCleanDisk (state S.Store tx.new.conn.now) → IfOk result (λ found. Reads StoreKind.Journal (state S.Store tx.old.conn.now) (state S.Store tx.new.conn.now)
+        (λ db. (last : ℕ) → found.last ≤ last → LogsMany db found.count last)) }
+{
+    let found = gather(tx, alloc)?;
+    let counted = read_count(tx)?;
+    if shows_count(&counted, found.count) {
+        Ok(found)
+    } else {
+        Err(Unread::Form)
+    }
+}
