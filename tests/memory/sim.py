@@ -53,7 +53,7 @@ def main():
     ends = {0: 0, 3: 0}
     for number in range(1, count + 1, step):
         status, printed, said, _, kept = run(number, library, report)
-        good = printed == whole if status == 0 else status == 3 and said.startswith("dnp: ") and is_beginning(printed, whole)
+        good = printed == whole if status == 0 else status == 3 and said.startswith(("dnp: ", "error: ")) and is_beginning(printed, whole)
         if not good or kept:
             bad.append(f"request {number}: exit status {status}, {kept} blocks kept, {printed!r}, {said!r}")
         else:
