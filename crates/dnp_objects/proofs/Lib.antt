@@ -6,6 +6,7 @@ pub mod FirstFaults
 pub mod Given
 pub mod Lines
 pub mod ReadEvents
+pub mod Relatives
 pub mod RowFaults
 pub mod Spelling
 pub mod Values

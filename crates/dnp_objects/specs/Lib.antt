@@ -7,6 +7,7 @@ pub mod Faults
 pub mod Lanes
 pub mod Objects
 pub mod Parts
+pub mod Relative
 pub mod Rows
 pub mod Status
 pub mod Stores

@@ -67,6 +67,7 @@ objects =
     row 1 2 Binary flagged 0 untimed
     ∷ row 2 1 Binary flagged 0 untimed
     ∷ row 2 2 Binary flagged 0 timed
+    ∷ other 2 3 3
     ∷ written_row 10 2 Binary flagged 0 untimed
     ∷ block 12 1
     ∷ row 20 1 Counter flagged 4 untimed
@@ -90,6 +91,8 @@ objects =
     ∷ setpoint 41 1 4
     ∷ setpoint 41 2 2
     ∷ other 50 1 6
+    ∷ other 51 1 6
+    ∷ other 51 2 6
     ∷ other 52 2 2
     ∷ other 60 1 0
     ∷ other 60 2 0

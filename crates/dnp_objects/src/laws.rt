@@ -9,6 +9,7 @@ ghost use Rattle.dnp_objects.specs.Objects.{content_of, content_size, object_siz
 ghost use Rattle.dnp_objects.specs.Parts.{row_of, command_of};
 ghost use Rattle.dnp_objects.specs.Rows.{Fits, Reads, Writes, carried, written};
 ghost use Rattle.dnp_objects.specs.Events.{IsEvent};
+ghost use Rattle.dnp_objects.specs.Relative.{FitsRelative, IsRelative, relative_octets, relative_row};
 ghost use Rattle.dnp_objects.specs.Commands.{ReadsCommand, IsInRange, carrier, object_of, index_of, command_octets};
 ghost use Rattle.dnp_objects.specs.Lanes.{IsLane, lane_number};
 ghost use Rattle.dnp_objects.specs.declared.row.Row.{Row};
@@ -173,4 +174,13 @@ pub fn limits_have_their_values()
 /// Two lanes of one number are of one class and one kind.
 pub fn a_number_is_of_one_lane()
     ensures { (a b : Lane) → lane_number a ≡ lane_number b → IsLane a b.class b.kind }
+{}
+
+/// A row that was written after a common time is read as itself, and octets that are read so are those that
+/// the row is written as.
+pub fn a_relative_row_is_read()
+    ensures read { (common : ℕ) (row : Row) → FitsRelative common row
+        → relative_row row.index (relative_octets common row) common ≡ row }
+    ensures written { (index common : ℕ) (octets : List ℕ) (row : Row) → IsRelative index octets common row
+        → octets ≡ relative_octets common row }
 {}

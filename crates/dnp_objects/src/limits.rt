@@ -9,6 +9,10 @@ pub const MAX_FRAGMENT: usize = 2048;
 /// Std 1815-2012, object library: DNP3TIME).
 pub const MAX_TIME: u64 = 1 << 48;
 
+/// The most milliseconds that a time stands after its common time: a relative time has 2 octets (IEEE Std
+/// 1815-2012, object library: group 2 variation 3).
+pub const MAX_RELATIVE: u64 = 0xFFFF;
+
 /// The kinds of points that have events: binary inputs, counters, analog inputs (IEEE Std 1815-2012,
 /// object library: groups 2, 22 and 32).
 pub const KINDS: usize = 3;

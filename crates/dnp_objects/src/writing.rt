@@ -63,7 +63,7 @@ pub(crate) fn row_fits(shape: Shape, row: &Row) -> bool
 /// Appends the lowest octets of the number, the lowest first. It stands in its callers, where the width
 /// is a constant.
 #[inline(always)]
-fn push_number<const N: usize>(octets: &mut ArrayVec<u8, N>, number: u64, width: usize)
+pub(crate) fn push_number<const N: usize>(octets: &mut ArrayVec<u8, N>, number: u64, width: usize)
     requires width { width ≤ 8 }
     requires room { array_vec_len octets.old + width ≤ N }
     ensures items { octets.new.items ≡ octets.old.items ++ little_bytes width number }
@@ -75,7 +75,7 @@ fn push_number<const N: usize>(octets: &mut ArrayVec<u8, N>, number: u64, width:
 }
 
 /// The flags octet: a binary's value is its bit 7.
-fn flags_octet(shape: Shape, row: &Row) -> u8
+pub(crate) fn flags_octet(shape: Shape, row: &Row) -> u8
     requires value { IsTrue (spec.value_fits shape.kind shape.width row.now.value) }
     requires flags { IsTrue (spec.flags_fit shape.kind shape.flags row.now.flags) }
     ensures { result ≡ spec.flags_octet shape.kind row.now.flags row.now.value }
