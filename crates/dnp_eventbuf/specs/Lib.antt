@@ -5,6 +5,7 @@ pub mod Calls
 pub mod Carried
 pub mod Latest
 pub mod Restored
+pub mod Sides
 pub mod SinkCalls
 pub mod Sound
 pub mod Stock
