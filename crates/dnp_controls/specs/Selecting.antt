@@ -53,6 +53,11 @@ IsRunning select time now = now < deadline select.at time
 abbrev pub HasEnded : Select → ℕ → ℕ → Type 0
 HasEnded select time now = deadline select.at time ≤ now
 
+-- the octets of the objects of the select that stands, where its timer still runs
+abbrev pub running : Option Select → ℕ → ℕ → Option (List ℕ)
+running None now time = None
+running (Some select) now time = if nat_lt now (deadline select.at time) then Some select.octets else None
+
 -- the status of an OPERATE, by the select that stands and its timer's time
 abbrev pub answer : Option Select → ℕ → ℕ → List ℕ → ℕ → ℕ
 answer None now seq octets time = status.no_select

@@ -1,7 +1,7 @@
 //! The select that an OPERATE needs.
 
-ghost use Rattle.std.specs.Prelude.{◌≡◌, ◌≤◌, List, [], ◌∷◌, None, Some, length};
-ghost use Rattle.dnp_controls.specs.Selecting.{SelectCall, Selecting, Operating, Forgetting, Stands, answer};
+ghost use Rattle.std.specs.Prelude.{◌≡◌, ◌≤◌, List, [], ◌∷◌, None, Some, length, option_copied};
+ghost use Rattle.dnp_controls.specs.Selecting.{SelectCall, Selecting, Operating, Forgetting, Stands, answer, running};
 
 use crate::limits::SEQUENCE_NUMBERS;
 use arrayvec::ArrayVec;
@@ -102,6 +102,17 @@ impl Selects {
             return Status::TIMEOUT;
         }
         Status::SUCCESS
+    }
+
+    /// The octets of the objects of the select that stands at the moment `now`, where a select stands for `select_ms`
+    /// milliseconds: none where none stands, or its timer has ended.
+    pub fn standing(&self, now: u64, select_ms: u64) -> Option<&[u8]>
+        ensures { option_copied result ≡ running self.now now select_ms }
+    {
+        if !self.stands || now >= self.kept.at.saturating_add(select_ms) {
+            return None;
+        }
+        Some(self.kept.octets.as_slice())
     }
 
     /// The same status, by `answer`. The select is forgotten, whatever the status.
