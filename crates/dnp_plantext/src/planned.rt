@@ -10,13 +10,13 @@ ghost use Rattle.dnp_plantext.specs.PlanText.{IsPlanOf, IsRefusedFor};
 use crate::plan_text::{PlanTextFault, read_plan};
 use dnp_concentrator::SubPlan;
 use dnp_controls::PlainOutputs;
-use dnp_eventbuf::PlainLanes;
+use dnp_eventbuf::RingLanes;
 use dnp_outstation::Outstation;
 use dnp_pointdb::{PointDb, Times};
 use std::alloc::{AllocError, Global};
 
 /// An outstation with its lanes and its outputs in memory.
-pub type PlannedOutstation = Outstation<PlainLanes, PlainOutputs>;
+pub type PlannedOutstation = Outstation<RingLanes, PlainOutputs>;
 
 /// The outstation of a substation, closed as after a restart, with its lanes and its outputs in memory. Refused out of
 /// memory alone.
@@ -29,7 +29,7 @@ fn outstation_of(
     ensures { IfOk result (spec.IsOutstationOf substation.now times) }
 {
     let points = PointDb::new(alloc, substation.points(alloc)?)?;
-    let lanes = PlainLanes::new(alloc, substation.lanes)?;
+    let lanes = RingLanes::new(alloc, substation.lanes)?;
     let outputs = PlainOutputs::new(alloc, substation.outputs, substation.setpoints);
     Ok(Outstation::new(points, lanes, outputs, times))
 }

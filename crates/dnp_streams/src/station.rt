@@ -9,7 +9,7 @@ ghost use Rattle.dnp_streams.specs.steps.Appended.{AreAppended};
 
 use crate::units::{push_fragments, push_line};
 use dnp_controls::NoOutputs;
-use dnp_eventbuf::PlainLanes;
+use dnp_eventbuf::RingLanes;
 use dnp_line::{Port, Taken};
 use dnp_linkframe::Frame;
 use dnp_objects::LANES;
@@ -32,7 +32,7 @@ fn answered(alloc: Global, fragment: &[u8]) -> Result<Actions, AllocError>
 {
     let plan = PointPlan::new(Vec::new(alloc), Vec::new(alloc), Vec::new(alloc)).unwrap();
     let points = PointDb::new(alloc, plan)?;
-    let lanes = PlainLanes::new(alloc, [1; LANES])?;
+    let lanes = RingLanes::new(alloc, [1; LANES])?;
     let mut station = Outstation::new(points, lanes, NoOutputs, TIMES);
     let Ok(_) = station.opened(alloc, 0) else {
         return Err(AllocError);

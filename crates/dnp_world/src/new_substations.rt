@@ -10,7 +10,7 @@ use crate::substation::Substation;
 use dnp_concentrator::addresses::{MASTER_BELOW, outstation_address};
 use dnp_concentrator::{Plan, SubPlan};
 use dnp_controls::PlainOutputs;
-use dnp_eventbuf::PlainLanes;
+use dnp_eventbuf::RingLanes;
 use dnp_outstation::Outstation;
 use dnp_pointdb::{PointDb, Times};
 use std::alloc::{AllocError, Global};
@@ -26,7 +26,7 @@ fn new_substation(
     ensures { IfOk result (λ substation. substation_of substation ≡ fresh_substation times number plan.now) }
 {
     let points = PointDb::new(alloc, plan.points(alloc)?)?;
-    let lanes = PlainLanes::new(alloc, plan.lanes)?;
+    let lanes = RingLanes::new(alloc, plan.lanes)?;
     let outputs = PlainOutputs::new(alloc, plan.outputs, plan.setpoints);
     Ok(Substation {
         outstation: Outstation::new(points, lanes, outputs, times),

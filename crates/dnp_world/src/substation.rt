@@ -22,7 +22,7 @@ use crate::sending::{FRAGMENT_UNITS, send_all};
 use crate::station_list::StationList;
 use dnp_concentrator::Cause;
 use dnp_controls::{MAX_COMMANDS, PlainOutputs};
-use dnp_eventbuf::PlainLanes;
+use dnp_eventbuf::RingLanes;
 use dnp_objects::{Kind, Row};
 use dnp_outstation::link_laws::{
     a_confirm_releases_what_its_fragment_reported, commands_are_performed_as_they_are_asked,
@@ -35,7 +35,7 @@ use std::alloc::Global;
 /// A substation, with the lines between it and the concentrator.
 #[derive(Drop)]
 pub(crate) struct Substation {
-    pub outstation: Outstation<PlainLanes, PlainOutputs>,
+    pub outstation: Outstation<RingLanes, PlainOutputs>,
     pub channel: Channel,
 }
 
