@@ -1,10 +1,14 @@
-//! Event lanes that overflow, step by step, in lists, in rings and in a database in memory.
+//! Event lanes that overflow, step by step, in lists, in rings, in a database in memory and as a side of lanes for two
+//! centres.
 
 ghost use Rattle.std.specs.Prelude.{◌≡◌, true, All};
 ghost use Rattle.dnp_eventbuf.specs.Carried.{IsCarried};
 
 use Step::{Append, Counts, Empty, Offer, Release};
-use dnp_eventbuf::{Lane, LaneRow, Lanes, PlainLanes, RingLanes, StoreFault, Upto, is_carried};
+use dnp_eventbuf::{
+    Lane, LaneRow, Lanes, PairLanes, PlainLanes, PlainPair, RingLanes, Side, StoreFault, Upto,
+    is_carried,
+};
 use dnp_objects::Row;
 use dnp_store::Queue;
 use std::alloc::Global;
@@ -167,5 +171,76 @@ fn lanes_step_by_step(rt: HostRuntime) -> Result<(), Fail> {
         .ok()
         .expect(&rt, "a queue");
     assert_eq!(rt; first_wrong(&mut lanes, alloc)?, None, "a database");
+    Ok(())
+}
+
+/// Puts rows with these indices into lane 0 for both centres, and tells whether these are dropped for the first and for the
+/// second.
+fn puts_to_both<P: PairLanes>(
+    pair: &mut P,
+    alloc: Global,
+    indices: [u16; 2],
+    first: &[u16],
+    second: &[u16],
+) -> Result<bool, StoreFault> {
+    let Some(lane) = Lane::numbered(0) else {
+        return Ok(false);
+    };
+    let rows = [event(lane, indices[0]), event(lane, indices[1])];
+    if !all_carried(&rows) {
+        return Ok(false);
+    }
+    let dropped = pair.append_both(alloc, &rows)?;
+    Ok(are(&dropped.0, first) && are(&dropped.1, second))
+}
+
+/// Whether the lanes for a centre do the step as it says.
+fn side_does<P: PairLanes>(
+    pair: &mut P,
+    alloc: Global,
+    is_second: bool,
+    step: Step<'_>,
+) -> Result<bool, StoreFault> {
+    let mut side = Side::new(pair, u8::from(is_second));
+    does(&mut side, alloc, step)
+}
+
+#[test]
+fn lanes_for_two_centres(rt: HostRuntime) -> Result<(), Fail> {
+    let alloc = rt.alloc();
+    let mut pair = PlainPair::new(alloc, CAPACITIES, [4; 9])?;
+    let wrong = first_wrong(&mut Side::new(&mut pair, 0), alloc)?;
+    assert_eq!(rt; wrong, None, "the first centre's");
+    assert!(rt;
+        side_does(&mut pair, alloc, true, Counts(0, 0, 0, 0, false))?,
+        "the second's are empty"
+    );
+    // The first centre's lane 0 holds the row 118, and takes two.
+    assert!(rt;
+        puts_to_both(&mut pair, alloc, [201, 202], &[118], &[])?,
+        "both"
+    );
+    assert!(rt;
+        side_does(
+            &mut pair,
+            alloc,
+            false,
+            Offer(0, 0, 9, &[(24, 201), (25, 202)])
+        )?,
+        "the first's ids go on"
+    );
+    assert!(rt;
+        side_does(
+            &mut pair,
+            alloc,
+            true,
+            Release([1, 0, 0, 0, 0, 0, 0, 0, 0], &[201])
+        )?,
+        "the second's begin"
+    );
+    assert!(rt;
+        side_does(&mut pair, alloc, false, Counts(0, 2, 25, 6, true))?,
+        "the first's stay"
+    );
     Ok(())
 }
