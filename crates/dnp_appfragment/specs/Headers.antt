@@ -1,6 +1,6 @@
 -- Definition: object headers with their objects, and their one spelling in octets (IEEE Std 1815-2012,
 -- application layer: object headers). A fragment's headers divide its octets.
-use Rattle.std.specs.Prelude.{◌≡◌, ℕ, ◌+◌, ◌-◌, ◌*◌, ◌/◌, ◌%◌, ◌^◌, ◌<◌, ◌≤◌, Bool, true, false, if◌then◌else◌, List, [], ◌∷◌, ◌++◌, length, Option, Some, None, ⊤}
+use Rattle.std.specs.Prelude.{◌≡◌, ℕ, ◌+◌, ◌-◌, ◌*◌, ◌/◌, ◌%◌, ◌^◌, ◌<◌, ◌≤◌, Bool, true, false, if◌then◌else◌, List, [], ◌∷◌, ◌++◌, length, Option, Some, None, ⊤, fold}
 use Rattle.std.specs.List.{flat_map}
 use Rattle.dnp_objects.specs.Objects.{object_size}
 use Rattle.dnp_appfragment.specs.declared.header.Range.{Range}
@@ -111,19 +111,27 @@ Context = ⊤
 abbrev pub begin : Context
 begin = tt
 
-abbrev pub behind : Context → Head → Context
-behind context h = context
+abbrev pub context_after : Context → Head → Context
+context_after context h = context
+
+-- after all of these
+abbrev pub context_past : Context → List Head → Context
+context_past context hs = fold context_after context hs
 
 -- each is a header where it stands
 abbrev pub AreHeaders : Form → Context → List Head → Type 0
 AreHeaders f context [] = ⊤
-AreHeaders f context (h ∷ hs) = IsHeader f h × AreHeaders f (behind context h) hs
+AreHeaders f context (h ∷ hs) = IsHeader f h × AreHeaders f (context_after context h) hs
 
 -- their octets in order
 abbrev pub spelled : List Head → List ℕ
 spelled hs = flat_map header_octets hs
 
--- the headers divide the octets
-pub record Divide (f : Form) (octets : List ℕ) (hs : List Head) : Type 0 where
-  pub each : AreHeaders f begin hs
+-- the headers divide the octets, where they stand
+pub record DivideFrom (f : Form) (context : Context) (octets : List ℕ) (hs : List Head) : Type 0 where
+  pub each : AreHeaders f context hs
   pub whole : octets ≡ spelled hs
+
+-- and as the first of a fragment
+abbrev pub Divide : Form → List ℕ → List Head → Type 0
+Divide f octets hs = DivideFrom f begin octets hs
