@@ -133,6 +133,34 @@ enough (suc n) (suc m) f context (b ∷ octets) small small' =
         ap (onto h.0) (same (context_after context h.0) h.1 (omega (arith, fewer)) (omega (arith, fewer)))
     go same (Err e) fewer = refl
 
+-- ---- no header depends on those before it yet
+
+header_any : (f : Form) (context other : Context) (octets : List ℕ) → header_at f context octets ≡ header_at f other octets
+unfolding header_at
+header_any f context other [] = refl
+header_any f context other (g ∷ []) = refl
+header_any f context other (g ∷ v ∷ []) = refl
+header_any f context other (g ∷ v ∷ q ∷ octets) = refl
+
+headers_any : (n : ℕ) (f : Form) (context other : Context) (octets : List ℕ) → headers_in n f context octets ≡ headers_in n f other octets
+unfolding headers_in
+headers_any zero f context other [] = refl
+headers_any zero f context other (b ∷ octets) = refl
+headers_any (suc n) f context other [] = refl
+headers_any (suc n) f context other (b ∷ octets) =
+    ap (λ (r : Result (Head × List ℕ) AppFault). r >>= λ (h : Head × List ℕ). onto h.0 (headers_in n f (context_after context h.0) h.1))
+    (header_any f context other (b ∷ octets)) ∙ go (λ here there rest. headers_any n f here there rest) (header_at f other (b ∷ octets))
+  where
+    go : ((here there : Context) (rest : List ℕ) → headers_in n f here rest ≡ headers_in n f there rest)
+        → (r : Result (Head × List ℕ) AppFault)
+        → (r >>= λ (h : Head × List ℕ). onto h.0 (headers_in n f (context_after context h.0) h.1))
+        ≡ (r >>= λ (h : Head × List ℕ). onto h.0 (headers_in n f (context_after other h.0) h.1))
+    go same (Ok h) = ap (onto h.0) (same (context_after context h.0) (context_after other h.0) h.1)
+    go same (Err e) = refl
+
+pub any_context : (f : Form) (context other : Context) (octets : List ℕ) → headers_from f context octets ≡ headers_from f other octets
+any_context f context other octets = headers_any (length octets) f context other octets
+
 -- ---- the first step, and the others
 
 pub headers_none : (f : Form) (context : Context) → headers_from f context [] ≡ Ok []
@@ -162,12 +190,17 @@ fault_onto h (Ok hs) = refl
 fault_onto h (Err e) = refl
 
 -- after a header in order, the first fault is the first fault of all
-pub fault_on : (f : Form) (context : Context) (octets : List ℕ) (h : Head × List ℕ) → 0 < length octets → header_at f context octets ≡ Ok h
+fault_on : (f : Form) (context : Context) (octets : List ℕ) (h : Head × List ℕ) → 0 < length octets → header_at f context octets ≡ Ok h
     → fault_of (headers_from f (context_after context h.0) h.1) ≡ fault_of (headers_from f context octets)
 fault_on f context octets h some is =
     let step = headers_step f context octets some in
     let next = λ (r : Result (Head × List ℕ) AppFault). fault_of (others f context r) in
     fault_onto h.0 (headers_from f (context_after context h.0) h.1) ∙ sym (ap next is) ∙ sym (ap fault_of step)
+
+pub fault_any : (f : Form) (context other : Context) (octets : List ℕ) (h : Head × List ℕ) → 0 < length octets → header_at f context octets ≡ Ok h
+    → fault_of (headers_from f other h.1) ≡ fault_of (headers_from f context octets)
+fault_any f context other octets h some is =
+    ap fault_of (any_context f other (context_after context h.0) h.1) ∙ fault_on f context octets h some is
 
 -- where none is in order, that is the first fault
 pub stops : (f : Form) (context : Context) (octets : List ℕ) (e : AppFault) → 0 < length octets → header_at f context octets ≡ Err e
@@ -219,7 +252,7 @@ first_and_others : (h : Head) (r : Result (List Head) AppFault) → is_ok (r >>=
 first_and_others h (Ok hs) is = (refl, refl)
 first_and_others h (Err e) is = cc
 
-pub one_off : (f : Form) (context : Context) (octets : List ℕ) (h : Head × List ℕ) → 0 < length octets → header_at f context octets ≡ Ok h
+one_off : (f : Form) (context : Context) (octets : List ℕ) (h : Head × List ℕ) → 0 < length octets → header_at f context octets ≡ Ok h
     → IsTrue (is_whole f context octets)
     → IsTrue (is_whole f (context_after context h.0) h.1) × (headers_left f context octets ≡ h.0 ∷ headers_left f (context_after context h.0) h.1)
 one_off f context octets h some is whole =
@@ -227,6 +260,12 @@ one_off f context octets h some is whole =
     headers_step f context octets some ∙ ap (others f context) is in
     let both = first_and_others h.0 (headers_from f (context_after context h.0) h.1) (subst (λ (r : Result (List Head) AppFault). is_ok r ≡ true) same whole) in
     (both.0, ap (λ (r : Result (List Head) AppFault). result_unwrap_or r []) same ∙ both.1)
+
+pub one_off_any : (f : Form) (context other : Context) (octets : List ℕ) (h : Head × List ℕ) → 0 < length octets → header_at f context octets ≡ Ok h
+    → IsTrue (is_whole f context octets) → IsTrue (is_whole f other h.1) × (headers_left f context octets ≡ h.0 ∷ headers_left f other h.1)
+one_off_any f context other octets h some is whole =
+    subst (λ (r : Result (List Head) AppFault). IsTrue (is_ok r) × (headers_left f context octets ≡ h.0 ∷ result_unwrap_or r []))
+    (any_context f (context_after context h.0) other h.1) (one_off f context octets h some is whole)
 
 -- where headers divide the octets, one stands at the front
 pub front_whole : (f : Form) (context : Context) (octets : List ℕ) → 0 < length octets → IsTrue (is_whole f context octets)

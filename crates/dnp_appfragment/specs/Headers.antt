@@ -1,7 +1,8 @@
 -- Definition: object headers with their objects, and their one spelling in octets (IEEE Std 1815-2012,
 -- application layer: object headers). A fragment's headers divide its octets.
-use Rattle.std.specs.Prelude.{◌≡◌, ℕ, ◌+◌, ◌-◌, ◌*◌, ◌/◌, ◌%◌, ◌^◌, ◌<◌, ◌≤◌, Bool, true, false, if◌then◌else◌, List, [], ◌∷◌, ◌++◌, length, Option, Some, None, ⊤, fold}
+use Rattle.std.specs.Prelude.{◌≡◌, ℕ, ◌+◌, ◌-◌, ◌*◌, ◌/◌, ◌%◌, ◌^◌, ◌<◌, ◌≤◌, ◌==◌, Bool, true, false, ◌&&◌, ◌||◌, nat_le, if◌then◌else◌, List, drop, [], ◌∷◌, ◌++◌, length, Option, Some, None, ⊤, fold}
 use Rattle.std.specs.List.{flat_map}
+use Rattle.byteorder.specs.Endian.{little_number}
 use Rattle.dnp_objects.specs.Objects.{object_size}
 use Rattle.dnp_appfragment.specs.declared.header.Range.{Range}
 use Rattle.dnp_appfragment.specs.declared.header.Range.TheVariants as range
@@ -102,17 +103,25 @@ pub record IsHeader (f : Form) (h : Head) : Type 0 where
 
 -- ---- headers, one after the other
 
--- what the headers before one say for it. Nothing yet: a common time, to which times of rows after it are
--- relative, will be a field of it
+-- what the headers before one say for it: the common time, after which the times of rows are given, if there is one
 abbrev pub Context : Type 0
-Context = ⊤
+Context = Option ℕ
 
--- before the first header, and after one more
+-- before the first header
 abbrev pub begin : Context
-begin = tt
+begin = None
 
+-- a header of common times: 51.1, and 51.2 of a clock that isn't synchronized
+abbrev pub is_common : Head → Bool
+is_common h = (h.group == 51) && ((h.variation == 1) || (h.variation == 2))
+
+-- the last of them
+abbrev pub last_time : Head → ℕ
+last_time h = little_number 6 (drop (6 * (count_of h.range - 1)) h.octets)
+
+-- after one more: an empty header of common times leaves the common time as it was, and so do all others
 abbrev pub context_after : Context → Head → Context
-context_after context h = context
+context_after context h = if is_common h && nat_le 1 (count_of h.range) then Some (last_time h) else context
 
 -- after all of these
 abbrev pub context_past : Context → List Head → Context

@@ -2,7 +2,7 @@ use Rattle.std.proofs.Common.{◌≡◌, ◌<◌, length, sym, ◌∙◌, eqb-tr
 use Rattle.std.proofs.lemmas.Result.{err_from_is_err_and}
 use Rattle.dnp_appfragment.specs.Headers.{begin}
 use Rattle.dnp_appfragment.specs.Reading.{headers_at}
-use Rattle.dnp_appfragment.proofs.Walk.{fewer_left, fault_on, all_read, all_whole, fault_of_all, none_left, not_empty}
+use Rattle.dnp_appfragment.proofs.Walk.{fewer_left, fault_any, all_read, all_whole, fault_of_all, none_left, not_empty}
 use Rattle.dnp_appfragment.proofs.headers.Headers.new.Goals as goal
 
 pub loop-rest-smaller : goal.loop-rest-smaller
@@ -11,7 +11,7 @@ loop-rest-smaller c = fewer_left c.args.form begin c.loop-rest.rest.now _ (c.in_
 pub loop-rest-preserved : goal.loop-rest-preserved
 loop-rest-preserved c =
     let some : 0 < length c.loop-rest.rest.now = not_empty c.loop-rest.rest.now (sym c.is_empty.ensures ∙ c.loop-rest-test.true) in
-    fault_on c.args.form begin c.loop-rest.rest.now _ some (c.in_ok-after.ensures).gives ∙ c.loop-rest.invariant
+    fault_any c.args.form begin begin c.loop-rest.rest.now _ some (c.in_ok-after.ensures).gives ∙ c.loop-rest.invariant
 
 pub returns-in_err-after-clause-gives : goal.returns-in_err-after-clause-gives
 unfolding headers_at
