@@ -11,20 +11,27 @@ use Rattle.dnp_appfragment.specs.declared.function.Function.{Function}
 use Rattle.dnp_appfragment.specs.declared.run.Run.{Run}
 use Rattle.dnp_appfragment.specs.declared.table.Form.{Form}
 use Rattle.dnp_appfragment.specs.Table.{form_of, is_response}
-use Rattle.dnp_appfragment.specs.Headers.{Head, header_octets, spelled, IsHeader, Divide, AreHeaders, begin}
+use Rattle.dnp_appfragment.specs.Headers.{Head, header_octets, spelled, IsHeader, Context, Divide, AreHeaders, begin, context_after, context_past}
 use Rattle.dnp_appfragment.specs.Left.{headers_of}
 use Rattle.dnp_appfragment.specs.Built.{Built, front_size, heads, size, broken, with_header}
 use Rattle.dnp_appfragment.specs.steps.Building.{run_head, built, IsBuilt}
-use Rattle.dnp_appfragment.proofs.Divisions.{divided_headers}
+use Rattle.dnp_appfragment.proofs.Divisions.{divided_from}
 
 -- ---- lists of headers
 
 pub headers_are : (f : Form) (octets : List ℕ) (hs : List Head) → Divide f octets hs → headers_of f octets ≡ hs
-headers_are f octets hs divide = ap (λ (r : Result (List Head) AppFault). result_unwrap_or r []) (divided_headers f octets hs divide)
+headers_are f octets hs divide = ap (λ (r : Result (List Head) AppFault). result_unwrap_or r []) (divided_from f begin octets hs divide)
 
-each-append : (f : Form) (hs gs : List Head) → AreHeaders f begin hs → AreHeaders f begin gs → AreHeaders f begin (hs ++ gs)
-each-append f [] gs some others = others
-each-append f (h ∷ hs) gs some others = (some.0, each-append f hs gs some.1 others)
+pub each-append : (f : Form) (context : Context) (hs gs : List Head) → AreHeaders f context hs → AreHeaders f (context_past context hs) gs
+    → AreHeaders f context (hs ++ gs)
+each-append f context [] gs some others = others
+each-append f context (h ∷ hs) gs some others = (some.0, each-append f (context_after context h) hs gs some.1 others)
+
+-- and each of the two lists by itself, where it stands
+pub each-parts : (f : Form) (context : Context) (hs gs : List Head) → AreHeaders f context (hs ++ gs)
+    → AreHeaders f context hs × AreHeaders f (context_past context hs) gs
+each-parts f context [] gs all = (tt, all)
+each-parts f context (h ∷ hs) gs all = let rest = each-parts f (context_after context h) hs gs all.1 in ((all.0, rest.0), rest.1)
 
 pub spelled-append : (hs gs : List Head) → spelled (hs ++ gs) ≡ spelled hs ++ spelled gs
 spelled-append hs gs = flat_map-append header_octets hs gs
@@ -36,7 +43,7 @@ spelled-one h = append-nil (header_octets h)
 pub divide-one : (f : Form) (octets now : List ℕ) (hs : List Head) (h : Head) → Divide f octets hs → IsHeader f h
     → now ≡ octets ++ header_octets h → Divide f now (hs ++ h ∷ [])
 divide-one f octets now hs h divide is whole = record {
-  each = each-append f hs (h ∷ []) divide.each (is, tt);
+  each = each-append f begin hs (h ∷ []) divide.each (is, tt);
   whole =
       whole ∙ (λ i. divide.whole i ++ sym (spelled-one h) i) ∙ sym (spelled-append hs (h ∷ []));
 }
@@ -59,17 +66,17 @@ is_built f octets run objects hs divide run_is room = record {
   room = subst (λ (b : Built). size b ≤ MAX_FRAGMENT) (sym (built_is f octets run objects hs divide)) room;
 }
 
-run_each : (f : Form) (run : Option Run) (objects : List ℕ) → IfSome run (λ r. IsHeader f (run_head objects r))
-    → AreHeaders f begin (option_to_list (option_map (run_head objects) run))
-run_each f None objects is = tt
-run_each f (Some run) objects is = (is, tt)
+run_each : (f : Form) (context : Context) (run : Option Run) (objects : List ℕ) → IfSome run (λ r. IsHeader f (run_head objects r))
+    → AreHeaders f context (option_to_list (option_map (run_head objects) run))
+run_each f context None objects is = tt
+run_each f context (Some run) objects is = (is, tt)
 
 -- each header put is one of its function
 pub is_heads : (f : Function) (octets : List ℕ) (run : Option Run) (objects : List ℕ) → IsBuilt f octets run objects
     → AreHeaders (form_of f) begin (heads (built f octets run objects))
 is_heads f octets run objects is =
-    each-append (form_of f) (headers_of (form_of f) octets) (option_to_list (option_map (run_head objects) run)) is.divides.each
-    (run_each (form_of f) run objects is.run_is)
+    each-append (form_of f) begin (headers_of (form_of f) octets) (option_to_list (option_map (run_head objects) run)) is.divides.each
+    (run_each (form_of f) (context_past begin (headers_of (form_of f) octets)) run objects is.run_is)
 
 -- ---- nothing yet
 

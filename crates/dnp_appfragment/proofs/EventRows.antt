@@ -13,13 +13,13 @@ use Rattle.dnp_appfragment.specs.declared.fault.AppFault.{AppFault}
 use Rattle.dnp_appfragment.specs.declared.table.Form.{Form}
 use Rattle.dnp_appfragment.specs.declared.table.Form.TheVariants as form
 use Rattle.dnp_appfragment.specs.EventRows.{header_rows, is_event_group, is_event_header, event_rows, events_in}
-use Rattle.dnp_appfragment.specs.Headers.{Head, AreHeaders, IsHeader, begin, count_of, header_octets, octets_of, prefix_size, qualifier_of, range_octets, spelled}
-use Rattle.dnp_appfragment.specs.Left.{is_whole, headers_of}
+use Rattle.dnp_appfragment.specs.Headers.{Head, AreHeaders, IsHeader, Context, context_after, count_of, header_octets, octets_of, prefix_size, qualifier_of, range_octets, spelled}
+use Rattle.dnp_appfragment.specs.Left.{is_whole, headers_left}
 use Rattle.dnp_appfragment.specs.Meaning.{row_in}
 use Rattle.dnp_appfragment.specs.Objects.{HasRows}
-use Rattle.dnp_appfragment.specs.Reading.{headers_at}
+use Rattle.dnp_appfragment.specs.Reading.{headers_from}
 use Rattle.dnp_appfragment.specs.Table.{Rule, allows, form_eq, rules, takes_of}
-use Rattle.dnp_appfragment.proofs.Divisions.{ReadsHeaders, headers_read}
+use Rattle.dnp_appfragment.proofs.Divisions.{ReadsHeaders, headers_read_from}
 use Rattle.dnp_appfragment.proofs.Numbers.{AreOctets}
 use Rattle.dnp_appfragment.proofs.TableLines.{line_of}
 use Rattle.dnp_appfragment.proofs.Walked.{row_there_in}
@@ -130,10 +130,10 @@ counted h is event = go (takes_of form.Response h.group h.variation) refl is.obj
 -- ---- all headers
 
 -- of headers of a response there are no more event rows than octets
-pub few_events : (hs : List Head) → AreHeaders form.Response begin hs → length (events_in hs) ≤ length (spelled hs)
-few_events [] are = omega arith
-few_events (h ∷ hs) are =
-    let more = few_events hs are.1 in
+pub few_events : (context : Context) (hs : List Head) → AreHeaders form.Response context hs → length (events_in hs) ≤ length (spelled hs)
+few_events context [] are = omega arith
+few_events context (h ∷ hs) are =
+    let more = few_events (context_after context h) hs are.1 in
     let one = go (is_event_header h) refl in
     omega (
       arith,
@@ -155,34 +155,43 @@ few_events (h ∷ hs) are =
 
 -- what is left of headers whose event rows are being counted: they are so many in all, and so many were counted
 pub record IsCounting (all : ℕ) (headers : List Head) (count : ℕ) : Type 0 where
-  pub each : AreHeaders form.Response begin headers
+  pub context : Context
+  pub each : AreHeaders form.Response context headers
   pub adds : count + length (events_in headers) ≡ all
 
 -- one header more: of so many, where it is of events
 pub events_counted : (all count : ℕ) (h : Head) (rest headers : List Head) → headers ≡ h ∷ rest → is_event_header h ≡ true → IsCounting all headers count
     → IsCounting all rest (count + count_of h.range)
 events_counted all count h rest headers is event counting =
-    let each : AreHeaders form.Response begin (h ∷ rest) = subst (AreHeaders form.Response begin) is counting.each in
+    let each : AreHeaders form.Response counting.context (h ∷ rest) = subst (AreHeaders form.Response counting.context) is counting.each in
     let one = counted h each.0 event in
     let whole : length (events_in headers) ≡ length (header_rows h ++ events_in rest) =
     ap (λ (hs : List Head). length (events_in hs)) is ∙ ap (λ (b : Bool). length (cond b (header_rows h) [] ++ events_in rest)) event in
-    record { each = each.1; adds = omega (arith, counting.adds, whole, one.rows, length-append (header_rows h) (events_in rest)) }
+    record {
+      context = context_after counting.context h;
+      each = each.1;
+      adds = omega (arith, counting.adds, whole, one.rows, length-append (header_rows h) (events_in rest));
+    }
 
 pub others_passed : (all count : ℕ) (h : Head) (rest headers : List Head) → headers ≡ h ∷ rest → is_event_header h ≡ false → IsCounting all headers count
     → IsCounting all rest count
 others_passed all count h rest headers is event counting =
-    let each : AreHeaders form.Response begin (h ∷ rest) = subst (AreHeaders form.Response begin) is counting.each in
+    let each : AreHeaders form.Response counting.context (h ∷ rest) = subst (AreHeaders form.Response counting.context) is counting.each in
     let whole : length (events_in headers) ≡ length (events_in rest) =
     ap (λ (hs : List Head). length (events_in hs)) is ∙ ap (λ (b : Bool). length (cond b (header_rows h) [] ++ events_in rest)) event in
-    record { each = each.1; adds = omega (arith, counting.adds, whole) }
+    record {
+      context = context_after counting.context h;
+      each = each.1;
+      adds = omega (arith, counting.adds, whole);
+    }
 
 -- headers that divide octets have no more event rows than those are
-pub whole_few : (f : Form) (octets : List ℕ) → AreOctets octets → IsTrue (is_whole f octets) → AreHeaders form.Response begin (headers_of f octets)
-    → length (events_in (headers_of f octets)) ≤ length octets
-whole_few f octets are whole each =
-    let divides : octets ≡ spelled (headers_of f octets) = go (headers_at f octets) (headers_read f octets are) whole in
-    omega (arith, few_events (headers_of f octets) each, ap (λ (bs : List ℕ). length bs) divides)
+pub whole_few : (f : Form) (context given : Context) (octets : List ℕ) → AreOctets octets → IsTrue (is_whole f context octets)
+    → AreHeaders form.Response given (headers_left f context octets) → length (events_in (headers_left f context octets)) ≤ length octets
+whole_few f context given octets are whole each =
+    let divides : octets ≡ spelled (headers_left f context octets) = go (headers_from f context octets) (headers_read_from f context octets are) whole in
+    omega (arith, few_events given (headers_left f context octets) each, ap (λ (bs : List ℕ). length bs) divides)
   where
-    go : (r : Result (List Head) AppFault) → ReadsHeaders f octets r → is_ok r ≡ true → octets ≡ spelled (result_unwrap_or r [])
+    go : (r : Result (List Head) AppFault) → ReadsHeaders f context octets r → is_ok r ≡ true → octets ≡ spelled (result_unwrap_or r [])
     go (Ok hs) reads is = reads.whole
     go (Err e) reads is = cc

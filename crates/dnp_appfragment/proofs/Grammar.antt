@@ -8,7 +8,7 @@ use Rattle.dnp_appfragment.specs.declared.fault.AppFault.TheVariants.{Short, Fun
 use Rattle.dnp_appfragment.specs.declared.header.Range.{Range}
 use Rattle.dnp_appfragment.specs.declared.table.Form.{Form}
 use Rattle.dnp_appfragment.specs.Table.{takes_of, allows, IsInTable}
-use Rattle.dnp_appfragment.specs.Headers.{Head, head_of, qualifier_of, range_octets, IsForward, objects_size, header_octets, IsHeader}
+use Rattle.dnp_appfragment.specs.Headers.{Head, head_of, qualifier_of, range_octets, IsForward, objects_size, header_octets, IsHeader, Context}
 use Rattle.dnp_appfragment.specs.Faults.{IsHeaderFault}
 use Rattle.dnp_appfragment.specs.Reading.{◌>>=◌, range_at, taken, objects_at, header_at}
 use Rattle.dnp_appfragment.proofs.Numbers.{AreOctets}
@@ -26,13 +26,14 @@ cut_off g v r size octets = (head_of g v r (take size octets), drop size octets)
 
 -- ---- what is read
 
-abbrev pub ReadsHeader : Form → List ℕ → Result (Head × List ℕ) AppFault → Type 0
-ReadsHeader f octets (Ok x) = IsHeader f x.0 × (octets ≡ header_octets x.0 ++ x.1) × AreOctets x.1
-ReadsHeader f octets (Err e) = IsHeaderFault f octets e
+abbrev pub ReadsHeader : Form → Context → List ℕ → Result (Head × List ℕ) AppFault → Type 0
+ReadsHeader f context octets (Ok x) = IsHeader f x.0 × (octets ≡ header_octets x.0 ++ x.1) × AreOctets x.1
+ReadsHeader f context octets (Err e) = IsHeaderFault f context octets e
 
-objects_read : (f : Form) (g v q : ℕ) (body : List ℕ) (r : Range) (rest : List ℕ) → IsInTable f g v q → IsRangeOf q body r rest → IsForward r
-    → AreOctets rest → ReadsHeader f (g ∷ v ∷ q ∷ body) (objects_at f g v r rest)
-objects_read f g v q body r rest object is forward are = go (nat_lt (length rest) (objects_size f g v r)) refl
+objects_read : (f : Form) (context : Context) (g v q : ℕ) (body : List ℕ) (r : Range) (rest : List ℕ)
+    → IsInTable f g v q → IsRangeOf q body r rest → IsForward r
+    → AreOctets rest → ReadsHeader f context (g ∷ v ∷ q ∷ body) (objects_at f g v r rest)
+objects_read f context g v q body r rest object is forward are = go (nat_lt (length rest) (objects_size f g v r)) refl
   where
     size : ℕ
     size = objects_size f g v r
@@ -49,7 +50,7 @@ objects_read f g v q body r rest object is forward are = go (nat_lt (length rest
         ∙ sym (append_assoc (range_octets r) (take (objects_size f g v r) rest) (drop (objects_size f g v r) rest))
 
     go : (few : Bool) → nat_lt (length rest) (objects_size f g v r) ≡ few
-        → ReadsHeader f (g ∷ v ∷ q ∷ body) (cond few (Err ObjectsCut) (Ok (cut_off g v r (objects_size f g v r) rest)))
+        → ReadsHeader f context (g ∷ v ∷ q ∷ body) (cond few (Err ObjectsCut) (Ok (cut_off g v r (objects_size f g v r) rest)))
     go true few = record {
       group = g;
       variation = v;
@@ -68,12 +69,12 @@ objects_read f g v q body r rest object is forward are = go (nat_lt (length rest
           AreOctets-drop (objects_size f g v r) rest are,
         )
 
-range_read : (f : Form) (g v q : ℕ) (body : List ℕ) → IsInTable f g v q → (r : Result (Range × List ℕ) AppFault) → ReadsRange q body r
-    → ReadsHeader f (g ∷ v ∷ q ∷ body) (r >>= λ (x : Range × List ℕ). objects_at f g v x.0 x.1)
-range_read f g v q body object (Ok x) reads = objects_read f g v q body x.0 x.1 object reads.0 reads.1 reads.2
-range_read f g v q body object (Err HeaderCut) reads =
+range_read : (f : Form) (context : Context) (g v q : ℕ) (body : List ℕ) → IsInTable f g v q → (r : Result (Range × List ℕ) AppFault) → ReadsRange q body r
+    → ReadsHeader f context (g ∷ v ∷ q ∷ body) (r >>= λ (x : Range × List ℕ). objects_at f g v x.0 x.1)
+range_read f context g v q body object (Ok x) reads = objects_read f context g v q body x.0 x.1 object reads.0 reads.1 reads.2
+range_read f context g v q body object (Err HeaderCut) reads =
     inr (record { group = g; variation = v; qualifier = q; rest = body; whole = refl; object = object; few = reads })
-range_read f g v q body object (Err RangeBackward) reads = record {
+range_read f context g v q body object (Err RangeBackward) reads = record {
   group = g;
   variation = v;
   range = reads.range;
@@ -83,30 +84,32 @@ range_read f g v q body object (Err RangeBackward) reads = record {
   fits = reads.is.fits;
   backward = reads.backward;
 }
-range_read f g v q body object (Err QualifierUnknown) reads = let is : known q ≡ true = in_table_known f g v q object in cc
-range_read f g v q body object (Err Short) reads = absurd reads
-range_read f g v q body object (Err FunctionUnknown) reads = absurd reads
-range_read f g v q body object (Err ObjectUnknown) reads = absurd reads
-range_read f g v q body object (Err ObjectsCut) reads = absurd reads
+range_read f context g v q body object (Err QualifierUnknown) reads = let is : known q ≡ true = in_table_known f g v q object in cc
+range_read f context g v q body object (Err Short) reads = absurd reads
+range_read f context g v q body object (Err FunctionUnknown) reads = absurd reads
+range_read f context g v q body object (Err ObjectUnknown) reads = absurd reads
+range_read f context g v q body object (Err ObjectsCut) reads = absurd reads
 
-object_read : (f : Form) (g v q : ℕ) (body : List ℕ) → AreOctets body → (o : Option (List ℕ)) → takes_of f g v ≡ o
-    → ReadsHeader f (g ∷ v ∷ q ∷ body) (taken o q >>= λ (t : List ℕ). range_at q body >>= λ (x : Range × List ℕ). objects_at f g v x.0 x.1)
-object_read f g v q body are None is = record { group = g; variation = v; qualifier = q; rest = body; whole = refl; unknown = is }
-object_read f g v q body are (Some t) is = go (allows t q) refl
+object_read : (f : Form) (context : Context) (g v q : ℕ) (body : List ℕ) → AreOctets body → (o : Option (List ℕ)) → takes_of f g v ≡ o
+    → ReadsHeader f context (g ∷ v ∷ q ∷ body) (taken o q >>= λ (t : List ℕ). range_at q body >>= λ (x : Range × List ℕ). objects_at f g v x.0 x.1)
+object_read f context g v q body are None is = record { group = g; variation = v; qualifier = q; rest = body; whole = refl; unknown = is }
+object_read f context g v q body are (Some t) is = go (allows t q) refl
   where
     go : (b : Bool) → allows t q ≡ b
-        → ReadsHeader f (g ∷ v ∷ q ∷ body) (cond b (Ok t) (Err QualifierUnknown) >>= λ (t : List ℕ). range_at q body >>= λ (x : Range × List ℕ). objects_at f g v x.0 x.1)
+        → ReadsHeader f context (g ∷ v ∷ q ∷ body)
+        (cond b (Ok t) (Err QualifierUnknown) >>= λ (t : List ℕ). range_at q body >>= λ (x : Range × List ℕ). objects_at f g v x.0 x.1)
     go true allowed =
         let object : IsInTable f g v q = subst (λ (o : Option (List ℕ)). IsSomeAnd o (λ t. IsTrue (allows t q))) (sym is) allowed in
-        range_read f g v q body object (range_at q body) (range_reads q body are)
+        range_read f context g v q body object (range_at q body) (range_reads q body are)
     go false allowed = record { group = g; variation = v; qualifier = q; rest = body; takes = t; whole = refl; object = is; unknown = allowed }
 
-pub header_reads : (f : Form) (octets : List ℕ) → 0 < length octets → AreOctets octets → ReadsHeader f octets (header_at f octets)
+pub header_reads : (f : Form) (context : Context) (octets : List ℕ) → 0 < length octets → AreOctets octets
+    → ReadsHeader f context octets (header_at f context octets)
 unfolding header_at
-header_reads f [] some are = absurd (omega arith)
-header_reads f (g ∷ []) some are = inl (record { some = omega arith; few = omega arith })
-header_reads f (g ∷ v ∷ []) some are = inl (record { some = omega arith; few = omega arith })
-header_reads f (g ∷ v ∷ q ∷ body) some are = object_read f g v q body are.1.1.1 (takes_of f g v) refl
+header_reads f context [] some are = absurd (omega arith)
+header_reads f context (g ∷ []) some are = inl (record { some = omega arith; few = omega arith })
+header_reads f context (g ∷ v ∷ []) some are = inl (record { some = omega arith; few = omega arith })
+header_reads f context (g ∷ v ∷ q ∷ body) some are = object_read f context g v q body are.1.1.1 (takes_of f g v) refl
 
 -- ---- and what is spelled is read
 
@@ -115,22 +118,22 @@ taken_from None q is = absurd is
 taken_from (Some t) q is = (t, ap (λ (b : Bool). cond b (Ok t) (Err QualifierUnknown)) is)
 
 -- the object stands in the table: then the range decides
-in_table : (f : Form) (g v q : ℕ) (body : List ℕ) → IsInTable f g v q
-    → header_at f (g ∷ v ∷ q ∷ body) ≡ (range_at q body >>= λ (x : Range × List ℕ). objects_at f g v x.0 x.1)
+in_table : (f : Form) (context : Context) (g v q : ℕ) (body : List ℕ) → IsInTable f g v q
+    → header_at f context (g ∷ v ∷ q ∷ body) ≡ (range_at q body >>= λ (x : Range × List ℕ). objects_at f g v x.0 x.1)
 unfolding header_at
-in_table f g v q body object =
+in_table f context g v q body object =
     let found = taken_from (takes_of f g v) q object in
     ap (λ (r : Result (List ℕ) AppFault). r >>= λ (t : List ℕ). range_at q body >>= λ (x : Range × List ℕ). objects_at f g v x.0 x.1) found.1
 
 -- and the range is one: then the objects do
-in_range : (f : Form) (g v : ℕ) (r : Range) (rest : List ℕ) → IsInTable f g v (qualifier_of r) → IsForward r
-    → header_at f (g ∷ v ∷ qualifier_of r ∷ (range_octets r ++ rest)) ≡ objects_at f g v r rest
-in_range f g v r rest object forward =
-    in_table f g v (qualifier_of r) (range_octets r ++ rest) object
+in_range : (f : Form) (context : Context) (g v : ℕ) (r : Range) (rest : List ℕ) → IsInTable f g v (qualifier_of r) → IsForward r
+    → header_at f context (g ∷ v ∷ qualifier_of r ∷ (range_octets r ++ rest)) ≡ objects_at f g v r rest
+in_range f context g v r rest object forward =
+    in_table f context g v (qualifier_of r) (range_octets r ++ rest) object
     ∙ ap (λ (x : Result (Range × List ℕ) AppFault). x >>= λ (x : Range × List ℕ). objects_at f g v x.0 x.1) (range_again r rest forward)
 
-pub header_again : (f : Form) (h : Head) (rest : List ℕ) → IsHeader f h → header_at f (header_octets h ++ rest) ≡ Ok (h, rest)
-header_again f h rest is =
+pub header_again : (f : Form) (context : Context) (h : Head) (rest : List ℕ) → IsHeader f h → header_at f context (header_octets h ++ rest) ≡ Ok (h, rest)
+header_again f context h rest is =
     let size = objects_size f h.group h.variation h.range in
     let joined : header_octets h ++ rest ≡ h.group ∷ h.variation ∷ qualifier_of h.range ∷ (range_octets h.range ++ (h.octets ++ rest)) =
     ap (λ (t : List ℕ). h.group ∷ h.variation ∷ qualifier_of h.range ∷ t) (append_assoc (range_octets h.range) h.octets rest) in
@@ -138,53 +141,53 @@ header_again f h rest is =
     le-ltb (length (h.octets ++ rest)) size (omega (arith, length-append h.octets rest, is.objects)) in
     let first : take size (h.octets ++ rest) ≡ h.octets = take_at h.octets rest size is.objects in
     let last : drop size (h.octets ++ rest) ≡ rest = drop_at h.octets rest size is.objects in
-    ap (header_at f) joined
-    ∙ in_range f h.group h.variation h.range (h.octets ++ rest) is.object is.forward
+    ap (header_at f context) joined
+    ∙ in_range f context h.group h.variation h.range (h.octets ++ rest) is.object is.forward
     ∙ ap (λ (b : Bool). cond b (Err ObjectsCut) (Ok (head_of h.group h.variation h.range (take size (h.octets ++ rest)), drop size (h.octets ++ rest)))) room
     ∙ (λ i. Ok (head_of h.group h.variation h.range (first i), last i))
 
-fault_at : (f : Form) (octets : List ℕ) (e : AppFault) → IsHeaderFault f octets e → header_at f octets ≡ Err e
+fault_at : (f : Form) (context : Context) (octets : List ℕ) (e : AppFault) → IsHeaderFault f context octets e → header_at f context octets ≡ Err e
 unfolding header_at
-fault_at f octets HeaderCut (inl stub) = short octets stub.some stub.few
+fault_at f context octets HeaderCut (inl stub) = short octets stub.some stub.few
   where
-    short : (octets : List ℕ) → 0 < length octets → length octets < 3 → header_at f octets ≡ Err HeaderCut
+    short : (octets : List ℕ) → 0 < length octets → length octets < 3 → header_at f context octets ≡ Err HeaderCut
     short [] some few = refl
     short (g ∷ []) some few = refl
     short (g ∷ v ∷ []) some few = refl
     short (g ∷ v ∷ q ∷ body) some few = absurd (omega arith)
-fault_at f octets HeaderCut (inr is) =
-    ap (header_at f) is.whole ∙ in_table f is.group is.variation is.qualifier is.rest is.object
+fault_at f context octets HeaderCut (inr is) =
+    ap (header_at f context) is.whole ∙ in_table f context is.group is.variation is.qualifier is.rest is.object
     ∙ ap (λ (x : Result (Range × List ℕ) AppFault). x >>= λ (x : Range × List ℕ). objects_at f is.group is.variation x.0 x.1) (range_short is.qualifier is.rest is.few)
-fault_at f octets ObjectUnknown is =
-    ap (header_at f) is.whole
+fault_at f context octets ObjectUnknown is =
+    ap (header_at f context) is.whole
     ∙ ap (λ (o : Option (List ℕ)). taken o is.qualifier >>= λ (t : List ℕ). range_at is.qualifier is.rest >>= λ (x : Range × List ℕ). objects_at f is.group is.variation x.0 x.1) is.unknown
-fault_at f octets QualifierUnknown is =
-    ap (header_at f) is.whole
+fault_at f context octets QualifierUnknown is =
+    ap (header_at f context) is.whole
     ∙ ap (λ (o : Option (List ℕ)). taken o is.qualifier >>= λ (t : List ℕ). range_at is.qualifier is.rest >>= λ (x : Range × List ℕ). objects_at f is.group is.variation x.0 x.1) is.object
     ∙ ap (λ (b : Bool). cond b (Ok is.takes) (Err QualifierUnknown) >>= λ (t : List ℕ). range_at is.qualifier is.rest >>= λ (x : Range × List ℕ). objects_at f is.group is.variation x.0 x.1) is.unknown
-fault_at f octets RangeBackward is =
-    ap (header_at f) is.whole ∙ in_table f is.group is.variation (qualifier_of is.range) (range_octets is.range ++ is.rest) is.object
+fault_at f context octets RangeBackward is =
+    ap (header_at f context) is.whole ∙ in_table f context is.group is.variation (qualifier_of is.range) (range_octets is.range ++ is.rest) is.object
     ∙ ap (λ (x : Result (Range × List ℕ) AppFault). x >>= λ (x : Range × List ℕ). objects_at f is.group is.variation x.0 x.1) (range_back is.range is.rest is.backward)
-fault_at f octets ObjectsCut is =
-    ap (header_at f) is.whole ∙ in_range f is.group is.variation is.range is.rest is.object is.forward
+fault_at f context octets ObjectsCut is =
+    ap (header_at f context) is.whole ∙ in_range f context is.group is.variation is.range is.rest is.object is.forward
     ∙ ap (λ (b : Bool). cond b (Err ObjectsCut) (Ok (cut_off is.group is.variation is.range (objects_size f is.group is.variation is.range) is.rest)))
     (lt-ltb (length is.rest) (objects_size f is.group is.variation is.range) is.few)
-fault_at f octets Short is = absurd is
-fault_at f octets FunctionUnknown is = absurd is
+fault_at f context octets Short is = absurd is
+fault_at f context octets FunctionUnknown is = absurd is
 
-pub fault_again : (f : Form) (octets : List ℕ) (e : AppFault) → IsHeaderFault f octets e → header_at f octets ≡ Err e
+pub fault_again : (f : Form) (context : Context) (octets : List ℕ) (e : AppFault) → IsHeaderFault f context octets e → header_at f context octets ≡ Err e
 fault_again = fault_at
 
 -- octets that are no header at their front are some
-pub fault_some : (f : Form) (octets : List ℕ) (e : AppFault) → IsHeaderFault f octets e → 0 < length octets
-fault_some f octets HeaderCut (inl stub) = stub.some
-fault_some f octets HeaderCut (inr is) = three octets is.group is.variation is.qualifier is.rest is.whole
+pub fault_some : (f : Form) (context : Context) (octets : List ℕ) (e : AppFault) → IsHeaderFault f context octets e → 0 < length octets
+fault_some f context octets HeaderCut (inl stub) = stub.some
+fault_some f context octets HeaderCut (inr is) = three octets is.group is.variation is.qualifier is.rest is.whole
   where
     three : (octets : List ℕ) (g v q : ℕ) (rest : List ℕ) → octets ≡ g ∷ v ∷ q ∷ rest → 0 < length octets
     three octets g v q rest is = let size = ap length is in omega arith
-fault_some f octets ObjectUnknown is = let size = ap length is.whole in omega arith
-fault_some f octets QualifierUnknown is = let size = ap length is.whole in omega arith
-fault_some f octets RangeBackward is = let size = ap length is.whole in omega arith
-fault_some f octets ObjectsCut is = let size = ap length is.whole in omega arith
-fault_some f octets Short is = absurd is
-fault_some f octets FunctionUnknown is = absurd is
+fault_some f context octets ObjectUnknown is = let size = ap length is.whole in omega arith
+fault_some f context octets QualifierUnknown is = let size = ap length is.whole in omega arith
+fault_some f context octets RangeBackward is = let size = ap length is.whole in omega arith
+fault_some f context octets ObjectsCut is = let size = ap length is.whole in omega arith
+fault_some f context octets Short is = absurd is
+fault_some f context octets FunctionUnknown is = absurd is

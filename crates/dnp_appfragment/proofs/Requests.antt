@@ -7,7 +7,7 @@ use Rattle.dnp_appfragment.specs.declared.table.Form.{Form}
 use Rattle.dnp_appfragment.specs.declared.table.Form.TheVariants as form
 use Rattle.dnp_appfragment.specs.Control.{control_octet}
 use Rattle.dnp_appfragment.specs.Table.{function_of, function_octet, form_of, is_response}
-use Rattle.dnp_appfragment.specs.Headers.{Head}
+use Rattle.dnp_appfragment.specs.Headers.{Head, begin}
 use Rattle.dnp_appfragment.specs.Fragments.{Asked, Answered, looked_at, IsRequest, IsResponse}
 use Rattle.dnp_appfragment.specs.Faults.{HasRequestFault, HasResponseFault, IsRequestFault, IsResponseFault}
 use Rattle.dnp_appfragment.specs.Reading.{◌>>=◌, headers_at}
@@ -99,7 +99,7 @@ request_reads (control ∷ []) are = omega arith
 request_reads (control ∷ code ∷ body) are = go (function_at false (function_of code)) (function_reads false code)
   where
     headers : (f : Function) → function_octet f ≡ code → is_response f ≡ false
-        → (r : Result (List Head) AppFault) → ReadsHeaders (form_of f) (looked_at (form_of f) body) r
+        → (r : Result (List Head) AppFault) → ReadsHeaders (form_of f) begin (looked_at (form_of f) body) r
         → ReadsRequest (control ∷ code ∷ body) (r >>= λ (hs : List Head). Ok (record { control = control_of control; function = f; headers = hs }))
     headers f has kind (Ok hs) reads = record {
       body = body;
@@ -188,7 +188,7 @@ response_reads (control ∷ code ∷ one ∷ []) are = omega arith
 response_reads (control ∷ code ∷ one ∷ two ∷ body) are = go (function_at true (function_of code)) (function_reads true code)
   where
     headers : (f : Function) → function_octet f ≡ code → is_response f ≡ true
-        → (r : Result (List Head) AppFault) → ReadsHeaders form.Response body r
+        → (r : Result (List Head) AppFault) → ReadsHeaders form.Response begin body r
         → ReadsResponse (control ∷ code ∷ one ∷ two ∷ body)
         (r >>= λ (hs : List Head). Ok (record { control = control_of control; function = f; iin = record { one = one; two = two }; headers = hs }))
     headers f has kind (Ok hs) reads = record {

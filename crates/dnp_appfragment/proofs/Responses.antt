@@ -12,6 +12,7 @@ use Rattle.dnp_appfragment.specs.Built.{Built, heads, with_run, with_object}
 use Rattle.dnp_appfragment.specs.Headers.{Head, IsHeader, AreHeaders, begin}
 use Rattle.dnp_appfragment.specs.Joining.{joined}
 use Rattle.dnp_appfragment.specs.Written.{FitsPoint, event, point}
+use Rattle.dnp_appfragment.proofs.Building.{each-append, each-parts}
 use Rattle.dnp_appfragment.proofs.Joins.{heads_join}
 use Rattle.dnp_appfragment.proofs.ObjectHeaders.{IsSized, RowsFill, row_sized, has_size, event_header, point_header}
 
@@ -39,14 +40,6 @@ point_stands law group variation row fits index =
 abbrev AreResponse : List Head → Type 0
 AreResponse hs = AreHeaders form.Response begin hs
 
-append : (hs gs : List Head) → AreResponse hs → AreResponse gs → AreResponse (hs ++ gs)
-append [] gs first second = second
-append (h ∷ hs) gs first second = (first.0, append hs gs first.1 second)
-
-parts : (hs gs : List Head) → AreResponse (hs ++ gs) → AreResponse hs × AreResponse gs
-parts [] gs all = (tt, all)
-parts (h ∷ hs) gs all = let rest = parts hs gs all.1 in ((all.0, rest.0), rest.1)
-
 pub object_stands : (b : Built) (object : Head) → IsHeader form.Response object → IsSome (object_size object.group object.variation) → AreResponse (heads b)
     → AreResponse (heads (with_object b object))
 unfolding with_object
@@ -54,12 +47,12 @@ object_stands b object header sized all = go b.run refl (option_and_then (λ (r 
   where
     lengthened : (run long : Head) → joined run object ≡ Some long → AreResponse (b.ended ++ run ∷ []) → AreResponse (b.ended ++ long ∷ [])
     lengthened run long is before =
-        let both = parts b.ended (run ∷ []) before in
-        append b.ended (long ∷ []) both.0 ((heads_join form.Response run object long both.1.0 header sized is).header, tt)
+        let both = each-parts form.Response begin b.ended (run ∷ []) before in
+        each-append form.Response begin b.ended (long ∷ []) both.0 ((heads_join form.Response run object long both.1.0 header sized is).header, tt)
 
     go : (run : Option Head) → b.run ≡ run → (o : Option Head) → option_and_then (λ (r : Head). joined r object) b.run ≡ o
         → AreResponse (heads (with_run b o object))
-    go run there None is = append (heads b) (object ∷ []) all (header, tt)
+    go run there None is = each-append form.Response begin (heads b) (object ∷ []) all (header, tt)
     go (Some run) there (Some long) is =
         lengthened run long (ap (λ (o : Option Head). option_and_then (λ (r : Head). joined r object) o) (sym there) ∙ is)
         (subst (λ (o : Option Head). AreResponse (b.ended ++ option_to_list o)) there all)

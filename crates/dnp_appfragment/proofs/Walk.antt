@@ -10,12 +10,12 @@ use Rattle.dnp_appfragment.specs.declared.header.Range.{Range}
 use Rattle.dnp_appfragment.specs.declared.header.Range.TheVariants as range
 use Rattle.dnp_appfragment.specs.declared.table.Form.{Form}
 use Rattle.dnp_appfragment.specs.Table.{takes_of}
-use Rattle.dnp_appfragment.specs.Headers.{Head, head_of, objects_size}
+use Rattle.dnp_appfragment.specs.Headers.{Head, head_of, objects_size, Context, context_after}
 use Rattle.dnp_appfragment.specs.declared.header.Header.{Header}
-use Rattle.dnp_appfragment.specs.Left.{Left, is_whole, headers_of}
+use Rattle.dnp_appfragment.specs.Left.{Left, is_whole, headers_left}
 use Rattle.dnp_appfragment.specs.Places.{Ends, YieldsHeader}
 use Rattle.dnp_appfragment.specs.Seen.{head}
-use Rattle.dnp_appfragment.specs.Reading.{◌>>=◌, number_at, span_at, count_at, indexed_at, range_at, taken, objects_at, header_at, headers_in, headers_at}
+use Rattle.dnp_appfragment.specs.Reading.{◌>>=◌, number_at, span_at, count_at, indexed_at, range_at, taken, objects_at, header_at, headers_in, headers_from}
 
 pub not_empty : (octets : List ℕ) → (length octets == 0) ≡ false → 0 < length octets
 not_empty [] is = cc
@@ -79,12 +79,12 @@ objects_no_more f g v r octets =
 abbrev pub Fewer : {A : Type 0} → List ℕ → Result (A × List ℕ) AppFault → Type 0
 Fewer octets r = IfOk r (λ x. length x.1 < length octets)
 
-pub header_fewer : (f : Form) (octets : List ℕ) → Fewer octets (header_at f octets)
+pub header_fewer : (f : Form) (context : Context) (octets : List ℕ) → Fewer octets (header_at f context octets)
 unfolding header_at
-header_fewer f [] = tt
-header_fewer f (g ∷ []) = tt
-header_fewer f (g ∷ v ∷ []) = tt
-header_fewer f (g ∷ v ∷ q ∷ octets) =
+header_fewer f context [] = tt
+header_fewer f context (g ∷ []) = tt
+header_fewer f context (g ∷ v ∷ []) = tt
+header_fewer f context (g ∷ v ∷ q ∷ octets) =
     ok_then (λ (t : List ℕ). Unit {0}) (λ (x : Head × List ℕ). length x.1 < length (g ∷ v ∷ q ∷ octets))
     (taken (takes_of f g v) q) _ (any (taken (takes_of f g v) q)) (λ t _.
     ok_then (λ (r : Range × List ℕ). length r.1 ≤ length octets) (λ (x : Head × List ℕ). length x.1 < length (g ∷ v ∷ q ∷ octets))
@@ -99,52 +99,85 @@ header_fewer f (g ∷ v ∷ q ∷ octets) =
     few (Ok x) rest less fewer = omega (arith, less, fewer)
     few (Err e) rest less fewer = tt
 
-pub fewer_left : (f : Form) (octets : List ℕ) (h : Head × List ℕ) → header_at f octets ≡ Ok h → length h.1 < length octets
-fewer_left f octets h is = subst (λ (r : Result (Head × List ℕ) AppFault). Fewer octets r) is (header_fewer f octets)
+pub fewer_left : (f : Form) (context : Context) (octets : List ℕ) (h : Head × List ℕ) → header_at f context octets ≡ Ok h → length h.1 < length octets
+fewer_left f context octets h is = subst (λ (r : Result (Head × List ℕ) AppFault). Fewer octets r) is (header_fewer f context octets)
 
 -- ---- any bound on the number of headers serves, if it is one of the octets
 
 -- a header, and the headers after it
-onto : Head → Result (List Head) AppFault → Result (List Head) AppFault
+abbrev pub onto : Head → Result (List Head) AppFault → Result (List Head) AppFault
 onto h r = r >>= λ (hs : List Head). Ok (h ∷ hs)
 
-enough : (n m : ℕ) (f : Form) (octets : List ℕ) → length octets ≤ n → length octets ≤ m → headers_in n f octets ≡ headers_in m f octets
+-- the headers of a first step
+abbrev pub others : Form → Context → Result (Head × List ℕ) AppFault → Result (List Head) AppFault
+others f context r = r >>= λ (x : Head × List ℕ). onto x.0 (headers_from f (context_after context x.0) x.1)
+
+enough : (n m : ℕ) (f : Form) (context : Context) (octets : List ℕ) → length octets ≤ n → length octets ≤ m
+    → headers_in n f context octets ≡ headers_in m f context octets
 unfolding headers_in
-enough n m f [] small small' = none n ∙ sym (none m)
+enough n m f context [] small small' = none n ∙ sym (none m)
   where
-    none : (k : ℕ) → headers_in k f [] ≡ Ok []
+    none : (k : ℕ) → headers_in k f context [] ≡ Ok []
     none zero = refl
     none (suc k) = refl
-enough zero m f (b ∷ octets) small small' = absurd (omega arith)
-enough (suc n) zero f (b ∷ octets) small small' = absurd (omega arith)
-enough (suc n) (suc m) f (b ∷ octets) small small' = go (λ rest. enough n m f rest) (header_at f (b ∷ octets)) (header_fewer f (b ∷ octets))
+enough zero m f context (b ∷ octets) small small' = absurd (omega arith)
+enough (suc n) zero f context (b ∷ octets) small small' = absurd (omega arith)
+enough (suc n) (suc m) f context (b ∷ octets) small small' =
+    go (λ after rest. enough n m f after rest) (header_at f context (b ∷ octets)) (header_fewer f context (b ∷ octets))
   where
-    go : ((rest : List ℕ) → length rest ≤ n → length rest ≤ m → headers_in n f rest ≡ headers_in m f rest)
+    go : ((after : Context) (rest : List ℕ) → length rest ≤ n → length rest ≤ m → headers_in n f after rest ≡ headers_in m f after rest)
         → (r : Result (Head × List ℕ) AppFault) → Fewer (b ∷ octets) r
-        → (r >>= λ (h : Head × List ℕ). headers_in n f h.1 >>= λ (hs : List Head). Ok (h.0 ∷ hs))
-        ≡ (r >>= λ (h : Head × List ℕ). headers_in m f h.1 >>= λ (hs : List Head). Ok (h.0 ∷ hs))
+        → (r >>= λ (h : Head × List ℕ). headers_in n f (context_after context h.0) h.1 >>= λ (hs : List Head). Ok (h.0 ∷ hs))
+        ≡ (r >>= λ (h : Head × List ℕ). headers_in m f (context_after context h.0) h.1 >>= λ (hs : List Head). Ok (h.0 ∷ hs))
     go same (Ok h) fewer =
-        ap (λ (r : Result (List Head) AppFault). r >>= λ (hs : List Head). Ok (h.0 ∷ hs)) (same h.1 (omega (arith, fewer)) (omega (arith, fewer)))
+        ap (onto h.0) (same (context_after context h.0) h.1 (omega (arith, fewer)) (omega (arith, fewer)))
     go same (Err e) fewer = refl
+
+-- ---- no header depends on those before it yet
+
+header_any : (f : Form) (context other : Context) (octets : List ℕ) → header_at f context octets ≡ header_at f other octets
+unfolding header_at
+header_any f context other [] = refl
+header_any f context other (g ∷ []) = refl
+header_any f context other (g ∷ v ∷ []) = refl
+header_any f context other (g ∷ v ∷ q ∷ octets) = refl
+
+headers_any : (n : ℕ) (f : Form) (context other : Context) (octets : List ℕ) → headers_in n f context octets ≡ headers_in n f other octets
+unfolding headers_in
+headers_any zero f context other [] = refl
+headers_any zero f context other (b ∷ octets) = refl
+headers_any (suc n) f context other [] = refl
+headers_any (suc n) f context other (b ∷ octets) =
+    ap (λ (r : Result (Head × List ℕ) AppFault). r >>= λ (h : Head × List ℕ). onto h.0 (headers_in n f (context_after context h.0) h.1))
+    (header_any f context other (b ∷ octets)) ∙ go (λ here there rest. headers_any n f here there rest) (header_at f other (b ∷ octets))
+  where
+    go : ((here there : Context) (rest : List ℕ) → headers_in n f here rest ≡ headers_in n f there rest)
+        → (r : Result (Head × List ℕ) AppFault)
+        → (r >>= λ (h : Head × List ℕ). onto h.0 (headers_in n f (context_after context h.0) h.1))
+        ≡ (r >>= λ (h : Head × List ℕ). onto h.0 (headers_in n f (context_after other h.0) h.1))
+    go same (Ok h) = ap (onto h.0) (same (context_after context h.0) (context_after other h.0) h.1)
+    go same (Err e) = refl
+
+pub any_context : (f : Form) (context other : Context) (octets : List ℕ) → headers_from f context octets ≡ headers_from f other octets
+any_context f context other octets = headers_any (length octets) f context other octets
 
 -- ---- the first step, and the others
 
-pub headers_none : (f : Form) → headers_at f [] ≡ Ok []
-unfolding headers_at headers_in
-headers_none f = refl
+pub headers_none : (f : Form) (context : Context) → headers_from f context [] ≡ Ok []
+unfolding headers_in
+headers_none f context = refl
 
-pub headers_step : (f : Form) (octets : List ℕ) → 0 < length octets
-    → headers_at f octets ≡ (header_at f octets >>= λ (h : Head × List ℕ). headers_at f h.1 >>= λ (hs : List Head). Ok (h.0 ∷ hs))
-unfolding headers_at headers_in
-headers_step f [] some = absurd (omega arith)
-headers_step f (b ∷ octets) some = go (header_at f (b ∷ octets)) (header_fewer f (b ∷ octets))
+pub headers_step : (f : Form) (context : Context) (octets : List ℕ) → 0 < length octets
+    → headers_from f context octets ≡ others f context (header_at f context octets)
+unfolding headers_in
+headers_step f context [] some = absurd (omega arith)
+headers_step f context (b ∷ octets) some = go (header_at f context (b ∷ octets)) (header_fewer f context (b ∷ octets))
   where
     go : (r : Result (Head × List ℕ) AppFault) → Fewer (b ∷ octets) r
-        → (r >>= λ (h : Head × List ℕ). headers_in (length octets) f h.1 >>= λ (hs : List Head). Ok (h.0 ∷ hs))
-        ≡ (r >>= λ (h : Head × List ℕ). headers_in (length h.1) f h.1 >>= λ (hs : List Head). Ok (h.0 ∷ hs))
+        → (r >>= λ (h : Head × List ℕ). onto h.0 (headers_in (length octets) f (context_after context h.0) h.1)) ≡ others f context r
     go (Ok h) fewer =
-        ap (λ (r : Result (List Head) AppFault). r >>= λ (hs : List Head). Ok (h.0 ∷ hs))
-        (enough (length octets) (length h.1) f h.1 (omega (arith, fewer)) (omega arith))
+        ap (onto h.0)
+        (enough (length octets) (length h.1) f (context_after context h.0) h.1 (omega (arith, fewer)) (omega arith))
     go (Err e) fewer = refl
 
 -- a result without its value
@@ -157,77 +190,92 @@ fault_onto h (Ok hs) = refl
 fault_onto h (Err e) = refl
 
 -- after a header in order, the first fault is the first fault of all
-pub fault_on : (f : Form) (octets : List ℕ) (h : Head × List ℕ) → 0 < length octets → header_at f octets ≡ Ok h
-    → fault_of (headers_at f h.1) ≡ fault_of (headers_at f octets)
-fault_on f octets h some is =
-    let step = headers_step f octets some in
-    let next = λ (r : Result (Head × List ℕ) AppFault). fault_of (r >>= λ (x : Head × List ℕ). headers_at f x.1 >>= λ (hs : List Head). Ok (x.0 ∷ hs)) in
-    fault_onto h.0 (headers_at f h.1) ∙ sym (ap next is) ∙ sym (ap fault_of step)
+fault_on : (f : Form) (context : Context) (octets : List ℕ) (h : Head × List ℕ) → 0 < length octets → header_at f context octets ≡ Ok h
+    → fault_of (headers_from f (context_after context h.0) h.1) ≡ fault_of (headers_from f context octets)
+fault_on f context octets h some is =
+    let step = headers_step f context octets some in
+    let next = λ (r : Result (Head × List ℕ) AppFault). fault_of (others f context r) in
+    fault_onto h.0 (headers_from f (context_after context h.0) h.1) ∙ sym (ap next is) ∙ sym (ap fault_of step)
+
+pub fault_any : (f : Form) (context other : Context) (octets : List ℕ) (h : Head × List ℕ) → 0 < length octets → header_at f context octets ≡ Ok h
+    → fault_of (headers_from f other h.1) ≡ fault_of (headers_from f context octets)
+fault_any f context other octets h some is =
+    ap fault_of (any_context f other (context_after context h.0) h.1) ∙ fault_on f context octets h some is
 
 -- where none is in order, that is the first fault
-pub stops : (f : Form) (octets : List ℕ) (e : AppFault) → 0 < length octets → header_at f octets ≡ Err e → headers_at f octets ≡ Err e
-stops f octets e some is =
-    headers_step f octets some
-    ∙ ap (λ (r : Result (Head × List ℕ) AppFault). r >>= λ (x : Head × List ℕ). headers_at f x.1 >>= λ (hs : List Head). Ok (x.0 ∷ hs)) is
+pub stops : (f : Form) (context : Context) (octets : List ℕ) (e : AppFault) → 0 < length octets → header_at f context octets ≡ Err e
+    → headers_from f context octets ≡ Err e
+stops f context octets e some is =
+    headers_step f context octets some
+    ∙ ap (others f context) is
 
 -- no fault: then there are headers
 no_fault_then : (r : Result (List Head) AppFault) → fault_of r ≡ Ok 0 → r ≡ Ok (result_unwrap_or r [])
 no_fault_then (Ok hs) is = refl
 no_fault_then (Err e) is = cc
 
-pub all_read : (f : Form) (octets : List ℕ) → fault_of (headers_at f octets) ≡ Ok 0 → headers_at f octets ≡ Ok (headers_of f octets)
-all_read f octets is = no_fault_then (headers_at f octets) is
+pub all_read : (f : Form) (context : Context) (octets : List ℕ) → fault_of (headers_from f context octets) ≡ Ok 0
+    → headers_from f context octets ≡ Ok (headers_left f context octets)
+all_read f context octets is = no_fault_then (headers_from f context octets) is
 
 whole_then : (r : Result (List Head) AppFault) → fault_of r ≡ Ok 0 → is_ok r ≡ true
 whole_then (Ok hs) is = refl
 whole_then (Err e) is = cc
 
-pub all_whole : (f : Form) (octets : List ℕ) → fault_of (headers_at f octets) ≡ Ok 0 → IsTrue (is_whole f octets)
-all_whole f octets is = whole_then (headers_at f octets) is
+pub all_whole : (f : Form) (context : Context) (octets : List ℕ) → fault_of (headers_from f context octets) ≡ Ok 0 → IsTrue (is_whole f context octets)
+all_whole f context octets is = whole_then (headers_from f context octets) is
 
 fault_is : (r : Result (List Head) AppFault) (e : AppFault) → Err e ≡ fault_of r → r ≡ Err e
 fault_is (Ok hs) e is = cc
 fault_is (Err d) e is = cc
 
 -- a fault of what is left is that of all
-pub fault_of_all : (f : Form) (octets rest : List ℕ) (e : AppFault) → 0 < length rest → header_at f rest ≡ Err e
-    → fault_of (headers_at f rest) ≡ fault_of (headers_at f octets) → headers_at f octets ≡ Err e
-fault_of_all f octets rest e some is same =
-    fault_is (headers_at f octets) e (sym (ap fault_of (stops f rest e some is)) ∙ same)
+pub fault_of_all : (f : Form) (context now : Context) (octets rest : List ℕ) (e : AppFault) → 0 < length rest → header_at f now rest ≡ Err e
+    → fault_of (headers_from f now rest) ≡ fault_of (headers_from f context octets) → headers_from f context octets ≡ Err e
+fault_of_all f context now octets rest e some is same =
+    fault_is (headers_from f context octets) e (sym (ap fault_of (stops f now rest e some is)) ∙ same)
 
 -- and where nothing is left, there was none
-pub none_left : (f : Form) (octets rest : List ℕ) → length rest ≡ 0 → fault_of (headers_at f rest) ≡ fault_of (headers_at f octets)
-    → fault_of (headers_at f octets) ≡ Ok 0
-none_left f octets [] none same = sym same ∙ ap fault_of (headers_none f)
-none_left f octets (b ∷ rest) none same = absurd (omega arith)
+pub none_left : (f : Form) (context now : Context) (octets rest : List ℕ) → length rest ≡ 0
+    → fault_of (headers_from f now rest) ≡ fault_of (headers_from f context octets) → fault_of (headers_from f context octets) ≡ Ok 0
+none_left f context now octets [] none same = sym same ∙ ap fault_of (headers_none f now)
+none_left f context now octets (b ∷ rest) none same = absurd (omega arith)
 
 -- ---- one header off the front
 
-pub nothing_left : (f : Form) (octets : List ℕ) → length octets ≡ 0 → headers_of f octets ≡ []
-nothing_left f [] none = ap (λ (r : Result (List Head) AppFault). result_unwrap_or r []) (headers_none f)
-nothing_left f (b ∷ octets) none = absurd (omega arith)
+pub nothing_left : (f : Form) (context : Context) (octets : List ℕ) → length octets ≡ 0 → headers_left f context octets ≡ []
+nothing_left f context [] none = ap (λ (r : Result (List Head) AppFault). result_unwrap_or r []) (headers_none f context)
+nothing_left f context (b ∷ octets) none = absurd (omega arith)
 
 first_and_others : (h : Head) (r : Result (List Head) AppFault) → is_ok (r >>= λ (hs : List Head). Ok (h ∷ hs)) ≡ true
     → (is_ok r ≡ true) × (result_unwrap_or (r >>= λ (hs : List Head). Ok (h ∷ hs)) [] ≡ h ∷ result_unwrap_or r [])
 first_and_others h (Ok hs) is = (refl, refl)
 first_and_others h (Err e) is = cc
 
-pub one_off : (f : Form) (octets : List ℕ) (h : Head × List ℕ) → 0 < length octets → header_at f octets ≡ Ok h → IsTrue (is_whole f octets)
-    → IsTrue (is_whole f h.1) × (headers_of f octets ≡ h.0 ∷ headers_of f h.1)
-one_off f octets h some is whole =
-    let next = λ (r : Result (Head × List ℕ) AppFault). r >>= λ (x : Head × List ℕ). headers_at f x.1 >>= λ (hs : List Head). Ok (x.0 ∷ hs) in
-    let same : headers_at f octets ≡ (headers_at f h.1 >>= λ (hs : List Head). Ok (h.0 ∷ hs)) = headers_step f octets some ∙ ap next is in
-    let both = first_and_others h.0 (headers_at f h.1) (subst (λ (r : Result (List Head) AppFault). is_ok r ≡ true) same whole) in
+one_off : (f : Form) (context : Context) (octets : List ℕ) (h : Head × List ℕ) → 0 < length octets → header_at f context octets ≡ Ok h
+    → IsTrue (is_whole f context octets)
+    → IsTrue (is_whole f (context_after context h.0) h.1) × (headers_left f context octets ≡ h.0 ∷ headers_left f (context_after context h.0) h.1)
+one_off f context octets h some is whole =
+    let same : headers_from f context octets ≡ onto h.0 (headers_from f (context_after context h.0) h.1) =
+    headers_step f context octets some ∙ ap (others f context) is in
+    let both = first_and_others h.0 (headers_from f (context_after context h.0) h.1) (subst (λ (r : Result (List Head) AppFault). is_ok r ≡ true) same whole) in
     (both.0, ap (λ (r : Result (List Head) AppFault). result_unwrap_or r []) same ∙ both.1)
 
+pub one_off_any : (f : Form) (context other : Context) (octets : List ℕ) (h : Head × List ℕ) → 0 < length octets → header_at f context octets ≡ Ok h
+    → IsTrue (is_whole f context octets) → IsTrue (is_whole f other h.1) × (headers_left f context octets ≡ h.0 ∷ headers_left f other h.1)
+one_off_any f context other octets h some is whole =
+    subst (λ (r : Result (List Head) AppFault). IsTrue (is_ok r) × (headers_left f context octets ≡ h.0 ∷ result_unwrap_or r []))
+    (any_context f (context_after context h.0) other h.1) (one_off f context octets h some is whole)
+
 -- where headers divide the octets, one stands at the front
-pub front_whole : (f : Form) (octets : List ℕ) → 0 < length octets → IsTrue (is_whole f octets) → IsTrue (is_ok (header_at f octets))
-front_whole f octets some whole = go (header_at f octets) refl
+pub front_whole : (f : Form) (context : Context) (octets : List ℕ) → 0 < length octets → IsTrue (is_whole f context octets)
+    → IsTrue (is_ok (header_at f context octets))
+front_whole f context octets some whole = go (header_at f context octets) refl
   where
-    go : (r : Result (Head × List ℕ) AppFault) → header_at f octets ≡ r → IsTrue (is_ok r)
+    go : (r : Result (Head × List ℕ) AppFault) → header_at f context octets ≡ r → IsTrue (is_ok r)
     go (Ok h) is = refl
     go (Err e) is =
-        let same : is_ok (headers_at f octets) ≡ false = ap (λ (r : Result (List Head) AppFault). is_ok r) (stops f octets e some is) in
+        let same : is_ok (headers_from f context octets) ≡ false = ap (λ (r : Result (List Head) AppFault). is_ok r) (stops f context octets e some is) in
         cc
 
 -- ---- passing headers

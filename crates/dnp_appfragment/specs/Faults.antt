@@ -10,7 +10,7 @@ use Rattle.dnp_appfragment.specs.declared.qualifier.TheConstants as qualifier
 use Rattle.dnp_appfragment.specs.declared.table.Form.{Form}
 use Rattle.dnp_appfragment.specs.declared.table.Form.TheVariants as form
 use Rattle.dnp_appfragment.specs.Table.{function_octet, form_of, is_response, takes_of, allows, IsInTable}
-use Rattle.dnp_appfragment.specs.Headers.{Head, qualifier_of, range_octets, NumbersFit, IsForward, objects_size, spelled, AreHeaders, begin}
+use Rattle.dnp_appfragment.specs.Headers.{Head, qualifier_of, range_octets, NumbersFit, IsForward, objects_size, spelled, Context, AreHeaders, begin, context_past}
 use Rattle.dnp_appfragment.specs.Fragments.{looked_at}
 
 -- the number of a fault
@@ -90,24 +90,28 @@ pub record LacksObjects (f : Form) (octets : List ℕ) : Type 0 where
   pub few : length rest < objects_size f group variation range
 
 -- what is wrong where a header should begin
-abbrev pub IsHeaderFault : Form → List ℕ → AppFault → Type 0
-IsHeaderFault f octets HeaderCut = IsStub octets ⊎ LacksRange f octets
-IsHeaderFault f octets ObjectUnknown = LacksObject f octets
-IsHeaderFault f octets QualifierUnknown = LacksQualifier f octets
-IsHeaderFault f octets RangeBackward = IsBackward f octets
-IsHeaderFault f octets ObjectsCut = LacksObjects f octets
-IsHeaderFault f octets Short = ⊥
-IsHeaderFault f octets FunctionUnknown = ⊥
+abbrev pub IsHeaderFault : Form → Context → List ℕ → AppFault → Type 0
+IsHeaderFault f context octets HeaderCut = IsStub octets ⊎ LacksRange f octets
+IsHeaderFault f context octets ObjectUnknown = LacksObject f octets
+IsHeaderFault f context octets QualifierUnknown = LacksQualifier f octets
+IsHeaderFault f context octets RangeBackward = IsBackward f octets
+IsHeaderFault f context octets ObjectsCut = LacksObjects f octets
+IsHeaderFault f context octets Short = ⊥
+IsHeaderFault f context octets FunctionUnknown = ⊥
 
 -- ---- of a fragment
 
--- after headers in order comes one with this fault
-pub record HasHeaderFault (f : Form) (octets : List ℕ) (fault : AppFault) : Type 0 where
+-- after headers in order, where they stand, comes one with this fault
+pub record HasFaultFrom (f : Form) (context : Context) (octets : List ℕ) (fault : AppFault) : Type 0 where
   pub before : List Head
   pub rest : List ℕ
-  pub each : AreHeaders f begin before
+  pub each : AreHeaders f context before
   pub whole : octets ≡ spelled before ++ rest
-  pub here : IsHeaderFault f rest fault
+  pub here : IsHeaderFault f (context_past context before) rest fault
+
+-- and as the first of a fragment
+abbrev pub HasHeaderFault : Form → List ℕ → AppFault → Type 0
+HasHeaderFault f octets fault = HasFaultFrom f begin octets fault
 
 -- the second octet is no function of a request (`response` false) or of a response
 pub record LacksFunction (response : Bool) (octets : List ℕ) : Type 0 where

@@ -1,7 +1,8 @@
 -- Definition: object headers with their objects, and their one spelling in octets (IEEE Std 1815-2012,
 -- application layer: object headers). A fragment's headers divide its octets.
-use Rattle.std.specs.Prelude.{◌≡◌, ℕ, ◌+◌, ◌-◌, ◌*◌, ◌/◌, ◌%◌, ◌^◌, ◌<◌, ◌≤◌, Bool, true, false, if◌then◌else◌, List, [], ◌∷◌, ◌++◌, length, Option, Some, None, ⊤}
+use Rattle.std.specs.Prelude.{◌≡◌, ℕ, ◌+◌, ◌-◌, ◌*◌, ◌/◌, ◌%◌, ◌^◌, ◌<◌, ◌≤◌, ◌==◌, Bool, true, false, ◌&&◌, ◌||◌, nat_le, if◌then◌else◌, List, drop, [], ◌∷◌, ◌++◌, length, Option, Some, None, ⊤, fold}
 use Rattle.std.specs.List.{flat_map}
+use Rattle.byteorder.specs.Endian.{little_number}
 use Rattle.dnp_objects.specs.Objects.{object_size}
 use Rattle.dnp_appfragment.specs.declared.header.Range.{Range}
 use Rattle.dnp_appfragment.specs.declared.header.Range.TheVariants as range
@@ -102,28 +103,44 @@ pub record IsHeader (f : Form) (h : Head) : Type 0 where
 
 -- ---- headers, one after the other
 
--- what the headers before one say for it. Nothing yet: a common time, to which times of rows after it are
--- relative, will be a field of it
+-- what the headers before one say for it: the common time, after which the times of rows are given, if there is one
 abbrev pub Context : Type 0
-Context = ⊤
+Context = Option ℕ
 
--- before the first header, and after one more
+-- before the first header
 abbrev pub begin : Context
-begin = tt
+begin = None
 
-abbrev pub behind : Context → Head → Context
-behind context h = context
+-- a header of common times: 51.1, and 51.2 of a clock that isn't synchronized
+abbrev pub is_common : Head → Bool
+is_common h = (h.group == 51) && ((h.variation == 1) || (h.variation == 2))
+
+-- the last of them
+abbrev pub last_time : Head → ℕ
+last_time h = little_number 6 (drop (6 * (count_of h.range - 1)) h.octets)
+
+-- after one more: an empty header of common times leaves the common time as it was, and so do all others
+abbrev pub context_after : Context → Head → Context
+context_after context h = if is_common h && nat_le 1 (count_of h.range) then Some (last_time h) else context
+
+-- after all of these
+abbrev pub context_past : Context → List Head → Context
+context_past context hs = fold context_after context hs
 
 -- each is a header where it stands
 abbrev pub AreHeaders : Form → Context → List Head → Type 0
 AreHeaders f context [] = ⊤
-AreHeaders f context (h ∷ hs) = IsHeader f h × AreHeaders f (behind context h) hs
+AreHeaders f context (h ∷ hs) = IsHeader f h × AreHeaders f (context_after context h) hs
 
 -- their octets in order
 abbrev pub spelled : List Head → List ℕ
 spelled hs = flat_map header_octets hs
 
--- the headers divide the octets
-pub record Divide (f : Form) (octets : List ℕ) (hs : List Head) : Type 0 where
-  pub each : AreHeaders f begin hs
+-- the headers divide the octets, where they stand
+pub record DivideFrom (f : Form) (context : Context) (octets : List ℕ) (hs : List Head) : Type 0 where
+  pub each : AreHeaders f context hs
   pub whole : octets ≡ spelled hs
+
+-- and as the first of a fragment
+abbrev pub Divide : Form → List ℕ → List Head → Type 0
+Divide f octets hs = DivideFrom f begin octets hs

@@ -10,7 +10,7 @@ use Rattle.dnp_appfragment.specs.declared.header.Range.TheVariants as range
 use Rattle.dnp_appfragment.specs.declared.qualifier.TheConstants as qualifier
 use Rattle.dnp_appfragment.specs.declared.table.Form.{Form}
 use Rattle.dnp_appfragment.specs.Table.{takes_of, allows}
-use Rattle.dnp_appfragment.specs.Headers.{Head, head_of, objects_size, count_of, prefix_size}
+use Rattle.dnp_appfragment.specs.Headers.{Head, head_of, objects_size, count_of, prefix_size, Context, begin, context_after}
 
 -- the next step, if there was no fault
 infixl 10 ◌>>=◌
@@ -63,27 +63,31 @@ objects_at f g v r octets =
     else Ok (head_of g v r (take (objects_size f g v r) octets), drop (objects_size f g v r) octets)
 
 -- the header at the front, with its objects, and the octets after them
-unfoldable pub header_at : Form → List ℕ → Result (Head × List ℕ) AppFault
-header_at f [] = Err HeaderCut
-header_at f (g ∷ []) = Err HeaderCut
-header_at f (g ∷ v ∷ []) = Err HeaderCut
-header_at f (g ∷ v ∷ q ∷ octets) = do
+unfoldable pub header_at : Form → Context → List ℕ → Result (Head × List ℕ) AppFault
+header_at f context [] = Err HeaderCut
+header_at f context (g ∷ []) = Err HeaderCut
+header_at f context (g ∷ v ∷ []) = Err HeaderCut
+header_at f context (g ∷ v ∷ q ∷ octets) = do
   t ← taken (takes_of f g v) q
   r ← range_at q octets
   objects_at f g v r.0 r.1
 
 -- at most so many headers, which are all of the octets
-unfoldable pub headers_in : ℕ → Form → List ℕ → Result (List Head) AppFault
-headers_in n f [] = Ok []
-headers_in zero f (b ∷ octets) = Err HeaderCut
-headers_in (suc n) f (b ∷ octets) = do
-  h ← header_at f (b ∷ octets)
-  hs ← headers_in n f h.1
+unfoldable pub headers_in : ℕ → Form → Context → List ℕ → Result (List Head) AppFault
+headers_in n f context [] = Ok []
+headers_in zero f context (b ∷ octets) = Err HeaderCut
+headers_in (suc n) f context (b ∷ octets) = do
+  h ← header_at f context (b ∷ octets)
+  hs ← headers_in n f (context_after context h.0) h.1
   Ok (h.0 ∷ hs)
 
--- the headers that divide the octets
+-- the headers that divide the octets, where they stand
+abbrev pub headers_from : Form → Context → List ℕ → Result (List Head) AppFault
+headers_from f context octets = headers_in (length octets) f context octets
+
+-- and as the first of a fragment
 unfoldable pub headers_at : Form → List ℕ → Result (List Head) AppFault
-headers_at f octets = headers_in (length octets) f octets
+headers_at f octets = headers_from f begin octets
 
 -- ---- an object of a header
 

@@ -1,6 +1,7 @@
 //! Headers of octets that were checked: they are read again, and nothing of them is checked again.
 ghost use Rattle.std.specs.Prelude.{◌≡◌, Ok, IsTrue};
 ghost use Rattle.std.specs.Result.{is_ok};
+ghost use Rattle.dnp_appfragment.specs.Headers.{begin};
 ghost use Rattle.dnp_appfragment.specs.Reading as spec;
 ghost use Rattle.dnp_appfragment.specs.Places.{Ends, IsPart};
 ghost use Rattle.dnp_appfragment.specs.Seen.{number_and_rest, range_and_rest, head_and_rest};
@@ -57,8 +58,8 @@ fn checked_range(qualifier: u8, octets: &[u8]) -> (Range, &[u8])
 #[inline]
 #[tactic(auto, unfolding(crate::specs::Reading::header_at))]
 pub(crate) fn checked_header(form: Form, octets: &[u8]) -> (Header<'_>, &[u8])
-    requires { IsTrue (is_ok (spec.header_at form octets.now)) }
-    ensures gives { spec.header_at form octets.now ≡ Ok (head_and_rest result) }
+    requires { IsTrue (is_ok (spec.header_at form begin octets.now)) }
+    ensures gives { spec.header_at form begin octets.now ≡ Ok (head_and_rest result) }
     ensures part { IsPart octets.entry result.0.octets result.1 }
 {
     let (group, variation) = (octets[0], octets[1]);

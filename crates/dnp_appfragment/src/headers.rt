@@ -17,20 +17,21 @@ pub struct Headers<'a> {
 
 impl<'a> Model for Headers<'a> {
     ghost use Rattle.std.specs.Prelude.{IsTrue};
+    ghost use Rattle.dnp_appfragment.specs.Headers.{begin};
     ghost use Rattle.dnp_appfragment.specs.Left.{Left, headers_of, is_whole};
 
     ghost Value = { Left };
 
     ghost view = { λ h. record { rest = h.rest; headers = headers_of h.form h.rest.now } };
 
-    ghost invariant = { λ h. IsTrue (is_whole h.form h.rest.now) };
+    ghost invariant = { λ h. IsTrue (is_whole h.form begin h.rest.now) };
 }
 
 impl<'a> Headers<'a> {
     ghost use Rattle.std.specs.Prelude.{◌≡◌, IfOk, drop, length};
     ghost use Rattle.dnp_appfragment.specs.declared.table.Form.TheVariants as form;
     ghost use Rattle.dnp_appfragment.specs.EventRows.{events_in};
-    ghost use Rattle.dnp_appfragment.specs.Headers.{AreHeaders, begin};
+    ghost use Rattle.dnp_appfragment.specs.Headers.{Context, AreHeaders};
     ghost use Rattle.dnp_appfragment.specs.Places.{Ends};
     ghost use Rattle.dnp_appfragment.specs.Seen.{Gives};
     ghost use Rattle.dnp_appfragment.specs.Reading.{headers_at};
@@ -70,7 +71,7 @@ impl<'a> Headers<'a> {
     /// How many event rows these headers of a response have: as many as the ranges of those of events
     /// name.
     pub fn count_events(&self) -> usize
-        requires response { AreHeaders form.Response begin self.now.headers }
+        requires response { (context : Context) × AreHeaders form.Response context self.now.headers }
         ensures { result ≡ length (events_in self.now.headers) }
     {
         // (a law, for the proof: it does nothing)

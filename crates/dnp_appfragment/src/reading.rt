@@ -1,5 +1,6 @@
 //! Headers from the front of octets, checked.
 ghost use Rattle.std.specs.Prelude.{◌≡◌, ◌≤◌, IfOk};
+ghost use Rattle.dnp_appfragment.specs.Headers.{begin};
 ghost use Rattle.dnp_appfragment.specs.Reading as spec;
 ghost use Rattle.dnp_appfragment.specs.Places.{Ends, IsPart};
 ghost use Rattle.dnp_appfragment.specs.Seen.{Gives, number_and_rest, range_and_rest, head_and_rest};
@@ -76,7 +77,7 @@ fn range_at(qualifier: u8, octets: &[u8]) -> Result<(Range, &[u8]), AppFault>
 #[inline(always)]
 #[tactic(auto, unfolding(crate::specs::Reading::header_at))]
 pub(crate) fn header_at(form: Form, octets: &[u8]) -> Result<(Header<'_>, &[u8]), AppFault>
-    ensures gives { Gives head_and_rest result (spec.header_at form octets.now) }
+    ensures gives { Gives head_and_rest result (spec.header_at form begin octets.now) }
     // Nothing is copied: the objects lie in the octets, just before the rest.
     ensures part { IfOk result (λ x. IsPart octets.entry x.0.octets x.1) }
 {

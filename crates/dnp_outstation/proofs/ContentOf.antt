@@ -81,7 +81,7 @@ repeated_fine reads octets are asked is command code =
     let request : IsRequest octets asked = (reads octets asked are).0 is in
     let stand : AreHeaders form.Command begin asked.headers =
     subst (λ (f : Form). AreHeaders f begin asked.headers) command request.headers.each in
-    record { stand = headers_stand code asked.headers stand; none = headers_silent code asked.headers stand }
+    record { stand = headers_stand code begin begin asked.headers stand; none = headers_silent code begin asked.headers stand }
 
 pub no_events_fine : RequestsAreRead → (octets : List ℕ) → All (λ octet. octet < 2 ^ 8) octets → IsFine HoldNoEvents octets
 no_events_fine reads octets are = record {

@@ -6,9 +6,9 @@ use Rattle.dnp_objects.specs.Objects.{objects}
 use Rattle.dnp_objects.specs.declared.command.Command.{Command}
 use Rattle.dnp_appfragment.specs.declared.table.Form.TheVariants as form
 use Rattle.dnp_appfragment.specs.EventRows.{is_event_group, is_event_header, events_in as rows_said}
-use Rattle.dnp_appfragment.specs.Headers.{Head, IsHeader, AreHeaders, begin, qualifier_of}
+use Rattle.dnp_appfragment.specs.Headers.{Head, IsHeader, Context, AreHeaders, context_after, qualifier_of}
 use Rattle.dnp_appfragment.specs.Table.{Rule, takes_of, rules, allows, IsInTable}
-use Rattle.dnp_outstation.specs.Controls.{headers_with}
+use Rattle.dnp_outstation.specs.Controls.{answered_head, headers_with}
 use Rattle.dnp_outstation.proofs.ControlHeaders.{answered_header}
 
 abbrev IsNoEvent : ℕ → Type 0
@@ -37,10 +37,13 @@ no_event g v q is =
 header_silent : (h : Head) → IsHeader form.Command h → is_event_header h ≡ false
 header_silent h is = no_event h.group h.variation (qualifier_of h.range) is.object
 
-pub headers_stand : (code : Command → ℕ) (hs : List Head) → AreHeaders form.Command begin hs → AreHeaders form.Response begin (headers_with code hs)
-headers_stand code [] are = tt
-headers_stand code (h ∷ hs) are = (answered_header code h are.0, headers_stand code hs are.1)
+-- in the request and in the response, wherever they stand
+pub headers_stand : (code : Command → ℕ) (asked answered : Context) (hs : List Head) → AreHeaders form.Command asked hs
+    → AreHeaders form.Response answered (headers_with code hs)
+headers_stand code asked answered [] are = tt
+headers_stand code asked answered (h ∷ hs) are =
+    (answered_header code h are.0, headers_stand code (context_after asked h) (context_after answered (answered_head code h)) hs are.1)
 
-pub headers_silent : (code : Command → ℕ) (hs : List Head) → AreHeaders form.Command begin hs → rows_said (headers_with code hs) ≡ []
-headers_silent code [] are = refl
-headers_silent code (h ∷ hs) are = rw (header_silent h are.0) (headers_silent code hs are.1)
+pub headers_silent : (code : Command → ℕ) (asked : Context) (hs : List Head) → AreHeaders form.Command asked hs → rows_said (headers_with code hs) ≡ []
+headers_silent code asked [] are = refl
+headers_silent code asked (h ∷ hs) are = rw (header_silent h are.0) (headers_silent code (context_after asked h) hs are.1)

@@ -6,7 +6,7 @@ use Rattle.dnp_appfragment.specs.declared.table.Form.{Form}
 use Rattle.dnp_appfragment.specs.declared.table.Form.TheVariants as form
 use Rattle.dnp_appfragment.specs.Table.{form_of, function_of}
 use Rattle.dnp_appfragment.specs.Control.{ControlBits}
-use Rattle.dnp_appfragment.specs.Headers.{Head}
+use Rattle.dnp_appfragment.specs.Headers.{Head, Context, begin, context_after}
 use Rattle.dnp_appfragment.specs.Fragments.{Asked, looked_at}
 use Rattle.dnp_appfragment.specs.Reading.{◌>>=◌, header_at, headers_in, headers_at}
 use Rattle.dnp_appfragment.specs.Meaning.{control_of, function_at, request_at}
@@ -17,16 +17,18 @@ one_more : (n : ℕ) (h : Head) (found : Result (List Head) AppFault) → IfOk f
 one_more n h (Ok hs) few = omega arith
 one_more n h (Err e) few = tt
 
-then_others : (n : ℕ) (f : Form) (found : Result (Head × List ℕ) AppFault) → ((rest : List ℕ) → IfOk (headers_in n f rest) (λ hs. length hs ≤ n))
-    → IfOk (found >>= (λ h. headers_in n f h.1 >>= (λ hs. Ok (h.0 ∷ hs)))) (λ hs. length hs ≤ suc n)
-then_others n f (Ok h) few = one_more n h.0 (headers_in n f h.1) (few h.1)
-then_others n f (Err e) few = tt
+then_others : (n : ℕ) (f : Form) (context : Context) (found : Result (Head × List ℕ) AppFault)
+    → ((after : Context) (rest : List ℕ) → IfOk (headers_in n f after rest) (λ hs. length hs ≤ n))
+    → IfOk (found >>= (λ h. headers_in n f (context_after context h.0) h.1 >>= (λ hs. Ok (h.0 ∷ hs)))) (λ hs. length hs ≤ suc n)
+then_others n f context (Ok h) few =
+    one_more n h.0 (headers_in n f (context_after context h.0) h.1) (few (context_after context h.0) h.1)
+then_others n f context (Err e) few = tt
 
-few_in : (n : ℕ) (f : Form) (octets : List ℕ) → IfOk (headers_in n f octets) (λ hs. length hs ≤ n)
+few_in : (n : ℕ) (f : Form) (context : Context) (octets : List ℕ) → IfOk (headers_in n f context octets) (λ hs. length hs ≤ n)
 unfolding headers_in
-few_in n f [] = omega arith
-few_in zero f (b ∷ octets) = tt
-few_in (suc n) f (b ∷ octets) = then_others n f (header_at f (b ∷ octets)) (few_in n f)
+few_in n f context [] = omega arith
+few_in zero f context (b ∷ octets) = tt
+few_in (suc n) f context (b ∷ octets) = then_others n f context (header_at f context (b ∷ octets)) (few_in n f)
 
 looked_short : (f : Form) (body : List ℕ) → length (looked_at f body) ≤ length body
 looked_short form.Bare body = omega arith
@@ -34,7 +36,7 @@ looked_short _ body = omega arith
 
 few_at : (f : Form) (octets : List ℕ) → IfOk (headers_at f octets) (λ hs. length hs ≤ length octets)
 unfolding headers_at
-few_at f octets = few_in (length octets) f octets
+few_at f octets = few_in (length octets) f begin octets
 
 asked_with : (n m : ℕ) (control : ControlBits) (f : Function) (found : Result (List Head) AppFault) → n ≤ m → IfOk found (λ hs. length hs ≤ n)
     → IfOk (found >>= (λ hs. Ok (record { control = control; function = f; headers = hs }))) (λ (a : Asked). length a.headers ≤ m)

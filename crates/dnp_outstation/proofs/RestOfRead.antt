@@ -7,7 +7,7 @@ use Rattle.std.proofs.lemmas.List.Elements.{All-nil, All-cons, All-head, All-tai
 use Rattle.dnp_appfragment.specs.declared.table.Form.{Form}
 use Rattle.dnp_appfragment.specs.declared.header.Range.{Range}
 use Rattle.dnp_appfragment.specs.declared.header.Range.TheVariants as range
-use Rattle.dnp_appfragment.specs.Headers.{Head, NumbersFit, AreHeaders, begin}
+use Rattle.dnp_appfragment.specs.Headers.{Head, NumbersFit, Context, AreHeaders, context_after}
 use Rattle.dnp_eventbuf.specs.Sound.{IsSound}
 use Rattle.dnp_objects.specs.declared.limits.TheConstants.{LANES}
 use Rattle.dnp_outstation.specs.declared.offer.place.Place.{Place}
@@ -79,9 +79,9 @@ part_few s h few fit =
     in_range_few r statics short = let fewer = filter_fewer (λ (x : Static). is_within r x.row.index) statics in omega arith
 
 -- the numbers of headers that are read fit
-pub all_fit : (f : Form) (hs : List Head) → AreHeaders f begin hs → All (λ h. NumbersFit h.range) hs
-all_fit f [] are = All-nil (λ (h : Head). NumbersFit h.range)
-all_fit f (h ∷ hs) are = All-cons (λ (k : Head). NumbersFit k.range) h hs are.0.fits (all_fit f hs are.1)
+pub all_fit : (f : Form) (context : Context) (hs : List Head) → AreHeaders f context hs → All (λ h. NumbersFit h.range) hs
+all_fit f context [] are = All-nil (λ (h : Head). NumbersFit h.range)
+all_fit f context (h ∷ hs) are = All-cons (λ (k : Head). NumbersFit k.range) h hs are.0.fits (all_fit f (context_after context h) hs are.1)
 
 -- a count that is as great as a number can be says the same as a greater one
 pub count_is : (count : ℕ) (part : Part) → IsFew part → part_after (min count MOST) part ≡ part_after count part

@@ -1,4 +1,5 @@
 use Rattle.std.proofs.Common.{ap, map}
+use Rattle.dnp_appfragment.specs.Headers.{begin}
 use Rattle.dnp_appfragment.specs.Table.{form_of}
 use Rattle.dnp_outstation.specs.Items.{no_ids, items_of, part_of}
 use Rattle.dnp_outstation.proofs.OfferParts.{parts_fresh}
@@ -17,7 +18,7 @@ returns-clause-released c = λ s stood headers place left sound nine is.
     released_rest c.a_release_is_lane_by_lane.ensures s stood headers place left sound nine is
 
 pub returns-clause-read : goal.returns-clause-read
-returns-clause-read c = λ octets asked is. all_fit (form_of asked.function) asked.headers is.headers.each
+returns-clause-read c = λ octets asked is. all_fit (form_of asked.function) begin asked.headers is.headers.each
 
 pub returns-clause-begins : goal.returns-clause-begins
 returns-clause-begins c = λ s stood headers. ap (items_of s stood no_ids 0) (parts_fresh (map (part_of s) headers))

@@ -14,7 +14,8 @@ loop-header-init c =
     let same : c.into_iter-header-iterator.result.headers ≡ c.args.self.now.headers =
     ap (λ (l : Left). l.headers) (c.into_iter-header-iterator.ensures.into_iter_gives ∙ c.self.view_is) in
     record {
-      each = subst (AreHeaders form.Response begin) (sym same) c.requires.response;
+      context = c.requires.response.0;
+      each = subst (AreHeaders form.Response c.requires.response.0) (sym same) c.requires.response.1;
       adds = omega (arith, ap (λ (hs : List Head). length (events_in hs)) same);
     }
 
@@ -23,8 +24,9 @@ overflow_add-count c =
     let hs : List Head = headers_of c.self.inside.form c.self.inside.rest.now in
     let same : hs ≡ c.args.self.now.headers = ap (λ (l : Left). l.headers) c.self.view_is in
     let few : length (events_in hs) ≤ length c.self.inside.rest.now =
-    whole_few c.self.inside.form c.self.inside.rest.now (octets_all c.self.inside.rest.now c.a_slice_is_of_octets.ensures.each) c.self.invariant
-    (subst (AreHeaders form.Response begin) (sym same) c.requires.response) in
+    whole_few c.self.inside.form begin c.requires.response.0 c.self.inside.rest.now
+    (octets_all c.self.inside.rest.now c.a_slice_is_of_octets.ensures.each) c.self.invariant
+    (subst (AreHeaders form.Response c.requires.response.0) (sym same) c.requires.response.1) in
     let counted = events_counted (length (events_in c.args.self.now.headers)) c.loop-header.count (head c.in-Some.header) c.next.new.self.headers
     c.loop-header.header-iterator.headers c.in-Some.ensures.steps.0 (sym c.is_event.ensures ∙ c.if-is_event.true) c.loop-header.invariant in
     omega (
