@@ -1,5 +1,5 @@
 -- A response with more items is no smaller.
-use Rattle.std.proofs.Common.{◌≡◌, Bool, true, false, if◌then◌else◌, refl, ◌∙◌, ap, ℕ, ◌+◌, ◌≤◌, List, [], ◌∷◌, ◌++◌, map, length, arith, append-nil}
+use Rattle.std.proofs.Common.{◌≡◌, Bool, true, false, if◌then◌else◌, refl, ◌∙◌, ap, ℕ, ◌+◌, ◌≤◌, List, [], ◌∷◌, ◌++◌, map, length, Option, arith, append-nil}
 use Rattle.std.specs.List.{flat_map}
 use Rattle.std.proofs.lemmas.Bool.{leb-true, le-leb}
 use Rattle.std.proofs.lemmas.List.{length-append}
@@ -26,12 +26,12 @@ abbrev pub own : Laid → ℕ
 own x = length (item_octets (range_of x.item.thing 0) (object_of x))
 
 one_header : (s : Stretch) → length (header_octets (header_of s)) ≡ overhead s.first.item.thing + length (body s.first.item.thing (s.first ∷ s.more))
-one_header s = go s.first.item.header s.first.item.thing s.first.object
+one_header s = go s.first.item.header s.first.item.thing s.first.object s.first.common
   where
-    go : (header : ℕ) (thing : Thing) (o : Object) → (let x : Laid = laid_as header thing o in
+    go : (header : ℕ) (thing : Thing) (o : Object) (common : Option ℕ) → (let x : Laid = laid_as header thing o common in
         length (header_octets (header_of (record { first = x; more = s.more }))) ≡ overhead thing + length (body thing (x ∷ s.more)))
-    go header (Event lane row) o = omega arith
-    go header (Present static) o = omega arith
+    go header (Event lane row) o common = omega arith
+    go header (Present static) o common = omega arith
 
 -- whether an item goes on with the first of the others
 abbrev goes_first : Laid → List Stretch → Bool
@@ -49,7 +49,7 @@ record IsAlike (t t' : Thing) : Type 0 where
 alike : (x y : Laid) → goes_on x y ≡ true → IsAlike x.item.thing y.item.thing
 alike x y on = go x.item.thing y.item.thing on
   where
-    go : (t t' : Thing) → goes_on (laid_as x.item.header t x.object) (laid_as y.item.header t' y.object) ≡ true → IsAlike t t'
+    go : (t t' : Thing) → goes_on (laid_as x.item.header t x.object x.common) (laid_as y.item.header t' y.object y.common) ≡ true → IsAlike t t'
     go (Event lane a) (Event lane' b) is = record { overheads = refl; bodies = λ xs. refl }
     go (Event lane a) (Present b) is = cc
     go (Present a) (Event lane' b) is = cc

@@ -70,13 +70,13 @@ one_fits : PutLaws → (x : Laid) → CanGo x → fits_fragment (x ∷ []) ≡ t
 one_fits law x can = le-leb (response_size (x ∷ [])) MAX_FRAGMENT (small x.item.thing (short_object law x can))
   where
     small : (thing : Thing)
-        → (let y : Laid = laid_as x.item.header thing x.object in length y.object.octets ≤ 11 → response_size (y ∷ []) ≤ MAX_FRAGMENT)
+        → (let y : Laid = laid_as x.item.header thing x.object x.common in length y.object.octets ≤ 11 → response_size (y ∷ []) ≤ MAX_FRAGMENT)
     small (Event lane row) short =
-        let y : Laid = laid_as x.item.header (Event lane row) x.object in
+        let y : Laid = laid_as x.item.header (Event lane row) x.object x.common in
         let octets = length-append (number true x.object.index) x.object.octets in
         omega (arith, one_size y)
     small (Present static) short =
-        let y : Laid = laid_as x.item.header (Present static) x.object in
+        let y : Laid = laid_as x.item.header (Present static) x.object x.common in
         omega (arith, one_size y)
 
 held_some : PutLaws → (items : List Item) → All CanStand items → held_of items ≡ [] → items ≡ []

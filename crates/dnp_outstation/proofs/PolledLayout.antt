@@ -73,7 +73,8 @@ same_goes : (x y : Laid) → IsRow x.item → goes_on (plain_laid x) (plain_laid
 same_goes x y is = go x.item.thing y.item.thing is
   where
     go : (t u : Thing) → IsRow (record { header = x.item.header; thing = t })
-        → goes_on (laid_as 0 t x.object) (laid_as 0 u y.object) ≡ goes_on (laid_as x.item.header t x.object) (laid_as y.item.header u y.object)
+        → goes_on (laid_as 0 t x.object x.common) (laid_as 0 u y.object y.common)
+        ≡ goes_on (laid_as x.item.header t x.object x.common) (laid_as y.item.header u y.object y.common)
     go (Event lane a) (Event lane' b) is = refl
     go (Event lane a) (Present b) is = refl
     go (Present a) u is = absurd is

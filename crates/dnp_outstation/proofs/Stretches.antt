@@ -1,12 +1,12 @@
 -- Items that stand under one header, and what stands behind them.
-use Rattle.std.proofs.Common.{◌≡◌, ℕ, Bool, true, false, if◌then◌else◌, refl, sym, ◌∙◌, ap, List, [], ◌∷◌, ◌++◌}
+use Rattle.std.proofs.Common.{◌≡◌, ℕ, Bool, true, false, if◌then◌else◌, refl, sym, ◌∙◌, ap, List, [], ◌∷◌, ◌++◌, Option}
 use Rattle.dnp_appfragment.specs.Items.{Item as Object}
 use Rattle.dnp_outstation.specs.Items.{Thing}
 use Rattle.dnp_outstation.specs.Layout.{Laid, goes_on, Stretch, alone, in_front, stretches}
 
 -- an item by its parts
-abbrev pub laid_as : ℕ → Thing → Object → Laid
-laid_as header thing object = record { item = record { header = header; thing = thing }; object = object }
+abbrev pub laid_as : ℕ → Thing → Object → Option ℕ → Laid
+laid_as header thing object common = record { item = record { header = header; thing = thing }; object = object; common = common }
 
 -- each item goes on from the one before it
 abbrev pub IsChain : Laid → List Laid → Type 0

@@ -83,7 +83,7 @@ pub put_is : (w : Writer) (x : Laid)
     }
 put_is w x = go x.item.thing
   where
-    go : (thing : Thing) → (let y : Laid = laid_as x.item.header thing x.object in
+    go : (thing : Thing) → (let y : Laid = laid_as x.item.header thing x.object x.common in
         put_laid w y ≡ record {
           builder = with_object (built_for w (run_at y)) (written_of y);
           run = run_at y;
@@ -96,12 +96,12 @@ put_is w x = go x.item.thing
 pub alone_is : (x : Laid) → written_of x ≡ header_of (alone x)
 alone_is x = go x.item.thing
   where
-    go : (thing : Thing) → (let y : Laid = laid_as x.item.header thing x.object in written_of y ≡ header_of (alone y))
+    go : (thing : Thing) → (let y : Laid = laid_as x.item.header thing x.object x.common in written_of y ≡ header_of (alone y))
     go (Event lane row) =
-        let h = written_of (laid_as x.item.header (Event lane row) x.object) in
+        let h = written_of (laid_as x.item.header (Event lane row) x.object x.common) in
         ap (λ (o : List ℕ). record h { range = h.range; octets = o }) (sym (append-nil h.octets))
     go (Present static) =
-        let h = written_of (laid_as x.item.header (Present static) x.object) in
+        let h = written_of (laid_as x.item.header (Present static) x.object x.common) in
         let e : static.row.index ≡ static.row.index + 0 = omega arith in
         ap (λ (o : List ℕ). record h { range = h.range; octets = o }) (sym (append-nil h.octets))
         ∙ ap (λ (last : ℕ). record h { range = range.Span true static.row.index last; octets = h.octets ++ [] }) e
@@ -258,9 +258,10 @@ pub few : (b : Built) (first : Laid) (more : List Laid) → b.run ≡ Some (head
 few b first more run_is small = go first.item.thing run_is
   where
     go : (thing : Thing)
-        → (let x : Laid = laid_as first.item.header thing first.object in b.run ≡ Some (header_of (record { first = x; more = more })) → IsFew x more)
+        → (let x : Laid = laid_as first.item.header thing first.object first.common in
+        b.run ≡ Some (header_of (record { first = x; more = more })) → IsFew x more)
     go (Event lane row) is =
-        let x : Laid = laid_as first.item.header (Event lane row) first.object in
+        let x : Laid = laid_as first.item.header (Event lane row) first.object first.common in
         let objects = map object_of (x ∷ more) in
         let within = within_size b (header_of (record { first = x; more = more })) is in
         let many = indexed_octets (length more + 1) objects in

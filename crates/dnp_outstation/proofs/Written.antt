@@ -12,9 +12,9 @@ use Rattle.dnp_appfragment.specs.Items.{Item as Object, Holds as HoldsObjects, H
 use Rattle.dnp_appfragment.specs.Written.{FitsPoint, event, point}
 use Rattle.dnp_outstation.specs.declared.offer.writer.Run.{Run}
 use Rattle.dnp_outstation.specs.declared.offer.writer.Writer.{Writer}
-use Rattle.dnp_outstation.specs.Items.{Thing, Item, first_place}
+use Rattle.dnp_outstation.specs.Items.{Thing, first_place}
 use Rattle.dnp_outstation.specs.Items.Thing.{Event, Present}
-use Rattle.dnp_outstation.specs.Layout.{Laid, lay, object_of, headers_of, fits_fragment}
+use Rattle.dnp_outstation.specs.Layout.{Laid, own_object, object_of, headers_of, fits_fragment}
 use Rattle.dnp_outstation.specs.Said.{CanStand, CanGo}
 use Rattle.dnp_outstation.specs.steps.Filling.{is_same_run, empty_from, built_for, put_laid, fits}
 use Rattle.dnp_outstation.proofs.Grows.{fits_begins}
@@ -44,9 +44,10 @@ pub record StandsAlone (x : Laid) : Type 0 where
 
 pub stands_alone : PutLaws → (x : Laid) → CanGo x → StandsAlone x
 stands_alone law x can =
-    subst (λ (o : Object). StandsAlone (laid_as x.item.header x.item.thing o)) (sym can.says) (go x.item.header x.item.thing can.stands)
+    subst (λ (o : Object). StandsAlone (laid_as x.item.header x.item.thing o x.common)) (sym can.says) (go x.item.header x.item.thing can.stands)
   where
-    go : (h : ℕ) (thing : Thing) → (let y : Item = record { header = h; thing = thing } in CanStand y → StandsAlone (lay y))
+    go : (h : ℕ) (thing : Thing)
+        → CanStand (record { header = h; thing = thing }) → StandsAlone (laid_as h thing (own_object thing) x.common)
     go h (Event lane row) fits =
         let stands = law.event_stands row.row fits.0 in
         record { header = stands.0; sized = stands.1; holds = law.event_holds row.row fits.0 fits.1 }

@@ -1,7 +1,8 @@
 -- Private steps: how a fragment is filled, item by item. A lemma (proofs/Filled.antt) says that what is filled is what
 -- is offered (Offer.antt).
-use Rattle.std.specs.Prelude.{ℕ, ◌==◌, Bool, true, false, ◌&&◌, if◌then◌else◌, nat_le, nat_lt, max, length, List, [], ◌∷◌, ◌++◌, map, slice_set, slice_index, Option, None, Some}
+use Rattle.std.specs.Prelude.{ℕ, ◌==◌, Bool, true, false, ◌&&◌, if◌then◌else◌, nat_eq, nat_le, nat_lt, max, length, List, [], ◌∷◌, ◌++◌, map, slice_set, slice_index, Option, None, Some}
 use Rattle.std.specs.List.{list_any}
+use Rattle.std.specs.Option.{option_eq}
 use Rattle.dnp_objects.specs.Lanes.{lane_number}
 use Rattle.dnp_appfragment.specs.declared.function.Function.{Function}
 use Rattle.dnp_appfragment.specs.declared.function.Function.TheVariants as function
@@ -59,11 +60,11 @@ over_of given (Some upto) lane = max (slice_index given lane) (slice_index upto 
 
 abbrev pub is_same_run : Run → Run → Bool
 is_same_run NoRun run = false
-is_same_run (OfLane lane) NoRun = false
-is_same_run (OfLane lane) (OfLane lane') = lane == lane'
-is_same_run (OfLane lane) (OfBlock header group block) = false
+is_same_run (OfLane lane common) NoRun = false
+is_same_run (OfLane lane common) (OfLane lane' common') = (lane == lane') && option_eq nat_eq common common'
+is_same_run (OfLane lane common) (OfBlock header group block) = false
 is_same_run (OfBlock header group block) NoRun = false
-is_same_run (OfBlock header group block) (OfLane lane) = false
+is_same_run (OfBlock header group block) (OfLane lane common) = false
 is_same_run (OfBlock header group block) (OfBlock header' group' block') = header == header' && (group == group' && block == block')
 
 abbrev pub no_headers_of : Function → Built
@@ -79,7 +80,7 @@ empty_for f place = record { builder = no_headers_of f; run = NoRun; place = pla
 abbrev pub empty_from : Place → Writer
 empty_from place = empty_for function.Response place
 
--- a new header begins where the lane changes, or for present values the header of the READ, the group or the block
+-- a new header begins where the lane or the common time changes, or for present values the header of the READ, the group or the block
 abbrev pub built_for : Writer → Run → Built
 built_for w run = if is_same_run w.run run then w.builder else built.broken w.builder
 
@@ -88,8 +89,8 @@ put_laid w x = put_thing x.item.thing x.object
   where
     put_thing : Thing → Object → Writer
     put_thing (Event lane row) o = record {
-      builder = built.with_object (built_for w (OfLane lane)) (written.indexed o.group o.variation o.index o.octets);
-      run = OfLane lane;
+      builder = built.with_object (built_for w (OfLane lane x.common)) (written.indexed o.group o.variation o.index o.octets);
+      run = OfLane lane x.common;
       place = place_after w.place x.item;
       upto = slice_set w.upto lane row.id;
     }
