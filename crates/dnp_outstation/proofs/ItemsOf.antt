@@ -173,7 +173,7 @@ left_stand s stood place headers sound writable = left_are CanStand s stood plac
 -- and so they go
 laid_go : (items : List Item) → All CanStand items → All CanGo (laid items)
 laid_go items all =
-    All-map CanGo lay items (All-weaker CanStand (λ (x : Item). CanGo (lay x)) (λ x can. record { stands = can; says = refl }) items all)
+    All-map CanGo lay items (All-weaker CanStand (λ (x : Item). CanGo (lay x)) (λ x can. record { stands = can; says = refl; whole = refl }) items all)
 
 pub held_stand : (s : Source) (stood : ℕ) (place : Place) (headers : List Head) → IsSound s.lanes → AreWritable s
     → All CanGo (held_laid (items_left s stood place headers))

@@ -1,5 +1,6 @@
 -- The header of items that go on joins with the next one, and with no other.
-use Rattle.std.proofs.Common.{◌≡◌, Bool, true, false, if◌then◌else◌, refl, sym, ◌∙◌, ap, ℕ, ◌+◌, ◌^◌, ◌<◌, ◌==◌, ◌&&◌, List, [], ◌∷◌, ◌++◌, map, length, arith, Option, Some, None, eqb-true, eq-eqb}
+use Rattle.std.proofs.Common.{◌≡◌, Bool, true, false, if◌then◌else◌, refl, sym, ◌∙◌, ap, subst, ℕ, ◌+◌, ◌^◌, ◌<◌, ◌==◌, ◌&&◌, List, [], ◌∷◌, ◌++◌, map, length, arith, Option, Some, None, eqb-true, eq-eqb}
+use Rattle.std.specs.Prelude.{IfSome}
 use Rattle.std.specs.List.{flat_map}
 use Rattle.std.specs.Option.{option_map}
 use Rattle.std.proofs.lemmas.Bool.{and_parts, and_from, lt-ltb}
@@ -14,7 +15,7 @@ use Rattle.dnp_outstation.specs.declared.offer.writer.Run.{Run}
 use Rattle.dnp_outstation.specs.declared.offer.writer.Run.TheVariants.{OfLane, OfBlock}
 use Rattle.dnp_outstation.specs.Items.{Thing}
 use Rattle.dnp_outstation.specs.Items.Thing.{Event, Present}
-use Rattle.dnp_outstation.specs.Layout.{Laid, object_of, is_same_object, goes_on, header_of}
+use Rattle.dnp_outstation.specs.Layout.{Laid, object_of, is_same_object, goes_on, header_of, front_of}
 use Rattle.dnp_outstation.specs.steps.Filling.{is_same_run}
 use Rattle.dnp_outstation.proofs.Stretches.{laid_as, IsChain, last_item}
 
@@ -103,6 +104,32 @@ same_run x y on = go x.item.thing y.item.thing on
     go (Event lane a) (Present b) is = cc
     go (Present a) (Event lane' b) is = cc
     go (Present a) (Present b) is = (and_parts _ _ is).0
+
+-- ---- common times
+
+-- of an item whose time is told after a common one the object is 2.3
+abbrev pub IsTold : Laid → Type 0
+IsTold x = IfSome x.common (λ _. (x.object.group ≡ 2) × (x.object.variation ≡ 3))
+
+pub told_whole : (x : Laid) → x.common ≡ None → IsTold x
+told_whole x whole = subst (λ (c : Option ℕ). IfSome c (λ _. (x.object.group ≡ 2) × (x.object.variation ≡ 3))) (sym whole) tt
+
+-- so what doesn't go on in the same run has no common time
+pub no_front : (last y : Laid) → IsTold last → IsTold y → is_same_run (run_at last) (run_at y) ≡ true → goes_on last y ≡ false → front_of y ≡ []
+no_front last y told told' same off = go last.item.thing y.item.thing last.common y.common told told' same off
+  where
+    go : (t t' : Thing) (c c' : Option ℕ)
+        → IsTold (laid_as last.item.header t last.object c) → IsTold (laid_as y.item.header t' y.object c')
+        → is_same_run (run_at (laid_as last.item.header t last.object c)) (run_at (laid_as y.item.header t' y.object c')) ≡ true
+        → goes_on (laid_as last.item.header t last.object c) (laid_as y.item.header t' y.object c') ≡ false
+        → front_of (laid_as y.item.header t' y.object c') ≡ []
+    go t (Present b) c c' p q is apart = refl
+    go t (Event lane b) c None p q is apart = refl
+    go (Present a) (Event lane b) c (Some t) p q is apart = cc
+    go (Event lane' a) (Event lane b) None (Some t) p q is apart = absurd (let none : false ≡ true = (and_parts (lane' == lane) false is).1 in cc)
+    go (Event lane' a) (Event lane b) (Some t') (Some t) p q is apart =
+        absurd (let one : is_same_object last.object y.object ≡ true = and_from _ _ (eq-eqb _ _ (p.0 ∙ sym q.0)) (eq-eqb _ _ (p.1 ∙ sym q.1)) in
+        let on = and_from _ _ is one in cc)
 
 -- ---- headers that join
 

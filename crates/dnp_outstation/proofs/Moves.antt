@@ -67,16 +67,17 @@ short_object law x can =
 -- ---- so one item fits
 
 one_fits : PutLaws → (x : Laid) → CanGo x → fits_fragment (x ∷ []) ≡ true
-one_fits law x can = le-leb (response_size (x ∷ [])) MAX_FRAGMENT (small x.item.thing (short_object law x can))
+one_fits law x can = le-leb (response_size (x ∷ [])) MAX_FRAGMENT (small x.item.thing x.common can.whole (short_object law x can))
   where
-    small : (thing : Thing)
-        → (let y : Laid = laid_as x.item.header thing x.object x.common in length y.object.octets ≤ 11 → response_size (y ∷ []) ≤ MAX_FRAGMENT)
-    small (Event lane row) short =
-        let y : Laid = laid_as x.item.header (Event lane row) x.object x.common in
+    small : (thing : Thing) (common : Option ℕ) → common ≡ None
+        → (let y : Laid = laid_as x.item.header thing x.object common in length y.object.octets ≤ 11 → response_size (y ∷ []) ≤ MAX_FRAGMENT)
+    small (Event lane row) (Some t) whole short = cc
+    small (Event lane row) None whole short =
+        let y : Laid = laid_as x.item.header (Event lane row) x.object None in
         let octets = length-append (number true x.object.index) x.object.octets in
         omega (arith, one_size y)
-    small (Present static) short =
-        let y : Laid = laid_as x.item.header (Present static) x.object x.common in
+    small (Present static) common whole short =
+        let y : Laid = laid_as x.item.header (Present static) x.object common in
         omega (arith, one_size y)
 
 held_some : PutLaws → (items : List Item) → All CanStand items → held_of items ≡ [] → items ≡ []
@@ -85,7 +86,7 @@ held_some law (x ∷ xs) can none =
     let found = held_longest (x ∷ xs) in
     let over : fits_fragment (lay x ∷ []) ≡ false =
     found.more 1 (omega (arith, ap length none, length-map (held_laid (x ∷ xs)) item_of)) (omega arith) in
-    let go : CanGo (lay x) = record { stands = All-head CanStand x xs can; says = refl } in
+    let go : CanGo (lay x) = record { stands = All-head CanStand x xs can; says = refl; whole = refl } in
     absurd (let fits : fits_fragment (lay x ∷ []) ≡ true = one_fits law (lay x) go in cc)
 
 -- a READ goes on only after a fragment that holds something

@@ -12,7 +12,7 @@ use Rattle.dnp_objects.specs.declared.limits.TheConstants.{MAX_FRAGMENT}
 use Rattle.dnp_objects.specs.declared.row.Row.{Row}
 use Rattle.dnp_outstation.specs.Items.{Item, Source, Thing, class_lanes, event_of, first_place, given_after, items_left, last_in, no_ids}
 use Rattle.dnp_outstation.specs.Items.Thing.{Event, Present}
-use Rattle.dnp_outstation.specs.Layout.{Laid, Stretch, alone, fits_fragment, goes_on, header_of, headers_of, in_front, item_of, laid, lay, object_of, range_of, stretches}
+use Rattle.dnp_outstation.specs.Layout.{Laid, Stretch, alone, fits_fragment, front_of, goes_on, header_of, heads_of, headers_of, in_front, item_of, laid, lay, object_of, range_of, stretches}
 use Rattle.dnp_outstation.specs.Offer.{Filled, held_laid, held_of, last_ids, longest, longest_up_to, offered, offered_of}
 use Rattle.dnp_outstation.specs.Said.{event_in, events_in}
 use Rattle.dnp_outstation.proofs.HeldItems.{held_longest, laid_items}
@@ -111,13 +111,14 @@ plain_header x =
     ap (λ (n : ℕ). header_with x.first n (map object_of (map plain_laid x.more))) (length-map x.more plain_laid)
     ∙ ap (λ (os : List Object). header_with x.first (length x.more) os) (plain_objects x.more)
 
-plain_heads : (found : List Stretch) → map header_of (map plain_stretch found) ≡ map header_of found
+plain_heads : (found : List Stretch) → flat_map heads_of (map plain_stretch found) ≡ flat_map heads_of found
 plain_heads [] = refl
 plain_heads (x ∷ xs) =
-    ap (λ (h : Head). h ∷ map header_of (map plain_stretch xs)) (plain_header x) ∙ ap (λ (hs : List Head). header_of x ∷ hs) (plain_heads xs)
+    ap (λ (h : Head). (front_of x.first ++ h ∷ []) ++ flat_map heads_of (map plain_stretch xs)) (plain_header x)
+    ∙ ap (λ (hs : List Head). heads_of x ++ hs) (plain_heads xs)
 
 plain_headers : (xs : List Laid) → AreRows (map item_of xs) → headers_of (map plain_laid xs) ≡ headers_of xs
-plain_headers xs all = ap (map header_of) (plain_stretches xs all) ∙ plain_heads (stretches xs)
+plain_headers xs all = ap (flat_map heads_of) (plain_stretches xs all) ∙ plain_heads (stretches xs)
 
 plain_fits : (xs : List Laid) → AreRows (map item_of xs) → fits_fragment (map plain_laid xs) ≡ fits_fragment xs
 plain_fits xs all = ap (λ (hs : List Head). nat_le (4 + length (spelled hs)) MAX_FRAGMENT) (plain_headers xs all)

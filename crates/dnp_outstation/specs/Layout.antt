@@ -1,8 +1,9 @@
 -- Definition: as which object each item goes, the object headers that they are written as, and the size of the response that holds them
--- (IEEE Std 1815-2012, application layer: object headers, responses; object library: groups 2, 22, 32, 1, 10, 20, 30).
-use Rattle.std.specs.Prelude.{ℕ, ◌+◌, ◌==◌, Bool, true, false, ◌&&◌, if◌then◌else◌, nat_eq, nat_le, List, [], ◌∷◌, length, map, Option, None}
+-- (IEEE Std 1815-2012, application layer: object headers, responses; object library: groups 2, 22, 32, 51, 1, 10, 20, 30).
+use Rattle.std.specs.Prelude.{ℕ, ◌+◌, ◌==◌, Bool, true, false, ◌&&◌, if◌then◌else◌, nat_eq, nat_le, List, [], ◌∷◌, ◌++◌, length, map, Option, None, option_to_list}
 use Rattle.std.specs.List.{flat_map}
 use Rattle.std.specs.Option.{option_eq}
+use Rattle.byteorder.specs.Endian.{little_bytes}
 use Rattle.dnp_appfragment.specs.declared.header.Range.{Range}
 use Rattle.dnp_appfragment.specs.declared.header.Range.TheVariants as range
 use Rattle.dnp_appfragment.specs.Headers.{Head, head_of, spelled}
@@ -91,8 +92,23 @@ abbrev pub header_of : Stretch → Head
 header_of s = head_of s.first.object.group s.first.object.variation (range_of s.first.item.thing (length s.more))
     (flat_map (item_octets (range_of s.first.item.thing (length s.more))) (map object_of (s.first ∷ s.more)))
 
+-- a common time in a header of its own, 51.1: milliseconds in six octets, the low one first
+abbrev pub common_head : ℕ → Head
+common_head time = head_of 51 1 (range.Count false 1) (little_bytes 6 time)
+
+-- the headers in front of an event that begins a stretch: that of its common time, if it has one
+abbrev pub front_of : Laid → List Head
+front_of x = of x.item.thing
+  where
+    of : Thing → List Head
+    of (Event lane row) = map common_head (option_to_list x.common)
+    of (Present static) = []
+
+abbrev pub heads_of : Stretch → List Head
+heads_of s = front_of s.first ++ header_of s ∷ []
+
 abbrev pub headers_of : List Laid → List Head
-headers_of items = map header_of (stretches items)
+headers_of items = flat_map heads_of (stretches items)
 
 -- ---- the size
 

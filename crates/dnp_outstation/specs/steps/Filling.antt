@@ -22,7 +22,7 @@ use Rattle.dnp_outstation.specs.declared.offer.writer.Writer.{Writer}
 use Rattle.dnp_outstation.specs.Items.{Source, Part, Thing, Item, statics_of, each_static, in_range, no_ids, place_after}
 use Rattle.dnp_outstation.specs.Items.Part.{RowsOf, StaticsOf}
 use Rattle.dnp_outstation.specs.Items.Thing.{Event, Present}
-use Rattle.dnp_outstation.specs.Layout.{Laid, lay, laid}
+use Rattle.dnp_outstation.specs.Layout.{Laid, lay, laid, common_head}
 use Rattle.dnp_outstation.specs.Offer.{Filled}
 
 -- ---- what is read
@@ -80,9 +80,21 @@ empty_for f place = record { builder = no_headers_of f; run = NoRun; place = pla
 abbrev pub empty_from : Place → Writer
 empty_from place = empty_for function.Response place
 
--- a new header begins where the lane or the common time changes, or for present values the header of the READ, the group or the block
+-- the common time that the times of a run are told after, if there is one
+abbrev pub common_of : Run → Option ℕ
+common_of NoRun = None
+common_of (OfLane lane common) = common
+common_of (OfBlock header group block) = None
+
+-- no object joins what is there: a common time stands before what comes, if there is one
+abbrev pub begun : Built → Option ℕ → Built
+begun b None = built.broken b
+begun b (Some common) = built.with_header b (common_head common)
+
+-- a new header begins where the lane or the common time changes, or for present values the header of the READ, the
+-- group or the block
 abbrev pub built_for : Writer → Run → Built
-built_for w run = if is_same_run w.run run then w.builder else built.broken w.builder
+built_for w run = if is_same_run w.run run then w.builder else begun w.builder (common_of run)
 
 abbrev pub put_laid : Writer → Laid → Writer
 put_laid w x = put_thing x.item.thing x.object
