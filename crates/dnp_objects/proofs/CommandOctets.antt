@@ -1,7 +1,7 @@
 -- The command that octets give has those octets.
 use Rattle.std.proofs.Common.{◌≡◌, ℕ, suc, ◌+◌, ◌-◌, ◌%◌, ◌^◌, ◌<◌, ◌⊎◌, List, [], ◌∷◌, ◌++◌, length, take, drop, get_or, refl, sym, ◌∙◌, ap, subst, arith, inl, inr, Fits}
 use Rattle.std.specs.Prelude.{FitsSigned}
-use Rattle.std.specs.Int.{w16, w32, cast_unsigned, cast_signed}
+use Rattle.std.specs.Int.{w16, w32, cast_signed}
 use Rattle.std.proofs.lemmas.Int.{of_z-to_z}
 use Rattle.std.proofs.lemmas.List.{append_assoc, take-append-drop, drop-drop, drop_more, drop_all, length-drop}
 use Rattle.std.proofs.Math.Facts.{sfits_to_z}

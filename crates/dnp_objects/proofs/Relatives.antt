@@ -1,5 +1,5 @@
 -- The octets of a row after a common time and the row of octets undo each other.
-use Rattle.std.proofs.Common.{◌≡◌, ◌≢◌, ℕ, ◌+◌, ◌-◌, ◌*◌, ◌/◌, ◌%◌, ◌^◌, ◌<◌, ◌≤◌, suc, Bool, true, false, List, [], ◌∷◌, length, drop, get_or, refl, sym, ◌∙◌, ap, subst, arith, Option, Some, None}
+use Rattle.std.proofs.Common.{◌≡◌, ℕ, ◌+◌, ◌-◌, ◌*◌, ◌/◌, ◌%◌, ◌<◌, ◌≤◌, suc, Bool, true, false, List, [], ◌∷◌, length, drop, get_or, refl, sym, ◌∙◌, ap, subst, arith, Option, Some, None}
 use Rattle.std.specs.Prelude.{pos, nat_lt}
 use Rattle.std.specs.Option.{IsSomeAnd, unwrap_or}
 use Rattle.std.proofs.lemmas.Bool.{and_parts, and_from, ltb-true, lt-ltb}
@@ -74,7 +74,8 @@ is_relative index (f ∷ a ∷ b ∷ []) common small size low =
     let below : n < 65536 = little_from-lt 0 2 octets own in
     let row : Row = relative_row index (f ∷ octets) common in
     let fits : row_fits whole row ≡ true =
-    and_from _ _ (and_from _ _ (and_from _ _ refl (lt-ltb (f / 128) 2 (omega arith))) (lt-ltb (f % 128) 128 (mod-lt f (omega arith)))) (lt-ltb (common + n) MAX_TIME low) in
+    and_from _ _ (and_from _ _ (and_from _ _ refl (lt-ltb (f / 128) 2 (omega arith))) (lt-ltb (f % 128) 128 (mod-lt f (omega arith))))
+    (lt-ltb (common + n) MAX_TIME low) in
     let flags : f ≡ flags_octet Binary (f % 128) (pos (f / 128)) = omega arith in
     let after : n ≡ common + n - common = omega arith in
     let bytes : octets ≡ little_bytes 2 (common + n - common) = sym (octets_of_number 2 octets own (omega arith)) ∙ ap (little_bytes 2) after in
@@ -92,7 +93,13 @@ pub read_so : (index common after : ℕ) (row : Row) (octets : List ℕ) → Are
 read_so index common after row octets small size after_is low row_is =
     let number : after ≡ little_number 2 (drop 1 octets) = three octets size after_is in
     let same : relative_row index octets common ≡ row =
-    ap (λ (n : ℕ). let r : Row = record { kind = Binary; index = index; flags = get_or octets 0 0 % 128; value = pos (get_or octets 0 0 / 128); time = Some (common + n) } in r) (sym number)
+    ap (λ (n : ℕ). let r : Row = record {
+      kind = Binary;
+      index = index;
+      flags = get_or octets 0 0 % 128;
+      value = pos (get_or octets 0 0 / 128);
+      time = Some (common + n);
+    } in r) (sym number)
     ∙ sym row_is in
     subst (IsRelative index octets common) same (is_relative index octets common small size (omega (arith, number, low)))
   where

@@ -1,7 +1,7 @@
 -- Definition: a binary's event as octets that give its time after a common one, 2.3 (IEEE Std 1815-2012, object
 -- library: groups 2 and 51): its flags, and how many milliseconds it came after the common time, in 2 octets.
-use Rattle.std.specs.Prelude.{◌≡◌, ◌≢◌, ℕ, ◌+◌, ◌-◌, ◌/◌, ◌%◌, ◌≤◌, pos, Bool, false, nat_le, ◌&&◌, List, ◌∷◌, length, drop, Option, Some, None, slice_index}
-use Rattle.std.specs.Option.{IsSomeAnd, unwrap_or, option_map_or}
+use Rattle.std.specs.Prelude.{◌≡◌, ◌≢◌, ℕ, ◌+◌, ◌-◌, ◌/◌, ◌%◌, ◌≤◌, pos, List, ◌∷◌, length, drop, Some, slice_index}
+use Rattle.std.specs.Option.{IsSomeAnd, unwrap_or}
 use Rattle.byteorder.specs.Endian.{little_bytes, little_number}
 use Rattle.dnp_objects.specs.declared.row.Kind.TheVariants.{Binary}
 use Rattle.dnp_objects.specs.declared.row.Row.{Row}
@@ -10,11 +10,8 @@ use Rattle.dnp_objects.specs.declared.fault.ObjectFault.TheVariants.{ObjectUnkno
 use Rattle.dnp_objects.specs.declared.limits.TheConstants.{MAX_TIME, MAX_RELATIVE}
 use Rattle.dnp_objects.specs.Rows.{Fits, flags_octet}
 
--- the time is the common one, or so little after it that two octets tell by how much
-abbrev pub is_near : ℕ → ℕ → Bool
-is_near common time = nat_le common time && nat_le time (common + MAX_RELATIVE)
-
--- the row can be written with its time after a common one: a binary that 2.2 can carry, near to that time
+-- the row can be written with its time after a common one: a binary that 2.2 can carry, whose time is the common one, or
+-- so little after it that two octets tell by how much
 pub record FitsRelative (common : ℕ) (row : Row) : Type 0 where
   pub event : Fits 2 2 row
   pub near : IsSomeAnd row.time (λ time. (common ≤ time) × (time ≤ common + MAX_RELATIVE))

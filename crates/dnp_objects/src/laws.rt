@@ -1,5 +1,5 @@
 //! Laws of the words of `specs/`: each function does nothing, and its contract is a law.
-ghost use Rattle.std.specs.Prelude.{◌≡◌, ◌≤◌, ◌<◌, ◌+◌, ◌^◌, ◌↔◌, ℕ, Bool, List, [], ◌∷◌, ◌++◌, Some, IsSome, IfSome};
+ghost use Rattle.std.specs.Prelude.{◌≡◌, ◌≤◌, ◌<◌, ◌+◌, ◌-◌, ◌^◌, ◌↔◌, ℕ, Bool, List, [], ◌∷◌, ◌++◌, Some, IsSome, IfSome};
 ghost use Rattle.std.specs.Prelude.{nat_eq, map, filter, length, All, Contains};
 ghost use Rattle.std.specs.Option.{option_map, option_and_then};
 ghost use Rattle.std.specs.List.Sorted.{IsPermutation};
@@ -167,6 +167,7 @@ pub fn flags_have_their_bits()
 pub fn limits_have_their_values()
     ensures fragment { limits.MAX_FRAGMENT ≡ 2048 }
     ensures time { limits.MAX_TIME ≡ 2 ^ 48 }
+    ensures relative { limits.MAX_RELATIVE ≡ 2 ^ 16 - 1 }
     ensures lanes { (limits.KINDS ∷ limits.CLASSES ∷ limits.LANES ∷ []) ≡ 3 ∷ 3 ∷ 9 ∷ [] }
     ensures id { limits.MAX_ID ≡ 2 ^ 62 }
 {}
