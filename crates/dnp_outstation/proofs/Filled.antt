@@ -6,7 +6,7 @@ use Rattle.dnp_appfragment.specs.Headers.{Head}
 use Rattle.dnp_outstation.specs.declared.offer.place.Place.{Place}
 use Rattle.dnp_outstation.specs.declared.offer.writer.Writer.{Writer}
 use Rattle.dnp_outstation.specs.Items.{Item}
-use Rattle.dnp_outstation.specs.Layout.{Laid, item_of, lay, laid, fits_fragment}
+use Rattle.dnp_outstation.specs.Layout.{Laid, item_of, lay, fits_fragment}
 use Rattle.dnp_outstation.specs.Offer.{longest, held_laid, Filled, filled_with, offered_of}
 use Rattle.dnp_outstation.specs.steps.Filling.{empty_from, put_laid, fits, ended, fill_laid, fill}
 use Rattle.dnp_outstation.proofs.Grows.{fits_begins}
@@ -81,15 +81,15 @@ filled place w items (y ∷ ys) holds fit told = by (λ within. filled place (pu
         over zs past false it = refl
 
 -- what is laid tells its whole time
-laid_told : (items : List Item) → AllByRecursion IsTold (laid items)
+laid_told : (items : List Item) → AllByRecursion IsTold (map lay items)
 laid_told [] = tt
 laid_told (x ∷ xs) = (tt, laid_told xs)
 
 -- from a place on
-pub fill_offers : (place : Place) (items : List Item) → fill (empty_from place) items ≡ offered_of place items
+pub fill_offers : (may : ℕ → Bool) (place : Place) (items : List Item) → fill (empty_from place) items ≡ offered_of may place items
 unfolding offered_of held_laid
-fill_offers place items =
-    let held = longest fits_fragment (laid items) in
-    filled place (empty_from place) [] (laid items) (empty_holds place) refl (laid_told items)
-    ∙ ap (λ (n : ℕ). filled_with (n == length (laid items)) place held) (sym (length-map held item_of))
+fill_offers may place items =
+    let held = longest fits_fragment (map lay items) in
+    filled place (empty_from place) [] (map lay items) (empty_holds place) refl (laid_told items)
+    ∙ ap (λ (n : ℕ). filled_with (n == length (map lay items)) place held) (sym (length-map held item_of))
     ∙ ap (λ (n : ℕ). filled_with (length (map item_of held) == n) place held) (length-map items lay)

@@ -17,9 +17,10 @@ use Rattle.dnp_objects.specs.declared.limits.TheConstants.{LANES, MAX_FRAGMENT, 
 use Rattle.dnp_eventbuf.specs.Stock.{Stock, lane_at}
 use Rattle.dnp_eventbuf.specs.Sound.{IsSound}
 use Rattle.dnp_outstation.specs.declared.offer.writer.Writer.{Writer}
+use Rattle.dnp_outstation.specs.Forms.{may_each}
 use Rattle.dnp_outstation.specs.Items.{Item, no_ids, first_place, place_after, given_after, rows_left, event_of, event_items, class_lanes, enabled_lanes, lane_items}
 use Rattle.dnp_outstation.specs.steps.Filling.{after_release, is_same_run, put_laid, fits, fill_laid, fill, ended, common_of, begun, built_for, empty_for, empty_from}
-use Rattle.dnp_outstation.specs.Layout.{Laid, laid}
+use Rattle.dnp_outstation.specs.Layout.{Laid, lay}
 use Rattle.dnp_outstation.specs.Offer.{Filled, pushed}
 use Rattle.dnp_outstation.specs.steps.Putting.{Puts}
 use Rattle.dnp_outstation.proofs.Carried.{lane_rises}
@@ -169,5 +170,5 @@ filled_pushed s enabled w w' is_last empty put =
     ∙ sym (put [])
     ∙ ap (fill w) (append-nil items)
     ∙ ap (λ (v : Writer). fill v items) empty
-    ∙ filled_as function.UnsolicitedResponse function.Response (empty_from first_place) (laid items) refl
-    ∙ fill_offers first_place items
+    ∙ filled_as function.UnsolicitedResponse function.Response (empty_from first_place) (map lay items) refl
+    ∙ fill_offers may_each first_place items

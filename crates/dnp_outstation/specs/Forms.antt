@@ -1,6 +1,6 @@
 -- Definition: which events of a response could tell their times after a common one: those of a group of three or more,
--- after the time of its first (IEEE Std 1815-2012, object library: groups 2 and 51). Responses don't make use of it yet.
-use Rattle.std.specs.Prelude.{ℕ, ◌+◌, ◌==◌, Bool, false, ◌&&◌, ◌||◌, if◌then◌else◌, nat_le, List, length, map, slice_get, Option, Some, None}
+-- after the time of its first (IEEE Std 1815-2012, object library: groups 2 and 51). What is laid makes no use of it yet.
+use Rattle.std.specs.Prelude.{ℕ, ◌+◌, ◌==◌, Bool, true, false, ◌&&◌, ◌||◌, if◌then◌else◌, nat_le, List, length, map, slice_get, Option, Some, None}
 use Rattle.std.specs.List.{flat_map}
 use Rattle.std.specs.Option.{IsSomeAnd, IfSome, option_map_or, unwrap_or}
 use Rattle.dnp_appfragment.specs.Headers.{Head}
@@ -25,6 +25,10 @@ leaves_open h = ((h.group == 60) && nat_le 2 h.variation) || ((h.group == 2) && 
 -- the header at this place of a READ does
 abbrev pub may_in : List Head → ℕ → Bool
 may_in headers place = option_map_or leaves_open (slice_get headers place) false
+
+-- an unsolicited response leaves it open for each
+abbrev pub may_each : ℕ → Bool
+may_each place = true
 
 -- the second time is the first one, or so little after it that two octets tell by how much
 abbrev pub is_in_reach : Option ℕ → Option ℕ → Bool
@@ -67,6 +71,10 @@ lay_group g = if nat_le 3 (length (members g)) then map (told_after (time_of g.f
 -- the items in order, the events of each group of three or more after the time of its first
 abbrev pub in_groups : (ℕ → Bool) → List Item → List Laid
 in_groups may items = flat_map lay_group (cut (reaches may) items)
+
+-- the items as they go, for a READ whose headers leave it open by this: each as its own object, and in no groups yet
+abbrev pub laid : (ℕ → Bool) → List Item → List Laid
+laid may items = map lay items
 
 -- where an item has a common time, it is an event that can tell its own after that
 abbrev pub CanTell : Laid → Type 0

@@ -36,9 +36,6 @@ own_object (Present static) = point_item static.object.0 static.object.1 static.
 abbrev pub lay : Item → Laid
 lay x = record { item = x; object = own_object x.thing; common = None }
 
-abbrev pub laid : List Item → List Laid
-laid items = map lay items
-
 -- ---- which items stand under one header
 
 -- the objects are of one group and variation

@@ -7,7 +7,7 @@ ghost use Rattle.dnp_eventbuf.specs.Sound.{IsSound};
 ghost use Rattle.dnp_eventbuf.specs.Stock.{without};
 ghost use Rattle.dnp_objects.specs.declared.limits.TheConstants.{LANES};
 ghost use Rattle.dnp_outstation.specs.declared.offer.place.Place.{Place};
-ghost use Rattle.dnp_outstation.specs.Forms.{CanTell, in_groups};
+ghost use Rattle.dnp_outstation.specs.Forms.{CanTell, in_groups, may_in};
 ghost use Rattle.dnp_outstation.specs.Groups.{Group, IsCut, cut};
 ghost use Rattle.dnp_outstation.specs.Items.{Source, Item, no_ids, first_place, part_of, part_after, items_of, items_left};
 ghost use Rattle.dnp_outstation.specs.Laws.{AreFewPresent, AreHeldFrom};
@@ -40,7 +40,7 @@ pub fn what_tells_its_time_after_a_common_one_can()
 pub fn nothing_is_skipped_between_fragments()
     ensures rest { (s : Source) (stood : ℕ) (headers : List Head) (place left : Place) → IsSound s.lanes → AreFewPresent s
         → All (λ h. NumbersFit h.range) headers → length place.given ≡ LANES → (offered s stood place headers).left ≡ Some left
-        → items_left s stood place headers ≡ held_of (items_left s stood place headers) ++ items_left s stood left headers }
+        → items_left s stood place headers ≡ held_of (may_in headers) (items_left s stood place headers) ++ items_left s stood left headers }
     ensures all { (s : Source) (stood : ℕ) (headers : List Head) (place : Place) (fragments : List (List Item)) → IsSound s.lanes → AreFewPresent s
         → All (λ h. NumbersFit h.range) headers → length place.given ≡ LANES → AreHeldFrom s stood headers (Some place) fragments
         → flat_map (λ (held : List Item). held) fragments ≡ items_left s stood place headers }

@@ -22,7 +22,7 @@ use Rattle.dnp_outstation.specs.declared.offer.writer.Writer.{Writer}
 use Rattle.dnp_outstation.specs.Items.{Source, Part, Thing, Item, statics_of, each_static, in_range, no_ids, place_after}
 use Rattle.dnp_outstation.specs.Items.Part.{RowsOf, StaticsOf}
 use Rattle.dnp_outstation.specs.Items.Thing.{Event, Present}
-use Rattle.dnp_outstation.specs.Layout.{Laid, lay, laid, common_head}
+use Rattle.dnp_outstation.specs.Layout.{Laid, lay, common_head}
 use Rattle.dnp_outstation.specs.Offer.{Filled}
 
 -- ---- what is read
@@ -130,4 +130,4 @@ fill_laid w [] = ended true w
 fill_laid w (x ∷ xs) = if fits (put_laid w x) then fill_laid (put_laid w x) xs else ended false w
 
 abbrev pub fill : Writer → List Item → Filled
-fill w items = fill_laid w (laid items)
+fill w items = fill_laid w (map lay items)
