@@ -14,11 +14,11 @@ use Rattle.dnp_objects.specs.Equality.{kind_eq}
 use Rattle.dnp_objects.specs.Events.{event_object}
 use Rattle.dnp_objects.specs.Relative.{FitsRelative}
 use Rattle.dnp_objects.specs.Rows.{Fits}
-use Rattle.dnp_outstation.specs.Forms.{CanTell, in_groups, is_in_reach, lay_group, reaches, time_of, told_after}
+use Rattle.dnp_outstation.specs.Forms.{CanTell, in_groups, is_in_reach, lay_group, reaches, time_of, told_after, told_by}
 use Rattle.dnp_outstation.specs.Groups.{Group, members, cut}
 use Rattle.dnp_outstation.specs.Items.{Thing, Item}
 use Rattle.dnp_outstation.specs.Items.Thing.{Event, Present}
-use Rattle.dnp_outstation.specs.Layout.{item_of, lay}
+use Rattle.dnp_outstation.specs.Layout.{Laid, item_of, lay}
 use Rattle.dnp_outstation.specs.Said.{CanStand}
 use Rattle.dnp_outstation.proofs.Cuts.{is_cut}
 
@@ -53,6 +53,46 @@ all_items (g ∷ gs) =
 
 pub grouped_items : (may : ℕ → Bool) (items : List Item) → map item_of (in_groups may items) ≡ items
 grouped_items may items = all_items (cut (reaches may) items) ∙ (is_cut (reaches may) items).whole
+
+-- what is so of two lists is so of both in one, and the other way round
+joined : {A : Type 0} (P : A → Type 0) (xs ys : List A) → AllByRecursion P xs → AllByRecursion P ys → AllByRecursion P (xs ++ ys)
+joined P [] ys first second = second
+joined P (x ∷ xs) ys first second = (first.0, joined P xs ys first.1 second)
+
+parted : {A : Type 0} (P : A → Type 0) (xs ys : List A) → AllByRecursion P (xs ++ ys) → AllByRecursion P xs × AllByRecursion P ys
+parted P [] ys all = (tt, all)
+parted P (x ∷ xs) ys all = let rest = parted P xs ys all.1 in ((all.0, rest.0), rest.1)
+
+-- ---- as which object each goes
+
+abbrev IsTold : Laid → Type 0
+IsTold x = x ≡ told_by x.common x.item
+
+one_told : (common : ℕ) (x : Item) → IsTold (told_after common x)
+one_told common x = go x.thing
+  where
+    go : (thing : Thing) → IsTold (told_after common (record { header = x.header; thing = thing }))
+    go (Event lane row) = refl
+    go (Present static) = refl
+
+after_told : (common : ℕ) (xs : List Item) → AllByRecursion IsTold (map (told_after common) xs)
+after_told common [] = tt
+after_told common (x ∷ xs) = (one_told common x, after_told common xs)
+
+own_told : (xs : List Item) → AllByRecursion IsTold (map lay xs)
+own_told [] = tt
+own_told (x ∷ xs) = (refl, own_told xs)
+
+groups_told : (groups : List (Group Item)) → AllByRecursion IsTold (flat_map lay_group groups)
+groups_told [] = tt
+groups_told (g ∷ gs) = joined IsTold (lay_group g) (flat_map lay_group gs) (by (nat_le 3 (length (members g)))) (groups_told gs)
+  where
+    by : (b : Bool) → AllByRecursion IsTold (if b then map (told_after (time_of g.first)) (members g) else map lay (members g))
+    by true = after_told (time_of g.first) (members g)
+    by false = own_told (members g)
+
+pub grouped_told : (may : ℕ → Bool) (items : List Item) → All IsTold (in_groups may items)
+grouped_told may items = All-from_recursion IsTold (in_groups may items) (groups_told (cut (reaches may) items))
 
 -- ---- what can be told
 
@@ -142,15 +182,6 @@ group_tells may g near can = go g.more near can
         by : (b : Bool) → AllByRecursion CanTell (if b then map (told_after (time_of g.first)) (g.first ∷ x ∷ xs) else map lay (g.first ∷ x ∷ xs))
         by true = ((both_tell may g.first x near.0 can.0 can.1.0).begins, all_tell may g.first (x ∷ xs) can.0 near can.1)
         by false = whole_tell (g.first ∷ x ∷ xs)
-
--- what is so of two lists is so of both in one, and the other way round
-joined : {A : Type 0} (P : A → Type 0) (xs ys : List A) → AllByRecursion P xs → AllByRecursion P ys → AllByRecursion P (xs ++ ys)
-joined P [] ys first second = second
-joined P (x ∷ xs) ys first second = (first.0, joined P xs ys first.1 second)
-
-parted : {A : Type 0} (P : A → Type 0) (xs ys : List A) → AllByRecursion P (xs ++ ys) → AllByRecursion P xs × AllByRecursion P ys
-parted P [] ys all = (tt, all)
-parted P (x ∷ xs) ys all = let rest = parted P xs ys all.1 in ((all.0, rest.0), rest.1)
 
 groups_tell : (may : ℕ → Bool) (groups : List (Group Item)) → AllByRecursion (λ g. AllByRecursion (λ x. IsTrue (reaches may g.first x)) g.more) groups
     → AllByRecursion CanStand (flat_map members groups) → AllByRecursion CanTell (flat_map lay_group groups)

@@ -76,6 +76,11 @@ in_groups may items = flat_map lay_group (cut (reaches may) items)
 abbrev pub laid : (ℕ → Bool) → List Item → List Laid
 laid may items = map lay items
 
+-- an item that goes after this common time, or as its own object where there is none
+abbrev pub told_by : Option ℕ → Item → Laid
+told_by None x = lay x
+told_by (Some common) x = told_after common x
+
 -- where an item has a common time, it is an event that can tell its own after that
 abbrev pub CanTell : Laid → Type 0
 CanTell x = IfSome x.common (λ common. IsSomeAnd (event_in x.item) (λ row. FitsRelative common row))

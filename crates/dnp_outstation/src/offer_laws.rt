@@ -7,7 +7,7 @@ ghost use Rattle.dnp_eventbuf.specs.Sound.{IsSound};
 ghost use Rattle.dnp_eventbuf.specs.Stock.{without};
 ghost use Rattle.dnp_objects.specs.declared.limits.TheConstants.{LANES};
 ghost use Rattle.dnp_outstation.specs.declared.offer.place.Place.{Place};
-ghost use Rattle.dnp_outstation.specs.Forms.{CanTell, in_groups, may_in};
+ghost use Rattle.dnp_outstation.specs.Forms.{CanTell, in_groups, may_in, told_by};
 ghost use Rattle.dnp_outstation.specs.Groups.{Group, IsCut, cut};
 ghost use Rattle.dnp_outstation.specs.Items.{Source, Item, no_ids, first_place, part_of, part_after, items_of, items_left};
 ghost use Rattle.dnp_outstation.specs.Laws.{AreFewPresent, AreHeldFrom};
@@ -24,10 +24,11 @@ pub fn a_list_is_cut_in_one_way<T>()
         → groups ≡ cut reaches items }
 {}
 
-/// What is laid in groups is the items in order, and where one has a common time, it is an event that can tell its own after
-/// that, in two octets.
+/// What is laid in groups is the items in order. Each goes as its own object, or as 2.3 after a common time, and then it is
+/// an event that can tell its own time after that, in two octets.
 pub fn what_tells_its_time_after_a_common_one_can()
     ensures whole { (may : ℕ → Bool) (items : List Item) → map item_of (in_groups may items) ≡ items }
+    ensures told { (may : ℕ → Bool) (items : List Item) → All (λ x. x ≡ told_by x.common x.item) (in_groups may items) }
     ensures each { (may : ℕ → Bool) (items : List Item) → All CanStand items → All CanTell (in_groups may items) }
 {}
 
