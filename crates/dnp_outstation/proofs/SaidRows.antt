@@ -1,5 +1,5 @@
 -- Headers that hold items say the event rows among them, in order.
-use Rattle.std.proofs.Common.{◌≡◌, Bool, true, false, if◌then◌else◌, IsTrue, refl, sym, ◌∙◌, ap, subst, ℕ, zero, suc, ◌+◌, ◌||◌, ◌==◌, List, [], ◌∷◌, ◌++◌, map, take, drop, length, arith, Option, Some, None, eqb-true}
+use Rattle.std.proofs.Common.{◌≡◌, Bool, true, false, if◌then◌else◌, IsTrue, refl, sym, ◌∙◌, ap, subst, ℕ, zero, suc, ◌+◌, List, [], ◌∷◌, ◌++◌, map, take, drop, length, arith, Option, Some, None}
 use Rattle.std.specs.Prelude.{option_to_list, slice_get}
 use Rattle.std.specs.List.{AllByRecursion, flat_map, range_with_len}
 use Rattle.std.proofs.lemmas.List.{take-append-drop, take_at, drop_at, take-map, drop-map, length-map, map-append}

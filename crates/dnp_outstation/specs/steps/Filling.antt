@@ -1,6 +1,6 @@
 -- Private steps: how a fragment is filled, item by item. A lemma (proofs/Filled.antt) says that what is filled is what
 -- is offered (Offer.antt).
-use Rattle.std.specs.Prelude.{ℕ, ◌==◌, Bool, true, false, ◌&&◌, if◌then◌else◌, nat_eq, nat_le, nat_lt, max, length, List, [], ◌∷◌, ◌++◌, map, slice_set, slice_index, Option, None, Some}
+use Rattle.std.specs.Prelude.{ℕ, ◌==◌, Bool, true, false, ◌&&◌, if◌then◌else◌, nat_eq, nat_le, nat_lt, max, length, List, [], ◌∷◌, map, slice_set, slice_index, Option, None, Some}
 use Rattle.std.specs.List.{list_any}
 use Rattle.std.specs.Option.{option_eq}
 use Rattle.dnp_objects.specs.Lanes.{lane_number}
