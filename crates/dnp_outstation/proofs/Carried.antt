@@ -12,6 +12,7 @@ use Rattle.dnp_objects.specs.declared.limits.TheConstants.{LANES}
 use Rattle.dnp_objects.specs.declared.row.Row.{Row}
 use Rattle.dnp_appfragment.specs.Headers.{Head}
 use Rattle.dnp_outstation.specs.declared.offer.place.Place.{Place}
+use Rattle.dnp_outstation.specs.Forms.{may_in, may_each}
 use Rattle.dnp_outstation.specs.Items.{Item, Source, no_ids, event_of, rows_left, parts_left, part_of, items_left, enabled_lanes, lane_items}
 use Rattle.dnp_outstation.specs.Offer.{held_of, last_ids, offered_of, offered, pushed}
 use Rattle.dnp_outstation.specs.Laws.{row_in, rows_in_lane, lane_numbers, rows_by_lane, AreRowsUpto, IsTidy}
@@ -27,12 +28,12 @@ lane_rises s lane sound low =
     rising_from 0 (lane_at s lane).rows l.rising (λ k d short. let h : 1 ≤ (get_or (lane_at s lane).rows k d).id = l.from_1 k d short in omega arith)
 
 -- what is held is a beginning of the items
-pub held_rows : (items : List Item) (lane : ℕ) → Starts (rows_in_lane lane (held_of items)) (rows_in_lane lane items)
-held_rows items lane =
-    let rest = drop (length (held_of items)) items in
+pub held_rows : (may : ℕ → Bool) (items : List Item) (lane : ℕ) → Starts (rows_in_lane lane (held_of may items)) (rows_in_lane lane items)
+held_rows may items lane =
+    let rest = drop (length (held_of may items)) items in
     record {
       rest = rows_in_lane lane rest;
-      is = ap (rows_in_lane lane) (held_first items) ∙ filter_map-append (row_in lane) (held_of items) rest;
+      is = ap (rows_in_lane lane) (held_first may items) ∙ filter_map-append (row_in lane) (held_of may items) rest;
     }
 
 pub last_id_is : (items : List Item) (lane : ℕ) → lane < LANES → slice_index (last_ids items) lane ≡ last_or 0 (rows_in_lane lane items)
@@ -61,21 +62,22 @@ left_starts s stood given lane sound tidy low =
     record { rest = filter (over stood) rows; is = sym first ∙ ap (λ (l : List Numbered). filter (upto stood) l ++ filter (over stood) rows) (sym all) }
 
 pub read_rows : (s : Source) (stood : ℕ) (place : Place) (headers : List Head) (lane : ℕ) → IsSound s.lanes → length place.given ≡ LANES → lane < LANES
-    → Starts (rows_in_lane lane (held_of (items_left s stood place headers))) (rows_left s.lanes stood place.given lane)
+    → Starts (rows_in_lane lane (held_of (may_in headers) (items_left s stood place headers))) (rows_left s.lanes stood place.given lane)
 read_rows s stood place headers lane sound nine low =
     let items = items_left s stood place headers in
-    starts_of_start (rows_in_lane lane (held_of items)) (rows_in_lane lane items) (rows_left s.lanes stood place.given lane) (held_rows items lane)
+    starts_of_start (rows_in_lane lane (held_of (may_in headers) items)) (rows_in_lane lane items) (rows_left s.lanes stood place.given lane)
+    (held_rows (may_in headers) items lane)
     (item_rows s stood place.given place.header (parts_left place.count (map (part_of s) (drop place.header headers))) lane
     (lane_rises s.lanes lane sound low) (omega arith)
     (read_once s place.count place.header headers lane))
 
 pub fragment_rows : (s : Source) (stood : ℕ) (place : Place) (headers : List Head) → IsSound s.lanes → IsTidy s.lanes place.given → length place.given ≡ LANES
-    → AreRowsUpto s.lanes (offered s stood place headers).upto (held_of (items_left s stood place headers))
+    → AreRowsUpto s.lanes (offered s stood place headers).upto (held_of (may_in headers) (items_left s stood place headers))
 unfolding offered_of
 fragment_rows s stood place headers sound tidy nine = λ lane low.
     let items = items_left s stood place headers in
-    rows_upto (lane_at s.lanes lane).rows (held_of items) lane low (lane_rises s.lanes lane sound low)
-    (starts_of_start (rows_in_lane lane (held_of items)) (rows_left s.lanes stood place.given lane) (lane_at s.lanes lane).rows
+    rows_upto (lane_at s.lanes lane).rows (held_of (may_in headers) items) lane low (lane_rises s.lanes lane sound low)
+    (starts_of_start (rows_in_lane lane (held_of (may_in headers) items)) (rows_left s.lanes stood place.given lane) (lane_at s.lanes lane).rows
     (read_rows s stood place headers lane sound nine low)
     (left_starts s.lanes stood place.given lane sound tidy low))
 
@@ -119,12 +121,13 @@ once_lane s (number ∷ numbers) lane once = by (once_lane s numbers lane once.1
         (sym (split ∙ ap (λ (l : List Numbered). l ++ rows_in_lane lane (lane_items s numbers)) (rows_elsewhere 0 lane number (lane_at s number).rows other)))
         behind
 
-pub pushed_rows : (s : Stock) (enabled : List Bool) → IsSound s → AreRowsUpto s (pushed s enabled).upto (held_of (lane_items s (enabled_lanes 0 enabled)))
+pub pushed_rows : (s : Stock) (enabled : List Bool) → IsSound s
+    → AreRowsUpto s (pushed s enabled).upto (held_of may_each (lane_items s (enabled_lanes 0 enabled)))
 unfolding offered_of
 pushed_rows s enabled sound = λ lane low.
     let items = lane_items s (enabled_lanes 0 enabled) in
-    rows_upto (lane_at s lane).rows (held_of items) lane low (lane_rises s lane sound low)
-    (starts_of_start (rows_in_lane lane (held_of items)) (rows_in_lane lane items) (lane_at s lane).rows (held_rows items lane)
+    rows_upto (lane_at s lane).rows (held_of may_each items) lane low (lane_rises s lane sound low)
+    (starts_of_start (rows_in_lane lane (held_of may_each items)) (rows_in_lane lane items) (lane_at s lane).rows (held_rows may_each items lane)
     (once_lane s (enabled_lanes 0 enabled) lane (enabled_once 0 lane enabled)))
 
 -- ---- a release of these ids

@@ -1,14 +1,16 @@
 -- What is filled item by item is what is offered: the longest beginning of the items that fits.
 use Rattle.std.proofs.Common.{◌≡◌, Bool, true, false, if◌then◌else◌, refl, sym, ◌∙◌, ap, ℕ, ◌==◌, List, [], ◌∷◌, ◌++◌, map, take, length, arith, append_assoc, append-nil, eq-eqb, ne_eqb, None, Some}
+use Rattle.std.specs.List.{AllByRecursion}
 use Rattle.std.proofs.lemmas.List.{length-append, length-map}
 use Rattle.dnp_appfragment.specs.Headers.{Head}
 use Rattle.dnp_outstation.specs.declared.offer.place.Place.{Place}
 use Rattle.dnp_outstation.specs.declared.offer.writer.Writer.{Writer}
 use Rattle.dnp_outstation.specs.Items.{Item}
-use Rattle.dnp_outstation.specs.Layout.{Laid, item_of, lay, laid, fits_fragment}
+use Rattle.dnp_outstation.specs.Layout.{Laid, item_of, lay, fits_fragment}
 use Rattle.dnp_outstation.specs.Offer.{longest, held_laid, Filled, filled_with, offered_of}
 use Rattle.dnp_outstation.specs.steps.Filling.{empty_from, put_laid, fits, ended, fill_laid, fill}
 use Rattle.dnp_outstation.proofs.Grows.{fits_begins}
+use Rattle.dnp_outstation.proofs.Joined.{IsTold}
 use Rattle.dnp_outstation.proofs.Longest.{longest_is}
 use Rattle.dnp_outstation.proofs.Taken.{Holds, heads_are, empty_holds, put_holds, fits_is}
 
@@ -34,19 +36,19 @@ ended_is is_last place w items holds =
 abbrev offered_with : Place → List Laid → List Laid → Filled
 offered_with place items held = filled_with (length held == length items) place held
 
-filled : (place : Place) (w : Writer) (items left : List Laid) → Holds place w items → fits w ≡ true
+filled : (place : Place) (w : Writer) (items left : List Laid) → Holds place w items → fits w ≡ true → AllByRecursion IsTold left
     → fill_laid w left ≡ offered_with place (items ++ left) (longest fits_fragment (items ++ left))
-filled place w items [] holds fit =
+filled place w items [] holds fit told =
     let fits_all : fits_fragment items ≡ true = sym (fits_is place w items holds) ∙ fit in
     let all : longest fits_fragment (items ++ []) ≡ items = longest_is fits_fragment items [] fits_all (λ m low. absurd (omega arith)) in
     let same : (length items == length (items ++ [])) ≡ true = eq-eqb _ _ (ap length (sym (append-nil items))) in
     ended_is true place w items holds
     ∙ ap (λ (b : Bool). filled_with b place items) (sym same)
     ∙ ap (λ (held : List Laid). offered_with place (items ++ []) held) (sym all)
-filled place w items (y ∷ ys) holds fit = by (filled place (put_laid w y) (items ++ y ∷ []) ys after) (fits (put_laid w y)) refl
+filled place w items (y ∷ ys) holds fit told = by (λ within. filled place (put_laid w y) (items ++ y ∷ []) ys after within told.1) (fits (put_laid w y)) refl
   where
     after : Holds place (put_laid w y) (items ++ y ∷ [])
-    after = put_holds place w items y holds fit
+    after = put_holds place w items y holds fit told.0
 
     goal : Filled
     goal = offered_with place (items ++ y ∷ ys) (longest fits_fragment (items ++ y ∷ ys))
@@ -78,11 +80,16 @@ filled place w items (y ∷ ys) holds fit = by (filled place (put_laid w y) (ite
             ≡ true = fits_begins (items ++ y ∷ []) zs (ap fits_fragment (append_assoc items (y ∷ []) zs) ∙ it) in cc)
         over zs past false it = refl
 
+-- what is laid tells its whole time
+laid_told : (items : List Item) → AllByRecursion IsTold (map lay items)
+laid_told [] = tt
+laid_told (x ∷ xs) = (tt, laid_told xs)
+
 -- from a place on
-pub fill_offers : (place : Place) (items : List Item) → fill (empty_from place) items ≡ offered_of place items
+pub fill_offers : (may : ℕ → Bool) (place : Place) (items : List Item) → fill (empty_from place) items ≡ offered_of may place items
 unfolding offered_of held_laid
-fill_offers place items =
-    let held = longest fits_fragment (laid items) in
-    filled place (empty_from place) [] (laid items) (empty_holds place) refl
-    ∙ ap (λ (n : ℕ). filled_with (n == length (laid items)) place held) (sym (length-map held item_of))
+fill_offers may place items =
+    let held = longest fits_fragment (map lay items) in
+    filled place (empty_from place) [] (map lay items) (empty_holds place) refl (laid_told items)
+    ∙ ap (λ (n : ℕ). filled_with (n == length (map lay items)) place held) (sym (length-map held item_of))
     ∙ ap (λ (n : ℕ). filled_with (length (map item_of held) == n) place held) (length-map items lay)

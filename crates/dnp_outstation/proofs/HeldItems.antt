@@ -1,45 +1,51 @@
 -- What a fragment holds of the items that are left: a beginning, and as long a one as fits.
-use Rattle.std.proofs.Common.{◌≡◌, refl, sym, ◌∙◌, ap, subst, ℕ, List, [], ◌∷◌, ◌++◌, map, take, drop, length, arith}
+use Rattle.std.proofs.Common.{◌≡◌, refl, sym, ◌∙◌, ap, subst, ℕ, Bool, List, [], ◌∷◌, ◌++◌, map, take, drop, length, arith}
 use Rattle.std.specs.List.{All}
 use Rattle.std.proofs.lemmas.List.{length-map, take-append-drop, take_all, take-map}
 use Rattle.std.proofs.lemmas.List.Elements.{All-take}
+use Rattle.dnp_outstation.specs.Forms.{laid}
 use Rattle.dnp_outstation.specs.Items.{Item}
 use Rattle.dnp_outstation.specs.Laws.{IsLongest}
-use Rattle.dnp_outstation.specs.Layout.{Laid, item_of, laid, fits_fragment}
+use Rattle.dnp_outstation.specs.Layout.{Laid, item_of, fits_fragment}
 use Rattle.dnp_outstation.specs.Offer.{held_laid, held_of}
 use Rattle.dnp_outstation.proofs.Longest.{longest_longest}
 
-pub held_longest : (items : List Item) → IsLongest fits_fragment (laid items) (held_laid items)
+pub held_longest : (may : ℕ → Bool) (items : List Item) → IsLongest fits_fragment (laid may items) (held_laid may items)
 unfolding held_laid
-held_longest items = longest_longest fits_fragment (laid items) refl
+held_longest may items = longest_longest fits_fragment (laid may items) refl
 
 -- what is so of all that is laid is so of what is held
-pub held_are_laid : (P : Laid → Type 0) (items : List Item) → All P (laid items) → All P (held_laid items)
-held_are_laid P items all = subst (All P) (held_longest items).begins (All-take P (length (held_laid items)) (laid items) all)
+pub held_are_laid : (P : Laid → Type 0) (may : ℕ → Bool) (items : List Item) → All P (laid may items) → All P (held_laid may items)
+held_are_laid P may items all = subst (All P) (held_longest may items).begins (All-take P (length (held_laid may items)) (laid may items) all)
 
 -- items stay what they are, however they go
-pub laid_items : (items : List Item) → map item_of (laid items) ≡ items
-laid_items [] = refl
-laid_items (x ∷ xs) = ap (λ (l : List Item). x ∷ l) (laid_items xs)
+pub laid_items : (may : ℕ → Bool) (items : List Item) → map item_of (laid may items) ≡ items
+laid_items may [] = refl
+laid_items may (x ∷ xs) = ap (λ (l : List Item). x ∷ l) (laid_items may xs)
 
-pub held_begins : (items : List Item) → take (length (held_of items)) items ≡ held_of items
-held_begins items =
-    let n = length (held_laid items) in
-    ap (λ (k : ℕ). take k items) (length-map (held_laid items) item_of)
-    ∙ ap (take n) (sym (laid_items items))
-    ∙ take-map item_of n (laid items)
-    ∙ ap (map item_of) (held_longest items).begins
+pub held_begins : (may : ℕ → Bool) (items : List Item) → take (length (held_of may items)) items ≡ held_of may items
+held_begins may items =
+    let n = length (held_laid may items) in
+    ap (λ (k : ℕ). take k items) (length-map (held_laid may items) item_of)
+    ∙ ap (take n) (sym (laid_items may items))
+    ∙ take-map item_of n (laid may items)
+    ∙ ap (map item_of) (held_longest may items).begins
 
 -- the others stand after it
-pub held_first : (items : List Item) → items ≡ held_of items ++ drop (length (held_of items)) items
-held_first items =
-    let n = length (held_of items) in
-    sym (take-append-drop n items) ∙ ap (λ (held : List Item). held ++ drop n items) (held_begins items)
+pub held_first : (may : ℕ → Bool) (items : List Item) → items ≡ held_of may items ++ drop (length (held_of may items)) items
+held_first may items =
+    let n = length (held_of may items) in
+    sym (take-append-drop n items) ∙ ap (λ (held : List Item). held ++ drop n items) (held_begins may items)
 
 -- as long as all that is left, it is all of that
-pub held_whole : (items : List Item) → length (held_of items) ≡ length items → held_of items ≡ items
-held_whole items same = sym (held_begins items) ∙ take_all (length (held_of items)) items (omega arith)
+pub held_whole : (may : ℕ → Bool) (items : List Item) → length (held_of may items) ≡ length items → held_of may items ≡ items
+held_whole may items same = sym (held_begins may items) ∙ take_all (length (held_of may items)) items (omega arith)
 
-pub held_none : held_laid [] ≡ []
+pub held_none : (may : ℕ → Bool) → held_laid may [] ≡ []
 unfolding held_laid
-held_none = refl
+held_none may = refl
+
+-- what headers leave open makes no difference yet
+pub held_any : (may may' : ℕ → Bool) (items : List Item) → held_laid may items ≡ held_laid may' items
+unfolding held_laid
+held_any may may' items = refl

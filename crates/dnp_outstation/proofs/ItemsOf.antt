@@ -12,9 +12,10 @@ use Rattle.dnp_eventbuf.specs.Sound.{IsSound}
 use Rattle.dnp_eventbuf.specs.Stock.{Stock, lane_at}
 use Rattle.dnp_appfragment.specs.Headers.{Head}
 use Rattle.dnp_outstation.specs.declared.offer.place.Place.{Place}
+use Rattle.dnp_outstation.specs.Forms.{may_in, may_each, laid}
 use Rattle.dnp_outstation.specs.Items.{Source, Static, statics_of, each_static, in_range, is_within, Part, part_of, Item, at_most, less, rows_left, event_of, event_items, present_of, given_after, part_items, items_of, part_after, parts_left, items_left, enabled_lanes, lane_items}
 use Rattle.dnp_outstation.specs.Items.Part.{RowsOf, StaticsOf}
-use Rattle.dnp_outstation.specs.Layout.{lay, laid}
+use Rattle.dnp_outstation.specs.Layout.{lay}
 use Rattle.dnp_outstation.specs.Offer.{held_laid, held_of}
 use Rattle.dnp_outstation.specs.Said.{CanStand, CanGo, AreWritable}
 use Rattle.dnp_outstation.proofs.ByLanes.{IsLow}
@@ -112,8 +113,8 @@ items_are Q s stood given header (part ∷ parts) all are =
     (items_are Q s stood (fold given_after given own) (header + 1) parts all are.1)
 
 -- of the items of a fragment too
-held_are : (Q : Item → Type 0) (items : List Item) → All Q items → All Q (held_of items)
-held_are Q items all = subst (All Q) (held_begins items) (All-take Q (length (held_of items)) items all)
+held_are : (Q : Item → Type 0) (may : ℕ → Bool) (items : List Item) → All Q items → All Q (held_of may items)
+held_are Q may items all = subst (All Q) (held_begins may items) (All-take Q (length (held_of may items)) items all)
 
 left_are : (Q : Item → Type 0) (s : Source) (stood : ℕ) (place : Place) (headers : List Head) → AreAll Q s
     → All Q (items_left s stood place headers)
@@ -122,8 +123,8 @@ left_are Q s stood place headers all =
     (left_parts Q place.count (map (part_of s) (drop place.header headers)) (are_parts Q s (drop place.header headers) all))
 
 read_are : (Q : Item → Type 0) (s : Source) (stood : ℕ) (place : Place) (headers : List Head) → AreAll Q s
-    → All Q (held_of (items_left s stood place headers))
-read_are Q s stood place headers all = held_are Q (items_left s stood place headers) (left_are Q s stood place headers all)
+    → All Q (held_of (may_in headers) (items_left s stood place headers))
+read_are Q s stood place headers all = held_are Q (may_in headers) (items_left s stood place headers) (left_are Q s stood place headers all)
 
 lane_items_are : (Q : Item → Type 0) (s : Stock) (lanes : List ℕ) → ((lane : ℕ) → lane < LANES → All (λ x. Q (event_of 0 lane x)) (lane_at s lane).rows)
     → AreLow lanes → All Q (lane_items s lanes)
@@ -171,31 +172,31 @@ pub left_stand : (s : Source) (stood : ℕ) (place : Place) (headers : List Head
 left_stand s stood place headers sound writable = left_are CanStand s stood place headers (all_stand s sound writable)
 
 -- and so they go
-laid_go : (items : List Item) → All CanStand items → All CanGo (laid items)
-laid_go items all =
-    All-map CanGo lay items (All-weaker CanStand (λ (x : Item). CanGo (lay x)) (λ x can. record { stands = can; says = refl }) items all)
+laid_go : (may : ℕ → Bool) (items : List Item) → All CanStand items → All CanGo (laid may items)
+laid_go may items all =
+    All-map CanGo lay items (All-weaker CanStand (λ (x : Item). CanGo (lay x)) (λ x can. record { stands = can; says = refl; whole = refl }) items all)
 
 pub held_stand : (s : Source) (stood : ℕ) (place : Place) (headers : List Head) → IsSound s.lanes → AreWritable s
-    → All CanGo (held_laid (items_left s stood place headers))
+    → All CanGo (held_laid (may_in headers) (items_left s stood place headers))
 held_stand s stood place headers sound writable =
     let items = items_left s stood place headers in
-    held_are_laid CanGo items (laid_go items (left_stand s stood place headers sound writable))
+    held_are_laid CanGo (may_in headers) items (laid_go (may_in headers) items (left_stand s stood place headers sound writable))
 
-pub held_low : (s : Source) (stood : ℕ) (place : Place) (headers : List Head) → All IsLow (held_of (items_left s stood place headers))
+pub held_low : (s : Source) (stood : ℕ) (place : Place) (headers : List Head) → All IsLow (held_of (may_in headers) (items_left s stood place headers))
 held_low s stood place headers = read_are IsLow s stood place headers (record {
   events = λ lane low k d within header. low;
   present = λ asked group k d within header. tt;
 })
 
 pub pushed_stand : (s : Stock) (enabled : List Bool) → IsSound s → length enabled ≤ 3
-    → All CanGo (held_laid (lane_items s (enabled_lanes 0 enabled)))
+    → All CanGo (held_laid may_each (lane_items s (enabled_lanes 0 enabled)))
 pushed_stand s enabled sound few =
     let items = lane_items s (enabled_lanes 0 enabled) in
-    held_are_laid CanGo items
-    (laid_go items (lane_items_are CanStand s (enabled_lanes 0 enabled) (λ lane low k d within. events_stand s lane sound low k d within 0)
+    held_are_laid CanGo may_each items
+    (laid_go may_each items (lane_items_are CanStand s (enabled_lanes 0 enabled) (λ lane low k d within. events_stand s lane sound low k d within 0)
     (enabled_low 0 enabled (omega arith))))
 
-pub pushed_low : (s : Stock) (enabled : List Bool) → length enabled ≤ 3 → All IsLow (held_of (lane_items s (enabled_lanes 0 enabled)))
+pub pushed_low : (s : Stock) (enabled : List Bool) → length enabled ≤ 3 → All IsLow (held_of may_each (lane_items s (enabled_lanes 0 enabled)))
 pushed_low s enabled few =
-    held_are IsLow (lane_items s (enabled_lanes 0 enabled))
+    held_are IsLow may_each (lane_items s (enabled_lanes 0 enabled))
     (lane_items_are IsLow s (enabled_lanes 0 enabled) (λ lane low k d within. low) (enabled_low 0 enabled (omega arith)))

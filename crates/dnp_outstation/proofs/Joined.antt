@@ -1,5 +1,6 @@
 -- The header of items that go on joins with the next one, and with no other.
-use Rattle.std.proofs.Common.{◌≡◌, Bool, true, false, if◌then◌else◌, refl, sym, ◌∙◌, ap, ℕ, ◌+◌, ◌^◌, ◌<◌, ◌==◌, ◌&&◌, List, [], ◌∷◌, ◌++◌, map, length, arith, Option, Some, None, eqb-true, eq-eqb}
+use Rattle.std.proofs.Common.{◌≡◌, Bool, true, false, if◌then◌else◌, refl, sym, ◌∙◌, ap, subst, ℕ, ◌+◌, ◌^◌, ◌<◌, ◌==◌, ◌&&◌, List, [], ◌∷◌, ◌++◌, map, length, arith, Option, Some, None, eqb-true, eq-eqb}
+use Rattle.std.specs.Prelude.{IfSome}
 use Rattle.std.specs.List.{flat_map}
 use Rattle.std.specs.Option.{option_map}
 use Rattle.std.proofs.lemmas.Bool.{and_parts, and_from, lt-ltb}
@@ -14,7 +15,7 @@ use Rattle.dnp_outstation.specs.declared.offer.writer.Run.{Run}
 use Rattle.dnp_outstation.specs.declared.offer.writer.Run.TheVariants.{OfLane, OfBlock}
 use Rattle.dnp_outstation.specs.Items.{Thing}
 use Rattle.dnp_outstation.specs.Items.Thing.{Event, Present}
-use Rattle.dnp_outstation.specs.Layout.{Laid, object_of, is_same_object, goes_on, header_of}
+use Rattle.dnp_outstation.specs.Layout.{Laid, object_of, is_same_object, goes_on, header_of, front_of}
 use Rattle.dnp_outstation.specs.steps.Filling.{is_same_run}
 use Rattle.dnp_outstation.proofs.Stretches.{laid_as, IsChain, last_item}
 
@@ -23,7 +24,7 @@ abbrev pub run_at : Laid → Run
 run_at x = at x.item.thing
   where
     at : Thing → Run
-    at (Event lane row) = OfLane lane
+    at (Event lane row) = OfLane lane x.common
     at (Present static) = OfBlock x.item.header x.object.group static.block
 
 -- an item as a header of its own
@@ -48,7 +49,7 @@ IsBehind x k y = by x.item.thing y.item.thing
 pub behind_itself : (x : Laid) → IsBehind x 0 x
 behind_itself x = go x.item.thing
   where
-    go : (thing : Thing) → (let y : Laid = laid_as x.item.header thing x.object in IsBehind y 0 y)
+    go : (thing : Thing) → (let y : Laid = laid_as x.item.header thing x.object x.common in IsBehind y 0 y)
     go (Event lane row) = (refl, refl, refl)
     go (Present static) = (refl, refl, omega arith)
 
@@ -56,9 +57,9 @@ pub behind_on : (x y z : Laid) (k m : ℕ) → IsBehind x k y → IsBehind y m z
 behind_on x y z k m first second = go x.item.thing y.item.thing z.item.thing first second
   where
     go : (t t' t'' : Thing)
-        → IsBehind (laid_as x.item.header t x.object) k (laid_as y.item.header t' y.object)
-        → IsBehind (laid_as y.item.header t' y.object) m (laid_as z.item.header t'' z.object)
-        → IsBehind (laid_as x.item.header t x.object) (k + m) (laid_as z.item.header t'' z.object)
+        → IsBehind (laid_as x.item.header t x.object x.common) k (laid_as y.item.header t' y.object y.common)
+        → IsBehind (laid_as y.item.header t' y.object y.common) m (laid_as z.item.header t'' z.object z.common)
+        → IsBehind (laid_as x.item.header t x.object x.common) (k + m) (laid_as z.item.header t'' z.object z.common)
     go (Event lane a) (Event lane' b) (Event lane'' c) p q = (p.0 ∙ q.0, p.1 ∙ q.1, p.2 ∙ q.2)
     go (Event lane a) (Event lane' b) (Present c) p q = absurd q
     go (Event lane a) (Present b) t'' p q = absurd p
@@ -72,12 +73,12 @@ behind_on x y z k m first second = go x.item.thing y.item.thing z.item.thing fir
 pub behind_next : (x y : Laid) → goes_on x y ≡ true → IsBehind x 1 y
 behind_next x y on = go x.item.thing y.item.thing on
   where
-    go : (t t' : Thing) → goes_on (laid_as x.item.header t x.object) (laid_as y.item.header t' y.object) ≡ true
-        → IsBehind (laid_as x.item.header t x.object) 1 (laid_as y.item.header t' y.object)
+    go : (t t' : Thing) → goes_on (laid_as x.item.header t x.object x.common) (laid_as y.item.header t' y.object y.common) ≡ true
+        → IsBehind (laid_as x.item.header t x.object x.common) 1 (laid_as y.item.header t' y.object y.common)
     go (Event lane a) (Event lane' b) is =
         let parts = and_parts _ _ is in
         let object = and_parts _ _ parts.1 in
-        (eqb-true _ _ parts.0, eqb-true _ _ object.0, eqb-true _ _ object.1)
+        (eqb-true _ _ (and_parts _ _ parts.0).0, eqb-true _ _ object.0, eqb-true _ _ object.1)
     go (Event lane a) (Present b) is = cc
     go (Present a) (Event lane' b) is = cc
     go (Present a) (Present b) is =
@@ -97,12 +98,38 @@ chain_behind x (y ∷ ys) chain =
 pub same_run : (x y : Laid) → goes_on x y ≡ true → is_same_run (run_at x) (run_at y) ≡ true
 same_run x y on = go x.item.thing y.item.thing on
   where
-    go : (t t' : Thing) → goes_on (laid_as x.item.header t x.object) (laid_as y.item.header t' y.object) ≡ true
-        → is_same_run (run_at (laid_as x.item.header t x.object)) (run_at (laid_as y.item.header t' y.object)) ≡ true
+    go : (t t' : Thing) → goes_on (laid_as x.item.header t x.object x.common) (laid_as y.item.header t' y.object y.common) ≡ true
+        → is_same_run (run_at (laid_as x.item.header t x.object x.common)) (run_at (laid_as y.item.header t' y.object y.common)) ≡ true
     go (Event lane a) (Event lane' b) is = (and_parts _ _ is).0
     go (Event lane a) (Present b) is = cc
     go (Present a) (Event lane' b) is = cc
     go (Present a) (Present b) is = (and_parts _ _ is).0
+
+-- ---- common times
+
+-- of an item whose time is told after a common one the object is 2.3
+abbrev pub IsTold : Laid → Type 0
+IsTold x = IfSome x.common (λ _. (x.object.group ≡ 2) × (x.object.variation ≡ 3))
+
+pub told_whole : (x : Laid) → x.common ≡ None → IsTold x
+told_whole x whole = subst (λ (c : Option ℕ). IfSome c (λ _. (x.object.group ≡ 2) × (x.object.variation ≡ 3))) (sym whole) tt
+
+-- so what doesn't go on in the same run has no common time
+pub no_front : (last y : Laid) → IsTold last → IsTold y → is_same_run (run_at last) (run_at y) ≡ true → goes_on last y ≡ false → front_of y ≡ []
+no_front last y told told' same off = go last.item.thing y.item.thing last.common y.common told told' same off
+  where
+    go : (t t' : Thing) (c c' : Option ℕ)
+        → IsTold (laid_as last.item.header t last.object c) → IsTold (laid_as y.item.header t' y.object c')
+        → is_same_run (run_at (laid_as last.item.header t last.object c)) (run_at (laid_as y.item.header t' y.object c')) ≡ true
+        → goes_on (laid_as last.item.header t last.object c) (laid_as y.item.header t' y.object c') ≡ false
+        → front_of (laid_as y.item.header t' y.object c') ≡ []
+    go t (Present b) c c' p q is apart = refl
+    go t (Event lane b) c None p q is apart = refl
+    go (Present a) (Event lane b) c (Some t) p q is apart = cc
+    go (Event lane' a) (Event lane b) None (Some t) p q is apart = absurd (let none : false ≡ true = (and_parts (lane' == lane) false is).1 in cc)
+    go (Event lane' a) (Event lane b) (Some t') (Some t) p q is apart =
+        absurd (let one : is_same_object last.object y.object ≡ true = and_from _ _ (eq-eqb _ _ (p.0 ∙ sym q.0)) (eq-eqb _ _ (p.1 ∙ sym q.1)) in
+        let on = and_from _ _ is one in cc)
 
 -- ---- headers that join
 
@@ -134,13 +161,14 @@ pub joins : (x : Laid) (more : List Laid) (y : Laid) → IsBehind x (length more
     → joined (header_of (record { first = x; more = more })) (written_of y) ≡ Some (header_of (record { first = x; more = more ++ y ∷ [] }))
 joins x more y behind few = go x.item.thing y.item.thing behind few
   where
-    go : (t t' : Thing) → IsBehind (laid_as x.item.header t x.object) (length more + 1) (laid_as y.item.header t' y.object)
-        → IsFew (laid_as x.item.header t x.object) more
-        → joined (header_of (record { first = laid_as x.item.header t x.object; more = more })) (written_of (laid_as y.item.header t' y.object))
-        ≡ Some (header_of (record { first = laid_as x.item.header t x.object; more = more ++ laid_as y.item.header t' y.object ∷ [] }))
+    go : (t t' : Thing) → IsBehind (laid_as x.item.header t x.object x.common) (length more + 1) (laid_as y.item.header t' y.object y.common)
+        → IsFew (laid_as x.item.header t x.object x.common) more
+        → joined (header_of (record { first = laid_as x.item.header t x.object x.common; more = more }))
+        (written_of (laid_as y.item.header t' y.object y.common))
+        ≡ Some (header_of (record { first = laid_as x.item.header t x.object x.common; more = more ++ laid_as y.item.header t' y.object y.common ∷ [] }))
     go (Event lane a) (Event lane' b) p low =
-        let x' : Laid = laid_as x.item.header (Event lane a) x.object in
-        let y' : Laid = laid_as y.item.header (Event lane' b) y.object in
+        let x' : Laid = laid_as x.item.header (Event lane a) x.object x.common in
+        let y' : Laid = laid_as y.item.header (Event lane' b) y.object y.common in
         let n = length (more ++ y' ∷ []) + 1 in
         let long : (length more + 1) + 1 ≡ n = omega (arith, length_push more y') in
         let small : (length more + 1) + 1 < 2 ^ 16 = omega arith in
@@ -154,8 +182,8 @@ joins x more y behind few = go x.item.thing y.item.thing behind few
     go (Event lane a) (Present b) p low = absurd p
     go (Present a) (Event lane' b) p low = absurd p
     go (Present a) (Present b) p low =
-        let x' : Laid = laid_as x.item.header (Present a) x.object in
-        let y' : Laid = laid_as y.item.header (Present b) y.object in
+        let x' : Laid = laid_as x.item.header (Present a) x.object x.common in
+        let y' : Laid = laid_as y.item.header (Present b) y.object y.common in
         let n = a.row.index + length (more ++ y' ∷ []) in
         let at : a.row.index + (length more + 1) ≡ b.row.index = p.2 in
         let next : a.row.index + length more + 1 ≡ b.row.index = omega arith in
@@ -199,13 +227,14 @@ no_join x more last y behind same off = go x.item.thing last.item.thing y.item.t
         ∙ ap (λ (v : ℕ). (last.object.group == y.object.group) && (v == y.object.variation)) variation
         ∙ apart
 
-    go : (t t' t'' : Thing) → IsBehind (laid_as x.item.header t x.object) (length more) (laid_as last.item.header t' last.object)
-        → is_same_run (run_at (laid_as last.item.header t' last.object)) (run_at (laid_as y.item.header t'' y.object)) ≡ true
-        → goes_on (laid_as last.item.header t' last.object) (laid_as y.item.header t'' y.object) ≡ false
-        → joined (header_of (record { first = laid_as x.item.header t x.object; more = more })) (written_of (laid_as y.item.header t'' y.object)) ≡ None
+    go : (t t' t'' : Thing) → IsBehind (laid_as x.item.header t x.object x.common) (length more) (laid_as last.item.header t' last.object last.common)
+        → is_same_run (run_at (laid_as last.item.header t' last.object last.common)) (run_at (laid_as y.item.header t'' y.object y.common)) ≡ true
+        → goes_on (laid_as last.item.header t' last.object last.common) (laid_as y.item.header t'' y.object y.common) ≡ false
+        → joined (header_of (record { first = laid_as x.item.header t x.object x.common; more = more }))
+        (written_of (laid_as y.item.header t'' y.object y.common)) ≡ None
     go (Event lane a) (Event lane' b) (Event lane'' c) p one other =
-        no_join_by (header_of (record { first = laid_as x.item.header (Event lane a) x.object; more = more }))
-        (written_of (laid_as y.item.header (Event lane'' c) y.object))
+        no_join_by (header_of (record { first = laid_as x.item.header (Event lane a) x.object x.common; more = more }))
+        (written_of (laid_as y.item.header (Event lane'' c) y.object y.common))
         (others p.1 p.2 (other_by _ _ one other))
     go (Event lane a) (Event lane' b) (Present c) p one other = cc
     go (Event lane a) (Present b) t'' p one other = absurd p
@@ -214,10 +243,10 @@ no_join x more last y behind same off = go x.item.thing last.item.thing y.item.t
     go (Present a) (Present b) (Present c) p one other = by (last.object.variation == y.object.variation) refl
       where
         a' : Head
-        a' = header_of (record { first = laid_as x.item.header (Present a) x.object; more = more })
+        a' = header_of (record { first = laid_as x.item.header (Present a) x.object x.common; more = more })
 
         c' : Head
-        c' = written_of (laid_as y.item.header (Present c) y.object)
+        c' = written_of (laid_as y.item.header (Present c) y.object y.common)
 
         by : (v : Bool) → (last.object.variation == y.object.variation) ≡ v → joined a' c' ≡ None
         by true same_variation =

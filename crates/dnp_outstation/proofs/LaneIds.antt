@@ -4,6 +4,7 @@ use Rattle.dnp_appfragment.specs.Headers.{Head}
 use Rattle.dnp_controls.specs.Panel.{Panel}
 use Rattle.dnp_objects.specs.declared.limits.TheConstants.{LANES}
 use Rattle.dnp_outstation.specs.declared.offer.place.Place.{Place}
+use Rattle.dnp_outstation.specs.Forms.{may_in}
 use Rattle.dnp_outstation.specs.Items.{first_place, last_in, items_left}
 use Rattle.dnp_outstation.specs.Offer.{held_of, offered_of}
 use Rattle.dnp_outstation.specs.State.{State}
@@ -15,7 +16,7 @@ use Rattle.dnp_outstation.proofs.Reported.{nine_ids}
 
 pub read_ids : (s : State) (o : Panel) (stood : ℕ) (place : Place) (headers : List Head) → length (read_content s o stood place headers).upto ≡ LANES
 unfolding offered_of
-read_ids s o stood place headers = nine_ids (held_of (items_left (source_of s o) stood place headers))
+read_ids s o stood place headers = nine_ids (held_of (may_in headers) (items_left (source_of s o) stood place headers))
 
 content_ids : (s : State) (o : Panel) (content : Content) → IsContent AnyHeaders s o content → length content.upto ≡ LANES
 content_ids s o _ (Reads headers) = read_ids s o (last_in s.lanes) first_place headers

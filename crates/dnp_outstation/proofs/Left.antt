@@ -12,6 +12,7 @@ use Rattle.dnp_eventbuf.specs.Stock.{Stock, LaneState, lane_at, no_lane, emptied
 use Rattle.dnp_appfragment.specs.Headers.{Head}
 use Rattle.dnp_objects.specs.declared.limits.TheConstants.{LANES}
 use Rattle.dnp_outstation.specs.declared.offer.place.Place.{Place}
+use Rattle.dnp_outstation.specs.Forms.{may_in}
 use Rattle.dnp_outstation.specs.Items.{Item, Source, no_ids, given_after, place_after, rows_left, items_left}
 use Rattle.dnp_outstation.specs.Layout.{Laid, item_of}
 use Rattle.dnp_outstation.specs.Offer.{held_of, last_ids, filled_with, offered_of, offered}
@@ -38,18 +39,18 @@ given_rise s stood given lane sound low =
     (All-filter (upto stood) (λ (x : Numbered). id < x.id) passed behind)
 
 held_rise : (s : Source) (stood : ℕ) (place : Place) (headers : List Head) (lane : ℕ) → IsSound s.lanes → length place.given ≡ LANES → lane < LANES
-    → Rising (slice_index place.given lane) (rows_in_lane lane (held_of (items_left s stood place headers)))
+    → Rising (slice_index place.given lane) (rows_in_lane lane (held_of (may_in headers) (items_left s stood place headers)))
 held_rise s stood place headers lane sound nine low =
-    let held = rows_in_lane lane (held_of (items_left s stood place headers)) in
+    let held = rows_in_lane lane (held_of (may_in headers) (items_left s stood place headers)) in
     let starts = read_rows s stood place headers lane sound nine low in
     rising_begins (slice_index place.given lane) held starts.rest
     (subst (Rising (slice_index place.given lane)) starts.is (given_rise s.lanes stood place.given lane sound low))
 
 held_stood : (s : Source) (stood : ℕ) (place : Place) (headers : List Head) (lane : ℕ) → IsSound s.lanes → length place.given ≡ LANES → lane < LANES
-    → All (λ x. x.id ≤ stood) (rows_in_lane lane (held_of (items_left s stood place headers)))
+    → All (λ x. x.id ≤ stood) (rows_in_lane lane (held_of (may_in headers) (items_left s stood place headers)))
 held_stood s stood place headers lane sound nine low =
     let P : Numbered → Type 0 = λ x. x.id ≤ stood in
-    let held = rows_in_lane lane (held_of (items_left s stood place headers)) in
+    let held = rows_in_lane lane (held_of (may_in headers) (items_left s stood place headers)) in
     let starts = read_rows s stood place headers lane sound nine low in
     let passed : List Numbered = filter (over (slice_index place.given lane)) (lane_at s.lanes lane).rows in
     let all : All P (rows_left s.lanes stood place.given lane) =
@@ -58,9 +59,9 @@ held_stood s stood place headers lane sound nine low =
     All-first P held starts.rest (subst (All P) starts.is all)
 
 pub held_next : (s : Source) (stood : ℕ) (place : Place) (headers : List Head) → IsSound s.lanes → length place.given ≡ LANES
-    → AreNext place.given stood (held_of (items_left s stood place headers))
+    → AreNext place.given stood (held_of (may_in headers) (items_left s stood place headers))
 held_next s stood place headers sound nine =
-    let held = held_of (items_left s stood place headers) in
+    let held = held_of (may_in headers) (items_left s stood place headers) in
     record {
       in_order = λ lane low. pairs_from (slice_index place.given lane) (rows_in_lane lane held) (held_rise s stood place headers lane sound nine low);
       after_given = λ lane low. all_over (slice_index place.given lane) (rows_in_lane lane held) (held_rise s stood place headers lane sound nine low);
@@ -84,10 +85,10 @@ chosen false x y is = cc
 -- the last id given in a lane after a fragment
 pub given_is : (s : Source) (stood : ℕ) (place next : Place) (headers : List Head) (lane : ℕ) → length place.given ≡ LANES → lane < LANES
     → (offered s stood place headers).left ≡ Some next
-    → slice_index next.given lane ≡ last_or (slice_index place.given lane) (rows_in_lane lane (held_of (items_left s stood place headers)))
+    → slice_index next.given lane ≡ last_or (slice_index place.given lane) (rows_in_lane lane (held_of (may_in headers) (items_left s stood place headers)))
 unfolding offered_of
 given_is s stood place next headers lane nine low is =
-    let held = held_of (items_left s stood place headers) in
+    let held = held_of (may_in headers) (items_left s stood place headers) in
     let p : fold place_after place held ≡ next = chosen (length held == length (items_left s stood place headers)) (fold place_after place held) next is in
     ap (λ (q : Place). slice_index q.given lane) (sym p)
     ∙ ap (λ (ids : List ℕ). slice_index ids lane) (place_given place held)
@@ -97,7 +98,7 @@ pub nine_after : (s : Source) (stood : ℕ) (place next : Place) (headers : List
     → length next.given ≡ LANES
 unfolding offered_of
 nine_after s stood place next headers nine is =
-    let held = held_of (items_left s stood place headers) in
+    let held = held_of (may_in headers) (items_left s stood place headers) in
     let p : fold place_after place held ≡ next = chosen (length held == length (items_left s stood place headers)) (fold place_after place held) next is in
     ap (λ (q : Place). length q.given) (sym p) ∙ ap length (place_given place held) ∙ length_given place.given held ∙ nine
 
@@ -107,7 +108,7 @@ pub moves_onward : (s : Source) (stood : ℕ) (place next : Place) (headers : Li
 moves_onward s stood place next headers sound nine is = record {
   nine = nine_after s stood place next headers nine is;
   rises = λ lane low.
-      let held = rows_in_lane lane (held_of (items_left s stood place headers)) in
+      let held = rows_in_lane lane (held_of (may_in headers) (items_left s stood place headers)) in
       let e = given_is s stood place next headers lane nine low is in
       let up : slice_index place.given lane ≤ last_or (slice_index place.given lane) held =
       last_is_over (slice_index place.given lane) held (held_rise s stood place headers lane sound nine low) in
@@ -116,9 +117,9 @@ moves_onward s stood place next headers sound nine is = record {
 
 pub all_given : (s : Source) (stood : ℕ) (place next : Place) (headers : List Head) → IsSound s.lanes → length place.given ≡ LANES
     → (offered s stood place headers).left ≡ Some next
-    → AreGiven next.given (held_of (items_left s stood place headers))
+    → AreGiven next.given (held_of (may_in headers) (items_left s stood place headers))
 all_given s stood place next headers sound nine is = λ lane low.
-    let held = rows_in_lane lane (held_of (items_left s stood place headers)) in
+    let held = rows_in_lane lane (held_of (may_in headers) (items_left s stood place headers)) in
     let e = given_is s stood place next headers lane nine low is in
     let all = all_upto_last (slice_index place.given lane) held (held_rise s stood place headers lane sound nine low) in
     subst (λ (id : ℕ). All (λ (x : Numbered). x.id ≤ id) held) (sym e) all
@@ -153,7 +154,7 @@ new_leaves_nothing s stood place next headers sound tidy nine used is = record {
 }
   where
     items : List Item
-    items = held_of (items_left s stood place headers)
+    items = held_of (may_in headers) (items_left s stood place headers)
 
     last : (lane : ℕ) → lane < LANES → slice_index next.given lane ≡ last_or (slice_index place.given lane) (rows_in_lane lane items)
     last lane low = given_is s stood place next headers lane nine low is
@@ -299,20 +300,21 @@ begins_used s = All-replicate (λ (id : ℕ). id ≤ s.last_id) LANES 0 (omega a
 
 -- ---- where nothing is left
 
-pub none_left : (place : Place) (items : List Item) → items ≡ [] → offered_of place items ≡ record { headers = []; upto = no_ids; left = None }
+pub none_left : (may : ℕ → Bool) (place : Place) (items : List Item) → items ≡ []
+    → offered_of may place items ≡ record { headers = []; upto = no_ids; left = None }
 unfolding offered_of
-none_left place items none =
-    ap (offered_of place) none ∙ ap (λ (held : List Laid). filled_with (length (map item_of held) == 0) place held) held_none
+none_left may place items none =
+    ap (offered_of may place) none ∙ ap (λ (held : List Laid). filled_with (length (map item_of held) == 0) place held) (held_none may)
 
 whole_by : {A : Type 0} (b : Bool) (x : A) → (if b then None else Some x) ≡ None → b ≡ true
 whole_by true x is = refl
 whole_by false x is = cc
 
 -- nothing is left exactly where all items are held
-pub left_none : (place : Place) (items : List Item) → ((offered_of place items).left ≡ None) ↔ (held_of items ≡ items)
+pub left_none : (may : ℕ → Bool) (place : Place) (items : List Item) → ((offered_of may place items).left ≡ None) ↔ (held_of may items ≡ items)
 unfolding offered_of
-left_none place items = (
-  (λ is. held_whole items
-      (eqb-true _ _ (whole_by (length (held_of items) == length items) (fold place_after place (held_of items)) is))),
-  (λ all. ap (λ (b : Bool). if b then None else Some (fold place_after place (held_of items))) (eq-eqb _ _ (ap length all))),
+left_none may place items = (
+  (λ is. held_whole may items
+      (eqb-true _ _ (whole_by (length (held_of may items) == length items) (fold place_after place (held_of may items)) is))),
+  (λ all. ap (λ (b : Bool). if b then None else Some (fold place_after place (held_of may items))) (eq-eqb _ _ (ap length all))),
 )

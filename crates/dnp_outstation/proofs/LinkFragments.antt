@@ -22,6 +22,7 @@ use Rattle.dnp_eventbuf.specs.Buffered.{Buffered, buffered_in, buffered_row, id_
 use Rattle.dnp_eventbuf.specs.Sound.{IsSound}
 use Rattle.dnp_eventbuf.specs.Stock.{Stock, lane_at, all_up_to}
 use Rattle.dnp_outstation.specs.declared.offer.place.Place.{Place}
+use Rattle.dnp_outstation.specs.Forms.{may_in, may_each}
 use Rattle.dnp_outstation.specs.Items.{Item, no_ids, first_place, last_in, items_left, enabled_lanes, lane_items}
 use Rattle.dnp_outstation.specs.Layout.{Laid, item_of, headers_of, fits_fragment}
 use Rattle.dnp_outstation.specs.Offer.{held_laid, last_ids, Filled, offered_of, pushed}
@@ -103,8 +104,9 @@ read_reports : ReportLaws → (s : State) (o : Panel) (stood : ℕ) (place : Pla
 unfolding offered_of
 read_reports law s o stood place headers answered sound writable tidy nine same control function =
     let items = items_left (source_of s o) stood place headers in
-    reports law s.lanes answered (held_laid items) sound same control function (held_stand (source_of s o) stood place headers sound writable)
-    (held_low (source_of s o) stood place headers) (held_fits items) (fragment_rows (source_of s o) stood place headers sound tidy nine)
+    reports law s.lanes answered (held_laid (may_in headers) items) sound same control function
+    (held_stand (source_of s o) stood place headers sound writable)
+    (held_low (source_of s o) stood place headers) (held_fits (may_in headers) items) (fragment_rows (source_of s o) stood place headers sound tidy nine)
 
 -- an unsolicited response
 pushed_reports : ReportLaws → (s : Stock) (enabled : List Bool) (answered : Answered) → IsSound s → length enabled ≤ 3
@@ -113,7 +115,8 @@ pushed_reports : ReportLaws → (s : Stock) (enabled : List Bool) (answered : An
 unfolding offered_of
 pushed_reports law s enabled answered sound few same control function =
     let items = lane_items s (enabled_lanes 0 enabled) in
-    reports law s answered (held_laid items) sound same control function (pushed_stand s enabled sound few) (pushed_low s enabled few) (held_fits items)
+    reports law s answered (held_laid may_each items) sound same control function (pushed_stand s enabled sound few) (pushed_low s enabled few)
+    (held_fits may_each items)
     (pushed_rows s enabled sound)
 
 -- ---- no rows
@@ -267,5 +270,5 @@ pub emptied_ends : (s : State) (o : Panel) (stood seq : ℕ) (place : Place) (he
     → (let content = read_content s o stood place headers in
     (content.headers ≡ []) × (control_for first seq content ≡ record { fir = first; fin = true; con = false; uns = false; seq = seq }))
 emptied_ends s o stood seq place headers first none =
-    let empty = none_left place (items_left (source_of s o) stood place headers) none in
+    let empty = none_left (may_in headers) place (items_left (source_of s o) stood place headers) none in
     (ap (λ (f : Filled). f.headers) empty, ap (λ (f : Filled). control_for first seq (content_from f)) empty)

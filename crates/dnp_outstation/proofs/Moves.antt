@@ -15,6 +15,7 @@ use Rattle.dnp_appfragment.specs.Items.{Item as Object}
 use Rattle.dnp_appfragment.specs.Written.{is_point_object}
 use Rattle.dnp_eventbuf.specs.Sound.{IsSound}
 use Rattle.dnp_outstation.specs.declared.offer.place.Place.{Place}
+use Rattle.dnp_outstation.specs.Forms.{may_in}
 use Rattle.dnp_outstation.specs.Items.{Thing, Item, Source, items_left}
 use Rattle.dnp_outstation.specs.Items.Thing.{Event, Present}
 use Rattle.dnp_outstation.specs.Layout.{Laid, item_of, own_object, lay, fits_fragment, response_size}
@@ -67,33 +68,34 @@ short_object law x can =
 -- ---- so one item fits
 
 one_fits : PutLaws → (x : Laid) → CanGo x → fits_fragment (x ∷ []) ≡ true
-one_fits law x can = le-leb (response_size (x ∷ [])) MAX_FRAGMENT (small x.item.thing (short_object law x can))
+one_fits law x can = le-leb (response_size (x ∷ [])) MAX_FRAGMENT (small x.item.thing x.common can.whole (short_object law x can))
   where
-    small : (thing : Thing)
-        → (let y : Laid = laid_as x.item.header thing x.object in length y.object.octets ≤ 11 → response_size (y ∷ []) ≤ MAX_FRAGMENT)
-    small (Event lane row) short =
-        let y : Laid = laid_as x.item.header (Event lane row) x.object in
+    small : (thing : Thing) (common : Option ℕ) → common ≡ None
+        → (let y : Laid = laid_as x.item.header thing x.object common in length y.object.octets ≤ 11 → response_size (y ∷ []) ≤ MAX_FRAGMENT)
+    small (Event lane row) (Some t) whole short = cc
+    small (Event lane row) None whole short =
+        let y : Laid = laid_as x.item.header (Event lane row) x.object None in
         let octets = length-append (number true x.object.index) x.object.octets in
         omega (arith, one_size y)
-    small (Present static) short =
-        let y : Laid = laid_as x.item.header (Present static) x.object in
+    small (Present static) common whole short =
+        let y : Laid = laid_as x.item.header (Present static) x.object common in
         omega (arith, one_size y)
 
-held_some : PutLaws → (items : List Item) → All CanStand items → held_of items ≡ [] → items ≡ []
-held_some law [] can none = refl
-held_some law (x ∷ xs) can none =
-    let found = held_longest (x ∷ xs) in
+held_some : PutLaws → (may : ℕ → Bool) (items : List Item) → All CanStand items → held_of may items ≡ [] → items ≡ []
+held_some law may [] can none = refl
+held_some law may (x ∷ xs) can none =
+    let found = held_longest may (x ∷ xs) in
     let over : fits_fragment (lay x ∷ []) ≡ false =
-    found.more 1 (omega (arith, ap length none, length-map (held_laid (x ∷ xs)) item_of)) (omega arith) in
-    let go : CanGo (lay x) = record { stands = All-head CanStand x xs can; says = refl } in
+    found.more 1 (omega (arith, ap length none, length-map (held_laid may (x ∷ xs)) item_of)) (omega arith) in
+    let go : CanGo (lay x) = record { stands = All-head CanStand x xs can; says = refl; whole = refl } in
     absurd (let fits : fits_fragment (lay x ∷ []) ≡ true = one_fits law (lay x) go in cc)
 
 -- a READ goes on only after a fragment that holds something
 pub goes_on_behind_some : PutLaws → (s : Source) (stood : ℕ) (place next : Place) (headers : List Head) → IsSound s.lanes → AreWritable s
-    → (offered s stood place headers).left ≡ Some next → held_of (items_left s stood place headers) ≡ [] → ⊥
+    → (offered s stood place headers).left ≡ Some next → held_of (may_in headers) (items_left s stood place headers) ≡ [] → ⊥
 goes_on_behind_some law s stood place next headers sound writable left none =
     let items = items_left s stood place headers in
-    let empty : items ≡ [] = held_some law items (left_stand s stood place headers sound writable) none in
-    let ended : (offered_of place items).left ≡ None = (left_none place items).1 (none ∙ sym empty) in
+    let empty : items ≡ [] = held_some law (may_in headers) items (left_stand s stood place headers sound writable) none in
+    let ended : (offered_of (may_in headers) place items).left ≡ None = (left_none (may_in headers) place items).1 (none ∙ sym empty) in
     let both : None ≡ Some next = sym ended ∙ left in
     cc

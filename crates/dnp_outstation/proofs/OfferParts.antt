@@ -4,6 +4,7 @@ use Rattle.std.proofs.Common.{drop}
 use Rattle.dnp_appfragment.specs.Headers.{Head}
 use Rattle.dnp_outstation.specs.declared.offer.place.Place.{Place}
 use Rattle.dnp_outstation.specs.declared.offer.writer.Writer.{Writer}
+use Rattle.dnp_outstation.specs.Forms.{may_in}
 use Rattle.dnp_outstation.specs.Items.{Source, Part, Item, part_of, part_after, part_items, parts_left, items_of, items_left, given_after}
 use Rattle.dnp_outstation.specs.Items.Part.{RowsOf, StaticsOf}
 use Rattle.dnp_outstation.specs.steps.Filling.{fill, ended, empty_from}
@@ -55,4 +56,4 @@ filled_offered s stood place headers left w w' is_last begun left_is put =
     ∙ ap (fill w) (append-nil (items_of s stood w.place.given w.place.header (parts_left w.place.count (map (part_of s) left))))
     ∙ ap (λ (l : List Head). fill w (items_of s stood w.place.given w.place.header (parts_left w.place.count (map (part_of s) l)))) left_is
     ∙ ap (λ (v : Writer). fill v (items_left s stood v.place headers)) begun
-    ∙ fill_offers place (items_left s stood place headers)
+    ∙ fill_offers (may_in headers) place (items_left s stood place headers)

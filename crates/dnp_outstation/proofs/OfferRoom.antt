@@ -115,7 +115,7 @@ at_least row = by row.kind row.time
 
 -- so is a writer with a row more
 put_grows : (w : Writer) (header lane : ℕ) (x : Numbered) → size w.builder + least_octets x.row.kind ≤ size (put w (event_of header lane x)).builder
-put_grows w header lane x = by (is_same_run w.run (OfLane lane))
+put_grows w header lane x = by (is_same_run w.run (OfLane lane None))
   where
     by : (same : Bool) → size w.builder + least_octets x.row.kind ≤ size (with_object (cond same w.builder (broken w.builder)) (event x.row))
     by true =

@@ -10,12 +10,13 @@ use Rattle.dnp_eventbuf.specs.Stock.{Stock, lane_at}
 use Rattle.dnp_eventbuf.specs.declared.numbered.Numbered.{Numbered}
 use Rattle.dnp_objects.specs.declared.limits.TheConstants.{MAX_FRAGMENT}
 use Rattle.dnp_objects.specs.declared.row.Row.{Row}
+use Rattle.dnp_outstation.specs.Forms.{may_in, may_each, laid}
 use Rattle.dnp_outstation.specs.Items.{Item, Source, Thing, class_lanes, event_of, first_place, given_after, items_left, last_in, no_ids}
 use Rattle.dnp_outstation.specs.Items.Thing.{Event, Present}
-use Rattle.dnp_outstation.specs.Layout.{Laid, Stretch, alone, fits_fragment, goes_on, header_of, headers_of, in_front, item_of, laid, lay, object_of, range_of, stretches}
+use Rattle.dnp_outstation.specs.Layout.{Laid, Stretch, alone, fits_fragment, front_of, goes_on, header_of, heads_of, headers_of, in_front, item_of, lay, object_of, range_of, stretches}
 use Rattle.dnp_outstation.specs.Offer.{Filled, held_laid, held_of, last_ids, longest, longest_up_to, offered, offered_of}
 use Rattle.dnp_outstation.specs.Said.{event_in, events_in}
-use Rattle.dnp_outstation.proofs.HeldItems.{held_longest, laid_items}
+use Rattle.dnp_outstation.proofs.HeldItems.{held_any, held_longest, laid_items}
 use Rattle.dnp_outstation.proofs.Stretches.{laid_as}
 use Rattle.dnp_outstation.specs.Polled.{are_all_polled, polled_headers, polled_held, polled_ids, polled_items, polled_rows}
 use Rattle.dnp_outstation.proofs.PolledItems.{by_class, of_lanes, plain_item, plain_read, read_items}
@@ -73,7 +74,8 @@ same_goes : (x y : Laid) → IsRow x.item → goes_on (plain_laid x) (plain_laid
 same_goes x y is = go x.item.thing y.item.thing is
   where
     go : (t u : Thing) → IsRow (record { header = x.item.header; thing = t })
-        → goes_on (laid_as 0 t x.object) (laid_as 0 u y.object) ≡ goes_on (laid_as x.item.header t x.object) (laid_as y.item.header u y.object)
+        → goes_on (laid_as 0 t x.object x.common) (laid_as 0 u y.object y.common)
+        ≡ goes_on (laid_as x.item.header t x.object x.common) (laid_as y.item.header u y.object y.common)
     go (Event lane a) (Event lane' b) is = refl
     go (Event lane a) (Present b) is = refl
     go (Present a) u is = absurd is
@@ -110,13 +112,14 @@ plain_header x =
     ap (λ (n : ℕ). header_with x.first n (map object_of (map plain_laid x.more))) (length-map x.more plain_laid)
     ∙ ap (λ (os : List Object). header_with x.first (length x.more) os) (plain_objects x.more)
 
-plain_heads : (found : List Stretch) → map header_of (map plain_stretch found) ≡ map header_of found
+plain_heads : (found : List Stretch) → flat_map heads_of (map plain_stretch found) ≡ flat_map heads_of found
 plain_heads [] = refl
 plain_heads (x ∷ xs) =
-    ap (λ (h : Head). h ∷ map header_of (map plain_stretch xs)) (plain_header x) ∙ ap (λ (hs : List Head). header_of x ∷ hs) (plain_heads xs)
+    ap (λ (h : Head). (front_of x.first ++ h ∷ []) ++ flat_map heads_of (map plain_stretch xs)) (plain_header x)
+    ∙ ap (λ (hs : List Head). heads_of x ++ hs) (plain_heads xs)
 
 plain_headers : (xs : List Laid) → AreRows (map item_of xs) → headers_of (map plain_laid xs) ≡ headers_of xs
-plain_headers xs all = ap (map header_of) (plain_stretches xs all) ∙ plain_heads (stretches xs)
+plain_headers xs all = ap (flat_map heads_of) (plain_stretches xs all) ∙ plain_heads (stretches xs)
 
 plain_fits : (xs : List Laid) → AreRows (map item_of xs) → fits_fragment (map plain_laid xs) ≡ fits_fragment xs
 plain_fits xs all = ap (λ (hs : List Head). nat_le (4 + length (spelled hs)) MAX_FRAGMENT) (plain_headers xs all)
@@ -138,23 +141,24 @@ plain_longest (suc n) xs all =
     by true ys zs = refl
     by false ys zs = refl
 
-plain_are_laid : (xs : List Item) → laid (map plain_item xs) ≡ map plain_laid (laid xs)
+plain_are_laid : (xs : List Item) → map lay (map plain_item xs) ≡ map plain_laid (map lay xs)
 plain_are_laid [] = refl
 plain_are_laid (x ∷ xs) = ap (λ (ys : List Laid). lay (plain_item x) ∷ ys) (plain_are_laid xs)
 
-rows_laid : (xs : List Item) → AreRows xs → AreRows (map item_of (laid xs))
-rows_laid xs all = subst AreRows (sym (laid_items xs)) all
+rows_laid : (may : ℕ → Bool) (xs : List Item) → AreRows xs → AreRows (map item_of (laid may xs))
+rows_laid may xs all = subst AreRows (sym (laid_items may xs)) all
 
-plain_held : (xs : List Item) → AreRows xs → held_laid (map plain_item xs) ≡ map plain_laid (held_laid xs)
+plain_held : (may : ℕ → Bool) (xs : List Item) → AreRows xs → held_laid may (map plain_item xs) ≡ map plain_laid (held_laid may xs)
 unfolding held_laid
-plain_held xs all =
+plain_held may xs all =
     ap (longest fits_fragment) (plain_are_laid xs)
-    ∙ ap (λ (n : ℕ). longest_up_to fits_fragment n (map plain_laid (laid xs))) (length-map (laid xs) plain_laid)
-    ∙ plain_longest (length (laid xs)) (laid xs) (rows_laid xs all)
+    ∙ ap (λ (n : ℕ). longest_up_to fits_fragment n (map plain_laid (laid may xs))) (length-map (laid may xs) plain_laid)
+    ∙ plain_longest (length (laid may xs)) (laid may xs) (rows_laid may xs all)
 
-rows_held : (xs : List Item) → AreRows xs → AreRows (held_of xs)
-rows_held xs all =
-    subst (λ (held : List Laid). AreRows (map item_of held)) (held_longest xs).begins (rows_first (length (held_laid xs)) (laid xs) (rows_laid xs all))
+rows_held : (may : ℕ → Bool) (xs : List Item) → AreRows xs → AreRows (held_of may xs)
+rows_held may xs all =
+    subst (λ (held : List Laid). AreRows (map item_of held)) (held_longest may xs).begins
+    (rows_first (length (held_laid may xs)) (laid may xs) (rows_laid may xs all))
 
 plain_items : (xs : List Laid) → map item_of (map plain_laid xs) ≡ map plain_item (map item_of xs)
 plain_items [] = refl
@@ -170,28 +174,33 @@ plain_ids given (x ∷ xs) = plain_ids (given_after given x) xs
 
 -- ---- the READ
 
+-- its headers leave it open as which object a binary event goes
+abbrev polled_may : ℕ → Bool
+polled_may = may_in polled_headers
+
 -- what the first fragment of the READ holds
 pub record IsPolled (s : Stock) (items : List Item) : Type 0 where
-  pub headers : headers_of (held_laid items) ≡ headers_of (polled_held s)
-  pub upto : last_ids (held_of items) ≡ polled_ids s
-  pub rows : events_in (held_of items) ≡ polled_rows s
-  pub all : (length (held_of items) == length items) ≡ are_all_polled s
+  pub headers : headers_of (held_laid polled_may items) ≡ headers_of (polled_held s)
+  pub upto : last_ids (held_of polled_may items) ≡ polled_ids s
+  pub rows : events_in (held_of polled_may items) ≡ polled_rows s
+  pub all : (length (held_of polled_may items) == length items) ≡ are_all_polled s
 
 class_polled : (s : Stock) → IsPolled s (by_class s)
 class_polled s =
     let items : List Item = by_class s in
-    let held : List Item = held_of items in
+    let held : List Item = held_of polled_may items in
     let all : AreRows items = read_are_rows s in
-    let few : AreRows held = rows_held items all in
-    let same_laid : polled_held s ≡ map plain_laid (held_laid items) = ap held_laid (sym (plain_read s)) ∙ plain_held items all in
-    let same : held_of (polled_items s) ≡ map plain_item held = ap (map item_of) same_laid ∙ plain_items (held_laid items) in
-    let held_long : length held ≡ length (held_of (polled_items s)) = sym (length-map held plain_item) ∙ ap length (sym same) in
+    let few : AreRows held = rows_held polled_may items all in
+    let same_laid : polled_held s ≡ map plain_laid (held_laid polled_may items) =
+    held_any may_each polled_may (polled_items s) ∙ ap (held_laid polled_may) (sym (plain_read s)) ∙ plain_held polled_may items all in
+    let same : held_of may_each (polled_items s) ≡ map plain_item held = ap (map item_of) same_laid ∙ plain_items (held_laid polled_may items) in
+    let held_long : length held ≡ length (held_of may_each (polled_items s)) = sym (length-map held plain_item) ∙ ap length (sym same) in
     let long : length items ≡ length (polled_items s) = sym (length-map items plain_item) ∙ ap length (plain_read s) in
     record {
-      headers = sym (plain_headers (held_laid items) few) ∙ ap headers_of (sym same_laid);
+      headers = sym (plain_headers (held_laid polled_may items) few) ∙ ap headers_of (sym same_laid);
       upto = sym (plain_ids no_ids held) ∙ ap last_ids (sym same);
       rows = sym (plain_events held) ∙ ap events_in (sym same);
-      all = ap (λ (n : ℕ). n == length items) held_long ∙ ap (λ (n : ℕ). length (held_of (polled_items s)) == n) long;
+      all = ap (λ (n : ℕ). n == length items) held_long ∙ ap (λ (n : ℕ). length (held_of may_each (polled_items s)) == n) long;
     }
 
 pub read_polled : (s : Source) → IsSound s.lanes → IsPolled s.lanes (items_left s (last_in s.lanes) first_place polled_headers)
@@ -212,4 +221,4 @@ unfolding offered_of
 read_offered s sound =
     let items : List Item = items_left s (last_in s.lanes) first_place polled_headers in
     let p : IsPolled s.lanes items = read_polled s sound in
-    record { headers = p.headers; upto = p.upto; last = none_by (length (held_of items) == length items) _ ∙ p.all }
+    record { headers = p.headers; upto = p.upto; last = none_by (length (held_of polled_may items) == length items) _ ∙ p.all }

@@ -1,5 +1,5 @@
 -- Where what was polled has no ids it has no rows, and where these are all rows the lanes are empty.
-use Rattle.std.proofs.Common.{◌≡◌, true, false, refl, sym, ap, ◌∙◌, subst, ℕ, zero, suc, ◌+◌, ◌<◌, ◌≤◌, ◌==◌, ◌||◌, nat_lt, List, [], ◌∷◌, ◌++◌, map, length, arith, inl, inr, ◌⊎◌, eqb-true}
+use Rattle.std.proofs.Common.{◌≡◌, Bool, true, false, refl, sym, ap, ◌∙◌, subst, ℕ, zero, suc, ◌+◌, ◌<◌, ◌≤◌, ◌==◌, ◌||◌, nat_lt, List, [], ◌∷◌, ◌++◌, map, length, arith, inl, inr, ◌⊎◌, eqb-true}
 use Rattle.std.specs.Prelude.{slice_index_or}
 use Rattle.std.specs.List.{filter, list_any, range_with_len}
 use Rattle.std.proofs.lemmas.Bool.{cases_eq, cases_lt, lt-ltb, or_parts}
@@ -11,6 +11,7 @@ use Rattle.dnp_eventbuf.specs.declared.numbered.Numbered.{Numbered}
 use Rattle.dnp_objects.specs.declared.limits.TheConstants.{LANES}
 use Rattle.dnp_objects.specs.declared.row.Row.{Row}
 use Rattle.dnp_outstation.specs.Connection.{has_rows}
+use Rattle.dnp_outstation.specs.Forms.{may_each}
 use Rattle.dnp_outstation.specs.Items.{Item, event_of, lane_items}
 use Rattle.dnp_outstation.specs.Laws.{lane_numbers}
 use Rattle.dnp_outstation.specs.Offer.{held_of}
@@ -76,12 +77,12 @@ none_in_lanes s sound none lane = by (cases_lt lane LANES)
     by (inl low) = empty_at s 0 LANES lane (lanes_empty s lane_numbers none) (omega arith) (omega arith)
     by (inr past) = ap (λ (l : LaneState). l.rows) (get_or_past s.lanes lane no_lane (omega (arith, sound.nine, past)))
 
-whole : (items : List Item) → (length (held_of items) == length items) ≡ true → held_of items ≡ items
-whole items all = held_whole items (eqb-true (length (held_of items)) (length items) all)
+whole : (may : ℕ → Bool) (items : List Item) → (length (held_of may items) == length items) ≡ true → held_of may items ≡ items
+whole may items all = held_whole may items (eqb-true (length (held_of may items)) (length items) all)
 
 pub lanes_are_empty : (s : Stock) → IsSound s → are_all_polled s ≡ true → polled_rows s ≡ [] → (lane : ℕ) → (lane_at s lane).rows ≡ []
 lanes_are_empty s sound all none =
-    none_in_lanes s sound (ap events_in (sym (whole (polled_items s) all)) ∙ none)
+    none_in_lanes s sound (ap events_in (sym (whole may_each (polled_items s) all)) ∙ none)
 
 pub none_enabled : (s : Stock) (lanes : List ℕ) → ((lane : ℕ) → (lane_at s lane).rows ≡ [])
     → list_any (λ lane. nat_lt 0 (length (lane_at s lane).rows)) lanes ≡ false

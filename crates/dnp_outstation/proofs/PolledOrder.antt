@@ -7,6 +7,7 @@ use Rattle.dnp_eventbuf.specs.Sound.{IsSound}
 use Rattle.dnp_eventbuf.specs.Stock.{Stock, all_up_to, lane_at, row_of}
 use Rattle.dnp_eventbuf.specs.declared.numbered.Numbered.{Numbered}
 use Rattle.dnp_objects.specs.declared.row.Row.{Row}
+use Rattle.dnp_outstation.specs.Forms.{may_each}
 use Rattle.dnp_outstation.specs.Items.{Item, enabled_lanes, event_of, lane_items}
 use Rattle.dnp_outstation.specs.Laws.{AreRowsUpto, lane_numbers, row_in, rows_by_lane, rows_in_lane}
 use Rattle.dnp_outstation.specs.Offer.{held_of, offered_of}
@@ -172,21 +173,21 @@ enabled_among class (false ∷ bs) (suc more) few =
 -- ---- what is held of them
 
 held_in_order : (s : Stock) (enabled : List Bool) → length enabled ≤ 3
-    → (let items : List Item = lane_items s (enabled_lanes 0 enabled) in rows_by_lane (held_of items) ≡ events_in (held_of items))
+    → (let items : List Item = lane_items s (enabled_lanes 0 enabled) in rows_by_lane (held_of may_each items) ≡ events_in (held_of may_each items))
 held_in_order s enabled few =
     let items : List Item = lane_items s (enabled_lanes 0 enabled) in
-    ap rows_by_lane (sym (held_begins items))
-    ∙ in_order s (length (held_of items)) (enabled_lanes 0 enabled) lane_numbers (enabled_among 0 enabled 3 few)
-    ∙ ap events_in (held_begins items)
+    ap rows_by_lane (sym (held_begins may_each items))
+    ∙ in_order s (length (held_of may_each items)) (enabled_lanes 0 enabled) lane_numbers (enabled_among 0 enabled 3 few)
+    ∙ ap events_in (held_begins may_each items)
 
-held_upto : (s : Stock) (enabled : List Bool) → IsSound s → AreRowsUpto s (reported s enabled).ids (held_of (lane_items s (enabled_lanes 0 enabled)))
+held_upto : (s : Stock) (enabled : List Bool) → IsSound s → AreRowsUpto s (reported s enabled).ids (held_of may_each (lane_items s (enabled_lanes 0 enabled)))
 unfolding offered_of
 held_upto s enabled sound = pushed_rows s enabled sound
 
 pub reported_released : (s : Stock) (enabled : List Bool) → IsSound s → length enabled ≤ 3
     → all_up_to s (reported s enabled).ids ≡ (reported s enabled).rows
 reported_released s enabled sound few =
-    let held : List Item = held_of (lane_items s (enabled_lanes 0 enabled)) in
+    let held : List Item = held_of may_each (lane_items s (enabled_lanes 0 enabled)) in
     released_rows s (reported s enabled).ids held sound.nine (nine_ids held) (held_upto s enabled sound) ∙ held_in_order s enabled few
 
 -- a poll is of all classes

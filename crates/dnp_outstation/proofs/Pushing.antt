@@ -9,7 +9,7 @@ use Rattle.std.proofs.lemmas.List.{get_or-replicate}
 use Rattle.std.proofs.lemmas.List.Elements.{All-nil, All-cons, All-head}
 use Rattle.dnp_appfragment.specs.declared.function.Function.{Function}
 use Rattle.dnp_appfragment.specs.declared.function.Function.TheVariants as function
-use Rattle.dnp_appfragment.specs.Built.{Built, with_object, with_run, broken, heads, front_size}
+use Rattle.dnp_appfragment.specs.Built.{Built, with_object, with_run, heads, front_size}
 use Rattle.dnp_appfragment.specs.Headers.{Head, spelled}
 use Rattle.dnp_appfragment.specs.Joining.{joined}
 use Rattle.dnp_eventbuf.specs.declared.numbered.Numbered.{Numbered}
@@ -17,9 +17,10 @@ use Rattle.dnp_objects.specs.declared.limits.TheConstants.{LANES, MAX_FRAGMENT, 
 use Rattle.dnp_eventbuf.specs.Stock.{Stock, lane_at}
 use Rattle.dnp_eventbuf.specs.Sound.{IsSound}
 use Rattle.dnp_outstation.specs.declared.offer.writer.Writer.{Writer}
+use Rattle.dnp_outstation.specs.Forms.{may_each}
 use Rattle.dnp_outstation.specs.Items.{Item, no_ids, first_place, place_after, given_after, rows_left, event_of, event_items, class_lanes, enabled_lanes, lane_items}
-use Rattle.dnp_outstation.specs.steps.Filling.{after_release, is_same_run, put_laid, fits, fill_laid, fill, ended, built_for, empty_for, empty_from}
-use Rattle.dnp_outstation.specs.Layout.{Laid, laid}
+use Rattle.dnp_outstation.specs.steps.Filling.{after_release, is_same_run, put_laid, fits, fill_laid, fill, ended, common_of, begun, built_for, empty_for, empty_from}
+use Rattle.dnp_outstation.specs.Layout.{Laid, lay}
 use Rattle.dnp_outstation.specs.Offer.{Filled, pushed}
 use Rattle.dnp_outstation.specs.steps.Putting.{Puts}
 use Rattle.dnp_outstation.proofs.Carried.{lane_rises}
@@ -134,15 +135,16 @@ object_as : (f : Function) (b : Built) (object : Head) → with_object (record b
 unfolding with_object
 object_as f b object = run_as f b (option_and_then (λ run. joined run object) b.run) object
 
-built_as : (f : Function) (w : Writer) (same : Bool)
-    → cond same (under f w).builder (broken (under f w).builder) ≡ record (cond same w.builder (broken w.builder)) { function = f }
-built_as f w true = refl
-built_as f w false = refl
+built_as : (f : Function) (w : Writer) (common : Option ℕ) (same : Bool)
+    → cond same (under f w).builder (begun (under f w).builder common) ≡ record (cond same w.builder (begun w.builder common)) { function = f }
+built_as f w common true = refl
+built_as f w None false = refl
+built_as f w (Some t) false = refl
 
 put_as : (f : Function) (w : Writer) (x : Laid) → put_laid (under f w) x ≡ under f (put_laid w x)
 put_as f w x =
     put_is (under f w) x
-    ∙ ap (λ (b : Built). with_builder (with_object b (written_of x))) (built_as f w (is_same_run w.run (run_at x)))
+    ∙ ap (λ (b : Built). with_builder (with_object b (written_of x))) (built_as f w (common_of (run_at x)) (is_same_run w.run (run_at x)))
     ∙ ap with_builder (object_as f (built_for w (run_at x)) (written_of x))
     ∙ ap (under f) (sym (put_is w x))
   where
@@ -168,5 +170,5 @@ filled_pushed s enabled w w' is_last empty put =
     ∙ sym (put [])
     ∙ ap (fill w) (append-nil items)
     ∙ ap (λ (v : Writer). fill v items) empty
-    ∙ filled_as function.UnsolicitedResponse function.Response (empty_from first_place) (laid items) refl
-    ∙ fill_offers first_place items
+    ∙ filled_as function.UnsolicitedResponse function.Response (empty_from first_place) (map lay items) refl
+    ∙ fill_offers may_each first_place items

@@ -15,6 +15,7 @@ use Rattle.dnp_appfragment.specs.Table.{is_response}
 use Rattle.dnp_eventbuf.specs.Sound.{IsSound}
 use Rattle.dnp_eventbuf.specs.Stock.{Stock, all_up_to}
 use Rattle.dnp_outstation.specs.declared.offer.place.Place.{Place}
+use Rattle.dnp_outstation.specs.Forms.{may_in, may_each}
 use Rattle.dnp_outstation.specs.Items.{Item, Source, no_ids, items_left, enabled_lanes, lane_items}
 use Rattle.dnp_outstation.specs.Layout.{Laid, item_of, headers_of, fits_fragment}
 use Rattle.dnp_outstation.specs.Offer.{held_laid, last_ids, offered_of, offered, pushed}
@@ -53,8 +54,8 @@ response_is law said answered items headers_are control function can fit =
     (items_written law items (recursion_from_All CanGo items can) fit).stand)
 
 -- what is held fits
-pub held_fits : (items : List Item) → fits_fragment (held_laid items) ≡ true
-held_fits items = (held_longest items).fits
+pub held_fits : (may : ℕ → Bool) (items : List Item) → fits_fragment (held_laid may items) ≡ true
+held_fits may items = (held_longest may items).fits
 
 pub nine_ids : (items : List Item) → length (last_ids items) ≡ LANES
 nine_ids items = length_given no_ids items
@@ -75,15 +76,15 @@ pub fragment_says : RowsAreSaid → (s : Source) (stood : ℕ) (place : Place) (
 unfolding offered_of
 fragment_says said s stood place headers sound writable tidy nine =
     let items = items_left s stood place headers in
-    said_and_released said s.lanes (held_laid items) sound (held_stand s stood place headers sound writable) (held_low s stood place headers) (held_fits items)
-    (fragment_rows s stood place headers sound tidy nine)
+    said_and_released said s.lanes (held_laid (may_in headers) items) sound (held_stand s stood place headers sound writable)
+    (held_low s stood place headers) (held_fits (may_in headers) items) (fragment_rows s stood place headers sound tidy nine)
 
 pub pushed_says : RowsAreSaid → (s : Stock) (enabled : List Bool) → IsSound s → length enabled ≤ 3
     → IsPermutation (rows_said (pushed s enabled).headers) (all_up_to s (pushed s enabled).upto)
 unfolding offered_of
 pushed_says said s enabled sound few =
     let items = lane_items s (enabled_lanes 0 enabled) in
-    said_and_released said s (held_laid items) sound (pushed_stand s enabled sound few) (pushed_low s enabled few) (held_fits items)
+    said_and_released said s (held_laid may_each items) sound (pushed_stand s enabled sound few) (pushed_low s enabled few) (held_fits may_each items)
     (pushed_rows s enabled sound)
 
 pub fragment_is : ResponsesAreSaid → (answered : Answered) (s : Source) (stood : ℕ) (place : Place) (headers : List Head)
@@ -93,7 +94,8 @@ pub fragment_is : ResponsesAreSaid → (answered : Answered) (s : Source) (stood
 unfolding offered_of
 fragment_is said answered s stood place headers same control function sound writable =
     let items = items_left s stood place headers in
-    said answered (held_laid items) same control function (held_stand s stood place headers sound writable) (held_fits items)
+    said answered (held_laid (may_in headers) items) same control function (held_stand s stood place headers sound writable)
+    (held_fits (may_in headers) items)
 
 pub pushed_is : ResponsesAreSaid → (answered : Answered) (s : Stock) (enabled : List Bool) → answered.headers ≡ (pushed s enabled).headers
     → IsControl answered.control → is_response answered.function ≡ true → IsSound s → length enabled ≤ 3
@@ -101,4 +103,4 @@ pub pushed_is : ResponsesAreSaid → (answered : Answered) (s : Stock) (enabled 
 unfolding offered_of
 pushed_is said answered s enabled same control function sound few =
     let items = lane_items s (enabled_lanes 0 enabled) in
-    said answered (held_laid items) same control function (pushed_stand s enabled sound few) (held_fits items)
+    said answered (held_laid may_each items) same control function (pushed_stand s enabled sound few) (held_fits may_each items)

@@ -11,6 +11,7 @@ use Rattle.dnp_appfragment.specs.Headers.{Head, NumbersFit, Context, AreHeaders,
 use Rattle.dnp_eventbuf.specs.Sound.{IsSound}
 use Rattle.dnp_objects.specs.declared.limits.TheConstants.{LANES}
 use Rattle.dnp_outstation.specs.declared.offer.place.Place.{Place}
+use Rattle.dnp_outstation.specs.Forms.{may_in}
 use Rattle.dnp_outstation.specs.Items.{Source, Static, Item, Part, class_lanes, kind_lanes, statics_of, each_static, in_range, is_within, limit_of, less, event_items, part_of, present_of, given_after, place_after, part_items, items_of, part_after, parts_left, items_left}
 use Rattle.dnp_outstation.specs.Items.Part.{RowsOf, StaticsOf}
 use Rattle.dnp_outstation.specs.Laws.{AreFewPresent, AreHeldFrom}
@@ -221,13 +222,13 @@ module _ (s : Source) (stood : ℕ) (headers : List Head) (sound : IsSound s.lan
 
   -- a fragment was given
   pub fragment_rest : (place left : Place) → length place.given ≡ LANES → (offered s stood place headers).left ≡ Some left
-      → items_left s stood place headers ≡ held_of (items_left s stood place headers) ++ items_left s stood left headers
+      → items_left s stood place headers ≡ held_of (may_in headers) (items_left s stood place headers) ++ items_left s stood left headers
   unfolding offered_of
   fragment_rest place left nine is =
       let items = items_left s stood place headers in
-      let held = held_of items in
+      let held = held_of (may_in headers) items in
       let to : fold place_after place held ≡ left = chosen (length held == length items) (fold place_after place held) left is in
-      let first : items ≡ held ++ drop (length held) items = held_first items in
+      let first : items ≡ held ++ drop (length held) items = held_first (may_in headers) items in
       let rest = given_rest held (drop (length held) items) place nine first in
       first ∙ ap (λ (l : List Item). held ++ l) (sym rest ∙ ap (λ (p : Place). items_left s stood p headers) to)
 
@@ -244,12 +245,14 @@ module _ (s : Source) (stood : ℕ) (headers : List Head) (sound : IsSound s.lan
       let items = items_left s stood place headers in
       let next = all_held others (offered s stood place headers).left (λ left is. nine_after s stood place left headers (nine place refl) is) are.1 in
       ap (λ (l : List Item). l ++ flat_map (λ (h : List Item). h) others) are.0
-      ∙ ap (λ (l : List Item). held_of items ++ l) next
+      ∙ ap (λ (l : List Item). held_of (may_in headers) items ++ l) next
       ∙ by (offered s stood place headers).left refl
     where
       by : (left : Option Place) → (offered s stood place headers).left ≡ left
-          → held_of (items_left s stood place headers) ++ left_at left ≡ items_left s stood place headers
-      by None last = append-nil (held_of (items_left s stood place headers)) ∙ (left_none place (items_left s stood place headers)).0 last
+          → held_of (may_in headers) (items_left s stood place headers) ++ left_at left ≡ items_left s stood place headers
+      by None last =
+          append-nil (held_of (may_in headers) (items_left s stood place headers))
+          ∙ (left_none (may_in headers) place (items_left s stood place headers)).0 last
       by (Some left) is = sym (fragment_rest place left (nine place refl) is)
 
   -- all fragments were

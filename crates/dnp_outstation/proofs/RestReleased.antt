@@ -10,6 +10,7 @@ use Rattle.dnp_eventbuf.specs.Sound.{IsSound}
 use Rattle.dnp_eventbuf.specs.Stock.{LaneState, lane_at, without}
 use Rattle.dnp_objects.specs.declared.limits.TheConstants.{LANES}
 use Rattle.dnp_outstation.specs.declared.offer.place.Place.{Place}
+use Rattle.dnp_outstation.specs.Forms.{may_in}
 use Rattle.dnp_outstation.specs.Items.{Source, Item, Part, no_ids, at_most, less, part_of, event_of, event_items, given_after, rows_left, part_items, items_of, parts_left, items_left}
 use Rattle.dnp_outstation.specs.Items.Part.{RowsOf, StaticsOf}
 use Rattle.dnp_outstation.specs.Laws.{rows_in_lane}
@@ -111,7 +112,7 @@ released_rest by_lane s stood headers place left sound nine is =
     (λ lane. read_once s left.count left.header headers lane) past
   where
     held : List Item
-    held = held_of (items_left s stood place headers)
+    held = held_of (may_in headers) (items_left s stood place headers)
 
     past : (lane : ℕ) → lane < LANES → slice_index (last_ids held) lane ≤ slice_index left.given lane
     past lane low =

@@ -1,5 +1,5 @@
 -- Headers that hold items say the event rows among them, in order.
-use Rattle.std.proofs.Common.{◌≡◌, Bool, true, false, if◌then◌else◌, IsTrue, refl, sym, ◌∙◌, ap, subst, ℕ, zero, suc, ◌+◌, ◌||◌, ◌==◌, List, [], ◌∷◌, ◌++◌, map, take, drop, length, arith, Option, Some, None, eqb-true}
+use Rattle.std.proofs.Common.{◌≡◌, Bool, true, false, if◌then◌else◌, IsTrue, refl, sym, ◌∙◌, ap, subst, ℕ, zero, suc, ◌+◌, List, [], ◌∷◌, ◌++◌, map, take, drop, length, arith, Option, Some, None}
 use Rattle.std.specs.Prelude.{option_to_list, slice_get}
 use Rattle.std.specs.List.{AllByRecursion, flat_map, range_with_len}
 use Rattle.std.proofs.lemmas.List.{take-append-drop, take_at, drop_at, take-map, drop-map, length-map, map-append}
@@ -65,7 +65,7 @@ one_of : (h : Head) (x : Laid) (b : Bool) → is_event_header h ≡ b → CanGo 
 one_of h x b is can of = go x.item.header x.item.thing b is can of
   where
     go : (header : ℕ) (thing : Thing) (b : Bool) → is_event_header h ≡ b
-        → (let y : Laid = laid_as header thing x.object in CanGo y → IsOf h (object_of y) → IsOne b y)
+        → (let y : Laid = laid_as header thing x.object x.common in CanGo y → IsOf h (object_of y) → IsOne b y)
     go header (Event lane row) true is can of = λ none. cc
     go header (Event lane row) false is can of =
         absurd (let t : is_event_header h ≡ true = ap is_event_group (sym of.group ∙ ap (λ (o : Object). o.group) can.says)
@@ -93,7 +93,7 @@ event_at [] k row all can at = cc
 event_at (x ∷ xs) k row all can at = go x.item.header x.item.thing k all.0 can.0 at (λ j. event_at xs j row all.1 can.1)
   where
     go : (header : ℕ) (thing : Thing) (k : ℕ)
-        → (let y : Laid = laid_as header thing x.object in
+        → (let y : Laid = laid_as header thing x.object x.common in
         IsOne true y → CanGo y → slice_get (events_in (map item_of (y ∷ xs))) k ≡ Some row
         → ((j : ℕ) → slice_get (events_in (map item_of xs)) j ≡ Some row → EventAt xs j row)
         → EventAt (y ∷ xs) k row)
@@ -109,7 +109,7 @@ length_events : (xs : List Laid) → AllOne true xs → length (events_in (map i
 length_events [] all = refl
 length_events (x ∷ xs) all = go x.item.thing all.0 (length_events xs all.1)
   where
-    go : (thing : Thing) → (let y : Laid = laid_as x.item.header thing x.object in
+    go : (thing : Thing) → (let y : Laid = laid_as x.item.header thing x.object x.common in
         IsOne true y → length (events_in (map item_of xs)) ≡ length xs → length (events_in (map item_of (y ∷ xs))) ≡ length (y ∷ xs))
     go (Event lane row) one behind = omega arith
     go (Present static) one behind = absurd (one refl)
@@ -118,7 +118,7 @@ no_events : (xs : List Laid) → AllOne false xs → events_in (map item_of xs) 
 no_events [] all = refl
 no_events (x ∷ xs) all = go x.item.thing all.0 (no_events xs all.1)
   where
-    go : (thing : Thing) → (let y : Laid = laid_as x.item.header thing x.object in
+    go : (thing : Thing) → (let y : Laid = laid_as x.item.header thing x.object x.common in
         IsOne false y → events_in (map item_of xs) ≡ [] → events_in (map item_of (y ∷ xs)) ≡ [])
     go (Event lane row) one behind = absurd (let e : Some row.row ≡ None = one in cc)
     go (Present static) one behind = behind

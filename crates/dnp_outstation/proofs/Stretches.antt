@@ -1,12 +1,21 @@
 -- Items that stand under one header, and what stands behind them.
-use Rattle.std.proofs.Common.{◌≡◌, ℕ, Bool, true, false, if◌then◌else◌, refl, sym, ◌∙◌, ap, List, [], ◌∷◌, ◌++◌}
+use Rattle.std.proofs.Common.{◌≡◌, ℕ, Bool, true, false, if◌then◌else◌, refl, sym, ◌∙◌, ap, List, [], ◌∷◌, ◌++◌, Option, Some, None, eqb-true}
+use Rattle.std.specs.Prelude.{nat_eq}
+use Rattle.std.specs.Option.{option_eq}
 use Rattle.dnp_appfragment.specs.Items.{Item as Object}
 use Rattle.dnp_outstation.specs.Items.{Thing}
 use Rattle.dnp_outstation.specs.Layout.{Laid, goes_on, Stretch, alone, in_front, stretches}
 
 -- an item by its parts
-abbrev pub laid_as : ℕ → Thing → Object → Laid
-laid_as header thing object = record { item = record { header = header; thing = thing }; object = object }
+abbrev pub laid_as : ℕ → Thing → Object → Option ℕ → Laid
+laid_as header thing object common = record { item = record { header = header; thing = thing }; object = object; common = common }
+
+-- common times that are told to be the same are
+pub same_common : (a b : Option ℕ) → option_eq nat_eq a b ≡ true → a ≡ b
+same_common None None same = refl
+same_common None (Some t) same = cc
+same_common (Some t) None same = cc
+same_common (Some t) (Some t') same = ap Some (eqb-true t t' same)
 
 -- each item goes on from the one before it
 abbrev pub IsChain : Laid → List Laid → Type 0

@@ -10,7 +10,7 @@ use Rattle.std.proofs.lemmas.List.Sums.{fold_push}
 use Rattle.dnp_appfragment.specs.declared.function.Function.{Function}
 use Rattle.dnp_appfragment.specs.declared.function.Function.TheVariants as function
 use Rattle.dnp_appfragment.specs.declared.header.Range.TheVariants as range
-use Rattle.dnp_appfragment.specs.Built.{Built, front_size, heads, size, broken, with_run, with_object}
+use Rattle.dnp_appfragment.specs.Built.{Built, front_size, heads, size, with_run, with_object}
 use Rattle.dnp_appfragment.specs.Headers.{Head, number, header_octets, range_octets, spelled}
 use Rattle.dnp_appfragment.specs.Items.{Item as Object, item_octets}
 use Rattle.dnp_appfragment.specs.Joining.{joined}
@@ -21,20 +21,23 @@ use Rattle.dnp_outstation.specs.declared.offer.writer.Run.TheVariants.{NoRun}
 use Rattle.dnp_outstation.specs.declared.offer.writer.Writer.{Writer}
 use Rattle.dnp_outstation.specs.Items.{Thing, no_ids, given_after, place_after}
 use Rattle.dnp_outstation.specs.Items.Thing.{Event, Present}
-use Rattle.dnp_outstation.specs.Layout.{Laid, item_of, object_of, goes_on, Stretch, alone, header_of, headers_of, fits_fragment}
-use Rattle.dnp_outstation.specs.steps.Filling.{is_same_run, no_headers, empty_from, built_for, put_laid, fits}
-use Rattle.dnp_outstation.proofs.Joined.{run_at, written_of, IsBehind, behind_on, behind_next, chain_behind, same_run, IsFew, joins, no_join}
+use Rattle.dnp_outstation.specs.Layout.{Laid, item_of, object_of, goes_on, Stretch, alone, header_of, common_head, front_of, heads_of, headers_of, fits_fragment}
+use Rattle.dnp_outstation.specs.steps.Filling.{is_same_run, common_of, no_headers, empty_from, begun, built_for, put_laid, fits}
+use Rattle.dnp_outstation.proofs.Joined.{run_at, written_of, IsBehind, behind_on, behind_next, chain_behind, same_run, IsTold, no_front, IsFew, joins, no_join}
 use Rattle.dnp_outstation.proofs.Stretches.{laid_as, IsChain, last_item, chain_push, last_push, one_stretch, stretch_ends}
 
 -- the writer's last header is that of the last items, and those before it are ended
 pub record Stands (b : Built) (run : Run) (items : List Laid) : Type 0 where
   pub first : Laid
   pub more : List Laid
+  pub before : List Head
   pub chain : IsChain first more
+  pub told : IsTold (last_item first more)
   pub function_is : b.function ≡ function.Response
+  pub ended_is : b.ended ≡ before ++ front_of first
   pub run_is : b.run ≡ Some (header_of (record { first = first; more = more }))
   pub run_at_is : run ≡ run_at (last_item first more)
-  pub headers : (others : List Laid) → headers_of (items ++ others) ≡ b.ended ++ headers_of (first ∷ (more ++ others))
+  pub headers : (others : List Laid) → headers_of (items ++ others) ≡ before ++ headers_of (first ∷ (more ++ others))
 
 pub record IsEmpty (b : Built) (run : Run) (items : List Laid) : Type 0 where
   pub items_are : items ≡ []
@@ -49,11 +52,20 @@ pub record Holds (place : Place) (w : Writer) (items : List Laid) : Type 0 where
 
 -- ---- its headers
 
-heads_of : (b : Built) (run : Run) (items : List Laid) → Stands b run items → heads b ≡ headers_of items
-heads_of b run items s =
+last_heads : (b : Built) (run : Run) (items : List Laid) (s : Stands b run items)
+    → heads b ≡ s.before ++ heads_of (record { first = s.first; more = s.more })
+last_heads b run items s =
+    let h : Head = header_of (record { first = s.first; more = s.more }) in
     ap (λ (o : Option Head). b.ended ++ option_to_list o) s.run_is
-    ∙ ap (λ (found : List Stretch). b.ended ++ map header_of found) (sym (one_stretch s.first s.more s.chain))
-    ∙ ap (λ (more : List Laid). b.ended ++ headers_of (s.first ∷ more)) (sym (append-nil s.more))
+    ∙ ap (λ (hs : List Head). hs ++ h ∷ []) s.ended_is
+    ∙ append_assoc s.before (front_of s.first) (h ∷ [])
+
+all_heads : (b : Built) (run : Run) (items : List Laid) → Stands b run items → heads b ≡ headers_of items
+all_heads b run items s =
+    last_heads b run items s
+    ∙ ap (λ (hs : List Head). s.before ++ hs) (sym (append-nil (heads_of (record { first = s.first; more = s.more }))))
+    ∙ ap (λ (found : List Stretch). s.before ++ flat_map heads_of found) (sym (one_stretch s.first s.more s.chain))
+    ∙ ap (λ (more : List Laid). s.before ++ headers_of (s.first ∷ more)) (sym (append-nil s.more))
     ∙ sym (s.headers [])
     ∙ ap headers_of (append-nil items)
 
@@ -62,7 +74,7 @@ heads_are place w items holds = go holds.stands
   where
     go : IsEmpty w.builder w.run items ⊎ Stands w.builder w.run items → heads w.builder ≡ headers_of items
     go (inl empty) = ap heads empty.builder_is ∙ ap headers_of (sym empty.items_are)
-    go (inr s) = heads_of w.builder w.run items s
+    go (inr s) = all_heads w.builder w.run items s
 
 function_is : (place : Place) (w : Writer) (items : List Laid) → Holds place w items → w.builder.function ≡ function.Response
 function_is place w items holds = go holds.stands
@@ -83,7 +95,7 @@ pub put_is : (w : Writer) (x : Laid)
     }
 put_is w x = go x.item.thing
   where
-    go : (thing : Thing) → (let y : Laid = laid_as x.item.header thing x.object in
+    go : (thing : Thing) → (let y : Laid = laid_as x.item.header thing x.object x.common in
         put_laid w y ≡ record {
           builder = with_object (built_for w (run_at y)) (written_of y);
           run = run_at y;
@@ -96,35 +108,44 @@ put_is w x = go x.item.thing
 pub alone_is : (x : Laid) → written_of x ≡ header_of (alone x)
 alone_is x = go x.item.thing
   where
-    go : (thing : Thing) → (let y : Laid = laid_as x.item.header thing x.object in written_of y ≡ header_of (alone y))
+    go : (thing : Thing) → (let y : Laid = laid_as x.item.header thing x.object x.common in written_of y ≡ header_of (alone y))
     go (Event lane row) =
-        let h = written_of (laid_as x.item.header (Event lane row) x.object) in
+        let h = written_of (laid_as x.item.header (Event lane row) x.object x.common) in
         ap (λ (o : List ℕ). record h { range = h.range; octets = o }) (sym (append-nil h.octets))
     go (Present static) =
-        let h = written_of (laid_as x.item.header (Present static) x.object) in
+        let h = written_of (laid_as x.item.header (Present static) x.object x.common) in
         let e : static.row.index ≡ static.row.index + 0 = omega arith in
         ap (λ (o : List ℕ). record h { range = h.range; octets = o }) (sym (append-nil h.octets))
         ∙ ap (λ (last : ℕ). record h { range = range.Span true static.row.index last; octets = h.octets ++ [] }) e
 
--- a header more
-abbrev with_new : Built → Head → Built
-with_new b h = record { function = b.function; ended = heads b; run = Some h }
-
-run_broken : (b : Built) → heads (broken b) ≡ heads b
-run_broken b = append-nil (heads b)
+-- the headers of an item more
+abbrev with_new : Built → Laid → Built
+with_new b x = record { function = b.function; ended = heads b ++ front_of x; run = Some (written_of x) }
 
 -- a header that joins nothing is put after the others
-put_new : (b : Built) (object : Head) (o : Option Head) → b.run ≡ o → option_and_then (λ run. joined run object) o ≡ None
-    → with_object b object ≡ with_new b object
+put_new : (b : Built) (x : Laid) (run : Head) → b.run ≡ Some run → joined run (written_of x) ≡ None → front_of x ≡ []
+    → with_object b (written_of x) ≡ with_new b x
 unfolding with_object
-put_new b object o run_is none =
+put_new b x run run_is none plain =
+    let object : Head = written_of x in
+    let ended_with : List Head → Built = λ hs. record { function = b.function; ended = hs; run = Some object } in
     ap (λ (r : Option Head). with_run b (option_and_then (λ run. joined run object) r) object) run_is
     ∙ ap (λ (r : Option Head). with_run b r object) none
+    ∙ ap ended_with (sym (append-nil (heads b)) ∙ ap (λ (hs : List Head). heads b ++ hs) (sym plain))
 
-put_broken : (b : Built) (object : Head) → with_object (broken b) object ≡ with_new b object
-put_broken b object =
-    put_new (broken b) object None refl refl
-    ∙ ap (λ (hs : List Head). let built : Built = record { function = b.function; ended = hs; run = Some object } in built) (run_broken b)
+-- and so are those of an item that begins
+put_begun : (b : Built) (x : Laid) → with_object (begun b (common_of (run_at x))) (written_of x) ≡ with_new b x
+unfolding with_object
+put_begun b x = go x.item.thing x.common
+  where
+    go : (thing : Thing) (common : Option ℕ) → (let y : Laid = laid_as x.item.header thing x.object common in
+        with_object (begun b (common_of (run_at y))) (written_of y) ≡ with_new b y)
+    go (Event lane row) None = refl
+    go (Event lane row) (Some t) =
+        let y : Laid = laid_as x.item.header (Event lane row) x.object (Some t) in
+        ap (λ (hs : List Head). let built : Built = record { function = b.function; ended = hs; run = Some (written_of y) } in built)
+        (append-nil (heads b ++ common_head t ∷ []))
+    go (Present static) common = refl
 
 -- a header that joins the run makes it longer
 put_joined : (b : Built) (object run longer : Head) → b.run ≡ Some run → joined run object ≡ Some longer
@@ -135,22 +156,25 @@ put_joined b object run longer run_is joins =
     ∙ ap (λ (r : Option Head). with_run b r object) joins
 
 built_same : (w : Writer) (run : Run) → is_same_run w.run run ≡ true → built_for w run ≡ w.builder
-built_same w run same = ap (λ (t : Bool). if t then w.builder else broken w.builder) same
+built_same w run same = ap (λ (t : Bool). if t then w.builder else begun w.builder (common_of run)) same
 
-built_other : (w : Writer) (run : Run) → is_same_run w.run run ≡ false → built_for w run ≡ broken w.builder
-built_other w run other = ap (λ (t : Bool). if t then w.builder else broken w.builder) other
+built_other : (w : Writer) (run : Run) → is_same_run w.run run ≡ false → built_for w run ≡ begun w.builder (common_of run)
+built_other w run other = ap (λ (t : Bool). if t then w.builder else begun w.builder (common_of run)) other
 
 -- ---- the writer after one item more
 
-begun : (w : Writer) (items : List Laid) (y : Laid) → IsEmpty w.builder w.run items
+was_empty : (w : Writer) (items : List Laid) (y : Laid) → IsEmpty w.builder w.run items → IsTold y
     → Stands (with_object (built_for w (run_at y)) (written_of y)) (run_at y) (items ++ y ∷ [])
-begun w items y empty =
+was_empty w items y empty told =
     subst (λ (xs : List Laid). Stands (with_object (built_for w (run_at y)) (written_of y)) (run_at y) (xs ++ y ∷ [])) (sym empty.items_are)
     (subst (λ (b : Built). Stands b (run_at y) (y ∷ [])) (sym is) (record {
       first = y;
       more = [];
+      before = [];
       chain = tt;
+      told = told;
       function_is = refl;
+      ended_is = refl;
       run_is = ap Some (alone_is y);
       run_at_is = refl;
       headers = λ others. refl;
@@ -159,27 +183,30 @@ begun w items y empty =
     other : is_same_run w.run (run_at y) ≡ false
     other = ap (λ (run : Run). is_same_run run (run_at y)) empty.run_is
 
-    is : with_object (built_for w (run_at y)) (written_of y) ≡ record { function = function.Response; ended = []; run = Some (written_of y) }
+    is : with_object (built_for w (run_at y)) (written_of y) ≡ record { function = function.Response; ended = front_of y; run = Some (written_of y) }
     is =
         ap (λ (b : Built). with_object b (written_of y)) (built_other w (run_at y) other)
-        ∙ put_broken w.builder (written_of y)
-        ∙ ap (λ (b : Built). with_new b (written_of y)) empty.builder_is
+        ∙ put_begun w.builder y
+        ∙ ap (λ (b : Built). with_new b y) empty.builder_is
 
 went_on : (w : Writer) (items : List Laid) (y : Laid) (s : Stands w.builder w.run items) → IsFew s.first s.more
-    → goes_on (last_item s.first s.more) y ≡ true
+    → goes_on (last_item s.first s.more) y ≡ true → IsTold y
     → Stands (with_object (built_for w (run_at y)) (written_of y)) (run_at y) (items ++ y ∷ [])
-went_on w items y s few on =
+went_on w items y s few on told =
     subst (λ (b : Built). Stands b (run_at y) (items ++ y ∷ [])) (sym is) (record {
       first = s.first;
       more = s.more ++ y ∷ [];
+      before = s.before;
       chain = chain_push s.first s.more y s.chain on;
+      told = subst IsTold (sym (last_push s.first s.more y)) told;
       function_is = s.function_is;
+      ended_is = s.ended_is;
       run_is = refl;
       run_at_is = ap run_at (sym (last_push s.first s.more y));
       headers = λ others.
           ap headers_of (append_assoc items (y ∷ []) others)
           ∙ s.headers (y ∷ others)
-          ∙ ap (λ (xs : List Laid). w.builder.ended ++ headers_of (s.first ∷ xs)) (sym (append_assoc s.more (y ∷ []) others));
+          ∙ ap (λ (xs : List Laid). s.before ++ headers_of (s.first ∷ xs)) (sym (append_assoc s.more (y ∷ []) others));
     })
   where
     same : is_same_run w.run (run_at y) ≡ true
@@ -197,22 +224,25 @@ went_on w items y s few on =
         (header_of (record { first = s.first; more = s.more ++ y ∷ [] })) s.run_is
         (joins s.first s.more y behind few)
 
-began_anew : (w : Writer) (items : List Laid) (y : Laid) (s : Stands w.builder w.run items) → goes_on (last_item s.first s.more) y ≡ false
+began_anew : (w : Writer) (items : List Laid) (y : Laid) (s : Stands w.builder w.run items) → goes_on (last_item s.first s.more) y ≡ false → IsTold y
     → Stands (with_object (built_for w (run_at y)) (written_of y)) (run_at y) (items ++ y ∷ [])
-began_anew w items y s off =
+began_anew w items y s off told =
     subst (λ (b : Built). Stands b (run_at y) (items ++ y ∷ [])) (sym (is (is_same_run w.run (run_at y)) refl)) (record {
       first = y;
       more = [];
+      before = heads w.builder;
       chain = tt;
+      told = told;
       function_is = s.function_is;
+      ended_is = refl;
       run_is = ap Some (alone_is y);
       run_at_is = refl;
       headers = λ others.
           ap headers_of (append_assoc items (y ∷ []) others)
           ∙ s.headers (y ∷ others)
-          ∙ ap (λ (found : List Stretch). w.builder.ended ++ map header_of found) (stretch_ends s.first s.more y others s.chain off)
-          ∙ sym (append_assoc w.builder.ended (header_of last ∷ []) (headers_of (y ∷ others)))
-          ∙ ap (λ (o : Option Head). (w.builder.ended ++ option_to_list o) ++ headers_of (y ∷ others)) (sym s.run_is);
+          ∙ ap (λ (found : List Stretch). s.before ++ flat_map heads_of found) (stretch_ends s.first s.more y others s.chain off)
+          ∙ sym (append_assoc s.before (heads_of last) (headers_of (y ∷ others)))
+          ∙ ap (λ (hs : List Head). hs ++ headers_of (y ∷ others)) (sym (last_heads w.builder w.run items s));
     })
   where
     last : Stretch
@@ -221,14 +251,15 @@ began_anew w items y s off =
     at_last : (run : Run) → is_same_run w.run run ≡ is_same_run (run_at (last_item s.first s.more)) run
     at_last run = ap (λ (r : Run). is_same_run r run) s.run_at_is
 
-    is : (t : Bool) → is_same_run w.run (run_at y) ≡ t → with_object (built_for w (run_at y)) (written_of y) ≡ with_new w.builder (written_of y)
+    is : (t : Bool) → is_same_run w.run (run_at y) ≡ t → with_object (built_for w (run_at y)) (written_of y) ≡ with_new w.builder y
     is true same =
         ap (λ (b : Built). with_object b (written_of y)) (built_same w (run_at y) same)
-        ∙ put_new w.builder (written_of y) (Some (header_of last)) s.run_is
+        ∙ put_new w.builder y (header_of last) s.run_is
         (no_join s.first s.more (last_item s.first s.more) y (chain_behind s.first s.more s.chain) (sym (at_last (run_at y)) ∙ same) off)
+        (no_front (last_item s.first s.more) y s.told told (sym (at_last (run_at y)) ∙ same) off)
     is false other =
         ap (λ (b : Built). with_object b (written_of y)) (built_other w (run_at y) other)
-        ∙ put_broken w.builder (written_of y)
+        ∙ put_begun w.builder y
 
 -- ---- no count is too large in a fragment that fits
 
@@ -258,9 +289,10 @@ pub few : (b : Built) (first : Laid) (more : List Laid) → b.run ≡ Some (head
 few b first more run_is small = go first.item.thing run_is
   where
     go : (thing : Thing)
-        → (let x : Laid = laid_as first.item.header thing first.object in b.run ≡ Some (header_of (record { first = x; more = more })) → IsFew x more)
+        → (let x : Laid = laid_as first.item.header thing first.object first.common in
+        b.run ≡ Some (header_of (record { first = x; more = more })) → IsFew x more)
     go (Event lane row) is =
-        let x : Laid = laid_as first.item.header (Event lane row) first.object in
+        let x : Laid = laid_as first.item.header (Event lane row) first.object first.common in
         let objects = map object_of (x ∷ more) in
         let within = within_size b (header_of (record { first = x; more = more })) is in
         let many = indexed_octets (length more + 1) objects in
@@ -270,8 +302,9 @@ few b first more run_is small = go first.item.thing run_is
 
 -- ---- one item more
 
-pub put_holds : (place : Place) (w : Writer) (items : List Laid) (y : Laid) → Holds place w items → fits w ≡ true → Holds place (put_laid w y) (items ++ y ∷ [])
-put_holds place w items y holds fit = subst (λ (v : Writer). Holds place v (items ++ y ∷ [])) (sym (put_is w y)) (record {
+pub put_holds : (place : Place) (w : Writer) (items : List Laid) (y : Laid) → Holds place w items → fits w ≡ true → IsTold y
+    → Holds place (put_laid w y) (items ++ y ∷ [])
+put_holds place w items y holds fit told = subst (λ (v : Writer). Holds place v (items ++ y ∷ [])) (sym (put_is w y)) (record {
   place_is = ap (λ (p : Place). place_after p y.item) holds.place_is
       ∙ sym (fold_push place_after place (map item_of items) y.item)
       ∙ ap (fold place_after place) (sym (map_push item_of items y));
@@ -286,12 +319,12 @@ put_holds place w items y holds fit = subst (λ (v : Writer). Holds place v (ite
 
     by : (s : Stands w.builder w.run items) (t : Bool) → goes_on (last_item s.first s.more) y ≡ t
         → Stands (with_object (built_for w (run_at y)) (written_of y)) (run_at y) (items ++ y ∷ [])
-    by s true on = went_on w items y s (few w.builder s.first s.more s.run_is small) on
-    by s false off = began_anew w items y s off
+    by s true on = went_on w items y s (few w.builder s.first s.more s.run_is small) on told
+    by s false off = began_anew w items y s off told
 
     after : IsEmpty w.builder w.run items ⊎ Stands w.builder w.run items
         → Stands (with_object (built_for w (run_at y)) (written_of y)) (run_at y) (items ++ y ∷ [])
-    after (inl empty) = begun w items y empty
+    after (inl empty) = was_empty w items y empty told
     after (inr s) = by s (goes_on (last_item s.first s.more) y) refl
 
 pub empty_holds : (place : Place) → Holds place (empty_from place) []

@@ -23,6 +23,7 @@ use Rattle.dnp_outstation.specs.declared.session.LastRequest.{LastRequest}
 use Rattle.dnp_outstation.specs.declared.session.Awaited.{Awaited}
 use Rattle.dnp_outstation.specs.declared.session.Unsolicited.{Unsolicited}
 use Rattle.dnp_outstation.specs.declared.session.Session.{Session}
+use Rattle.dnp_outstation.specs.Forms.{may_each}
 use Rattle.dnp_outstation.specs.Items.{no_ids, first_place, last_in, enabled_lanes, lane_items}
 use Rattle.dnp_outstation.specs.Offer.{held_of, offered_of, offered, pushed}
 use Rattle.dnp_outstation.specs.Laws.{IsTidy, LeavesOnly}
@@ -278,7 +279,7 @@ unsolicited_confirms_tidy law s o now w sound nine tidy =
 
 pushed_nine : (s : Stock) (enabled : List Bool) → length (pushed s enabled).upto ≡ LANES
 unfolding offered_of
-pushed_nine s enabled = length_given no_ids (held_of (lane_items s (enabled_lanes 0 enabled)))
+pushed_nine s enabled = length_given no_ids (held_of may_each (lane_items s (enabled_lanes 0 enabled)))
 
 starts_tidy : (step : Step) (now : ℕ) (content : Content) → length content.upto ≡ LANES → LeavesNothing step.state → LeavesNothing (starts step now content).state
 starts_tidy step now content nine tidy = record { awaited = tidy.awaited; first = tidy.first; unsolicited = nine }

@@ -1,5 +1,5 @@
 -- The headers of items that can be written hold these items, and stand in the table for responses.
-use Rattle.std.proofs.Common.{◌≡◌, Bool, true, false, if◌then◌else◌, IsSome, refl, sym, ◌∙◌, ap, subst, ℕ, ◌<◌, ◌^◌, List, [], ◌∷◌, ◌++◌, map, append_assoc, append-nil}
+use Rattle.std.proofs.Common.{◌≡◌, Bool, true, false, if◌then◌else◌, IsSome, refl, sym, ◌∙◌, ap, subst, ℕ, ◌<◌, ◌^◌, List, [], ◌∷◌, ◌++◌, map, Option, None, append_assoc, append-nil}
 use Rattle.std.specs.List.{AllByRecursion}
 use Rattle.std.proofs.lemmas.List.{map_push}
 use Rattle.dnp_objects.specs.Objects.{object_size}
@@ -10,15 +10,14 @@ use Rattle.dnp_appfragment.specs.Built.{Built, heads, broken, with_object}
 use Rattle.dnp_appfragment.specs.Headers.{Head, IsHeader, AreHeaders, begin}
 use Rattle.dnp_appfragment.specs.Items.{Item as Object, Holds as HoldsObjects, HoldAll, event_item, point_item}
 use Rattle.dnp_appfragment.specs.Written.{FitsPoint, event, point}
-use Rattle.dnp_outstation.specs.declared.offer.writer.Run.{Run}
 use Rattle.dnp_outstation.specs.declared.offer.writer.Writer.{Writer}
-use Rattle.dnp_outstation.specs.Items.{Thing, Item, first_place}
+use Rattle.dnp_outstation.specs.Items.{Thing, first_place}
 use Rattle.dnp_outstation.specs.Items.Thing.{Event, Present}
-use Rattle.dnp_outstation.specs.Layout.{Laid, lay, object_of, headers_of, fits_fragment}
+use Rattle.dnp_outstation.specs.Layout.{Laid, own_object, object_of, headers_of, fits_fragment}
 use Rattle.dnp_outstation.specs.Said.{CanStand, CanGo}
-use Rattle.dnp_outstation.specs.steps.Filling.{is_same_run, empty_from, built_for, put_laid, fits}
+use Rattle.dnp_outstation.specs.steps.Filling.{is_same_run, common_of, empty_from, begun, built_for, put_laid, fits}
 use Rattle.dnp_outstation.proofs.Grows.{fits_begins}
-use Rattle.dnp_outstation.proofs.Joined.{run_at, written_of}
+use Rattle.dnp_outstation.proofs.Joined.{run_at, written_of, told_whole}
 use Rattle.dnp_outstation.proofs.Stretches.{laid_as}
 use Rattle.dnp_outstation.proofs.Taken.{Holds, heads_are, empty_holds, put_is, put_holds, fits_is}
 
@@ -44,9 +43,10 @@ pub record StandsAlone (x : Laid) : Type 0 where
 
 pub stands_alone : PutLaws → (x : Laid) → CanGo x → StandsAlone x
 stands_alone law x can =
-    subst (λ (o : Object). StandsAlone (laid_as x.item.header x.item.thing o)) (sym can.says) (go x.item.header x.item.thing can.stands)
+    subst (λ (o : Object). StandsAlone (laid_as x.item.header x.item.thing o x.common)) (sym can.says) (go x.item.header x.item.thing can.stands)
   where
-    go : (h : ℕ) (thing : Thing) → (let y : Item = record { header = h; thing = thing } in CanStand y → StandsAlone (lay y))
+    go : (h : ℕ) (thing : Thing)
+        → CanStand (record { header = h; thing = thing }) → StandsAlone (laid_as h thing (own_object thing) x.common)
     go h (Event lane row) fits =
         let stands = law.event_stands row.row fits.0 in
         record { header = stands.0; sized = stands.1; holds = law.event_holds row.row fits.0 fits.1 }
@@ -63,12 +63,21 @@ pub record AreWritten (hs : List Head) (items : List Laid) : Type 0 where
 written_broken : (b : Built) (items : List Laid) → AreWritten (heads b) items → AreWritten (heads (broken b)) items
 written_broken b items all = subst (λ (hs : List Head). AreWritten hs items) (sym (append-nil (heads b))) all
 
-written_for : (w : Writer) (run : Run) (items : List Laid) → AreWritten (heads w.builder) items → AreWritten (heads (built_for w run)) items
-written_for w run items all = by (is_same_run w.run run)
+no_common : (x : Laid) → x.common ≡ None → common_of (run_at x) ≡ None
+no_common x whole = go x.item.thing
   where
-    by : (t : Bool) → AreWritten (heads (if t then w.builder else broken w.builder)) items
+    go : (thing : Thing) → common_of (run_at (laid_as x.item.header thing x.object x.common)) ≡ None
+    go (Event lane row) = whole
+    go (Present static) = refl
+
+written_for : (w : Writer) (x : Laid) (items : List Laid) → CanGo x → AreWritten (heads w.builder) items
+    → AreWritten (heads (built_for w (run_at x))) items
+written_for w x items can all = by (is_same_run w.run (run_at x))
+  where
+    by : (t : Bool) → AreWritten (heads (if t then w.builder else begun w.builder (common_of (run_at x)))) items
     by true = all
-    by false = written_broken w.builder items all
+    by false =
+        subst (λ (c : Option ℕ). AreWritten (heads (begun w.builder c)) items) (sym (no_common x can.whole)) (written_broken w.builder items all)
 
 written_more : PutLaws → (b : Built) (x : Laid) (items : List Laid) → CanGo x → AreWritten (heads b) items
     → AreWritten (heads (with_object b (written_of x))) (items ++ x ∷ [])
@@ -87,13 +96,14 @@ all_written law w items [] holds fit written can fits_all =
     subst (λ (all : List Laid). AreWritten (headers_of all) all) (sym (append-nil items))
     (subst (λ (hs : List Head). AreWritten hs items) (heads_are first_place w items holds) written)
 all_written law w items (y ∷ ys) holds fit written can fits_all =
-    let after : Holds first_place (put_laid w y) (items ++ y ∷ []) = put_holds first_place w items y holds fit in
+    let after : Holds first_place (put_laid w y) (items ++ y ∷ []) =
+    put_holds first_place w items y holds fit (told_whole y can.0.whole) in
     let same : (items ++ y ∷ []) ++ ys ≡ items ++ y ∷ ys = append_assoc items (y ∷ []) ys in
     let fits_more : fits (put_laid w y) ≡ true =
     fits_is first_place (put_laid w y) (items ++ y ∷ []) after ∙ fits_begins (items ++ y ∷ []) ys (ap fits_fragment same ∙ fits_all) in
     let more : AreWritten (heads (put_laid w y).builder) (items ++ y ∷ []) =
     subst (λ (v : Writer). AreWritten (heads v.builder) (items ++ y ∷ [])) (sym (put_is w y))
-    (written_more law (built_for w (run_at y)) y items can.0 (written_for w (run_at y) items written))
+    (written_more law (built_for w (run_at y)) y items can.0 (written_for w y items can.0 written))
     in
     subst (λ (all : List Laid). AreWritten (headers_of all) all) same
     (all_written law (put_laid w y) (items ++ y ∷ []) ys after fits_more more can.1 (ap fits_fragment same ∙ fits_all))

@@ -10,6 +10,7 @@ use Rattle.dnp_appfragment.specs.Headers.{Head}
 use Rattle.dnp_outstation.specs.declared.offer.place.Place.{Place}
 use Rattle.dnp_outstation.specs.Items.{Source, Thing, Item, statics_of, items_left}
 use Rattle.dnp_outstation.specs.Items.Thing.{Event, Present}
+use Rattle.dnp_outstation.specs.Forms.{may_in}
 use Rattle.dnp_outstation.specs.Offer.{held_of, offered}
 
 -- ---- the longest beginning
@@ -79,7 +80,7 @@ AreHeldFrom s stood headers None [] = ⊤
 AreHeldFrom s stood headers None (held ∷ others) = ⊥
 AreHeldFrom s stood headers (Some place) [] = ⊥
 AreHeldFrom s stood headers (Some place) (held ∷ others) =
-    (held ≡ held_of (items_left s stood place headers)) × AreHeldFrom s stood headers (offered s stood place headers).left others
+    (held ≡ held_of (may_in headers) (items_left s stood place headers)) × AreHeldFrom s stood headers (offered s stood place headers).left others
 
 -- ---- what stands in the lanes of what was given
 

@@ -1,7 +1,9 @@
 -- Definition: as which object each item goes, the object headers that they are written as, and the size of the response that holds them
--- (IEEE Std 1815-2012, application layer: object headers, responses; object library: groups 2, 22, 32, 1, 10, 20, 30).
-use Rattle.std.specs.Prelude.{ℕ, ◌+◌, ◌==◌, Bool, true, false, ◌&&◌, if◌then◌else◌, nat_le, List, [], ◌∷◌, length, map}
+-- (IEEE Std 1815-2012, application layer: object headers, responses; object library: groups 2, 22, 32, 51, 1, 10, 20, 30).
+use Rattle.std.specs.Prelude.{ℕ, ◌+◌, ◌==◌, Bool, true, false, ◌&&◌, if◌then◌else◌, nat_eq, nat_le, List, [], ◌∷◌, ◌++◌, length, map, Option, None, option_to_list}
 use Rattle.std.specs.List.{flat_map}
+use Rattle.std.specs.Option.{option_eq}
+use Rattle.byteorder.specs.Endian.{little_bytes}
 use Rattle.dnp_appfragment.specs.declared.header.Range.{Range}
 use Rattle.dnp_appfragment.specs.declared.header.Range.TheVariants as range
 use Rattle.dnp_appfragment.specs.Headers.{Head, head_of, spelled}
@@ -12,10 +14,11 @@ use Rattle.dnp_outstation.specs.Items.Thing.{Event, Present}
 
 -- ---- as which object an item goes
 
--- an item with the object as which it goes
+-- an item with the object as which it goes, and the common time that this one's time is told after, if there is one
 pub record Laid : Type 0 where
   pub item : Item
   pub object : Object
+  pub common : Option ℕ
 
 abbrev pub item_of : Laid → Item
 item_of x = x.item
@@ -29,12 +32,9 @@ abbrev pub own_object : Thing → Object
 own_object (Event lane row) = event_item row.row
 own_object (Present static) = point_item static.object.0 static.object.1 static.row
 
--- each goes as its own, whatever stands beside it
+-- each goes as its own, whatever stands beside it, and tells its whole time
 abbrev pub lay : Item → Laid
-lay x = record { item = x; object = own_object x.thing }
-
-abbrev pub laid : List Item → List Laid
-laid items = map lay items
+lay x = record { item = x; object = own_object x.thing; common = None }
 
 -- ---- which items stand under one header
 
@@ -43,13 +43,14 @@ abbrev pub is_same_object : Object → Object → Bool
 is_same_object a b = (a.group == b.group) && (a.variation == b.variation)
 
 -- the second item stands under the header of the first, which is the one before it: an event if it is of the same
--- lane and object, and a present value if it is of the same header of the READ, the same object and block, and its
--- index is the next
+-- lane and object and its time is told after the same common time or none, and a present value if it is of the same
+-- header of the READ, the same object and block, and its index is the next
 abbrev pub goes_on : Laid → Laid → Bool
 goes_on x y = goes_on_by x.item.thing y.item.thing
   where
     goes_on_by : Thing → Thing → Bool
-    goes_on_by (Event lane a) (Event lane' b) = (lane == lane') && is_same_object x.object y.object
+    goes_on_by (Event lane a) (Event lane' b) =
+        ((lane == lane') && option_eq nat_eq x.common y.common) && is_same_object x.object y.object
     goes_on_by (Event lane a) (Present b) = false
     goes_on_by (Present a) (Event lane' b) = false
     goes_on_by (Present a) (Present b) =
@@ -88,8 +89,23 @@ abbrev pub header_of : Stretch → Head
 header_of s = head_of s.first.object.group s.first.object.variation (range_of s.first.item.thing (length s.more))
     (flat_map (item_octets (range_of s.first.item.thing (length s.more))) (map object_of (s.first ∷ s.more)))
 
+-- a common time in a header of its own, 51.1: milliseconds in six octets, the low one first
+abbrev pub common_head : ℕ → Head
+common_head time = head_of 51 1 (range.Count false 1) (little_bytes 6 time)
+
+-- the headers in front of an event that begins a stretch: that of its common time, if it has one
+abbrev pub front_of : Laid → List Head
+front_of x = of x.item.thing
+  where
+    of : Thing → List Head
+    of (Event lane row) = map common_head (option_to_list x.common)
+    of (Present static) = []
+
+abbrev pub heads_of : Stretch → List Head
+heads_of s = front_of s.first ++ header_of s ∷ []
+
 abbrev pub headers_of : List Laid → List Head
-headers_of items = map header_of (stretches items)
+headers_of items = flat_map heads_of (stretches items)
 
 -- ---- the size
 

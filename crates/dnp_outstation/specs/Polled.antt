@@ -8,6 +8,7 @@ use Rattle.dnp_appfragment.specs.Meaning.{response_at}
 use Rattle.dnp_appfragment.specs.declared.function.Function.TheVariants as function
 use Rattle.dnp_appfragment.specs.declared.header.Range.TheVariants as range
 use Rattle.dnp_eventbuf.specs.Stock.{Stock, without}
+use Rattle.dnp_outstation.specs.Forms.{may_each}
 use Rattle.dnp_outstation.specs.Items.{Item, enabled_lanes, lane_items, no_ids}
 use Rattle.dnp_outstation.specs.Laws.{lane_numbers}
 use Rattle.dnp_outstation.specs.Layout.{Laid, headers_of}
@@ -44,7 +45,7 @@ pub record Portion : Type 0 where
 
 -- of these items as many as fit into one fragment
 abbrev pub portion_of : List Item → Portion
-portion_of items = record { rows = events_in (held_of items); ids = last_ids (held_of items) }
+portion_of items = record { rows = events_in (held_of may_each items); ids = last_ids (held_of may_each items) }
 
 -- all rows of the lanes, one lane after another
 abbrev pub polled_items : Stock → List Item
@@ -63,7 +64,7 @@ no_rows = record { rows = []; ids = no_ids }
 -- ---- the parts of a poll
 
 abbrev pub polled_held : Stock → List Laid
-polled_held lanes = held_laid (polled_items lanes)
+polled_held lanes = held_laid may_each (polled_items lanes)
 
 abbrev pub polled_rows : Stock → List Row
 polled_rows lanes = (polled lanes).rows
@@ -73,7 +74,7 @@ polled_ids lanes = (polled lanes).ids
 
 -- they are all that the lanes hold
 abbrev pub are_all_polled : Stock → Bool
-are_all_polled lanes = length (held_of (polled_items lanes)) == length (polled_items lanes)
+are_all_polled lanes = length (held_of may_each (polled_items lanes)) == length (polled_items lanes)
 
 -- ---- what becomes of it
 

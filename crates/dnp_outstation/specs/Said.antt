@@ -30,10 +30,11 @@ CanStand x = of x.thing
     of (Event lane row) = IsEvent row.row × (row.row.index < 2 ^ 16)
     of (Present static) = FitsPoint static.object.0 static.object.1 static.row × (static.row.index < 2 ^ 16)
 
--- with the object as which it goes: that says it
+-- with the object as which it goes: that says it, and all of its time
 pub record CanGo (x : Laid) : Type 0 where
   pub stands : CanStand x.item
   pub says : x.object ≡ own_object x.item.thing
+  pub whole : x.common ≡ None
 
 -- the present values that a READ may give can be written
 abbrev pub AreWritable : Source → Type 0

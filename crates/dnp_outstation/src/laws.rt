@@ -18,8 +18,9 @@ ghost use Rattle.dnp_eventbuf.specs.Stock.{Stock, all_up_to, with_rows, without,
 ghost use Rattle.dnp_outstation.specs.declared.offer.place.Place.{Place};
 ghost use Rattle.dnp_outstation.specs.declared.session.Awaited.{Awaited};
 ghost use Rattle.dnp_outstation.specs.declared.session.LastRequest.{LastRequest};
+ghost use Rattle.dnp_outstation.specs.Forms.{may_in, may_each, laid};
 ghost use Rattle.dnp_outstation.specs.Items.{Source, Item, no_ids, items_left, enabled_lanes, lane_items};
-ghost use Rattle.dnp_outstation.specs.Layout.{Laid, laid, item_of, object_of, headers_of, response_size, fits_fragment};
+ghost use Rattle.dnp_outstation.specs.Layout.{Laid, item_of, object_of, headers_of, response_size, fits_fragment};
 ghost use Rattle.dnp_outstation.specs.Offer.{held_laid, held_of, offered_of, offered, pushed};
 ghost use Rattle.dnp_outstation.specs.Laws.{IsLongest, rows_by_lane, AreRowsUpto, IsTidy, LeavesOnly, AreNext, IsOnward, AreGiven, AreBefore};
 ghost use Rattle.dnp_outstation.specs.Said.{events_in, CanGo, AreWritable};
@@ -38,10 +39,10 @@ use dnp_eventbuf::laws::{a_release_is_lane_by_lane, ids_are_used_once, lanes_sta
 /// since a response with more items is no smaller. Nothing is left exactly where it holds them all, and
 /// where no item was left it is empty and the last.
 pub fn a_fragment_holds_as_much_as_fits()
-    ensures longest { (items : List Item) → IsLongest fits_fragment (laid items) (held_laid items) }
+    ensures longest { (may : ℕ → Bool) (items : List Item) → IsLongest fits_fragment (laid may items) (held_laid may items) }
     ensures grows { (held more : List Laid) → response_size held ≤ response_size (held ++ more) }
-    ensures last { (place : Place) (items : List Item) → ((offered_of place items).left ≡ None) ↔ (held_of items ≡ items) }
-    ensures empty { (place : Place) → offered_of place [] ≡ record { headers = []; upto = no_ids; left = None } }
+    ensures last { (may : ℕ → Bool) (place : Place) (items : List Item) → ((offered_of may place items).left ≡ None) ↔ (held_of may items ≡ items) }
+    ensures empty { (may : ℕ → Bool) (place : Place) → offered_of may place [] ≡ record { headers = []; upto = no_ids; left = None } }
 {}
 
 /// Lane by lane, the event rows that a fragment carries are those that stand in the lanes with ids up to
@@ -50,9 +51,9 @@ pub fn a_fragment_holds_as_much_as_fits()
 pub fn a_fragment_carries_the_rows_up_to_its_ids()
     ensures fragment { (s : Source) (stood : ℕ) (place : Place) (headers : List Head) → IsSound s.lanes
         → IsTidy s.lanes place.given → length place.given ≡ LANES
-        → AreRowsUpto s.lanes (offered s stood place headers).upto (held_of (items_left s stood place headers)) }
+        → AreRowsUpto s.lanes (offered s stood place headers).upto (held_of (may_in headers) (items_left s stood place headers)) }
     ensures unsolicited { (s : Stock) (enabled : List Bool) → IsSound s
-        → AreRowsUpto s (pushed s enabled).upto (held_of (lane_items s (enabled_lanes 0 enabled))) }
+        → AreRowsUpto s (pushed s enabled).upto (held_of may_each (lane_items s (enabled_lanes 0 enabled))) }
     ensures released { (s : Stock) (upto : List ℕ) (items : List Item) → length s.lanes ≡ LANES → length upto ≡ LANES
         → AreRowsUpto s upto items → all_up_to s upto ≡ rows_by_lane items }
 {}
@@ -62,12 +63,12 @@ pub fn a_fragment_carries_the_rows_up_to_its_ids()
 /// answered.
 pub fn a_row_stands_once_in_a_response()
     ensures next { (s : Source) (stood : ℕ) (place : Place) (headers : List Head) → IsSound s.lanes
-        → length place.given ≡ LANES → AreNext place.given stood (held_of (items_left s stood place headers)) }
+        → length place.given ≡ LANES → AreNext place.given stood (held_of (may_in headers) (items_left s stood place headers)) }
     ensures onward { (s : Source) (stood : ℕ) (place left : Place) (headers : List Head) → IsSound s.lanes
         → length place.given ≡ LANES → (offered s stood place headers).left ≡ Some left → IsOnward place.given left.given }
     ensures given { (s : Source) (stood : ℕ) (place left : Place) (headers : List Head) → IsSound s.lanes
         → length place.given ≡ LANES → (offered s stood place headers).left ≡ Some left
-        → AreGiven left.given (held_of (items_left s stood place headers)) }
+        → AreGiven left.given (held_of (may_in headers) (items_left s stood place headers)) }
     ensures once { (given later : List ℕ) (stood : ℕ) (items others : List Item) → AreGiven given items
         → IsOnward given later → AreNext later stood others → AreBefore items others }
 {}
@@ -107,9 +108,9 @@ pub fn octets_say_what_is_held()
     ensures rows { (held : List Laid) → All CanGo held → fits_fragment held ≡ true
         → rows_said (headers_of held) ≡ events_in (map item_of held) }
     ensures written { (s : Source) (stood : ℕ) (place : Place) (headers : List Head) → IsSound s.lanes → AreWritable s
-        → All CanGo (held_laid (items_left s stood place headers)) }
+        → All CanGo (held_laid (may_in headers) (items_left s stood place headers)) }
     ensures some { (s : Source) (stood : ℕ) (place left : Place) (headers : List Head) → IsSound s.lanes → AreWritable s
-        → (offered s stood place headers).left ≡ Some left → held_of (items_left s stood place headers) ≢ [] }
+        → (offered s stood place headers).left ≡ Some left → held_of (may_in headers) (items_left s stood place headers) ≢ [] }
 {
     a_header_holds_what_was_put();
     what_is_put_is_held();

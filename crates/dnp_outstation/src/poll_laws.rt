@@ -10,6 +10,7 @@ ghost use Rattle.dnp_eventbuf.specs.Stock.{Stock, all_up_to};
 ghost use Rattle.dnp_outstation.specs.Calls.{connection_after};
 ghost use Rattle.dnp_outstation.specs.Connection.{case_of, is_last_request};
 ghost use Rattle.dnp_outstation.specs.Content.{source_of};
+ghost use Rattle.dnp_outstation.specs.Forms.{may_each};
 ghost use Rattle.dnp_outstation.specs.Items.{enabled_lanes, lane_items};
 ghost use Rattle.dnp_outstation.specs.Layout.{headers_of};
 ghost use Rattle.dnp_outstation.specs.Offer.{held_laid};
@@ -47,7 +48,7 @@ pub fn a_quiet_outstation_offers_its_events()
 /// takes them in this order. The confirm of an unsolicited response is known by its number.
 pub fn a_fragment_of_classes_is_said_and_released()
     ensures said { (s : Stock) (enabled : List Bool) → IsSound s → length enabled ≤ 3
-        → rows_said (headers_of (held_laid (lane_items s (enabled_lanes 0 enabled)))) ≡ (reported s enabled).rows }
+        → rows_said (headers_of (held_laid may_each (lane_items s (enabled_lanes 0 enabled)))) ≡ (reported s enabled).rows }
     ensures released { (s : Stock) (enabled : List Bool) → IsSound s → length enabled ≤ 3
         → all_up_to s (reported s enabled).ids ≡ (reported s enabled).rows }
     ensures confirmed { (c : Core) (seq : ℕ) (w : Unsolicited) → seq < 16 → c.is_open ≡ true

@@ -19,6 +19,7 @@ use Rattle.dnp_master.specs.declared.fault.AskFault.TheVariants.{Busy, Closed}
 use Rattle.dnp_master.specs.declared.outcome.Echo.TheVariants.{Nothing}
 use Rattle.dnp_master.specs.declared.request.OpenRequest.{OpenRequest}
 use Rattle.dnp_objects.specs.declared.row.Row.{Row}
+use Rattle.dnp_outstation.specs.Forms.{may_each}
 use Rattle.dnp_outstation.specs.Items.{enabled_lanes, lane_items}
 use Rattle.dnp_outstation.specs.Layout.{headers_of}
 use Rattle.dnp_outstation.specs.Offer.{held_laid}
@@ -31,7 +32,7 @@ use Rattle.dnp_world.specs.Rounds.{events_polled}
 -- what the crate of outstations promises of a fragment of some classes
 abbrev pub SaidLaw : Type 0
 SaidLaw = (s : Stock) (enabled : List Bool) → IsSound s → length enabled ≤ 3
-    → events_in (headers_of (held_laid (lane_items s (enabled_lanes 0 enabled)))) ≡ (reported s enabled).rows
+    → events_in (headers_of (held_laid may_each (lane_items s (enabled_lanes 0 enabled)))) ≡ (reported s enabled).rows
 
 -- ---- asking
 

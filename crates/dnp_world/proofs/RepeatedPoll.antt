@@ -22,6 +22,7 @@ use Rattle.dnp_outstation.specs.Calls.{connection_after, received, with_that}
 use Rattle.dnp_outstation.specs.Connection.{at_end, awaited_number, case_of, control_in, function_in, has_enabled_rows, is_last_request, is_number, on_again, starts, unsolicited_of}
 use Rattle.dnp_outstation.specs.Content.{Content, content_from, indications}
 use Rattle.dnp_outstation.specs.Controls.{is_control}
+use Rattle.dnp_outstation.specs.Forms.{may_each}
 use Rattle.dnp_outstation.specs.Items.{Item, enabled_lanes, lane_items}
 use Rattle.dnp_outstation.specs.Layout.{headers_of}
 use Rattle.dnp_outstation.specs.Links.{IsInOrder}
@@ -79,7 +80,7 @@ abbrev report_control : ℕ → ControlBits
 report_control seq = record { fir = true; fin = true; con = true; uns = true; seq = seq }
 
 -- what an unsolicited response of these classes is made of
-pushed_headers : (s : Stock) (enabled : List Bool) → (pushed s enabled).headers ≡ headers_of (held_laid (lane_items s (enabled_lanes 0 enabled)))
+pushed_headers : (s : Stock) (enabled : List Bool) → (pushed s enabled).headers ≡ headers_of (held_laid may_each (lane_items s (enabled_lanes 0 enabled)))
 unfolding offered_of
 pushed_headers s enabled = refl
 

@@ -1,7 +1,8 @@
 -- Private steps: how a fragment is filled, item by item. A lemma (proofs/Filled.antt) says that what is filled is what
 -- is offered (Offer.antt).
-use Rattle.std.specs.Prelude.{ℕ, ◌==◌, Bool, true, false, ◌&&◌, if◌then◌else◌, nat_le, nat_lt, max, length, List, [], ◌∷◌, ◌++◌, map, slice_set, slice_index, Option, None, Some}
+use Rattle.std.specs.Prelude.{ℕ, ◌==◌, Bool, true, false, ◌&&◌, if◌then◌else◌, nat_eq, nat_le, nat_lt, max, length, List, [], ◌∷◌, map, slice_set, slice_index, Option, None, Some}
 use Rattle.std.specs.List.{list_any}
+use Rattle.std.specs.Option.{option_eq}
 use Rattle.dnp_objects.specs.Lanes.{lane_number}
 use Rattle.dnp_appfragment.specs.declared.function.Function.{Function}
 use Rattle.dnp_appfragment.specs.declared.function.Function.TheVariants as function
@@ -21,7 +22,7 @@ use Rattle.dnp_outstation.specs.declared.offer.writer.Writer.{Writer}
 use Rattle.dnp_outstation.specs.Items.{Source, Part, Thing, Item, statics_of, each_static, in_range, no_ids, place_after}
 use Rattle.dnp_outstation.specs.Items.Part.{RowsOf, StaticsOf}
 use Rattle.dnp_outstation.specs.Items.Thing.{Event, Present}
-use Rattle.dnp_outstation.specs.Layout.{Laid, lay, laid}
+use Rattle.dnp_outstation.specs.Layout.{Laid, lay, common_head}
 use Rattle.dnp_outstation.specs.Offer.{Filled}
 
 -- ---- what is read
@@ -59,11 +60,11 @@ over_of given (Some upto) lane = max (slice_index given lane) (slice_index upto 
 
 abbrev pub is_same_run : Run → Run → Bool
 is_same_run NoRun run = false
-is_same_run (OfLane lane) NoRun = false
-is_same_run (OfLane lane) (OfLane lane') = lane == lane'
-is_same_run (OfLane lane) (OfBlock header group block) = false
+is_same_run (OfLane lane common) NoRun = false
+is_same_run (OfLane lane common) (OfLane lane' common') = (lane == lane') && option_eq nat_eq common common'
+is_same_run (OfLane lane common) (OfBlock header group block) = false
 is_same_run (OfBlock header group block) NoRun = false
-is_same_run (OfBlock header group block) (OfLane lane) = false
+is_same_run (OfBlock header group block) (OfLane lane common) = false
 is_same_run (OfBlock header group block) (OfBlock header' group' block') = header == header' && (group == group' && block == block')
 
 abbrev pub no_headers_of : Function → Built
@@ -79,17 +80,29 @@ empty_for f place = record { builder = no_headers_of f; run = NoRun; place = pla
 abbrev pub empty_from : Place → Writer
 empty_from place = empty_for function.Response place
 
--- a new header begins where the lane changes, or for present values the header of the READ, the group or the block
+-- the common time that the times of a run are told after, if there is one
+abbrev pub common_of : Run → Option ℕ
+common_of NoRun = None
+common_of (OfLane lane common) = common
+common_of (OfBlock header group block) = None
+
+-- no object joins what is there: a common time stands before what comes, if there is one
+abbrev pub begun : Built → Option ℕ → Built
+begun b None = built.broken b
+begun b (Some common) = built.with_header b (common_head common)
+
+-- a new header begins where the lane or the common time changes, or for present values the header of the READ, the
+-- group or the block
 abbrev pub built_for : Writer → Run → Built
-built_for w run = if is_same_run w.run run then w.builder else built.broken w.builder
+built_for w run = if is_same_run w.run run then w.builder else begun w.builder (common_of run)
 
 abbrev pub put_laid : Writer → Laid → Writer
 put_laid w x = put_thing x.item.thing x.object
   where
     put_thing : Thing → Object → Writer
     put_thing (Event lane row) o = record {
-      builder = built.with_object (built_for w (OfLane lane)) (written.indexed o.group o.variation o.index o.octets);
-      run = OfLane lane;
+      builder = built.with_object (built_for w (OfLane lane x.common)) (written.indexed o.group o.variation o.index o.octets);
+      run = OfLane lane x.common;
       place = place_after w.place x.item;
       upto = slice_set w.upto lane row.id;
     }
@@ -117,4 +130,4 @@ fill_laid w [] = ended true w
 fill_laid w (x ∷ xs) = if fits (put_laid w x) then fill_laid (put_laid w x) xs else ended false w
 
 abbrev pub fill : Writer → List Item → Filled
-fill w items = fill_laid w (laid items)
+fill w items = fill_laid w (map lay items)

@@ -20,19 +20,19 @@ use dnp_objects::{LANES, Row};
 #[derive(Clone, Copy, Debug)]
 pub enum Run {
     NoRun,
-    /// Events of the lane of this number.
-    OfLane(usize),
+    /// Events of the lane of this number, their times told after this common time, if there is one.
+    OfLane(usize, Option<u64>),
     /// Present values of this header of the READ, this group and this block.
     OfBlock(usize, u8, usize),
 }
 
 impl Run {
-    /// Whether events of this lane stand there.
-    fn is_lane(&self, lane: usize) -> bool
-        ensures { result ≡ is_same_run self.now (Run.OfLane lane) }
+    /// Whether events of this lane stand there, their times told after this common time or none.
+    fn is_lane(&self, lane: usize, common: Option<u64>) -> bool
+        ensures { result ≡ is_same_run self.now (Run.OfLane lane common) }
     {
         match self {
-            Run::OfLane(other) => *other == lane,
+            Run::OfLane(other, after) => *other == lane && *after == common,
             Run::NoRun => false,
             Run::OfBlock(_, _, _) => false,
         }
@@ -45,7 +45,7 @@ impl Run {
         match self {
             Run::OfBlock(h, g, b) => *h == header && (*g == group && *b == block),
             Run::NoRun => false,
-            Run::OfLane(_) => false,
+            Run::OfLane(_, _) => false,
         }
     }
 }
@@ -142,7 +142,7 @@ impl Writer {
         ensures full { result ≡ false → ended false self.new ≡ ended false self.old }
         ensures response { self.new.builder.function ≡ self.old.builder.function }
     {
-        let joins = self.run.is_lane(lane);
+        let joins = self.run.is_lane(lane, None);
         if !joins {
             self.builder.break_run();
         }
@@ -150,7 +150,7 @@ impl Writer {
             return false;
         }
         if !joins {
-            self.run = Run::OfLane(lane);
+            self.run = Run::OfLane(lane, None);
         }
         self.place.pass_event(header, lane, x);
         self.upto[lane] = x.id;

@@ -14,4 +14,4 @@ pub returns-clause-last : goal.returns-clause-last
 returns-clause-last c = left_none
 
 pub returns-clause-empty : goal.returns-clause-empty
-returns-clause-empty c = λ place. none_left place [] refl
+returns-clause-empty c = λ may place. none_left may place [] refl

@@ -1,4 +1,5 @@
 -- What is held of some classes fits and can be written, so its octets say it.
+use Rattle.dnp_outstation.specs.Forms.{may_each}
 use Rattle.dnp_outstation.specs.Items.{enabled_lanes, lane_items}
 use Rattle.dnp_outstation.specs.Offer.{held_laid}
 use Rattle.dnp_outstation.proofs.ItemsOf.{pushed_stand}
@@ -10,7 +11,7 @@ use Rattle.dnp_outstation.proofs.poll_laws.a_fragment_of_classes_is_said_and_rel
 pub returns-clause-said : goal.returns-clause-said
 returns-clause-said c = λ s enabled sound few.
     let items = lane_items s (enabled_lanes 0 enabled) in
-    c.octets_say_what_is_held.ensures.rows (held_laid items) (pushed_stand s enabled sound few) (held_fits items)
+    c.octets_say_what_is_held.ensures.rows (held_laid may_each items) (pushed_stand s enabled sound few) (held_fits may_each items)
 
 pub returns-clause-released : goal.returns-clause-released
 returns-clause-released c = reported_released

@@ -1,4 +1,4 @@
-use Rattle.std.proofs.Common.{rules, slice_set}
+use Rattle.std.proofs.Common.{rules, slice_set, None}
 use Rattle.dnp_outstation.specs.declared.offer.writer.Run.TheVariants.{OfLane}
 use Rattle.dnp_outstation.specs.declared.offer.writer.Writer.{Writer}
 use Rattle.dnp_outstation.proofs.OfferRoom.{put_room}
@@ -8,7 +8,7 @@ pub returns-clause-longer : goal.returns-clause-longer
 returns-clause-longer c = λ _.
     let new : Writer = record {
       builder = c.if-not-joins-2.self.builder;
-      run = OfLane c.args.lane;
+      run = OfLane c.args.lane None;
       place = c.pass_event.new.self;
       upto = slice_set c.if-not-joins-2.self.upto c.args.lane c.args.x.now.id;
     } in
