@@ -224,6 +224,8 @@ impl<J: JournalStore, B: Book> Centre<J, B> {
             IsTrue (has_rows t) → passes_limit (J.archive (journal_of self.old)) t.events ≡ false)) }
         ensures exhausted { J.honest (journal_of self.new) → IfErr result (λ fault. fault ≡ MasterFault.Exhausted
             → IfOk (receive_of (link_of self.old).master now octets.now) (λ t. IsTrue (passes_limit (J.archive (journal_of self.old)) t.events))) }
+        ensures exhausted_first { J.honest (journal_of self.new) → IfErr result (λ fault. fault ≡ MasterFault.Memory → (journal_of self.new ≡ journal_of self.old)
+            ⊎ IfOk (receive_of (link_of self.old).master now octets.now) (λ t. passes_limit (J.archive (journal_of self.old)) t.events ≡ false)) }
         ensures book { book_of self.new ≡ book_of self.old }
         ensures indices { indices_of self.new ≡ indices_of self.old }
     {

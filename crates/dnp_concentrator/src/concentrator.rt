@@ -5,7 +5,7 @@ ghost use Rattle.std.specs.Borrow.{Lends, sem};
 ghost use Rattle.dnp_appfragment.specs.declared.function.Function.TheVariants as function;
 ghost use Rattle.dnp_appfragment.specs.Table.{function_octet};
 ghost use Rattle.dnp_eventbuf.specs.Stock.{rows_in};
-ghost use Rattle.dnp_outstation.specs.State.{is_quiet, is_ready};
+ghost use Rattle.dnp_outstation.specs.State.{is_quiet, is_ready, nothing};
 ghost use Rattle.dnp_outstation.specs.Calls.{opened_of, tick_of, connection_after, performed_in, restarted_core};
 ghost use Rattle.dnp_outstation.specs.Connection.{case_of, closed, function_in, has_enabled_rows, is_looked_at, solicited_timer};
 ghost use Rattle.dnp_outstation.specs.declared.case.Case.TheVariants as case;
@@ -252,6 +252,11 @@ impl<Q: Lanes, B: Book> Concentrator<Q, B> {
             → (rows_in (Q.contents (queue_of self.old)) ≢ []) ⊎ (Exhausts B.contents (outputs_of self.old) (performed_in (core_of self.old) (panel_of B.contents (outputs_of self.old)) now octets.now) → ⊥) }
         ensures looked_at { IsErr result → is_looked_at (core_of self.old) octets.now ≡ true }
         ensures asks { IsErr result → (core_of self.old).times.unsolicited ≡ false → MayAsk (core_of self.old) (panel_of B.contents (outputs_of self.old)) now octets.now }
+        ensures asks_announced { IsErr result → (core_of self.old).announced ≡ false → MayAsk (core_of self.old) (panel_of B.contents (outputs_of self.old)) now octets.now }
+        ensures asks_stray { IsErr result → case_of (core_of self.old) octets.now ≡ case.Stray → is_ready (core_of self.old) ≡ true }
+        ensures asks_again { IsErr result → case_of (core_of self.old) octets.now ≡ case.Again → is_ready (core_of self.old) ≡ true }
+        ensures memory_idle { Q.honest (queue_of self.new) → result ≡ Err StoreFault.Memory → Q.asks_memory ≡ false → case_of (core_of self.old) octets.now ≡ case.Confirms
+            → (connection_after (above_of Q.contents B.contents self.old) (panel_of B.contents (outputs_of self.old)) now octets.now).does ≢ nothing }
         ensures asks_held { IsErr result → case_of (core_of self.old) octets.now ≡ case.Waits → ⊥ }
         ensures asks_inside { IsErr result → (core_of self.old).times.unsolicited ≡ false → function_in octets.now ≡ function_octet function.Read
             → reads_inside (above_of Q.contents B.contents self.old) (panel_of B.contents (outputs_of self.old)) octets.now ≡ true }

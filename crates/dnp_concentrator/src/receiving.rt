@@ -74,6 +74,8 @@ impl Relay {
             IsTrue (has_rows t) → S.exhausts sink.old t.events ≡ false)) }
         ensures exhausted { S.honest sink.new → IfErr result (λ fault. fault ≡ MasterFault.Exhausted
             → IfOk (receive_of self.old.master now octets.now) (λ t. IsTrue (S.exhausts sink.old t.events))) }
+        ensures exhausted_first { S.honest sink.new → IfErr result (λ fault. fault ≡ MasterFault.Memory
+            → (sink.new ≡ sink.old) ⊎ IfOk (receive_of self.old.master now octets.now) (λ t. S.exhausts sink.old t.events ≡ false)) }
     {
         let actions = self.master.receive(alloc, now, octets, sink)?;
         self.progress = heard(self.progress, &actions.outcome);

@@ -62,6 +62,9 @@ impl<Q: Lanes, B: Book> Concentrator<Q, B> {
             → exhausts (Q.contents (queue_of self.old)) (queued_at self.old substation events.now) ≡ false) }
         ensures exhausted { Q.honest (queue_of self.new) → IfErr result (λ fault. fault ≡ MasterFault.Exhausted → IsTrue (
             exhausts (Q.contents (queue_of self.old)) (queued_at self.old substation events.now))) }
+        // Out of memory it is before the queue is asked, or where the numbers are there.
+        ensures exhausted_first { Q.honest (queue_of self.new) → IfErr result (λ fault. fault ≡ MasterFault.Memory → (queue_of self.new ≡ queue_of self.old)
+            ⊎ (exhausts (Q.contents (queue_of self.old)) (queued_at self.old substation events.now) ≡ false)) }
         ensures named { IfErr result IsSinkFault }
         ensures device { result ≡ Err MasterFault.Device → IsTrue (Q.may_fault store.Device) }
     {
@@ -140,6 +143,10 @@ impl<Q: Lanes, B: Book> Concentrator<Q, B> {
         ensures exhausted { Q.honest (queue_of self.new) → IfErr result (λ fault. fault ≡ MasterFault.Exhausted
             → IfOk (taking_at self.old substation now octets.now) (λ t.
             IsTrue (exhausts (Q.contents (queue_of self.old)) (queued_at self.old substation t.events)))) }
+        // Out of memory it is before the queue is asked, or where the numbers are there.
+        ensures exhausted_first { Q.honest (queue_of self.new) → IfErr result (λ fault. fault ≡ MasterFault.Memory → (queue_of self.new ≡ queue_of self.old)
+            ⊎ IfOk (taking_at self.old substation now octets.now) (λ t.
+            exhausts (Q.contents (queue_of self.old)) (queued_at self.old substation t.events) ≡ false)) }
         // A queue in memory has no device.
         ensures device { result ≡ Err MasterFault.Device → IsTrue (Q.may_fault store.Device) }
     {

@@ -127,6 +127,9 @@ impl Master {
             IsTrue (has_rows t) → S.exhausts sink.old t.events ≡ false)) }
         ensures exhausted { S.honest sink.new → IfErr result (λ fault. fault ≡ MasterFault.Exhausted
             → IfOk (receive_of self.old now octets.now) (λ t. IsTrue (S.exhausts sink.old t.events))) }
+        // Out of memory it is before the sink is asked, or where the numbers are there.
+        ensures exhausted_first { S.honest sink.new → IfErr result (λ fault. fault ≡ MasterFault.Memory
+            → (sink.new ≡ sink.old) ⊎ IfOk (receive_of self.old now octets.now) (λ t. S.exhausts sink.old t.events ≡ false)) }
     {
         let taken = self.look(alloc, now, octets)?;
         let dropped = give(sink, alloc, taken.events(), taken.statics())?;

@@ -1,7 +1,7 @@
 //! Confirms. That of a fragment: its rows leave, and the response goes on. That of an unsolicited response: its rows
 //! leave, and a READ that waited for it is answered.
 
-ghost use Rattle.std.specs.Prelude.{All, ◌≤◌, length, ◌≡◌, ◌≢◌, ℕ, [], false, IfOk, IfErr, IfSome, OnOk, OnErr, IsTrue, Err, ◌<◌, true, None};
+ghost use Rattle.std.specs.Prelude.{All, ◌≤◌, length, ◌≡◌, ◌≢◌, ℕ, [], false, IfOk, IfErr, IfSome, IsErr, OnOk, OnErr, IsTrue, Err, ◌<◌, true, None};
 ghost use Rattle.dnp_appfragment.specs.declared.function.Function.TheVariants as function;
 ghost use Rattle.dnp_controls.specs.Panel.{Panel};
 ghost use Rattle.dnp_controls.specs.Selecting.{deadline};
@@ -51,6 +51,8 @@ fn write_next<L: Lanes, O: Outputs>(
     ensures switches { IfOk result (λ next. IfSome next (λ a. a.switches ≡ switches)) }
     ensures none { IfOk result (λ next. IfSome next (λ a. a.bits ≡ 0)) }
     ensures response { IfOk result (λ next. IfSome next (λ a. writer.new.builder.function ≡ function.Response)) }
+    ensures asks_next { IsErr result → (s : State) (now seq : ℕ) → s.core.session.request ≡ session.now.request
+        → (goes_on s (O.panel outputs.now) now seq session.now.last).does.send ≢ [] }
 {
     let Some(last) = &session.last else {
         return Ok(None);
@@ -148,6 +150,8 @@ impl OutstationCore {
         ensures actions_unchanged { OnErr result (actions.new ≡ actions.old) }
         ensures device { result ≡ Err StoreFault.Device → IsTrue (L.is_stopped lanes.new) }
         ensures memory { L.honest lanes.new → result ≡ Err StoreFault.Memory → L.asks_memory ≡ false → rows_in (L.contents lanes.old) ≢ [] }
+        ensures memory_idle { L.honest lanes.new → result ≡ Err StoreFault.Memory → L.asks_memory ≡ false → (p : Panel) → let s = state_of self.old (L.contents lanes.old) p in
+            (at_end now (with_that s s.core.session.awaited (on_confirm s (O.panel outputs.now) now))).does ≢ nothing }
         ensures named { result ≢ Err StoreFault.Exhausted }
         ensures faults { IfErr result (λ e. IsTrue (L.may_fault e)) }
     {

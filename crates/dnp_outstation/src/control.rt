@@ -100,6 +100,7 @@ impl OutstationCore {
         ensures exhausted_first { L.honest lanes.new → O.honest outputs.new → result ≡ Err StoreFault.Memory → L.asks_memory ≡ false
             → (rows_in (L.contents lanes.old) ≢ []) ⊎ (O.exhausts outputs.old (performed_at self.old (O.panel outputs.old) now octets.now) → ⊥) }
         ensures asks { IsErr result → (self.old.times.unsolicited ≡ true) ⊎ (performed_at self.old (O.panel outputs.old) now octets.now ≢ []) }
+        ensures asks_announced { IsErr result → (self.old.announced ≡ true) ⊎ (performed_at self.old (O.panel outputs.old) now octets.now ≢ []) }
     {
         let switches = self.switches();
         let stood = last_left(lanes, &None);

@@ -127,6 +127,7 @@ impl OutstationCore {
     pub(crate) fn is_due(&self, announced: bool, is_open: bool, free: bool) -> bool
         ensures value { (c : Core) → c.times ≡ self.now.times → c.announced ≡ announced → c.is_open ≡ is_open → is_free c ≡ free → result ≡ is_ready c }
         ensures on { IsTrue result → self.now.times.unsolicited ≡ true }
+        ensures announced { IsTrue result → announced ≡ true }
     {
         self.times.unsolicited && announced && is_open && free
     }
@@ -157,6 +158,8 @@ impl OutstationCore {
         ensures unchanged { OnErr result (self.new ≡ self.old) }
         ensures actions_unchanged { OnErr result (actions.new ≡ actions.old) }
         ensures asks { IsErr result → self.old.times.unsolicited ≡ true }
+        ensures asks_ready { IsErr result → is_ready self.old ≡ true }
+        ensures asks_rows { L.honest lanes.new → IsErr result → has_rows_in (L.contents lanes.old) (enabled_lanes 0 self.old.enabled) ≡ true }
     {
         let is_due = self.is_ready();
         let enabled = self.enabled;

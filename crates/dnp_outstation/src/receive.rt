@@ -7,6 +7,7 @@ ghost use Rattle.dnp_eventbuf.specs.Stock.{rows_in};
 ghost use Rattle.dnp_outstation.specs.Calls.{connection_after, performed_in};
 ghost use Rattle.dnp_outstation.specs.Connection.{is_looked_at, case_of, function_in};
 ghost use Rattle.dnp_outstation.specs.declared.case.Case.TheVariants as case;
+ghost use Rattle.dnp_outstation.specs.State.{is_ready, nothing};
 ghost use Rattle.dnp_outstation.specs.Station.{state_of, actions_of, reads_inside, MayAsk};
 ghost use Rattle.dnp_outstation.specs.Stores.{KeepsLanes, KeepsOutputs};
 
@@ -52,6 +53,11 @@ impl OutstationCore {
             → (rows_in (L.contents lanes.old) ≢ []) ⊎ (O.exhausts outputs.old (performed_in self.old (O.panel outputs.old) now octets.now) → ⊥) }
         ensures looked_at { IsErr result → is_looked_at self.old octets.now ≡ true }
         ensures asks { IsErr result → self.old.times.unsolicited ≡ false → MayAsk self.old (O.panel outputs.old) now octets.now }
+        ensures asks_announced { IsErr result → self.old.announced ≡ false → MayAsk self.old (O.panel outputs.old) now octets.now }
+        ensures asks_stray { IsErr result → case_of self.old octets.now ≡ case.Stray → is_ready self.old ≡ true }
+        ensures asks_again { IsErr result → case_of self.old octets.now ≡ case.Again → is_ready self.old ≡ true }
+        ensures memory_idle { L.honest lanes.new → result ≡ Err StoreFault.Memory → L.asks_memory ≡ false → case_of self.old octets.now ≡ case.Confirms
+            → (connection_after (state_of self.old (L.contents lanes.old) (O.panel outputs.old)) (O.panel outputs.old) now octets.now).does ≢ nothing }
         ensures asks_held { IsErr result → case_of self.old octets.now ≡ case.Waits → ⊥ }
         ensures asks_inside { IsErr result → self.old.times.unsolicited ≡ false → function_in octets.now ≡ function_octet function.Read
             → reads_inside (state_of self.old (L.contents lanes.old) (O.panel outputs.old)) (O.panel outputs.old) octets.now ≡ true }

@@ -9,7 +9,7 @@ ghost use Rattle.dnp_objects.specs.declared.limits.TheConstants.{MAX_FRAGMENT};
 ghost use Rattle.dnp_outstation.specs.Calls.{with_that};
 ghost use Rattle.dnp_outstation.specs.Connection.{function_in, waiting, on_request, on_again, at_end};
 ghost use Rattle.dnp_outstation.specs.Controls.{is_control};
-ghost use Rattle.dnp_outstation.specs.State.{State, still};
+ghost use Rattle.dnp_outstation.specs.State.{State, still, is_ready};
 ghost use Rattle.dnp_outstation.specs.Station.{state_of, actions_of, reads_inside};
 ghost use Rattle.dnp_outstation.specs.Stores.{IsLook};
 
@@ -46,6 +46,7 @@ impl OutstationCore {
         ensures unchanged { OnErr result (self.new ≡ self.old) }
         ensures actions_unchanged { OnErr result (actions.new ≡ actions.old) }
         ensures reads { IsErr result → (self.old.times.unsolicited ≡ true) ⊎ (function_in octets.now ≡ function_octet function.Read) }
+        ensures asks_announced { IsErr result → (self.old.announced ≡ true) ⊎ (function_in octets.now ≡ function_octet function.Read) }
         ensures asks_inside { IsErr result → (s : State) → s.core.points ≡ self.old.points
             → (self.old.times.unsolicited ≡ true) ⊎ (reads_inside s (O.panel outputs.now) octets.now ≡ true) }
     {
@@ -98,6 +99,7 @@ impl OutstationCore {
         ensures unchanged { OnErr result (self.new ≡ self.old) }
         ensures actions_unchanged { OnErr result (actions.new ≡ actions.old) }
         ensures asks { IsErr result → self.old.times.unsolicited ≡ true }
+        ensures asks_ready { IsErr result → is_ready self.old ≡ true }
     {
         let Some(first) = self.session.first() else {
             return self.end_only(actions, alloc, lanes, now);

@@ -9,5 +9,6 @@ pub mod Taken
 pub mod Dialogues
 pub mod Talking
 pub mod Refused
+pub mod Told
 pub mod MastersOneWay
 pub mod BookOneWay

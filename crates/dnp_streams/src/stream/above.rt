@@ -1,7 +1,13 @@
 //! The outstation of a concentrator, towards the station above, on a stream.
 
-ghost use Rattle.std.specs.Prelude.{◌≡◌};
-ghost use Rattle.dnp_streams.specs.streams.Lent.{lent_above};
+ghost use Rattle.std.specs.Prelude.{◌≡◌, ◌≢◌, ◌<◌, All, Err, IfErr, IfOk, IsTrue, OnErr, length};
+ghost use Rattle.dnp_concentrator.specs.Concentrator.{IsBookWell, queue_of};
+ghost use Rattle.dnp_concentrator.specs.declared.cause.Cause.TheVariants as cause;
+ghost use Rattle.dnp_streams.specs.declared.stream.station.StationFault.TheVariants as told;
+ghost use Rattle.dnp_streams.specs.streams.Concentrators.{above_seen};
+ghost use Rattle.dnp_streams.specs.streams.Outstations.{IsOpened, RefusesOpening};
+ghost use Rattle.dnp_streams.specs.streams.Stations.{answer_of};
+ghost use Rattle.dnp_streams.specs.streams.Lent.{kept_above, lent_above};
 
 use crate::stream::outstation::{answer_with, cause_of};
 use crate::stream::station::{Answer, Station, StationFault};
@@ -54,7 +60,22 @@ impl<'a, Q: Lanes, B: Book> Station for Above<'a, Q, B> {
 
     ghost hung_up_of = { hung_up_of };
 
-    fn opened(&mut self, alloc: Global, now: u64) -> Result<Answer, StationFault> {
+    fn opened(&mut self, alloc: Global, now: u64) -> Result<Answer, StationFault>
+        ensures kept { kept_above self.new ≡ kept_above self.old }
+        ensures held { (Q.honest (queue_of (lent_above self.new).now) × IsBookWell B.honest B.is_stopped (lent_above self.new).now)
+            → (Q.honest (queue_of (lent_above self.old).now) × IsBookWell B.honest B.is_stopped (lent_above self.old).now) }
+        ensures answered { (Q.honest (queue_of (lent_above self.new).now) × IsBookWell B.honest B.is_stopped (lent_above self.new).now)
+            → IfOk result (λ answer. IsOpened (above_seen Q.contents B.contents (lent_above self.old).now) now (answer_of answer) (above_seen Q.contents B.contents (lent_above self.new).now)) }
+        ensures refused { (Q.honest (queue_of (lent_above self.new).now) × IsBookWell B.honest B.is_stopped (lent_above self.new).now)
+            → IfErr result (λ fault. RefusesOpening (above_seen Q.contents B.contents (lent_above self.old).now) now fault) }
+        ensures unchanged { (Q.honest (queue_of (lent_above self.new).now) × IsBookWell B.honest B.is_stopped (lent_above self.new).now)
+            → OnErr result (above_seen Q.contents B.contents (lent_above self.new).now ≡ above_seen Q.contents B.contents (lent_above self.old).now) }
+        ensures some { IfOk result (λ answer. All (λ fragment. 0 < length fragment) (answer_of answer).send) }
+        // It says Device exactly where the queue has answered it.
+        ensures stopped { result ≡ Err (told.Cause cause.Device) → IsTrue (Q.is_stopped (queue_of (lent_above self.new).now)) }
+        ensures runs_on { result ≢ Err (told.Cause cause.Device)
+            → Q.is_stopped (queue_of (lent_above self.new).now) ≡ Q.is_stopped (queue_of (lent_above self.old).now) }
+    {
         let mut actions = Actions::none(alloc);
         match self.concentrator.opened_above(&mut actions, alloc, now) {
             Ok(()) => Ok(answer_with(actions)),

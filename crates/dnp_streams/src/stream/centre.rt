@@ -1,5 +1,15 @@
 //! A centre on a stream.
 
+ghost use Rattle.std.specs.Prelude.{◌≡◌, ◌≢◌, ◌<◌, ◌⊎◌, All, Err, IfErr, IfOk, IsTrue, OnErr, false, length};
+ghost use Rattle.dnp_eventbuf.specs.Archive.{passes_limit};
+ghost use Rattle.dnp_master.specs.Calls.{receive_of};
+ghost use Rattle.dnp_concentrator.specs.Centre.{book_of, indices_of, journal_of, link_of};
+ghost use Rattle.dnp_concentrator.specs.declared.cause.Cause.TheVariants as cause;
+ghost use Rattle.dnp_streams.specs.declared.stream.station.StationFault.TheVariants as told;
+ghost use Rattle.dnp_streams.specs.streams.Centres.{CentreReceives, centre_seen};
+ghost use Rattle.dnp_streams.specs.streams.Masters.{RefusesRows};
+ghost use Rattle.dnp_streams.specs.streams.Stations.{answer_of};
+
 use crate::stream::asker::Asker;
 use crate::stream::master::{answer_taking, fault_of, nothing};
 use crate::stream::station::{Answer, Station, StationFault};
@@ -39,7 +49,23 @@ impl<J: JournalStore, B: Book> Station for Centre<J, B> {
         Ok(nothing())
     }
 
-    fn receive(&mut self, alloc: Global, now: u64, octets: &[u8]) -> Result<Answer, StationFault> {
+    fn receive(&mut self, alloc: Global, now: u64, octets: &[u8]) -> Result<Answer, StationFault>
+        ensures kept { indices_of self.new ≡ indices_of self.old }
+        ensures held { (J.honest (journal_of self.new) × B.honest (book_of self.new)) → (J.honest (journal_of self.old) × B.honest (book_of self.old)) }
+        ensures answered { (J.honest (journal_of self.new) × B.honest (book_of self.new))
+            → IfOk result (λ answer. CentreReceives (centre_seen J.archive B.contents self.old) now octets.now (answer_of answer) (centre_seen J.archive B.contents self.new)) }
+        ensures refused { (J.honest (journal_of self.new) × B.honest (book_of self.new))
+            → IfErr result (λ fault. RefusesRows (receive_of (link_of self.old).master now octets.now)
+            (λ t. passes_limit (J.archive (journal_of self.old)) t.events) fault) }
+        ensures unchanged { (J.honest (journal_of self.new) × B.honest (book_of self.new))
+            → OnErr result (centre_seen J.archive B.contents self.new ≡ centre_seen J.archive B.contents self.old) }
+        ensures some { IfOk result (λ answer. All (λ fragment. 0 < length fragment) (answer_of answer).send) }
+        // It says Device exactly where the journal has answered it, and Memory before that is asked, or where the numbers are there.
+        ensures stopped { result ≡ Err (told.Cause cause.Device) → IsTrue (J.is_stopped (journal_of self.new)) }
+        ensures runs_on { result ≢ Err (told.Cause cause.Device) → J.is_stopped (journal_of self.new) ≡ J.is_stopped (journal_of self.old) }
+        ensures exhausted_first { J.honest (journal_of self.new) → result ≡ Err (told.Cause cause.Memory) → (journal_of self.new ≡ journal_of self.old)
+            ⊎ IfOk (receive_of (link_of self.old).master now octets.now) (λ t. passes_limit (J.archive (journal_of self.old)) t.events ≡ false) }
+    {
         match self.receive(alloc, now, octets) {
             Ok(actions) => Ok(answer_taking(actions)),
             Err(fault) => Err(fault_of(fault)),

@@ -12,6 +12,9 @@ memory_of e r told failed = let is : Some e ≡ Some fault.Memory = sym told ∙
 pub returns-in_err-receive_into-clause-asks : goal.returns-in_err-receive_into-clause-asks
 returns-in_err-receive_into-clause-asks g c = λ _. c.in_err-receive_into.ensures.asks refl
 
+pub returns-in_err-receive_into-clause-asks_announced : goal.returns-in_err-receive_into-clause-asks_announced
+returns-in_err-receive_into-clause-asks_announced g c = λ _. c.in_err-receive_into.ensures.asks_announced refl
+
 pub returns-in_err-receive_into-clause-memory : goal.returns-in_err-receive_into-clause-memory
 returns-in_err-receive_into-clause-memory g c = λ honest failed.
     c.in_err-receive_into.ensures.memory honest (memory_of c.in_err-receive_into.field-0.0 c.from_residual.result (search rules) failed)

@@ -20,6 +20,9 @@ memory_of e r told failed = let is : e ≡ store.Memory = told_memory e (sym tol
 pub returns-in_err-receive-clause-asks : goal.returns-in_err-receive-clause-asks
 returns-in_err-receive-clause-asks g c = λ _. c.in_err-receive.ensures.asks refl
 
+pub returns-in_err-receive-clause-asks_announced : goal.returns-in_err-receive-clause-asks_announced
+returns-in_err-receive-clause-asks_announced g c = λ _. c.in_err-receive.ensures.asks_announced refl
+
 pub returns-in_err-receive-clause-memory : goal.returns-in_err-receive-clause-memory
 returns-in_err-receive-clause-memory g c = λ honest failed.
     c.in_err-receive.ensures.memory honest (memory_of c.in_err-receive.field-0.0 c.from_residual.result (search rules) failed)

@@ -1,16 +1,78 @@
-use Rattle.std.proofs.Common.{rules, ◌≡◌, ℕ, ◌+◌, ◌%◌, [], Option, refl, ap, sym, subst, ◌∙◌}
+use Rattle.std.proofs.Common.{rules, ◌≡◌, ◌≢◌, ℕ, ◌+◌, ◌%◌, true, [], Option, Some, refl, ap, sym, subst, ◌∙◌}
 use Rattle.dnp_eventbuf.specs.Stock.{Stock, without, all_up_to, rows_in}
+use Rattle.dnp_controls.specs.Panel.{Panel}
 use Rattle.dnp_outstation.specs.declared.answer.Switches.{Switches}
 use Rattle.dnp_outstation.specs.declared.session.Awaited.{Awaited}
+use Rattle.dnp_outstation.specs.steps.Answering.{went_on}
+use Rattle.dnp_outstation.specs.steps.Filling.{has_rows_in}
+use Rattle.dnp_outstation.specs.Items.{enabled_lanes}
 use Rattle.dnp_outstation.specs.Calls.{with_that}
 use Rattle.dnp_outstation.specs.Connection.{at_end, confirmed, goes_on, on_confirm}
-use Rattle.dnp_outstation.specs.State.{Core, State, Step, nothing, with_session}
+use Rattle.dnp_outstation.specs.State.{Core, State, Step, nothing, with_session, is_ready}
 use Rattle.dnp_outstation.specs.Station.{state_of, actions_of}
 use Rattle.dnp_outstation.proofs.Cores.{core_in}
+use Rattle.dnp_outstation.proofs.Idle.{behind_confirm, confirm_goes_on, confirm_releases, confirm_reports}
 use Rattle.dnp_outstation.proofs.NoRows.{released_is_there}
 use Rattle.dnp_outstation.proofs.Endings.{went_on_session, restart_by}
 use Rattle.dnp_outstation.proofs.Steps.{confirmed_step}
 use Rattle.dnp_outstation.proofs.outstation_core.OutstationCore.confirm.Goals as goal
+
+-- what a confirm does, by the parts that are looked at
+seen_as : (core core' : Core) (old : Stock) (o p : Panel) (now : ℕ) (w : Awaited) → core' ≡ core → core.session.awaited ≡ Some w
+    → (let s = state_of core' old p in at_end now (with_that s s.core.session.awaited (on_confirm s o now))) ≡ at_end now (on_confirm (state_of core old p) o now w)
+seen_as core core' old o p now w same is =
+    ap (λ (k : Core). let t = state_of k old p in at_end now (with_that t t.core.session.awaited (on_confirm t o now))) same
+    ∙ ap (λ (x : Option Awaited). at_end now (with_that (state_of core old p) x (on_confirm (state_of core old p) o now))) is
+
+pub returns-in_err-next-clause-memory_idle : goal.returns-in_err-next-clause-memory_idle
+returns-in_err-next-clause-memory_idle g c = λ honest failed asks p none.
+    let o = g.O.Outputs.panel c.args.outputs.now in
+    let old = g.L.Lanes.contents c.args.lanes.now in
+    let now = c.args.now in
+    let w = c.in-Some.awaited in
+    let core = core_in c.self.inside in
+    let s : State = state_of core old p in
+    confirm_goes_on s o now w (c.in_err-next.ensures.asks_next refl (behind_confirm s w) now ((w.seq + 1) % 16) refl)
+    (ap (λ (x : Step). x.does) (sym (seen_as core c.args.self.now old o p now w (sym c.self.view_is) c.in-Some.is)) ∙ none)
+
+pub returns-in_err-starts-clause-memory_idle : goal.returns-in_err-starts-clause-memory_idle
+returns-in_err-starts-clause-memory_idle g c = λ honest failed asks p none.
+    let o = g.O.Outputs.panel c.args.outputs.now in
+    let old = g.L.Lanes.contents c.args.lanes.now in
+    let now = c.args.now in
+    let w = c.in-Some.awaited in
+    let next = c.in_ok-next.next in
+    let writer = c.write_next.new.writer in
+    let core = core_in c.self.inside in
+    let s : State = state_of core old p in
+    let seq = (w.seq + 1) % 16 in
+    let behind : State = behind_confirm s w in
+    let read = c.in_err-starts.ensures.look.held honest in
+    let to_old : g.L.Lanes.contents c.write_next.new.lanes ≡ old = c.in_ok-next.ensures.look.same read in
+    let goes = c.in_ok-next.ensures.written read behind now seq refl refl refl in
+    let k : Core = record core { session = went_on (confirmed core.session) now core.times.confirm_ms seq writer next } in
+    let due : true ≡ c.is_due-is_due.result = sym (c.in_err-starts.ensures.asks refl) in
+    let ready : true ≡ is_ready k =
+    due ∙ c.is_due-is_due.ensures.value k refl refl refl (c.is_free_after-free.ensures k now seq refl) in
+    let rows : true ≡ has_rows_in (without old w.upto) (enabled_lanes 0 core.enabled) =
+    sym (ap (λ (t : Stock). has_rows_in (without t w.upto) (enabled_lanes 0 core.enabled)) (sym to_old) ∙ c.in_err-starts.ensures.asks_rows honest refl) in
+    confirm_reports s o now w writer next goes ready rows
+    (ap (λ (x : Step). x.does) (sym (seen_as core c.args.self.now old o p now w (sym c.self.view_is) c.in-Some.is)) ∙ none)
+
+pub returns-in_err-release-clause-memory_idle : goal.returns-in_err-release-clause-memory_idle
+returns-in_err-release-clause-memory_idle g c = λ honest failed asks p none.
+    let o = g.O.Outputs.panel c.args.outputs.now in
+    let old = g.L.Lanes.contents c.args.lanes.now in
+    let now = c.args.now in
+    let w = c.in-Some.awaited in
+    let core = core_in c.self.inside in
+    let s : State = state_of core old p in
+    let written = c.in_err-release.ensures.call.held honest in
+    let read = c.in_ok-starts.ensures.look.held written in
+    let to_old : g.L.Lanes.contents c.write_ending.new.lanes ≡ old = c.in_ok-starts.ensures.look.same written ∙ c.in_ok-next.ensures.look.same read in
+    let some = subst (λ (t : Stock). all_up_to t w.upto ≢ []) to_old (c.in_err-release.ensures.memory (search rules) asks) in
+    confirm_releases s o now w some
+    (ap (λ (x : Step). x.does) (sym (seen_as core c.args.self.now old o p now w (sym c.self.view_is) c.in-Some.is)) ∙ none)
 
 pub returns-clause-confirmed : goal.returns-clause-confirmed
 returns-clause-confirmed g c = λ honest p.

@@ -1,5 +1,6 @@
 use Rattle.std.proofs.Common.{refl}
 use Rattle.dnp_streams.proofs.streams.Refused.{no_message_above, no_number_above, passed_on}
+use Rattle.dnp_streams.proofs.streams.Told.{lanes_device, lanes_tell_device}
 use Rattle.dnp_streams.proofs.stream.above.AboveStation.opened.Goals as goal
 
 pub returns-in-Err-clause-refused : goal.returns-in-Err-clause-refused
@@ -12,3 +13,11 @@ returns-in-Err-clause-refused g c honest = record {
       no_number_above c.cause_of.result c.from.result c.cause_of.ensures
       (passed_on c.in-Err.fault c.from.result c.from.ensures c.in-Err.ensures.leaves.look.named);
 }
+
+pub returns-in-Err-clause-stopped : goal.returns-in-Err-clause-stopped
+returns-in-Err-clause-stopped g c = λ is.
+    c.in-Err.ensures.leaves.look.device (lanes_device c.in-Err.fault c.from.result c.cause_of.result c.from.ensures c.cause_of.ensures is)
+
+pub returns-in-Err-clause-runs_on : goal.returns-in-Err-clause-runs_on
+returns-in-Err-clause-runs_on g c = λ other.
+    c.in-Err.ensures.leaves.look.runs_on (λ is. other (lanes_tell_device c.in-Err.fault c.from.result c.cause_of.result c.from.ensures c.cause_of.ensures is))

@@ -7,6 +7,7 @@ use Rattle.dnp_streams.proofs.streams.Taken.{taken, answered, seen}
 use Rattle.dnp_concentrator.specs.Concentrator.{link_at, queue_of, queued_at}
 use Rattle.dnp_eventbuf.specs.Stock.{exhausts}
 use Rattle.dnp_streams.proofs.streams.Refused.{refused_rows}
+use Rattle.dnp_streams.proofs.streams.Told.{tells_device, was_device, was_memory}
 use Rattle.dnp_streams.proofs.stream.below.BelowStation.receive.Goals as goal
 
 pub returns-in-Ok-clause-answered : goal.returns-in-Ok-clause-answered
@@ -36,3 +37,13 @@ returns-in-Err-clause-refused g c honest =
           (λ t. exhausts (g.Q.Lanes.contents (queue_of old)) (queued_at old at t.events)) c.in-Err.fault c.fault_of.result c.fault_of.ensures
           c.in-Err.ensures.named (c.in-Err.ensures.exhausted honest.0);
     }
+
+pub returns-in-Err-clause-stopped : goal.returns-in-Err-clause-stopped
+returns-in-Err-clause-stopped g c = λ is. c.in-Err.ensures.queue.device_stops (was_device c.in-Err.fault c.fault_of.result c.fault_of.ensures is)
+
+pub returns-in-Err-clause-runs_on : goal.returns-in-Err-clause-runs_on
+returns-in-Err-clause-runs_on g c = λ other. c.in-Err.ensures.queue.runs_on (λ is. other (tells_device c.in-Err.fault c.fault_of.result c.fault_of.ensures is))
+
+pub returns-in-Err-clause-exhausted_first : goal.returns-in-Err-clause-exhausted_first
+returns-in-Err-clause-exhausted_first g c = λ honest is.
+    c.in-Err.ensures.exhausted_first honest (was_memory c.in-Err.fault c.fault_of.result c.fault_of.ensures is)
