@@ -13,6 +13,7 @@ use Rattle.sqlite.specs.Listing.{understood}
 use Rattle.sqlite.specs.Given.{IsPlain}
 use Rattle.sqlite.specs.State.{State, Executes}
 use Rattle.sqlite.proofs.Callers.{command_of}
+use Rattle.dnp_store.specs.Texts.{book_insert}
 use Rattle.dnp_store.specs.Tables.{IsCounted}
 use Rattle.dnp_objects.specs.Commands.{index_of}
 use Rattle.dnp_controls.specs.declared.book.Entry.{Entry}
@@ -22,7 +23,7 @@ use Rattle.dnp_store.proofs.Inserting as inserting
 use Rattle.dnp_store.proofs.Counting.{cast_int, cast_null, PutsAt}
 
 abbrev pub insert_text : List ℕ
-insert_text = codes "INSERT INTO control (target, kind, point, code, count, on_ms, off_ms, value, state, status) VALUES (?1, ?2, ?3, ?4, ?5, ?6, ?7, ?8, 0, 0)"
+insert_text = book_insert
 
 abbrev insert_terms : List Term
 insert_terms = lit Null ∷ lit Null ∷ col 0 0 ∷ col 0 1 ∷ col 0 2 ∷ col 0 3 ∷ col 0 4 ∷ col 0 5 ∷ col 0 6 ∷ col 0 7 ∷ lit (Int (pos 0)) ∷ lit (Int (pos 0)) ∷ []

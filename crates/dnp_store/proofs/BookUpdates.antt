@@ -35,6 +35,7 @@ use Rattle.dnp_objects.specs.Commands.{index_of}
 use Rattle.dnp_controls.specs.declared.book.Entry.{Entry}
 use Rattle.dnp_controls.specs.declared.book.State.{State as Control}
 use Rattle.dnp_controls.specs.Book.{entry_of, in_state}
+use Rattle.dnp_store.specs.Texts.{book_update}
 use Rattle.dnp_store.specs.BookTables.{book_schema, book_with, entry_row, kind_of, code_of, count_of, on_of, off_of, value_of, state_of, status_of}
 use Rattle.dnp_store.proofs.Statements.{went, written, same_value}
 use Rattle.dnp_store.proofs.Counting.{cast_int, cast_null}
@@ -46,7 +47,7 @@ use Rattle.dnp_store.proofs.Inserting.{quiet}
 use Rattle.dnp_store.proofs.Tests.{eq_holds, has_is, is_other}
 
 abbrev pub update_text : List ℕ
-update_text = codes "UPDATE control SET state = ?2, status = ?3 WHERE id = ?1"
+update_text = book_update
 
 abbrev query : Query
 query = record {

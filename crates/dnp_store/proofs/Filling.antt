@@ -17,6 +17,7 @@ use Rattle.sqlite.specs.Listing.{understood}
 use Rattle.sqlite.specs.Given.{IsPlain}
 use Rattle.sqlite.specs.State.{State, Executes, mode_of}
 use Rattle.sqlite.proofs.Callers.{command_of, statement_of, runs_as, one_step}
+use Rattle.dnp_store.specs.Texts.{lanes_insert}
 use Rattle.dnp_store.specs.QueueTables.{queue_schema, lanes_with, Figures, figures_cells, figures_rows, no_figures, is_raised, IsQueue}
 use Rattle.dnp_store.proofs.Statements.{went, written, same_value}
 use Rattle.dnp_store.proofs.Counting.{cast_int, cast_null}
@@ -31,7 +32,7 @@ use Rattle.dnp_store.specs.steps.Making.{HasLanes, fresh}
 use Rattle.dnp_store.proofs.Numbering.{PutsIn}
 
 abbrev pub lane_text : List ℕ
-lane_text = codes "INSERT INTO lanes VALUES (?1, ?2, 0, 0)"
+lane_text = lanes_insert
 
 abbrev lane_terms : List Term
 lane_terms = col 0 0 ∷ lit Null ∷ col 0 1 ∷ lit (Int (pos 0)) ∷ lit (Int (pos 0)) ∷ []

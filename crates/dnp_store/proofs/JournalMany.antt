@@ -13,6 +13,7 @@ use Rattle.sqlite.specs.State.{State, Executes}
 use Rattle.sqlite.proofs.Callers.{command_of}
 use Rattle.dnp_objects.specs.declared.row.Row.{Row as Event}
 use Rattle.dnp_eventbuf.specs.Archive.{Archive, with_events}
+use Rattle.dnp_store.specs.Texts.{journal_insert_16}
 use Rattle.dnp_store.specs.QueueTables.{Queued, queued_cells}
 use Rattle.dnp_store.specs.JournalTables.{journal_schema, HoldsArchive, IsJournal, IsLogged}
 use Rattle.dnp_store.specs.declared.store_kind.StoreKind.TheVariants.{Journal}
@@ -25,7 +26,7 @@ use Rattle.dnp_store.proofs.JournalStatements.{insert_casts}
 use Rattle.dnp_store.proofs.JournalHolding.{logged_for, put, with-append}
 
 abbrev pub insert_text_16 : List ℕ
-insert_text_16 = codes "INSERT INTO journal (kind, point, flags, value, time) VALUES " ++ sixteen.sixteen
+insert_text_16 = journal_insert_16
 
 insert_is_16 : (f j : List Term) → command_of (understood (journal_schema f j) insert_text_16) ≡ Insert 1 (Values terms_16 7)
 unfolding understood everything

@@ -33,6 +33,7 @@ use Rattle.sqlite.specs.Schema.{Schema}
 use Rattle.sqlite.specs.Effect.{Database}
 use Rattle.sqlite.specs.Clock.{timed}
 use Rattle.sqlite.specs.State.{State, Shown, ShowsRows, IsUnchanged, FailsToQuery}
+use Rattle.dnp_store.specs.Texts.{journal_select}
 use Rattle.dnp_store.specs.JournalKept.{Stands}
 use Rattle.dnp_store.proofs.Reading.{failed_keeps}
 use Rattle.sqlite.proofs.Callers.{command_of, reads_as}
@@ -69,7 +70,7 @@ shown_are (r ∷ rs) (e ∷ es) h =
 -- ---- rows over an id
 
 abbrev pub over_text : List ℕ
-over_text = codes "SELECT id, kind, point, flags, value, time FROM journal WHERE id > ?1 ORDER BY id LIMIT ?2"
+over_text = journal_select
 
 abbrev by_rowid : Key
 by_rowid = record { collation = Binary; descending = false }

@@ -13,6 +13,7 @@ use Rattle.sqlite.specs.Listing.{understood}
 use Rattle.sqlite.specs.Given.{IsPlain}
 use Rattle.sqlite.specs.State.{State, Executes}
 use Rattle.sqlite.proofs.Callers.{command_of}
+use Rattle.dnp_store.specs.Texts.{journal_insert}
 use Rattle.dnp_store.specs.Tables.{IsCounted}
 use Rattle.dnp_store.specs.QueueTables.{Queued}
 use Rattle.dnp_store.specs.JournalTables.{journal_schema, journal_with}
@@ -22,7 +23,7 @@ use Rattle.dnp_store.proofs.Inserting as inserting
 use Rattle.dnp_store.proofs.Counting.{cast_int, cast_null, PutsAt}
 
 abbrev pub insert_text : List ℕ
-insert_text = codes "INSERT INTO journal (kind, point, flags, value, time) VALUES (?1, ?2, ?3, ?4, ?5)"
+insert_text = journal_insert
 
 abbrev insert_terms : List Term
 insert_terms = lit Null ∷ lit Null ∷ col 0 0 ∷ col 0 1 ∷ col 0 2 ∷ col 0 3 ∷ col 0 4 ∷ []

@@ -11,6 +11,7 @@ pub mod QueueSteps
 pub mod Appending
 pub mod Trimming
 pub mod Standing
+pub mod Refusing
 pub mod Releasing
 pub mod Creating
 pub mod Numbering

@@ -21,6 +21,7 @@ use Rattle.sqlite.specs.State.{State, Executes, mode_of}
 use Rattle.sqlite.proofs.Callers.{command_of, statement_of, runs_as, one_step}
 use Rattle.sqlite_trees.proofs.ListLemmas.{IsPermutation-same}
 use Rattle.dnp_controls.specs.Book.{empty_ledger}
+use Rattle.dnp_store.specs.Texts.{form_insert}
 use Rattle.dnp_store.specs.Tables.{form_with, schema_of}
 use Rattle.dnp_store.specs.JournalTables.{HoldsArchive, IsJournal, empty_archive}
 use Rattle.dnp_store.specs.BookTables.{HoldsBook, IsBook}
@@ -32,7 +33,7 @@ use Rattle.dnp_store.proofs.Statements.{went, written, same_value}
 use Rattle.dnp_store.proofs.Counting.{cast_int, cast_null}
 
 abbrev pub number_text : List ℕ
-number_text = codes "INSERT INTO form VALUES (1)"
+number_text = form_insert
 
 abbrev number_terms : List Term
 number_terms = lit Null ∷ lit (Int (pos 1)) ∷ []

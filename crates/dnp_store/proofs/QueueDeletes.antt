@@ -15,6 +15,7 @@ use Rattle.sqlite.specs.Program.{overlay}
 use Rattle.sqlite.specs.Term.{Term, lit, col, op1, op2, holds}
 use Rattle.sqlite.specs.Order.{Row}
 use Rattle.sqlite.specs.Ops.{binary, is_true}
+use Rattle.dnp_store.specs.Texts.{queue_delete}
 use Rattle.dnp_store.proofs.Tests.{numeric_is, eq_holds, le_holds}
 use Rattle.dnp_store.proofs.IdRows as id_rows
 use Rattle.dnp_store.specs.QueueTables.{queued_cells}
@@ -40,7 +41,7 @@ use Rattle.dnp_store.specs.declared.store_kind.StoreKind.TheVariants.{Queue}
 use Rattle.dnp_store.proofs.Inserting.{quiet}
 
 abbrev pub delete_text : List ℕ
-delete_text = codes "DELETE FROM queue WHERE lane = ?1 AND id <= ?2"
+delete_text = queue_delete
 
 abbrev tests : List Term
 tests = op2 (Compare Eq Binary) (col 1 2) (op1 ToNumeric (col 0 0)) ∷ op2 (Compare Le Binary) (col 1 0) (col 0 1) ∷ []

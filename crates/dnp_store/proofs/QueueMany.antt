@@ -16,6 +16,7 @@ use Rattle.dnp_objects.specs.declared.lane.LaneRow.{LaneRow}
 use Rattle.dnp_eventbuf.specs.Carried.{IsCarried}
 use Rattle.dnp_eventbuf.specs.Stock.{Stock}
 use Rattle.dnp_eventbuf.proofs.LaneNumbers.{lane_number-low}
+use Rattle.dnp_store.specs.Texts.{queue_insert_16}
 use Rattle.dnp_store.specs.QueueTables.{queue_schema, Queued, queued_cells, Figures, HoldsIn, HoldsQueue, IsForm1}
 use Rattle.dnp_store.specs.steps.Steps.{added, all_added}
 use Rattle.dnp_store.specs.declared.store_kind.StoreKind.TheVariants.{Queue}
@@ -28,7 +29,7 @@ use Rattle.dnp_store.proofs.Holding.{queued_for, put}
 use Rattle.dnp_store.proofs.Appending.{nine_added}
 
 abbrev pub insert_text_16 : List ℕ
-insert_text_16 = codes "INSERT INTO queue (lane, point, flags, value, time) VALUES " ++ sixteen.sixteen
+insert_text_16 = queue_insert_16
 
 insert_is_16 : (f q l : List Term) → command_of (understood (queue_schema f q l) insert_text_16) ≡ Insert 1 (Values terms_16 7)
 unfolding understood everything

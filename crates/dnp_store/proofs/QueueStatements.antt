@@ -13,6 +13,7 @@ use Rattle.sqlite.specs.Listing.{understood}
 use Rattle.sqlite.specs.Given.{IsPlain}
 use Rattle.sqlite.specs.State.{State, Executes}
 use Rattle.sqlite.proofs.Callers.{command_of}
+use Rattle.dnp_store.specs.Texts.{queue_insert}
 use Rattle.dnp_store.specs.Tables.{or_null, IsCounted}
 use Rattle.dnp_store.specs.QueueTables.{queue_schema, queue_with, Queued}
 use Rattle.dnp_store.specs.declared.store_kind.StoreKind.TheVariants.{Queue}
@@ -26,7 +27,7 @@ cast_time (Some n) = cast_int (pos n)
 -- ---- INSERT
 
 abbrev pub insert_text : List ℕ
-insert_text = codes "INSERT INTO queue (lane, point, flags, value, time) VALUES (?1, ?2, ?3, ?4, ?5)"
+insert_text = queue_insert
 
 abbrev insert_terms : List Term
 insert_terms = lit Null ∷ lit Null ∷ col 0 0 ∷ col 0 1 ∷ col 0 2 ∷ col 0 3 ∷ col 0 4 ∷ []

@@ -35,6 +35,7 @@ use Rattle.sqlite.specs.State.{State, Executes, mode_of}
 use Rattle.sqlite.proofs.Callers.{one_permutation}
 use Rattle.sqlite_rules.specs.Calls.{ids_of}
 use Rattle.sqlite_schema.specs.declared.schema.Keys.TheVariants.{Enforced}
+use Rattle.dnp_store.specs.Texts.{lanes_update}
 use Rattle.dnp_store.specs.QueueTables.{queue_schema, lanes_with, Figures, no_figures, figures_cells, figures_rows}
 use Rattle.dnp_store.proofs.Statements.{went, written, same_value}
 use Rattle.dnp_store.proofs.Counting.{cast_int, cast_null}
@@ -45,7 +46,7 @@ use Rattle.dnp_store.proofs.QueueDeletes.{passes_on, and_true}
 use Rattle.dnp_store.proofs.Tests.{eq_holds, has_is, is_same, is_other}
 
 abbrev pub update_text : List ℕ
-update_text = codes "UPDATE lanes SET lost = ?2, raised = ?3 WHERE lane = ?1"
+update_text = lanes_update
 
 abbrev query : Query
 query = record {

@@ -1,7 +1,8 @@
 -- Definition: what an error of the database says to a store.
-use Rattle.std.specs.Prelude.{Bool, true, false, []}
+use Rattle.std.specs.Prelude.{◌≡◌, ◌⊎◌, Bool, true, false, []}
 use Rattle.sqlite.specs.Order.{Row}
-use Rattle.sqlite.specs.State.{State, IsNotRun}
+use Rattle.sqlite.specs.State.{State, HasCause, IsNotRun}
+use Rattle.sqlite_trees.specs.declared.error.StoreError.TheVariants.{Io, Broken}
 use Rattle.sqlite.specs.declared.error.Error.{Error}
 use Rattle.sqlite.specs.declared.error.Error.TheVariants.{SqliteFailure, SqlInputError}
 use Rattle.sqlite.specs.declared.error.ErrorCode.TheVariants as code
@@ -41,3 +42,7 @@ is_out_of_memory (Failed error) = is_memory error
 -- the connection was asked for something that changes nothing, and refused
 abbrev pub RefusesNothing : State → State → Type 0
 RefusesNothing old new = (error : Error) × ((params : Row) → IsNotRun old new [] params error)
+
+-- the disk failed in the meantime, or the connection was shut before
+abbrev pub IsCut : State → State → Type 0
+IsCut old new = HasCause old new ⊥ Io ⊎ HasCause old new ⊥ Broken

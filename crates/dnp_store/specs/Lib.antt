@@ -8,5 +8,7 @@ pub mod BookTables
 pub mod BookKept
 pub mod Schemas
 pub mod Faults
+pub mod Texts
+pub mod Refusals
 -- Words of private steps.
 pub mod steps

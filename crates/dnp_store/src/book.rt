@@ -6,10 +6,12 @@ ghost use Rattle.sqlite.specs.State.{HasCleanDisk};
 ghost use Rattle.dnp_controls.specs.Book.{Has, added, entry_of, finished, is_finished, is_pending, next_of, rows_of, spent};
 ghost use Rattle.dnp_controls.specs.Calls.{IsBookCall};
 ghost use Rattle.dnp_store.specs.BookKept.{IsHonest, Leaves, LeavesEither};
+ghost use Rattle.dnp_store.specs.Refusals.{IsLost};
 
 use crate::book_entries::{count_past, first_over, first_pending, set_state, state_of};
 use crate::book_writing::{write_added, write_turned};
 use crate::fault::is_lost;
+use crate::store_kind::StoreKind;
 use dnp_controls::laws::ids_go_on;
 use dnp_controls::{Book, BookFault, Entry, State, TARGETS};
 use dnp_objects::{Command, MAX_ID, Status};
@@ -117,6 +119,7 @@ impl<S: Alter> Book for ControlBook<S> {
         ensures either { HasCleanDisk (state S.Store self.new.conn) → self.old.stopped ≡ false → IsTrue self.old.owned → LeavesEither (state S.Store self.new.conn) self.old.ledger (added self.old.ledger target command.now) }
         ensures after { HasCleanDisk (state S.Store self.new.conn) → IsTrue self.old.owned → OnOk result (Leaves (state S.Store self.new.conn) self.new.ledger) }
         ensures untouched { IsTrue self.old.stopped → self.new.conn ≡ self.old.conn }
+        ensures device { HasCleanDisk (state S.Store self.new.conn) → result ≡ Err BookFault.Device → IsTrue self.old.stopped ⊎ IsLost S.Store StoreKind.Book self.old.conn self.new.conn }
     {
         if self.stopped {
             return Err(BookFault::Device);
@@ -179,6 +182,7 @@ impl<S: Alter> Book for ControlBook<S> {
         ensures either { HasCleanDisk (state S.Store self.new.conn) → self.old.stopped ≡ false → IsTrue self.old.owned → LeavesEither (state S.Store self.new.conn) self.old.ledger (spent self.old.ledger id) }
         ensures after { HasCleanDisk (state S.Store self.new.conn) → IsTrue self.old.owned → OnOk result (Leaves (state S.Store self.new.conn) self.new.ledger) }
         ensures untouched { IsTrue self.old.stopped → self.new.conn ≡ self.old.conn }
+        ensures device { HasCleanDisk (state S.Store self.new.conn) → result ≡ Err BookFault.Device → IsTrue self.old.stopped ⊎ IsLost S.Store StoreKind.Book self.old.conn self.new.conn }
     {
         if self.stopped {
             return Err(BookFault::Device);
@@ -216,6 +220,7 @@ impl<S: Alter> Book for ControlBook<S> {
         ensures either { HasCleanDisk (state S.Store self.new.conn) → self.old.stopped ≡ false → IsTrue self.old.owned → LeavesEither (state S.Store self.new.conn) self.old.ledger (finished self.old.ledger id status) }
         ensures after { HasCleanDisk (state S.Store self.new.conn) → IsTrue self.old.owned → OnOk result (Leaves (state S.Store self.new.conn) self.new.ledger) }
         ensures untouched { IsTrue self.old.stopped → self.new.conn ≡ self.old.conn }
+        ensures device { HasCleanDisk (state S.Store self.new.conn) → result ≡ Err BookFault.Device → IsTrue self.old.stopped ⊎ IsLost S.Store StoreKind.Book self.old.conn self.new.conn }
     {
         if self.stopped {
             return Err(BookFault::Device);

@@ -1,19 +1,20 @@
 //! How a book of controls in a SQL database begins, and what stands at its end.
 
-ghost use Rattle.std.specs.Prelude.{◌≡◌, ◌↔◌, false, not, IsTrue, IfOk, IfErr, IsErrAnd};
-ghost use Rattle.sqlite.specs.Held.{state};
+ghost use Rattle.std.specs.Prelude.{◌≡◌, ◌↔◌, false, not, IsTrue, IfOk, IfErr, IsErrAnd, ◌⊎◌, Err};
+ghost use Rattle.sqlite.specs.Held.{Held, state};
 ghost use Rattle.sqlite.specs.State.{HasCleanDisk, Survives};
-ghost use Rattle.sqlite.specs.Steps.{over_memory};
+ghost use Rattle.sqlite.specs.Steps.{IsEmpty, over_memory};
 ghost use Rattle.dnp_controls.specs.Book.{empty_ledger};
 ghost use Rattle.dnp_store.specs.BookKept.{IsHonest, Leaves, Stands};
 ghost use Rattle.dnp_store.specs.BookTables.{HoldsBook, IsBook};
+ghost use Rattle.dnp_store.specs.Refusals.{IsLost, IsTaken};
 ghost use Rattle.dnp_store.specs.Schemas.{made_book};
 ghost use Rattle.dnp_store.specs.Tables.{no_schema};
 
 use crate::book::ControlBook;
 use crate::book_opening::read_book;
-use crate::fault::{is_lost, is_taken, serves};
-use crate::open::{OpenFault, is_bare, open_fault, unread_fault};
+use crate::fault::{is_lost, is_taken};
+use crate::open::{OpenFault, is_bare, last_fault, open_fault, unread_fault};
 use crate::store_kind::StoreKind;
 use crate::stores::write_tables;
 use sqlite::{Alter, Connection, MemStore};
@@ -39,6 +40,8 @@ impl<S: Alter> ControlBook<S> {
         ensures made { IfOk result (λ b. Survives (state S.Store conn) (state S.Store b.conn) (λ db. (state S.Store conn).now.schema ≡ no_schema → HoldsBook db empty_ledger)) }
         ensures left { IfErr result (λ e. Survives (state S.Store conn) (state S.Store e.1) (λ db. (state S.Store conn).now.schema ≡ no_schema → HoldsBook db empty_ledger)) }
         ensures handed_back { IfErr result (λ e. (e.1.in_transaction ≡ conn.in_transaction) × (e.1.step_limit ≡ conn.step_limit)) }
+        ensures device { IfErr result (λ e. HasCleanDisk (state S.Store e.1) → e.0 ≡ OpenFault.Device → IsLost S.Store StoreKind.Book conn e.1) }
+        ensures taken { IfErr result (λ e. HasCleanDisk (state S.Store e.1) → e.0 ≡ OpenFault.WrongForm → IsTrue conn.in_transaction ⊎ IsTaken S.Store StoreKind.Book conn e.1) }
     {
         if !conn.is_autocommit() {
             return Err((OpenFault::WrongForm, conn));
@@ -87,8 +90,8 @@ impl<S: Alter> ControlBook<S> {
         let mut entries = Vec::new(alloc);
         match read_book(&mut conn, &mut entries) {
             Ok((found, owned)) => {
-                if !serves(&mut conn) {
-                    return Err((OpenFault::Device, conn));
+                if let Some(fault) = last_fault(&mut conn) {
+                    return Err((fault, conn));
                 }
                 Ok(ControlBook {
                     conn,
@@ -131,6 +134,8 @@ impl ControlBook<MemStore> {
     pub fn in_memory(alloc: Global) -> Result<ControlBook<MemStore>, OpenFault>
         ensures honest { IfOk result (IsHonest over_memory) }
         ensures empty { IfOk result (λ b. b.ledger ≡ empty_ledger) }
+        ensures device { result ≡ Err OpenFault.Device → (old new : Held MemStore) × IsEmpty (state over_memory old) × IsLost over_memory StoreKind.Book old new }
+        ensures taken { result ≡ Err OpenFault.WrongForm → (old new : Held MemStore) × IsEmpty (state over_memory old) × IsTaken over_memory StoreKind.Book old new }
     {
         let Ok(conn) = Connection::open_in_memory(alloc) else {
             return Err(OpenFault::Memory);

@@ -1,14 +1,16 @@
 //! What the calls of a book write, each in one transaction.
 
-ghost use Rattle.std.specs.Prelude.{◌≡◌, ◌<◌, ◌^◌, false, IsSome, IsTrue, OnOk, OnErr};
+ghost use Rattle.std.specs.Prelude.{◌≡◌, ◌<◌, ◌^◌, false, IsSome, IsTrue, OnOk, OnErr, IfErr};
 ghost use Rattle.sqlite.specs.Held.{state};
 ghost use Rattle.sqlite.specs.State.{HasCleanDisk, Survives};
 ghost use Rattle.dnp_controls.specs.Book.{IsSound, Ledger, added, entry_of, in_state};
+ghost use Rattle.dnp_store.specs.Refusals.{IsRefused};
 ghost use Rattle.dnp_store.specs.steps.Inside.{IsInside, IsStep};
 ghost use Rattle.dnp_store.specs.BookKept.{Stands};
 ghost use Rattle.dnp_store.specs.BookTables.{HoldsBook, IsBook};
 
 use crate::book_columns::{columns_of, state_columns};
+use crate::store_kind::StoreKind;
 use dnp_controls::State;
 use dnp_objects::Command;
 use sqlite::{Alter, Connection, Error, Transaction, params};
@@ -17,6 +19,7 @@ use sqlite::{Alter, Connection, Error, Transaction, params};
 fn insert<S: Alter>(tx: &mut Transaction<'_, S>, target: u8, command: &Command) -> Result<(), Error>
     requires inside { IsInside S.Store tx.old.conn }
     ensures step { IsStep S.Store tx.old.conn tx.new.conn result }
+    ensures refused { HasCleanDisk (state S.Store tx.new.conn.now) → IfErr result (IsRefused S.Store StoreKind.Book tx.old.conn.now tx.new.conn.now) }
     ensures added { HasCleanDisk (state S.Store tx.new.conn.now) → OnOk result ((book : Ledger) → IsSound book → IsBook (state S.Store tx.old.conn.now).now book
         → IsBook (state S.Store tx.new.conn.now).now (added book target command.now)) }
 {
@@ -41,6 +44,7 @@ fn turn<S: Alter>(tx: &mut Transaction<'_, S>, id: u64, control: State) -> Resul
     requires inside { IsInside S.Store tx.old.conn }
     requires id { id < 2 ^ 63 }
     ensures step { IsStep S.Store tx.old.conn tx.new.conn result }
+    ensures refused { HasCleanDisk (state S.Store tx.new.conn.now) → IfErr result (IsRefused S.Store StoreKind.Book tx.old.conn.now tx.new.conn.now) }
     ensures turned { HasCleanDisk (state S.Store tx.new.conn.now) → OnOk result ((book : Ledger) → IsSound book → IsSome (entry_of book.entries id) → IsBook (state S.Store tx.old.conn.now).now book
         → IsBook (state S.Store tx.new.conn.now).now (record book { entries = in_state book.entries id control })) }
 {
@@ -63,6 +67,7 @@ pub(crate) fn write_added<S: Alter>(
     ensures idle { conn.new.in_transaction ≡ false }
     ensures ok { HasCleanDisk (state S.Store conn.new) → (book : Ledger) → IsSound book → Stands (state S.Store conn.old) book → OnOk result (Stands (state S.Store conn.new) (added book target command.now)) }
     ensures err { HasCleanDisk (state S.Store conn.new) → IsTrue (state S.Store conn.new).is_open → OnErr result (IsTrue (state S.Store conn.old).is_open × ((state S.Store conn.new).committed ≡ (state S.Store conn.old).committed)) }
+    ensures refused { HasCleanDisk (state S.Store conn.new) → IfErr result (IsRefused S.Store StoreKind.Book conn.old conn.new) }
     ensures survives { Survives (state S.Store conn.old) (state S.Store conn.new) (λ db. (book : Ledger) → IsSound book → Stands (state S.Store conn.old) book → HoldsBook db (added book target command.now)) }
 {
     prove!(conn.is_autocommit());
@@ -83,6 +88,7 @@ pub(crate) fn write_turned<S: Alter>(
     ensures ok { HasCleanDisk (state S.Store conn.new) → (book : Ledger) → IsSound book → IsSome (entry_of book.entries id) → Stands (state S.Store conn.old) book
         → OnOk result (Stands (state S.Store conn.new) (record book { entries = in_state book.entries id control })) }
     ensures err { HasCleanDisk (state S.Store conn.new) → IsTrue (state S.Store conn.new).is_open → OnErr result (IsTrue (state S.Store conn.old).is_open × ((state S.Store conn.new).committed ≡ (state S.Store conn.old).committed)) }
+    ensures refused { HasCleanDisk (state S.Store conn.new) → IfErr result (IsRefused S.Store StoreKind.Book conn.old conn.new) }
     ensures survives { Survives (state S.Store conn.old) (state S.Store conn.new) (λ db. (book : Ledger) → IsSound book → IsSome (entry_of book.entries id) → Stands (state S.Store conn.old) book
         → HoldsBook db (record book { entries = in_state book.entries id control })) }
 {

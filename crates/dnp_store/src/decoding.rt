@@ -1,6 +1,6 @@
 //! What rows that queries show of a queue's tables say.
 
-ghost use Rattle.std.specs.Prelude.{◌≡◌, ◌<◌, ◌≤◌, ◌^◌, ℕ, ℤ, Bool, Option, nat_le, false, IsTrue, IfOk, IfSome, [], ◌∷◌, List, codes, length, pos, All, slice_index_or, if◌then◌else◌};
+ghost use Rattle.std.specs.Prelude.{◌≡◌, ◌<◌, ◌≤◌, ◌^◌, ℕ, ℤ, Bool, Option, nat_le, false, IsTrue, IfOk, IfSome, [], ◌∷◌, List, codes, length, pos, All, slice_index_or, if◌then◌else◌, ◌⊎◌, IfErr, Err};
 ghost use Rattle.sqlite.specs.declared.types.Value.TheVariants.{Int, Text};
 ghost use Rattle.sqlite.specs.Order.{column};
 ghost use Rattle.dnp_objects.specs.declared.limits.TheConstants as limits;
@@ -8,7 +8,7 @@ ghost use Rattle.dnp_eventbuf.specs.Carried.{IsCarried};
 ghost use Rattle.dnp_eventbuf.specs.Stock.{lane_at};
 ghost use Rattle.dnp_store.specs.QueueTables.{is_raised, no_figures};
 ghost use Rattle.dnp_store.specs.Tables.{or_null};
-ghost use Rattle.dnp_store.specs.steps.Shown.{AreInRange, AreNine, IsBegun, Restores, ShowNine, IsMost, ShowsCount, ShowsCountOf, ShowsFigures, ShowsForm1, ShowsQueued};
+ghost use Rattle.dnp_store.specs.steps.Shown.{AreInRange, AreNine, IsBegun, LackNine, Restores, ShowNine, IsMost, ShowsCount, ShowsCountOf, ShowsFigures, ShowsForm1, ShowsQueued};
 ghost use Rattle.dnp_store.specs.declared.figures.Figures.{Figures as FiguresValue};
 
 use crate::fault::Unread;
@@ -113,6 +113,8 @@ fn figures_in(row: &Shown, number: usize) -> Option<Figures>
 pub(crate) fn all_figures(alloc: Global, rows: &[Shown]) -> Result<Vec<Figures>, Unread>
     ensures in_range { IfOk result (λ figures. AreNine figures.items) }
     ensures shown { IfOk result (λ figures. ShowNine rows.now figures.items) }
+    ensures wrong { result ≡ Err Unread.Form → LackNine rows.now }
+    ensures named { IfErr result (λ unread. (unread ≡ Unread.Form) ⊎ (unread ≡ Unread.Memory)) }
 {
     if rows.len() != LANES {
         return Err(Unread::Form);

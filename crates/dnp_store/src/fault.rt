@@ -34,7 +34,7 @@ impl From<Error> for Unread {
 }
 
 /// Asks the connection for something that changes nothing.
-fn probe<S: Alter>(conn: &mut Connection<S>) -> Result<(), Error>
+pub(crate) fn probe<S: Alter>(conn: &mut Connection<S>) -> Result<(), Error>
     requires { conn.old.in_transaction ≡ false }
     ensures idle { conn.new.in_transaction ≡ false }
     ensures open { HasCleanDisk (state S.Store conn.new) → OnOk result (IsTrue (state S.Store conn.new).is_open) }
@@ -61,7 +61,7 @@ pub(crate) fn serves<S: Alter>(conn: &mut Connection<S>) -> bool
 }
 
 /// Whether memory ran out, as a statement was read or as it ran.
-fn is_memory(error: &Error) -> bool
+pub(crate) fn is_memory(error: &Error) -> bool
     ensures { result ≡ is_memory error.now }
 {
     matches!(

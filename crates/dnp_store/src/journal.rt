@@ -1,16 +1,18 @@
 //! A journal in a SQL database.
 
-ghost use Rattle.std.specs.Prelude.{◌≡◌, ◌≢◌, ◌+◌, false, true, IsTrue, [], All, IfOk, IfErr, OnOk, OnErr, length};
+ghost use Rattle.std.specs.Prelude.{◌≡◌, ◌≢◌, ◌+◌, false, true, IsTrue, [], All, IfOk, IfErr, OnOk, OnErr, length, ◌⊎◌};
 ghost use Rattle.sqlite.specs.Held.{state};
 ghost use Rattle.sqlite.specs.State.{HasCleanDisk};
 ghost use Rattle.dnp_objects.specs.Events.{IsEvent};
 ghost use Rattle.dnp_eventbuf.specs.Archive.{IsSoundArchive, passes_limit, rows_over, with_events};
 ghost use Rattle.dnp_eventbuf.specs.SinkCalls.{IsJournalCall, IsSinkCall};
 ghost use Rattle.dnp_store.specs.JournalKept.{IsHonest, Leaves, LeavesEither, held_archive};
+ghost use Rattle.dnp_store.specs.Refusals.{IsLost, LosesReading};
 
 use crate::fault::{fault, is_lost};
 use crate::journal_reading::{is_lost_unread, read_over};
 use crate::journal_writing::write_events;
+use crate::store_kind::StoreKind;
 use dnp_eventbuf::{JournalStore, Numbered, Sink, StoreFault};
 use dnp_objects::{MAX_ID, Row};
 use sqlite::{Alter, Connection};
@@ -114,6 +116,7 @@ impl<S: Alter> Sink for Journal<S> {
         ensures either { HasCleanDisk (state S.Store self.new.conn) → self.old.stopped ≡ false → IsTrue self.old.owned → LeavesEither (state S.Store self.new.conn) (held_archive S.Store self.old) (with_events (held_archive S.Store self.old) events.now) }
         ensures after { HasCleanDisk (state S.Store self.new.conn) → IsTrue self.old.owned → OnOk result (Leaves (state S.Store self.new.conn) (held_archive S.Store self.new)) }
         ensures untouched { IsTrue self.old.stopped → self.new.conn ≡ self.old.conn }
+        ensures device { HasCleanDisk (state S.Store self.new.conn) → result ≡ Err StoreFault.Device → IsTrue self.old.stopped ⊎ IsLost S.Store StoreKind.Journal self.old.conn self.new.conn }
     {
         if self.stopped {
             return Err(StoreFault::Device);
@@ -154,6 +157,7 @@ impl<S: Alter> JournalStore for Journal<S> {
         ensures memory { result ≡ Err StoreFault.Memory → true ≡ false → rows_over (held_archive S.Store self.old) from most ≢ [] }
         ensures named { IfErr result (λ e. e ≢ StoreFault.Exhausted) }
         ensures untouched { IsTrue self.old.stopped → self.new ≡ self.old }
+        ensures device { HasCleanDisk (state S.Store self.new.conn) → result ≡ Err StoreFault.Device → IsTrue self.old.stopped ⊎ LosesReading S.Store self.old.conn self.new.conn }
     {
         if self.stopped {
             return Err(StoreFault::Device);

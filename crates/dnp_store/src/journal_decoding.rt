@@ -1,9 +1,9 @@
 //! What rows that queries show of a journal's table say.
 
-ghost use Rattle.std.specs.Prelude.{◌≡◌, ◌<◌, ◌≤◌, ◌^◌, IfOk, IfSome, length};
+ghost use Rattle.std.specs.Prelude.{◌≡◌, ◌<◌, ◌≤◌, ◌^◌, IfOk, IfSome, length, ◌⊎◌, IfErr, Err};
 ghost use Rattle.dnp_eventbuf.specs.declared.numbered.Numbered.{Numbered as NumberedValue};
 ghost use Rattle.dnp_objects.specs.declared.limits.TheConstants as limits;
-ghost use Rattle.dnp_store.specs.steps.JournalShown.{AreInOrder, ShowEvents, ShowsEvent};
+ghost use Rattle.dnp_store.specs.steps.JournalShown.{AreInOrder, HasNoEvent, ShowEvents, ShowsEvent};
 
 use crate::decoding::{signed, small, time_in, whole};
 use crate::fault::Unread;
@@ -39,7 +39,9 @@ fn event_in(row: &Shown) -> Option<Numbered>
 
 /// The events that the rows show.
 pub(crate) fn events_in(alloc: Global, rows: &[Shown]) -> Result<Vec<Numbered>, Unread>
-    ensures { IfOk result (λ events. ShowEvents rows.now events.items) }
+    ensures shown { IfOk result (λ events. ShowEvents rows.now events.items) }
+    ensures wrong { result ≡ Err Unread.Form → HasNoEvent rows.now }
+    ensures named { IfErr result (λ unread. (unread ≡ Unread.Form) ⊎ (unread ≡ Unread.Memory)) }
 {
     let mut events = Vec::with_capacity(alloc, rows.len()).map_err(|_| Unread::Memory)?;
     for number in 0..rows.len() {

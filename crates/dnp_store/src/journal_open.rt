@@ -1,18 +1,19 @@
 //! How a journal in a SQL database begins, and what stands at its end.
 
-ghost use Rattle.std.specs.Prelude.{◌≡◌, ◌↔◌, false, not, IsTrue, IfOk, IfErr, IsErrAnd};
-ghost use Rattle.sqlite.specs.Held.{state};
+ghost use Rattle.std.specs.Prelude.{◌≡◌, ◌↔◌, false, not, IsTrue, IfOk, IfErr, IsErrAnd, ◌⊎◌, Err};
+ghost use Rattle.sqlite.specs.Held.{Held, state};
 ghost use Rattle.sqlite.specs.State.{HasCleanDisk, Survives};
-ghost use Rattle.sqlite.specs.Steps.{over_memory};
+ghost use Rattle.sqlite.specs.Steps.{IsEmpty, over_memory};
 ghost use Rattle.dnp_store.specs.JournalKept.{IsHonest, Leaves, Stands, held_archive};
 ghost use Rattle.dnp_store.specs.JournalTables.{HoldsArchive, IsJournal, empty_archive};
+ghost use Rattle.dnp_store.specs.Refusals.{IsLost, IsTaken};
 ghost use Rattle.dnp_store.specs.Schemas.{made_journal};
 ghost use Rattle.dnp_store.specs.Tables.{no_schema};
 
-use crate::fault::{is_lost, is_taken, serves};
+use crate::fault::{is_lost, is_taken};
 use crate::journal::Journal;
 use crate::journal_opening::read_journal;
-use crate::open::{OpenFault, is_bare, open_fault, unread_fault};
+use crate::open::{OpenFault, is_bare, last_fault, open_fault, unread_fault};
 use crate::store_kind::StoreKind;
 use crate::stores::write_tables;
 use sqlite::{Alter, Connection, MemStore};
@@ -36,6 +37,8 @@ impl<S: Alter> Journal<S> {
         ensures made { IfOk result (λ j. Survives (state S.Store conn) (state S.Store j.conn) (λ db. (state S.Store conn).now.schema ≡ no_schema → HoldsArchive db empty_archive)) }
         ensures left { IfErr result (λ e. Survives (state S.Store conn) (state S.Store e.1) (λ db. (state S.Store conn).now.schema ≡ no_schema → HoldsArchive db empty_archive)) }
         ensures handed_back { IfErr result (λ e. (e.1.in_transaction ≡ conn.in_transaction) × (e.1.step_limit ≡ conn.step_limit)) }
+        ensures device { IfErr result (λ e. HasCleanDisk (state S.Store e.1) → e.0 ≡ OpenFault.Device → IsLost S.Store StoreKind.Journal conn e.1) }
+        ensures taken { IfErr result (λ e. HasCleanDisk (state S.Store e.1) → e.0 ≡ OpenFault.WrongForm → IsTrue conn.in_transaction ⊎ IsTaken S.Store StoreKind.Journal conn e.1) }
     {
         if !conn.is_autocommit() {
             return Err((OpenFault::WrongForm, conn));
@@ -81,8 +84,8 @@ impl<S: Alter> Journal<S> {
         let mut conn = conn;
         match read_journal(&mut conn, alloc) {
             Ok((found, owned)) => {
-                if !serves(&mut conn) {
-                    return Err((OpenFault::Device, conn));
+                if let Some(fault) = last_fault(&mut conn) {
+                    return Err((fault, conn));
                 }
                 Ok(Journal {
                     conn,
@@ -124,6 +127,8 @@ impl Journal<MemStore> {
     pub fn in_memory(alloc: Global) -> Result<Journal<MemStore>, OpenFault>
         ensures honest { IfOk result (IsHonest over_memory) }
         ensures empty { IfOk result (λ j. held_archive over_memory j ≡ empty_archive) }
+        ensures device { result ≡ Err OpenFault.Device → (old new : Held MemStore) × IsEmpty (state over_memory old) × IsLost over_memory StoreKind.Journal old new }
+        ensures taken { result ≡ Err OpenFault.WrongForm → (old new : Held MemStore) × IsEmpty (state over_memory old) × IsTaken over_memory StoreKind.Journal old new }
     {
         let Ok(conn) = Connection::open_in_memory(alloc) else {
             return Err(OpenFault::Memory);

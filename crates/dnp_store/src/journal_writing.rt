@@ -1,16 +1,18 @@
 //! What an append writes of a journal, in one transaction.
 
-ghost use Rattle.std.specs.Prelude.{◌≡◌, false, IsTrue, OnOk, OnErr, All, [], ◌∷◌, length};
+ghost use Rattle.std.specs.Prelude.{◌≡◌, false, IsTrue, OnOk, OnErr, All, [], ◌∷◌, length, IfErr};
 ghost use Rattle.sqlite.specs.Held.{state};
 ghost use Rattle.sqlite.specs.State.{HasCleanDisk, Survives};
 ghost use Rattle.dnp_objects.specs.Events.{IsEvent};
 ghost use Rattle.dnp_eventbuf.specs.Archive.{Archive, with_events};
 ghost use Rattle.dnp_store.specs.declared.cells.TheConstants.{MANY};
+ghost use Rattle.dnp_store.specs.Refusals.{IsRefused};
 ghost use Rattle.dnp_store.specs.steps.Inside.{IsInside, IsStep};
 ghost use Rattle.dnp_store.specs.JournalKept.{Stands};
 ghost use Rattle.dnp_store.specs.JournalTables.{HoldsArchive, IsJournal};
 
 use crate::cells::{CELLS, MANY, cells, whole_time};
+use crate::store_kind::StoreKind;
 use dnp_objects::Row;
 use sqlite::{Alter, Connection, Error, Transaction, params};
 use sqlite_value::value::ValueRef;
@@ -20,6 +22,7 @@ fn insert<S: Alter>(tx: &mut Transaction<'_, S>, event: &Row) -> Result<(), Erro
     requires inside { IsInside S.Store tx.old.conn }
     requires event { IsEvent event.now }
     ensures step { IsStep S.Store tx.old.conn tx.new.conn result }
+    ensures refused { HasCleanDisk (state S.Store tx.new.conn.now) → IfErr result (IsRefused S.Store StoreKind.Journal tx.old.conn.now tx.new.conn.now) }
     ensures added { HasCleanDisk (state S.Store tx.new.conn.now) → OnOk result ((a : Archive) → IsJournal (state S.Store tx.old.conn.now).now a
         → IsJournal (state S.Store tx.new.conn.now).now (with_events a (event.now ∷ []))) }
 {
@@ -41,6 +44,7 @@ fn insert_many<S: Alter>(tx: &mut Transaction<'_, S>, events: &[Row]) -> Result<
     requires events { All IsEvent events.now }
     requires sixteen { length events.now ≡ MANY }
     ensures step { IsStep S.Store tx.old.conn tx.new.conn result }
+    ensures refused { HasCleanDisk (state S.Store tx.new.conn.now) → IfErr result (IsRefused S.Store StoreKind.Journal tx.old.conn.now tx.new.conn.now) }
     ensures added { HasCleanDisk (state S.Store tx.new.conn.now) → OnOk result ((a : Archive) → IsJournal (state S.Store tx.old.conn.now).now a
         → IsJournal (state S.Store tx.new.conn.now).now (with_events a events.now)) }
 {
@@ -67,6 +71,7 @@ fn insert_each<S: Alter>(tx: &mut Transaction<'_, S>, events: &[Row]) -> Result<
     requires inside { IsInside S.Store tx.old.conn }
     requires events { All IsEvent events.now }
     ensures step { IsStep S.Store tx.old.conn tx.new.conn result }
+    ensures refused { HasCleanDisk (state S.Store tx.new.conn.now) → IfErr result (IsRefused S.Store StoreKind.Journal tx.old.conn.now tx.new.conn.now) }
     ensures added { HasCleanDisk (state S.Store tx.new.conn.now) → OnOk result ((a : Archive) → IsJournal (state S.Store tx.old.conn.now).now a
         → IsJournal (state S.Store tx.new.conn.now).now (with_events a events.now)) }
 {
@@ -81,6 +86,7 @@ fn insert_block<S: Alter>(tx: &mut Transaction<'_, S>, events: &[Row]) -> Result
     requires inside { IsInside S.Store tx.old.conn }
     requires events { All IsEvent events.now }
     ensures step { IsStep S.Store tx.old.conn tx.new.conn result }
+    ensures refused { HasCleanDisk (state S.Store tx.new.conn.now) → IfErr result (IsRefused S.Store StoreKind.Journal tx.old.conn.now tx.new.conn.now) }
     ensures added { HasCleanDisk (state S.Store tx.new.conn.now) → OnOk result ((a : Archive) → IsJournal (state S.Store tx.old.conn.now).now a
         → IsJournal (state S.Store tx.new.conn.now).now (with_events a events.now)) }
 {
@@ -96,6 +102,7 @@ fn insert_all<S: Alter>(tx: &mut Transaction<'_, S>, events: &[Row]) -> Result<(
     requires inside { IsInside S.Store tx.old.conn }
     requires events { All IsEvent events.now }
     ensures step { IsStep S.Store tx.old.conn tx.new.conn result }
+    ensures refused { HasCleanDisk (state S.Store tx.new.conn.now) → IfErr result (IsRefused S.Store StoreKind.Journal tx.old.conn.now tx.new.conn.now) }
     ensures added { HasCleanDisk (state S.Store tx.new.conn.now) → OnOk result ((a : Archive) → IsJournal (state S.Store tx.old.conn.now).now a
         → IsJournal (state S.Store tx.new.conn.now).now (with_events a events.now)) }
 {
@@ -112,6 +119,7 @@ pub(crate) fn write_events<S: Alter>(conn: &mut Connection<S>, events: &[Row]) -
     ensures idle { conn.new.in_transaction ≡ false }
     ensures ok { HasCleanDisk (state S.Store conn.new) → (a : Archive) → Stands (state S.Store conn.old) a → OnOk result (Stands (state S.Store conn.new) (with_events a events.now)) }
     ensures err { HasCleanDisk (state S.Store conn.new) → IsTrue (state S.Store conn.new).is_open → OnErr result (IsTrue (state S.Store conn.old).is_open × ((state S.Store conn.new).committed ≡ (state S.Store conn.old).committed)) }
+    ensures refused { HasCleanDisk (state S.Store conn.new) → IfErr result (IsRefused S.Store StoreKind.Journal conn.old conn.new) }
     ensures survives { Survives (state S.Store conn.old) (state S.Store conn.new) (λ db. (a : Archive) → Stands (state S.Store conn.old) a → HoldsArchive db (with_events a events.now)) }
 {
     prove!(conn.is_autocommit());

@@ -1,20 +1,22 @@
 //! Stores on databases: how they begin.
 
-ghost use Rattle.std.specs.Prelude.{◌≡◌, ◌≢◌, ◌⊎◌, ◌↔◌, ◌≤◌, true, false, not, if◌then◌else◌, All, IsTrue, IfOk, IfErr, IsErrAnd};
-ghost use Rattle.sqlite.specs.Held.{state};
+ghost use Rattle.std.specs.Prelude.{◌≡◌, ◌≢◌, ◌⊎◌, ◌↔◌, ◌≤◌, true, false, not, if◌then◌else◌, All, IsTrue, IfOk, IfErr, IsErrAnd, IfSome, Err};
+ghost use Rattle.sqlite.specs.Held.{Held, state};
 ghost use Rattle.sqlite.specs.State.{HasCleanDisk, Survives};
-ghost use Rattle.sqlite.specs.Steps.{over_memory};
+ghost use Rattle.sqlite.specs.Steps.{IsEmpty, over_memory};
 ghost use Rattle.dnp_eventbuf.specs.Stock.{empty_stock};
-ghost use Rattle.dnp_store.specs.Faults.{RefusesNothing, is_out_of_memory, is_wrong};
+ghost use Rattle.dnp_store.specs.Faults.{IsCut, RefusesNothing, is_out_of_memory, is_wrong};
 ghost use Rattle.dnp_store.specs.Kept.{IsHonest, Leaves, Stands};
 ghost use Rattle.dnp_store.specs.QueueTables.{HoldsStock, IsQueue};
+ghost use Rattle.dnp_store.specs.Refusals.{IsLost, IsTaken};
 ghost use Rattle.dnp_store.specs.Schemas.{made_queue};
 ghost use Rattle.dnp_store.specs.Tables.{no_schema};
 
-use crate::fault::{Unread, is_lost, is_taken, is_unread, serves};
+use crate::fault::{Unread, is_lost, is_memory, is_taken, is_unread, probe};
 use crate::queue::Queue;
 use crate::queue_opening::read_queue;
 use crate::queue_tables::write_tables;
+use crate::store_kind::StoreKind;
 use dnp_eventbuf::{MAX_CAPACITY, PlainLanes};
 use dnp_objects::LANES;
 use sqlite::{Alter, Connection, MemStore};
@@ -79,6 +81,23 @@ pub(crate) fn unread_fault<S: Alter>(conn: &mut Connection<S>, unread: &Unread) 
     }
 }
 
+/// Why a store that was read doesn't open after all: its connection is to serve still.
+pub(crate) fn last_fault<S: Alter>(conn: &mut Connection<S>) -> Option<OpenFault>
+    requires { conn.old.in_transaction ≡ false }
+    ensures idle { conn.new.in_transaction ≡ false }
+    ensures open { HasCleanDisk (state S.Store conn.new) → result ≡ None → IsTrue (state S.Store conn.new).is_open }
+    ensures same { HasCleanDisk (state S.Store conn.new) → IsTrue (state S.Store conn.new).is_open
+        → IsTrue (state S.Store conn.old).is_open × ((state S.Store conn.new).committed ≡ (state S.Store conn.old).committed) }
+    ensures device { HasCleanDisk (state S.Store conn.new) → result ≡ Some OpenFault.Device → IsCut (state S.Store conn.old) (state S.Store conn.new) }
+    ensures named { IfSome result (λ fault. fault ≢ OpenFault.WrongForm) }
+    ensures survives { Survives (state S.Store conn.old) (state S.Store conn.new) (λ _. ⊥) }
+{
+    match probe(conn) {
+        Ok(()) => None,
+        Err(error) => Some(open_fault(false, !is_memory(&error))),
+    }
+}
+
 impl<S: Alter> Queue<S> {
     /// Makes empty lanes in the database, which take this many rows each, 1 to `MAX_CAPACITY`. Other
     /// tables are left alone, but the lanes promise to hold their rows only where there are none.
@@ -101,6 +120,8 @@ impl<S: Alter> Queue<S> {
         ensures made { IfOk result (λ q. Survives (state S.Store conn) (state S.Store q.conn) (λ db. (state S.Store conn).now.schema ≡ no_schema → HoldsStock db (empty_stock capacities))) }
         ensures left { IfErr result (λ e. Survives (state S.Store conn) (state S.Store e.1) (λ db. (state S.Store conn).now.schema ≡ no_schema → HoldsStock db (empty_stock capacities))) }
         ensures handed_back { IfErr result (λ e. (e.1.in_transaction ≡ conn.in_transaction) × (e.1.step_limit ≡ conn.step_limit)) }
+        ensures device { IfErr result (λ e. HasCleanDisk (state S.Store e.1) → e.0 ≡ OpenFault.Device → IsLost S.Store StoreKind.Queue conn e.1) }
+        ensures taken { IfErr result (λ e. HasCleanDisk (state S.Store e.1) → e.0 ≡ OpenFault.WrongForm → IsTrue conn.in_transaction ⊎ IsTaken S.Store StoreKind.Queue conn e.1) }
     {
         if !conn.is_autocommit() {
             return Err((OpenFault::WrongForm, conn));
@@ -146,8 +167,8 @@ impl<S: Alter> Queue<S> {
         let mut conn = conn;
         match read_queue(&mut conn, alloc) {
             Ok((lanes, owned)) => {
-                if !serves(&mut conn) {
-                    return Err((OpenFault::Device, conn));
+                if let Some(fault) = last_fault(&mut conn) {
+                    return Err((fault, conn));
                 }
                 let _last = lanes.last_id();
                 Ok(Queue {
@@ -190,6 +211,8 @@ impl Queue<MemStore> {
         requires { All (λ capacity. (1 ≤ capacity) × (capacity ≤ MAX_CAPACITY)) capacities }
         ensures honest { IfOk result (IsHonest over_memory) }
         ensures empty { IfOk result (λ q. q.stock ≡ empty_stock capacities) }
+        ensures device { result ≡ Err OpenFault.Device → (old new : Held MemStore) × IsEmpty (state over_memory old) × IsLost over_memory StoreKind.Queue old new }
+        ensures taken { result ≡ Err OpenFault.WrongForm → (old new : Held MemStore) × IsEmpty (state over_memory old) × IsTaken over_memory StoreKind.Queue old new }
     {
         let Ok(conn) = Connection::open_in_memory(alloc) else {
             return Err(OpenFault::Memory);

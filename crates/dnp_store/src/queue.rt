@@ -1,6 +1,6 @@
 //! Event lanes in a SQL database.
 
-ghost use Rattle.std.specs.Prelude.{◌≡◌, ◌≢◌, false, true, IsTrue, [], All, IfOk, IfErr, OnOk, OnErr, ⊤};
+ghost use Rattle.std.specs.Prelude.{◌≡◌, ◌≢◌, false, true, IsTrue, [], All, IfOk, IfErr, OnOk, OnErr, ⊤, ◌⊎◌};
 ghost use Rattle.sqlite.specs.Held.{state};
 ghost use Rattle.sqlite.specs.State.{HasCleanDisk};
 ghost use Rattle.dnp_objects.specs.Events.{IsEvent};
@@ -9,10 +9,12 @@ ghost use Rattle.dnp_eventbuf.specs.Calls.{IsLanesCall};
 ghost use Rattle.dnp_eventbuf.specs.Carried.{IsCarried};
 ghost use Rattle.dnp_eventbuf.specs.Stock.{with_rows, dropped_by, exhausts, offered, without, all_up_to, without_all, rows_in};
 ghost use Rattle.dnp_store.specs.Kept.{IsHonest, Leaves, LeavesEither};
+ghost use Rattle.dnp_store.specs.Refusals.{IsLost};
 
 use crate::fault::{fault, is_lost, memory};
 use crate::queue_release::{lowers, write_release};
 use crate::queue_writing::write_append;
+use crate::store_kind::StoreKind;
 use dnp_eventbuf::laws::{a_release_is_lane_by_lane, lanes_stay_sound};
 use dnp_eventbuf::{Lane, LaneRow, Lanes, Numbered, PlainLanes, Rows, StoreFault, Upto};
 use dnp_objects::{LANES, MAX_ID, Row};
@@ -108,6 +110,7 @@ impl<S: Alter> Lanes for Queue<S> {
         ensures either { HasCleanDisk (state S.Store self.new.conn) → self.old.stopped ≡ false → IsTrue self.old.owned → LeavesEither (state S.Store self.new.conn) self.old.stock (with_rows self.old.stock rows.now) }
         ensures after { HasCleanDisk (state S.Store self.new.conn) → IsTrue self.old.owned → OnOk result (Leaves (state S.Store self.new.conn) self.new.stock) }
         ensures untouched { IsTrue self.old.stopped → self.new.conn ≡ self.old.conn }
+        ensures device { HasCleanDisk (state S.Store self.new.conn) → result ≡ Err StoreFault.Device → IsTrue self.old.stopped ⊎ IsLost S.Store StoreKind.Queue self.old.conn self.new.conn }
     {
         if self.stopped {
             return Err(StoreFault::Device);
@@ -148,6 +151,7 @@ impl<S: Alter> Lanes for Queue<S> {
         ensures either { HasCleanDisk (state S.Store self.new.conn) → self.old.stopped ≡ false → IsTrue self.old.owned → LeavesEither (state S.Store self.new.conn) self.old.stock (with_rows self.old.stock rows.now) }
         ensures after { HasCleanDisk (state S.Store self.new.conn) → IsTrue self.old.owned → OnOk result (Leaves (state S.Store self.new.conn) self.new.stock) }
         ensures untouched { IsTrue self.old.stopped → self.new.conn ≡ self.old.conn }
+        ensures device { HasCleanDisk (state S.Store self.new.conn) → result ≡ Err StoreFault.Device → IsTrue self.old.stopped ⊎ IsLost S.Store StoreKind.Queue self.old.conn self.new.conn }
     {
         *dropped = Rows::of(self.append(alloc, rows)?);
         Ok(())
@@ -187,6 +191,7 @@ impl<S: Alter> Lanes for Queue<S> {
         ensures either { HasCleanDisk (state S.Store self.new.conn) → self.old.stopped ≡ false → IsTrue self.old.owned → LeavesEither (state S.Store self.new.conn) self.old.stock (without self.old.stock upto.now) }
         ensures after { HasCleanDisk (state S.Store self.new.conn) → IsTrue self.old.owned → OnOk result (Leaves (state S.Store self.new.conn) self.new.stock) }
         ensures untouched { IsTrue self.old.stopped → self.new.conn ≡ self.old.conn }
+        ensures device { HasCleanDisk (state S.Store self.new.conn) → result ≡ Err StoreFault.Device → IsTrue self.old.stopped ⊎ IsLost S.Store StoreKind.Queue self.old.conn self.new.conn }
     {
         if self.stopped {
             return Err(StoreFault::Device);
@@ -215,6 +220,7 @@ impl<S: Alter> Lanes for Queue<S> {
         ensures either { HasCleanDisk (state S.Store self.new.conn) → self.old.stopped ≡ false → IsTrue self.old.owned → LeavesEither (state S.Store self.new.conn) self.old.stock (without_all self.old.stock) }
         ensures after { HasCleanDisk (state S.Store self.new.conn) → IsTrue self.old.owned → OnOk result (Leaves (state S.Store self.new.conn) self.new.stock) }
         ensures untouched { IsTrue self.old.stopped → self.new.conn ≡ self.old.conn }
+        ensures device { HasCleanDisk (state S.Store self.new.conn) → result ≡ Err StoreFault.Device → IsTrue self.old.stopped ⊎ IsLost S.Store StoreKind.Queue self.old.conn self.new.conn }
     {
         if self.stopped {
             return Err(StoreFault::Device);

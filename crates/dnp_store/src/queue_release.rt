@@ -1,17 +1,19 @@
 //! What a release or an emptying writes of a queue, in one transaction.
 
-ghost use Rattle.std.specs.Prelude.{◌≡◌, ℕ, ◌<◌, false, IsTrue, OnOk, OnErr, List, length, min, slice_index_or};
+ghost use Rattle.std.specs.Prelude.{◌≡◌, ℕ, ◌<◌, false, IsTrue, OnOk, OnErr, List, length, min, slice_index_or, IfErr};
 ghost use Rattle.sqlite.specs.Held.{state};
 ghost use Rattle.sqlite.specs.State.{HasCleanDisk, Survives};
 ghost use Rattle.dnp_objects.specs.declared.limits.TheConstants as limits;
 ghost use Rattle.dnp_eventbuf.specs.Sound.{IsSound};
 ghost use Rattle.dnp_eventbuf.specs.Stock.{Stock, above, lane_at, without};
+ghost use Rattle.dnp_store.specs.Refusals.{IsRefused};
 ghost use Rattle.dnp_store.specs.steps.Inside.{IsInside, IsStep};
 ghost use Rattle.dnp_store.specs.Kept.{Stands};
 ghost use Rattle.dnp_store.specs.QueueTables.{Figures, HoldsQueue, HoldsStock, IsQueue, is_raised};
 ghost use Rattle.dnp_store.specs.steps.Steps.{cut, left, released};
 
 use crate::queue_statements::{note, take};
+use crate::store_kind::StoreKind;
 use dnp_eventbuf::laws::a_release_is_lane_by_lane;
 use dnp_eventbuf::{PlainLanes, Upto};
 use dnp_objects::{LANES, MAX_ID};
@@ -41,6 +43,7 @@ fn take_some<S: Alter>(
     requires number { number < limits.LANES }
     requires sound { IsSound lanes.now }
     ensures step { IsStep S.Store tx.old.conn tx.new.conn result }
+    ensures refused { HasCleanDisk (state S.Store tx.new.conn.now) → IfErr result (IsRefused S.Store StoreKind.Queue tx.old.conn.now tx.new.conn.now) }
     ensures taken { HasCleanDisk (state S.Store tx.new.conn.now) → OnOk result ((s : Stock) (figures : List Figures) → length s.lanes ≡ limits.LANES
         → lane_at s number ≡ lane_at lanes.now number → HoldsQueue (state S.Store tx.old.conn.now).now s figures
         → HoldsQueue (state S.Store tx.new.conn.now).now (cut s number (min (slice_index_or upto.now number 0) limits.MAX_ID)) figures) }
@@ -60,6 +63,7 @@ fn take_all<S: Alter>(
     requires inside { IsInside S.Store tx.old.conn }
     requires sound { IsSound lanes.now }
     ensures step { IsStep S.Store tx.old.conn tx.new.conn result }
+    ensures refused { HasCleanDisk (state S.Store tx.new.conn.now) → IfErr result (IsRefused S.Store StoreKind.Queue tx.old.conn.now tx.new.conn.now) }
     ensures taken { HasCleanDisk (state S.Store tx.new.conn.now) → OnOk result ((figures : List Figures)
         → HoldsQueue (state S.Store tx.old.conn.now).now lanes.now figures → HoldsQueue (state S.Store tx.new.conn.now).now (left lanes.now upto.now) figures) }
 {
@@ -76,6 +80,7 @@ fn lower_all<S: Alter>(tx: &mut Transaction<'_, S>, lanes: &PlainLanes) -> Resul
     requires inside { IsInside S.Store tx.old.conn }
     requires sound { IsSound lanes.now }
     ensures step { IsStep S.Store tx.old.conn tx.new.conn result }
+    ensures refused { HasCleanDisk (state S.Store tx.new.conn.now) → IfErr result (IsRefused S.Store StoreKind.Queue tx.old.conn.now tx.new.conn.now) }
     ensures lowered { HasCleanDisk (state S.Store tx.new.conn.now) → OnOk result ((s : Stock) (figures : List Figures) → length s.lanes ≡ limits.LANES
         → ((k : ℕ) → k < limits.LANES → (lane_at s k).lost ≡ (lane_at lanes.now k).lost) → HoldsQueue (state S.Store tx.old.conn.now).now s figures
         → (lowered : List Figures) × HoldsQueue (state S.Store tx.new.conn.now).now s lowered × (is_raised lowered ≡ false)) }
@@ -96,6 +101,7 @@ fn release_in<S: Alter>(
     requires inside { IsInside S.Store tx.old.conn }
     requires sound { IsSound lanes.now }
     ensures step { IsStep S.Store tx.old.conn tx.new.conn result }
+    ensures refused { HasCleanDisk (state S.Store tx.new.conn.now) → IfErr result (IsRefused S.Store StoreKind.Queue tx.old.conn.now tx.new.conn.now) }
     ensures released { HasCleanDisk (state S.Store tx.new.conn.now) → OnOk result (
         IsQueue (state S.Store tx.old.conn.now).now lanes.now → IsQueue (state S.Store tx.new.conn.now).now (released lanes.now upto.now lower)) }
 {
@@ -128,6 +134,7 @@ pub(crate) fn write_release<S: Alter>(
     ensures idle { conn.new.in_transaction ≡ false }
     ensures ok { HasCleanDisk (state S.Store conn.new) → Stands (state S.Store conn.old) lanes.now → OnOk result (Stands (state S.Store conn.new) (released lanes.now upto.now lower)) }
     ensures err { HasCleanDisk (state S.Store conn.new) → IsTrue (state S.Store conn.new).is_open → OnErr result (IsTrue (state S.Store conn.old).is_open × ((state S.Store conn.new).committed ≡ (state S.Store conn.old).committed)) }
+    ensures refused { HasCleanDisk (state S.Store conn.new) → IfErr result (IsRefused S.Store StoreKind.Queue conn.old conn.new) }
     ensures survives { Survives (state S.Store conn.old) (state S.Store conn.new) (λ db. Stands (state S.Store conn.old) lanes.now → HoldsStock db (released lanes.now upto.now lower)) }
 {
     prove!(conn.is_autocommit());

@@ -1,17 +1,19 @@
 //! The statements of a queue, each inside a transaction.
 
-ghost use Rattle.std.specs.Prelude.{All, ◌≡◌, ◌^◌, ◌<◌, OnOk, List, length};
+ghost use Rattle.std.specs.Prelude.{All, ◌≡◌, ◌^◌, ◌<◌, OnOk, IfErr, List, length};
 ghost use Rattle.sqlite.specs.Held.{state};
 ghost use Rattle.sqlite.specs.State.{HasCleanDisk};
 ghost use Rattle.dnp_objects.specs.declared.limits.TheConstants as limits;
 ghost use Rattle.dnp_eventbuf.specs.Carried.{IsCarried};
 ghost use Rattle.dnp_eventbuf.specs.Stock.{Stock};
 ghost use Rattle.dnp_store.specs.declared.cells.TheConstants.{MANY};
+ghost use Rattle.dnp_store.specs.Refusals.{IsRefused};
 ghost use Rattle.dnp_store.specs.steps.Inside.{IsInside, IsStep};
 ghost use Rattle.dnp_store.specs.QueueTables.{Figures, HoldsQueue};
 ghost use Rattle.dnp_store.specs.steps.Steps.{added, all_added, counted, cut, noted};
 
 use crate::cells::{CELLS, MANY, cells, whole_time};
+use crate::store_kind::StoreKind;
 use dnp_eventbuf::LaneRow;
 use sqlite::{Alter, Error, Transaction, params};
 use sqlite_value::value::ValueRef;
@@ -21,6 +23,7 @@ pub(crate) fn insert<S: Alter>(tx: &mut Transaction<'_, S>, x: &LaneRow) -> Resu
     requires inside { IsInside S.Store tx.old.conn }
     requires carried { IsCarried x.now }
     ensures step { IsStep S.Store tx.old.conn tx.new.conn result }
+    ensures refused { HasCleanDisk (state S.Store tx.new.conn.now) → IfErr result (IsRefused S.Store StoreKind.Queue tx.old.conn.now tx.new.conn.now) }
     ensures added { HasCleanDisk (state S.Store tx.new.conn.now) → OnOk result ((s : Stock) (figures : List Figures) → length s.lanes ≡ limits.LANES
         → HoldsQueue (state S.Store tx.old.conn.now).now s figures → HoldsQueue (state S.Store tx.new.conn.now).now (added s x.now) figures) }
 {
@@ -46,6 +49,7 @@ pub(crate) fn insert_many<S: Alter>(
     requires carried { All IsCarried rows.now }
     requires sixteen { length rows.now ≡ MANY }
     ensures step { IsStep S.Store tx.old.conn tx.new.conn result }
+    ensures refused { HasCleanDisk (state S.Store tx.new.conn.now) → IfErr result (IsRefused S.Store StoreKind.Queue tx.old.conn.now tx.new.conn.now) }
     ensures added { HasCleanDisk (state S.Store tx.new.conn.now) → OnOk result ((s : Stock) (figures : List Figures) → length s.lanes ≡ limits.LANES
         → HoldsQueue (state S.Store tx.old.conn.now).now s figures → HoldsQueue (state S.Store tx.new.conn.now).now (all_added s rows.now) figures) }
 {
@@ -77,6 +81,7 @@ pub(crate) fn take<S: Alter>(
     requires number { number < limits.LANES }
     requires upto { upto < 2 ^ 63 }
     ensures step { IsStep S.Store tx.old.conn tx.new.conn result }
+    ensures refused { HasCleanDisk (state S.Store tx.new.conn.now) → IfErr result (IsRefused S.Store StoreKind.Queue tx.old.conn.now tx.new.conn.now) }
     ensures cut { HasCleanDisk (state S.Store tx.new.conn.now) → OnOk result ((s : Stock) (figures : List Figures) → length s.lanes ≡ limits.LANES
         → HoldsQueue (state S.Store tx.old.conn.now).now s figures → HoldsQueue (state S.Store tx.new.conn.now).now (cut s number upto) figures) }
 {
@@ -100,6 +105,7 @@ pub(crate) fn note<S: Alter>(
     requires number { number < limits.LANES }
     requires lost { lost < 2 ^ 63 }
     ensures step { IsStep S.Store tx.old.conn tx.new.conn result }
+    ensures refused { HasCleanDisk (state S.Store tx.new.conn.now) → IfErr result (IsRefused S.Store StoreKind.Queue tx.old.conn.now tx.new.conn.now) }
     ensures noted { HasCleanDisk (state S.Store tx.new.conn.now) → OnOk result ((s : Stock) (figures : List Figures) → length s.lanes ≡ limits.LANES
         → HoldsQueue (state S.Store tx.old.conn.now).now s figures → HoldsQueue (state S.Store tx.new.conn.now).now (counted s number lost) (noted figures number lost raised)) }
 {

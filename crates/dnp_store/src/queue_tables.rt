@@ -1,9 +1,10 @@
 //! The tables of a queue, as they are made.
 
-ghost use Rattle.std.specs.Prelude.{◌≡◌, ◌++◌, false, IsTrue, OnOk, OnErr, List, [], ◌∷◌, length, map};
+ghost use Rattle.std.specs.Prelude.{◌≡◌, ◌++◌, false, IsTrue, OnOk, OnErr, List, [], ◌∷◌, length, map, IfErr};
 ghost use Rattle.sqlite.specs.Held.{state};
 ghost use Rattle.sqlite.specs.State.{HasCleanDisk, Survives};
 ghost use Rattle.dnp_eventbuf.specs.Stock.{empty_stock};
+ghost use Rattle.dnp_store.specs.Refusals.{IsRefused};
 ghost use Rattle.dnp_store.specs.steps.Inside.{IsInside, IsStep};
 ghost use Rattle.dnp_store.specs.Kept.{Stands};
 ghost use Rattle.dnp_store.specs.steps.Making.{HasLanes, fresh};
@@ -21,6 +22,7 @@ use sqlite::{Alter, Connection, Error, Transaction, params};
 fn make_lanes<S: Alter>(tx: &mut Transaction<'_, S>) -> Result<(), Error>
     requires inside { IsInside S.Store tx.old.conn }
     ensures step { IsStep S.Store tx.old.conn tx.new.conn result }
+    ensures refused { HasCleanDisk (state S.Store tx.new.conn.now) → IfErr result (IsRefused S.Store StoreKind.Queue tx.old.conn.now tx.new.conn.now) }
     ensures made { HasCleanDisk (state S.Store tx.new.conn.now) → OnOk result (HasNumber StoreKind.Queue (state S.Store tx.old.conn.now).now → HasLanes (state S.Store tx.new.conn.now).now []) }
 {
     tx.execute(
@@ -34,6 +36,7 @@ fn make_lanes<S: Alter>(tx: &mut Transaction<'_, S>) -> Result<(), Error>
 fn put_lane<S: Alter>(tx: &mut Transaction<'_, S>, number: u32, capacity: u32) -> Result<(), Error>
     requires inside { IsInside S.Store tx.old.conn }
     ensures step { IsStep S.Store tx.old.conn tx.new.conn result }
+    ensures refused { HasCleanDisk (state S.Store tx.new.conn.now) → IfErr result (IsRefused S.Store StoreKind.Queue tx.old.conn.now tx.new.conn.now) }
     ensures made { HasCleanDisk (state S.Store tx.new.conn.now) → OnOk result ((figures : List Figures) → number ≡ length figures → HasLanes (state S.Store tx.old.conn.now).now figures → HasLanes (state S.Store tx.new.conn.now).now (figures ++ fresh capacity ∷ [])) }
 {
     tx.execute(
@@ -47,6 +50,7 @@ fn put_lane<S: Alter>(tx: &mut Transaction<'_, S>, number: u32, capacity: u32) -
 fn put_lanes<S: Alter>(tx: &mut Transaction<'_, S>, capacities: &[u32; LANES]) -> Result<(), Error>
     requires inside { IsInside S.Store tx.old.conn }
     ensures step { IsStep S.Store tx.old.conn tx.new.conn result }
+    ensures refused { HasCleanDisk (state S.Store tx.new.conn.now) → IfErr result (IsRefused S.Store StoreKind.Queue tx.old.conn.now tx.new.conn.now) }
     ensures made { HasCleanDisk (state S.Store tx.new.conn.now) → OnOk result (HasLanes (state S.Store tx.old.conn.now).now [] → HasLanes (state S.Store tx.new.conn.now).now (map fresh capacities.now)) }
 {
     for number in 0..LANES {
@@ -59,6 +63,7 @@ fn put_lanes<S: Alter>(tx: &mut Transaction<'_, S>, capacities: &[u32; LANES]) -
 fn make_all<S: Alter>(tx: &mut Transaction<'_, S>, capacities: &[u32; LANES]) -> Result<(), Error>
     requires inside { IsInside S.Store tx.old.conn }
     ensures step { IsStep S.Store tx.old.conn tx.new.conn result }
+    ensures refused { HasCleanDisk (state S.Store tx.new.conn.now) → IfErr result (IsRefused S.Store StoreKind.Queue tx.old.conn.now tx.new.conn.now) }
     ensures made { HasCleanDisk (state S.Store tx.new.conn.now) → OnOk result ((state S.Store tx.old.conn.now).now.schema ≡ no_schema → HasLanes (state S.Store tx.new.conn.now).now (map fresh capacities.now)) }
 {
     make_tables(tx, StoreKind::Queue)?;
@@ -78,6 +83,7 @@ pub(crate) fn write_tables<S: Alter>(
     ensures ok { HasCleanDisk (state S.Store conn.new) → (state S.Store conn.old).now.schema ≡ no_schema → OnOk result (Stands (state S.Store conn.new) (empty_stock capacities.now)) }
     ensures schema { HasCleanDisk (state S.Store conn.new) → (state S.Store conn.old).now.schema ≡ no_schema → OnOk result ((state S.Store conn.new).committed.schema ≡ made_queue) }
     ensures err { HasCleanDisk (state S.Store conn.new) → IsTrue (state S.Store conn.new).is_open → OnErr result (IsTrue (state S.Store conn.old).is_open × ((state S.Store conn.new).committed ≡ (state S.Store conn.old).committed)) }
+    ensures refused { HasCleanDisk (state S.Store conn.new) → IfErr result (IsRefused S.Store StoreKind.Queue conn.old conn.new) }
     ensures survives { Survives (state S.Store conn.old) (state S.Store conn.new) (λ db. (state S.Store conn.old).now.schema ≡ no_schema → HoldsStock db (empty_stock capacities.now)) }
 {
     let mut tx = conn.transaction();

@@ -1,12 +1,13 @@
 //! What an append, a release or an emptying writes of a queue, each in one transaction.
 
-ghost use Rattle.std.specs.Prelude.{◌≡◌, ◌≤◌, ◌<◌, ◌+◌, ◌^◌, Bool, false, IsTrue, OnOk, OnErr, All, List, length};
+ghost use Rattle.std.specs.Prelude.{◌≡◌, ◌≤◌, ◌<◌, ◌+◌, ◌^◌, Bool, false, IsTrue, OnOk, OnErr, All, List, length, IfErr};
 ghost use Rattle.sqlite.specs.Held.{state};
 ghost use Rattle.sqlite.specs.State.{HasCleanDisk, Survives};
 ghost use Rattle.dnp_objects.specs.declared.limits.TheConstants as limits;
 ghost use Rattle.dnp_eventbuf.specs.Carried.{IsCarried};
 ghost use Rattle.dnp_eventbuf.specs.Sound.{IsSound};
 ghost use Rattle.dnp_eventbuf.specs.Stock.{Stock, with_rows};
+ghost use Rattle.dnp_store.specs.Refusals.{IsRefused};
 ghost use Rattle.dnp_store.specs.steps.Inside.{IsInside, IsStep};
 ghost use Rattle.dnp_store.specs.Kept.{Stands};
 ghost use Rattle.dnp_store.specs.QueueTables.{Figures, HoldsQueue, HoldsStock};
@@ -14,6 +15,7 @@ ghost use Rattle.dnp_store.specs.steps.Steps.{IsTrimmed, all_added};
 
 use crate::cells::MANY;
 use crate::queue_statements::{insert, insert_many, note, take};
+use crate::store_kind::StoreKind;
 use dnp_eventbuf::laws::a_lane_keeps_its_latest_rows;
 use dnp_eventbuf::{LaneRow, PlainLanes};
 use dnp_objects::LANES;
@@ -24,6 +26,7 @@ fn insert_each<S: Alter>(tx: &mut Transaction<'_, S>, rows: &[LaneRow]) -> Resul
     requires inside { IsInside S.Store tx.old.conn }
     requires carried { All IsCarried rows.now }
     ensures step { IsStep S.Store tx.old.conn tx.new.conn result }
+    ensures refused { HasCleanDisk (state S.Store tx.new.conn.now) → IfErr result (IsRefused S.Store StoreKind.Queue tx.old.conn.now tx.new.conn.now) }
     ensures added { HasCleanDisk (state S.Store tx.new.conn.now) → OnOk result ((s : Stock) (figures : List Figures) → length s.lanes ≡ limits.LANES
         → HoldsQueue (state S.Store tx.old.conn.now).now s figures → HoldsQueue (state S.Store tx.new.conn.now).now (all_added s rows.now) figures) }
 {
@@ -38,6 +41,7 @@ fn insert_block<S: Alter>(tx: &mut Transaction<'_, S>, rows: &[LaneRow]) -> Resu
     requires inside { IsInside S.Store tx.old.conn }
     requires carried { All IsCarried rows.now }
     ensures step { IsStep S.Store tx.old.conn tx.new.conn result }
+    ensures refused { HasCleanDisk (state S.Store tx.new.conn.now) → IfErr result (IsRefused S.Store StoreKind.Queue tx.old.conn.now tx.new.conn.now) }
     ensures added { HasCleanDisk (state S.Store tx.new.conn.now) → OnOk result ((s : Stock) (figures : List Figures) → length s.lanes ≡ limits.LANES
         → HoldsQueue (state S.Store tx.old.conn.now).now s figures → HoldsQueue (state S.Store tx.new.conn.now).now (all_added s rows.now) figures) }
 {
@@ -53,6 +57,7 @@ fn insert_all<S: Alter>(tx: &mut Transaction<'_, S>, rows: &[LaneRow]) -> Result
     requires inside { IsInside S.Store tx.old.conn }
     requires carried { All IsCarried rows.now }
     ensures step { IsStep S.Store tx.old.conn tx.new.conn result }
+    ensures refused { HasCleanDisk (state S.Store tx.new.conn.now) → IfErr result (IsRefused S.Store StoreKind.Queue tx.old.conn.now tx.new.conn.now) }
     ensures added { HasCleanDisk (state S.Store tx.new.conn.now) → OnOk result ((s : Stock) (figures : List Figures) → length s.lanes ≡ limits.LANES
         → HoldsQueue (state S.Store tx.old.conn.now).now s figures → HoldsQueue (state S.Store tx.new.conn.now).now (all_added s rows.now) figures) }
 {
@@ -75,6 +80,7 @@ fn trim<S: Alter>(
     requires after { IsSound (with_rows lanes.now rows.now) }
     requires few { lanes.now.last_id + length rows.now ≤ 2 ^ 62 }
     ensures step { IsStep S.Store tx.old.conn tx.new.conn result }
+    ensures refused { HasCleanDisk (state S.Store tx.new.conn.now) → IfErr result (IsRefused S.Store StoreKind.Queue tx.old.conn.now tx.new.conn.now) }
     ensures trimmed { HasCleanDisk (state S.Store tx.new.conn.now) → OnOk result ((raised : Bool)
         → IsTrimmed (state S.Store tx.old.conn.now).now lanes.now rows.now raised number → IsTrimmed (state S.Store tx.new.conn.now).now lanes.now rows.now raised (number + 1)) }
 {
@@ -104,6 +110,7 @@ fn trim_all<S: Alter>(
     requires after { IsSound (with_rows lanes.now rows.now) }
     requires few { lanes.now.last_id + length rows.now ≤ 2 ^ 62 }
     ensures step { IsStep S.Store tx.old.conn tx.new.conn result }
+    ensures refused { HasCleanDisk (state S.Store tx.new.conn.now) → IfErr result (IsRefused S.Store StoreKind.Queue tx.old.conn.now tx.new.conn.now) }
     ensures trimmed { HasCleanDisk (state S.Store tx.new.conn.now) → OnOk result ((raised : Bool)
         → IsTrimmed (state S.Store tx.old.conn.now).now lanes.now rows.now raised 0 → IsTrimmed (state S.Store tx.new.conn.now).now lanes.now rows.now raised limits.LANES) }
 {
@@ -127,6 +134,7 @@ pub(crate) fn write_append<S: Alter>(
     ensures idle { conn.new.in_transaction ≡ false }
     ensures ok { HasCleanDisk (state S.Store conn.new) → Stands (state S.Store conn.old) lanes.now → OnOk result (Stands (state S.Store conn.new) (with_rows lanes.now rows.now)) }
     ensures err { HasCleanDisk (state S.Store conn.new) → IsTrue (state S.Store conn.new).is_open → OnErr result (IsTrue (state S.Store conn.old).is_open × ((state S.Store conn.new).committed ≡ (state S.Store conn.old).committed)) }
+    ensures refused { HasCleanDisk (state S.Store conn.new) → IfErr result (IsRefused S.Store StoreKind.Queue conn.old conn.new) }
     ensures survives { Survives (state S.Store conn.old) (state S.Store conn.new) (λ db. Stands (state S.Store conn.old) lanes.now → HoldsStock db (with_rows lanes.now rows.now)) }
 {
     prove!(conn.is_autocommit());

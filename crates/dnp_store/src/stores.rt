@@ -1,12 +1,14 @@
 //! What all stores do alike inside a transaction: they look at the number of their form and at the last id
 //! used, and make the tables that each of them begins with.
 
-ghost use Rattle.std.specs.Prelude.{◌≡◌, ℕ, List, IsTrue, false, OnOk, OnErr, IfOk, []};
+ghost use Rattle.std.specs.Prelude.{◌≡◌, ℕ, List, IsTrue, false, OnOk, OnErr, IfOk, [], ◌≢◌, Err, IfErr, ℤ, codes};
 ghost use Rattle.sqlite.specs.Held.{state};
+ghost use Rattle.sqlite.specs.Order.{Row as SqlRow};
 ghost use Rattle.sqlite.specs.State.{HasCleanDisk, Shown, Survives};
+ghost use Rattle.dnp_store.specs.Refusals.{IsRefused};
 ghost use Rattle.dnp_store.specs.steps.Inside.{IsInside, IsStep};
 ghost use Rattle.dnp_store.specs.QueueTables.{IsForm1};
-ghost use Rattle.dnp_store.specs.steps.Shown.{ShowsCount};
+ghost use Rattle.dnp_store.specs.steps.Shown.{ShowsCount, ShowsForm1};
 ghost use Rattle.dnp_store.specs.steps.Stores.{HasForm, HasNumber, HasTables, IsFresh, Reads};
 ghost use Rattle.dnp_store.specs.Tables.{IsCounted, no_schema};
 
@@ -31,6 +33,9 @@ pub(crate) fn read_form<S: Alter>(tx: &mut Transaction<'_, S>) -> Result<(), Unr
     ensures step { IsStep S.Store tx.old.conn tx.new.conn result }
     ensures open { HasCleanDisk (state S.Store tx.new.conn.now) → OnOk result (IsTrue (state S.Store tx.old.conn.now).is_open) }
     ensures read { HasCleanDisk (state S.Store tx.new.conn.now) → OnOk result ((kind : StoreKind) → Reads kind (state S.Store tx.old.conn.now) (state S.Store tx.new.conn.now) (λ db. IsForm1 (db 0))) }
+    ensures named { result ≢ Err Unread.Memory }
+    ensures wrong { HasCleanDisk (state S.Store tx.new.conn.now) → result ≡ Err Unread.Form → (rows : List SqlRow)
+        × Shown (codes "SELECT rowid, number FROM form ORDER BY rowid") [] (state S.Store tx.old.conn.now) (state S.Store tx.new.conn.now) rows × ((id : ℤ) → ShowsForm1 rows id → ⊥) }
 {
     let rows = list(tx, "SELECT rowid, number FROM form ORDER BY rowid")?;
     match form1(&rows) {
@@ -57,6 +62,7 @@ pub(crate) fn read_counts<S: Alter>(tx: &mut Transaction<'_, S>) -> Result<Vec<R
 fn make_form<S: Alter>(tx: &mut Transaction<'_, S>) -> Result<(), Error>
     requires inside { IsInside S.Store tx.old.conn }
     ensures step { IsStep S.Store tx.old.conn tx.new.conn result }
+    ensures refused { HasCleanDisk (state S.Store tx.new.conn.now) → IfErr result (λ e. (kind : StoreKind) → IsRefused S.Store kind tx.old.conn.now tx.new.conn.now e) }
     ensures made { HasCleanDisk (state S.Store tx.new.conn.now) → OnOk result ((state S.Store tx.old.conn.now).now.schema ≡ no_schema → HasForm (state S.Store tx.new.conn.now).now) }
 {
     tx.execute(
@@ -70,6 +76,7 @@ fn make_form<S: Alter>(tx: &mut Transaction<'_, S>) -> Result<(), Error>
 fn make_rows<S: Alter>(tx: &mut Transaction<'_, S>, kind: StoreKind) -> Result<(), Error>
     requires inside { IsInside S.Store tx.old.conn }
     ensures step { IsStep S.Store tx.old.conn tx.new.conn result }
+    ensures refused { HasCleanDisk (state S.Store tx.new.conn.now) → IfErr result (IsRefused S.Store kind tx.old.conn.now tx.new.conn.now) }
     ensures made { HasCleanDisk (state S.Store tx.new.conn.now) → OnOk result (HasForm (state S.Store tx.old.conn.now).now → HasTables kind (state S.Store tx.new.conn.now).now) }
 {
     tx.execute(rows_text(kind), &[])?;
@@ -80,6 +87,7 @@ fn make_rows<S: Alter>(tx: &mut Transaction<'_, S>, kind: StoreKind) -> Result<(
 fn put_number<S: Alter>(tx: &mut Transaction<'_, S>) -> Result<(), Error>
     requires inside { IsInside S.Store tx.old.conn }
     ensures step { IsStep S.Store tx.old.conn tx.new.conn result }
+    ensures refused { HasCleanDisk (state S.Store tx.new.conn.now) → IfErr result (λ e. (kind : StoreKind) → IsRefused S.Store kind tx.old.conn.now tx.new.conn.now e) }
     ensures made { HasCleanDisk (state S.Store tx.new.conn.now) → OnOk result ((kind : StoreKind) → HasTables kind (state S.Store tx.old.conn.now).now → HasNumber kind (state S.Store tx.new.conn.now).now) }
 {
     tx.execute("INSERT INTO form VALUES (1)", &[])?;
@@ -93,6 +101,7 @@ pub(crate) fn make_tables<S: Alter>(
 ) -> Result<(), Error>
     requires inside { IsInside S.Store tx.old.conn }
     ensures step { IsStep S.Store tx.old.conn tx.new.conn result }
+    ensures refused { HasCleanDisk (state S.Store tx.new.conn.now) → IfErr result (IsRefused S.Store kind tx.old.conn.now tx.new.conn.now) }
     ensures made { HasCleanDisk (state S.Store tx.new.conn.now) → OnOk result ((state S.Store tx.old.conn.now).now.schema ≡ no_schema → HasNumber kind (state S.Store tx.new.conn.now).now) }
 {
     make_form(tx)?;
@@ -105,6 +114,7 @@ pub(crate) fn make_tables<S: Alter>(
 pub(crate) fn keep_probe<S: Alter>(tx: &mut Transaction<'_, S>) -> Result<(), Error>
     requires inside { IsInside S.Store tx.old.conn }
     ensures step { IsStep S.Store tx.old.conn tx.new.conn result }
+    ensures refused { HasCleanDisk (state S.Store tx.new.conn.now) → IfErr result (λ e. (kind : StoreKind) → IsRefused S.Store kind tx.old.conn.now tx.new.conn.now e) }
     ensures same { HasCleanDisk (state S.Store tx.new.conn.now) → OnOk result ((state S.Store tx.new.conn.now).now ≡ (state S.Store tx.old.conn.now).now) }
 {
     let _nothing = tx.prepare("")?;
@@ -115,6 +125,7 @@ pub(crate) fn keep_probe<S: Alter>(tx: &mut Transaction<'_, S>) -> Result<(), Er
 fn make_store<S: Alter>(tx: &mut Transaction<'_, S>, kind: StoreKind) -> Result<(), Error>
     requires inside { IsInside S.Store tx.old.conn }
     ensures step { IsStep S.Store tx.old.conn tx.new.conn result }
+    ensures refused { HasCleanDisk (state S.Store tx.new.conn.now) → IfErr result (IsRefused S.Store kind tx.old.conn.now tx.new.conn.now) }
     ensures made { HasCleanDisk (state S.Store tx.new.conn.now) → OnOk result ((state S.Store tx.old.conn.now).now.schema ≡ no_schema → HasNumber kind (state S.Store tx.new.conn.now).now) }
 {
     make_tables(tx, kind)?;
@@ -129,6 +140,7 @@ pub(crate) fn write_tables<S: Alter>(conn: &mut Connection<S>, kind: StoreKind) 
     ensures ok { HasCleanDisk (state S.Store conn.new) → (state S.Store conn.old).now.schema ≡ no_schema
         → OnOk result (IsTrue (state S.Store conn.new).is_open × HasNumber kind (state S.Store conn.new).committed) }
     ensures err { HasCleanDisk (state S.Store conn.new) → IsTrue (state S.Store conn.new).is_open → OnErr result (IsTrue (state S.Store conn.old).is_open × ((state S.Store conn.new).committed ≡ (state S.Store conn.old).committed)) }
+    ensures refused { HasCleanDisk (state S.Store conn.new) → IfErr result (IsRefused S.Store kind conn.old conn.new) }
     ensures survives { Survives (state S.Store conn.old) (state S.Store conn.new) (λ db. (state S.Store conn.old).now.schema ≡ no_schema → IsFresh db) }
 {
     let mut tx = conn.transaction();

@@ -1,5 +1,5 @@
 -- Words of private steps: what queries show of a journal's tables.
-use Rattle.std.specs.Prelude.{◌≡◌, ℕ, ◌<◌, ◌≤◌, pos, List, [], ◌∷◌, ◌++◌, map, length, slice_index_or, None}
+use Rattle.std.specs.Prelude.{◌≡◌, ℕ, ◌<◌, ◌≤◌, ◌^◌, pos, List, [], ◌∷◌, ◌++◌, map, length, slice_index_or, None, IfSome}
 use Rattle.std.specs.List.{AllByRecursion}
 use Rattle.std.specs.List.Sorted.{IsPermutation}
 use Rattle.sqlite.specs.declared.types.Value.TheVariants.{Int}
@@ -8,7 +8,7 @@ use Rattle.sqlite.specs.Tree.{Trees, IsAscending}
 use Rattle.sqlite.specs.Effect.{Database}
 use Rattle.dnp_objects.specs.declared.row.Kind.TheVariants.{Binary}
 use Rattle.dnp_objects.specs.Lanes.{kind_number}
-use Rattle.dnp_objects.specs.declared.limits.TheConstants.{MAX_ID}
+use Rattle.dnp_objects.specs.declared.limits.TheConstants.{MAX_ID, MAX_TIME}
 use Rattle.dnp_eventbuf.specs.declared.numbered.Numbered.{Numbered}
 use Rattle.dnp_eventbuf.specs.Archive.{Archive, rows_over}
 use Rattle.dnp_store.specs.Tables.{or_null}
@@ -31,6 +31,18 @@ no_event = record { id = 0; row = record { kind = Binary; index = 0; flags = 0; 
 pub record ShowEvents (rows : List SqlRow) (events : List Numbered) : Type 0 where
   pub long : length rows ≡ length events
   pub each : (k : ℕ) → k < length events → ShowsEvent (slice_index_or rows k []) (slice_index_or events k no_event)
+
+-- a row shows an event, each value in its column's range
+pub record IsStored (row : SqlRow) (e : Numbered) : Type 0 where
+  pub wide : 5 < length row
+  pub shown : ShowsEvent row e
+  pub index : e.row.index < 2 ^ 16
+  pub flags : e.row.flags < 2 ^ 8
+  pub time : IfSome e.row.time (λ time. time < MAX_TIME)
+
+-- some row shows none
+abbrev pub HasNoEvent : List SqlRow → Type 0
+HasNoEvent rows = (k : ℕ) × (k < length rows) × ((e : Numbered) → IsStored (slice_index_or rows k []) e → ⊥)
 
 -- rows that show only the events over an id
 abbrev pub ShowOver : List SqlRow → Archive → ℕ → ℕ → Type 0

@@ -1,5 +1,5 @@
 -- Words of private steps: what queries show of tables, and the lanes that are put together from it.
-use Rattle.std.specs.Prelude.{◌≡◌, ◌⊎◌, ℕ, ◌<◌, ◌≤◌, ℤ, pos, true, if◌then◌else◌, List, [], ◌∷◌, map, length, slice_index_or}
+use Rattle.std.specs.Prelude.{◌≡◌, ◌≢◌, ◌⊎◌, ℕ, ◌<◌, ◌≤◌, ℤ, pos, true, if◌then◌else◌, List, [], ◌∷◌, map, length, slice_index_or}
 use Rattle.std.specs.List.{AllByRecursion}
 use Rattle.std.specs.List.Sorted.{IsPermutation}
 use Rattle.sqlite.specs.declared.types.Value.TheVariants.{Int, Text}
@@ -45,6 +45,11 @@ pub record AreNine (figures : List Figures) : Type 0 where
 pub record ShowNine (rows : List SqlRow) (figures : List Figures) : Type 0 where
   pub rows_nine : length rows ≡ LANES
   pub each : (k : ℕ) → k < LANES → ShowsFigures (slice_index_or rows k []) k (slice_index_or figures k no_figures)
+
+-- they are not nine, or some row doesn't show its lane's
+abbrev pub LackNine : List SqlRow → Type 0
+LackNine rows =
+    (length rows ≢ LANES) ⊎ ((k : ℕ) × (k < LANES) × ((f : Figures) → ShowsFigures (slice_index_or rows k []) k f → AreInRange f → ⊥))
 
 -- lanes without rows
 pub record IsBegun (s : Stock) (figures : List Figures) (last : ℕ) : Type 0 where

@@ -1,4 +1,4 @@
-use Rattle.std.proofs.Common.{rules, pos, ap, ◌∙◌, Ok, arith, subst}
+use Rattle.std.proofs.Common.{rules, pos, ap, ◌∙◌, Ok, arith, subst, refl}
 use Rattle.std.proofs.lemmas.Int.{to_z-of_z}
 use mir.Val.{SFits}
 use mir.Syntax.{w64}
@@ -7,6 +7,8 @@ use Rattle.sqlite.specs.Held.{state}
 use Rattle.sqlite.specs.State.{HasCleanDisk, Executes}
 use Rattle.dnp_store.proofs.BookStatements.{insert_text}
 use Rattle.dnp_store.proofs.BookHolding.{insert_holds, insert_bound, entry_for}
+use Rattle.dnp_store.specs.declared.store_kind.StoreKind.TheVariants.{Book}
+use Rattle.dnp_store.proofs.Refusing.{by_statement}
 use Rattle.dnp_store.proofs.book_writing.insert.Goals as goal
 
 pub returns-clause-added : goal.returns-clause-added
@@ -27,3 +29,10 @@ returns-clause-added g c clean book sound holds =
     (c.params-to_sql-8.ensures ∙ ap Int (to_z-of_z w64 columns.value fits ∙ numbers.2)) in
     insert_holds old new book c.args.target c.in_ok-execute.field-0 c.args.command.now sound
     (subst (λ ps. Executes insert_text ps old new (Ok c.in_ok-execute.field-0)) given ran.0) holds
+
+pub returns-in_err-execute-clause-refused : goal.returns-in_err-execute-clause-refused
+returns-in_err-execute-clause-refused g c clean =
+    let early : HasCleanDisk (state g.S.Store c.args.tx.now.conn.now) = omega (arith, clean, c.execute.ensures.survives.clean) in
+    let here = by_statement g.S.Store Book c.args.tx.now.conn.now c.execute.new.self.conn.now _ _ _ (0, refl) (c.requires.inside early)
+    (c.in_err-execute.ensures.runs clean (c.requires.inside early)) in
+    search (rules, here)

@@ -10,6 +10,8 @@ use Rattle.dnp_store.specs.BookKept.{Stands}
 use Rattle.dnp_store.specs.BookTables.{HoldsBook, IsBook}
 use Rattle.dnp_store.proofs.Statements.{finished, survives_commit}
 use Rattle.dnp_store.proofs.BookStanding.{stands_if}
+use Rattle.dnp_store.specs.declared.store_kind.StoreKind.TheVariants.{Book}
+use Rattle.dnp_store.proofs.Refusing.{refused_inside, by_commit}
 use Rattle.dnp_store.proofs.book_writing.write_turned.Goals as goal
 
 abbrev turned : Ledger → ℕ → Control → Ledger
@@ -47,3 +49,22 @@ returns-clause-survives g c =
     (survives_commit g.S.Store old c.transaction-tx.result.conn.now mid end P c.transaction-tx.ensures.begun
     c.turn.ensures.step.survives c.commit.ensures.survives
     (λ clean a sound there stood. (let early : HasCleanDisk mid = omega (arith, clean, c.commit.ensures.survives.clean) in (done g c a sound there early stood).holds)))
+
+pub returns-in_err-turn-clause-refused : goal.returns-in_err-turn-clause-refused
+returns-in_err-turn-clause-refused g c clean =
+    let same : c.drop-tx.new.self.0 ≡ c.conn-1.given.0 = search rules in
+    let late : HasCleanDisk (state g.S.Store c.drop-tx.new.self.0) = subst (λ h. HasCleanDisk (state g.S.Store h)) (sym same) clean in
+    let early : HasCleanDisk (state g.S.Store c.turn.new.tx.conn.now) = omega (arith, late, c.drop-tx.ensures.survives.clean) in
+    let here = refused_inside g.S.Store Book c.args.conn.now c.transaction-tx.result.conn.now c.turn.new.tx.conn.now c.drop-tx.new.self.0 _ _
+    c.transaction-tx.ensures.begun same (c.in_err-turn.ensures.refused early) c.drop-tx.ensures.survives in
+    search (rules, here)
+
+pub returns-clause-refused : goal.returns-clause-refused
+returns-clause-refused g c clean =
+    let mid = c.turn.new.tx.conn.now in
+    let end = c.commit.new.self.0 in
+    let same : end ≡ c.conn-2-1.given.0 = search rules in
+    let late : HasCleanDisk (state g.S.Store end) = subst (λ h. HasCleanDisk (state g.S.Store h)) (sym same) clean in
+    let early : HasCleanDisk (state g.S.Store mid) = omega (arith, late, c.commit.ensures.survives.clean) in
+    by_commit g.S.Store Book c.args.conn.now c.transaction-tx.result.conn.now mid end _ c.commit.result c.transaction-tx.ensures.begun same
+    c.turn.ensures.step.survives (c.in_ok-turn.ensures.step.inside early) (c.commit.ensures.err late)

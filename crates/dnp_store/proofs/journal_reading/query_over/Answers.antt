@@ -1,10 +1,12 @@
-use Rattle.std.proofs.Common.{not, IsTrue, ap, ◌∙◌, arith}
+use Rattle.std.proofs.Common.{not, IsTrue, ap, ◌∙◌, arith, refl}
 use mir.Syntax.{w64}
 use Rattle.std.proofs.lemmas.Int.{to_z_pos}
 use Rattle.sqlite.specs.declared.types.Value.TheVariants.{Int}
 use Rattle.dnp_store.proofs.QueueSteps.{delete_bound}
 use Rattle.sqlite.specs.Held.{state}
 use Rattle.dnp_store.proofs.JournalReading.{read_if, open_if, same_if}
+use Rattle.dnp_store.specs.declared.store_kind.StoreKind.TheVariants.{Journal}
+use Rattle.dnp_store.proofs.Refusing.{by_query, by_rows}
 use Rattle.dnp_store.proofs.journal_reading.query_over.Goals as goal
 
 idle : (g : _) (c : goal.After-query_all g) → IsTrue c.is_autocommit.result
@@ -30,3 +32,11 @@ returns-clause-same g c clean =
     (delete_bound _ _ c.args.from c.args.most (c.params-to_sql.ensures ∙ ap Int (to_z_pos w64 c.args.from (omega (arith, c.requires.from))))
     (c.params-to_sql-2.ensures ∙ ap Int (to_z_pos w64 c.args.most (omega (arith, c.requires.most)))))
     (c.is_autocommit.ensures.settled (idle g c)) c.query_all.result (c.query_all.ensures.ok clean) (c.query_all.ensures.err clean)
+
+pub returns-clause-refused : goal.returns-clause-refused
+returns-clause-refused g c clean =
+    by_query g.S.Store Journal c.args.conn.now c.query_all.new.self _ _ c.query_all.result (2, refl) (c.query_all.ensures.err clean)
+
+pub returns-clause-shown : goal.returns-clause-shown
+returns-clause-shown g c clean =
+    by_rows _ Journal (state g.S.Store c.args.conn.now) (state g.S.Store c.query_all.new.self) _ _ c.query_all.result (2, refl) (c.query_all.ensures.ok clean)

@@ -1,4 +1,4 @@
-use Rattle.std.proofs.Common.{rules, pos, ap, ◌∙◌, Ok, arith, subst}
+use Rattle.std.proofs.Common.{rules, pos, ap, ◌∙◌, Ok, arith, subst, refl}
 use Rattle.std.proofs.lemmas.Int.{to_z-of_z}
 use mir.Val.{SFits}
 use mir.Syntax.{w64}
@@ -9,6 +9,8 @@ use Rattle.sqlite.specs.State.{HasCleanDisk, Executes}
 use Rattle.dnp_store.proofs.JournalStatements.{insert_text}
 use Rattle.dnp_store.proofs.JournalHolding.{insert_holds, insert_bound}
 use Rattle.dnp_store.proofs.QueueSteps.{timed}
+use Rattle.dnp_store.specs.declared.store_kind.StoreKind.TheVariants.{Journal}
+use Rattle.dnp_store.proofs.Refusing.{by_statement}
 use Rattle.dnp_store.proofs.journal_writing.insert.Goals as goal
 
 pub whole_time-time-requires : goal.whole_time-time-requires
@@ -27,3 +29,10 @@ returns-clause-added g c clean a holds =
     (c.params-to_sql-4.ensures ∙ ap Int (to_z-of_z w64 x.value fits)) (c.params-to_sql-5.ensures ∙ ap (or_null Int) c.whole_time-time.ensures) in
     insert_holds old new a x c.in_ok-execute.field-0
     (subst (λ ps. Executes insert_text ps old new (Ok c.in_ok-execute.field-0)) given ran.0) holds
+
+pub returns-in_err-execute-clause-refused : goal.returns-in_err-execute-clause-refused
+returns-in_err-execute-clause-refused g c clean =
+    let early : HasCleanDisk (state g.S.Store c.args.tx.now.conn.now) = omega (arith, clean, c.execute.ensures.survives.clean) in
+    let here = by_statement g.S.Store Journal c.args.tx.now.conn.now c.execute.new.self.conn.now _ _ _ (0, refl) (c.requires.inside early)
+    (c.in_err-execute.ensures.runs clean (c.requires.inside early)) in
+    search (rules, here)

@@ -1,4 +1,4 @@
-use Rattle.std.proofs.Common.{take, arith, sym, ap, subst, ◌∙◌}
+use Rattle.std.proofs.Common.{take, arith, sym, ap, subst, ◌∙◌, rules}
 use Rattle.std.proofs.lemmas.List.{take_more}
 use Rattle.sqlite.specs.State.{HasCleanDisk}
 use Rattle.sqlite.specs.Held.{state}
@@ -6,6 +6,8 @@ use Rattle.dnp_eventbuf.specs.Archive.{with_events}
 use Rattle.dnp_store.specs.JournalTables.{IsJournal}
 use Rattle.dnp_store.proofs.JournalHolding.{with-append}
 use Rattle.dnp_store.proofs.Stepping.{step_then}
+use Rattle.dnp_store.specs.declared.store_kind.StoreKind.TheVariants.{Journal}
+use Rattle.dnp_store.proofs.Refusing.{refused_after}
 use Rattle.dnp_store.proofs.journal_writing.insert_each.Goals as goal
 
 pub loop-row-preserved : goal.loop-row-preserved
@@ -22,3 +24,9 @@ loop-row-preserved g c =
           subst (λ t. IsJournal new.now t)
           (with-append a before _ ∙ sym (ap (with_events a) (take_more c.args.events.now c.loop-row.row-index _ c.loop-row-test.true))) did;
     }
+
+pub returns-in_err-insert-clause-refused : goal.returns-in_err-insert-clause-refused
+returns-in_err-insert-clause-refused g c clean =
+    let here = refused_after g.S.Store Journal c.args.tx.now.conn.now c.loop-row.tx.conn.now c.insert.new.tx.conn.now _ c.loop-row.invariant.step.survives
+    (c.in_err-insert.ensures.refused clean) in
+    search (rules, here)

@@ -1,10 +1,12 @@
-use Rattle.std.proofs.Common.{◌≡◌, ◌<◌, false, arith, sym, ◌∙◌}
+use Rattle.std.proofs.Common.{◌≡◌, ◌<◌, false, arith, sym, ◌∙◌, rules}
 use Rattle.sqlite.specs.State.{HasCleanDisk}
 use Rattle.sqlite.specs.Held.{state}
 use Rattle.dnp_objects.specs.declared.limits.TheConstants.{LANES}
 use Rattle.dnp_store.specs.steps.Steps.{noted}
 use Rattle.dnp_store.proofs.Releasing.{note_step, lowered_step, none_raised}
 use Rattle.dnp_store.proofs.Stepping.{step_then}
+use Rattle.dnp_store.specs.declared.store_kind.StoreKind.TheVariants.{Queue}
+use Rattle.dnp_store.proofs.Refusing.{refused_after}
 use Rattle.dnp_store.proofs.queue_release.lower_all.Goals as goal
 
 pub loop-number-preserved : goal.loop-number-preserved
@@ -32,3 +34,9 @@ returns-clause-lowered g c clean s figures nine same held =
     let so = c.loop-number.invariant.lowered clean s figures nine same held in
     let all : c.loop-number.number ≡ LANES = omega arith in
     (so.0, so.1, none_raised so.0 (λ k low. so.2 k (omega (arith, so.1.lanes.nine))))
+
+pub returns-in_err-note-clause-refused : goal.returns-in_err-note-clause-refused
+returns-in_err-note-clause-refused g c clean =
+    let here = refused_after g.S.Store Queue c.args.tx.now.conn.now c.loop-number.tx.conn.now c.note.new.tx.conn.now _ c.loop-number.invariant.step.survives
+    (c.in_err-note.ensures.refused clean) in
+    search (rules, here)

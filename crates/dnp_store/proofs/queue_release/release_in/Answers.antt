@@ -6,6 +6,8 @@ use Rattle.dnp_store.specs.QueueTables.{IsQueue}
 use Rattle.dnp_store.specs.steps.Steps.{left, released}
 use Rattle.dnp_store.proofs.Trimming.{of_queue}
 use Rattle.dnp_store.proofs.Releasing.{lost_left, nine_left, kept_mark, lowered_mark}
+use Rattle.dnp_store.specs.declared.store_kind.StoreKind.TheVariants.{Queue}
+use Rattle.dnp_store.proofs.Refusing.{refused_after}
 use Rattle.dnp_store.proofs.queue_release.release_in.Goals as goal
 
 pub returns-in_ok-lower_all-clause-released : goal.returns-in_ok-lower_all-clause-released
@@ -32,3 +34,9 @@ returns-else-lower-clause-released g c clean held =
     let is : c.args.lower ≡ false = search rules in
     let took = c.in_ok-take_all.ensures.taken clean held.holds.figures (of_queue old.now s held) in
     subst (λ b. IsQueue new.now (released s upto b)) (sym is) (kept_mark old.now s upto held new.now took)
+
+pub returns-in_err-lower_all-clause-refused : goal.returns-in_err-lower_all-clause-refused
+returns-in_err-lower_all-clause-refused g c clean =
+    let here = refused_after g.S.Store Queue c.args.tx.now.conn.now c.take_all.new.tx.conn.now c.lower_all.new.tx.conn.now _ c.take_all.ensures.step.survives
+    (c.in_err-lower_all.ensures.refused clean) in
+    search (rules, here)

@@ -7,6 +7,8 @@ use Rattle.dnp_store.specs.steps.Steps.{left, mixed}
 use Rattle.dnp_store.proofs.Releasing.{cut_step, nine_left}
 use Rattle.dnp_store.proofs.Trimming.{mixed_high, nine_mixed}
 use Rattle.dnp_store.proofs.Stepping.{step_then}
+use Rattle.dnp_store.specs.declared.store_kind.StoreKind.TheVariants.{Queue}
+use Rattle.dnp_store.proofs.Refusing.{refused_after}
 use Rattle.dnp_store.proofs.queue_release.take_all.Goals as goal
 
 pub loop-number-preserved : goal.loop-number-preserved
@@ -31,3 +33,9 @@ loop-number-preserved g c =
           subst (λ n. HoldsQueue new.now (mixed n s (left s upto)) figures) (sym (add-one number))
           (cut_step c.a_release_is_lane_by_lane.ensures new.now s upto figures number (min (get_or upto number 0) MAX_ID) sound nine_u low refl did);
     }
+
+pub returns-in_err-take_some-clause-refused : goal.returns-in_err-take_some-clause-refused
+returns-in_err-take_some-clause-refused g c clean =
+    let here = refused_after g.S.Store Queue c.args.tx.now.conn.now c.loop-number.tx.conn.now c.take_some.new.tx.conn.now _ c.loop-number.invariant.step.survives
+    (c.in_err-take_some.ensures.refused clean) in
+    search (rules, here)

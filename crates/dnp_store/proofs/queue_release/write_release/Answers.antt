@@ -8,6 +8,8 @@ use Rattle.dnp_store.specs.Kept.{Stands}
 use Rattle.dnp_store.specs.QueueTables.{IsQueue, HoldsStock}
 use Rattle.dnp_store.proofs.Statements.{finished, survives_commit}
 use Rattle.dnp_store.proofs.Standing.{stands_if}
+use Rattle.dnp_store.specs.declared.store_kind.StoreKind.TheVariants.{Queue}
+use Rattle.dnp_store.proofs.Refusing.{refused_inside, by_commit}
 use Rattle.dnp_store.proofs.queue_release.write_release.Goals as goal
 
 done : (g : _) (c : goal.After-conn-2-1 g) → HasCleanDisk (state g.S.Store c.release_in.new.tx.conn.now)
@@ -44,3 +46,22 @@ returns-clause-survives g c =
     (survives_commit g.S.Store old c.transaction-tx.result.conn.now mid end P c.transaction-tx.ensures.begun
     c.release_in.ensures.step.survives c.commit.ensures.survives
     (λ clean stood. (let early : HasCleanDisk mid = omega (arith, clean, c.commit.ensures.survives.clean) in (done g c early stood).holds)))
+
+pub returns-in_err-release_in-clause-refused : goal.returns-in_err-release_in-clause-refused
+returns-in_err-release_in-clause-refused g c clean =
+    let same : c.drop-tx.new.self.0 ≡ c.conn-1.given.0 = search rules in
+    let late : HasCleanDisk (state g.S.Store c.drop-tx.new.self.0) = subst (λ h. HasCleanDisk (state g.S.Store h)) (sym same) clean in
+    let early : HasCleanDisk (state g.S.Store c.release_in.new.tx.conn.now) = omega (arith, late, c.drop-tx.ensures.survives.clean) in
+    let here = refused_inside g.S.Store Queue c.args.conn.now c.transaction-tx.result.conn.now c.release_in.new.tx.conn.now c.drop-tx.new.self.0 _ _
+    c.transaction-tx.ensures.begun same (c.in_err-release_in.ensures.refused early) c.drop-tx.ensures.survives in
+    search (rules, here)
+
+pub returns-clause-refused : goal.returns-clause-refused
+returns-clause-refused g c clean =
+    let mid = c.release_in.new.tx.conn.now in
+    let end = c.commit.new.self.0 in
+    let same : end ≡ c.conn-2-1.given.0 = search rules in
+    let late : HasCleanDisk (state g.S.Store end) = subst (λ h. HasCleanDisk (state g.S.Store h)) (sym same) clean in
+    let early : HasCleanDisk (state g.S.Store mid) = omega (arith, late, c.commit.ensures.survives.clean) in
+    by_commit g.S.Store Queue c.args.conn.now c.transaction-tx.result.conn.now mid end _ c.commit.result c.transaction-tx.ensures.begun same
+    c.release_in.ensures.step.survives (c.in_ok-release_in.ensures.step.inside early) (c.commit.ensures.err late)

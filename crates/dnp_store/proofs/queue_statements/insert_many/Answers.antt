@@ -1,4 +1,4 @@
-use Rattle.std.proofs.Common.{Ok, length-set, map, ap, sym, subst, ◌∙◌, arith}
+use Rattle.std.proofs.Common.{Ok, length-set, map, ap, sym, subst, ◌∙◌, arith, rules, refl}
 use Rattle.std.proofs.lemmas.List.{take_all}
 use Rattle.std.proofs.lemmas.List.Elements.{recursion_from_All}
 use Rattle.sqlite.specs.Values.{bound}
@@ -10,6 +10,8 @@ use Rattle.dnp_store.proofs.QueueStatements.{insert_params}
 use Rattle.dnp_store.proofs.Holding.{queued_for}
 use Rattle.dnp_store.proofs.Sixteen.{given_all, given_more}
 use Rattle.dnp_store.proofs.QueueMany.{insert_text_16, holds_16}
+use Rattle.dnp_store.specs.declared.store_kind.StoreKind.TheVariants.{Queue}
+use Rattle.dnp_store.proofs.Refusing.{by_statement}
 use Rattle.dnp_store.proofs.queue_statements.insert_many.Goals as goal
 
 pub loop-number-preserved : goal.loop-number-preserved
@@ -40,3 +42,10 @@ returns-clause-added g c clean s figures nine holds =
     let ran = c.in_ok-execute.ensures.runs clean (c.requires.inside early) in
     holds_16 old new s figures xs c.in_ok-execute.field-0 nine c.requires.sixteen (recursion_from_All IsCarried xs c.requires.carried)
     (subst (λ ps. Executes insert_text_16 ps old new (Ok c.in_ok-execute.field-0)) (ap bound c.as_flattened.ensures.value ∙ given) ran.0) holds
+
+pub returns-in_err-execute-clause-refused : goal.returns-in_err-execute-clause-refused
+returns-in_err-execute-clause-refused g c clean =
+    let early : HasCleanDisk (state g.S.Store c.args.tx.now.conn.now) = omega (arith, clean, c.execute.ensures.survives.clean) in
+    let here = by_statement g.S.Store Queue c.args.tx.now.conn.now c.execute.new.self.conn.now _ _ _ (1, refl) (c.requires.inside early)
+    (c.in_err-execute.ensures.runs clean (c.requires.inside early)) in
+    search (rules, here)

@@ -1,7 +1,9 @@
-use Rattle.std.proofs.Common.{map, arith, sym, subst}
+use Rattle.std.proofs.Common.{map, arith, sym, subst, rules}
 use Rattle.sqlite.specs.State.{HasCleanDisk}
 use Rattle.sqlite.specs.Held.{state}
 use Rattle.dnp_store.specs.steps.Making.{HasLanes, fresh}
+use Rattle.dnp_store.specs.declared.store_kind.StoreKind.TheVariants.{Queue}
+use Rattle.dnp_store.proofs.Refusing.{refused_after}
 use Rattle.dnp_store.proofs.queue_tables.make_all.Goals as goal
 
 pub returns-clause-made : goal.returns-clause-made
@@ -14,3 +16,27 @@ returns-clause-made g c clean none =
     let clean_1 : HasCleanDisk numbered = omega (arith, clean_2, c.make_lanes.ensures.step.survives.clean) in
     subst (λ d. HasLanes d (map fresh c.args.capacities.now)) (sym (c.in_ok-keep_probe.ensures.same clean))
     (c.in_ok-put_lanes.ensures.made clean_3 (c.in_ok-make_lanes.ensures.made clean_2 (c.in_ok-make_tables.ensures.made clean_1 none)))
+
+pub returns-in_err-make_lanes-clause-refused : goal.returns-in_err-make_lanes-clause-refused
+returns-in_err-make_lanes-clause-refused g c clean =
+    let here = refused_after g.S.Store Queue c.args.tx.now.conn.now c.make_tables.new.tx.conn.now c.make_lanes.new.tx.conn.now _
+    c.make_tables.ensures.step.survives
+    (c.in_err-make_lanes.ensures.refused clean) in
+    search (rules, here)
+
+pub returns-in_err-put_lanes-clause-refused : goal.returns-in_err-put_lanes-clause-refused
+returns-in_err-put_lanes-clause-refused g c clean =
+    let here = refused_after g.S.Store Queue c.args.tx.now.conn.now c.make_tables.new.tx.conn.now c.put_lanes.new.tx.conn.now _
+    c.make_tables.ensures.step.survives
+    (refused_after g.S.Store Queue c.make_tables.new.tx.conn.now c.make_lanes.new.tx.conn.now c.put_lanes.new.tx.conn.now _ c.make_lanes.ensures.step.survives
+    (c.in_err-put_lanes.ensures.refused clean)) in
+    search (rules, here)
+
+pub returns-in_err-keep_probe-clause-refused : goal.returns-in_err-keep_probe-clause-refused
+returns-in_err-keep_probe-clause-refused g c clean =
+    let here = refused_after g.S.Store Queue c.args.tx.now.conn.now c.make_tables.new.tx.conn.now c.keep_probe.new.tx.conn.now _
+    c.make_tables.ensures.step.survives
+    (refused_after g.S.Store Queue c.make_tables.new.tx.conn.now c.make_lanes.new.tx.conn.now c.keep_probe.new.tx.conn.now _ c.make_lanes.ensures.step.survives
+    (refused_after g.S.Store Queue c.make_lanes.new.tx.conn.now c.put_lanes.new.tx.conn.now c.keep_probe.new.tx.conn.now _ c.put_lanes.ensures.step.survives
+    (c.in_err-keep_probe.ensures.refused clean Queue))) in
+    search (rules, here)

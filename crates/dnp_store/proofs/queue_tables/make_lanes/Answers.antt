@@ -1,7 +1,9 @@
-use Rattle.std.proofs.Common.{arith}
+use Rattle.std.proofs.Common.{arith, rules, refl}
 use Rattle.sqlite.specs.State.{HasCleanDisk}
 use Rattle.sqlite.specs.Held.{state}
 use Rattle.dnp_store.proofs.Creating.{created_lanes}
+use Rattle.dnp_store.specs.declared.store_kind.StoreKind.TheVariants.{Queue}
+use Rattle.dnp_store.proofs.Refusing.{by_making}
 use Rattle.dnp_store.proofs.queue_tables.make_lanes.Goals as goal
 
 pub returns-clause-made : goal.returns-clause-made
@@ -10,3 +12,10 @@ returns-clause-made g c clean has =
     let new = state g.S.Store c.execute.new.self.conn.now in
     let early : HasCleanDisk old = omega (arith, c.execute.ensures.survives.clean) in
     created_lanes old new c.in_ok-execute.field-0 has (c.in_ok-execute.ensures.runs clean (c.requires.inside early)).0
+
+pub returns-in_err-execute-clause-refused : goal.returns-in_err-execute-clause-refused
+returns-in_err-execute-clause-refused g c clean =
+    let early : HasCleanDisk (state g.S.Store c.args.tx.now.conn.now) = omega (arith, clean, c.execute.ensures.survives.clean) in
+    let here = by_making g.S.Store Queue c.args.tx.now.conn.now c.execute.new.self.conn.now _ _ _ (3, refl) (c.requires.inside early)
+    (c.in_err-execute.ensures.runs clean (c.requires.inside early)) in
+    search (rules, here)

@@ -6,6 +6,8 @@ use Rattle.dnp_objects.specs.declared.limits.TheConstants.{LANES}
 use Rattle.dnp_store.specs.steps.Making.{HasLanes, fresh}
 use Rattle.dnp_store.proofs.Filling.{length_fresh}
 use Rattle.dnp_store.proofs.Stepping.{step_then}
+use Rattle.dnp_store.specs.declared.store_kind.StoreKind.TheVariants.{Queue}
+use Rattle.dnp_store.proofs.Refusing.{refused_after}
 use Rattle.dnp_store.proofs.queue_tables.put_lanes.Goals as goal
 
 pub loop-number-preserved : goal.loop-number-preserved
@@ -27,3 +29,9 @@ loop-number-preserved g c =
           ap (map fresh) (take_more all number 0 (omega (arith, nine))) ∙ map-append fresh (take number all) (get_or all number 0 ∷ []) in
           subst (HasLanes new.now) (sym more) (c.in_ok-put_lane.ensures.made clean before at (was has));
     }
+
+pub returns-in_err-put_lane-clause-refused : goal.returns-in_err-put_lane-clause-refused
+returns-in_err-put_lane-clause-refused g c clean =
+    let here = refused_after g.S.Store Queue c.args.tx.now.conn.now c.loop-number.tx.conn.now c.put_lane.new.tx.conn.now _ c.loop-number.invariant.step.survives
+    (c.in_err-put_lane.ensures.refused clean) in
+    search (rules, here)

@@ -12,6 +12,8 @@ use Rattle.dnp_store.specs.Schemas.{made_queue}
 use Rattle.dnp_store.specs.QueueTables.{IsQueue, HoldsStock}
 use Rattle.dnp_store.proofs.Statements.{finished, second, survives_commit}
 use Rattle.dnp_store.proofs.Standing.{stands_if}
+use Rattle.dnp_store.specs.declared.store_kind.StoreKind.TheVariants.{Queue}
+use Rattle.dnp_store.proofs.Refusing.{refused_inside, by_commit}
 use Rattle.dnp_store.proofs.queue_tables.write_tables.Goals as goal
 
 done : (g : _) (c : goal.After-conn-2-1 g) → HasCleanDisk (state g.S.Store c.make_all.new.tx.conn.now) → c.args.conn.now.schema ≡ no_schema
@@ -57,3 +59,22 @@ returns-clause-schema g c clean none =
     (ap (λ h. (state g.S.Store h).now.schema) c.transaction-tx.ensures.begun ∙ none)) in
     subst (λ h. OnOk c.commit.result ((state g.S.Store h).committed.schema ≡ made_queue)) same
     (second _ _ c.commit.result (finished _ _ mid end (λ d. d.schema ≡ made_queue) c.commit.result made (c.commit.ensures.ok late)))
+
+pub returns-in_err-make_all-clause-refused : goal.returns-in_err-make_all-clause-refused
+returns-in_err-make_all-clause-refused g c clean =
+    let same : c.drop-tx.new.self.0 ≡ c.conn-1.given.0 = search rules in
+    let late : HasCleanDisk (state g.S.Store c.drop-tx.new.self.0) = subst (λ h. HasCleanDisk (state g.S.Store h)) (sym same) clean in
+    let early : HasCleanDisk (state g.S.Store c.make_all.new.tx.conn.now) = omega (arith, late, c.drop-tx.ensures.survives.clean) in
+    let here = refused_inside g.S.Store Queue c.args.conn.now c.transaction-tx.result.conn.now c.make_all.new.tx.conn.now c.drop-tx.new.self.0 _ _
+    c.transaction-tx.ensures.begun same (c.in_err-make_all.ensures.refused early) c.drop-tx.ensures.survives in
+    search (rules, here)
+
+pub returns-clause-refused : goal.returns-clause-refused
+returns-clause-refused g c clean =
+    let mid = c.make_all.new.tx.conn.now in
+    let end = c.commit.new.self.0 in
+    let same : end ≡ c.conn-2-1.given.0 = search rules in
+    let late : HasCleanDisk (state g.S.Store end) = subst (λ h. HasCleanDisk (state g.S.Store h)) (sym same) clean in
+    let early : HasCleanDisk (state g.S.Store mid) = omega (arith, late, c.commit.ensures.survives.clean) in
+    by_commit g.S.Store Queue c.args.conn.now c.transaction-tx.result.conn.now mid end _ c.commit.result c.transaction-tx.ensures.begun same
+    c.make_all.ensures.step.survives (c.in_ok-make_all.ensures.step.inside early) (c.commit.ensures.err late)

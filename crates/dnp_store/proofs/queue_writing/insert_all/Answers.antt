@@ -10,6 +10,8 @@ use Rattle.dnp_store.specs.steps.Steps.{all_added}
 use Rattle.dnp_store.proofs.Appending.{added-append, nine_added}
 use Rattle.dnp_store.proofs.Blocks.{parted, all_done}
 use Rattle.dnp_store.proofs.Stepping.{step_then}
+use Rattle.dnp_store.specs.declared.store_kind.StoreKind.TheVariants.{Queue}
+use Rattle.dnp_store.proofs.Refusing.{refused_after}
 use Rattle.dnp_store.proofs.queue_writing.insert_all.Goals as goal
 
 pub loop-block-init : goal.loop-block-init
@@ -59,3 +61,16 @@ returns-clause-added g c clean s figures nine held =
     let so_far = c.loop-block.invariant in
     let all = all_done c.args.rows.now so_far.done c.loop-block.block-iterator.rest.now so_far.parts (c.in-None.ensures).steps.1.0 in
     subst (λ xs. HoldsQueue now.now (all_added s xs) figures) all (so_far.added clean s figures nine held)
+
+pub returns-in_err-insert_block-clause-refused : goal.returns-in_err-insert_block-clause-refused
+returns-in_err-insert_block-clause-refused g c clean =
+    let here = refused_after g.S.Store Queue c.args.tx.now.conn.now c.loop-block.tx.conn.now c.insert_block.new.tx.conn.now _
+    c.loop-block.invariant.step.survives
+    (c.in_err-insert_block.ensures.refused clean) in
+    search (rules, here)
+
+pub returns-in_err-insert_block-clause-step : goal.returns-in_err-insert_block-clause-step
+returns-in_err-insert_block-clause-step g c =
+    let here = step_then g.S.Store c.args.tx.now.conn c.loop-block.tx.conn c.insert_block.new.tx.conn _ _ c.loop-block.invariant.step
+    c.in_err-insert_block.ensures.step in
+    record { same_reference = here.same_reference; inside = search rules; kept = here.kept; survives = here.survives }

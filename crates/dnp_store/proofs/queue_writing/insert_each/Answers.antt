@@ -5,6 +5,8 @@ use Rattle.sqlite.specs.Held.{state}
 use Rattle.dnp_store.specs.QueueTables.{HoldsQueue}
 use Rattle.dnp_store.specs.steps.Steps.{all_added}
 use Rattle.dnp_store.proofs.Appending.{added-push, nine_added}
+use Rattle.dnp_store.specs.declared.store_kind.StoreKind.TheVariants.{Queue}
+use Rattle.dnp_store.proofs.Refusing.{refused_after}
 use Rattle.dnp_store.proofs.Stepping.{step_then}
 use Rattle.dnp_store.proofs.queue_writing.insert_each.Goals as goal
 
@@ -22,3 +24,9 @@ loop-x-preserved g c =
           let did = c.in_ok-insert.ensures.added clean (all_added s before) figures (nine_added s before ∙ nine) (was s figures nine held) in
           subst (λ t. HoldsQueue new.now t figures) (sym (ap (all_added s) more ∙ added-push s before _)) did;
     }
+
+pub returns-in_err-insert-clause-refused : goal.returns-in_err-insert-clause-refused
+returns-in_err-insert-clause-refused g c clean =
+    let here = refused_after g.S.Store Queue c.args.tx.now.conn.now c.loop-x.tx.conn.now c.insert.new.tx.conn.now _ c.loop-x.invariant.step.survives
+    (c.in_err-insert.ensures.refused clean) in
+    search (rules, here)

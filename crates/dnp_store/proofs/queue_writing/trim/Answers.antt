@@ -6,6 +6,8 @@ use Rattle.dnp_eventbuf.specs.declared.numbered.Numbered.{Numbered}
 use Rattle.dnp_eventbuf.specs.Latest.{numbered_for}
 use Rattle.dnp_store.specs.steps.Steps.{over, cut, IsTrimmed}
 use Rattle.dnp_store.proofs.Trimming.{trimmed_none, trimmed_some, lost_low, id_low}
+use Rattle.dnp_store.specs.declared.store_kind.StoreKind.TheVariants.{Queue}
+use Rattle.dnp_store.proofs.Refusing.{refused_after}
 use Rattle.dnp_store.proofs.queue_writing.trim.Goals as goal
 
 pub returns-then-over-eq0-clause-trimmed : goal.returns-then-over-eq0-clause-trimmed
@@ -54,3 +56,9 @@ returns-clause-trimmed g c clean raised h =
     (trimmed_some c.a_lane_keeps_its_latest_rows.ensures s rows number c.requires.sound c.requires.number c.requires.after.nine old.now new.now raised upto lost some there sum
     (λ t fs nine held. c.in_ok-note.ensures.noted clean (cut t number upto) fs (length-set t.lanes number (above upto (lane_at t number)) ∙ nine)
     (c.in_ok-take.ensures.cut early t fs nine held)) h)
+
+pub returns-in_err-note-clause-refused : goal.returns-in_err-note-clause-refused
+returns-in_err-note-clause-refused g c clean =
+    let here = refused_after g.S.Store Queue c.args.tx.now.conn.now c.take.new.tx.conn.now c.note.new.tx.conn.now _ c.take.ensures.step.survives
+    (c.in_err-note.ensures.refused clean) in
+    search (rules, here)

@@ -1,8 +1,10 @@
-use Rattle.std.proofs.Common.{rules, [], inl, arith, ◌∙◌}
+use Rattle.std.proofs.Common.{rules, [], inl, arith, ◌∙◌, refl, false}
 use Rattle.sqlite.specs.State.{HasCleanDisk}
 use Rattle.sqlite.specs.Held.{state}
-use Rattle.sqlite.proofs.InsideLemmas.{unchanged_keeps}
+use Rattle.sqlite.proofs.InsideLemmas.{unchanged_keeps, not_run_inside}
 use Rattle.dnp_store.proofs.Standing.{keeps_commit}
+use Rattle.dnp_store.specs.declared.store_kind.StoreKind.{StoreKind}
+use Rattle.dnp_store.proofs.Refusing.{by_making, err_as}
 use Rattle.dnp_store.proofs.stores.keep_probe.Goals as goal
 
 pub returns-clause-step : goal.returns-clause-step
@@ -28,3 +30,12 @@ returns-in_err-_nothing-clause-step g c =
       kept = λ clean. keeps_commit old new _ [] _ (c.in_err-_nothing.ensures.err clean []);
       survives = c.prepare.ensures.survives;
     }
+
+pub returns-in_err-_nothing-clause-refused : goal.returns-in_err-_nothing-clause-refused
+returns-in_err-_nothing-clause-refused g c clean =
+    let old = state g.S.Store c.args.tx.now.conn.now in
+    let new = state g.S.Store c.prepare.new.self.conn.now in
+    let was : HasCleanDisk old = omega (arith, clean, c.prepare.ensures.survives.clean) in
+    err_as _ c.from_residual.result c.in_err-_nothing.field-0.0 (search rules)
+    (λ (kind : StoreKind). by_making g.S.Store kind c.args.tx.now.conn.now c.prepare.new.self.conn.now [] [] _ (5, refl) (c.requires.inside was)
+    (not_run_inside old new 0 false [] [] _ (c.in_err-_nothing.ensures.err clean [])))

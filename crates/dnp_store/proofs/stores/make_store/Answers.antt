@@ -1,7 +1,8 @@
-use Rattle.std.proofs.Common.{arith, sym, subst}
+use Rattle.std.proofs.Common.{arith, sym, subst, rules}
 use Rattle.sqlite.specs.State.{HasCleanDisk}
 use Rattle.sqlite.specs.Held.{state}
 use Rattle.dnp_store.specs.steps.Stores.{HasNumber}
+use Rattle.dnp_store.proofs.Refusing.{refused_after}
 use Rattle.dnp_store.proofs.stores.make_store.Goals as goal
 
 pub returns-clause-made : goal.returns-clause-made
@@ -9,3 +10,10 @@ returns-clause-made g c clean none =
     let mid = state g.S.Store c.make_tables.new.tx.conn.now in
     let early : HasCleanDisk mid = omega (arith, clean, c.keep_probe.ensures.step.survives.clean) in
     subst (HasNumber c.args.kind) (sym (c.in_ok-keep_probe.ensures.same clean)) (c.in_ok-make_tables.ensures.made early none)
+
+pub returns-in_err-keep_probe-clause-refused : goal.returns-in_err-keep_probe-clause-refused
+returns-in_err-keep_probe-clause-refused g c clean =
+    let here = refused_after g.S.Store c.args.kind c.args.tx.now.conn.now c.make_tables.new.tx.conn.now c.keep_probe.new.tx.conn.now _
+    c.make_tables.ensures.step.survives
+    (c.in_err-keep_probe.ensures.refused clean c.args.kind) in
+    search (rules, here)

@@ -6,6 +6,7 @@ use Rattle.sqlite.specs.Tree.{Trees}
 use Rattle.dnp_store.specs.Tables.{no_schema}
 use Rattle.dnp_store.specs.steps.Stores.{HasNumber, IsFresh}
 use Rattle.dnp_store.proofs.Statements.{finished, survives_commit}
+use Rattle.dnp_store.proofs.Refusing.{refused_inside, by_commit}
 use Rattle.dnp_store.proofs.stores.write_tables.Goals as goal
 
 done : (g : _) (c : goal.After-conn-2-1 g) → HasCleanDisk (state g.S.Store c.make_store.new.tx.conn.now) → c.args.conn.now.schema ≡ no_schema
@@ -34,3 +35,22 @@ returns-clause-survives g c =
     (survives_commit g.S.Store old c.transaction-tx.result.conn.now mid end P c.transaction-tx.ensures.begun
     c.make_store.ensures.step.survives c.commit.ensures.survives
     (λ clean none. (let early : HasCleanDisk mid = omega (arith, clean, c.commit.ensures.survives.clean) in (done g c early none).holds)))
+
+pub returns-in_err-make_store-clause-refused : goal.returns-in_err-make_store-clause-refused
+returns-in_err-make_store-clause-refused g c clean =
+    let same : c.drop-tx.new.self.0 ≡ c.conn-1.given.0 = search rules in
+    let late : HasCleanDisk (state g.S.Store c.drop-tx.new.self.0) = subst (λ h. HasCleanDisk (state g.S.Store h)) (sym same) clean in
+    let early : HasCleanDisk (state g.S.Store c.make_store.new.tx.conn.now) = omega (arith, late, c.drop-tx.ensures.survives.clean) in
+    let here = refused_inside g.S.Store c.args.kind c.args.conn.now c.transaction-tx.result.conn.now c.make_store.new.tx.conn.now c.drop-tx.new.self.0 _ _
+    c.transaction-tx.ensures.begun same (c.in_err-make_store.ensures.refused early) c.drop-tx.ensures.survives in
+    search (rules, here)
+
+pub returns-clause-refused : goal.returns-clause-refused
+returns-clause-refused g c clean =
+    let mid = c.make_store.new.tx.conn.now in
+    let end = c.commit.new.self.0 in
+    let same : end ≡ c.conn-2-1.given.0 = search rules in
+    let late : HasCleanDisk (state g.S.Store end) = subst (λ h. HasCleanDisk (state g.S.Store h)) (sym same) clean in
+    let early : HasCleanDisk (state g.S.Store mid) = omega (arith, late, c.commit.ensures.survives.clean) in
+    by_commit g.S.Store c.args.kind c.args.conn.now c.transaction-tx.result.conn.now mid end _ c.commit.result c.transaction-tx.ensures.begun same
+    c.make_store.ensures.step.survives (c.in_ok-make_store.ensures.step.inside early) (c.commit.ensures.err late)

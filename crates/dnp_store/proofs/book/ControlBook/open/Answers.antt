@@ -1,4 +1,4 @@
-use Rattle.std.proofs.Common.{rules, IsTrue, arith, ◌∙◌}
+use Rattle.std.proofs.Common.{rules, ◌≡◌, None, arith, ◌∙◌}
 use Rattle.sqlite.specs.State.{HasCleanDisk}
 use Rattle.sqlite.specs.Held.{state}
 use Rattle.dnp_controls.specs.Book.{Ledger}
@@ -10,29 +10,29 @@ pub invariant_of-result : goal.invariant_of-result
 invariant_of-result g c =
     let old = state g.S.Store c.args.conn in
     let mid = state g.S.Store c.read_book.new.conn in
-    let new = state g.S.Store c.serves.new.conn in
-    let serving : IsTrue c.serves.result = search rules in
+    let new = state g.S.Store c.last_fault.new.conn in
+    let serving : c.last_fault.result ≡ None = search rules in
     let book : Ledger = record { entries = c.read_book.new.entries.items; last_id = c.in-Ok.found.last_id } in
     record {
-      idle = c.serves.ensures.idle;
+      idle = c.last_fault.ensures.idle;
       sound = c.in-Ok.ensures.sound;
       past = past_none c.read_book.new.entries.items;
       last_in_range = c.in-Ok.ensures.range;
       stands = λ _ own clean.
-          let early : HasCleanDisk mid = omega (arith, clean, c.serves.ensures.survives.clean) in
-          let is_open = c.serves.ensures.open clean serving in
-          let s = c.serves.ensures.same clean is_open in
+          let early : HasCleanDisk mid = omega (arith, clean, c.last_fault.ensures.survives.clean) in
+          let is_open = c.last_fault.ensures.open clean serving in
+          let s = c.last_fault.ensures.same clean is_open in
           found_again old new book is_open (s.1 ∙ (c.read_book.ensures.same early s.0).1) (c.in-Ok.ensures.read early own);
     }
 
-pub returns-else-not-serves-clause-stands : goal.returns-else-not-serves-clause-stands
-returns-else-not-serves-clause-stands g c clean own =
+pub returns-in_default-clause-stands : goal.returns-in_default-clause-stands
+returns-in_default-clause-stands g c clean own =
     let old = state g.S.Store c.args.conn in
     let mid = state g.S.Store c.read_book.new.conn in
-    let new = state g.S.Store c.serves.new.conn in
-    let serving : IsTrue c.serves.result = search rules in
+    let new = state g.S.Store c.last_fault.new.conn in
+    let serving : c.last_fault.result ≡ None = search rules in
     let book : Ledger = record { entries = c.read_book.new.entries.items; last_id = c.in-Ok.found.last_id } in
-    let early : HasCleanDisk mid = omega (arith, clean, c.serves.ensures.survives.clean) in
-    let is_open = c.serves.ensures.open clean serving in
-    let s = c.serves.ensures.same clean is_open in
+    let early : HasCleanDisk mid = omega (arith, clean, c.last_fault.ensures.survives.clean) in
+    let is_open = c.last_fault.ensures.open clean serving in
+    let s = c.last_fault.ensures.same clean is_open in
     found_again old new book is_open (s.1 ∙ (c.read_book.ensures.same early s.0).1) (c.in-Ok.ensures.read early own)

@@ -1,4 +1,4 @@
-use Rattle.std.proofs.Common.{rules, ◌≡◌, ◌+◌, ◌∷◌, [], inr, false, IsTrue, arith, sym, ap, subst}
+use Rattle.std.proofs.Common.{rules, ◌≡◌, ◌+◌, ◌∷◌, [], inr, false, IsTrue, arith, sym, ap, subst, ◌⊎◌, true}
 use Rattle.sqlite.specs.State.{HasCleanDisk}
 use Rattle.sqlite.specs.Held.{state}
 use Rattle.dnp_controls.specs.Book.{Ledger, IsSound, added}
@@ -6,6 +6,9 @@ use Rattle.dnp_controls.specs.Moves.{Add}
 use Rattle.dnp_store.specs.BookKept.{Kept, IsPast, Stands, LeavesEither}
 use Rattle.dnp_store.proofs.BookPlaces.{past_push}
 use Rattle.dnp_store.proofs.BookStanding.{either_of, leaves_last}
+use Rattle.dnp_store.specs.declared.store_kind.StoreKind.TheVariants.{Book}
+use Rattle.dnp_store.specs.Refusals.{IsLost}
+use Rattle.dnp_store.proofs.Refusing.{lost_book}
 use Rattle.dnp_store.proofs.book.ControlBookBook.add.Goals as goal
 
 pub returns-in-Err-clause-either : goal.returns-in-Err-clause-either
@@ -67,3 +70,15 @@ returns-clause-call g c =
     subst IsSound (ap (λ es. record { entries = es; last_id = c.self.inside.last_id + 1 }) (sym items))
     (c.ids_go_on.ensures.sound book (Add c.args.target c.args.command.now ∷ []) c.self.invariant.sound) in
     search (rules, sound)
+
+pub returns-in-Err-clause-device : goal.returns-in-Err-clause-device
+returns-in-Err-clause-device g c clean told =
+    let new = c.is_lost-lost.new.conn in
+    let early : HasCleanDisk (state g.S.Store c.write_added.new.conn) = omega (arith, clean, c.is_lost-lost.ensures.survives.clean) in
+    let lost : c.is_lost-lost.result ≡ true = lost_book c.is_lost-lost.result c.book_fault.result c.book_fault.ensures.serves told in
+    subst (λ (k : Kept _). IsTrue k.stopped ⊎ IsLost g.S.Store Book k.conn new) c.self.view_is (inr (record {
+      between = c.write_added.new.conn;
+      error = _;
+      refused = c.in-Err.ensures.refused early;
+      lost = c.is_lost-lost.ensures.lost clean lost;
+    }))

@@ -1,4 +1,4 @@
-use Rattle.std.proofs.Common.{rules, refl, ◌≡◌, ◌∷◌, [], inr, false, IsTrue, arith, sym, ap, subst, ◌∙◌}
+use Rattle.std.proofs.Common.{rules, refl, ◌≡◌, ◌∷◌, [], inr, false, IsTrue, arith, sym, ap, subst, ◌∙◌, ◌⊎◌, true}
 use Rattle.std.specs.Prelude.{IsSome}
 use Rattle.sqlite.specs.State.{HasCleanDisk}
 use Rattle.sqlite.specs.Held.{state}
@@ -9,6 +9,9 @@ use Rattle.dnp_store.specs.BookKept.{Kept, IsPast, Stands, LeavesEither}
 use Rattle.dnp_store.proofs.BookPlaces.{id_low, past_turned, there_of}
 use Rattle.dnp_store.proofs.BookStanding.{either_of, leaves_last}
 use Rattle.dnp_store.proofs.BookTurning.{turned_is}
+use Rattle.dnp_store.specs.declared.store_kind.StoreKind.TheVariants.{Book}
+use Rattle.dnp_store.specs.Refusals.{IsLost}
+use Rattle.dnp_store.proofs.Refusing.{lost_book}
 use Rattle.dnp_store.proofs.book.ControlBookBook.finish.Goals as goal
 
 pub write_turned-requires-clause-id : goal.write_turned-requires-clause-id
@@ -76,3 +79,15 @@ returns-clause-after g c clean =
     let kept = invariant_of-self-2 g c in
     let owns : c.self.inside.owned ≡ c.args.self.now.owned = ap (λ (k : Kept _). k.owned) c.self.view_is in
     λ own. leaves_last mid _ (g.met.S.Store.settled c.write_turned.new.conn.store) (kept.stands c.if-self.false (subst IsTrue (sym owns) own) clean)
+
+pub returns-in-Err-clause-device : goal.returns-in-Err-clause-device
+returns-in-Err-clause-device g c clean told =
+    let new = c.is_lost-lost.new.conn in
+    let early : HasCleanDisk (state g.S.Store c.write_turned.new.conn) = omega (arith, clean, c.is_lost-lost.ensures.survives.clean) in
+    let lost : c.is_lost-lost.result ≡ true = lost_book c.is_lost-lost.result c.book_fault.result c.book_fault.ensures.serves told in
+    subst (λ (k : Kept _). IsTrue k.stopped ⊎ IsLost g.S.Store Book k.conn new) c.self.view_is (inr (record {
+      between = c.write_turned.new.conn;
+      error = _;
+      refused = c.in-Err.ensures.refused early;
+      lost = c.is_lost-lost.ensures.lost clean lost;
+    }))

@@ -1,4 +1,4 @@
-use Rattle.std.proofs.Common.{rules, ◌≡◌, IsTrue, length, sym, ap, refl, arith}
+use Rattle.std.proofs.Common.{rules, ◌≡◌, IsTrue, length, sym, ap, refl, arith, ◌∙◌, inr, true}
 use Rattle.sqlite.specs.State.{HasCleanDisk}
 use Rattle.sqlite.specs.Held.{state}
 use Rattle.dnp_eventbuf.specs.Archive.{Archive}
@@ -8,6 +8,8 @@ use Rattle.dnp_store.specs.Tables.{no_schema}
 use Rattle.dnp_store.proofs.Numbering.{no_events, fresh_journal}
 use Rattle.dnp_store.proofs.Statements.{survives_as, survives_on}
 use Rattle.dnp_store.proofs.JournalStanding.{told_is, told_stands}
+use Rattle.dnp_store.specs.declared.store_kind.StoreKind.TheVariants.{Journal}
+use Rattle.dnp_store.proofs.Refusing.{lost_open, taken_open}
 use Rattle.dnp_store.proofs.journal.Journal.create.Goals as goal
 
 stood : (g : _) (c : goal.In_default g) → HasCleanDisk (state g.S.Store c.write_tables.new.conn) → IsTrue c.is_bare-owned.result
@@ -43,3 +45,26 @@ returns-in-Err-clause-left g c =
     let mid = state g.S.Store c.write_tables.new.conn in
     survives_on old mid (state g.S.Store c.is_lost-lost.new.conn) _
     (survives_as old mid _ _ (λ db made none. fresh_journal db (made none)) c.write_tables.ensures.survives) c.is_lost-lost.ensures.survives
+
+pub returns-in-Err-clause-device : goal.returns-in-Err-clause-device
+returns-in-Err-clause-device g c clean told =
+    let early : HasCleanDisk (state g.S.Store c.write_tables.new.conn) = omega (arith, clean, c.is_lost-lost.ensures.survives.clean) in
+    let lost : c.is_lost-lost.result ≡ true = lost_open c.is_taken.result c.is_lost-lost.result c.open_fault.result c.open_fault.ensures told in
+    record {
+      between = c.write_tables.new.conn;
+      error = _;
+      refused = c.in-Err.ensures.refused early;
+      lost = c.is_lost-lost.ensures.lost clean lost;
+    }
+
+pub returns-in-Err-clause-taken : goal.returns-in-Err-clause-taken
+returns-in-Err-clause-taken g c clean told =
+    let early : HasCleanDisk (state g.S.Store c.write_tables.new.conn) = omega (arith, clean, c.is_lost-lost.ensures.survives.clean) in
+    let taken : c.is_taken.result ≡ true = taken_open c.is_taken.result c.is_lost-lost.result c.open_fault.result c.open_fault.ensures told in
+    inr (record {
+      between = c.write_tables.new.conn;
+      error = _;
+      refused = c.in-Err.ensures.refused early;
+      taken = sym c.is_taken.ensures ∙ taken;
+      late = c.is_lost-lost.ensures.survives;
+    })

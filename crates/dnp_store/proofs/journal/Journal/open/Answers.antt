@@ -1,4 +1,4 @@
-use Rattle.std.proofs.Common.{rules, IsTrue, arith, ◌∙◌}
+use Rattle.std.proofs.Common.{rules, ◌≡◌, None, arith, ◌∙◌}
 use Rattle.sqlite.specs.State.{HasCleanDisk}
 use Rattle.sqlite.specs.Held.{state}
 use Rattle.dnp_store.proofs.JournalStanding.{found_again}
@@ -8,42 +8,42 @@ pub invariant_of-result : goal.invariant_of-result
 invariant_of-result g c =
     let old = state g.S.Store c.args.conn in
     let mid = state g.S.Store c.read_journal.new.conn in
-    let new = state g.S.Store c.serves.new.conn in
-    let serving : IsTrue c.serves.result = search rules in
+    let new = state g.S.Store c.last_fault.new.conn in
+    let serving : c.last_fault.result ≡ None = search rules in
     record {
-      idle = c.serves.ensures.idle;
+      idle = c.last_fault.ensures.idle;
       last_in_range = c.in-Ok.ensures.range.0;
       count_in_range = c.in-Ok.ensures.range.1;
       stands = λ _ own clean.
-          let early : HasCleanDisk mid = omega (arith, clean, c.serves.ensures.survives.clean) in
-          let is_open = c.serves.ensures.open clean serving in
-          let s = c.serves.ensures.same clean is_open in
+          let early : HasCleanDisk mid = omega (arith, clean, c.last_fault.ensures.survives.clean) in
+          let is_open = c.last_fault.ensures.open clean serving in
+          let s = c.last_fault.ensures.same clean is_open in
           (found_again old new c.in-Ok.found.last_id c.in-Ok.found.count is_open (s.1 ∙ (c.read_journal.ensures.same early s.0).1) (c.in-Ok.ensures.read early own)).0;
       count_is = λ _ own clean.
-          let early : HasCleanDisk mid = omega (arith, clean, c.serves.ensures.survives.clean) in
-          let is_open = c.serves.ensures.open clean serving in
-          let s = c.serves.ensures.same clean is_open in
+          let early : HasCleanDisk mid = omega (arith, clean, c.last_fault.ensures.survives.clean) in
+          let is_open = c.last_fault.ensures.open clean serving in
+          let s = c.last_fault.ensures.same clean is_open in
           (found_again old new c.in-Ok.found.last_id c.in-Ok.found.count is_open (s.1 ∙ (c.read_journal.ensures.same early s.0).1) (c.in-Ok.ensures.read early own)).1;
     }
 
-pub returns-else-not-serves-clause-found : goal.returns-else-not-serves-clause-found
-returns-else-not-serves-clause-found g c clean own =
+pub returns-in_default-clause-found : goal.returns-in_default-clause-found
+returns-in_default-clause-found g c clean own =
     let old = state g.S.Store c.args.conn in
     let mid = state g.S.Store c.read_journal.new.conn in
-    let new = state g.S.Store c.serves.new.conn in
-    let serving : IsTrue c.serves.result = search rules in
-    let early : HasCleanDisk mid = omega (arith, clean, c.serves.ensures.survives.clean) in
-    let is_open = c.serves.ensures.open clean serving in
-    let s = c.serves.ensures.same clean is_open in
+    let new = state g.S.Store c.last_fault.new.conn in
+    let serving : c.last_fault.result ≡ None = search rules in
+    let early : HasCleanDisk mid = omega (arith, clean, c.last_fault.ensures.survives.clean) in
+    let is_open = c.last_fault.ensures.open clean serving in
+    let s = c.last_fault.ensures.same clean is_open in
     (found_again old new c.in-Ok.found.last_id c.in-Ok.found.count is_open (s.1 ∙ (c.read_journal.ensures.same early s.0).1) (c.in-Ok.ensures.read early own)).2
 
-pub returns-else-not-serves-clause-stands : goal.returns-else-not-serves-clause-stands
-returns-else-not-serves-clause-stands g c clean own =
+pub returns-in_default-clause-stands : goal.returns-in_default-clause-stands
+returns-in_default-clause-stands g c clean own =
     let old = state g.S.Store c.args.conn in
     let mid = state g.S.Store c.read_journal.new.conn in
-    let new = state g.S.Store c.serves.new.conn in
-    let serving : IsTrue c.serves.result = search rules in
-    let early : HasCleanDisk mid = omega (arith, clean, c.serves.ensures.survives.clean) in
-    let is_open = c.serves.ensures.open clean serving in
-    let s = c.serves.ensures.same clean is_open in
+    let new = state g.S.Store c.last_fault.new.conn in
+    let serving : c.last_fault.result ≡ None = search rules in
+    let early : HasCleanDisk mid = omega (arith, clean, c.last_fault.ensures.survives.clean) in
+    let is_open = c.last_fault.ensures.open clean serving in
+    let s = c.last_fault.ensures.same clean is_open in
     (found_again old new c.in-Ok.found.last_id c.in-Ok.found.count is_open (s.1 ∙ (c.read_journal.ensures.same early s.0).1) (c.in-Ok.ensures.read early own)).0

@@ -1,9 +1,11 @@
-use Rattle.std.proofs.Common.{rules, ◌≡◌, ◌⊎◌, ◌≤◌, ℕ, min, false, IsTrue, arith, sym, subst, ◌∙◌}
+use Rattle.std.proofs.Common.{rules, ◌≡◌, ◌⊎◌, ◌≤◌, ℕ, min, false, true, inr, IsTrue, arith, sym, subst, ◌∙◌}
 use Rattle.sqlite.specs.State.{HasCleanDisk}
 use Rattle.sqlite.specs.Held.{state}
 use Rattle.dnp_eventbuf.specs.Archive.{IsSoundArchive, rows_over}
 use Rattle.dnp_store.specs.JournalKept.{Kept, IsHonest, archive_of, held_archive}
 use Rattle.dnp_store.proofs.JournalStanding.{sound_kept, same_archive, sound_still, over_none, over_few, smaller}
+use Rattle.dnp_store.specs.Refusals.{LosesReading}
+use Rattle.dnp_store.proofs.Refusing.{lost_if}
 use Rattle.dnp_store.proofs.journal.JournalJournalStore.rows.Goals as goal
 
 pub returns-then-from-self-clause-call : goal.returns-then-from-self-clause-call
@@ -73,3 +75,15 @@ returns-in-Err-clause-call g c =
     λ clean serves own. subst (λ (k : Kept _). archive_of g.S.Store new last ≡ held_archive g.S.Store k) c.self.view_is
     (same_archive g.S.Store old new last (same clean serves own)) in
     search (rules, sound, kept)
+
+pub returns-in-Err-clause-device : goal.returns-in-Err-clause-device
+returns-in-Err-clause-device g c clean told =
+    let new = c.is_lost_unread-lost.new.conn in
+    let early : HasCleanDisk (state g.S.Store c.read_over.new.conn) = c.is_lost_unread-lost.ensures.held clean in
+    let lost : c.is_lost_unread-lost.result ≡ true = lost_if c.is_lost_unread-lost.result c.fault.result c.fault.ensures told in
+    subst (λ (k : Kept _). IsTrue k.stopped ⊎ LosesReading g.S.Store k.conn new) c.self.view_is (inr (record {
+      between = c.read_over.new.conn;
+      cause = c.in-Err.unread;
+      unread = c.in-Err.ensures.unread early;
+      lost = c.is_lost_unread-lost.ensures.lost clean lost;
+    }))

@@ -1,10 +1,13 @@
-use Rattle.std.proofs.Common.{◌≡◌, ◌+◌, false, IsTrue, length, arith, refl, sym, ap, subst, ◌∙◌}
+use Rattle.std.proofs.Common.{◌≡◌, ◌+◌, false, IsTrue, length, arith, refl, sym, ap, subst, ◌∙◌, rules, ◌⊎◌, inr, true}
 use Rattle.sqlite.specs.State.{HasCleanDisk}
 use Rattle.sqlite.specs.Held.{state}
 use Rattle.dnp_eventbuf.specs.Archive.{Archive, with_events}
 use Rattle.dnp_store.specs.JournalKept.{Kept, Stands, Leaves, LeavesEither, archive_of, held_archive}
 use Rattle.dnp_store.proofs.JournalHolding.{count_with}
 use Rattle.dnp_store.proofs.JournalStanding.{either_of, leaves_last, told_is, told_stands}
+use Rattle.dnp_store.specs.declared.store_kind.StoreKind.TheVariants.{Journal}
+use Rattle.dnp_store.specs.Refusals.{IsLost}
+use Rattle.dnp_store.proofs.Refusing.{lost_if}
 use Rattle.dnp_store.proofs.journal.JournalSink.append.Goals as goal
 
 pub returns-in-Err-clause-either : goal.returns-in-Err-clause-either
@@ -65,3 +68,15 @@ returns-clause-after g c clean =
     let P = λ (k : Kept _). IsTrue k.owned → Leaves new (archive_of g.S.Store c.write_events.new.conn last) in
     subst P c.self.view_is (λ own. leaves_last new (archive_of g.S.Store c.write_events.new.conn last) (g.met.S.Store.settled c.write_events.new.conn.store)
     (told_stands new (with_events a events) last refl (stood g c clean c.if-self.false own)))
+
+pub returns-in-Err-clause-device : goal.returns-in-Err-clause-device
+returns-in-Err-clause-device g c clean told =
+    let new = c.is_lost-lost.new.conn in
+    let early : HasCleanDisk (state g.S.Store c.write_events.new.conn) = omega (arith, clean, c.is_lost-lost.ensures.survives.clean) in
+    let lost : c.is_lost-lost.result ≡ true = lost_if c.is_lost-lost.result c.fault.result c.fault.ensures told in
+    subst (λ (k : Kept _). IsTrue k.stopped ⊎ IsLost g.S.Store Journal k.conn new) c.self.view_is (inr (record {
+      between = c.write_events.new.conn;
+      error = _;
+      refused = c.in-Err.ensures.refused early;
+      lost = c.is_lost-lost.ensures.lost clean lost;
+    }))

@@ -1,4 +1,4 @@
-use Rattle.std.proofs.Common.{rules, ◌≡◌, false, IsTrue, arith, subst}
+use Rattle.std.proofs.Common.{rules, ◌≡◌, false, IsTrue, arith, subst, ◌⊎◌, inr, true}
 use Rattle.sqlite.specs.State.{HasCleanDisk}
 use Rattle.sqlite.specs.Held.{state}
 use Rattle.dnp_store.specs.Kept.{Kept, LeavesEither}
@@ -6,6 +6,9 @@ use Rattle.dnp_store.proofs.Standing.{either_of}
 use Rattle.dnp_eventbuf.specs.Sound.{IsSound}
 use Rattle.dnp_eventbuf.specs.Stock.{exhausts, with_rows}
 use Rattle.dnp_store.proofs.Trimming.{last_rows}
+use Rattle.dnp_store.specs.declared.store_kind.StoreKind.TheVariants.{Queue}
+use Rattle.dnp_store.specs.Refusals.{IsLost}
+use Rattle.dnp_store.proofs.Refusing.{lost_if}
 use Rattle.dnp_store.proofs.queue.QueueLanes.append.Goals as goal
 
 pub write_append-requires-clause-after : goal.write_append-requires-clause-after
@@ -34,3 +37,15 @@ returns-in-Err-clause-either g c clean =
     let first : HasCleanDisk old = omega (arith, early, c.write_append.ensures.survives.clean) in
     either_of old mid new s (with_rows s rows) clean early (g.met.S.Store.settled c.self.inside.conn.store)
     (c.self.invariant.stands serves own first) c.write_append.ensures.survives c.is_lost-lost.ensures.survives db may)
+
+pub returns-in-Err-clause-device : goal.returns-in-Err-clause-device
+returns-in-Err-clause-device g c clean told =
+    let new = c.is_lost-lost.new.conn in
+    let early : HasCleanDisk (state g.S.Store c.write_append.new.conn) = omega (arith, clean, c.is_lost-lost.ensures.survives.clean) in
+    let lost : c.is_lost-lost.result ≡ true = lost_if c.is_lost-lost.result c.fault.result c.fault.ensures told in
+    subst (λ (k : Kept _). IsTrue k.stopped ⊎ IsLost g.S.Store Queue k.conn new) c.self.view_is (inr (record {
+      between = c.write_append.new.conn;
+      error = _;
+      refused = c.in-Err.ensures.refused early;
+      lost = c.is_lost-lost.ensures.lost clean lost;
+    }))

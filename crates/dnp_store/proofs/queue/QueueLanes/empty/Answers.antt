@@ -1,4 +1,4 @@
-use Rattle.std.proofs.Common.{◌≡◌, inl, inr, false, IsTrue, refl, arith, subst, sym}
+use Rattle.std.proofs.Common.{◌≡◌, inl, inr, false, IsTrue, refl, arith, subst, sym, rules, ◌⊎◌, true}
 use Rattle.sqlite.specs.State.{HasCleanDisk}
 use Rattle.sqlite.specs.Held.{state}
 use Rattle.dnp_eventbuf.specs.Stock.{without_all}
@@ -7,6 +7,9 @@ use Rattle.dnp_store.specs.QueueTables.{IsQueue, HoldsStock}
 use Rattle.dnp_store.specs.steps.Steps.{released}
 use Rattle.dnp_store.proofs.Standing.{either_of, leaves_last}
 use Rattle.dnp_store.proofs.Releasing.{all_left, all_left_in, nine_most, all_most}
+use Rattle.dnp_store.specs.declared.store_kind.StoreKind.TheVariants.{Queue}
+use Rattle.dnp_store.specs.Refusals.{IsLost}
+use Rattle.dnp_store.proofs.Refusing.{lost_if}
 use Rattle.dnp_store.proofs.queue.QueueLanes.empty.Goals as goal
 
 -- what was written holds no rows
@@ -65,3 +68,15 @@ returns-clause-after g c clean =
     let mid = state g.S.Store c.write_release.new.conn in
     let P = λ (k : Kept _). IsTrue k.owned → Leaves mid c.clear.new.self in
     subst P c.self.view_is (λ own. subst (Leaves mid) (sym c.clear.ensures.without) (none_left g c clean c.if-self.false own))
+
+pub returns-in-Err-clause-device : goal.returns-in-Err-clause-device
+returns-in-Err-clause-device g c clean told =
+    let new = c.is_lost-lost.new.conn in
+    let early : HasCleanDisk (state g.S.Store c.write_release.new.conn) = omega (arith, clean, c.is_lost-lost.ensures.survives.clean) in
+    let lost : c.is_lost-lost.result ≡ true = lost_if c.is_lost-lost.result c.fault.result c.fault.ensures told in
+    subst (λ (k : Kept _). IsTrue k.stopped ⊎ IsLost g.S.Store Queue k.conn new) c.self.view_is (inr (record {
+      between = c.write_release.new.conn;
+      error = _;
+      refused = c.in-Err.ensures.refused early;
+      lost = c.is_lost-lost.ensures.lost clean lost;
+    }))

@@ -1,0 +1,10 @@
+use Rattle.std.proofs.Common.{rules, ap, subst, Err}
+use Rattle.dnp_store.specs.steps.JournalShown.{HasNoEvent}
+use Rattle.dnp_store.proofs.Refusing.{unread_of}
+use Rattle.dnp_store.proofs.journal_reading.read_over.Goals as goal
+
+pub returns-in_err-events-clause-unread : goal.returns-in_err-events-clause-unread
+returns-in_err-events-clause-unread g c clean =
+    let here = unread_of g.S.Store c.args.conn.now c.query_over.new.conn c.in_ok-rows.rows.items _ c.in_err-events.ensures.named
+    (λ is. subst HasNoEvent c.deref.ensures.value (c.in_err-events.ensures.wrong (ap Err is))) (c.in_ok-rows.ensures.shown clean) in
+    search (rules, here)
