@@ -19,10 +19,10 @@ use Rattle.dnp_world.specs.Controls.{AtCentre, AtConcentrator, CanGo, IsAccepted
 use Rattle.dnp_world.specs.ControlsInStep.{InStep}
 use Rattle.dnp_world.specs.Rounds.{is_quiet_at, is_quiet_on}
 use Rattle.dnp_world.specs.SystemStanding.{IsStanding}
-use Rattle.dnp_world.specs.Systems.{CentreState, History, SubstationState, System, has_station, link_at}
+use Rattle.dnp_world.specs.Systems.{SubstationState, System, has_station, link_at}
 use Rattle.dnp_world.specs.declared.event.Link.TheVariants.{Above, Below}
 use Rattle.dnp_world.proofs.ControlBooks.{next_found as next_is_found}
-use Rattle.dnp_world.proofs.ControlsAbove.{AboveKeeps, KeptAbove, ends_above, over_above}
+use Rattle.dnp_world.proofs.ControlsAbove.{KeepsAround, KeptAbove, ends_above, over_above}
 use Rattle.dnp_world.proofs.ControlsAccepted.{Accepted, Begins, accepted_over}
 use Rattle.dnp_world.proofs.ControlsBelow.{KeptBelow}
 use Rattle.dnp_world.proofs.ControlsClean.{CleanLaws, added_next, below_begins, free_above, free_below, next_above, none_is, none_mapped, plain_low, relay_low, relayed_some, same_lines, there_of}
@@ -65,7 +65,7 @@ module _ (laws : CleanLaws) (old : System) (standing : IsStanding old) (steps : 
       (relay_low old.indices entry.command) old new (ends_above old []) status
       (record { going = []; is = refl; under = laws.quiet Above old standing quiet; spans_are = standing.of_plan.middle_indices })
       (above_starts laws.decides old entry standing steps quiet next goes) (next_found old.centre.orders.entries 0 entry steps.orders.rising next) pending refused in
-      ap (λ (h : History). h.operated) kept.keeps.history
+      ap (λ a. a.history.operated) kept.keeps
 
   -- ---- below
 
@@ -77,8 +77,11 @@ module _ (laws : CleanLaws) (old : System) (standing : IsStanding old) (steps : 
     its : Entry
     its = record { id = old.concentrator.controls.last_id + 1; target = station; command = command; state = Pending }
 
-    keeps : AboveKeeps old above
+    keeps : KeepsAround old above
     keeps = accepted.kept.keeps
+
+    links : above.concentrator.links ≡ old.concentrator.links
+    links = ap (λ a. a.links) keeps
 
     controls : above.concentrator.controls ≡ added old.concentrator.controls station command
     controls = accepted.kept.controls ∙ ap (added_for old.concentrator.controls) is
@@ -95,7 +98,7 @@ module _ (laws : CleanLaws) (old : System) (standing : IsStanding old) (steps : 
         let clear : UnderWay (Below station) [] [] old = laws.quiet (Below station) old standing quiet in
         record {
           channel = clear.channel;
-          there = same_lines old above station keeps.substations keeps.links ∙ clear.there;
+          there = same_lines old above station (ap (λ a. a.substations) keeps) links ∙ clear.there;
           down_is = clear.down_is;
           up_is = clear.up_is;
         }
@@ -114,7 +117,7 @@ module _ (laws : CleanLaws) (old : System) (standing : IsStanding old) (steps : 
         (plain_low was.outputs.outputs was.outputs.setpoints command) above new (ends_below station above was [])
         (record {
           was = was;
-          there = ap (λ (xs : List SubstationState). slice_get xs station) keeps.substations ∙ there;
+          there = ap (λ a. slice_get a.substations station) keeps ∙ there;
           going = [];
           is = refl;
           under = under;
@@ -122,7 +125,7 @@ module _ (laws : CleanLaws) (old : System) (standing : IsStanding old) (steps : 
           outputs_are = refl;
           setpoints_are = refl;
         })
-        (Begins (below_begins old above station was its standing quiet there free keeps.links its_next
+        (Begins (below_begins old above station was its standing quiet there free links its_next
         (subst (λ (b : Ledger). IsSound b) (sym controls) ((added_carries laws.sound old.concentrator.controls station command).sound steps.controls))
         (below_fits old.indices entry.command (station, command) widths is)))
         (next_found above.concentrator.controls.entries station its
@@ -140,7 +143,7 @@ module _ (laws : CleanLaws) (old : System) (standing : IsStanding old) (steps : 
         (plain_low was.outputs.outputs was.outputs.setpoints command) above new (ends_below station above was []) status
         (record {
           was = was;
-          there = ap (λ (xs : List SubstationState). slice_get xs station) keeps.substations ∙ there;
+          there = ap (λ a. slice_get a.substations station) keeps ∙ there;
           going = [];
           is = refl;
           under = under;
@@ -148,13 +151,13 @@ module _ (laws : CleanLaws) (old : System) (standing : IsStanding old) (steps : 
           outputs_are = refl;
           setpoints_are = refl;
         })
-        (Begins (below_begins old above station was its standing quiet there free keeps.links its_next
+        (Begins (below_begins old above station was its standing quiet there free links its_next
         (subst (λ (b : Ledger). IsSound b) (sym controls) ((added_carries laws.sound old.concentrator.controls station command).sound steps.controls))
         (below_fits old.indices entry.command (station, command) widths is)))
         (next_found above.concentrator.controls.entries station its
         (subst (λ (b : Ledger). IsSound b) (sym controls) ((added_carries laws.sound old.concentrator.controls station command).sound steps.controls)).rising
         its_next) refl (subst (λ (o : Option ℕ). IsRefusedOn (Below station) o status above new) its_id refused) in
-        kept.operated ∙ append-nil above.history.operated ∙ ap (λ (h : History). h.operated) keeps.history
+        kept.operated ∙ append-nil above.history.operated ∙ ap (λ a. a.history.operated) keeps
 
     moved : (new : System) → found_in old.centre.orders.entries entry.id ≡ Some entry
         → IsAccepted (Below station) (next_below above station) above new → ControlMoves entry.id old new
@@ -165,8 +168,8 @@ module _ (laws : CleanLaws) (old : System) (standing : IsStanding old) (steps : 
           station = station;
           command = command;
           ordered = ap (option_and_then (λ (e : Entry). command_below old.indices e.command)) found ∙ is;
-          operated = b.kept.operated ∙ ap (λ (h : History). h.operated ++ (station, command) ∷ []) keeps.history;
-          above = ap (λ (c : CentreState). status_at c.orders entry.id) b.kept.centre ∙ accepted.says;
+          operated = b.kept.operated ∙ ap (λ a. a.history.operated ++ (station, command) ∷ []) keeps;
+          above = ap (λ x. status_at x.centre.orders entry.id) b.kept.beside_is ∙ accepted.says;
           below = b.says;
         }
 
