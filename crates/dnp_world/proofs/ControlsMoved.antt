@@ -12,6 +12,7 @@ use Rattle.dnp_controls.specs.declared.book.Entry.{Entry}
 use Rattle.dnp_controls.specs.declared.book.State.TheVariants.{Pending}
 use Rattle.dnp_objects.specs.declared.command.Command.{Command}
 use Rattle.dnp_world.specs.Arriving.{UnderWay}
+use Rattle.dnp_world.specs.Behind.{Elsewhere}
 use Rattle.dnp_world.specs.CommandWidths.{HasWidths}
 use Rattle.dnp_world.specs.ControlExchanges.{status_at}
 use Rattle.dnp_world.specs.ControlMoves.{ControlMoves}
@@ -33,7 +34,7 @@ use Rattle.dnp_world.proofs.RelaySteps.{next_has}
 use Rattle.dnp_world.proofs.RelayWidths.{below_fits}
 use Rattle.dnp_world.proofs.StepBooks.{added_carries, next_found}
 
-module _ (laws : CleanLaws) (old : System) (standing : IsStanding old) (steps : InStep old) (entry : Entry)
+module _ (laws : CleanLaws) (old : System) {el : Elsewhere} (standing : IsStanding el old) (steps : InStep old) (entry : Entry)
     (next : next_of old.centre.orders.entries 0 ≡ Some entry) (goes : is_free_for entry.id old.centre.link.progress ≡ true) where
   widths : HasWidths entry.command
   widths = (next_has (λ (e : Entry). HasWidths e.command) old.centre.orders.entries 0 entry steps.widths next).0
@@ -242,13 +243,14 @@ module _ (laws : CleanLaws) (old : System) (standing : IsStanding old) (steps : 
           (subst (λ (x : Option ℕ). is_free_below old x ≡ true) (station_is (Some p) e) free)
           (subst (λ (x : Option ℕ). IsControlFor x entry.id old new) (station_is (Some p) e) control)
 
-pub clean_moves : CleanLaws → (id : ℕ) (old new : System) → IsStanding old → InStep old → CanGo id old → IsControl id old new → ControlMoves id old new
+pub clean_moves : CleanLaws → (id : ℕ) (old new : System) {el : Elsewhere} → IsStanding el old → InStep old → CanGo id old → IsControl id old new
+    → ControlMoves id old new
 clean_moves laws id old new standing steps can control =
     let n = next_above old id can.1 in
     subst (λ (i : ℕ). CanGo i old → IsControl i old new → ControlMoves i old new) n.id_is
     (λ can control. clean_entry laws old standing steps n.entry n.next (free_above old n.entry.id can.1) new can.0 (free_below old n.entry.id can.1) control) can control
 
-pub refused_rests : CleanLaws → (id status : ℕ) (old new : System) → IsStanding old → InStep old → CanGo id old
+pub refused_rests : CleanLaws → (id status : ℕ) (old new : System) {el : Elsewhere} → IsStanding el old → InStep old → CanGo id old
     → IsRefusedControl id status old new → new.history.operated ≡ old.history.operated
 refused_rests laws id status old new standing steps can control =
     let n = next_above old id can.1 in

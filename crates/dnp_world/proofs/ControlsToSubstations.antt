@@ -117,6 +117,7 @@ back_from laws law station id command outputs setpoints was old new going there 
     let check_is : plain_check r.is.outputs.outputs r.is.outputs.setpoints command ≡ check =
     ap (λ (n : ℕ). plain_check n r.is.outputs.setpoints command) outputs_is ∙ ap (λ (n : ℕ). plain_check outputs n command) setpoints_is in
     let Kinds : ℕ → Panel → Type 0 = λ n. ChecksAs command n in
+    let now_is : p.relayed.now ≡ old.now = ap (λ b. b.now) r.kept.beside_is in
     record {
       after = ends_below station new u.is confirms;
       now = old.now;
@@ -133,14 +134,13 @@ back_from laws law station id command outputs setpoints was old new going there 
       };
       goes = record {
         sent = answers;
-        answered = subst (λ (n : ℕ). AnswersAll n (Kinds check) (going ++ requests) (station_of was) (station_of u.is) answers d.commands)
-            (ap (λ b. b.now) r.kept.beside_is)
+        answered = subst (λ (n : ℕ). AnswersAll n (Kinds check) (going ++ requests) (station_of was) (station_of u.is) answers d.commands) now_is
             (subst (λ (x : State). AnswersAll p.relayed.now (Kinds check) (going ++ requests) x (station_of u.is) answers d.commands)
             (ap station_of r.is_as)
             (subst (λ (x : State). AnswersAll p.relayed.now (Kinds check) (going ++ requests) (station_of r.is) x answers d.commands) (sym u.stays)
             (subst (λ (n : ℕ). AnswersAll p.relayed.now (Kinds n) (going ++ requests) (station_of r.is) (station_of d.is) answers d.commands) check_is d.all)));
         heard = subst (λ (n : ℕ). HearsAll n answers link (link_at new.concentrator station) confirms)
-            (ap (λ b. b.now) (d.kept.beside_is ∙ r.kept.beside_is))
+            (ap (λ b. b.now) d.kept.beside_is ∙ now_is)
             (subst (λ (x : Relaying). HearsAll p.answered.now answers x (link_at new.concentrator station) confirms)
             (ap (λ c. link_at c station) d.concentrator ∙ r.link) u.all);
         told = u.controls ∙ ap (λ c. c.controls) d.concentrator ∙ r.controls;

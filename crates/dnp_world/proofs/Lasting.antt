@@ -4,12 +4,13 @@ use Rattle.std.specs.Prelude.{◌≢◌, All, IfErr, OnOk, ⊤}
 use Rattle.std.proofs.Math.Logic.{∥∥₁_elim, ∥∥₁_map}
 use Rattle.std.proofs.Props.{props}
 use Rattle.dnp_objects.specs.declared.row.Row.{Row}
+use Rattle.dnp_world.specs.Behind.{Elsewhere}
 use Rattle.dnp_world.specs.Controls.{ControlEnds, IsControlFor, IsRefusedFor, AtCentre, AtConcentrator, IsRefusedOn, First, Second, Third, IsTold, next_below, station_in}
 use Rattle.dnp_world.specs.Kept.{report_of}
 use Rattle.dnp_world.specs.Reports.{IsFate, Report, happened}
 use Rattle.dnp_world.specs.Rounds.{IsRound, StopsInRound}
 use Rattle.dnp_world.specs.Stations.{HasSameCounts, of_station}
-use Rattle.dnp_world.specs.Steady.{Goes, IsSteady, Lasts, points_at, rows_made_at}
+use Rattle.dnp_world.specs.Steady.{Goes, GoesBeside, IsSteady, Lasts, points_at, rows_made_at}
 use Rattle.dnp_world.specs.SystemRuns.{CountsFor, Happens, RunsTo, StopsAfter}
 use Rattle.dnp_world.specs.Systems.{System}
 use Rattle.dnp_world.specs.declared.event.Event.{Event}
@@ -26,6 +27,7 @@ use Rattle.dnp_world.proofs.Counting.{count_by-append}
 use Rattle.dnp_world.proofs.EventPoints.{made_after, none_made}
 use Rattle.dnp_world.proofs.SystemControls.{IsOfControl, ran_accepted, ran_back, ran_twice, stops_for}
 use Rattle.dnp_world.proofs.SystemRounds.{IsOfRound, Ran, StopsIn, ran_both, ran_flush, ran_one, ran_poll}
+use Rattle.dnp_world.proofs.SystemRuns.{at_a_stop}
 
 -- what the laws of one event and of lists promise
 pub record LastingLaws : Type 0 where
@@ -41,7 +43,8 @@ pub rests : (old new : System) → IsSteady old → new ≡ old → Goes (λ i. 
 rests old new s same = subst (Goes (λ i. []) old) (sym same) (record { steady = s; fate = nothing_more (report_of old) })
 
 -- with the same rows, said otherwise
-pub goes_as : (made rows : ℕ → List Row) (old new : System) → ((i : ℕ) → made i ≡ rows i) → Goes made old new → Goes rows old new
+pub goes_as : (made rows : ℕ → List Row) (old new : System) {el : Elsewhere} → ((i : ℕ) → made i ≡ rows i) → GoesBeside el made old new
+    → GoesBeside el rows old new
 goes_as made rows old new same g = record {
   steady = g.steady;
   fate = λ i.
@@ -68,20 +71,10 @@ goes_by laws (e ∷ events) old new s (next, h, ran) =
 
 -- what counts for an event at which a list stops makes no row
 pub stops : LastingLaws → (e : Event) (old new : System) → IsSteady old → CountsFor old e new → Goes (λ i. []) old new
-stops laws (event.Deliver on way) old new s h =
-    goes_as (rows_made_at old (event.Lose on way ∷ [])) (λ i. []) old new (λ i. none_made (points_at old i)) (laws.goes old new (event.Lose on way) s h)
-stops laws (event.Open on) old new s same = rests old new s same
-stops laws (event.HangUp on end) old new s same = rests old new s same
-stops laws (event.Repeat on way) old new s same = rests old new s same
-stops laws (event.Lose on way) old new s same = rests old new s same
-stops laws (event.Damage on way octets) old new s same = rests old new s same
-stops laws (event.Change station kind index reading) old new s same = rests old new s same
-stops laws (event.Ask on task) old new s same = rests old new s same
-stops laws (event.Issue station command) old new s same = rests old new s same
-stops laws (event.Relay on) old new s same = rests old new s same
-stops laws (event.Pass ms) old new s same = rests old new s same
-stops laws (event.Tick on end) old new s same = rests old new s same
-stops laws (event.Restart place) old new s same = rests old new s same
+stops laws e old new s counts =
+    at_a_stop (λ was is. IsSteady was → Goes (λ i. []) was is)
+    (λ on way was is h steady. goes_as (rows_made_at was (event.Lose on way ∷ [])) (λ i. []) was is (λ i. none_made (points_at was i))
+    (laws.goes was is (event.Lose on way) steady h)) (λ was is same steady. rests was is steady same) e old new counts s
 
 -- what a list made, and nothing after it
 goes_then : LastingLaws → (made : ℕ → List Row) (old mid new : System) → Goes made old mid → Goes (λ i. []) mid new → Goes made old new

@@ -17,6 +17,7 @@ use Rattle.dnp_outstation.specs.Content.{source_of}
 use Rattle.dnp_outstation.specs.Links.{IsInOrder}
 use Rattle.dnp_outstation.specs.Polled.{Portion, no_rows, poll_octets, polled_rows, reported}
 use Rattle.dnp_outstation.specs.State.{State, is_free}
+use Rattle.dnp_world.specs.Behind.{Elsewhere}
 use Rattle.dnp_world.specs.Movement.{MovesAbove, MovesBelow, first_reported, first_rows, passed_rows, is_repeated_at, is_repeated_on}
 use Rattle.dnp_world.specs.OutstationSeen.{IsWell, ShowOctets}
 use Rattle.dnp_world.specs.Planned.{IsAsPlanned}
@@ -41,7 +42,8 @@ pub record LaneLaws : Type 0 where
       → slice_get s.substations station ≡ Some was
       → All (λ row. is_reported (link_at s.concentrator station).master.plan row ≡ true) (rows_in was.lanes)
   pub queued : QueuedLaw
-  pub above : (s : System) → IsStanding s → IsAsPlanned s → All (λ row. is_reported s.centre.link.master.plan row ≡ true) (rows_in s.concentrator.queue)
+  pub above : (s : System) {el : Elsewhere} → IsStanding el s → IsAsPlanned s
+      → All (λ row. is_reported s.centre.link.master.plan row ≡ true) (rows_in s.concentrator.queue)
 
 -- ---- what is polled is of the lanes
 

@@ -8,6 +8,7 @@ ghost use Rattle.dnp_eventbuf.specs.Stock.{Stock};
 ghost use Rattle.dnp_world.specs.declared.event.Event.{Event};
 ghost use Rattle.dnp_world.specs.declared.event.Link.{Link};
 ghost use Rattle.dnp_world.specs.declared.round_fault.ControlFault.{ControlFault};
+ghost use Rattle.dnp_world.specs.Behind.{Elsewhere};
 ghost use Rattle.dnp_world.specs.Controls.{ControlEnds};
 ghost use Rattle.dnp_world.specs.FreshSystems.{fresh_system};
 ghost use Rattle.dnp_world.specs.Kept.{report_of};
@@ -15,7 +16,7 @@ ghost use Rattle.dnp_world.specs.NewSystems.{AreEmpty, CanBegin};
 ghost use Rattle.dnp_world.specs.ReportShown.{ListsAll};
 ghost use Rattle.dnp_world.specs.Reports.{Holds};
 ghost use Rattle.dnp_world.specs.Rounds.{IsRound, StopsInRound};
-ghost use Rattle.dnp_world.specs.Steady.{Goes, IsSteady, Issues, Lasts, rows_made_at};
+ghost use Rattle.dnp_world.specs.Steady.{Goes, GoesBeside, IsSteady, IsSteadyBeside, Issues, Lasts, rows_made_at};
 ghost use Rattle.dnp_world.specs.SystemRuns.{Happens, RunsTo, StopsAfter};
 ghost use Rattle.dnp_world.specs.Systems.{System};
 
@@ -60,7 +61,8 @@ pub fn rounds_and_controls_issue_nothing()
 /// Whatever happens to a steady system leaves it steady, and what happened at its substations is what had happened and the rows
 /// that a reading makes.
 pub fn every_event_keeps_a_system_steady()
-    ensures { (old new : System) (event : Event) → IsSteady old → Happens old event new → Goes (rows_made_at old (event ∷ [])) old new }
+    ensures { (old new : System) (el : Elsewhere) (event : Event) → IsSteadyBeside el old → Happens old event new
+        → GoesBeside el (rows_made_at old (event ∷ [])) old new }
 {
     events_below_keep_what_stands();
     calls_below_keep_what_stands();

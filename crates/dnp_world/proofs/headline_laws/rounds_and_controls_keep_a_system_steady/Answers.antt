@@ -1,11 +1,12 @@
 -- Their events make no row.
+use Rattle.dnp_world.specs.Behind.{alone}
 use Rattle.dnp_world.proofs.Lasting.{LastingLaws, calm_control, calm_run, calm_stop, ran_round, rests, round_makes_none}
 use Rattle.dnp_world.proofs.SystemRounds.{IsOfRound, stops_round}
 use Rattle.dnp_world.proofs.headline_laws.rounds_and_controls_keep_a_system_steady.Goals as goal
 
 laws_of : goal.After-lists_are_of_links → LastingLaws
 laws_of c = record {
-  goes = c.every_event_keeps_a_system_steady.ensures;
+  goes = λ old new. c.every_event_keeps_a_system_steady.ensures old new alone;
   rows = c.rows_are_made_by_events_alone.ensures;
   joined = c.lists_are_of_links.ensures.joined;
 }

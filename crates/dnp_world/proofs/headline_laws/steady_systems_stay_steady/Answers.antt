@@ -1,11 +1,12 @@
 -- Event by event.
 use Rattle.std.proofs.Math.Logic.{∥∥₁_map}
+use Rattle.dnp_world.specs.Behind.{alone}
 use Rattle.dnp_world.proofs.Lasting.{LastingLaws, goes_by, goes_stopped, lasts, lasts_on, lasts_stopped}
 use Rattle.dnp_world.proofs.headline_laws.steady_systems_stay_steady.Goals as goal
 
 laws_of : goal.After-what_stands_is_shown → LastingLaws
 laws_of c = record {
-  goes = c.every_event_keeps_a_system_steady.ensures;
+  goes = λ old new. c.every_event_keeps_a_system_steady.ensures old new alone;
   rows = c.rows_are_made_by_events_alone.ensures;
   joined = c.lists_are_of_links.ensures.joined;
 }
@@ -35,7 +36,7 @@ returns-clause-at_first c = λ plan queue journal controls orders begins empty. 
 }
 
 pub returns-clause-holds : goal.returns-clause-holds
-returns-clause-holds c = λ s some. c.what_stands_is_shown.ensures.holds s (∥∥₁_map some (λ steady. steady.standing))
+returns-clause-holds c = λ s some. c.what_stands_is_shown.ensures.holds s alone (∥∥₁_map some (λ steady. steady.standing))
 
 pub returns-clause-all : goal.returns-clause-all
-returns-clause-all c = λ s some. c.what_stands_is_shown.ensures.all s (∥∥₁_map some (λ steady. steady.standing))
+returns-clause-all c = λ s some. c.what_stands_is_shown.ensures.all s alone (∥∥₁_map some (λ steady. steady.standing))

@@ -4,6 +4,7 @@ use Rattle.std.proofs.Math.Logic.{∥∥₁_elim, ∥∥₁_map}
 use Rattle.std.proofs.Props.{props}
 use Rattle.std.specs.Prelude.{OnOk, Result, Ok, Err, ⊤}
 use Rattle.dnp_objects.specs.declared.command.Command.{Command}
+use Rattle.dnp_world.specs.Behind.{alone}
 use Rattle.dnp_world.specs.ControlMoves.{ControlMoves}
 use Rattle.dnp_world.specs.Controls.{CanGo, ControlEnds, IsControl}
 use Rattle.dnp_world.specs.Steady.{IsSteady}
@@ -42,7 +43,7 @@ returns-clause-operates g c = λ well.
     let new = c.clean_control.new.self.system in
     rw (← c.self.view_is)
     (moved c.args.id old new c.clean_control.result (c.self.invariant (c.clean_control.ensures.held well))
-    (λ s. c.a_clean_control_operates.ensures.moves c.args.id old new s.standing s.controls) (c.clean_control.ensures.ends well))
+    (λ s. c.a_clean_control_operates.ensures.moves c.args.id old new alone s.standing s.controls) (c.clean_control.ensures.ends well))
 
 same_once : (xs ys : List (ℕ × Command)) → IsProp (xs ≡ ys)
 same_once xs ys = hlevel props
@@ -56,7 +57,7 @@ returns-clause-rests g c = λ well.
     let ends : ControlEnds c.args.id old (Err (control.Refused status)) new =
     subst (λ (r : Result ⊤ ControlFault). ControlEnds c.args.id old r new) is (c.clean_control.ensures.ends well) in
     ∥∥₁_elim (c.self.invariant (c.clean_control.ensures.held well)) (same_once new.history.operated old.history.operated)
-    (λ s. c.a_clean_control_operates.ensures.rests c.args.id status old new s.standing s.controls ends.0 ends.1))
+    (λ s. c.a_clean_control_operates.ensures.rests c.args.id status old new alone s.standing s.controls ends.0 ends.1))
 
 pub returns-clause-holds : goal.returns-clause-holds
 returns-clause-holds g c = λ well.
