@@ -22,6 +22,10 @@ use Rattle.dnp_world.specs.declared.event.Link.TheVariants.{Above}
 use Rattle.dnp_world.specs.declared.link_event.Way.TheVariants as way
 use Rattle.dnp_world.proofs.ControlsAccepted.{Back, IsTaken, OverLink, SaysSuccess, Told}
 
+-- the link between concentrator and centre
+abbrev on : Link
+on = Above
+
 -- ---- what the link above leaves alone
 
 -- a system without its two stations above, the concentrator's book, and the lines between them
@@ -86,7 +90,7 @@ down_from fragment answers old new lines steps sends = record {
   controls = ap (λ (s : System). s.concentrator.controls) steps.after;
 }
 
-one_down : (fragment : List ℕ) (answers : List (List ℕ)) (old new : System) → Arrives Above way.Down fragment answers old new
+one_down : (fragment : List ℕ) (answers : List (List ℕ)) (old new : System) → Arrives on way.Down fragment answers old new
     → OneDown fragment answers old new
 one_down fragment answers old new a =
     down_from fragment answers old new a.heard.above (subst (λ (s : System). MiddleAnswers (fragment ∷ []) s new) a.hears.1 a.takes)
@@ -94,7 +98,7 @@ one_down fragment answers old new a =
     ∙ ap (λ (s : System). (connection_after (middle_of s.concentrator) (middle_panel s.concentrator) s.now fragment).does.send) a.hears.1)
 
 pub above_down : (command : Command) (spans : List Spans) (fragments answers : List (List ℕ)) (old new : System) → old.concentrator.indices ≡ spans
-    → Arrive Above way.Down fragments answers old new → DownAbove command spans fragments answers old new
+    → Arrive on way.Down fragments answers old new → DownAbove command spans fragments answers old new
 above_down command spans [] answers old new indices (answers_is, new_is) = record {
   commands = [];
   all = (ap (λ (s : System). middle_of s.concentrator) new_is, answers_is, refl);
@@ -141,7 +145,7 @@ record OneUp (r : Result Taking MasterFault) (old new : System) : Type 0 where
   orders : new.centre.orders ≡ old.centre.orders
   concentrator : new.concentrator ≡ old.concentrator
 
-up_from : (r : Result Taking MasterFault) (old new : System) (lines : ChannelState) → MasterReceives Above r (with_above old lines) new → OneUp r old new
+up_from : (r : Result Taking MasterFault) (old new : System) (lines : ChannelState) → MasterReceives on r (with_above old lines) new → OneUp r old new
 up_from (Ok t) old new lines (numbers, down) = record {
   hears = (ap (λ (s : System). s.centre.link) down.1, refl);
   keeps = ap around down.1;
@@ -155,13 +159,13 @@ up_from (Err fault) old new lines same = record {
   concentrator = ap (λ (s : System). s.concentrator) same;
 }
 
-one_up : (fragment : List ℕ) (answers : List (List ℕ)) (old new : System) → Arrives Above way.Up fragment answers old new
+one_up : (fragment : List ℕ) (answers : List (List ℕ)) (old new : System) → Arrives on way.Up fragment answers old new
     → OneUp (receive_of old.centre.link.master old.now fragment) old new
 one_up fragment answers old new a =
     up_from (receive_of old.centre.link.master old.now fragment) old new a.heard.above
-    (subst (λ (s : System). MasterReceives Above (receive_of s.centre.link.master s.now fragment) s new) a.hears.1 a.takes)
+    (subst (λ (s : System). MasterReceives on (receive_of s.centre.link.master s.now fragment) s new) a.hears.1 a.takes)
 
-pub above_up : (fragments answers : List (List ℕ)) (old new : System) → Arrive Above way.Up fragments answers old new → UpAbove fragments answers old new
+pub above_up : (fragments answers : List (List ℕ)) (old new : System) → Arrive on way.Up fragments answers old new → UpAbove fragments answers old new
 above_up [] answers old new (answers_is, new_is) = record {
   all = (ap (λ (s : System). s.centre.link) new_is, answers_is);
   keeps = ap around new_is;
@@ -205,7 +209,7 @@ ends_above s going = record { link = s.centre.link; book = s.centre.orders; stat
 pub record SeenAbove (spans : List Spans) (s : System) (ends : Ends) : Type 0 where
   pub going : List (List ℕ)
   pub is : ends ≡ ends_above s going
-  pub under : UnderWay Above going [] s
+  pub under : UnderWay on going [] s
   pub spans_are : s.concentrator.indices ≡ spans
 
 -- commands that were performed above are in the concentrator's book
@@ -223,23 +227,23 @@ join_above spans first more a b c h k = record {
 }
 
 record RelayedAbove (going : List (List ℕ)) (old relayed : System) : Type 0 where
-  under : UnderWay Above (going ++ requests_of (next_step 0 (ends_above old going)) old.centre.link.master.seq) [] relayed
+  under : UnderWay on (going ++ requests_of (next_step 0 (ends_above old going)) old.centre.link.master.seq) [] relayed
   link : relayed.centre.link ≡ relaying_after old.centre.link old.now (next_step 0 (ends_above old going))
   orders : relayed.centre.orders ≡ told_to 0 (ends_above old going)
   concentrator : relayed.concentrator ≡ old.concentrator
   keeps : KeepsAround old relayed
 
-relayed_above : ArrivingLaws → (old relayed : System) (going : List (List ℕ)) → UnderWay Above going [] old → RelaysOn Above old relayed
+relayed_above : ArrivingLaws → (old relayed : System) (going : List (List ℕ)) → UnderWay on going [] old → RelaysOn on old relayed
     → IsTaken 0 (ends_above old going) → RelayedAbove going old relayed
 relayed_above laws old relayed going under (Refuses refused same) taken = absurd (taken refused)
 relayed_above laws old relayed going under (Steps pending sends) taken =
     let step : Step = next_step 0 (ends_above old going) in
     let requests : List (List ℕ) = requests_of step old.centre.link.master.seq in
     let link : Relaying = relaying_after old.centre.link old.now step in
-    let still : UnderWay Above going [] (told old Above step) =
+    let still : UnderWay on going [] (told old on step) =
     record { channel = under.channel; there = under.there; down_is = under.down_is; up_is = under.up_is } in
     record {
-      under = laws.asked Above requests going [] link (told old Above step) relayed still sends;
+      under = laws.asked on requests going [] link (told old on step) relayed still sends;
       link = ap (λ (s : System). s.centre.link) sends.1;
       orders = ap (λ (s : System). s.centre.orders) sends.1;
       concentrator = ap (λ (s : System). s.concentrator) sends.1;
@@ -247,20 +251,20 @@ relayed_above laws old relayed going under (Steps pending sends) taken =
     }
 
 -- what the book was told is what the relaying shows
-told_above : (id : ℕ) (old relayed : System) (going : List (List ℕ)) → Passes Above (Some id) old relayed
+told_above : (id : ℕ) (old relayed : System) (going : List (List ℕ)) → Passes on (Some id) old relayed
     → relayed.centre.orders ≡ told_to 0 (ends_above old going) → SaysSuccess (told_to 0 (ends_above old going)) id
 told_above id old relayed going p orders status says = p.passes status (ap (λ (b : Ledger). status_at b id) orders ∙ says)
 
-pub back_from : ArrivingLaws → (spans : List Spans) (id : ℕ) (command : Command) (old new : System) (going : List (List ℕ)) → UnderWay Above going [] old
-    → old.concentrator.indices ≡ spans → PassesBack Above (Some id) old new → IsTaken 0 (ends_above old going)
+pub back_from : ArrivingLaws → (spans : List Spans) (id : ℕ) (command : Command) (old new : System) (going : List (List ℕ)) → UnderWay on going [] old
+    → old.concentrator.indices ≡ spans → PassesBack on (Some id) old new → IsTaken 0 (ends_above old going)
     → Back (SeenAbove spans) (KeptAbove spans) 0 id (relay_check spans command) command old new (ends_above old going)
 back_from laws spans id command old new going under spans_are p taken =
     let r : RelayedAbove going old p.relayed = relayed_above laws old p.relayed going under p.step.relays taken in
     let requests : List (List ℕ) = requests_of (next_step 0 (ends_above old going)) old.centre.link.master.seq in
-    let (answers, arrive, under') = laws.down Above (going ++ requests) [] p.relayed p.answered r.under p.down in
+    let (answers, arrive, under') = laws.down on (going ++ requests) [] p.relayed p.answered r.under p.down in
     let d : DownAbove command spans (going ++ requests) answers p.relayed p.answered =
     above_down command spans (going ++ requests) answers p.relayed p.answered (ap (λ a. a.spans) r.keeps ∙ spans_are) arrive in
-    let (confirms, arrive_up, under_up) = laws.up Above [] answers p.answered new under' p.up in
+    let (confirms, arrive_up, under_up) = laws.up on [] answers p.answered new under' p.up in
     let u : UpAbove answers confirms p.answered new = above_up answers confirms p.answered new arrive_up in
     let Outputs : Panel → Type 0 = ChecksAs command (relay_check spans command) in
     let keeps : KeepsAround old new = u.keeps ∙ d.keeps ∙ r.keeps in
@@ -291,8 +295,8 @@ back_from laws spans id command old new going under spans_are p taken =
       told = told_above id old p.relayed going p.step r.orders;
     }
 
-pub step_from : ArrivingLaws → (spans : List Spans) (old new : System) (going : List (List ℕ)) → UnderWay Above going [] old
-    → RelaysOn Above old new → IsTaken 0 (ends_above old going)
+pub step_from : ArrivingLaws → (spans : List Spans) (old new : System) (going : List (List ℕ)) → UnderWay on going [] old
+    → RelaysOn on old new → IsTaken 0 (ends_above old going)
     → Told (KeptAbove spans) 0 (λ s. s.centre.orders) old new (ends_above old going)
 step_from laws spans old new going under relays taken =
     let r : RelayedAbove going old new = relayed_above laws old new going under relays taken in
@@ -301,7 +305,7 @@ step_from laws spans old new going under relays taken =
       is = r.orders;
     }
 
-unfoldable pub over_above : ArrivingLaws → (spans : List Spans) (id : ℕ) (command : Command) → OverLink Above 0 id (relay_check spans command) command
+unfoldable pub over_above : ArrivingLaws → (spans : List Spans) (id : ℕ) (command : Command) → OverLink on 0 id (relay_check spans command) command
 over_above laws spans id command = record {
   View = SeenAbove spans;
   Kept = KeptAbove spans;

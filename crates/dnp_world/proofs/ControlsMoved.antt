@@ -21,6 +21,7 @@ use Rattle.dnp_world.specs.ControlsInStep.{InStep}
 use Rattle.dnp_world.specs.Rounds.{is_quiet_at, is_quiet_on}
 use Rattle.dnp_world.specs.SystemStanding.{IsStanding}
 use Rattle.dnp_world.specs.Systems.{SubstationState, System, has_station, link_at}
+use Rattle.dnp_world.specs.declared.event.Link.{Link}
 use Rattle.dnp_world.specs.declared.event.Link.TheVariants.{Above, Below}
 use Rattle.dnp_world.proofs.ControlBooks.{next_found as next_is_found}
 use Rattle.dnp_world.proofs.ControlsAbove.{KeepsAround, KeptAbove, ends_above, over_above}
@@ -33,6 +34,10 @@ use Rattle.dnp_world.proofs.ControlsToSubstations.{ends_below, over_below, under
 use Rattle.dnp_world.proofs.RelaySteps.{next_has}
 use Rattle.dnp_world.proofs.RelayWidths.{below_fits}
 use Rattle.dnp_world.proofs.StepBooks.{added_carries, next_found}
+
+-- the link between concentrator and centre
+abbrev on : Link
+on = Above
 
 module _ (laws : CleanLaws) (old : System) {el : Elsewhere} (standing : IsStanding el old) (steps : InStep old) (entry : Entry)
     (next : next_of old.centre.orders.entries 0 ≡ Some entry) (goes : is_free_for entry.id old.centre.link.progress ≡ true) where
@@ -48,23 +53,23 @@ module _ (laws : CleanLaws) (old : System) {el : Elsewhere} (standing : IsStandi
   AcceptedAbove above =
       Accepted entry.id (relay_check old.indices entry.command) entry.command (KeptAbove old.indices) (λ s. s.centre.orders) old above
 
-  above_accepted : (above : System) → is_quiet_on old Above ≡ true → IsAccepted Above (Some entry.id) old above → AcceptedAbove above
+  above_accepted : (above : System) → is_quiet_on old on ≡ true → IsAccepted on (Some entry.id) old above → AcceptedAbove above
   unfolding over_above
   above_accepted above quiet a =
-      accepted_over laws.controls Above 0 (relay_check old.indices entry.command) entry (over_above laws.arriving old.indices entry.id entry.command)
+      accepted_over laws.controls on 0 (relay_check old.indices entry.command) entry (over_above laws.arriving old.indices entry.id entry.command)
       (relay_low old.indices entry.command) old above (ends_above old [])
-      (record { going = []; is = refl; under = laws.quiet Above old standing quiet; spans_are = standing.of_plan.middle_indices })
+      (record { going = []; is = refl; under = laws.quiet on old standing quiet; spans_are = standing.of_plan.middle_indices })
       (above_starts laws.decides old entry standing steps quiet next goes) (next_found old.centre.orders.entries 0 entry steps.orders.rising next) pending a
 
   -- what a status above ends has operated nothing
-  above_rests : (new : System) (status : ℕ) → is_quiet_on old Above ≡ true → IsRefusedOn Above (Some entry.id) status old new
+  above_rests : (new : System) (status : ℕ) → is_quiet_on old on ≡ true → IsRefusedOn on (Some entry.id) status old new
       → new.history.operated ≡ old.history.operated
   unfolding over_above
   above_rests new status quiet refused =
       let kept : KeptAbove old.indices [] old new =
-      refused_over laws.controls Above 0 (relay_check old.indices entry.command) entry (over_above laws.arriving old.indices entry.id entry.command)
+      refused_over laws.controls on 0 (relay_check old.indices entry.command) entry (over_above laws.arriving old.indices entry.id entry.command)
       (relay_low old.indices entry.command) old new (ends_above old []) status
-      (record { going = []; is = refl; under = laws.quiet Above old standing quiet; spans_are = standing.of_plan.middle_indices })
+      (record { going = []; is = refl; under = laws.quiet on old standing quiet; spans_are = standing.of_plan.middle_indices })
       (above_starts laws.decides old entry standing steps quiet next goes) (next_found old.centre.orders.entries 0 entry steps.orders.rising next) pending refused in
       ap (λ a. a.history.operated) kept.keeps
 
@@ -183,7 +188,7 @@ module _ (laws : CleanLaws) (old : System) {el : Elsewhere} (standing : IsStandi
       → are_quiet_for old (Some station) ≡ true → is_free_below old (Some station) ≡ true → IsControlFor (Some station) entry.id old new
       → ControlMoves entry.id old new
   goes_below station command new is quiet free (above, first, second) =
-      let both = and_parts (is_quiet_on old Above) (is_quiet_on old (Below station)) quiet in
+      let both = and_parts (is_quiet_on old on) (is_quiet_on old (Below station)) quiet in
       let frees = and_parts _ _ free in
       let ends = and_parts (has_station old station) _ both.1 in
       let rests = and_parts _ (is_quiet_at (slice_get old.substations station)) ends.1 in
@@ -192,10 +197,10 @@ module _ (laws : CleanLaws) (old : System) {el : Elsewhere} (standing : IsStandi
       (none_is (link_at old.concentrator station).progress frees.1) both.1 was there new found second
 
   rests_below : (station : ℕ) (command : Command) (above new : System) (status : ℕ) → command_below old.indices entry.command ≡ Some (station, command)
-      → are_quiet_for old (Some station) ≡ true → is_free_below old (Some station) ≡ true → IsAccepted Above (Some entry.id) old above
+      → are_quiet_for old (Some station) ≡ true → is_free_below old (Some station) ≡ true → IsAccepted on (Some entry.id) old above
       → IsRefusedOn (Below station) (next_below above station) status above new → new.history.operated ≡ old.history.operated
   rests_below station command above new status is quiet free first refused =
-      let both = and_parts (is_quiet_on old Above) (is_quiet_on old (Below station)) quiet in
+      let both = and_parts (is_quiet_on old on) (is_quiet_on old (Below station)) quiet in
       let frees = and_parts _ _ free in
       let ends = and_parts (has_station old station) _ both.1 in
       let rests = and_parts _ (is_quiet_at (slice_get old.substations station)) ends.1 in
@@ -211,9 +216,9 @@ module _ (laws : CleanLaws) (old : System) {el : Elsewhere} (standing : IsStandi
       ap (option_and_then (λ (x : Entry). option_map (λ (p : ℕ × Command). p.0) (command_below old.indices x.command))) found
       ∙ ap (option_map (λ (p : ℕ × Command). p.0)) e
 
-  above_quiet : (o : Option ℕ) → are_quiet_for old o ≡ true → is_quiet_on old Above ≡ true
+  above_quiet : (o : Option ℕ) → are_quiet_for old o ≡ true → is_quiet_on old on ≡ true
   above_quiet None quiet = quiet
-  above_quiet (Some station) quiet = (and_parts (is_quiet_on old Above) (is_quiet_on old (Below station)) quiet).0
+  above_quiet (Some station) quiet = (and_parts (is_quiet_on old on) (is_quiet_on old (Below station)) quiet).0
 
   refused_entry : (new : System) (status : ℕ) → are_quiet_for old (station_in old entry.id) ≡ true → is_free_below old (station_in old entry.id) ≡ true
       → IsRefusedControl entry.id status old new → new.history.operated ≡ old.history.operated

@@ -27,6 +27,7 @@ use Rattle.dnp_world.specs.Steady.{IsSteady}
 use Rattle.dnp_world.specs.SystemEvents.{relaying_at}
 use Rattle.dnp_world.specs.SystemStanding.{IsJoinedBelow, IsStanding}
 use Rattle.dnp_world.specs.Systems.{SubstationState, System, link_at, middle_of, middle_panel, panel_of, station_of}
+use Rattle.dnp_world.specs.declared.event.Link.{Link}
 use Rattle.dnp_world.specs.declared.event.Link.TheVariants.{Below, Above}
 use Rattle.dnp_world.proofs.AllQueued.{QueuedLaw, all_are_queued}
 use Rattle.dnp_world.proofs.RepeatedPoll.{ReportLaws, WentOn, repeated}
@@ -119,6 +120,10 @@ fit_above stations old steady begins =
       seq = steady.standing.above.number;
     }
 
+-- the link between concentrator and centre
+abbrev on : Link
+on = Above
+
 -- ---- a poll that is answered
 
 pub polled_below : StationLaws → LineLaws → LaneLaws → (station : ℕ) (old new : System) → IsSteady old → is_quiet_on old (Below station) ≡ true
@@ -136,14 +141,14 @@ polled_below stations lines lanes station old new steady quiet round other =
     (Exchanges (polled_exchange stations m old.now (station_of was) (panel_of was) fit asked
     (ap (λ (o : Option SubstationState). is_repeated_at o (poll_octets m.seq)) (sym begins.there) ∙ other)))).moves
 
-pub polled_above : StationLaws → LineLaws → LaneLaws → (old new : System) → IsSteady old → is_quiet_on old Above ≡ true → IsRound Above old new
-    → is_repeated_on old Above ≡ false → MovesAbove first_rows old new
+pub polled_above : StationLaws → LineLaws → LaneLaws → (old new : System) → IsSteady old → is_quiet_on old on ≡ true → IsRound on old new
+    → is_repeated_on old on ≡ false → MovesAbove first_rows old new
 polled_above stations lines lanes old new steady quiet round other =
     let begins : above.BeginsAbove old = above.begins_above old quiet in
     let c = old.concentrator in
     let m : master.State = old.centre.link.master in
     let fit : AreFit m (middle_of c) (middle_panel c) = fit_above stations old steady begins in
-    (above.moves stations lines old new begins (lines.quiet Above old steady.standing quiet) first_rows round
+    (above.moves stations lines old new begins (lines.quiet on old steady.standing quiet) first_rows round
     (Exchanges (polled_exchange stations m old.now (middle_of c) (middle_panel c) fit
     (all_polled stations.released (λ row. is_reported m.plan row ≡ true) c.queue fit.sound (lanes.above old steady.standing steady.planned)) other))).moves
 
@@ -195,10 +200,10 @@ repeated_below stations lines lanes reports cases station old new steady quiet r
 -- here at most an unsolicited response moved its rows
 pub record PassedAbove (old new : System) : Type 0 where
   pub moves : MovesAbove first_reported old new
-  pub busy : is_some (relaying_at new Above).master.request ≡ true
+  pub busy : is_some (relaying_at new on).master.request ≡ true
 
-pub repeated_above : StationLaws → LineLaws → LaneLaws → ReportLaws → CaseLaw → (old new : System) → IsSteady old → is_quiet_on old Above ≡ true
-    → IsRound Above old new → is_repeated_on old Above ≡ true → PassedAbove old new
+pub repeated_above : StationLaws → LineLaws → LaneLaws → ReportLaws → CaseLaw → (old new : System) → IsSteady old → is_quiet_on old on ≡ true
+    → IsRound on old new → is_repeated_on old on ≡ true → PassedAbove old new
 repeated_above stations lines lanes reports cases old new steady quiet round again =
     let begins : above.BeginsAbove old = above.begins_above old quiet in
     let c = old.concentrator in
@@ -211,5 +216,5 @@ repeated_above stations lines lanes reports cases old new steady quiet round aga
     let r = repeated reports m old.now (middle_of c) (middle_panel c) fit order
     (all_reported stations.released (λ row. is_reported m.plan row ≡ true) c.queue c.core.enabled fit.sound order.classes (lanes.above old steady.standing steady.planned))
     again went in
-    let x = above.moves stations lines old new begins (lines.quiet Above old steady.standing quiet) first_reported round r.answer in
+    let x = above.moves stations lines old new begins (lines.quiet on old steady.standing quiet) first_reported round r.answer in
     record { moves = x.moves; busy = ap (λ (a : master.State). is_some a.request) x.master_is ∙ r.busy }
