@@ -11,10 +11,9 @@ use Rattle.dnp_world.proofs.parts.Parts.open.Goals as goal
 pub returns-in_err-open-in-Below-clause-stopped : goal.returns-in_err-open-in-Below-clause-stopped
 returns-in_err-open-in-Below-clause-stopped g c = λ well.
     let planned = rw (← c.self.view_is, c.in-Below.is) at c.requires in
-    let old = system_of g.Q.Lanes.contents g.J.JournalStore.archive g.A.Book.contents g.B.Book.contents c.self.inside in
     rw (← c.self.view_is)
     (any_err c.from_residual.result _
-    (unchanged_at old c.self.inside.substations.items c.in-Below.station c.from.result c.index_mut-substation.result.now c.open.new.self refl c.from.ensures
+    (unchanged_at _ c.self.inside.substations.items c.in-Below.station c.from.result c.index_mut-substation.result.now c.open.new.self refl c.from.ensures
     planned c.index_mut-substation.ensures.value c.in_err-open-in-Below.ensures.stopped))
 
 pub returns-in_ok-open-in-Below-clause-done : goal.returns-in_ok-open-in-Below-clause-done

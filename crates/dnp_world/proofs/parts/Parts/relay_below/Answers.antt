@@ -13,11 +13,10 @@ use Rattle.dnp_world.proofs.parts.Parts.relay_below.Goals as goal
 
 pub returns-in_err-reserve_down-clause-stopped : goal.returns-in_err-reserve_down-clause-stopped
 returns-in_err-reserve_down-clause-stopped g c = λ well.
-    let old = system_of g.Q.Lanes.contents g.J.JournalStore.archive g.A.Book.contents g.B.Book.contents c.self.inside in
     let was = c.index_mut.result.now in
     rw (← c.self.view_is)
     (any_err c.from_residual.result _
-    (unchanged_at old c.self.inside.substations.items c.args.station c.from.result was (record was { channel = c.reserve_down.new.self }) refl
+    (unchanged_at _ c.self.inside.substations.items c.args.station c.from.result was (record was { channel = c.reserve_down.new.self }) refl
     c.from.ensures (rw (← c.self.view_is) at c.requires) c.index_mut.ensures.value
     (ap (λ (k : ChannelState). record (substation_of was) { channel = k }) c.reserve_down.ensures.same)))
 

@@ -9,10 +9,9 @@ use Rattle.dnp_world.proofs.parts.Parts.tick_outstation.Goals as goal
 pub returns-in_err-tick-in-Below-clause-stopped : goal.returns-in_err-tick-in-Below-clause-stopped
 returns-in_err-tick-in-Below-clause-stopped g c = λ well.
     let planned = rw (← c.self.view_is, c.in-Below.is) at c.requires in
-    let old = system_of g.Q.Lanes.contents g.J.JournalStore.archive g.A.Book.contents g.B.Book.contents c.self.inside in
     rw (← c.self.view_is)
     (any_err c.from_residual.result _
-    (unchanged_at old c.self.inside.substations.items c.in-Below.station c.from.result c.index_mut-substation.result.now c.tick.new.self refl c.from.ensures
+    (unchanged_at _ c.self.inside.substations.items c.in-Below.station c.from.result c.index_mut-substation.result.now c.tick.new.self refl c.from.ensures
     planned c.index_mut-substation.ensures.value c.in_err-tick-in-Below.ensures.stopped))
 
 pub returns-in_ok-tick-in-Below-clause-done : goal.returns-in_ok-tick-in-Below-clause-done
