@@ -16,7 +16,7 @@ use Rattle.dnp_outstation.specs.Connection.{case_of}
 use Rattle.dnp_outstation.specs.Controls.{is_control}
 use Rattle.dnp_outstation.specs.State.{State, Step, is_quiet, still}
 use Rattle.dnp_outstation.specs.declared.case.Case.{Case}
-use Rattle.dnp_outstation.specs.declared.case.Case.TheVariants.{Again, Asks, Confirms, ConfirmsUnsolicited, PassedOver, Stray, Waits}
+use Rattle.dnp_outstation.specs.declared.case.Case.TheVariants.{Asks}
 use Rattle.dnp_world.specs.Arriving.{Arrives, HearsAt, IsClearOn, UnderWay, confirms_of}
 use Rattle.dnp_world.specs.Channels.{ChannelState, GoDown, are_quiet}
 use Rattle.dnp_world.specs.Movement.{Leave, MovesAbove, Released, Rested}
@@ -53,13 +53,8 @@ no_commands : (c : ConcentratorState) (now : ℕ) (fragment : List ℕ) → is_c
 no_commands c now fragment none = by (case_of c.core fragment)
   where
     by : (x : Case) → performed_for c.core (middle_panel c) now fragment x ≡ []
-    by PassedOver = refl
-    by Confirms = refl
-    by ConfirmsUnsolicited = refl
-    by Stray = refl
-    by Again = refl
-    by Waits = refl
     by Asks = ap (λ (b : Bool). if b then performed_at c.core (middle_panel c) now fragment else []) none
+    by x = refl
 
 -- what the round leaves alone
 record Rest : Type 0 where

@@ -55,12 +55,9 @@ abbrev pub rows_made_at : System → List Event → ℕ → List Row
 rows_made_at s events i = made_from (points_at s i) (flat_map (λ e. moves_at s e i) events)
 
 -- the system is steady again, and what happened is what had happened and these rows of each substation
-pub record GoesBeside (el : Elsewhere) (made : ℕ → List Row) (old new : System) : Type 0 where
+pub record Goes (el : Elsewhere) (made : ℕ → List Row) (old new : System) : Type 0 where
   pub steady : IsSteadyBeside el new
   pub fate : IsFate made (report_of old) (report_of new)
-
-abbrev pub Goes : (ℕ → List Row) → System → System → Type 0
-Goes made old new = GoesBeside alone made old new
 
 -- ---- what is issued
 

@@ -33,7 +33,7 @@ ghost use Rattle.dnp_world.specs.Kept.{AreMapped, Kept, commands_below, nothing_
 ghost use Rattle.dnp_world.specs.ReportShown.{ListsAll, Shows, lists_of};
 ghost use Rattle.dnp_world.specs.OneLinkEvents.{is_own};
 ghost use Rattle.dnp_world.specs.Reports.{Holds, IsFate, Report as ReportValue};
-ghost use Rattle.dnp_world.specs.Steady.{IsSteady};
+ghost use Rattle.dnp_world.specs.Steady.{IsSteadyBeside};
 ghost use Rattle.dnp_world.specs.SystemStanding.{IsStanding, Keeps};
 ghost use Rattle.dnp_world.specs.SystemEvents.{AsksOn, ComesDownBelow, ComesUp, HangsUpOn, IssuesBy, LinesChange, LosesOn, MasterTicks, OpensOn, OutstationTicks, Reads, SubstationRestarts, concentrator_restarted};
 ghost use Rattle.dnp_world.specs.Systems.{System, at_station, has_station};
@@ -88,8 +88,8 @@ pub fn what_a_report_shows_is_kept()
     ensures queue { (s : System) (r : Shown) → Shows s r → IsPermutation r.queue (report_of s).queue }
     ensures others { (s : System) (r : Shown) → Shows s r → length s.substations ≤ NUMBERS → lost_in s.concentrator.queue < 2 ^ 64
         → lists_of r ≡ record (report_of s) { queue = r.queue } }
-    ensures holds { (s : System) (r : Shown) → Shows s r → length r.dropped < 2 ^ 64 → ∥ IsSteady s ∥₁ → Holds (lists_of r) }
-    ensures all { (s : System) (r : Shown) → Shows s r → ∥ IsSteady s ∥₁ → ListsAll s (lists_of r) }
+    ensures holds { (s : System) (el : Elsewhere) (r : Shown) → Shows s r → length r.dropped < 2 ^ 64 → ∥ IsSteadyBeside el s ∥₁ → Holds (lists_of r) }
+    ensures all { (s : System) (el : Elsewhere) (r : Shown) → Shows s r → ∥ IsSteadyBeside el s ∥₁ → ListsAll s (lists_of r) }
 {
     lists_are_of_links();
     what_stands_is_shown();

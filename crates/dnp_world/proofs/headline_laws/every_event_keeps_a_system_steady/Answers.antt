@@ -4,7 +4,7 @@ use Rattle.std.specs.Prelude.{⊤, ◌+◌, ◌^◌, ◌-◌, if◌then◌else�
 use Rattle.dnp_objects.specs.declared.row.Kind.{Kind}
 use Rattle.dnp_pointdb.specs.declared.reading.Reading.{Reading}
 use Rattle.dnp_world.specs.Behind.{Elsewhere, made_at}
-use Rattle.dnp_world.specs.Steady.{GoesBeside, IsSteadyBeside}
+use Rattle.dnp_world.specs.Steady.{Goes, IsSteadyBeside}
 use Rattle.dnp_world.specs.SystemEvents.{Reads}
 use Rattle.dnp_world.specs.SystemRuns.{Happens, IfThere}
 use Rattle.dnp_world.specs.SystemStanding.{Keeps}
@@ -27,7 +27,7 @@ KeepsBehind el old e new = (station : ℕ) × Keeps el station [] old new
 
 -- what keeps links behind a system, with no row made
 none : goal.After-substations_stay_settled → (old new : System) {el : Elsewhere} (event : Event) → IsSteadyBeside el old → Happens old event new
-    → (station : ℕ) × Keeps el station [] old new → GoesBeside el (λ i. []) old new
+    → (station : ℕ) × Keeps el station [] old new → Goes el (λ i. []) old new
 none c old new {el = el} event s h (station, k) = record {
   steady = record {
     standing = k.standing;
@@ -50,7 +50,7 @@ there c false Change old new {el = el} station s keeps same =
 -- the row that a reading makes
 reads : goal.After-substations_stay_settled → (b : Bool) (old new : System) {el : Elsewhere} (station : ℕ) (kind : Kind) (index : ℕ) (reading : Reading)
     → IsSteadyBeside el old → Happens old (event.Change station kind index reading) new → IfThere b (Reads station kind index reading) old new
-    → GoesBeside el (λ i. if b then made_at station (read_at (slice_get old.substations station) kind index reading) i else []) old new
+    → Goes el (λ i. if b then made_at station (read_at (slice_get old.substations station) kind index reading) i else []) old new
 reads c true old new {el = el} station kind index reading s h r =
     let k = c.events_below_keep_what_stands.ensures.read old new el station kind index reading s.standing r in
     record {
@@ -120,7 +120,7 @@ keeps c old new el (event.Restart (place.Substation station)) s h =
     there c (has_station old station) _ old new station s (λ is e. c.events_below_keep_what_stands.ensures.restarted old new el station s.standing e) h
 
 goes : goal.After-substations_stay_settled → (old new : System) (el : Elsewhere) (event : Event) → IsSteadyBeside el old → Happens old event new
-    → GoesBeside el (made_by old event) old new
+    → Goes el (made_by old event) old new
 goes c old new el (event.Change station kind index reading) s h = reads c (has_station old station) old new station kind index reading s h h
 goes c old new el e s h = none c old new e s h (keeps c old new el e s h)
 

@@ -20,7 +20,7 @@ invariant_of-self g c = λ well.
     let new = c.clean_control.new.self.system in
     let ends = c.clean_control.ensures.ends well in
     steady_of (λ i. []) old new (c.self.invariant (c.clean_control.ensures.held well))
-    (λ s. c.rounds_and_controls_keep_a_system_steady.ensures.control c.args.id old new c.clean_control.result s ends)
+    (λ s. c.rounds_and_controls_keep_a_system_steady.ensures.control c.args.id old new alone c.clean_control.result s ends)
 
 pub returns-clause-fate : goal.returns-clause-fate
 returns-clause-fate g c = λ well.
@@ -29,7 +29,7 @@ returns-clause-fate g c = λ well.
     let ends = c.clean_control.ensures.ends well in
     rw (← c.self.view_is)
     (fate_of (λ i. []) old new (c.self.invariant (c.clean_control.ensures.held well))
-    (λ s. c.rounds_and_controls_keep_a_system_steady.ensures.control c.args.id old new c.clean_control.result s ends))
+    (λ s. c.rounds_and_controls_keep_a_system_steady.ensures.control c.args.id old new alone c.clean_control.result s ends))
 
 moved : (id : ℕ) (old new : System) (result : Result ⊤ ControlFault) → ∥ IsSteady old ∥₁
     → (IsSteady old → CanGo id old → IsControl id old new → ControlMoves id old new)
@@ -61,7 +61,7 @@ returns-clause-rests g c = λ well.
 
 pub returns-clause-holds : goal.returns-clause-holds
 returns-clause-holds g c = λ well.
-    c.steady_systems_stay_steady.ensures.holds c.clean_control.new.self.system (invariant_of-self g c well)
+    c.steady_systems_stay_steady.ensures.holds c.clean_control.new.self.system alone (invariant_of-self g c well)
 
 pub returns-clause-none_issued : goal.returns-clause-none_issued
 returns-clause-none_issued g c = λ well.
