@@ -23,7 +23,7 @@ use Rattle.dnp_world.specs.declared.link_event.Way.TheVariants as way
 use Rattle.dnp_world.proofs.ControlsAccepted.{Back, IsTaken, OverLink, SaysSuccess, Told}
 
 -- the link between concentrator and centre
-abbrev on : Link
+abbrev pub on : Link
 on = Above
 
 -- ---- what the link above leaves alone

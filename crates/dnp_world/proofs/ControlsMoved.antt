@@ -21,10 +21,9 @@ use Rattle.dnp_world.specs.ControlsInStep.{InStep}
 use Rattle.dnp_world.specs.Rounds.{is_quiet_at, is_quiet_on}
 use Rattle.dnp_world.specs.SystemStanding.{IsStanding}
 use Rattle.dnp_world.specs.Systems.{SubstationState, System, has_station, link_at}
-use Rattle.dnp_world.specs.declared.event.Link.{Link}
-use Rattle.dnp_world.specs.declared.event.Link.TheVariants.{Above, Below}
+use Rattle.dnp_world.specs.declared.event.Link.TheVariants.{Below}
 use Rattle.dnp_world.proofs.ControlBooks.{next_found as next_is_found}
-use Rattle.dnp_world.proofs.ControlsAbove.{KeepsAround, KeptAbove, ends_above, over_above}
+use Rattle.dnp_world.proofs.ControlsAbove.{KeepsAround, KeptAbove, ends_above, on, over_above}
 use Rattle.dnp_world.proofs.ControlsAccepted.{Accepted, Begins, accepted_over}
 use Rattle.dnp_world.proofs.ControlsBelow.{KeptBelow}
 use Rattle.dnp_world.proofs.ControlsClean.{CleanLaws, added_next, below_begins, free_above, free_below, next_above, none_is, none_mapped, plain_low, relay_low, relayed_some, same_lines, there_of}
@@ -34,10 +33,6 @@ use Rattle.dnp_world.proofs.ControlsToSubstations.{ends_below, over_below, under
 use Rattle.dnp_world.proofs.RelaySteps.{next_has}
 use Rattle.dnp_world.proofs.RelayWidths.{below_fits}
 use Rattle.dnp_world.proofs.StepBooks.{added_carries, next_found}
-
--- the link between concentrator and centre
-abbrev on : Link
-on = Above
 
 module _ (laws : CleanLaws) (old : System) {el : Elsewhere} (standing : IsStanding el old) (steps : InStep old) (entry : Entry)
     (next : next_of old.centre.orders.entries 0 ≡ Some entry) (goes : is_free_for entry.id old.centre.link.progress ≡ true) where

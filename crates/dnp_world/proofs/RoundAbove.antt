@@ -32,7 +32,7 @@ use Rattle.dnp_world.proofs.RoundExchange.{Answer, Exchange, Exchanges, Frees, P
 use Rattle.dnp_world.proofs.RoundSteps.{asks_so, one_arrives}
 
 -- the link between concentrator and centre
-abbrev on : Link
+abbrev pub on : Link
 on = Above
 
 -- ---- the two stations

@@ -27,12 +27,12 @@ use Rattle.dnp_world.specs.Steady.{IsSteadyBeside}
 use Rattle.dnp_world.specs.SystemEvents.{relaying_at}
 use Rattle.dnp_world.specs.SystemStanding.{IsJoinedBelow, IsStanding}
 use Rattle.dnp_world.specs.Systems.{SubstationState, System, link_at, middle_of, middle_panel, panel_of, station_of}
-use Rattle.dnp_world.specs.declared.event.Link.{Link}
-use Rattle.dnp_world.specs.declared.event.Link.TheVariants.{Below, Above}
+use Rattle.dnp_world.specs.declared.event.Link.TheVariants.{Below}
 use Rattle.dnp_world.proofs.AllQueued.{QueuedLaw, all_are_queued}
 use Rattle.dnp_world.proofs.RepeatedPoll.{ReportLaws, WentOn, repeated}
 use Rattle.dnp_world.proofs.RepeatedRequests.{CaseLaw, went_on}
 use Rattle.dnp_world.proofs.RoundAbove as above
+use Rattle.dnp_world.proofs.RoundAbove.{on}
 use Rattle.dnp_world.proofs.RoundBelow as below
 use Rattle.dnp_world.proofs.RoundBelow.{LineLaws}
 use Rattle.dnp_world.proofs.RoundExchange.{Answer, AreFit, Exchanges, ReleaseLaw, StationLaws, master_after, polled_exchange}
@@ -119,10 +119,6 @@ fit_above stations old steady begins =
       writable = stations.writable (source_of (middle_of old.concentrator) (middle_panel old.concentrator)) well.points shown.outputs shown.status;
       seq = steady.standing.above.number;
     }
-
--- the link between concentrator and centre
-abbrev on : Link
-on = Above
 
 -- ---- a poll that is answered
 
