@@ -65,10 +65,10 @@ pub record IsBehind (indices : List Spans) (el : Elsewhere) (links : Links) (k :
   pub dropped : HasSameCounts (rows_of links.above.left) k.dropped
   pub journal : HasSameCounts (rows_of links.above.took) k.journal
   pub lost : k.lost ≡ length k.dropped
-  -- commands: what is asked for below, the concentrator's book says to be used, and that book has what was performed above
+  -- commands: what is asked for below, the concentrator's book says to be used, and that book has what was performed above and
+  -- elsewhere
   pub operated : (i : ℕ) → HasSameCounts (links.below i).performed (of_station i k.operated)
   pub asked_below : (i : ℕ) → IsCoveredBy (links.below i).asked (of_station i (used_orders k.controls))
-  -- and elsewhere
   pub relayed : HasSameCounts (commands_below indices links.above.performed ++ commands_below indices el.performed) (orders_in k.controls)
   -- what is asked for above, the centre's book says to be used, and that book and those elsewhere have what was issued
   pub asked_above : IsCoveredBy links.above.asked (used_commands k.orders)
